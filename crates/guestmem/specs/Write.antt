@@ -1,0 +1,41 @@
+use Rattle.std.specs.Prelude.{ℕ, ◌+◌, ◌-◌, ◌/◌, ◌^◌, ◌++◌, List, length, take, drop, map, nat_lt, Option, Some, None, Result, Ok, Err, if◌then◌else◌, ◌==◌}
+use Rattle.guestmem.specs.Memory.{Memory}
+use Rattle.guestmem.specs.declared.touched.Touched.{Touched}
+use Rattle.guestmem.specs.declared.touched.Touched.TheVariants.{NoPage, Pages}
+use Rattle.guestmem.specs.declared.error.RamError.{RamError}
+use Rattle.guestmem.specs.declared.error.RamError.TheVariants.{OutOfRam, TooLong}
+
+-- Why an access of so many bytes at an address is refused, by the length of RAM. Too long is told first.
+abbrev pub refusal_of : ℕ → ℕ → ℕ → Option RamError
+refusal_of len at count = if nat_lt 4096 count then Some TooLong else if nat_lt len (at + count) then Some OutOfRam else None
+
+abbrev pub unless_refused : {A : Type 0} → Option RamError → A → Result A RamError
+unless_refused None x = Ok x
+unless_refused (Some e) x = Err e
+
+-- A list with these bytes from this place on.
+abbrev pub put_at : List ℕ → ℕ → List ℕ → List ℕ
+put_at old at bytes = take at old ++ bytes ++ drop (at + length bytes) old
+
+-- A version rises by one at each write into its page, and stays at the greatest number of 64 bits.
+abbrev pub raised : ℕ → ℕ
+raised version = if nat_lt version (2 ^ 64 - 1) then version + 1 else version
+
+-- The versions after a write into the pages from first to last.
+abbrev pub raise : List ℕ → ℕ → ℕ → List ℕ
+raise versions first last = take first versions ++ map raised (take (last + 1 - first) (drop first versions)) ++ drop (last + 1) versions
+
+-- The pages of so many bytes at an address.
+abbrev pub touched_of : ℕ → ℕ → Touched
+touched_of at count = if count == 0 then NoPage else Pages (at / 4096) ((at + count - 1) / 4096)
+
+abbrev pub raise_touched : List ℕ → Touched → List ℕ
+raise_touched versions NoPage = versions
+raise_touched versions (Pages first last) = raise versions first last
+
+-- RAM after a write.
+abbrev pub written : Memory → ℕ → List ℕ → Memory
+written m at bytes = record {
+  bytes = put_at m.bytes at bytes;
+  versions = raise_touched m.versions (touched_of at (length bytes));
+}

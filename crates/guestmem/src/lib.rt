@@ -1,0 +1,28 @@
+//! Guest memory: one flat list of bytes, whose writes are told page by page.
+//!
+//! A `Ram` is 1 to 16,384 pages of 4,096 bytes at the addresses from 0 up. Code above reads and writes it
+//! at byte addresses; pages occur only as `address / 4096`, where a write is told:
+//!
+//! - each page has a version, which rises by one at every write into it and stays at the greatest `u64`
+//!   once there, so that a cache can tell whether what it read still stands;
+//! - whoever follows a migration hands a `TouchLog` to the code that writes, and is told every page and
+//!   sector that was written. `NoLog` is for everybody else, and keeps nothing.
+//!
+//! What the layers above may rely on is in the contracts alone. They speak of the record `Memory` (`specs/Memory`:
+//! the bytes in order of their addresses, and the versions), of the little-endian number at an address
+//! (`specs/Number`), of writes and lists of writes (`specs/Write`, `specs/Writes`) and of the items that a log takes
+//! in (`specs/Item`, `specs/Laws`). Nothing is trusted here beside the toolchain and `byteorder`.
+#![tactic(auto)]
+
+mod error;
+mod limits;
+mod log;
+mod ram;
+mod touched;
+
+pub use error::RamError;
+pub use limits::{ACCESS_MAX, PAGE_SIZE, PAGES_MAX};
+pub use log::{NoLog, TouchLog};
+pub use ram::Ram;
+pub use std::alloc::AllocError as NoMemory;
+pub use touched::Touched;

@@ -1,0 +1,209 @@
+//! The memory of a guest.
+
+ghost use Rattle.std.specs.Prelude.{◌≡◌, ◌+◌, ◌*◌, ◌<◌, ◌≤◌, ◌^◌, ℕ, length, replicate, take, drop, IfOk, OnOk, OnErr, map, slice_index, false};
+ghost use Rattle.guestmem.specs.Number.{number_at};
+ghost use Rattle.guestmem.specs.Item.{page as page_item, after_all, pages_between, MayPages};
+ghost use Rattle.guestmem.specs.Writes.{byte_writes, set_all, touched};
+ghost use Rattle.guestmem.specs.Memory.{Memory, IsMemory};
+ghost use Rattle.guestmem.specs.Write.{written, touched_of, refusal_of, unless_refused, raised};
+
+use crate::error::RamError;
+use crate::limits::{ACCESS_MAX, PAGE_SIZE, PAGES_MAX};
+use crate::log::TouchLog;
+use crate::touched::Touched;
+use byteorder::{ByteOrder, LittleEndian};
+use std::alloc::{AllocError, Global};
+use std::marker::Model;
+
+/// The memory of a guest: whole pages at the addresses from 0 up, each with a version.
+#[derive(Drop)]
+pub struct Ram {
+    bytes: Vec<u8>,
+    versions: Vec<u64>,
+}
+
+impl Model for Ram {
+    ghost Value = { Memory };
+
+    ghost view = { λ r. record { bytes = r.bytes.items; versions = r.versions.items } };
+
+    ghost invariant = { λ r. IsMemory (record { bytes = r.bytes.items; versions = r.versions.items }) };
+}
+
+impl Ram {
+    /// Pages of zeros, each at version 0. Its only error is want of memory.
+    pub fn new(alloc: Global, pages: u32) -> Result<Ram, AllocError>
+        requires some { 1 ≤ pages }
+        requires few { pages ≤ PAGES_MAX }
+        ensures { IfOk result (λ ram. ram ≡ record { bytes = replicate (4096 * pages) 0; versions = replicate pages 0 }) }
+    {
+        let bytes = vec![in alloc; 0u8; pages as usize * PAGE_SIZE]?;
+        let versions = vec![in alloc; 0u64; pages as usize]?;
+        Ok(Ram { bytes, versions })
+    }
+
+    /// The number of bytes, a multiple of 4,096.
+    pub fn len(&self) -> u64
+        ensures len { result ≡ length self.now.bytes }
+        ensures sound { IsMemory self.now }
+    {
+        self.bytes.len() as u64
+    }
+
+    /// Always false: a RAM has a page at least.
+    pub fn is_empty(&self) -> bool
+        ensures { result ≡ false }
+    {
+        self.len() == 0
+    }
+
+    /// The version of a page.
+    pub fn version(&self, page: u64) -> u64
+        requires { page < length self.now.versions }
+        ensures { result ≡ slice_index self.now.versions page }
+    {
+        self.versions[page as usize]
+    }
+
+    /// The bytes of a page.
+    pub fn page(&self, page: u64) -> &[u8; 4096]
+        requires { page < length self.now.versions }
+        ensures { result.now ≡ take 4096 (drop (4096 * page) self.now.bytes) }
+    {
+        let bytes = self.bytes.as_slice();
+        let start = page as usize * PAGE_SIZE;
+        let bytes = &bytes[start..start + PAGE_SIZE];
+        match <&[u8; 4096]>::try_from(bytes) {
+            Ok(page) => page,
+            Err(_) => &[0; PAGE_SIZE],
+        }
+    }
+
+    /// The number in the two bytes at an address.
+    #[tactic(auto, unfolding(crate::specs::Number::number_at))]
+    pub fn u16_at(&self, addr: u64) -> u16
+        requires { addr + 2 ≤ length self.now.bytes }
+        ensures { result ≡ number_at self.now.bytes addr 2 }
+    {
+        LittleEndian::read_u16(&self.bytes[addr as usize..])
+    }
+
+    /// The number in the four bytes at an address.
+    #[tactic(auto, unfolding(crate::specs::Number::number_at))]
+    pub fn u32_at(&self, addr: u64) -> u32
+        requires { addr + 4 ≤ length self.now.bytes }
+        ensures { result ≡ number_at self.now.bytes addr 4 }
+    {
+        LittleEndian::read_u32(&self.bytes[addr as usize..])
+    }
+
+    /// The number in the eight bytes at an address.
+    #[tactic(auto, unfolding(crate::specs::Number::number_at))]
+    pub fn u64_at(&self, addr: u64) -> u64
+        requires { addr + 8 ≤ length self.now.bytes }
+        ensures { result ≡ number_at self.now.bytes addr 8 }
+    {
+        LittleEndian::read_u64(&self.bytes[addr as usize..])
+    }
+
+    /// Why an access of so many bytes at an address would be refused, if it would be.
+    pub fn refusal(&self, addr: u64, count: usize) -> Option<RamError>
+        ensures { result ≡ refusal_of (length self.now.bytes) addr count }
+    {
+        if count > ACCESS_MAX {
+            return Some(RamError::TooLong);
+        }
+        let len = self.len();
+        if addr > len || count as u64 > len - addr {
+            return Some(RamError::OutOfRam);
+        }
+        None
+    }
+
+    /// Reads the bytes from an address on into the whole buffer. A refusal leaves the buffer as it was.
+    pub fn read(&self, addr: u64, buf: &mut [u8]) -> Result<(), RamError>
+        ensures result { result ≡ unless_refused (refusal_of (length self.now.bytes) addr (length buf.old)) tt }
+        ensures ok { OnOk result (buf.new ≡ take (length buf.old) (drop addr self.now.bytes)) }
+        ensures err { OnErr result (buf.new ≡ buf.old) }
+    {
+        if let Some(error) = self.refusal(addr, buf.len()) {
+            return Err(error);
+        }
+        let start = addr as usize;
+        buf.copy_from_slice(&self.bytes[start..start + buf.len()]);
+        Ok(())
+    }
+
+    /// Writes bytes from an address on, and tells the pages that they went into. A refusal changes nothing.
+    pub fn write(&mut self, addr: u64, bytes: &[u8]) -> Result<Touched, RamError>
+        ensures result { result ≡ unless_refused (refusal_of (length self.old.bytes) addr (length bytes.now)) (touched_of addr (length bytes.now)) }
+        ensures ok { OnOk result (self.new ≡ written self.old addr bytes.now) }
+        ensures err { OnErr result (self.new ≡ self.old) }
+    {
+        if let Some(error) = self.refusal(addr, bytes.len()) {
+            return Err(error);
+        }
+        Ok(self.store(addr, bytes))
+    }
+
+    /// Writes bytes of any number from an address on, for code that knows them to lie inside RAM, and tells the
+    /// log the pages that they went into.
+    #[tactic(auto, using(crate::specs::WriteLaws::put_at_set_all))]
+    pub fn put<L: TouchLog>(&mut self, addr: u64, bytes: &[u8], log: &mut L)
+        requires inside { addr + length bytes.now ≤ length self.old.bytes }
+        requires may { MayPages L.may log.old (length self.old.bytes) }
+        ensures bytes { self.new.bytes ≡ set_all self.old.bytes (byte_writes addr bytes.now) }
+        ensures size { length self.new.bytes ≡ length self.old.bytes }
+        ensures versions { self.new ≡ written self.old addr bytes.now }
+        ensures log { log.new ≡ after_all L.after log.old (touched (byte_writes addr bytes.now)) }
+        ensures may { MayPages L.may log.new (length self.new.bytes) }
+    {
+        let _len = self.len();
+        match self.store(addr, bytes) {
+            Touched::NoPage => {}
+            Touched::Pages(first, last) => tell_pages(log, first, last),
+        }
+    }
+
+    fn store(&mut self, addr: u64, bytes: &[u8]) -> Touched
+        requires { addr + length bytes.now ≤ length self.old.bytes }
+        ensures touched { result ≡ touched_of addr (length bytes.now) }
+        ensures written { self.new ≡ written self.old addr bytes.now }
+    {
+        let _held = &self.bytes;
+        if bytes.is_empty() {
+            return Touched::NoPage;
+        }
+        let start = addr as usize;
+        let end = start + bytes.len();
+        self.bytes[start..end].copy_from_slice(bytes);
+        let (first, last) = (start / PAGE_SIZE, (end - 1) / PAGE_SIZE);
+        raise_all(&mut self.versions[first..=last]);
+        Touched::Pages(first as u64, last as u64)
+    }
+}
+
+fn tell_pages<L: TouchLog>(log: &mut L, first: u64, last: u64)
+    requires order { first ≤ last }
+    requires small { last < 2 ^ 52 }
+    requires may { (n : ℕ) → n ≤ last → L.may log.old (page_item n) }
+    ensures { log.new ≡ after_all L.after log.old (pages_between first last) }
+{
+    for n in first..last + 1 {
+        log.page(n);
+    }
+}
+
+fn raise_all(versions: &mut [u64])
+    ensures { versions.new ≡ map raised versions.old }
+{
+    for version in versions.iter_mut() {
+        *version = raised_version(*version);
+    }
+}
+
+fn raised_version(version: u64) -> u64
+    ensures { result ≡ raised version }
+{
+    version.saturating_add(1)
+}
