@@ -1,0 +1,34 @@
+//! What happens to a machine.
+
+use crate::bytes::Bytes;
+
+/// One thing that the guest or the host does to a machine: one atomic step.
+#[derive(Drop)]
+pub enum Event {
+    /// The driver reads a register of a device, `width` bytes at the offset `off` of its window.
+    RegRead {
+        dev: u8,
+        off: u32,
+        width: u8,
+    },
+
+    /// The driver writes a register of a device, `width` bytes at the offset `off` of its window.
+    RegWrite {
+        dev: u8,
+        off: u32,
+        width: u8,
+        value: u32,
+    },
+
+    /// The guest reads `len` bytes of RAM from an address on.
+    MemRead {
+        addr: u64,
+        len: u32,
+    },
+
+    /// The guest writes bytes into RAM from an address on.
+    MemWrite {
+        addr: u64,
+        bytes: Bytes,
+    },
+}
