@@ -1,1 +1,13 @@
+pub mod Contents
+pub mod Disk
+pub mod Effect
+pub mod EffectLaws
+pub mod First
+pub mod Held
 pub mod Refusal
+pub mod Run
+pub mod Seen
+pub mod Shapes
+pub mod Sound
+pub mod State
+pub mod Step

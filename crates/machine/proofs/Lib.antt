@@ -1,0 +1,5 @@
+pub mod At
+pub mod Effects
+pub mod Fresh
+pub mod Kept
+pub mod Running

@@ -1,0 +1,62 @@
+//! A device and its disk.
+
+ghost use Rattle.std.specs.Prelude.{◌≡◌, None, ℕ};
+
+ghost use Rattle.machine.specs.Seen.{DeviceSeen, sectors_of, marks_of};
+
+use crate::disk::Disk;
+use crate::shape::Shape;
+use crate::state::DeviceState;
+use std::marker::Model;
+
+/// A device with the disk that belongs to it, if its shape has one.
+#[derive(Drop)]
+pub(crate) struct Device<D: Disk> {
+    state: DeviceState,
+    disk: Option<D>,
+}
+
+impl<D: Disk> Model for Device<D> {
+    ghost Value = { DeviceSeen };
+
+    ghost view = { λ d. record { state = d.state; sectors = sectors_of D.state d.disk; marks = marks_of D.state d.disk } };
+
+    ghost invariant = { λ d. d.disk ≡ None };
+}
+
+impl<D: Disk> Device<D> {
+    ghost use Rattle.machine.specs.Step.{register_value_of, register_set};
+    ghost use Rattle.machine.specs.Sound.{IsSoundDevice};
+    ghost use Rattle.machine.specs.First.{first_seen};
+
+    /// A new device without a disk, in a machine whose RAM has so many bytes.
+    pub fn new(shape: Shape, ram_len: u64) -> Device<D>
+        ensures first { result ≡ first_seen ram_len shape }
+        ensures sound { IsSoundDevice ram_len result.state }
+    {
+        Device {
+            state: DeviceState::new(shape, ram_len),
+            disk: None,
+        }
+    }
+
+    /// What the device is beside its disk.
+    pub fn state(&self) -> &DeviceState
+        ensures { result.now ≡ self.now.state }
+    {
+        &self.state
+    }
+
+    pub fn read_register(&self, offset: u32, width: u8) -> u32
+        ensures { result ≡ register_value_of self.now.state offset width }
+    {
+        self.state.read_register(offset, width)
+    }
+
+    pub fn write_register(&mut self, offset: u32, width: u8, value: u32)
+        ensures set { self.new ≡ record self.old { state = register_set self.old.state offset width value } }
+        ensures sound { (bytes : ℕ) → IsSoundDevice bytes self.old.state → IsSoundDevice bytes self.new.state }
+    {
+        self.state.write_register(offset, width, value);
+    }
+}

@@ -1,0 +1,2 @@
+pub mod StatusBits
+pub mod Keeping

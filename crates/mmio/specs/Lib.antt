@@ -1,0 +1,13 @@
+pub mod Bits
+pub mod State
+pub mod RegisterTable
+pub mod Configuration
+pub mod Interrupts
+pub mod Status
+pub mod Features
+pub mod QueueReady
+pub mod QueueRegisters
+pub mod RegisterRead
+pub mod RegisterWrite
+pub mod Sound
+pub mod Effects
