@@ -1,15 +1,12 @@
 -- One device of a machine changes, or its RAM does.
-use Rattle.std.proofs.Common.{◌≡◌, ℕ, zero, suc, ◌+◌, ◌*◌, ◌≤◌, ◌<◌, List, [], ◌∷◌, length, map, set, get_or, Option, Some, None, refl, ap, sym, ◌∙◌, subst, arith, rules}
+use Rattle.std.proofs.Common.{◌≡◌, ℕ, zero, suc, ◌<◌, List, [], ◌∷◌, length, map, set, get_or, Some, refl, ap, sym, ◌∙◌, subst, arith}
 use Rattle.std.proofs.lemmas.List.{map-set, length-map, length-set, get_or-map}
 use Rattle.std.proofs.lemmas.List.Elements.{All-set}
 use Rattle.std.specs.List.{slice_get, All}
 use Rattle.guestmem.specs.Memory.{Memory}
-use Rattle.guestmem.specs.Writes.{Write, set_all, byte_writes}
-use Rattle.guestmem.specs.WriteLaws.{length-set_all}
-use Rattle.machine.specs.State.{DeviceState, MachineState, Sector}
-use Rattle.machine.specs.Seen.{Seen, DeviceSeen, Marks, state_of}
-use Rattle.machine.specs.Step.{IsStep, Outcome, fine, register_set, answer}
-use Rattle.machine.specs.Effect.{applied}
+use Rattle.machine.specs.State.{DeviceState, Sector}
+use Rattle.machine.specs.Seen.{DeviceSeen, state_of}
+use Rattle.machine.specs.Step.{IsStep, fine, register_set}
 use Rattle.machine.specs.Held.{IsHeld}
 use Rattle.machine.specs.Sound.{IsSound, IsSoundDevice}
 use Rattle.machine.specs.declared.shape.Shape.{Shape}
@@ -39,7 +36,7 @@ register_step m ds dev offset width value d new at is = record {
   replied = rw (found ds dev d at) refl;
   changed =
       let sectors : map (λ (x : DeviceSeen). x.sectors) (set ds dev new) ≡ map (λ (x : DeviceSeen). x.sectors) ds
-        = map-set_same (λ (x : DeviceSeen). x.sectors) ds dev d new at (ap (λ (x : DeviceSeen). x.sectors) is) in
+      = map-set_same (λ (x : DeviceSeen). x.sectors) ds dev d new at (ap (λ (x : DeviceSeen). x.sectors) is) in
       let state : new.state ≡ register_set d.state offset width value = ap (λ (x : DeviceSeen). x.state) is in
       rw (found ds dev d at, map-set (λ (x : DeviceSeen). x.state) ds dev new, sectors, state) refl;
 }

@@ -1,15 +1,15 @@
 -- What an effect does not touch stays, what it touches is there, and the shape of the machine stays.
-use Rattle.std.proofs.Common.{◌≡◌, ◌≢◌, ℕ, zero, suc, ◌+◌, ◌*◌, ◌/◌, ◌≤◌, ◌<◌, ◌⊎◌, inl, inr, List, [], ◌∷◌, ◌++◌, length, map, set, get_or, Option, Some, None, refl, ap, sym, ◌∙◌, subst, arith}
+use Rattle.std.proofs.Common.{◌≡◌, ◌≢◌, ℕ, zero, suc, ◌/◌, ◌<◌, ◌⊎◌, inl, inr, List, [], ◌∷◌, ◌++◌, length, map, set, get_or, Option, Some, None, refl, ap, sym, ◌∙◌, subst, arith}
 use Rattle.std.proofs.lemmas.Bool.{cases_lt}
-use Rattle.std.proofs.lemmas.List.{length-set, get_or-set_other, map-set}
+use Rattle.std.proofs.lemmas.List.{length-set, get_or-set_other}
 use Rattle.std.specs.List.{slice_get, All}
 use Rattle.guestmem.specs.Item.{Item, page, sector}
 use Rattle.guestmem.specs.Laws.{Among}
 use Rattle.guestmem.specs.Writes.{Write, set_all, touched}
 use Rattle.guestmem.specs.WriteLaws.{length-set_all}
 use Rattle.machine.specs.State.{MachineState, DeviceState, Sector}
-use Rattle.machine.specs.Effect.{Effect, SectorSet, Replacement, applied, items_of, set_on, sectors_set, replaced_in}
-use Rattle.machine.specs.EffectLaws.{UntouchedStays, TouchedExists, ShapeStays, IsSameItem, HasItem, IsWithin, MayReplace, IsSameShape, sector_on, sectors_on}
+use Rattle.machine.specs.Effect.{SectorSet, Replacement, set_on, sectors_set, replaced_in}
+use Rattle.machine.specs.EffectLaws.{UntouchedStays, TouchedExists, ShapeStays, HasItem, MayReplace, sector_on}
 
 -- Lists of items: what is among one of two, and what is among a map.
 among_left : (is js : List Item) (i : Item) → Among is i → Among (is ++ js) i
@@ -47,8 +47,9 @@ slice_get-set_same (y ∷ xs) (suc i) old x there = slice_get-set_same xs i old 
 
 same_or_other : (a b : ℕ) → (a ≡ b) ⊎ (a ≢ b)
 same_or_other a b = elim (cases_lt a b) as (λ _. (a ≡ b) ⊎ (a ≢ b)) [
-    inl less ↦ inr (λ e. omega (arith, less, e))
-  | inr from ↦ elim (cases_lt b a) as (λ _. (a ≡ b) ⊎ (a ≢ b)) [ inl more ↦ inr (λ e. omega (arith, more, e)) | inr to ↦ inl (omega (arith, from, to)) ] ]
+  | inl less ↦ inr (λ e. omega (arith, less, e))
+  | inr from ↦ elim (cases_lt b a) as (λ _. (a ≡ b) ⊎ (a ≢ b)) [ inl more ↦ inr (λ e. omega (arith, more, e)) | inr to ↦ inl (omega (arith, from, to)) ]
+]
 
 -- A sector that is not set stays, by one setting.
 one_stays : (disks : List (List Sector)) (s : SectorSet) (found : Option (List Sector)) (dev n : ℕ) → slice_get disks s.device ≡ found → (sector dev n ≡ sector s.device s.number → ⊥)
@@ -56,9 +57,10 @@ one_stays : (disks : List (List Sector)) (s : SectorSet) (found : Option (List S
 one_stays disks s None dev n is far = refl
 one_stays disks s (Some disk) dev n is far =
     elim (same_or_other dev s.device) as (λ _. sector_on (slice_get (set disks s.device (set disk s.number s.content)) dev) n ≡ sector_on (slice_get disks dev) n) [
-      inl here ↦ (let other : n ≢ s.number = λ e. far (ap (λ x. sector x n) here ∙ ap (sector s.device) e) in
-        rw (here, slice_get-set_same disks s.device disk (set disk s.number s.content) is, is) (slice_get-set_other disk s.number n s.content other))
-    | inr there ↦ ap (λ d. sector_on d n) (slice_get-set_other disks s.device dev (set disk s.number s.content) there) ]
+      | inl here ↦ (let other : n ≢ s.number = λ e. far (ap (λ x. sector x n) here ∙ ap (sector s.device) e) in
+          rw (here, slice_get-set_same disks s.device disk (set disk s.number s.content) is, is) (slice_get-set_other disk s.number n s.content other))
+      | inr there ↦ ap (λ d. sector_on d n) (slice_get-set_other disks s.device dev (set disk s.number s.content) there)
+    ]
 
 sector_stays : (disks : List (List Sector)) (ss : List SectorSet) (dev n : ℕ) → (Among (map (λ (s : SectorSet). sector s.device s.number) ss) (sector dev n) → ⊥)
     → sector_on (slice_get (sectors_set disks ss) dev) n ≡ sector_on (slice_get disks dev) n
@@ -82,8 +84,9 @@ sector_exists m (s ∷ ss) i all (inr h) = sector_exists m ss i (λ k d below. a
 
 pub exists : TouchedExists
 exists m e within i h = elim (among_either (touched e.writes) (map (λ (s : SectorSet). sector s.device s.number) e.sectors) i h) as (λ _. HasItem m i) [
-    inl x ↦ page_exists m e.writes i within.writes x
-  | inr y ↦ sector_exists m e.sectors i within.sectors y ]
+  | inl x ↦ page_exists m e.writes i within.writes x
+  | inr y ↦ sector_exists m e.sectors i within.sectors y
+]
 
 shapes_stay : (devices : List DeviceState) (n : ℕ) (old new : DeviceState) → slice_get devices n ≡ Some old → new.shape ≡ old.shape → map (λ (d : DeviceState). d.shape) (set devices n new) ≡ map (λ (d : DeviceState). d.shape) devices
 shapes_stay [] n old new there same = refl

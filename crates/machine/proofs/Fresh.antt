@@ -1,5 +1,5 @@
 -- A new machine is sound.
-use Rattle.std.proofs.Common.{◌≡◌, ℕ, zero, suc, ◌*◌, ◌≤◌, List, [], ◌∷◌, length, map, replicate, Bool, true, false, cond, Option, Some, None, refl, ap, sym, ◌∙◌, subst, arith, eqb, ltb}
+use Rattle.std.proofs.Common.{◌≡◌, ℕ, ◌*◌, ◌≤◌, List, [], ◌∷◌, length, map, replicate, Bool, true, false, cond, Some, None, refl, ap, sym, ◌∙◌, arith, eqb, ltb}
 use Rattle.std.specs.Prelude.{◌||◌, not}
 use Rattle.std.specs.List.{All}
 use Rattle.std.proofs.lemmas.List.{length-map, length-replicate}
@@ -7,13 +7,12 @@ use Rattle.std.proofs.lemmas.List.Elements.{All-map}
 use Rattle.std.proofs.lemmas.Bool.{eqb-false}
 use borrow.Author.Tests.{ltb-false}
 use Rattle.guestmem.specs.Memory.{Memory}
-use Rattle.machine.specs.State.{MachineState, Sector}
+use Rattle.machine.specs.State.{Sector}
 use Rattle.machine.specs.Seen.{DeviceSeen, state_of}
 use Rattle.machine.specs.Shapes.{first_device}
 use Rattle.machine.specs.First.{first_seen, first_machine, new_refusal}
 use Rattle.machine.specs.Sound.{IsSound, IsSoundDevice}
 use Rattle.machine.specs.declared.shape.Shape.{Shape}
-use Rattle.machine.specs.declared.new_error.NewError.{NewError}
 use Rattle.machine.specs.declared.new_error.NewError.TheVariants.{BadShape, DiskMismatch}
 
 record HasLimits (pages : ℕ) (shapes : List Shape) : Type 0 where

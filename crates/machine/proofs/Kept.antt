@@ -1,5 +1,5 @@
 -- A device stays sound where its registers are written.
-use Rattle.std.proofs.Common.{◌≡◌, ℕ}
+use Rattle.std.proofs.Common.{ℕ}
 use Rattle.mmio.specs.State.{Registers}
 use Rattle.mmio.specs.Effects.{IsSameDevice}
 use Rattle.mmio.specs.Sound.{IsSoundRegisters}

@@ -1,5 +1,5 @@
 -- A run goes on by one step.
-use Rattle.std.proofs.Common.{◌≡◌, List, [], ◌∷◌, ◌++◌, map, refl, sym, subst}
+use Rattle.std.proofs.Common.{List, [], ◌∷◌, ◌++◌, map, refl, subst}
 use Rattle.machine.specs.State.{MachineState}
 use Rattle.machine.specs.Step.{IsStep, outcome_of}
 use Rattle.machine.specs.Run.{IsRun}

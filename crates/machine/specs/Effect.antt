@@ -38,9 +38,10 @@ sectors_set disks (s ∷ ss) = sectors_set (set_on disks s (slice_get disks s.de
 -- A machine after an effect.
 abbrev pub applied : MachineState → Effect → MachineState
 applied m e = record {
-    ram = set_all m.ram e.writes;
-    devices = replaced_in m.devices e.replaced;
-    disks = sectors_set m.disks e.sectors }
+  ram = set_all m.ram e.writes;
+  devices = replaced_in m.devices e.replaced;
+  disks = sectors_set m.disks e.sectors;
+}
 
 -- The pages and sectors that an effect writes into, also where it writes what was there.
 abbrev pub items_of : Effect → List Item

@@ -1,8 +1,8 @@
-use Rattle.std.specs.Prelude.{◌≡◌, ℕ, ◌*◌, ◌/◌, ◌<◌, List, [], length, map, take, drop, All, Option, Some, None, slice_get, slice_index}
+use Rattle.std.specs.Prelude.{◌≡◌, ℕ, ◌*◌, ◌/◌, ◌<◌, List, length, map, All, Option, Some, None, slice_get, slice_index}
 use Rattle.guestmem.specs.Item.{Item, page, sector}
 use Rattle.guestmem.specs.Laws.{Among}
 use Rattle.machine.specs.State.{MachineState, DeviceState, Sector}
-use Rattle.machine.specs.Effect.{Effect, SectorSet, Replacement, applied, items_of}
+use Rattle.machine.specs.Effect.{Effect, Replacement, applied, items_of}
 
 -- The sectors of a device's disk.
 abbrev pub sectors_on : MachineState → ℕ → Option (List Sector)

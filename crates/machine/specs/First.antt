@@ -1,4 +1,4 @@
-use Rattle.std.specs.Prelude.{◌≡◌, ℕ, ◌*◌, ◌||◌, ◌==◌, not, nat_lt, if◌then◌else◌, List, [], length, map, replicate, true, Option, Some, None}
+use Rattle.std.specs.Prelude.{ℕ, ◌*◌, ◌||◌, ◌==◌, not, nat_lt, if◌then◌else◌, List, [], length, map, replicate, true, Option, Some, None}
 use Rattle.machine.specs.Shapes.{first_device}
 use Rattle.machine.specs.State.{MachineState}
 use Rattle.machine.specs.Seen.{DeviceSeen}
@@ -9,9 +9,10 @@ use Rattle.machine.specs.declared.new_error.NewError.TheVariants.{BadShape, Disk
 -- A new machine: RAM of zeros, and each device with its first values.
 abbrev pub first_machine : ℕ → List Shape → MachineState
 first_machine pages shapes = record {
-    ram = replicate (4096 * pages) 0;
-    devices = map (first_device (4096 * pages)) shapes;
-    disks = map (λ _. []) shapes }
+  ram = replicate (4096 * pages) 0;
+  devices = map (first_device (4096 * pages)) shapes;
+  disks = map (λ _. []) shapes;
+}
 
 -- Why no machine is made of so many pages, these devices and so many disks: first the limits, then the disks, of which
 -- no device has one yet.
@@ -24,4 +25,7 @@ new_refusal pages shapes disks =
 -- What is seen of a new device, which has no disk.
 abbrev pub first_seen : ℕ → Shape → DeviceSeen
 first_seen ram_len shape = record {
-    state = first_device ram_len shape; sectors = []; marks = record { failures = 0; honest = true; steady = true } }
+  state = first_device ram_len shape;
+  sectors = [];
+  marks = record { failures = 0; honest = true; steady = true };
+}

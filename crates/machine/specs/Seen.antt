@@ -1,4 +1,4 @@
-use Rattle.std.specs.Prelude.{ℕ, List, [], map, Option, Some, None, Bool, true, IsTrue, All}
+use Rattle.std.specs.Prelude.{ℕ, List, [], map, Option, Some, None, Bool, true}
 use Rattle.guestmem.specs.Memory.{Memory}
 use Rattle.machine.specs.Disk.{DiskState}
 use Rattle.machine.specs.State.{DeviceState, Sector, MachineState}
@@ -22,9 +22,10 @@ pub record Seen : Type 0 where
 -- The machine's state: what two equal machines agree on.
 abbrev pub state_of : Seen → MachineState
 state_of s = record {
-    ram = s.memory.bytes;
-    devices = map (λ d. d.state) s.devices;
-    disks = map (λ d. d.sectors) s.devices }
+  ram = s.memory.bytes;
+  devices = map (λ d. d.state) s.devices;
+  disks = map (λ d. d.sectors) s.devices;
+}
 
 -- The marks of each device's disk.
 abbrev pub all_marks : Seen → List Marks

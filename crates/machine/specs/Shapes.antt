@@ -1,4 +1,4 @@
-use Rattle.std.specs.Prelude.{ℕ, ◌+◌, ◌^◌, List, [], length}
+use Rattle.std.specs.Prelude.{ℕ, ◌+◌, ◌^◌, List, []}
 use Rattle.mmio.specs.State.{first_registers}
 use Rattle.machine.specs.declared.shape.Shape.{Shape}
 use Rattle.machine.specs.declared.shape.Shape.TheVariants.{Entropy}
@@ -9,7 +9,7 @@ abbrev pub device_id_of : Shape → ℕ
 device_id_of Entropy = 4
 
 -- The feature bits that every device offers: INDIRECT_DESC 28, EVENT_IDX 29, VERSION_1 32 and RING_PACKED 34
--- (VIRTIO 1.2, 6). 
+-- (VIRTIO 1.2, 6).
 abbrev pub common_features : ℕ
 common_features = 2 ^ 28 + 2 ^ 29 + 2 ^ 32 + 2 ^ 34
 
@@ -28,5 +28,6 @@ configuration_of d = []
 -- A new device in a machine whose RAM has so many bytes.
 abbrev pub first_device : ℕ → Shape → DeviceState
 first_device ram_len shape = record {
-    shape = shape;
-    registers = first_registers (device_id_of shape) (offered_of shape) (queues_of shape) ram_len }
+  shape = shape;
+  registers = first_registers (device_id_of shape) (offered_of shape) (queues_of shape) ram_len;
+}

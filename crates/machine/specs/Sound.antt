@@ -1,5 +1,4 @@
-use Rattle.std.specs.Prelude.{◌≡◌, ℕ, ◌*◌, ◌≤◌, List, [], length, All}
-use Rattle.mmio.specs.State.{Registers}
+use Rattle.std.specs.Prelude.{◌≡◌, ℕ, ◌*◌, ◌≤◌, [], length, All}
 use Rattle.mmio.specs.Sound.{IsSoundRegisters}
 use Rattle.machine.specs.State.{DeviceState, MachineState}
 use Rattle.machine.specs.Shapes.{device_id_of, offered_of, queues_of}

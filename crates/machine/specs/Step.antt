@@ -3,7 +3,6 @@ use Rattle.guestmem.specs.Write.{refusal_of}
 use Rattle.guestmem.specs.Writes.{byte_writes}
 use Rattle.guestmem.specs.declared.error.RamError.{RamError}
 use Rattle.guestmem.specs.declared.error.RamError.TheVariants as ram_error
-use Rattle.mmio.specs.State.{Registers}
 use Rattle.mmio.specs.RegisterRead.{register_read}
 use Rattle.mmio.specs.RegisterWrite.{register_write}
 use Rattle.machine.specs.State.{DeviceState, MachineState}
@@ -47,8 +46,9 @@ ram_refusal ram_error.TooLong = TooLong
 -- One device becomes another, and nothing else changes.
 abbrev pub becomes : ℕ → DeviceState → Reply → Answer
 becomes number device reply = record {
-    reply = reply;
-    effect = record { writes = []; sectors = []; replaced = Some (record { number = number; device = device }) } }
+  reply = reply;
+  effect = record { writes = []; sectors = []; replaced = Some (record { number = number; device = device }) };
+}
 
 -- The driver reads a register: the table's value.
 abbrev pub register_value_of : DeviceState → ℕ → ℕ → ℕ
@@ -76,7 +76,9 @@ read_ram ram addr len None fine = unchanged (Bytes (take len (drop addr ram)))
 abbrev pub write_ram : ℕ → List ℕ → Option RamError → Answer
 write_ram addr bytes (Some error) = refused (ram_refusal error)
 write_ram addr bytes None = record {
-    reply = Done; effect = record { writes = byte_writes addr bytes; sectors = []; replaced = None } }
+  reply = Done;
+  effect = record { writes = byte_writes addr bytes; sectors = []; replaced = None };
+}
 
 -- What a machine answers to an event, by the outcome of what it asks of the outside, and what changes.
 abbrev pub answer : MachineState → Event → Outcome → Answer

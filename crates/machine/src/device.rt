@@ -1,7 +1,6 @@
 //! A device and its disk.
 
 ghost use Rattle.std.specs.Prelude.{◌≡◌, None, ℕ};
-
 ghost use Rattle.machine.specs.Seen.{DeviceSeen, sectors_of, marks_of};
 
 use crate::disk::Disk;

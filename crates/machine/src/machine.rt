@@ -17,7 +17,7 @@ use crate::new_error::NewError;
 use crate::reply::{Refusal, Reply};
 use crate::shape::Shape;
 use crate::state::DeviceState;
-use guestmem::{PAGES_MAX, NoLog, NoMemory, Ram, RamError};
+use guestmem::{NoLog, NoMemory, PAGES_MAX, Ram, RamError};
 use std::alloc::Global;
 use std::marker::Model;
 
@@ -49,7 +49,12 @@ impl<D: Disk + Drop> Machine<D> {
     /// A new machine of so many pages of zeros and devices of these shapes, whose block devices get the disks in order.
     ///
     /// `BadShape` is told first, then `DiskMismatch`, then `NoMemory`. A refusal drops the disks.
-    pub fn new(alloc: Global, ram_pages: u32, shapes: &[Shape], disks: Vec<D>) -> Result<Machine<D>, NewError>
+    pub fn new(
+        alloc: Global,
+        ram_pages: u32,
+        shapes: &[Shape],
+        disks: Vec<D>,
+    ) -> Result<Machine<D>, NewError>
         ensures made { IfOk result (λ m. state_of m ≡ first_machine ram_pages shapes.now) }
         ensures sound { IfOk result (λ m. IsSound (state_of m)) }
         ensures refused { IfSome (new_refusal ram_pages shapes.now (vec_len disks)) (λ error. result ≡ Err error) }
@@ -82,7 +87,11 @@ fn refusal(pages: u32, shapes: &[Shape], disks: usize) -> Option<NewError>
     None
 }
 
-fn new_devices<D: Disk + Drop>(alloc: Global, shapes: &[Shape], ram_len: u64) -> Result<Vec<Device<D>>, NoMemory>
+fn new_devices<D: Disk + Drop>(
+    alloc: Global,
+    shapes: &[Shape],
+    ram_len: u64,
+) -> Result<Vec<Device<D>>, NoMemory>
     ensures first { IfOk result (λ devices. devices.items ≡ map (first_seen ram_len) shapes.now) }
     ensures sound { IfOk result (λ devices. All (λ d. IsSoundDevice ram_len d.state) devices.items) }
 {
@@ -102,7 +111,12 @@ impl<D: Disk> Machine<D> {
     {
         match event {
             Event::RegRead { dev, off, width } => self.read_register(*dev, *off, *width),
-            Event::RegWrite { dev, off, width, value } => self.write_register(*dev, *off, *width, *value),
+            Event::RegWrite {
+                dev,
+                off,
+                width,
+                value,
+            } => self.write_register(*dev, *off, *width, *value),
             Event::MemRead { addr, len } => self.read_ram(*addr, *len),
             Event::MemWrite { addr, bytes } => self.write_ram(*addr, bytes.as_slice()),
         }

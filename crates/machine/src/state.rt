@@ -89,4 +89,7 @@ fn queues(shape: Shape) -> u8
     }
 }
 
-const COMMON_FEATURES: u64 = mmio::INDIRECT_DESC | mmio::EVENT_IDX | mmio::VERSION_1 | mmio::RING_PACKED;
+const COMMON_FEATURES: u64 = mmio::INDIRECT_DESC
+    | mmio::EVENT_IDX
+    | mmio::VERSION_1
+    | mmio::RING_PACKED;

@@ -1,6 +1,5 @@
-use Rattle.std.proofs.Common.{◌≡◌, ℕ, ◌*◌, List, None, replicate, length, map, sym, ap, rules}
+use Rattle.std.proofs.Common.{◌≡◌, ◌*◌, None, replicate, length, map, rules}
 use Rattle.std.specs.List.{All}
-use Rattle.guestmem.specs.Memory.{Memory}
 use Rattle.machine.specs.First.{new_refusal, first_seen}
 use Rattle.machine.specs.Seen.{DeviceSeen}
 use Rattle.machine.specs.Sound.{IsSoundDevice}

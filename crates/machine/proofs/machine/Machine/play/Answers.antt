@@ -15,5 +15,5 @@ loop-event-preserved g c =
       marks = c.apply-reply.ensures.disks ∙ c.loop-event.invariant.marks;
       sound = c.apply-reply.ensures.sound;
       so_far = rw (more, c.push_reserved.ensures.items)
-        (run_more (state_of c.args.self.now) (state_of c.loop-event.self) (state_of c.apply-reply.new.self) (take i events) c.loop-event.replies.items c.event-item.result c.apply-reply.result c.loop-event.invariant.so_far c.apply-reply.ensures.step);
+          (run_more (state_of c.args.self.now) (state_of c.loop-event.self) (state_of c.apply-reply.new.self) (take i events) c.loop-event.replies.items c.event-item.result c.apply-reply.result c.loop-event.invariant.so_far c.apply-reply.ensures.step);
     }

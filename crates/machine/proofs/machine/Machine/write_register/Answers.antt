@@ -7,7 +7,7 @@ pub invariant_of-self : goal.invariant_of-self
 invariant_of-self g c =
     let at : IsAt c.self.inside.devices.items c.args.dev c.index_mut.result.now = record { below = omega arith; is = c.index_mut.ensures.value } in
     held_device c.self.inside.shapes.items c.self.inside.ram c.self.inside.devices.items c.args.dev c.index_mut.result.now c.write_register.new.self at
-      (ap (λ (d : DeviceSeen). d.sectors) c.write_register.ensures.set) (ap (λ (d : DeviceSeen). d.state.shape) c.write_register.ensures.set) c.write_register.ensures.sound c.self.invariant
+    (ap (λ (d : DeviceSeen). d.sectors) c.write_register.ensures.set) (ap (λ (d : DeviceSeen). d.state.shape) c.write_register.ensures.set) c.write_register.ensures.sound c.self.invariant
 
 pub returns-clause-step : goal.returns-clause-step
 returns-clause-step g c =
@@ -19,7 +19,7 @@ pub returns-clause-sound : goal.returns-clause-sound
 returns-clause-sound g c =
     let at : IsAt c.self.inside.devices.items c.args.dev c.index_mut.result.now = record { below = omega arith; is = c.index_mut.ensures.value } in
     sound_device c.self.inside.ram c.self.inside.devices.items c.args.dev c.index_mut.result.now c.write_register.new.self at
-      (ap (λ (d : DeviceSeen). d.sectors) c.write_register.ensures.set) c.write_register.ensures.sound c.self.invariant.sound
+    (ap (λ (d : DeviceSeen). d.sectors) c.write_register.ensures.set) c.write_register.ensures.sound c.self.invariant.sound
 
 pub returns-clause-disks : goal.returns-clause-disks
 returns-clause-disks g c =
