@@ -1,7 +1,7 @@
 //! The memory of a guest.
 
 ghost use Rattle.std.specs.Prelude.{◌≡◌, ◌+◌, ◌*◌, ◌<◌, ◌≤◌, ◌^◌, ℕ, length, replicate, take, drop, IfOk, OnOk, OnErr, map, slice_index, false};
-ghost use Rattle.guestmem.specs.Number.{number_at};
+ghost use Rattle.guestmem.specs.Number.{number_at, IsBytes};
 ghost use Rattle.guestmem.specs.Item.{page as page_item, after_all, pages_between, MayPages};
 ghost use Rattle.guestmem.specs.Writes.{byte_writes, set_all, touched};
 ghost use Rattle.guestmem.specs.Memory.{Memory, IsMemory};
@@ -46,8 +46,9 @@ impl Ram {
     pub fn len(&self) -> u64
         ensures len { result ≡ length self.now.bytes }
         ensures sound { IsMemory self.now }
+        ensures bytes { IsBytes self.now.bytes }
     {
-        self.bytes.len() as u64
+        count_of(self.bytes.as_slice())
     }
 
     /// Always false: a RAM has a page at least.
@@ -192,6 +193,14 @@ fn tell_pages<L: TouchLog>(log: &mut L, first: u64, last: u64)
     for n in first..last + 1 {
         log.page(n);
     }
+}
+
+/// How many bytes there are, each of which is one.
+fn count_of(bytes: &[u8]) -> u64
+    ensures count { result ≡ length bytes.now }
+    ensures bytes { IsBytes bytes.now }
+{
+    bytes.len() as u64
 }
 
 fn raise_all(versions: &mut [u64])

@@ -1,0 +1,11 @@
+pub mod State
+pub mod Places
+pub mod Descriptor
+pub mod Whole
+pub mod SplitChain
+pub mod PackedChain
+pub mod Ring
+pub mod Publish
+pub mod SplitLaws
+pub mod EffectLaws
+pub mod PlaceLaws
