@@ -4,6 +4,7 @@ use Rattle.std.proofs.lemmas.List.{map-set, length-map, length-set, get_or-map}
 use Rattle.std.proofs.lemmas.List.Elements.{All-set}
 use Rattle.std.specs.List.{slice_get, All}
 use Rattle.guestmem.specs.Memory.{Memory}
+use Rattle.guestmem.specs.Number.{IsBytes}
 use Rattle.machine.specs.State.{DeviceState, Sector}
 use Rattle.machine.specs.Seen.{DeviceSeen, state_of}
 use Rattle.machine.specs.Step.{IsStep, fine, register_set}
@@ -42,9 +43,10 @@ register_step m ds dev offset width value d new at is = record {
 }
 
 -- A machine stays sound where its RAM keeps its length.
-pub sound_ram : (old new : List ℕ) (devices : List DeviceState) (disks : List (List Sector)) → length new ≡ length old
+pub sound_ram : (old new : List ℕ) (devices : List DeviceState) (disks : List (List Sector)) → length new ≡ length old → IsBytes new
     → IsSound (record { ram = old; devices = devices; disks = disks }) → IsSound (record { ram = new; devices = devices; disks = disks })
-sound_ram old new devices disks long sound = record {
+sound_ram old new devices disks long are sound = record {
+  bytes = are;
   pages = sound.pages;
   whole_pages = long ∙ sound.whole_pages;
   some_pages = sound.some_pages;
@@ -67,6 +69,7 @@ sound_device m ds dev d new at sectors keeps sound =
     let below : dev < length (map (λ (x : DeviceSeen). x.state) ds) = rw length-map at.below in
     let here : IsSoundDevice (length m.bytes) d.state = rw at.is (rw (get_or-map (λ (x : DeviceSeen). x.state) ds dev d d.state at.below) at (sound.devices dev d.state below)) in
     record {
+      bytes = sound.bytes;
       pages = sound.pages;
       whole_pages = sound.whole_pages;
       some_pages = sound.some_pages;
@@ -90,3 +93,11 @@ held_device shapes m ds dev d new at sectors shape keeps held = record {
 pub shapes_seen : (ds : List DeviceSeen) → map (λ (x : DeviceSeen). x.state.shape) ds ≡ map (λ (d : DeviceState). d.shape) (map (λ (x : DeviceSeen). x.state) ds)
 shapes_seen [] = refl
 shapes_seen (x ∷ ds) = ap (λ xs. x.state.shape ∷ xs) (shapes_seen ds)
+
+-- A machine is held where its RAM keeps its length.
+pub held_ram : (shapes : List Shape) (old new : Memory) (ds : List DeviceSeen) → length new.bytes ≡ length old.bytes → IsBytes new.bytes
+    → IsHeld shapes (record { memory = old; devices = ds }) → IsHeld shapes (record { memory = new; devices = ds })
+held_ram shapes old new ds long are held = record {
+  sound = sound_ram old.bytes new.bytes (map (λ (x : DeviceSeen). x.state) ds) (map (λ (x : DeviceSeen). x.sectors) ds) long are held.sound;
+  shapes_are = held.shapes_are;
+}

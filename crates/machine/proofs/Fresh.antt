@@ -7,10 +7,12 @@ use Rattle.std.proofs.lemmas.List.Elements.{All-map}
 use Rattle.std.proofs.lemmas.Bool.{eqb-false}
 use borrow.Author.Tests.{ltb-false}
 use Rattle.guestmem.specs.Memory.{Memory}
-use Rattle.machine.specs.State.{Sector}
+use Rattle.guestmem.specs.Number.{IsBytes}
+use Rattle.machine.specs.State.{DeviceState, Sector}
 use Rattle.machine.specs.Seen.{DeviceSeen, state_of}
 use Rattle.machine.specs.Shapes.{first_device}
-use Rattle.machine.specs.First.{first_seen, first_machine, new_refusal}
+use Rattle.machine.specs.First.{seen_without_disk, saved_machine, first_seen, first_machine, new_refusal}
+use Rattle.machine.specs.Held.{IsHeld}
 use Rattle.machine.specs.Sound.{IsSound, IsSoundDevice}
 use Rattle.machine.specs.declared.shape.Shape.{Shape}
 use Rattle.machine.specs.declared.new_error.NewError.TheVariants.{BadShape, DiskMismatch}
@@ -55,15 +57,16 @@ is_first pages shapes m ds bytes devices =
     rw (devices, first_states (length m.bytes) shapes, first_sectors (length m.bytes) shapes, long, bytes) refl
 
 pub first_sound : (pages : ℕ) (shapes : List Shape) (disks : ℕ) (m : Memory) (ds : List DeviceSeen) → new_refusal pages shapes disks ≡ None
-    → m.bytes ≡ replicate (4096 * pages) 0 → ds ≡ map (first_seen (length m.bytes)) shapes → All (λ (d : DeviceSeen). IsSoundDevice (length m.bytes) d.state) ds
+    → m.bytes ≡ replicate (4096 * pages) 0 → IsBytes m.bytes → ds ≡ map (first_seen (length m.bytes)) shapes → All (λ (d : DeviceSeen). IsSoundDevice (length m.bytes) d.state) ds
     → IsSound (state_of (record { memory = m; devices = ds }))
-first_sound pages shapes disks m ds none bytes devices sound =
+first_sound pages shapes disks m ds none bytes are devices sound =
     let within = limits pages shapes disks none in
     let long : length m.bytes ≡ 4096 * pages = ap length bytes ∙ length-replicate (4096 * pages) 0 in
     let many : length ds ≡ length shapes = ap length devices ∙ rw length-map refl in
     let states : length (map (λ (x : DeviceSeen). x.state) ds) ≡ length shapes = rw length-map many in
     let disks_of : length (map (λ (x : DeviceSeen). x.sectors) ds) ≡ length shapes = rw length-map many in
     record {
+      bytes = are;
       pages = pages;
       whole_pages = long;
       some_pages = within.some_pages;
@@ -81,3 +84,26 @@ shapes_of_first n (s ∷ shapes) = ap (λ xs. s ∷ xs) (shapes_of_first n shape
 
 pub first_shapes : (shapes : List Shape) (n : ℕ) (held : List Shape) (ds : List DeviceSeen) → held ≡ shapes → ds ≡ map (first_seen n) shapes → held ≡ map (λ (x : DeviceSeen). x.state.shape) ds
 first_shapes shapes n held ds same devices = same ∙ sym (ap (map (λ (x : DeviceSeen). x.state.shape)) devices ∙ shapes_of_first n shapes)
+
+saved_states : (states : List DeviceState) → map (λ (x : DeviceSeen). x.state) (map seen_without_disk states) ≡ states
+saved_states [] = refl
+saved_states (s ∷ states) = ap (λ xs. s ∷ xs) (saved_states states)
+
+saved_sectors : (states : List DeviceState) → map (λ (x : DeviceSeen). x.sectors) (map seen_without_disk states) ≡ map (λ _. []) states
+saved_sectors [] = refl
+saved_sectors (s ∷ states) = ap (λ (xs : List (List Sector)). [] ∷ xs) (saved_sectors states)
+
+saved_shapes : (states : List DeviceState) → map (λ (x : DeviceSeen). x.state.shape) (map seen_without_disk states) ≡ map (λ (d : DeviceState). d.shape) states
+saved_shapes [] = refl
+saved_shapes (s ∷ states) = ap (λ xs. s.shape ∷ xs) (saved_shapes states)
+
+-- A saved machine, as it is seen.
+pub is_saved : (ram : Memory) (states : List DeviceState) (ds : List DeviceSeen) → ds ≡ map seen_without_disk states → state_of (record { memory = ram; devices = ds }) ≡ saved_machine ram.bytes states
+is_saved ram states ds is = rw (is, saved_states states, saved_sectors states) refl
+
+pub held_saved : (shapes : List Shape) (ram : Memory) (states : List DeviceState) (ds : List DeviceSeen) → ds ≡ map seen_without_disk states → IsSound (saved_machine ram.bytes states)
+    → shapes ≡ map (λ (d : DeviceState). d.shape) states → IsHeld shapes (record { memory = ram; devices = ds })
+held_saved shapes ram states ds is sound same = record {
+  sound = rw (is_saved ram states ds is) sound;
+  shapes_are = same ∙ sym (ap (map (λ (x : DeviceSeen). x.state.shape)) is ∙ saved_shapes states);
+}

@@ -1,6 +1,6 @@
 use Rattle.std.specs.Prelude.{ℕ, ◌*◌, ◌||◌, ◌==◌, not, nat_lt, if◌then◌else◌, List, [], length, map, replicate, true, Option, Some, None}
 use Rattle.machine.specs.Shapes.{first_device}
-use Rattle.machine.specs.State.{MachineState}
+use Rattle.machine.specs.State.{MachineState, DeviceState}
 use Rattle.machine.specs.Seen.{DeviceSeen}
 use Rattle.machine.specs.declared.shape.Shape.{Shape}
 use Rattle.machine.specs.declared.new_error.NewError.{NewError}
@@ -29,3 +29,11 @@ first_seen ram_len shape = record {
   sectors = [];
   marks = record { failures = 0; honest = true; steady = true };
 }
+
+-- What is seen of a device without a disk.
+abbrev pub seen_without_disk : DeviceState → DeviceSeen
+seen_without_disk state = record { state = state; sectors = []; marks = record { failures = 0; honest = true; steady = true } }
+
+-- A machine as it was saved, none of whose devices has a disk.
+abbrev pub saved_machine : List ℕ → List DeviceState → MachineState
+saved_machine ram states = record { ram = ram; devices = states; disks = map (λ _. []) states }

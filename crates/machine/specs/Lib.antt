@@ -4,6 +4,7 @@ pub mod Effect
 pub mod EffectLaws
 pub mod First
 pub mod Held
+pub mod QueuePositions
 pub mod Refusal
 pub mod Run
 pub mod Seen

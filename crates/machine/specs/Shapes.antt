@@ -1,8 +1,12 @@
-use Rattle.std.specs.Prelude.{ℕ, ◌+◌, ◌^◌, List, []}
+use Rattle.std.specs.Prelude.{ℕ, ◌+◌, ◌^◌, List, [], replicate}
 use Rattle.mmio.specs.State.{first_registers}
+use Rattle.chains.specs.declared.position.Positions.{Positions}
+use Rattle.mmio.specs.declared.common.Common.{Common}
+use Rattle.mmio.specs.declared.queue.Queue.{Queue}
 use Rattle.machine.specs.declared.shape.Shape.{Shape}
 use Rattle.machine.specs.declared.shape.Shape.TheVariants.{Entropy}
 use Rattle.machine.specs.State.{DeviceState}
+use Rattle.machine.specs.QueuePositions.{first_positions}
 
 -- The device's number (VIRTIO 1.2, 5).
 abbrev pub device_id_of : Shape → ℕ
@@ -30,4 +34,15 @@ abbrev pub first_device : ℕ → Shape → DeviceState
 first_device ram_len shape = record {
   shape = shape;
   registers = first_registers (device_id_of shape) (offered_of shape) (queues_of shape) ram_len;
+  positions = replicate (queues_of shape) first_positions;
+  pool = [];
+}
+
+-- A device as it was saved.
+abbrev pub saved_device : ℕ → Shape → Common → List Queue → List Positions → List ℕ → DeviceState
+saved_device ram_len shape common queues positions pool = record {
+  shape = shape;
+  registers = record { device_id = device_id_of shape; offered = offered_of shape; ram_len = ram_len; common = common; queues = queues };
+  positions = positions;
+  pool = pool;
 }

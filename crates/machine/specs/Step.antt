@@ -5,6 +5,8 @@ use Rattle.guestmem.specs.declared.error.RamError.{RamError}
 use Rattle.guestmem.specs.declared.error.RamError.TheVariants as ram_error
 use Rattle.mmio.specs.RegisterRead.{register_read}
 use Rattle.mmio.specs.RegisterWrite.{register_write}
+use Rattle.machine.specs.QueuePositions.{kept_positions}
+use Rattle.mmio.specs.State.{Registers}
 use Rattle.machine.specs.State.{DeviceState, MachineState}
 use Rattle.machine.specs.Shapes.{configuration_of}
 use Rattle.machine.specs.Effect.{Effect, no_effect, applied}
@@ -58,9 +60,13 @@ abbrev pub read_register : Option DeviceState → ℕ → ℕ → Answer
 read_register None offset width = refused NoDevice
 read_register (Some d) offset width = unchanged (Value (register_value_of d offset width))
 
+-- A device with these registers: a queue that they say is not ready begins anew.
+abbrev pub with_registers : DeviceState → Registers → DeviceState
+with_registers d r = record d { registers = r; positions = kept_positions r.queues d.positions }
+
 -- A device after the driver wrote a register: the table's registers. Whether the write was taken does not show.
 abbrev pub register_set : DeviceState → ℕ → ℕ → ℕ → DeviceState
-register_set d offset width value = record d { registers = (register_write d.registers offset width value).1 }
+register_set d offset width value = with_registers d (register_write d.registers offset width value).1
 
 abbrev pub write_register : ℕ → Option DeviceState → ℕ → ℕ → ℕ → Answer
 write_register number None offset width value = refused NoDevice

@@ -1,11 +1,13 @@
 //! A device and its disk.
 
-ghost use Rattle.std.specs.Prelude.{◌≡◌, None, ℕ};
+ghost use Rattle.std.specs.Prelude.{◌≡◌, None, ℕ, IfOk};
 ghost use Rattle.machine.specs.Seen.{DeviceSeen, sectors_of, marks_of};
 
 use crate::disk::Disk;
 use crate::shape::Shape;
 use crate::state::DeviceState;
+use guestmem::NoMemory;
+use std::alloc::Global;
 use std::marker::Model;
 
 /// A device with the disk that belongs to it, if its shape has one.
@@ -26,17 +28,22 @@ impl<D: Disk> Model for Device<D> {
 impl<D: Disk> Device<D> {
     ghost use Rattle.machine.specs.Step.{register_value_of, register_set};
     ghost use Rattle.machine.specs.Sound.{IsSoundDevice};
-    ghost use Rattle.machine.specs.First.{first_seen};
+    ghost use Rattle.machine.specs.First.{first_seen, seen_without_disk};
 
     /// A new device without a disk, in a machine whose RAM has so many bytes.
-    pub fn new(shape: Shape, ram_len: u64) -> Device<D>
-        ensures first { result ≡ first_seen ram_len shape }
-        ensures sound { IsSoundDevice ram_len result.state }
+    pub fn new(alloc: Global, shape: Shape, ram_len: u64) -> Result<Device<D>, NoMemory>
+        ensures first { IfOk result (λ d. d ≡ first_seen ram_len shape) }
+        ensures sound { IfOk result (λ d. IsSoundDevice ram_len d.state) }
     {
-        Device {
-            state: DeviceState::new(shape, ram_len),
-            disk: None,
-        }
+        let state = DeviceState::new(alloc, shape, ram_len)?;
+        Ok(Device { state, disk: None })
+    }
+
+    /// A device without a disk, which is this beside it.
+    pub fn without_disk(state: DeviceState) -> Device<D>
+        ensures { result ≡ seen_without_disk state }
+    {
+        Device { state, disk: None }
     }
 
     /// What the device is beside its disk.

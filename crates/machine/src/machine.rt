@@ -1,9 +1,9 @@
 //! The machine: RAM, devices, and one event after another.
 
-ghost use Rattle.std.specs.Prelude.{◌≡◌, ◌<◌, length, map, slice_index_or, vec_len, Err, None, All, IfOk, IfErr, IfSome, OnErr};
+ghost use Rattle.std.specs.Prelude.{◌≡◌, ◌<◌, length, map, slice_index_or, vec_len, Err, None, All, IfOk, IfErr, IfSome, OnErr, []};
 ghost use Rattle.machine.specs.Seen.{state_of, all_marks};
 ghost use Rattle.machine.specs.Step.{IsStep, outcome_of, ram_refusal};
-ghost use Rattle.machine.specs.First.{first_machine, first_seen, new_refusal};
+ghost use Rattle.machine.specs.First.{first_machine, saved_machine, seen_without_disk, first_seen, new_refusal};
 ghost use Rattle.machine.specs.Run.{IsRun};
 ghost use Rattle.machine.specs.Sound.{IsSound, IsSoundDevice};
 ghost use Rattle.machine.specs.declared.new_error.NewError.TheVariants as new_error;
@@ -73,6 +73,42 @@ impl<D: Disk + Drop> Machine<D> {
             devices,
         })
     }
+
+    /// A machine as it was saved, none of whose devices has a disk. The caller has seen to it that it is sound. Its only
+    /// error is want of memory.
+    pub fn restore(
+        alloc: Global,
+        ram: Ram,
+        shapes: Vec<Shape>,
+        states: Vec<DeviceState>,
+        disks: Vec<D>,
+    ) -> Result<Machine<D>, NoMemory>
+        requires sound { IsSound (saved_machine ram.bytes states.items) }
+        requires shapes { shapes.items ≡ map (λ d. d.shape) states.items }
+        requires no_disks { disks.items ≡ [] }
+        ensures { IfOk result (λ m. state_of m ≡ saved_machine ram.bytes states.items) }
+    {
+        let devices = restored_devices(alloc, states)?;
+        Ok(Machine {
+            alloc,
+            ram,
+            shapes,
+            devices,
+        })
+    }
+}
+
+fn restored_devices<D: Disk + Drop>(
+    alloc: Global,
+    states: Vec<DeviceState>,
+) -> Result<Vec<Device<D>>, NoMemory>
+    ensures { IfOk result (λ devices. devices.items ≡ map seen_without_disk states.items) }
+{
+    let mut devices = Vec::with_capacity(alloc, states.len())?;
+    for state in states {
+        devices.push(Device::without_disk(state))?;
+    }
+    Ok(devices)
 }
 
 fn refusal(pages: u32, shapes: &[Shape], disks: usize) -> Option<NewError>
@@ -97,7 +133,8 @@ fn new_devices<D: Disk + Drop>(
 {
     let mut devices = Vec::with_capacity(alloc, shapes.len())?;
     for shape in shapes {
-        devices.push_reserved(Device::new(*shape, ram_len));
+        let device = Device::new(alloc, *shape, ram_len)?;
+        devices.push_reserved(device);
     }
     Ok(devices)
 }
@@ -189,6 +226,7 @@ impl<D: Disk> Machine<D> {
             return Reply::Refused(refusal_for(error));
         }
         self.ram.put(addr, bytes, &mut NoLog);
+        let _len = self.ram.len();
         Reply::Done
     }
 

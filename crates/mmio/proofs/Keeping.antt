@@ -1,8 +1,8 @@
 -- What keeps the registers sound.
-use Rattle.std.specs.Prelude.{◌≡◌, ℕ, ◌<◌, ◌≤◌, ◌^◌, bit_or}
+use Rattle.std.specs.Prelude.{◌≡◌, ℕ, ◌<◌, ◌≤◌, ◌+◌, ◌%◌, ◌^◌, bit_or}
 use Rattle.std.proofs.Common.{inl, inr, arith, refl}
 use Rattle.std.proofs.lemmas.Bool.{and_parts, eqb-true}
-use Rattle.std.proofs.lemmas.Nat.{or_lt}
+use Rattle.std.proofs.lemmas.Nat.{or_lt, mod_below}
 use Rattle.std.proofs.lemmas.List.Elements.{All-set}
 use Rattle.std.proofs.Math.ListN.{length-set}
 use Rattle.mmio.specs.Bits.{has, Has}
@@ -102,8 +102,8 @@ change_kept_at r generation fits h =
       version = h.common.version;
     }) h
 
-pub change_kept : (r : Registers) (c : Common) (generation : ℕ) → c ≡ r.common → generation < 2 ^ 32 → IsSoundRegisters r → IsSoundRegisters (with_common r (record c { interrupts = bit_or c.interrupts 2; generation = generation }))
-change_kept r c generation e fits h = rw e (change_kept_at r generation fits h)
+pub change_kept : (r : Registers) (c : Common) → c ≡ r.common → IsSoundRegisters r → IsSoundRegisters (with_common r (record c { interrupts = bit_or c.interrupts 2; generation = (c.generation + 1) % 2 ^ 32 }))
+change_kept r c e h = rw e (change_kept_at r ((r.common.generation + 1) % 2 ^ 32) (mod_below (r.common.generation + 1) (2 ^ 32) (omega arith)) h)
 
 -- a queue is replaced by a sound one
 pub queues_kept : (r : Registers) (number : ℕ) (q : Queue) → IsSoundRegisters r → IsSoundQueue r.ram_len r.common q → IsSoundRegisters (with_queue r number q)

@@ -1,2 +1,3 @@
 pub mod StatusBits
 pub mod Keeping
+pub mod StayingReady

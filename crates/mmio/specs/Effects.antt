@@ -1,5 +1,6 @@
 -- What holds after every write, whatever was written.
-use Rattle.std.specs.Prelude.{◌≡◌, ℕ, ◌<◌, Bool, true, false, IsSomeAnd, length}
+use Rattle.std.specs.Prelude.{◌≡◌, ◌⊎◌, ℕ, ◌^◌, ◌<◌, Bool, true, false, List, [], ◌∷◌, IsSomeAnd, length}
+use Rattle.mmio.specs.Bits.{has}
 use Rattle.mmio.specs.State.{Registers, queue_at}
 use Rattle.mmio.specs.declared.queue.Queue.{Queue}
 use Rattle.mmio.specs.declared.effect.Effect.{Effect}
@@ -23,3 +24,18 @@ IsTold (e.Notified number) r = HasQueue r number (λ q. q.is_notified) true
 IsTold (e.Enabled number) r = HasQueue r number (λ q. q.is_ready) true
 IsTold (e.Disabled number) r = HasQueue r number (λ q. q.is_ready) false
 IsTold _ r = Unit {0}
+
+-- A queue that is ready after a write was just made ready, and has slots; or it was ready before, with the same size and
+-- in the same layout.
+abbrev pub StaysReady : Bool → Bool → Queue → Queue → Type 0
+StaysReady was_packed is_packed old new =
+    new.is_ready ≡ true → ((old.is_ready ≡ false) × (0 < new.size)) ⊎ ((old.is_ready ≡ true) × (new.size ≡ old.size) × (is_packed ≡ was_packed))
+
+abbrev pub EachStaysReady : Bool → Bool → List Queue → List Queue → Type 0
+EachStaysReady was is [] [] = Unit {0}
+EachStaysReady was is (o ∷ os) (n ∷ ns) = StaysReady was is o n × EachStaysReady was is os ns
+EachStaysReady was is os ns = ⊥
+
+-- The same of each queue. The layout is that of the driver's features.
+abbrev pub StayReady : Registers → Registers → Type 0
+StayReady old new = EachStaysReady (has old.common.features (2 ^ 34)) (has new.common.features (2 ^ 34)) old.queues new.queues

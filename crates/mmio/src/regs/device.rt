@@ -14,6 +14,7 @@ use crate::regs::Regs;
 impl Regs {
     /// Asks the driver for a reset (VIRTIO 1.2, 2.1.2): DEVICE_NEEDS_RESET and the interrupt of a configuration change.
     /// A device that is not driven, without DRIVER_OK, stays as it is.
+    #[tactic(auto, using(crate::proofs::Keeping::asked_kept))]
     pub fn ask_reset(&mut self)
         ensures { self.new ≡ with_common self.old (reset_asked self.old.common) }
     {
@@ -41,6 +42,7 @@ impl Regs {
 
     /// Tells the driver that the configuration has changed. The change is counted, modulo 2^32. It interrupts where
     /// DRIVER_OK is set and each feature bit of `feature`, by which the driver may hear of it, is negotiated.
+    #[tactic(auto, using(crate::proofs::Keeping::change_kept))]
     pub fn config_changed(&mut self, feature: u64)
         ensures { self.new ≡ with_common self.old (configuration_changed self.old.common feature) }
     {

@@ -53,7 +53,7 @@ impl Regs {
     pub fn is_running(&self) -> bool
         ensures { result ≡ is_running self.now.common }
     {
-        let status = self.common.status;
+        let status = self.status();
         status & DRIVER_OK == DRIVER_OK && status & DEVICE_NEEDS_RESET != DEVICE_NEEDS_RESET
     }
 }

@@ -4,7 +4,7 @@ ghost use Rattle.std.specs.Prelude.{◌≡◌};
 ghost use Rattle.mmio.specs.State.{reset_registers, with_common};
 ghost use Rattle.mmio.specs.Interrupts.{acknowledged};
 ghost use Rattle.mmio.specs.Features.{features_written};
-ghost use Rattle.mmio.specs.Effects.{IsSameDevice, IsTold};
+ghost use Rattle.mmio.specs.Effects.{IsSameDevice, IsTold, StayReady};
 ghost use Rattle.mmio.specs.RegisterWrite.{status_written, register_written, register_write};
 
 use crate::bits::with_half;
@@ -23,6 +23,16 @@ impl Regs {
     /// effect says what the device has to do. A register is written with width 4. From CONFIG on lies the configuration,
     /// which no register belongs to. A write in any other way is ignored.
     pub fn write(&mut self, offset: u32, width: u8, value: u32) -> Effect
+        ensures value { (result, self.new) ≡ register_write self.old offset width value }
+        ensures same { IsSameDevice self.old self.new }
+        ensures told { IsTold result self.new }
+        ensures ready { StayReady self.old self.new }
+    {
+        let _sound = self.common();
+        self.write_at(offset, width, value)
+    }
+
+    fn write_at(&mut self, offset: u32, width: u8, value: u32) -> Effect
         ensures value { (result, self.new) ≡ register_write self.old offset width value }
         ensures same { IsSameDevice self.old self.new }
         ensures told { IsTold result self.new }

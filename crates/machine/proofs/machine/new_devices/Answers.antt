@@ -16,6 +16,6 @@ loop-shape-preserved g c =
     record {
       room = omega arith;
       count = omega arith;
-      first = rw (more, map-append (first_seen c.args.ram_len) (take i shapes) (shape ∷ []), c.push_reserved.ensures.items, ← c.loop-shape.invariant.first, c.new.ensures.first) refl;
-      sound = rw c.push_reserved.ensures.items (All-push (λ (d : DeviceSeen). IsSoundDevice c.args.ram_len d.state) c.loop-shape.devices.items c.new.result c.loop-shape.invariant.sound c.new.ensures.sound);
+      first = rw (more, map-append (first_seen c.args.ram_len) (take i shapes) (shape ∷ []), c.push_reserved.ensures.items, ← c.loop-shape.invariant.first, c.in_ok-device.ensures.first) refl;
+      sound = rw c.push_reserved.ensures.items (All-push (λ (d : DeviceSeen). IsSoundDevice c.args.ram_len d.state) c.loop-shape.devices.items c.in_ok-device.device c.loop-shape.invariant.sound c.in_ok-device.ensures.sound);
     }

@@ -13,7 +13,7 @@ invariant_of-result g c =
     let first : c.in_ok-devices.devices.items ≡ map (first_seen (length c.in_ok-ram.ram.bytes)) c.args.shapes.now = search rules in
     let sound : All (λ (d : DeviceSeen). IsSoundDevice (length c.in_ok-ram.ram.bytes) d.state) c.in_ok-devices.devices.items = rw c.len-2.ensures.len at c.in_ok-devices.ensures.sound in
     record {
-      sound = first_sound c.args.ram_pages c.args.shapes.now (length c.args.disks.items) c.in_ok-ram.ram c.in_ok-devices.devices.items none bytes first sound;
+      sound = first_sound c.args.ram_pages c.args.shapes.now (length c.args.disks.items) c.in_ok-ram.ram c.in_ok-devices.devices.items none bytes c.len-2.ensures.bytes first sound;
       shapes_are = first_shapes c.args.shapes.now (length c.in_ok-ram.ram.bytes) c.in_ok-shapes.shapes.items c.in_ok-devices.devices.items c.in_ok-shapes.ensures.items first;
     }
 
@@ -29,4 +29,4 @@ returns-clause-sound g c =
     let bytes : c.in_ok-ram.ram.bytes ≡ replicate (4096 * c.args.ram_pages) 0 = search rules in
     let first : c.in_ok-devices.devices.items ≡ map (first_seen (length c.in_ok-ram.ram.bytes)) c.args.shapes.now = search rules in
     let sound : All (λ (d : DeviceSeen). IsSoundDevice (length c.in_ok-ram.ram.bytes) d.state) c.in_ok-devices.devices.items = rw c.len-2.ensures.len at c.in_ok-devices.ensures.sound in
-    first_sound c.args.ram_pages c.args.shapes.now (length c.args.disks.items) c.in_ok-ram.ram c.in_ok-devices.devices.items none bytes first sound
+    first_sound c.args.ram_pages c.args.shapes.now (length c.args.disks.items) c.in_ok-ram.ram c.in_ok-devices.devices.items none bytes c.len-2.ensures.bytes first sound

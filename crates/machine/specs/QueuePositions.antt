@@ -1,0 +1,41 @@
+use Rattle.std.specs.Prelude.{◌≡◌, ℕ, ◌<◌, ◌^◌, true, Bool, List, [], ◌∷◌, if◌then◌else◌}
+use Rattle.std.specs.Bool.{MatchBool}
+use Rattle.chains.specs.declared.position.Position.{Position}
+use Rattle.chains.specs.declared.position.Positions.{Positions}
+use Rattle.mmio.specs.Bits.{has}
+use Rattle.mmio.specs.declared.common.Common.{Common}
+use Rattle.mmio.specs.declared.queue.Queue.{Queue}
+
+-- The positions in a queue from which nothing was taken yet (VIRTIO 1.2, 2.7 and 2.8.1).
+abbrev pub first_position : Position
+first_position = record { place = 0; wrap = true }
+
+abbrev pub first_positions : Positions
+first_positions = record { taking = first_position; used = first_position }
+
+-- The positions in queues whose registers were written: a queue that is not ready begins anew, and one that stays ready
+-- goes on where it was.
+abbrev pub kept_positions : List Queue → List Positions → List Positions
+kept_positions [] ps = []
+kept_positions (q ∷ qs) [] = []
+kept_positions (q ∷ qs) (p ∷ ps) = (if q.is_ready then p else first_positions) ∷ kept_positions qs ps
+
+-- Whether the driver's features name the packed layout.
+abbrev pub is_packed_by : Common → Bool
+is_packed_by c = has c.features (2 ^ 34)
+
+-- Positions in a ready queue: places of a packed ring lie below its size, and a split ring leaves its wrap counters.
+abbrev pub ArePlaced : Bool → ℕ → Positions → Type 0
+ArePlaced packed size p = MatchBool packed ((p.taking.place < size) × (p.used.place < size)) ((p.taking.wrap ≡ true) × (p.used.wrap ≡ true))
+
+-- Positions that a queue can have.
+pub record HasPositions (packed : Bool) (q : Queue) (p : Positions) : Type 0 where
+  pub taking_fits : p.taking.place < 2 ^ 16
+  pub used_fits : p.used.place < 2 ^ 16
+  pub where_ready : MatchBool q.is_ready (ArePlaced packed q.size p) (p ≡ first_positions)
+
+-- Each queue has positions, and no others are there.
+abbrev pub HavePositions : Bool → List Queue → List Positions → Type 0
+HavePositions packed [] [] = Unit {0}
+HavePositions packed (q ∷ qs) (p ∷ ps) = HasPositions packed q p × HavePositions packed qs ps
+HavePositions packed qs ps = ⊥
