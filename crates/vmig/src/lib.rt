@@ -1,0 +1,18 @@
+//! The text of traces, the lines of replies, and the program by its words.
+#![tactic(auto)]
+
+mod building;
+mod digits;
+mod fields;
+mod line;
+mod lines;
+mod numbers;
+mod put;
+mod reading;
+mod trace;
+mod writing;
+
+pub use put::WriteFault;
+pub use reading::parse;
+pub use trace::{Trace, TraceError};
+pub use writing::write_reply;
