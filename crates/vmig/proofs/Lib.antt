@@ -5,3 +5,4 @@ pub mod Known
 pub mod Whole
 pub mod Decimal
 pub mod HexText
+pub mod OneReading

@@ -4,3 +4,4 @@ pub mod Line
 pub mod Trace
 pub mod Reading
 pub mod Replies
+pub mod Laws

@@ -4,6 +4,7 @@
 mod building;
 mod digits;
 mod fields;
+pub mod laws;
 mod line;
 mod lines;
 mod numbers;
