@@ -6,3 +6,4 @@ pub mod Whole
 pub mod Decimal
 pub mod HexText
 pub mod OneReading
+pub mod AllReplies

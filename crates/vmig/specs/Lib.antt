@@ -5,3 +5,6 @@ pub mod Trace
 pub mod Reading
 pub mod Replies
 pub mod Laws
+pub mod Words
+pub mod Status
+pub mod Run

@@ -8,11 +8,14 @@ pub mod laws;
 mod line;
 mod lines;
 mod numbers;
+mod program;
 mod put;
 mod reading;
 mod trace;
+mod words;
 mod writing;
 
+pub use program::execute;
 pub use put::WriteFault;
 pub use reading::parse;
 pub use trace::{Trace, TraceError};
