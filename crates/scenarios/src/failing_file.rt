@@ -1,5 +1,7 @@
 //! A trace's file that fails as it is read.
 
+ghost use Rattle.std.specs.Prelude.{IsErr};
+
 use std::alloc::{Allocator, Global};
 use std::fs::{Metadata, OpenFile, OpenOptions};
 use std::io;
@@ -26,7 +28,9 @@ struct FailingFile {
     kind: ErrorKind,
 }
 
-fn refused<T>() -> io::Result<T> {
+fn refused<T>() -> io::Result<T>
+    ensures { IsErr result }
+{
     Err(io::Error::from(ErrorKind::Unsupported))
 }
 

@@ -41,7 +41,7 @@ impl Write for Narrow {
     }
 }
 
-fn narrow(alloc: Global, room: usize, flushes: bool) -> Narrow {
+fn narrow_writer(alloc: Global, room: usize, flushes: bool) -> Narrow {
     Narrow {
         held: Vec::new(alloc),
         room,
@@ -57,11 +57,11 @@ fn leaves_a_beginning(
     line: &[u8],
 ) -> Result<(), Fail> {
     for room in 0..line.len() {
-        let mut out = narrow(rt.alloc(), room, true);
+        let mut out = narrow_writer(rt.alloc(), room, true);
         assert!(rt; write_reply(reply, &mut out).is_err());
         assert!(rt; out.held.as_slice() == &line[..room], "room for {room}");
     }
-    let mut out = narrow(rt.alloc(), line.len(), true);
+    let mut out = narrow_writer(rt.alloc(), line.len(), true);
     assert!(rt; write_reply(reply, &mut out).is_ok());
     assert!(rt; out.held.as_slice() == line);
     Ok(())
@@ -95,14 +95,14 @@ fn standard_output_that_fails_is_told(rt: HostRuntime) -> Result<(), Fail> {
         "ram 1\nentropy\nmr 0 0\nmr 0x1001 0\nmr 0 1\n",
     )?;
     for room in 0..=replies.len() {
-        let mut out = narrow(rt.alloc(), room, false);
+        let mut out = narrow_writer(rt.alloc(), room, false);
         let mut err: Vec<u8> = Vec::new(rt.alloc());
         let status = execute(&rt, &["run", "narrow.trace"], &mut out, &mut err);
         assert_eq!(rt; status, 3, "room for {room}");
         assert_eq!(rt; err.as_slice(), b"vmig: file -\n".as_slice());
         assert!(rt; out.held.as_slice() == &replies[..room], "room for {room}");
     }
-    let mut out = narrow(rt.alloc(), replies.len(), true);
+    let mut out = narrow_writer(rt.alloc(), replies.len(), true);
     let mut err: Vec<u8> = Vec::new(rt.alloc());
     assert_eq!(rt;
         execute(&rt, &["run", "narrow.trace"], &mut out, &mut err),
