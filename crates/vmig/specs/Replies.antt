@@ -1,0 +1,33 @@
+-- The line of each reply.
+use Rattle.std.specs.Prelude.{ℕ, List, [], ◌∷◌, ◌++◌, codes, decimal, take, Option}
+use Rattle.std.specs.Int.{w32, to_be_bytes}
+use Rattle.std.specs.Io.KnownBytes.{Appends}
+use Rattle.hex.specs.Hex.{encode_lower}
+use Rattle.machine.specs.Refusal.{code_of}
+use Rattle.machine.specs.declared.reply.Reply.{Reply}
+use Rattle.machine.specs.declared.reply.Reply.TheVariants.{Value, Done, Bytes, NoMemory, Refused}
+
+-- the line's LF
+abbrev pub newline : List ℕ
+newline = 10 ∷ []
+
+-- `0x` and eight digits, the greatest first
+abbrev pub value_text : ℕ → List ℕ
+value_text n = codes "0x" ++ encode_lower (to_be_bytes w32 n)
+
+-- two digits for each byte, or `-` for none
+abbrev pub bytes_text : List ℕ → List ℕ
+bytes_text [] = codes "-"
+bytes_text (b ∷ bytes) = encode_lower (b ∷ bytes)
+
+-- Hexadecimal digits are of lower case. Other numbers are decimal, without leading zeros.
+abbrev pub reply_line : Reply → List ℕ
+reply_line (Value n) = codes "value " ++ value_text n ++ newline
+reply_line Done = codes "done" ++ newline
+reply_line (Bytes bytes) = codes "bytes " ++ bytes_text bytes ++ newline
+reply_line NoMemory = codes "nomemory" ++ newline
+reply_line (Refused refusal) = codes "refused " ++ decimal (code_of refusal) ++ newline
+
+-- a beginning of the bytes was appended
+abbrev pub AppendsBeginning : Option (List ℕ) → Option (List ℕ) → List ℕ → Type 0
+AppendsBeginning old new bytes = (n : ℕ) × Appends old new (take n bytes)

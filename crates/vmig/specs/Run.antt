@@ -1,0 +1,48 @@
+-- What the program does with the text of a trace.
+use Rattle.std.specs.Prelude.{◌≡◌, ℕ, List, map, flat_map, Option, Some, None}
+use Rattle.std.specs.Io.KnownBytes.{Appends}
+use Rattle.machine.specs.State.{MachineState}
+use Rattle.machine.specs.First.{first_machine, new_refusal}
+use Rattle.machine.specs.Step.{outcome_of}
+use Rattle.machine.specs.Run.{IsRun}
+use Rattle.machine.specs.Refusal.{new_code_of}
+use Rattle.machine.specs.declared.new_error.NewError.{NewError}
+use Rattle.machine.specs.declared.reply.Reply.{Reply}
+use Rattle.vmig.specs.declared.program.End.{End}
+use Rattle.vmig.specs.declared.program.End.TheVariants.{Well, NoMemory, Usage, File, Line, Shape}
+use Rattle.vmig.specs.declared.trace.TraceError.TheVariants as error
+use Rattle.vmig.specs.Trace.{Contents, IsTrace, Refuses}
+use Rattle.vmig.specs.Replies.{reply_line}
+
+-- These are replies of a fresh machine of the trace's shape to its events, each event with the outcome of its reply.
+pub record AreReplies (c : Contents) (replies : List Reply) : Type 0 where
+  pub last : MachineState
+  pub run : IsRun (first_machine c.pages c.shapes) c.events (map outcome_of replies) replies last
+
+-- The text is a trace, and the lines of such replies were written, in order.
+pub record IsPlayed (text : List ℕ) (old new : Option (List ℕ)) : Type 0 where
+  pub contents : Contents
+  pub trace : IsTrace text contents
+  pub replies : List Reply
+  pub answered : AreReplies contents replies
+  pub written : Appends old new (flat_map reply_line replies)
+
+-- There is no machine of this shape, for the reason of this number.
+pub record IsRefusedShape (c : Contents) (code : ℕ) : Type 0 where
+  pub refusal : NewError
+  pub refused : new_refusal c.pages c.shapes 0 ≡ Some refusal
+  pub number : code ≡ new_code_of refusal
+
+-- What an end without replies says of the trace. Memory may be refused for any.
+abbrev pub TellsOfTrace : Contents → End → Type 0
+TellsOfTrace c NoMemory = Unit {0}
+TellsOfTrace c (Shape code) = IsRefusedShape c code
+TellsOfTrace c _ = ⊥
+
+-- What an end says of the text. Memory and standard output may fail at any.
+abbrev pub TellsOfText : List ℕ → End → Type 0
+TellsOfText text NoMemory = Unit {0}
+TellsOfText text (File name) = Unit {0}
+TellsOfText text (Line number) = Refuses text (error.Line number)
+TellsOfText text (Shape code) = (c : Contents) × IsTrace text c × IsRefusedShape c code
+TellsOfText text _ = ⊥

@@ -1,0 +1,24 @@
+//! Decimal digits.
+
+ghost use Rattle.std.specs.Prelude.{◌≡◌, ◌≤◌, drop, decimal, length};
+
+/// How many digits the greatest u32 has.
+pub const MOST_DIGITS: usize = 10;
+
+/// Writes the digits of a number into the end of the room, and answers where they begin.
+pub fn write_decimal(room: &mut [u8], number: u32) -> usize
+    requires { length room.old ≡ 10 }
+    ensures within { result ≤ 10 }
+    ensures digits { drop result room.new ≡ decimal number }
+{
+    let mut at = MOST_DIGITS;
+    let mut rest = number;
+    while rest >= 10 {
+        at -= 1;
+        room[at] = b'0' + (rest % 10) as u8;
+        rest /= 10;
+    }
+    at -= 1;
+    room[at] = b'0' + rest as u8;
+    at
+}

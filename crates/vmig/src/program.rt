@@ -1,0 +1,170 @@
+//! One run of the program, by its words.
+
+ghost use Rattle.std.specs.Prelude.{◌≡◌, ◌≤◌, ◌++◌, OnOk, OnErr, IfOk, IfErr, map, flat_map, false};
+ghost use Rattle.std.specs.Io.KnownBytes.{Appends};
+ghost use Rattle.vmig.specs.Words.{is_program_line};
+ghost use Rattle.vmig.specs.Status.{status_of};
+ghost use Rattle.vmig.specs.Trace.{contents_of};
+ghost use Rattle.vmig.specs.Run.{AreReplies, IsPlayed, TellsOfTrace, TellsOfText};
+ghost use Rattle.vmig.specs.Replies.{reply_line, AppendsBeginning};
+ghost use Rattle.vmig.specs.declared.program.End.TheVariants.{Usage};
+
+use crate::put::WriteFault;
+use crate::reading::parse;
+use crate::trace::{Trace, TraceError};
+use crate::words::{Request, WordsError, read_words};
+use crate::writing::write_reply;
+use machine::{Machine, MemDisk, NewError, Reply};
+use std::alloc::Global;
+use std::io::Write;
+use std::rt::Files;
+use std::{fs, io};
+
+/// The name that stands for standard output where it fails.
+const STANDARD_OUTPUT: &str = "-";
+
+/// How a run ends.
+#[derive(Clone, Copy)]
+enum End<'a> {
+    /// Every event was played, and every reply written.
+    Well,
+
+    /// Memory was refused outside a reply.
+    NoMemory,
+
+    /// The words are no line of the program.
+    Usage,
+
+    /// The file of this name can't be opened or read, or standard output failed.
+    File(&'a str),
+
+    /// The first bad line of the trace.
+    Line(u64),
+
+    /// The refusal of a machine of this shape, by its number.
+    Shape(u8),
+}
+
+/// Runs the program on the words after its name: `run TRACE` plays the trace in a file, and writes one line a reply.
+///
+/// It answers the exit status, and writes what it stands for to `err`: 0 nothing; 1 `vmig: memory`; 2 `vmig: usage`;
+/// 3 `vmig: file NAME`, where NAME is `-` for standard output; 4 `vmig: trace line N` or `vmig: shape K`. Faults are
+/// looked for in this order: the words, the trace's file, its lines, its shape. `out` is flushed before the status is
+/// known.
+pub fn execute<R: Files + AllocGlobal, O: Write, E: Write>(
+    rt: &R,
+    words: &[&str],
+    out: &mut O,
+    err: &mut E,
+) -> u8
+    ensures status { result ≤ 4 }
+    ensures usage { is_program_line (map (λ word. word.now) words.now) ≡ false → result ≡ 2 }
+{
+    match run(rt, words, out) {
+        Ok(()) => tell(End::Well, err),
+        Err(end) => tell(end, err),
+    }
+}
+
+/// Writes the line of an end to standard error, and answers its exit status. Where standard error fails too, there is
+/// nobody left to tell.
+fn tell<E: Write>(end: End<'_>, err: &mut E) -> u8
+    ensures { result ≡ status_of end.entry }
+{
+    match end {
+        End::Well => 0,
+        End::NoMemory => told(1, writeln!(err, "vmig: memory")),
+        End::Usage => told(2, writeln!(err, "vmig: usage")),
+        End::File(name) => told(3, writeln!(err, "vmig: file {name}")),
+        End::Line(number) => told(4, writeln!(err, "vmig: trace line {number}")),
+        End::Shape(refusal) => told(4, writeln!(err, "vmig: shape {refusal}")),
+    }
+}
+
+fn told(status: u8, _written: io::Result<()>) -> u8
+    ensures { result ≡ status }
+{
+    status
+}
+
+fn run<'a, R: Files + AllocGlobal, O: Write>(
+    rt: &R,
+    words: &'a [&'a str],
+    out: &mut O,
+) -> Result<(), End<'a>>
+    ensures { is_program_line (map (λ word. word.now) words.entry.now) ≡ false → result ≡ Err Usage }
+{
+    match read_words(rt.alloc(), words) {
+        Ok(Request::Run { trace }) => run_trace(rt, trace, out),
+        Err(WordsError::Usage) => Err(End::Usage),
+        Err(WordsError::NoMemory) => Err(End::NoMemory),
+    }
+}
+
+/// Plays the trace in the file of this name on a fresh machine.
+fn run_trace<'a, R: Files + AllocGlobal, O: Write>(
+    rt: &R,
+    name: &'a str,
+    out: &mut O,
+) -> Result<(), End<'a>> {
+    let text = read_file(rt, name)?;
+    play_text(rt.alloc(), text.as_slice(), out)
+}
+
+fn read_file<'a, R: Files + AllocGlobal>(rt: &R, name: &'a str) -> Result<Vec<u8>, End<'a>> {
+    match fs::read(rt, name) {
+        Ok(bytes) => Ok(bytes),
+        Err(error) => match error.kind() {
+            io::ErrorKind::OutOfMemory => Err(End::NoMemory),
+            _ => Err(End::File(name)),
+        },
+    }
+}
+
+/// Plays a trace on a fresh machine, and writes the line of each reply.
+fn play_text<O: Write>(alloc: Global, text: &[u8], out: &mut O) -> Result<(), End<'static>>
+    ensures ok { OnOk result (IsPlayed text.now (O.contents out.old) (O.contents out.new)) }
+    ensures err { IfErr result (TellsOfText text.now) }
+{
+    let trace = match parse(alloc, text) {
+        Ok(trace) => trace,
+        Err(TraceError::Line(number)) => return Err(End::Line(number)),
+        Err(TraceError::NoMemory) => return Err(End::NoMemory),
+    };
+    let replies = match replies_to(alloc, &trace) {
+        Ok(replies) => replies,
+        Err(end) => return Err(end),
+    };
+    if write_replies(replies.as_slice(), out).is_err() || out.flush().is_err() {
+        return Err(End::File(STANDARD_OUTPUT));
+    }
+    Ok(())
+}
+
+/// The replies of a fresh machine of the trace's shape to its events.
+fn replies_to(alloc: Global, trace: &Trace) -> Result<Vec<Reply>, End<'static>>
+    ensures ok { IfOk result (λ replies. AreReplies (contents_of trace.now) replies.items) }
+    ensures err { IfErr result (TellsOfTrace (contents_of trace.now)) }
+{
+    let disks: Vec<MemDisk> = Vec::new(alloc);
+    let mut machine = match Machine::new(alloc, trace.pages, trace.shapes.as_slice(), disks) {
+        Ok(machine) => machine,
+        Err(NewError::NoMemory) => return Err(End::NoMemory),
+        Err(refusal) => return Err(End::Shape(refusal.code())),
+    };
+    match machine.play(trace.events.as_slice()) {
+        Ok(replies) => Ok(replies),
+        Err(_) => Err(End::NoMemory),
+    }
+}
+
+/// Writes the lines of replies, one after another, or a beginning of them.
+fn write_replies<O: Write>(replies: &[Reply], out: &mut O) -> Result<(), WriteFault>
+    ensures ok { OnOk result (Appends (O.contents out.old) (O.contents out.new) (flat_map reply_line replies.now)) }
+    ensures err { OnErr result (AppendsBeginning (O.contents out.old) (O.contents out.new) (flat_map reply_line replies.now)) }
+{
+    for reply in replies {
+        write_reply(reply, out)?;
+    }
+    Ok(())
+}

@@ -1,0 +1,75 @@
+//! The program's words.
+
+ghost use Rattle.std.specs.Prelude.{◌≡◌, map, false};
+ghost use Rattle.vmig.specs.Words.{is_name, is_program_line};
+ghost use Rattle.vmig.specs.declared.words.WordsError.TheVariants.{Usage};
+
+use clap::error::ErrorKind;
+use clap::{Arg, ArgAction, Command, Error};
+use std::alloc::{AllocError, Global};
+
+/// What the words ask for.
+#[derive(Clone, Copy, Debug, PartialEq, Eq)]
+pub enum Request<'a> {
+    /// Play the trace in the file of this name.
+    Run { trace: &'a str },
+}
+
+/// Why the words ask for nothing.
+#[derive(Clone, Copy, Debug, PartialEq, Eq)]
+pub enum WordsError {
+    /// They are none of the program's lines.
+    Usage,
+
+    /// Memory was refused.
+    NoMemory,
+}
+
+impl From<AllocError> for WordsError {
+    fn from(_error: AllocError) -> WordsError {
+        WordsError::NoMemory
+    }
+}
+
+impl From<Error> for WordsError {
+    fn from(error: Error) -> WordsError {
+        match error.kind() {
+            ErrorKind::OutOfMemory => WordsError::NoMemory,
+            _ => WordsError::Usage,
+        }
+    }
+}
+
+/// Whether a word can be a file's name: an option begins with `-`.
+fn is_file_name(word: &str) -> bool
+    ensures { result ≡ is_name word.now }
+{
+    !word.starts_with('-')
+}
+
+/// Whether the words are, in their order, one of the program's lines.
+fn are_a_line(words: &[&str]) -> bool
+    ensures { result ≡ is_program_line (map (λ word. word.now) words.now) }
+{
+    match words {
+        [verb, trace] => *verb == "run" && is_file_name(trace),
+        _ => false,
+    }
+}
+
+/// Reads the words that stand after the program's name. Words that are no line of the program are refused before
+/// any memory is asked for.
+pub fn read_words<'a>(alloc: Global, words: &'a [&'a str]) -> Result<Request<'a>, WordsError>
+    ensures { is_program_line (map (λ word. word.now) words.entry.now) ≡ false → result ≡ Err Usage }
+{
+    if !are_a_line(words) {
+        return Err(WordsError::Usage);
+    }
+    let trace = Arg::new(alloc, "trace")
+        .required(true)
+        .action(ArgAction::Set);
+    let command = Command::new(alloc, "run").arg(trace)?;
+    let matches = command.try_get_matches_from(words)?;
+    let trace = matches.get_str("trace").ok_or(WordsError::Usage)?;
+    Ok(Request::Run { trace })
+}
