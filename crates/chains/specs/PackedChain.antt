@@ -1,0 +1,49 @@
+use Rattle.std.specs.Prelude.{◌≡◌, ◌≢◌, ℕ, zero, suc, ◌+◌, ◌/◌, ◌%◌, ◌++◌, [], ◌∷◌, List, length, Bool, true, false}
+use Rattle.std.specs.Bool.{MatchBool}
+use Rattle.chains.specs.declared.descriptor.Descriptor.{Descriptor}
+use Rattle.chains.specs.declared.chain.Chain.{Chain}
+use Rattle.chains.specs.State.{RingState}
+use Rattle.chains.specs.Descriptor.{descriptor_at}
+use Rattle.chains.specs.Whole.{IsTable, ArePlain, IsWhole, readable_of, writable_of}
+
+-- A descriptor is available to a device whose wrap counter this is: AVAIL equals the counter, and USED does not
+-- (VIRTIO 1.2, 2.8.1).
+abbrev pub IsAvailable : Bool → Descriptor → Type 0
+IsAvailable wrap d = (d.avail_flag ≡ wrap) × (d.used_flag ≢ wrap)
+
+-- A packed queue is empty where the descriptor at the taking position is not available.
+abbrev pub IsPackedEmpty : List ℕ → RingState → Type 0
+IsPackedEmpty ram q = ¬ (IsAvailable q.taking.wrap (descriptor_at true ram q.descriptors q.taking.place))
+
+-- These are descriptors of consecutive slots of a ring of so many, from a slot on and going round: each but the last has
+-- the flag NEXT (VIRTIO 1.2, 2.8.6). AVAIL and USED of those after the first are not looked at.
+abbrev pub AreConsecutive : List ℕ → ℕ → ℕ → ℕ → List Descriptor → Type 0
+AreConsecutive ram table size slot [] = ⊥
+AreConsecutive ram table size slot (d ∷ []) = (d ≡ descriptor_at true ram table slot) × (d.has_next ≡ false)
+AreConsecutive ram table size slot (d ∷ e ∷ ds) =
+    (d ≡ descriptor_at true ram table slot) × (d.has_next ≡ true) × AreConsecutive ram table size ((slot + 1) % size) (e ∷ ds)
+
+-- So many descriptors of a table, from an entry on.
+abbrev pub entries_from : List ℕ → ℕ → ℕ → ℕ → List Descriptor
+entries_from ram table index zero = []
+entries_from ram table index (suc count) = descriptor_at true ram table index ∷ entries_from ram table (index + 1) count
+
+-- An indirect descriptor stands alone, and all entries of its table, in order, stand in its place (VIRTIO 1.2, 2.8.7).
+-- Of their flags only WRITE counts. Whether the naming one is writable makes no difference.
+pub record IsPackedTable (ram : List ℕ) (front : List Descriptor) (last : Descriptor) (all : List Descriptor) : Type 0 where
+  pub alone : front ≡ []
+  pub table : IsTable ram last
+  pub entries : all ≡ entries_from ram last.addr 0 (last.len / 16)
+
+-- The chain at the taking position of a packed queue (VIRTIO 1.2, 2.8): front and last are the descriptors of its slots,
+-- and all is that list, or where the last one is indirect, which needs the feature INDIRECT_DESC, the table that it
+-- names. The id is that of the last descriptor of the slots.
+pub record IsPackedChain (ram : List ℕ) (q : RingState) (c : Chain) : Type 0 where
+  pub front : List Descriptor
+  pub last : Descriptor
+  pub all : List Descriptor
+  pub consecutive : AreConsecutive ram q.descriptors q.size q.taking.place (front ++ last ∷ [])
+  pub plain : ArePlain front
+  pub replaced : MatchBool last.is_indirect ((q.has_indirect ≡ true) × IsPackedTable ram front last all) (all ≡ front ++ last ∷ [])
+  pub whole : IsWhole ram q.size all
+  pub is : c ≡ record { id = last.link; slots = length front + 1; readable = readable_of all; writable = writable_of all }

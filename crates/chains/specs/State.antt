@@ -1,0 +1,58 @@
+use Rattle.std.specs.Prelude.{ℕ, ◌+◌, ◌*◌, ◌^◌, ◌<◌, ◌≤◌, ◌==◌, Bool, not, bit_and, if◌then◌else◌}
+use Rattle.std.specs.Bool.{MatchBool}
+use Rattle.mmio.specs.declared.queue.Queue.{Queue}
+use Rattle.chains.specs.declared.position.Position.{Position}
+use Rattle.chains.specs.declared.position.Positions.{Positions}
+
+-- What a ring means: its layout, the features that bear on it, its queue, and how far it has come.
+pub record RingState : Type 0 where
+  pub is_packed : Bool
+  pub has_indirect : Bool
+  pub has_event_index : Bool
+  pub size : ℕ
+  pub descriptors : ℕ
+  pub driver : ℕ
+  pub device : ℕ
+  pub taking : Position
+  pub used : Position
+
+-- Whether a bit, by its worth, is in a number.
+abbrev pub has_bit : ℕ → ℕ → Bool
+has_bit number bit = not (bit_and number bit == 0)
+
+-- The ring of a queue under these feature bits (VIRTIO 1.2, 6: INDIRECT_DESC 28, EVENT_IDX 29, RING_PACKED 34), which
+-- has come this far.
+abbrev pub state_of : Queue → ℕ → Positions → RingState
+state_of queue features positions = record {
+  is_packed = has_bit features (2 ^ 34);
+  has_indirect = has_bit features (2 ^ 28);
+  has_event_index = has_bit features (2 ^ 29);
+  size = queue.size;
+  descriptors = queue.descriptors;
+  driver = queue.driver;
+  device = queue.device;
+  taking = positions.taking;
+  used = positions.used;
+}
+
+-- A ring may have this state: 1 to 256 slots, and the positions of a packed ring are slots of it.
+pub record MayRing (q : RingState) : Type 0 where
+  pub some : 1 ≤ q.size
+  pub few : q.size ≤ 256
+  pub slots : MatchBool q.is_packed ((q.taking.place < q.size) × (q.used.place < q.size)) (Unit {0})
+
+-- The bytes of the driver area: flags, index, ring and event index of a split queue (VIRTIO 1.2, 2.7.6), the event
+-- suppression structure of a packed one (VIRTIO 1.2, 2.8.14).
+abbrev pub driver_bytes : RingState → ℕ
+driver_bytes q = if q.is_packed then 4 else 6 + 2 * q.size
+
+-- The bytes of the device area: flags, index, ring and event index of a split queue (VIRTIO 1.2, 2.7.8), the event
+-- suppression structure of a packed one (VIRTIO 1.2, 2.8.14).
+abbrev pub device_bytes : RingState → ℕ
+device_bytes q = if q.is_packed then 4 else 6 + 8 * q.size
+
+-- The three areas of a queue lie inside a RAM of so many bytes.
+pub record AreInside (len : ℕ) (q : RingState) : Type 0 where
+  pub descriptors : q.descriptors + 16 * q.size ≤ len
+  pub driver : q.driver + driver_bytes q ≤ len
+  pub device : q.device + device_bytes q ≤ len

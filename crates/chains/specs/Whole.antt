@@ -1,0 +1,38 @@
+use Rattle.std.specs.Prelude.{◌≡◌, ℕ, ◌+◌, ◌%◌, ◌<◌, ◌≤◌, ◌^◌, List, length, true, false, not, filter, map, sum, All, slice_index_or}
+use Rattle.chains.specs.declared.descriptor.Descriptor.{Descriptor}
+use Rattle.chains.specs.declared.segs.Seg.{Seg}
+
+-- A table that an indirect descriptor names (VIRTIO 1.2, 2.7.5.3): some whole entries, inside RAM.
+pub record IsTable (ram : List ℕ) (d : Descriptor) : Type 0 where
+  pub some : 0 < d.len
+  pub whole : d.len % 16 ≡ 0
+  pub inside : d.addr + d.len ≤ length ram
+
+-- None of the descriptors names a table.
+abbrev pub ArePlain : List Descriptor → Type 0
+ArePlain ds = All (λ d. d.is_indirect ≡ false) ds
+
+-- No readable descriptor comes after a writable one, also where one has no bytes (VIRTIO 1.2, 2.7.4.2 and 2.8.17).
+abbrev pub IsInOrder : List Descriptor → Type 0
+IsInOrder ds = (k : ℕ) (d : Descriptor) → k + 1 < length ds → (slice_index_or ds k d).is_writable ≡ true → (slice_index_or ds (k + 1) d).is_writable ≡ true
+
+-- The rules that the descriptors of a chain keep in a ring of so many slots, once a table stands in the place of the
+-- descriptor that names it: there are no more than slots, each buffer lies inside RAM (one of no bytes may stand at its
+-- end), the readable ones come first, and there are fewer than 2^32 bytes in all (VIRTIO 1.2, 2.7.5 allows one more).
+pub record IsWhole (ram : List ℕ) (size : ℕ) (ds : List Descriptor) : Type 0 where
+  pub few : length ds ≤ size
+  pub inside : All (λ d. d.addr + d.len ≤ length ram) ds
+  pub in_order : IsInOrder ds
+  pub total : sum (map (λ d. d.len) ds) < 2 ^ 32
+
+-- The buffer of a descriptor.
+abbrev pub segment : Descriptor → Seg
+segment d = record { addr = d.addr; len = d.len }
+
+-- The segments that the device may read.
+abbrev pub readable_of : List Descriptor → List Seg
+readable_of ds = map segment (filter (λ d. not d.is_writable) ds)
+
+-- The segments that the device may write.
+abbrev pub writable_of : List Descriptor → List Seg
+writable_of ds = map segment (filter (λ d. d.is_writable) ds)

@@ -1,0 +1,37 @@
+//! Chains of buffers, and the rings that they come from.
+//!
+//! A driver hands buffers to a device as chains of descriptors in guest memory, in one of two layouts: split rings
+//! (VIRTIO 1.2, 2.7) and packed rings (VIRTIO 1.2, 2.8). A device sees neither layout. It asks a `Ring` for the next
+//! `Chain`, reads and writes the bytes of the chain's segments by `copy_out` and `copy_in`, and publishes the chain.
+//!
+//! This crate has what both layouts share, and what each of them means. The contract of the trait `Ring` stands on
+//! the definitions alone, for both layouts:
+//!
+//! - `specs/State`: what a ring means (`RingState`) and where its three areas lie (`AreInside`);
+//! - `specs/Places`: the addresses of the bytes of segments, in order;
+//! - `specs/Descriptor`: the descriptor at an index of a table;
+//! - `specs/Whole`: the rules that the descriptors of a chain keep in either layout, and their segments;
+//! - `specs/SplitChain` and `specs/PackedChain`: the chain at the taking position, and when there is none;
+//! - `specs/Ring`: the answers of a ring, by its layout;
+//! - `specs/Publish`: what publishing and the event note write, and when an interrupt is due.
+//!
+//! A chain is a relation on whole lists of descriptors: it says which list is the chain, and not how to find it. What
+//! no list meets is malformed. The module `laws` says that a queue has at most one chain, and so one answer.
+//! Nothing is trusted here beside the toolchain and the crates below. `smallvec` keeps short lists of segments inline.
+#![tactic(auto)]
+
+mod chain;
+mod descriptor;
+mod next;
+mod position;
+mod ring;
+mod segs;
+mod whole;
+
+pub use chain::Chain;
+pub use descriptor::{DESCRIPTOR_SIZE, Descriptor, is_table, read_descriptor};
+pub use next::Next;
+pub use position::{Position, Positions};
+pub use ring::Ring;
+pub use segs::{Seg, Segs};
+pub use whole::{is_whole, segments};

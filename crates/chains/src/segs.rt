@@ -1,0 +1,87 @@
+//! Segments of guest memory.
+
+ghost use Rattle.std.specs.Prelude.{◌≡◌, ◌==◌, [], ◌∷◌, ◌++◌, length, OnOk, OnErr, IfOk};
+
+use guestmem::NoMemory;
+use smallvec::SmallVec;
+use std::alloc::Global;
+use std::marker::Model;
+
+/// So many bytes of guest memory, from an address on.
+#[derive(Clone, Copy, Debug, Default, PartialEq, Eq)]
+pub struct Seg {
+    /// The address of the first byte.
+    pub addr: u64,
+
+    /// The number of bytes, which may be 0.
+    pub len: u32,
+}
+
+/// The number of segments that a list keeps inline. A network, console or entropy buffer has one or two, and a block
+/// request three: its header, its data and its status byte. So serving a common chain needs no allocation.
+const INLINE: usize = 4;
+
+/// Segments in order. Contracts see the list of them.
+#[derive(Drop)]
+pub struct Segs {
+    list: SmallVec<Seg, INLINE>,
+}
+
+impl Model for Segs {
+    ghost use Rattle.std.specs.Prelude.{List};
+    ghost use Rattle.chains.specs.declared.segs.Seg.{Seg};
+
+    ghost Value = { List Seg };
+
+    ghost view = { λ s. s.list.items };
+}
+
+impl Segs {
+    /// No segments yet. Further ones beyond the inline places go to memory of this allocator.
+    pub fn new(alloc: Global) -> Segs
+        ensures { result ≡ [] }
+    {
+        Segs {
+            list: SmallVec::new(alloc),
+        }
+    }
+
+    /// A list of these segments. Its only error is want of memory.
+    pub fn from_slice(alloc: Global, segs: &[Seg]) -> Result<Segs, NoMemory>
+        ensures { IfOk result (λ list. list ≡ segs.now) }
+    {
+        Ok(Segs {
+            list: SmallVec::from_slice(alloc, segs)?,
+        })
+    }
+
+    /// Adds a segment at the end. Its only error is want of memory, and then nothing has changed.
+    pub fn push(&mut self, seg: Seg) -> Result<(), NoMemory>
+        ensures ok { OnOk result (self.new ≡ self.old ++ seg ∷ []) }
+        ensures err { OnErr result (self.new ≡ self.old) }
+    {
+        self.list.push(seg)?;
+        Ok(())
+    }
+
+    /// The segments.
+    pub fn as_slice(&self) -> &[Seg]
+        ensures { result.now ≡ self.now }
+    {
+        self.list.as_slice()
+    }
+
+    /// The number of segments.
+    pub fn len(&self) -> usize
+        ensures { result ≡ length self.now }
+    {
+        self.list.len()
+    }
+
+    /// Whether there is no segment.
+    pub fn is_empty(&self) -> bool
+        ensures { result ≡ (length self.now == 0) }
+    {
+        self.list.is_empty()
+    }
+}

@@ -1,0 +1,65 @@
+//! The rules for the descriptors of a chain, whatever the layout.
+
+ghost use Rattle.std.specs.Prelude.{◌≡◌, ◌<◌, ◌≤◌, ◌+◌, ◌^◌, length, IsTrue, ◌↔◌, All, sum, map, IfOk};
+ghost use Rattle.chains.specs.Whole.{IsWhole, IsInOrder, readable_of, writable_of};
+
+use crate::descriptor::Descriptor;
+use crate::segs::{Seg, Segs};
+use guestmem::{NoMemory, Ram};
+use std::alloc::Global;
+
+/// Whether the descriptors of a chain, which are at most so many, keep the rules of both layouts: each buffer lies
+/// inside RAM, no readable one comes after a writable one, and all have together less than 4 GiB.
+pub fn is_whole(descriptors: &[Descriptor], ram: &Ram, most: u16) -> bool
+    requires { length descriptors.now ≤ most }
+    ensures { IsTrue result ↔ IsWhole ram.now.bytes most descriptors.now }
+{
+    are_inside(descriptors, ram.len()) && is_in_order(descriptors) && total(descriptors) < 1 << 32
+}
+
+fn are_inside(descriptors: &[Descriptor], len: u64) -> bool
+    ensures { IsTrue result ↔ All (λ d. d.addr + d.len ≤ len) descriptors.now }
+{
+    descriptors
+        .iter()
+        .all(|d| d.addr <= len && d.len as u64 <= len - d.addr)
+}
+
+fn is_in_order(descriptors: &[Descriptor]) -> bool
+    ensures { IsTrue result ↔ IsInOrder descriptors.now }
+{
+    for i in 1..descriptors.len() {
+        if descriptors[i - 1].is_writable && !descriptors[i].is_writable {
+            return false;
+        }
+    }
+    true
+}
+
+fn total(descriptors: &[Descriptor]) -> u64
+    requires { length descriptors.now < 65536 }
+    ensures { result ≡ sum (map (λ d. d.len) descriptors.now) }
+{
+    descriptors.iter().map(|d| d.len as u64).sum()
+}
+
+/// The segments of descriptors: those that the device may read, and those that it may write. Its only error is want of
+/// memory.
+pub fn segments(alloc: Global, descriptors: &[Descriptor]) -> Result<(Segs, Segs), NoMemory>
+    ensures { IfOk result (λ segs. (segs.0 ≡ readable_of descriptors.now) × (segs.1 ≡ writable_of descriptors.now)) }
+{
+    let mut readable = Segs::new(alloc);
+    let mut writable = Segs::new(alloc);
+    for descriptor in descriptors {
+        let seg = Seg {
+            addr: descriptor.addr,
+            len: descriptor.len,
+        };
+        if descriptor.is_writable {
+            writable.push(seg)?;
+        } else {
+            readable.push(seg)?;
+        }
+    }
+    Ok((readable, writable))
+}
