@@ -6,3 +6,5 @@ pub mod SplitChain
 pub mod PackedChain
 pub mod Ring
 pub mod Publish
+pub mod SplitLaws
+pub mod EffectLaws

@@ -1,0 +1,19 @@
+//! Split rings (VIRTIO 1.2, 2.7): the trait `Ring` of `chains` in the split layout.
+//!
+//! A split queue has a table of descriptors, an area that the driver writes (its index, and the heads of the chains
+//! that it makes available) and an area that the device writes (its index, and the chains that it has used). The ring
+//! keeps nothing of what guest memory holds: it reads the chain anew at each call, and a hostile driver can make it
+//! answer nothing but what stands there.
+//!
+//! Looking for a chain costs no more than its descriptors, of which there are at most one for each slot, whatever RAM
+//! claims: a walk stops after so many, and a table gets what the descriptors before it left.
+//!
+//! The contracts are those of the trait, over the definitions of `chains` (`SplitChain` and `Publish` among its
+//! specs). `specs/Walk` has the words of the functions inside. Nothing is trusted here beside the crates below.
+#![tactic(auto)]
+
+mod ring;
+mod table;
+mod walk;
+
+pub use ring::SplitRing;
