@@ -8,3 +8,4 @@ pub mod Ring
 pub mod Publish
 pub mod SplitLaws
 pub mod EffectLaws
+pub mod PlaceLaws

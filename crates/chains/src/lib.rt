@@ -21,6 +21,7 @@
 #![tactic(auto)]
 
 mod chain;
+mod copy;
 mod descriptor;
 mod next;
 mod position;
@@ -29,6 +30,7 @@ mod segs;
 mod whole;
 
 pub use chain::Chain;
+pub use copy::{copy_in, copy_out, total_len};
 pub use descriptor::{DESCRIPTOR_SIZE, Descriptor, is_table, read_descriptor};
 pub use next::Next;
 pub use position::{Position, Positions};

@@ -1,0 +1,121 @@
+use Rattle.std.proofs.Common.{◌≡◌, ℕ, ◌+◌, ◌-◌, ◌≤◌, ◌<◌, List, [], ◌++◌, length, take, drop, min, get_or, slice_index, refl, ap, sym, ◌∙◌, arith, inl, inr, length-append, length-drop, length-take-le, take-add, append-nil, append_assoc}
+use Rattle.std.proofs.lemmas.Bool.{cases_lt}
+use Rattle.std.proofs.lemmas.List.{drop_more, take-take, take-append-le, map-append}
+use Rattle.std.specs.List.{drop-map}
+use Rattle.std.proofs.lemmas.Slice.{take-put_mid}
+use Rattle.std.proofs.Math.Seq.{drop-append_seam, drop-append-add, take-append-add}
+use borrow.Rule.Slice.PartMut.{put_mid, same_len_mid}
+use Rattle.std.specs.Prelude.{Result, Ok, OnOk, nat_lt, false}
+use Rattle.std.proofs.lemmas.Bool.{le-ltb}
+use Rattle.guestmem.specs.declared.error.RamError.{RamError}
+use Rattle.guestmem.specs.Write.{refusal_of, unless_refused}
+use Rattle.guestmem.specs.Writes.{byte_writes}
+use Rattle.chains.specs.declared.segs.Seg.{Seg}
+use Rattle.chains.specs.Places.{addresses, places, read_places, place_writes}
+use Rattle.chains.specs.PlaceLaws.{length_addresses, addresses_add, read_addresses, run_writes}
+
+-- The places from a segment on are its own, and then those of the segments behind it.
+places_here : (segs : List Seg) (i : ℕ) (d : Seg) → i < length segs → places (drop i segs) ≡ addresses (get_or segs i d).addr (get_or segs i d).len ++ places (drop (i + 1) segs)
+places_here segs i d below = ap places (drop_more segs i d below)
+
+pub length_here : (segs : List Seg) (i : ℕ) (d : Seg) → i < length segs → length (places (drop i segs)) ≡ (get_or segs i d).len + length (places (drop (i + 1) segs))
+length_here segs i d below =
+    rw (places_here segs i d below, length-append (addresses (get_or segs i d).addr (get_or segs i d).len) (places (drop (i + 1) segs)), length_addresses) refl
+
+drop_past : (address count skip : ℕ) (more : List ℕ) → count ≤ skip → drop skip (addresses address count ++ more) ≡ drop (skip - count) more
+drop_past address count skip more past =
+    let e : skip ≡ length (addresses address count) + (skip - count) = rw length_addresses (omega arith) in
+    ap (λ n. drop n (addresses address count ++ more)) e ∙ drop-append-add (addresses address count) more (skip - count)
+
+drop_within : (address count skip : ℕ) (more : List ℕ) → skip ≤ count → drop skip (addresses address count ++ more) ≡ addresses (address + skip) (count - skip) ++ more
+drop_within address count skip more within =
+    let e : count ≡ skip + (count - skip) = omega arith in
+    let parts : addresses address count ≡ addresses address skip ++ addresses (address + skip) (count - skip) = ap (addresses address) e ∙ addresses_add address skip (count - skip) in
+    let whole : addresses address count ++ more ≡ addresses address skip ++ (addresses (address + skip) (count - skip) ++ more) =
+    ap (λ (xs : List ℕ). xs ++ more) parts ∙ append_assoc (addresses address skip) (addresses (address + skip) (count - skip)) more in
+    let seam : drop (length (addresses address skip)) (addresses address skip ++ (addresses (address + skip) (count - skip) ++ more)) ≡ addresses (address + skip) (count - skip) ++ more =
+    drop-append_seam (addresses address skip) (addresses (address + skip) (count - skip) ++ more) in
+    ap (drop skip) whole ∙ (rw length_addresses at seam)
+
+-- Where a segment is passed over, the places are those behind it.
+pub passed : (segs : List Seg) (i skip : ℕ) (d : Seg) → i < length segs → (get_or segs i d).len ≤ skip → drop skip (places (drop i segs)) ≡ drop (skip - (get_or segs i d).len) (places (drop (i + 1) segs))
+passed segs i skip d below past = ap (drop skip) (places_here segs i d below) ∙ drop_past (get_or segs i d).addr (get_or segs i d).len skip (places (drop (i + 1) segs)) past
+
+-- Else they are a run in that segment, and then those behind it.
+pub reached : (segs : List Seg) (i skip : ℕ) (d : Seg) → i < length segs → skip ≤ (get_or segs i d).len
+    → drop skip (places (drop i segs)) ≡ addresses ((get_or segs i d).addr + skip) ((get_or segs i d).len - skip) ++ places (drop (i + 1) segs)
+reached segs i skip d below within = ap (drop skip) (places_here segs i d below) ∙ drop_within (get_or segs i d).addr (get_or segs i d).len skip (places (drop (i + 1) segs)) within
+
+-- The bytes that go into one segment are one run of writes.
+pub segment_writes : (segs : List Seg) (i skip : ℕ) (d : Seg) (rest front back : List ℕ) → i < length segs → skip ≤ (get_or segs i d).len → rest ≡ front ++ back
+    → length front ≤ (get_or segs i d).len - skip → (length front < (get_or segs i d).len - skip → back ≡ [])
+    → place_writes (drop skip (places (drop i segs))) rest ≡ byte_writes ((get_or segs i d).addr + skip) front ++ place_writes (places (drop (i + 1) segs)) back
+segment_writes segs i skip d rest front back below within parts few none =
+    rw (parts, reached segs i skip d below within) (run_writes ((get_or segs i d).addr + skip) ((get_or segs i d).len - skip) (places (drop (i + 1) segs)) front back few none)
+
+-- The first bytes of a run and of what stands behind it.
+first_of : (count m : ℕ) (run more : List ℕ) → count ≤ length run → take m (take count run ++ more) ≡ take (min m count) run ++ take (m - min m count) more
+first_of count m run more fits =
+    elim (cases_lt m count) as (λ _. take m (take count run ++ more) ≡ take (min m count) run ++ take (m - min m count) more) [
+      | inl some ↦
+          let n : min m count ≡ m = omega arith in
+          let zero : m - m ≡ 0 = omega arith in
+          let len : length (take count run) ≡ count = length-take-le count run fits in
+          let long : m ≤ length (take count run) = omega arith in
+          rw (n, zero, take-append-le m (take count run) more long, take-take m count run (omega arith), append-nil) refl
+      | inr all ↦
+          let n : min m count ≡ count = omega arith in
+          let len : length (take count run) ≡ count = length-take-le count run fits in
+          let e : m ≡ length (take count run) + (m - count) = omega arith in
+          rw n (ap (λ k. take k (take count run ++ more)) e ∙ take-append-add (take count run) more (m - count))
+    ]
+
+pub segment_bytes : (ram : List ℕ) (segs : List Seg) (i skip m : ℕ) (d : Seg) → i < length segs → skip ≤ (get_or segs i d).len → (get_or segs i d).addr + (get_or segs i d).len ≤ length ram
+    → take m (drop skip (read_places ram (places (drop i segs))))
+    ≡ take (min m ((get_or segs i d).len - skip)) (drop ((get_or segs i d).addr + skip) ram) ++ take (m - min m ((get_or segs i d).len - skip)) (read_places ram (places (drop (i + 1) segs)))
+segment_bytes ram segs i skip m d below within inside =
+    let seg = get_or segs i d in
+    let more = places (drop (i + 1) segs) in
+    let run : read_places ram (addresses (seg.addr + skip) (seg.len - skip)) ≡ take (seg.len - skip) (drop (seg.addr + skip) ram) = read_addresses ram (seg.addr + skip) (seg.len - skip) (omega arith) in
+    let all : drop skip (read_places ram (places (drop i segs))) ≡ take (seg.len - skip) (drop (seg.addr + skip) ram) ++ read_places ram more =
+    drop-map (slice_index ram) skip (places (drop i segs)) ∙ ap (read_places ram) (reached segs i skip d below within)
+    ∙ map-append (slice_index ram) (addresses (seg.addr + skip) (seg.len - skip)) more ∙ ap (λ (xs : List ℕ). xs ++ read_places ram more) run in
+    ap (take m) all ∙ first_of (seg.len - skip) m (drop (seg.addr + skip) ram) (read_places ram more) (rw length-drop (omega arith))
+
+pub passed_bytes : (ram : List ℕ) (segs : List Seg) (i skip : ℕ) (d : Seg) → i < length segs → (get_or segs i d).len ≤ skip
+    → drop skip (read_places ram (places (drop i segs))) ≡ drop (skip - (get_or segs i d).len) (read_places ram (places (drop (i + 1) segs)))
+passed_bytes ram segs i skip d below past =
+    drop-map (slice_index ram) skip (places (drop i segs)) ∙ ap (read_places ram) (passed segs i skip d below past)
+    ∙ sym (drop-map (slice_index ram) (skip - (get_or segs i d).len) (places (drop (i + 1) segs)))
+
+-- A part of a buffer that is written keeps the length of the buffer.
+pub length-put_mid : (start count : ℕ) (buf piece : List ℕ) → start + count ≤ length buf → length piece ≡ count → length (put_mid start count buf piece) ≡ length buf
+length-put_mid start count buf piece fits size = same_len_mid start count buf piece (size ∙ sym (length-take-le count (drop start buf) (rw length-drop (omega arith))))
+
+-- A buffer that is filled from one segment on, once that segment gave its bytes.
+pub read_more : (ram buf piece wanted : List ℕ) (segs : List Seg) (i skip filled count : ℕ) (d : Seg) → i < length segs → skip ≤ (get_or segs i d).len
+    → (get_or segs i d).addr + (get_or segs i d).len ≤ length ram → filled ≤ length buf → count ≡ min (length buf - filled) ((get_or segs i d).len - skip)
+    → length piece ≡ count → piece ≡ take count (drop ((get_or segs i d).addr + skip) ram)
+    → take filled buf ++ take (length buf - filled) (drop skip (read_places ram (places (drop i segs)))) ≡ wanted
+    → take (filled + count) (put_mid filled count buf piece) ++ take (length buf - (filled + count)) (read_places ram (places (drop (i + 1) segs))) ≡ wanted
+read_more ram buf piece wanted segs i skip filled count d below within inside fits is size read so_far =
+    let front : take (filled + count) (put_mid filled count buf piece) ≡ take filled buf ++ piece = take-put_mid filled count buf piece (filled + count) (omega arith) fits in
+    let left : length buf - (filled + count) ≡ length buf - filled - count = omega arith in
+    let parts = segment_bytes ram segs i skip (length buf - filled) d below within inside in
+    rw (front, left, append_assoc, read, is) (ap (λ (xs : List ℕ). take filled buf ++ xs) (sym parts) ∙ so_far)
+
+-- A read of at most 4,096 bytes inside RAM is not refused.
+pub read_is : (len at count : ℕ) (result : Result (Unit {0}) RamError) (P : Type 0) → result ≡ unless_refused (refusal_of len at count) tt → count ≤ 4096 → at + count ≤ len → OnOk result P → P
+read_is len at count result P is short inside h =
+    let a : nat_lt 4096 count ≡ false = le-ltb 4096 count short in
+    let b : nat_lt len (at + count) ≡ false = le-ltb len (at + count) inside in
+    let e : result ≡ Ok tt = rw (a, b) at is in
+    rw e at h
+
+-- A run that is read in pieces.
+pub run_more : (buf piece run : List ℕ) (done end : ℕ) → done ≤ end → end ≤ length buf → end ≤ length run → take done buf ≡ take done run → piece ≡ take (end - done) (drop done run)
+    → take end (put_mid done (end - done) buf piece) ≡ take end run
+run_more buf piece run done end order fits long so_far is =
+    let size : length piece ≡ end - done = rw is (length-take-le (end - done) (drop done run) (rw length-drop (omega arith))) in
+    let e : end ≡ done + (end - done) = omega arith in
+    take-put_mid done (end - done) buf piece end (omega arith) (omega arith) ∙ rw (so_far, is) (sym (take-add done (end - done) run)) ∙ ap (λ n. take n run) (sym e)

@@ -1,0 +1,54 @@
+use Rattle.std.proofs.Common.{◌≡◌, ◌+◌, ◌-◌, ◌<◌, ◌++◌, ◌∙◌, length, drop, get_or, sym, arith, length-drop, take-append-drop}
+use Rattle.std.proofs.lemmas.List.{drop_all}
+use Rattle.std.proofs.Math.Seq.{drop-nil}
+use Rattle.guestmem.specs.WriteLaws.{set_all-append}
+use Rattle.guestmem.specs.Writes.{byte_writes}
+use Rattle.chains.specs.declared.segs.Seg.{Seg}
+use Rattle.chains.specs.EffectLaws.{after_touched}
+use Rattle.chains.specs.PlaceLaws.{place_writes_take}
+use Rattle.chains.specs.Places.{places, place_writes}
+use Rattle.chains.proofs.Copies.{length_here, passed, segment_writes}
+use Rattle.chains.proofs.copy.copy_in.Goals as goal
+
+pub loop-seg-preserved-then-skip-len : goal.loop-seg-preserved-then-skip-len
+loop-seg-preserved-then-skip-len g c =
+    let none : Seg = record { addr = 0; len = 0 } in
+    let long = length_here c.args.segs.now c.loop-seg.seg-index none c.loop-seg-test.true in
+    let e = passed c.args.segs.now c.loop-seg.seg-index c.loop-seg.skip none c.loop-seg-test.true c.if-skip-len.true in
+    record {
+      room = omega (arith, c.loop-seg.invariant.room);
+      size = c.loop-seg.invariant.size;
+      may = c.loop-seg.invariant.may;
+      bytes = rw e at c.loop-seg.invariant.bytes;
+      log = rw e at c.loop-seg.invariant.log;
+    }
+
+pub loop-seg-preserved : goal.loop-seg-preserved
+loop-seg-preserved g c =
+    let none : Seg = record { addr = 0; len = 0 } in
+    let seg = get_or c.args.segs.now c.loop-seg.seg-index none in
+    let long = length_here c.args.segs.now c.loop-seg.seg-index none c.loop-seg-test.true in
+    let front = c.split_at.result.0.now in
+    let back = c.split_at.result.1.now in
+    let parts : c.loop-seg.rest.now ≡ front ++ back = sym (rw (c.split_at.ensures.front, c.split_at.ensures.back) (take-append-drop c.min-count.result c.loop-seg.rest.now)) in
+    let count : length front ≡ c.min-count.result = c.split_at.ensures.front_len in
+    let rest : length back ≡ length c.loop-seg.rest.now - c.min-count.result = rw c.split_at.ensures.back (length-drop c.min-count.result c.loop-seg.rest.now) in
+    let writes = segment_writes c.args.segs.now c.loop-seg.seg-index c.loop-seg.skip none c.loop-seg.rest.now front back c.loop-seg-test.true (omega arith) parts (omega arith)
+    (λ (h : length front < seg.len - c.loop-seg.skip). rw c.split_at.ensures.back (drop_all c.min-count.result c.loop-seg.rest.now (omega arith))) in
+    record {
+      room = omega (arith, c.loop-seg.invariant.room);
+      size = c.put.ensures.size ∙ c.loop-seg.invariant.size;
+      may = c.put.ensures.may;
+      bytes = rw c.put.ensures.bytes (sym (set_all-append c.loop-seg.ram.bytes (byte_writes (seg.addr + c.loop-seg.skip) front) (place_writes (places (drop (c.loop-seg.seg-index + 1) c.args.segs.now)) back)) ∙ (rw writes at c.loop-seg.invariant.bytes));
+      log = rw c.put.ensures.log (sym (after_touched g.L.TouchLog.after c.loop-seg.log (byte_writes (seg.addr + c.loop-seg.skip) front) (place_writes (places (drop (c.loop-seg.seg-index + 1) c.args.segs.now)) back)) ∙ (rw writes at c.loop-seg.invariant.log));
+    }
+
+pub returns-clause-bytes : goal.returns-clause-bytes
+returns-clause-bytes g c =
+    let end = drop_all c.loop-seg.seg-index c.args.segs.now (omega arith) in
+    rw place_writes_take (rw (end, drop-nil) at c.loop-seg.invariant.bytes)
+
+pub returns-clause-log : goal.returns-clause-log
+returns-clause-log g c =
+    let end = drop_all c.loop-seg.seg-index c.args.segs.now (omega arith) in
+    rw place_writes_take (rw (end, drop-nil) at c.loop-seg.invariant.log)

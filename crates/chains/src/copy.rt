@@ -1,0 +1,82 @@
+//! The bytes of segments.
+
+ghost use Rattle.std.specs.Prelude.{◌≡◌, ◌+◌, ◌*◌, ◌<◌, ◌≤◌, ◌^◌, length, take, drop};
+ghost use Rattle.guestmem.specs.Item.{after_all, MayPages};
+ghost use Rattle.guestmem.specs.Writes.{set_all, touched};
+ghost use Rattle.chains.specs.Places.{places, read_places, place_writes, AreSegmentsInside};
+
+use crate::segs::Seg;
+use guestmem::{ACCESS_MAX, Ram, TouchLog};
+
+/// The number of bytes of segments, which are fewer than 2^32.
+pub fn total_len(segs: &[Seg]) -> u64
+    requires { length segs.now < 2 ^ 32 }
+    ensures { result ≡ length (places segs.now) }
+{
+    segs.iter().map(|seg| seg.len as u64).sum()
+}
+
+/// Reads the bytes at the places of segments into the whole buffer, from the place of this number on. The segments lie
+/// inside RAM, and have so many places. It takes no memory.
+pub fn copy_out(ram: &Ram, segs: &[Seg], at: u64, buf: &mut [u8])
+    requires inside { AreSegmentsInside (length ram.now.bytes) segs.now }
+    requires room { at + length buf.old ≤ length (places segs.now) }
+    ensures { buf.new ≡ take (length buf.old) (drop at (read_places ram.now.bytes (places segs.now))) }
+{
+    let _len = ram.len();
+    let mut skip = at;
+    let mut filled = 0;
+    for seg in segs {
+        let len = seg.len as u64;
+        if skip >= len {
+            skip -= len;
+            continue;
+        }
+        let count = (buf.len() - filled).min((len - skip) as usize);
+        read_run(ram, seg.addr + skip, &mut buf[filled..filled + count]);
+        filled += count;
+        skip = 0;
+    }
+}
+
+fn read_run(ram: &Ram, addr: u64, buf: &mut [u8])
+    requires { addr + length buf.old ≤ length ram.now.bytes }
+    ensures { buf.new ≡ take (length buf.old) (drop addr ram.now.bytes) }
+{
+    let _len = ram.len();
+    let mut done = 0;
+    while done < buf.len() {
+        let end = buf.len().min(done + ACCESS_MAX);
+        let _ = ram.read(addr + done as u64, &mut buf[done..end]);
+        done = end;
+    }
+}
+
+/// Writes bytes to the places of segments, from the place of this number on, in order: where an address is a place
+/// twice, the later byte stays. The log is told the pages of these places. The segments lie inside RAM, and have so
+/// many places. It takes no memory.
+pub fn copy_in<L: TouchLog>(ram: &mut Ram, segs: &[Seg], at: u64, bytes: &[u8], log: &mut L)
+    requires inside { AreSegmentsInside (length ram.old.bytes) segs.now }
+    requires room { at + length bytes.now ≤ length (places segs.now) }
+    requires may { MayPages L.may log.old (length ram.old.bytes) }
+    ensures bytes { ram.new.bytes ≡ set_all ram.old.bytes (place_writes (take (length bytes.now) (drop at (places segs.now))) bytes.now) }
+    ensures size { length ram.new.bytes ≡ length ram.old.bytes }
+    ensures log { log.new ≡ after_all L.after log.old (touched (place_writes (take (length bytes.now) (drop at (places segs.now))) bytes.now)) }
+    ensures may { MayPages L.may log.new (length ram.new.bytes) }
+{
+    let _len = ram.len();
+    let mut skip = at;
+    let mut rest = bytes;
+    for seg in segs {
+        let len = seg.len as u64;
+        if skip >= len {
+            skip -= len;
+            continue;
+        }
+        let count = rest.len().min((len - skip) as usize);
+        let (front, back) = rest.split_at(count);
+        ram.put(seg.addr + skip, front, log);
+        rest = back;
+        skip = 0;
+    }
+}
