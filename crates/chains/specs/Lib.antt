@@ -9,3 +9,5 @@ pub mod Publish
 pub mod SplitLaws
 pub mod EffectLaws
 pub mod PlaceLaws
+pub mod PackedLaws
+pub mod ChainLaws

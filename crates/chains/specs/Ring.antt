@@ -1,9 +1,10 @@
-use Rattle.std.specs.Prelude.{ℕ, List}
+use Rattle.std.specs.Prelude.{◌≡◌, ℕ, ◌+◌, ◌<◌, ◌≤◌, ◌^◌, List, length}
 use Rattle.std.specs.Bool.{MatchBool}
 use Rattle.chains.specs.declared.chain.Chain.{Chain}
 use Rattle.chains.specs.declared.next.Next.{Next}
 use Rattle.chains.specs.declared.next.Next.TheVariants.{Empty, Malformed, Chain as Found}
 use Rattle.chains.specs.State.{RingState}
+use Rattle.chains.specs.Places.{places, AreSegmentsInside}
 use Rattle.chains.specs.SplitChain.{IsSplitChain, IsSplitEmpty}
 use Rattle.chains.specs.PackedChain.{IsPackedChain, IsPackedEmpty}
 
@@ -20,3 +21,20 @@ abbrev pub Answers : List ℕ → RingState → Next → Type 0
 Answers ram q Empty = IsEmptyQueue ram q
 Answers ram q Malformed = ¬ (IsEmptyQueue ram q) × ((c : Chain) → ¬ (IsChain ram q c))
 Answers ram q (Found c) = ¬ (IsEmptyQueue ram q) × IsChain ram q c
+
+-- What every chain of a queue keeps, in a RAM of so many bytes: it takes some slots and not more than there are (in a
+-- split ring one, and its id is a slot), has no more segments than slots, each inside RAM, and fewer than 2^32 bytes.
+pub record IsBounded (len : ℕ) (q : RingState) (c : Chain) : Type 0 where
+  pub some : 1 ≤ c.slots
+  pub slots : c.slots ≤ q.size
+  pub id : MatchBool q.is_packed (Unit {0}) ((c.slots ≡ 1) × (c.id < q.size))
+  pub few : length c.readable + length c.writable ≤ q.size
+  pub readable : AreSegmentsInside len c.readable
+  pub writable : AreSegmentsInside len c.writable
+  pub total : length (places c.readable) + length (places c.writable) < 2 ^ 32
+
+-- A chain, where this is one, keeps that.
+abbrev pub IsBoundedNext : ℕ → RingState → Next → Type 0
+IsBoundedNext len q Empty = Unit {0}
+IsBoundedNext len q Malformed = Unit {0}
+IsBoundedNext len q (Found c) = IsBounded len q c

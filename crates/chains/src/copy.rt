@@ -8,7 +8,7 @@ ghost use Rattle.chains.specs.Places.{places, read_places, place_writes, AreSegm
 use crate::segs::Seg;
 use guestmem::{ACCESS_MAX, Ram, TouchLog};
 
-/// The number of bytes of segments, which are fewer than 2^32.
+/// The number of bytes of a list of fewer than 2^32 segments.
 pub fn total_len(segs: &[Seg]) -> u64
     requires { length segs.now < 2 ^ 32 }
     ensures { result ≡ length (places segs.now) }
@@ -39,6 +39,7 @@ pub fn copy_out(ram: &Ram, segs: &[Seg], at: u64, buf: &mut [u8])
     }
 }
 
+/// Reads bytes of any number: a piece of at most a page that lies inside RAM is never refused.
 fn read_run(ram: &Ram, addr: u64, buf: &mut [u8])
     requires { addr + length buf.old ≤ length ram.now.bytes }
     ensures { buf.new ≡ take (length buf.old) (drop addr ram.now.bytes) }

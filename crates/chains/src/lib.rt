@@ -23,6 +23,7 @@
 mod chain;
 mod copy;
 mod descriptor;
+pub mod laws;
 mod next;
 mod position;
 mod ring;

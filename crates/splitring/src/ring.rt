@@ -14,7 +14,22 @@ use mmio::{EVENT_IDX, INDIRECT_DESC, Queue};
 use std::alloc::Global;
 use std::marker::Model;
 
-/// A ring in the split layout.
+/// Where the index stands in the driver's and the device's area, behind the flags.
+const INDEX: u64 = 2;
+
+/// Where the ring begins in both areas. The event index stands behind it.
+const RING: u64 = 4;
+
+/// The bytes of a head in the available ring.
+const HEAD_SIZE: u64 = 2;
+
+/// The bytes of an id and a length in the used ring.
+const ELEMENT_SIZE: u64 = 8;
+
+/// The flag by which a driver asks for no interrupts (VIRTIO 1.2, 2.7.7).
+const NO_INTERRUPT: u16 = 1;
+
+/// A ring in the split layout: where its areas lie, and how far it has come.
 #[derive(Drop)]
 pub struct SplitRing {
     alloc: Global,
@@ -86,16 +101,10 @@ impl SplitRing {
             return Ok(None);
         }
         let slot = self.taking.place % self.size;
-        let head = ram.u16_at(self.driver + 4 + 2 * slot as u64);
-        let Some(all) = find(
-            self.alloc,
-            ram,
-            self.has_indirect,
-            self.descriptors,
-            self.size,
-            head,
-        )?
-        else {
+        let head = ram.u16_at(self.driver + RING + HEAD_SIZE * slot as u64);
+        let table = self.descriptors;
+        let found = find(self.alloc, ram, self.has_indirect, table, self.size, head)?;
+        let Some(all) = found else {
             return Ok(None);
         };
         if !is_whole(&all, ram, self.size) {
@@ -118,9 +127,10 @@ impl SplitRing {
     {
         let _len = ram.len();
         if self.has_event_index {
-            return ram.u16_at(self.driver + 4 + 2 * self.size as u64) == self.used.place;
+            let event = ram.u16_at(self.driver + RING + HEAD_SIZE * self.size as u64);
+            return event == self.used.place;
         }
-        ram.u16_at(self.driver) & 1 == 0
+        ram.u16_at(self.driver) & NO_INTERRUPT == 0
     }
 }
 
@@ -129,7 +139,7 @@ impl Ring for SplitRing {
 
     fn next(&mut self, ram: &Ram) -> Result<Next, NoMemory> {
         let _len = ram.len();
-        let available = ram.u16_at(self.driver + 2);
+        let available = ram.u16_at(self.driver + INDEX);
         if available == self.taking.place {
             return Ok(Next::Empty);
         }
@@ -154,13 +164,10 @@ impl Ring for SplitRing {
     ) -> bool {
         let _len = ram.len();
         let slot = self.used.place % self.size;
-        ram.put(
-            self.device + 4 + 8 * slot as u64,
-            &element_bytes(id, len),
-            log,
-        );
+        let element = self.device + RING + ELEMENT_SIZE * slot as u64;
+        ram.put(element, &element_bytes(id, len), log);
         let used = going_on(self.used);
-        ram.put(self.device + 2, &index_bytes(used.place), log);
+        ram.put(self.device + INDEX, &index_bytes(used.place), log);
         let is_due = self.is_due(ram);
         self.used = used;
         is_due
@@ -170,11 +177,8 @@ impl Ring for SplitRing {
     fn note_empty<L: TouchLog>(&mut self, ram: &mut Ram, log: &mut L) {
         let _len = ram.len();
         if self.has_event_index {
-            ram.put(
-                self.device + 4 + 8 * self.size as u64,
-                &index_bytes(self.taking.place),
-                log,
-            );
+            let event = self.device + RING + ELEMENT_SIZE * self.size as u64;
+            ram.put(event, &index_bytes(self.taking.place), log);
         }
     }
 

@@ -1,0 +1,5 @@
+use Rattle.chains.specs.ChainLaws.{chain_bounded}
+use Rattle.chains.proofs.laws.chains_are_bounded.Goals as goal
+
+pub returns : goal.returns
+returns c = chain_bounded

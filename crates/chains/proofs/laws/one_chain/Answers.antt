@@ -1,0 +1,5 @@
+use Rattle.chains.specs.ChainLaws.{chain_same}
+use Rattle.chains.proofs.laws.one_chain.Goals as goal
+
+pub returns : goal.returns
+returns c = chain_same

@@ -1,0 +1,22 @@
+//! Laws of the definitions, each as a function whose contract it is. Calling one costs nothing and tells a proof.
+
+ghost use Rattle.std.specs.Prelude.{◌≡◌, ℕ, List, length};
+ghost use Rattle.chains.specs.State.{RingState};
+ghost use Rattle.chains.specs.Ring.{IsChain, Answers, IsBounded};
+ghost use Rattle.chains.specs.declared.chain.Chain.{Chain};
+ghost use Rattle.chains.specs.declared.next.Next.{Next};
+
+/// A queue, of either layout, has at most one chain at its taking position.
+pub fn one_chain()
+    ensures { (ram : List ℕ) (q : RingState) (a b : Chain) → IsChain ram q a → IsChain ram q b → a ≡ b }
+{}
+
+/// A queue has one answer: empty, malformed and a chain exclude one another.
+pub fn one_answer()
+    ensures { (ram : List ℕ) (q : RingState) (a b : Next) → Answers ram q a → Answers ram q b → a ≡ b }
+{}
+
+/// Every chain of a queue keeps the bounds, whatever the driver wrote.
+pub fn chains_are_bounded()
+    ensures { (ram : List ℕ) (q : RingState) (c : Chain) → IsChain ram q c → IsBounded (length ram) q c }
+{}
