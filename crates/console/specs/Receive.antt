@@ -1,0 +1,68 @@
+-- The step of a queue through which a device gives bytes to the guest: the receive queue of a console (VIRTIO 1.2, 5.3.6)
+-- and the queue of an entropy device (VIRTIO 1.2, 5.4.6).
+use Rattle.std.specs.Prelude.{◌≡◌, ℕ, ◌==◌, ◌&&◌, not, min, Bool, true, List, [], ◌++◌, length, take, drop, if◌then◌else◌}
+use Rattle.guestmem.specs.Item.{Item, after_all}
+use Rattle.guestmem.specs.Writes.{Write, set_all, touched}
+use Rattle.chains.specs.State.{RingState}
+use Rattle.chains.specs.Places.{places, place_writes}
+use Rattle.chains.specs.Publish.{published, event_note, is_interrupt_due, after_take, after_publish}
+use Rattle.chains.specs.Ring.{Answers}
+use Rattle.chains.specs.declared.chain.Chain.{Chain}
+use Rattle.chains.specs.declared.next.Next.{Next}
+use Rattle.chains.specs.declared.next.Next.TheVariants as next
+use Rattle.console.specs.declared.receiving.Received.{Received}
+use Rattle.console.specs.declared.receiving.Received.TheVariants.{Empty, Malformed, Completed}
+
+-- What a step answers and changes: writes of RAM, the ring's positions, and the bytes that are left.
+pub record Step : Type 0 where
+  pub answer : Received
+  pub writes : List Write
+  pub ring : RingState
+  pub left : List ℕ
+
+-- A chain into which the device may write: it has no readable byte, and a writable one.
+abbrev pub takes_bytes : Chain → Bool
+takes_bytes c = length (places c.readable) == 0 && not (length (places c.writable) == 0)
+
+-- How many of the bytes held go into the chain.
+abbrev pub count_into : List ℕ → Chain → ℕ
+count_into held c = min (length (places c.writable)) (length held)
+
+-- The first bytes held go to the writable places, and the chain is published with their number.
+abbrev pub writes_into : RingState → List ℕ → Chain → List Write
+writes_into q held c =
+    place_writes (take (count_into held c) (places c.writable)) (take (count_into held c) held)
+    ++ published (after_take q c.slots) c.id c.slots (count_into held c) true
+
+unfoldable pub give : List ℕ → RingState → List ℕ → Chain → Step
+give ram q held c = record {
+  answer = Completed (count_into held c) (is_interrupt_due (after_take q c.slots) c.slots (set_all ram (writes_into q held c)));
+  writes = writes_into q held c;
+  ring = after_publish (after_take q c.slots) c.slots;
+  left = drop (count_into held c) held;
+}
+
+-- The chain stays, and nothing is written.
+abbrev pub refuse : RingState → List ℕ → Step
+refuse q held = record { answer = Malformed; writes = []; ring = q; left = held }
+
+-- The step with bytes held, by what the queue answers about its next chain. Where the queue is empty the event note is
+-- written. A chain that the device may not write into is malformed too.
+abbrev pub receive_step : List ℕ → RingState → List ℕ → Next → Step
+receive_step ram q held next.Empty = record { answer = Empty; writes = event_note q; ring = q; left = held }
+receive_step ram q held next.Malformed = refuse q held
+receive_step ram q held (next.Chain c) = if takes_bytes c then give ram q held c else refuse q held
+
+-- RAM, the ring, the bytes held and a log after such a step.
+pub record IsAfter {L : Type 0} (after : L → Item → L) (ram : List ℕ) (log : L) (s : Step) (new_ram : List ℕ) (new_ring : RingState) (new_held : List ℕ) (new_log : L) : Type 0 where
+  pub ram_is : new_ram ≡ set_all ram s.writes
+  pub ring_is : new_ring ≡ s.ring
+  pub held_is : new_held ≡ s.left
+  pub log_is : new_log ≡ after_all after log (touched s.writes)
+
+-- Such a step was made, by what the queue answers.
+pub record IsReceived {L : Type 0} (after : L → Item → L) (ram : List ℕ) (q : RingState) (held : List ℕ) (log : L) (answer : Received) (new_ram : List ℕ) (new_ring : RingState) (new_held : List ℕ) (new_log : L) : Type 0 where
+  pub seen : Next
+  pub answers : Answers ram q seen
+  pub answer_is : answer ≡ (receive_step ram q held seen).answer
+  pub changes : IsAfter after ram log (receive_step ram q held seen) new_ram new_ring new_held new_log

@@ -1,0 +1,103 @@
+//! The step that gives bytes to the guest.
+
+ghost use Rattle.std.specs.Prelude.{◌≡◌, ◌≤◌, ◌<◌, ◌+◌, ◌^◌, length, IfOk, OnErr, Some};
+ghost use Rattle.guestmem.specs.Item.{MayPages};
+ghost use Rattle.chains.specs.State.{AreInside};
+ghost use Rattle.chains.specs.Places.{places};
+ghost use Rattle.chains.specs.Ring.{IsEmptyQueue, IsBounded};
+ghost use Rattle.console.specs.Receive.{takes_bytes, give, IsAfter, IsReceived};
+
+use crate::host_bytes::HostBytes;
+use chains::{Chain, Next, Ring, copy_in, total_len};
+use guestmem::{NoMemory, Ram, TouchLog};
+
+/// How a step on a queue of receive buffers went.
+#[derive(Clone, Copy, Debug, PartialEq, Eq)]
+pub enum Received {
+    /// The queue was empty, and the event note is written.
+    Empty,
+
+    /// The chain is malformed, or not one to write into: it has a readable byte, or no writable one. It stays.
+    Malformed,
+
+    /// The chain was published with this used length. The flag says whether an interrupt is due.
+    Completed(u32, bool),
+}
+
+/// Gives the first of the bytes held to the next chain, as many as it takes, and publishes it. Its only error is want of
+/// memory for the chain, and then nothing has changed.
+pub fn receive<R: Ring, L: TouchLog>(
+    ring: &mut R,
+    held: &mut HostBytes,
+    ram: &mut Ram,
+    log: &mut L,
+) -> Result<Received, NoMemory>
+    requires inside { AreInside (length ram.old.bytes) (R.state ring.old) }
+    requires may { MayPages L.may log.old (length ram.old.bytes) }
+    requires few { (R.state ring.old).size ≤ 256 }
+    ensures received { IfOk result (λ answer. IsReceived L.after ram.old.bytes (R.state ring.old) held.old log.old answer ram.new.bytes (R.state ring.new) held.new log.new) }
+    ensures memory { OnErr result (¬ (IsEmptyQueue ram.old.bytes (R.state ring.old))) }
+    ensures ram_stays { OnErr result (ram.new ≡ ram.old) }
+    ensures ring_stays { OnErr result (R.state ring.new ≡ R.state ring.old) }
+    ensures held_stay { OnErr result (held.new ≡ held.old) }
+    ensures log_stays { OnErr result (log.new ≡ log.old) }
+    ensures size { length ram.new.bytes ≡ length ram.old.bytes }
+    ensures may { MayPages L.may log.new (length ram.new.bytes) }
+{
+    let next = match ring.next(ram) {
+        Ok(next) => next,
+        Err(error) => return Err(error),
+    };
+    match next {
+        Next::Empty => {
+            ring.note_empty(ram, log);
+            Ok(Received::Empty)
+        }
+        Next::Malformed => Ok(Received::Malformed),
+        Next::Chain(chain) => {
+            if !takes_bytes(&chain) {
+                return Ok(Received::Malformed);
+            }
+            Ok(give(ring, held, &chain, ram, log))
+        }
+    }
+}
+
+/// Whether a chain is one to write into: it has no readable byte, and a writable one.
+fn takes_bytes(chain: &Chain) -> bool
+    requires readable { length chain.now.readable < 2 ^ 32 }
+    requires writable { length chain.now.writable < 2 ^ 32 }
+    ensures { result ≡ takes_bytes chain.now }
+{
+    total_len(chain.readable.as_slice()) == 0 && total_len(chain.writable.as_slice()) != 0
+}
+
+/// Writes the first of the bytes held into a chain, and publishes it.
+#[tactic(auto, unfolding(crate::specs::Receive::give))]
+fn give<R: Ring, L: TouchLog>(
+    ring: &mut R,
+    held: &mut HostBytes,
+    chain: &Chain,
+    ram: &mut Ram,
+    log: &mut L,
+) -> Received
+    requires inside { AreInside (length ram.old.bytes) (R.state ring.old) }
+    requires may { MayPages L.may log.old (length ram.old.bytes) }
+    requires bounded { IsBounded (length ram.old.bytes) (R.state ring.old) chain.now }
+    requires size_small { (R.state ring.old).size ≤ 256 }
+    ensures answer { result ≡ (give ram.old.bytes (R.state ring.old) held.old chain.now).answer }
+    ensures changes { IsAfter L.after ram.old.bytes log.old (give ram.old.bytes (R.state ring.old) held.old chain.now) ram.new.bytes (R.state ring.new) held.new log.new }
+    ensures size { length ram.new.bytes ≡ length ram.old.bytes }
+    ensures may { MayPages L.may log.new (length ram.new.bytes) }
+{
+    let segs = chain.writable.as_slice();
+    let count = total_len(segs).min(held.len() as u64) as usize;
+    let (front, back) = held.as_slices();
+    let first = front.len().min(count);
+    copy_in(ram, segs, 0, &front[..first], log);
+    copy_in(ram, segs, first as u64, &back[..count - first], log);
+    held.take_out(count);
+    ring.take(chain);
+    let due = ring.publish(chain.id, chain.slots, count as u32, true, ram, log);
+    Received::Completed(count as u32, due)
+}
