@@ -13,10 +13,12 @@
 //! - `specs/Whole`: the rules that the descriptors of a chain keep in either layout, and their segments;
 //! - `specs/SplitChain` and `specs/PackedChain`: the chain at the taking position, and when there is none;
 //! - `specs/Ring`: the answers of a ring, by its layout;
-//! - `specs/Publish`: what publishing and the event note write, and when an interrupt is due.
+//! - `specs/Publish`: what publishing and the event note write, and when an interrupt is due;
+//! - `specs/PlaceLaws`, `EffectLaws`, `SplitLaws`, `PackedLaws` and `ChainLaws`: what follows, for proofs above.
 //!
 //! A chain is a relation on whole lists of descriptors: it says which list is the chain, and not how to find it. What
-//! no list meets is malformed. The module `laws` says that a queue has at most one chain, and so one answer.
+//! no list meets is malformed. The module `laws` says that a queue has at most one chain, and so one answer, and that
+//! every chain is bounded, whatever the driver wrote: its segments lie inside RAM, and there are no more than slots.
 //! Nothing is trusted here beside the toolchain and the crates below. `smallvec` keeps short lists of segments inline.
 #![tactic(auto)]
 
