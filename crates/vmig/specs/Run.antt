@@ -8,8 +8,8 @@ use Rattle.machine.specs.Run.{IsRun}
 use Rattle.machine.specs.Refusal.{new_code_of}
 use Rattle.machine.specs.declared.new_error.NewError.{NewError}
 use Rattle.machine.specs.declared.reply.Reply.{Reply}
-use Rattle.vmig.specs.declared.program.End.{End}
-use Rattle.vmig.specs.declared.program.End.TheVariants.{Well, NoMemory, Usage, File, Line, Shape}
+use Rattle.vmig.specs.declared.program.Fault.{Fault}
+use Rattle.vmig.specs.declared.program.Fault.TheVariants.{NoMemory, Usage, File, Line, Shape}
 use Rattle.vmig.specs.declared.trace.TraceError.TheVariants as error
 use Rattle.vmig.specs.Trace.{Contents, IsTrace, Refuses}
 use Rattle.vmig.specs.Replies.{reply_line}
@@ -27,20 +27,25 @@ pub record IsPlayed (text : List ℕ) (old new : Option (List ℕ)) : Type 0 whe
   pub answered : AreReplies contents replies
   pub written : Appends old new (flat_map reply_line replies)
 
+-- The lines of the replies to some trace were written.
+pub record HasPlayed (old new : Option (List ℕ)) : Type 0 where
+  pub text : List ℕ
+  pub played : IsPlayed text old new
+
 -- There is no machine of this shape, for the reason of this number.
 pub record IsRefusedShape (c : Contents) (code : ℕ) : Type 0 where
   pub refusal : NewError
   pub refused : new_refusal c.pages c.shapes 0 ≡ Some refusal
   pub number : code ≡ new_code_of refusal
 
--- What an end without replies says of the trace. Memory may be refused for any.
-abbrev pub TellsOfTrace : Contents → End → Type 0
+-- What a fault without replies says of the trace. Memory may be refused for any.
+abbrev pub TellsOfTrace : Contents → Fault → Type 0
 TellsOfTrace c NoMemory = Unit {0}
 TellsOfTrace c (Shape code) = IsRefusedShape c code
 TellsOfTrace c _ = ⊥
 
--- What an end says of the text. Memory and standard output may fail at any.
-abbrev pub TellsOfText : List ℕ → End → Type 0
+-- What a fault says of the text. Memory and standard output may fail at any.
+abbrev pub TellsOfText : List ℕ → Fault → Type 0
 TellsOfText text NoMemory = Unit {0}
 TellsOfText text (File name) = Unit {0}
 TellsOfText text (Line number) = Refuses text (error.Line number)

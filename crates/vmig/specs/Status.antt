@@ -1,11 +1,9 @@
--- How the program ends.
+-- The exit status of the program where it did not go through; else it is 0.
 use Rattle.std.specs.Prelude.{ℕ}
-use Rattle.vmig.specs.declared.program.End.{End}
-use Rattle.vmig.specs.declared.program.End.TheVariants.{Well, NoMemory, Usage, File, Line, Shape}
+use Rattle.vmig.specs.declared.program.Fault.{Fault}
+use Rattle.vmig.specs.declared.program.Fault.TheVariants.{NoMemory, Usage, File, Line, Shape}
 
--- the exit status
-abbrev pub status_of : End → ℕ
-status_of Well = 0
+abbrev pub status_of : Fault → ℕ
 status_of NoMemory = 1
 status_of Usage = 2
 status_of (File name) = 3

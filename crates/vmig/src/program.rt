@@ -5,9 +5,9 @@ ghost use Rattle.std.specs.Io.KnownBytes.{Appends};
 ghost use Rattle.vmig.specs.Words.{is_program_line};
 ghost use Rattle.vmig.specs.Status.{status_of};
 ghost use Rattle.vmig.specs.Trace.{contents_of};
-ghost use Rattle.vmig.specs.Run.{AreReplies, IsPlayed, TellsOfTrace, TellsOfText};
+ghost use Rattle.vmig.specs.Run.{AreReplies, IsPlayed, HasPlayed, TellsOfTrace, TellsOfText};
 ghost use Rattle.vmig.specs.Replies.{reply_line, AppendsBeginning};
-ghost use Rattle.vmig.specs.declared.program.End.TheVariants.{Usage};
+ghost use Rattle.vmig.specs.declared.program.Fault.TheVariants.{Usage};
 
 use crate::put::WriteFault;
 use crate::reading::parse;
@@ -23,12 +23,9 @@ use std::{fs, io};
 /// The name that stands for standard output where it fails.
 const STANDARD_OUTPUT: &str = "-";
 
-/// How a run ends.
+/// Why a run did not go through.
 #[derive(Clone, Copy)]
-enum End<'a> {
-    /// Every event was played, and every reply written.
-    Well,
-
+enum Fault<'a> {
     /// Memory was refused outside a reply.
     NoMemory,
 
@@ -59,25 +56,25 @@ pub fn execute<R: Files + AllocGlobal, O: Write, E: Write>(
 ) -> u8
     ensures status { result ≤ 4 }
     ensures usage { is_program_line (map (λ word. word.now) words.now) ≡ false → result ≡ 2 }
+    ensures played { result ≡ 0 → HasPlayed (O.contents out.old) (O.contents out.new) }
 {
     match run(rt, words, out) {
-        Ok(()) => tell(End::Well, err),
-        Err(end) => tell(end, err),
+        Ok(()) => 0,
+        Err(fault) => tell(fault, err),
     }
 }
 
-/// Writes the line of an end to standard error, and answers its exit status. Where standard error fails too, there is
+/// Writes the line of a fault to standard error, and answers its exit status. Where standard error fails too, there is
 /// nobody left to tell.
-fn tell<E: Write>(end: End<'_>, err: &mut E) -> u8
-    ensures { result ≡ status_of end.entry }
+fn tell<E: Write>(fault: Fault<'_>, err: &mut E) -> u8
+    ensures { result ≡ status_of fault.entry }
 {
-    match end {
-        End::Well => 0,
-        End::NoMemory => told(1, writeln!(err, "vmig: memory")),
-        End::Usage => told(2, writeln!(err, "vmig: usage")),
-        End::File(name) => told(3, writeln!(err, "vmig: file {name}")),
-        End::Line(number) => told(4, writeln!(err, "vmig: trace line {number}")),
-        End::Shape(refusal) => told(4, writeln!(err, "vmig: shape {refusal}")),
+    match fault {
+        Fault::NoMemory => told(1, writeln!(err, "vmig: memory")),
+        Fault::Usage => told(2, writeln!(err, "vmig: usage")),
+        Fault::File(name) => told(3, writeln!(err, "vmig: file {name}")),
+        Fault::Line(number) => told(4, writeln!(err, "vmig: trace line {number}")),
+        Fault::Shape(refusal) => told(4, writeln!(err, "vmig: shape {refusal}")),
     }
 }
 
@@ -91,13 +88,14 @@ fn run<'a, R: Files + AllocGlobal, O: Write>(
     rt: &R,
     words: &'a [&'a str],
     out: &mut O,
-) -> Result<(), End<'a>>
-    ensures { is_program_line (map (λ word. word.now) words.entry.now) ≡ false → result ≡ Err Usage }
+) -> Result<(), Fault<'a>>
+    ensures usage { is_program_line (map (λ word. word.now) words.entry.now) ≡ false → result ≡ Err Usage }
+    ensures played { OnOk result (HasPlayed (O.contents out.old) (O.contents out.new)) }
 {
     match read_words(rt.alloc(), words) {
         Ok(Request::Run { trace }) => run_trace(rt, trace, out),
-        Err(WordsError::Usage) => Err(End::Usage),
-        Err(WordsError::NoMemory) => Err(End::NoMemory),
+        Err(WordsError::Usage) => Err(Fault::Usage),
+        Err(WordsError::NoMemory) => Err(Fault::NoMemory),
     }
 }
 
@@ -106,55 +104,57 @@ fn run_trace<'a, R: Files + AllocGlobal, O: Write>(
     rt: &R,
     name: &'a str,
     out: &mut O,
-) -> Result<(), End<'a>> {
+) -> Result<(), Fault<'a>>
+    ensures { OnOk result (HasPlayed (O.contents out.old) (O.contents out.new)) }
+{
     let text = read_file(rt, name)?;
     play_text(rt.alloc(), text.as_slice(), out)
 }
 
-fn read_file<'a, R: Files + AllocGlobal>(rt: &R, name: &'a str) -> Result<Vec<u8>, End<'a>> {
+fn read_file<'a, R: Files + AllocGlobal>(rt: &R, name: &'a str) -> Result<Vec<u8>, Fault<'a>> {
     match fs::read(rt, name) {
         Ok(bytes) => Ok(bytes),
         Err(error) => match error.kind() {
-            io::ErrorKind::OutOfMemory => Err(End::NoMemory),
-            _ => Err(End::File(name)),
+            io::ErrorKind::OutOfMemory => Err(Fault::NoMemory),
+            _ => Err(Fault::File(name)),
         },
     }
 }
 
 /// Plays a trace on a fresh machine, and writes the line of each reply.
-fn play_text<O: Write>(alloc: Global, text: &[u8], out: &mut O) -> Result<(), End<'static>>
+fn play_text<O: Write>(alloc: Global, text: &[u8], out: &mut O) -> Result<(), Fault<'static>>
     ensures ok { OnOk result (IsPlayed text.now (O.contents out.old) (O.contents out.new)) }
     ensures err { IfErr result (TellsOfText text.now) }
 {
     let trace = match parse(alloc, text) {
         Ok(trace) => trace,
-        Err(TraceError::Line(number)) => return Err(End::Line(number)),
-        Err(TraceError::NoMemory) => return Err(End::NoMemory),
+        Err(TraceError::Line(number)) => return Err(Fault::Line(number)),
+        Err(TraceError::NoMemory) => return Err(Fault::NoMemory),
     };
     let replies = match replies_to(alloc, &trace) {
         Ok(replies) => replies,
-        Err(end) => return Err(end),
+        Err(fault) => return Err(fault),
     };
     if write_replies(replies.as_slice(), out).is_err() || out.flush().is_err() {
-        return Err(End::File(STANDARD_OUTPUT));
+        return Err(Fault::File(STANDARD_OUTPUT));
     }
     Ok(())
 }
 
 /// The replies of a fresh machine of the trace's shape to its events.
-fn replies_to(alloc: Global, trace: &Trace) -> Result<Vec<Reply>, End<'static>>
+fn replies_to(alloc: Global, trace: &Trace) -> Result<Vec<Reply>, Fault<'static>>
     ensures ok { IfOk result (λ replies. AreReplies (contents_of trace.now) replies.items) }
     ensures err { IfErr result (TellsOfTrace (contents_of trace.now)) }
 {
     let disks: Vec<MemDisk> = Vec::new(alloc);
     let mut machine = match Machine::new(alloc, trace.pages, trace.shapes.as_slice(), disks) {
         Ok(machine) => machine,
-        Err(NewError::NoMemory) => return Err(End::NoMemory),
-        Err(refusal) => return Err(End::Shape(refusal.code())),
+        Err(NewError::NoMemory) => return Err(Fault::NoMemory),
+        Err(refusal) => return Err(Fault::Shape(refusal.code())),
     };
     match machine.play(trace.events.as_slice()) {
         Ok(replies) => Ok(replies),
-        Err(_) => Err(End::NoMemory),
+        Err(_) => Err(Fault::NoMemory),
     }
 }
 
