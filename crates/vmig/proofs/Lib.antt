@@ -7,3 +7,4 @@ pub mod Decimal
 pub mod HexText
 pub mod OneReading
 pub mod AllReplies
+pub mod TakenWords

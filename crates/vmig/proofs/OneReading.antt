@@ -1,9 +1,8 @@
 -- Each text is read in one way.
-use Rattle.std.proofs.Common.{◌≡◌, ◌+◌, ◌<◌, ◌≤◌, ℕ, List, ◌++◌, length, zero, suc, [], ◌∷◌, take, drop, Option, None, Some, inl, inr, refl, sym, ap, ◌∙◌, arith, append_assoc}
+use Rattle.std.proofs.Common.{◌≡◌, ◌≤◌, ℕ, List, ◌++◌, zero, suc, [], ◌∷◌, take, drop, Option, None, Some, inl, inr, refl, sym, ap, ◌∙◌, arith, append_assoc}
 use Rattle.std.proofs.lemmas.List.{take-append-drop}
-use Rattle.vmig.specs.declared.trace.TraceError.TheVariants as error
 use Rattle.vmig.specs.Lines.{lines_of}
-use Rattle.vmig.specs.Trace.{Contents, AreTrace, AreBeginning, IsFirstBad, IsMissing, IsTrace, Refuses}
+use Rattle.vmig.specs.Trace.{Contents, AreTrace, AreBeginning, IsFirstBad}
 use Rattle.vmig.specs.Reading.{Said}
 use Rattle.vmig.specs.Laws.{HoldsOneTrace, IsTraceOrRefused, HasOneFirstBad}
 use Rattle.vmig.proofs.Whole.{reads}

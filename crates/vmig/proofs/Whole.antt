@@ -1,5 +1,5 @@
 -- What has been read so far, against the definition of a whole trace.
-use Rattle.std.proofs.Common.{◌≡◌, ℕ, suc, ◌+◌, ◌<◌, ◌≤◌, ◌==◌, nat_lt, ◌&&◌, Bool, true, false, cond, List, [], ◌∷◌, ◌++◌, length, map, Option, Some, None, refl, ap, sym, subst, ◌∙◌, add-one, arith, append_assoc, eqb-true, rules, codes}
+use Rattle.std.proofs.Common.{◌≡◌, ℕ, suc, ◌+◌, ◌<◌, ◌≤◌, ◌==◌, nat_lt, ◌&&◌, Bool, true, false, List, [], ◌∷◌, ◌++◌, length, map, Option, Some, None, refl, ap, sym, subst, ◌∙◌, arith, append_assoc, eqb-true, rules, codes}
 use Rattle.std.proofs.lemmas.List.{append-nil, map-append, length-append}
 use Rattle.std.proofs.lemmas.Option.{cond_some}
 use borrow.Author.Tests.{ltb-true}
@@ -11,7 +11,7 @@ use Rattle.vmig.specs.declared.line.Line.TheVariants.{Skip, Ram, Device, Act}
 use Rattle.vmig.specs.Numbers.{◌>>=◌, number_of, digits_after}
 use Rattle.vmig.specs.Line.{line_says}
 use Rattle.vmig.specs.Trace.{Contents, onto, lines_say, AreTrace, AreBeginning}
-use Rattle.vmig.specs.Reading.{Said, nothing, with_ram, has_pages, with_line, after_line, after_lines, IsWhole}
+use Rattle.vmig.specs.Reading.{Said, nothing, with_line, after_line, after_lines, IsWhole}
 
 abbrev pub part : Option ℕ → List Shape → List Event → Said
 part pages shapes events = record { pages = pages; shapes = shapes; events = events }

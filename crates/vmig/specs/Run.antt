@@ -1,5 +1,5 @@
 -- What the program does with the text of a trace.
-use Rattle.std.specs.Prelude.{◌≡◌, ℕ, List, map, flat_map, Option, Some, None}
+use Rattle.std.specs.Prelude.{◌≡◌, ℕ, List, map, flat_map, Option, Some}
 use Rattle.std.specs.Io.KnownBytes.{Appends}
 use Rattle.machine.specs.State.{MachineState}
 use Rattle.machine.specs.First.{first_machine, new_refusal}
@@ -9,7 +9,7 @@ use Rattle.machine.specs.Refusal.{new_code_of}
 use Rattle.machine.specs.declared.new_error.NewError.{NewError}
 use Rattle.machine.specs.declared.reply.Reply.{Reply}
 use Rattle.vmig.specs.declared.program.Fault.{Fault}
-use Rattle.vmig.specs.declared.program.Fault.TheVariants.{NoMemory, Usage, File, Line, Shape}
+use Rattle.vmig.specs.declared.program.Fault.TheVariants.{NoMemory, File, Line, Shape}
 use Rattle.vmig.specs.declared.trace.TraceError.TheVariants as error
 use Rattle.vmig.specs.Trace.{Contents, IsTrace, Refuses}
 use Rattle.vmig.specs.Replies.{reply_line}

@@ -9,3 +9,8 @@ status_of Usage = 2
 status_of (File name) = 3
 status_of (Line number) = 4
 status_of (Shape refusal) = 4
+
+-- a fault of another kind than that the words are no line of the program
+abbrev pub IsPastWords : Fault → Type 0
+IsPastWords Usage = ⊥
+IsPastWords _ = Unit {0}

@@ -1,9 +1,9 @@
 //! One run of the program, by its words.
 
-ghost use Rattle.std.specs.Prelude.{◌≡◌, ◌≤◌, ◌++◌, OnOk, OnErr, IfOk, IfErr, map, flat_map, false};
+ghost use Rattle.std.specs.Prelude.{◌≡◌, ◌↔◌, ◌≤◌, ◌++◌, true, OnOk, OnErr, IfOk, IfErr, map, flat_map, false};
 ghost use Rattle.std.specs.Io.KnownBytes.{Appends};
 ghost use Rattle.vmig.specs.Words.{is_program_line};
-ghost use Rattle.vmig.specs.Status.{status_of};
+ghost use Rattle.vmig.specs.Status.{status_of, IsPastWords};
 ghost use Rattle.vmig.specs.Trace.{contents_of};
 ghost use Rattle.vmig.specs.Run.{AreReplies, IsPlayed, HasPlayed, TellsOfTrace, TellsOfText};
 ghost use Rattle.vmig.specs.Replies.{reply_line, AppendsBeginning};
@@ -55,7 +55,7 @@ pub fn execute<R: Files + AllocGlobal, O: Write, E: Write>(
     err: &mut E,
 ) -> u8
     ensures status { result ≤ 4 }
-    ensures usage { is_program_line (map (λ word. word.now) words.now) ≡ false → result ≡ 2 }
+    ensures usage { result ≡ 2 ↔ is_program_line (map (λ word. word.now) words.now) ≡ false }
     ensures played { result ≡ 0 → HasPlayed (O.contents out.old) (O.contents out.new) }
 {
     match run(rt, words, out) {
@@ -90,6 +90,7 @@ fn run<'a, R: Files + AllocGlobal, O: Write>(
     out: &mut O,
 ) -> Result<(), Fault<'a>>
     ensures usage { is_program_line (map (λ word. word.now) words.entry.now) ≡ false → result ≡ Err Usage }
+    ensures known { is_program_line (map (λ word. word.now) words.entry.now) ≡ true → IfErr result IsPastWords }
     ensures played { OnOk result (HasPlayed (O.contents out.old) (O.contents out.new)) }
 {
     match read_words(rt.alloc(), words) {
@@ -105,13 +106,18 @@ fn run_trace<'a, R: Files + AllocGlobal, O: Write>(
     name: &'a str,
     out: &mut O,
 ) -> Result<(), Fault<'a>>
-    ensures { OnOk result (HasPlayed (O.contents out.old) (O.contents out.new)) }
+    ensures past { IfErr result IsPastWords }
+    ensures played { OnOk result (HasPlayed (O.contents out.old) (O.contents out.new)) }
 {
-    let text = read_file(rt, name)?;
-    play_text(rt.alloc(), text.as_slice(), out)
+    match read_file(rt, name) {
+        Ok(text) => play_text(rt.alloc(), text.as_slice(), out),
+        Err(fault) => Err(fault),
+    }
 }
 
-fn read_file<'a, R: Files + AllocGlobal>(rt: &R, name: &'a str) -> Result<Vec<u8>, Fault<'a>> {
+fn read_file<'a, R: Files + AllocGlobal>(rt: &R, name: &'a str) -> Result<Vec<u8>, Fault<'a>>
+    ensures { IfErr result IsPastWords }
+{
     match fs::read(rt, name) {
         Ok(bytes) => Ok(bytes),
         Err(error) => match error.kind() {
@@ -125,6 +131,7 @@ fn read_file<'a, R: Files + AllocGlobal>(rt: &R, name: &'a str) -> Result<Vec<u8
 fn play_text<O: Write>(alloc: Global, text: &[u8], out: &mut O) -> Result<(), Fault<'static>>
     ensures ok { OnOk result (IsPlayed text.now (O.contents out.old) (O.contents out.new)) }
     ensures err { IfErr result (TellsOfText text.now) }
+    ensures past { IfErr result IsPastWords }
 {
     let trace = match parse(alloc, text) {
         Ok(trace) => trace,
@@ -145,6 +152,7 @@ fn play_text<O: Write>(alloc: Global, text: &[u8], out: &mut O) -> Result<(), Fa
 fn replies_to(alloc: Global, trace: &Trace) -> Result<Vec<Reply>, Fault<'static>>
     ensures ok { IfOk result (λ replies. AreReplies (contents_of trace.now) replies.items) }
     ensures err { IfErr result (TellsOfTrace (contents_of trace.now)) }
+    ensures past { IfErr result IsPastWords }
 {
     let disks: Vec<MemDisk> = Vec::new(alloc);
     let mut machine = match Machine::new(alloc, trace.pages, trace.shapes.as_slice(), disks) {

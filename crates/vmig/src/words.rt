@@ -1,8 +1,10 @@
 //! The program's words.
 
-ghost use Rattle.std.specs.Prelude.{◌≡◌, map, false};
+ghost use Rattle.std.specs.Prelude.{◌≡◌, map, true, false, IfErr};
 ghost use Rattle.vmig.specs.Words.{is_name, is_program_line};
-ghost use Rattle.vmig.specs.declared.words.WordsError.TheVariants.{Usage};
+ghost use Rattle.vmig.specs.declared.words.WordsError.TheVariants.{Usage, NoMemory};
+ghost use Rattle.clap.specs.Words.{kind_of};
+ghost use Rattle.clap.specs.declared.error.kind.ErrorKind.TheVariants.{OutOfMemory};
 
 use clap::error::ErrorKind;
 use clap::{Arg, ArgAction, Command, Error};
@@ -26,12 +28,16 @@ pub enum WordsError {
 }
 
 impl From<AllocError> for WordsError {
+    ghost from_gives = { λ _ refusal. refusal ≡ NoMemory };
+
     fn from(_error: AllocError) -> WordsError {
         WordsError::NoMemory
     }
 }
 
 impl From<Error> for WordsError {
+    ghost from_gives = { λ error refusal. kind_of error ≡ OutOfMemory → refusal ≡ NoMemory };
+
     fn from(error: Error) -> WordsError {
         match error.kind() {
             ErrorKind::OutOfMemory => WordsError::NoMemory,
@@ -58,18 +64,32 @@ fn are_a_line(words: &[&str]) -> bool
 }
 
 /// Reads the words that stand after the program's name. Words that are no line of the program are refused before
-/// any memory is asked for.
+/// any memory is asked for, and others only for want of memory.
 pub fn read_words<'a>(alloc: Global, words: &'a [&'a str]) -> Result<Request<'a>, WordsError>
-    ensures { is_program_line (map (λ word. word.now) words.entry.now) ≡ false → result ≡ Err Usage }
+    ensures usage { is_program_line (map (λ word. word.now) words.entry.now) ≡ false → result ≡ Err Usage }
+    ensures known { is_program_line (map (λ word. word.now) words.entry.now) ≡ true → IfErr result (λ refusal. refusal ≡ NoMemory) }
 {
     if !are_a_line(words) {
         return Err(WordsError::Usage);
     }
+    read_run(alloc, words)
+}
+
+/// Reads the words of `run TRACE`.
+fn read_run<'a>(alloc: Global, words: &'a [&'a str]) -> Result<Request<'a>, WordsError>
+    requires { is_program_line (map (λ word. word.now) words.now) ≡ true }
+    ensures { IfErr result (λ refusal. refusal ≡ NoMemory) }
+{
     let trace = Arg::new(alloc, "trace")
         .required(true)
         .action(ArgAction::Set);
     let command = Command::new(alloc, "run").arg(trace)?;
-    let matches = command.try_get_matches_from(words)?;
-    let trace = matches.get_str("trace").ok_or(WordsError::Usage)?;
-    Ok(Request::Run { trace })
+    let matches = match command.try_get_matches_from(words) {
+        Ok(matches) => matches,
+        Err(error) => return Err(WordsError::from(error)),
+    };
+    match matches.get_str("trace") {
+        Some(trace) => Ok(Request::Run { trace }),
+        None => Err(WordsError::Usage),
+    }
 }

@@ -1,4 +1,4 @@
-use Rattle.std.proofs.Common.{◌≡◌, ◌+◌, ◌^◌, ◌++◌, ◌<◌, ◌≤◌, drop, decimal, length}
+use Rattle.std.proofs.Common.{◌≡◌, ◌^◌, ◌++◌, ◌<◌, ◌≤◌, drop, decimal}
 use Rattle.vmig.proofs.digits.write_decimal.Given as goal
 
 abbrev pub invariant-loop-rest : goal.invariant-loop-rest
