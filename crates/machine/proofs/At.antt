@@ -5,14 +5,18 @@ use Rattle.std.proofs.lemmas.List.Elements.{All-set}
 use Rattle.std.specs.List.{slice_get, All}
 use Rattle.guestmem.specs.Memory.{Memory}
 use Rattle.guestmem.specs.Number.{IsBytes}
+use Rattle.chains.specs.declared.next.Next.TheVariants.{Empty}
 use Rattle.machine.specs.State.{DeviceState, Sector}
 use Rattle.machine.specs.Seen.{DeviceSeen, state_of}
-use Rattle.machine.specs.Step.{IsStep, fine, register_set}
+use Rattle.machine.specs.Step.{IsStep, fine, register_set, with_input, room_for, outcome_of}
+use Rattle.machine.specs.DeviceWork.{IsDeviceStep}
+use Rattle.guestmem.specs.Item.{Item}
 use Rattle.machine.specs.Held.{IsHeld}
 use Rattle.machine.specs.Sound.{IsSound, IsSoundDevice}
 use Rattle.machine.specs.declared.shape.Shape.{Shape}
-use Rattle.machine.specs.declared.event.Event.TheVariants.{RegWrite}
-use Rattle.machine.specs.declared.reply.Reply.TheVariants.{Done}
+use Rattle.machine.specs.declared.event.Event.TheVariants.{RegWrite, Step, Input}
+use Rattle.machine.specs.declared.reply.Reply.{Reply}
+use Rattle.machine.specs.declared.reply.Reply.TheVariants.{Done, Accepted}
 
 -- A device at its place, and what it is there.
 pub record IsAt (ds : List DeviceSeen) (dev : ℕ) (d : DeviceSeen) : Type 0 where
@@ -34,6 +38,8 @@ map-set_same f (x ∷ ds) (suc dev) d new at same = ap (λ ys. f x ∷ ys) (map-
 pub register_step : (m : Memory) (ds : List DeviceSeen) (dev offset width value : ℕ) (d new : DeviceSeen) → IsAt ds dev d → new ≡ record d { state = register_set d.state offset width value }
     → IsStep (state_of (record { memory = m; devices = ds })) (RegWrite dev offset width value) fine Done (state_of (record { memory = m; devices = set ds dev new }))
 register_step m ds dev offset width value d new at is = record {
+  seen = Empty;
+  may_see = tt;
   replied = rw (found ds dev d at) refl;
   changed =
       let sectors : map (λ (x : DeviceSeen). x.sectors) (set ds dev new) ≡ map (λ (x : DeviceSeen). x.sectors) ds
@@ -41,6 +47,40 @@ register_step m ds dev offset width value d new at is = record {
       let state : new.state ≡ register_set d.state offset width value = ap (λ (x : DeviceSeen). x.state) is in
       rw (found ds dev d at, map-set (λ (x : DeviceSeen). x.state) ds dev new, sectors, state) refl;
 }
+
+-- A machine whose device kept bytes of the host.
+pub input_step : (m : Memory) (ds : List DeviceSeen) (dev : ℕ) (bytes : List ℕ) (d new : DeviceSeen) → IsAt ds dev d → new ≡ record d { state = with_input d.state bytes }
+    → IsStep (state_of (record { memory = m; devices = ds })) (Input dev bytes) fine (Accepted (room_for d.state bytes)) (state_of (record { memory = m; devices = set ds dev new }))
+input_step m ds dev bytes d new at is = record {
+  seen = Empty;
+  may_see = tt;
+  replied = rw (found ds dev d at) refl;
+  changed =
+      let sectors : map (λ (x : DeviceSeen). x.sectors) (set ds dev new) ≡ map (λ (x : DeviceSeen). x.sectors) ds
+      = map-set_same (λ (x : DeviceSeen). x.sectors) ds dev d new at (ap (λ (x : DeviceSeen). x.sectors) is) in
+      let state : new.state ≡ with_input d.state bytes = ap (λ (x : DeviceSeen). x.state) is in
+      rw (found ds dev d at, map-set (λ (x : DeviceSeen). x.state) ds dev new, sectors, state) refl;
+}
+
+-- A machine whose device did a piece of its work.
+pub work_step : {L : Type 0} (after : L → Item → L) (m new_m : Memory) (log new_log : L) (ds : List DeviceSeen) (dev pick : ℕ) (d new : DeviceSeen) (reply : Reply) → IsAt ds dev d
+    → IsDeviceStep after m.bytes log d.state pick reply new_m.bytes new_log new.state → new.sectors ≡ d.sectors
+    → IsStep (state_of (record { memory = m; devices = ds })) (Step dev pick) (outcome_of reply) reply (state_of (record { memory = new_m; devices = set ds dev new }))
+work_step after m new_m log new_log ds dev pick d new reply at h same = record {
+  seen = h.seen;
+  may_see = rw (found ds dev d at) h.may_look;
+  replied = rw (found ds dev d at) h.reply_is;
+  changed =
+      let sectors : map (λ (x : DeviceSeen). x.sectors) (set ds dev new) ≡ map (λ (x : DeviceSeen). x.sectors) ds
+      = map-set_same (λ (x : DeviceSeen). x.sectors) ds dev d new at same in
+      rw (found ds dev d at, map-set (λ (x : DeviceSeen). x.state) ds dev new, sectors, h.ram_is, h.device_is) refl;
+}
+
+-- Each device of a sound machine is sound.
+pub sound_at : (m : Memory) (ds : List DeviceSeen) (dev : ℕ) (d : DeviceSeen) → IsAt ds dev d → IsSound (state_of (record { memory = m; devices = ds })) → IsSoundDevice (length m.bytes) d.state
+sound_at m ds dev d at sound =
+    let below : dev < length (map (λ (x : DeviceSeen). x.state) ds) = rw length-map at.below in
+    rw at.is (rw (get_or-map (λ (x : DeviceSeen). x.state) ds dev d d.state at.below) at (sound.devices dev d.state below))
 
 -- A machine stays sound where its RAM keeps its length.
 pub sound_ram : (old new : List ℕ) (devices : List DeviceState) (disks : List (List Sector)) → length new ≡ length old → IsBytes new
@@ -66,8 +106,7 @@ sound_device m ds dev d new at sectors keeps sound =
     let states : map (λ (x : DeviceSeen). x.state) (set ds dev new) ≡ set (map (λ (x : DeviceSeen). x.state) ds) dev new.state = map-set (λ (x : DeviceSeen). x.state) ds dev new in
     let disks : map (λ (x : DeviceSeen). x.sectors) (set ds dev new) ≡ map (λ (x : DeviceSeen). x.sectors) ds = map-set_same (λ (x : DeviceSeen). x.sectors) ds dev d new at sectors in
     let long : length (map (λ (x : DeviceSeen). x.state) (set ds dev new)) ≡ length (map (λ (x : DeviceSeen). x.state) ds) = rw (states, length-set) refl in
-    let below : dev < length (map (λ (x : DeviceSeen). x.state) ds) = rw length-map at.below in
-    let here : IsSoundDevice (length m.bytes) d.state = rw at.is (rw (get_or-map (λ (x : DeviceSeen). x.state) ds dev d d.state at.below) at (sound.devices dev d.state below)) in
+    let here : IsSoundDevice (length m.bytes) d.state = sound_at m ds dev d at sound in
     record {
       bytes = sound.bytes;
       pages = sound.pages;

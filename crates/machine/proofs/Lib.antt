@@ -3,3 +3,4 @@ pub mod Effects
 pub mod Fresh
 pub mod Kept
 pub mod Running
+pub mod Working

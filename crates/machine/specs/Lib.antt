@@ -1,4 +1,6 @@
 pub mod Contents
+pub mod DeviceStep
+pub mod DeviceWork
 pub mod Disk
 pub mod Effect
 pub mod EffectLaws

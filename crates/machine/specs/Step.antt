@@ -1,4 +1,4 @@
-use Rattle.std.specs.Prelude.{◌≡◌, ℕ, List, [], take, drop, length, Option, Some, None, slice_get}
+use Rattle.std.specs.Prelude.{Bool, true, false, min, ◌-◌, ◌++◌, ◌≡◌, ℕ, List, [], take, drop, length, Option, Some, None, slice_get}
 use Rattle.guestmem.specs.Write.{refusal_of}
 use Rattle.guestmem.specs.Writes.{byte_writes}
 use Rattle.guestmem.specs.declared.error.RamError.{RamError}
@@ -9,18 +9,24 @@ use Rattle.machine.specs.QueuePositions.{kept_positions}
 use Rattle.mmio.specs.State.{Registers}
 use Rattle.machine.specs.State.{DeviceState, MachineState}
 use Rattle.machine.specs.Shapes.{configuration_of}
+use Rattle.machine.specs.DeviceStep.{device_step, looked_at, MayLook}
 use Rattle.machine.specs.Effect.{Effect, no_effect, applied}
+use Rattle.chains.specs.declared.next.Next.{Next}
 use Rattle.machine.specs.declared.event.Event.{Event}
-use Rattle.machine.specs.declared.event.Event.TheVariants.{RegRead, RegWrite, MemRead, MemWrite}
+use Rattle.machine.specs.declared.event.Event.TheVariants.{RegRead, RegWrite, MemRead, MemWrite, Step, Input}
 use Rattle.machine.specs.declared.reply.Refusal.{Refusal}
 use Rattle.machine.specs.declared.reply.Refusal.TheVariants.{NoDevice, OutOfRam, TooLong}
 use Rattle.machine.specs.declared.reply.Reply.{Reply}
-use Rattle.machine.specs.declared.reply.Reply.TheVariants.{Value, Done, Bytes, NoMemory, Refused}
+use Rattle.machine.specs.declared.reply.Reply.TheVariants.{Value, Done, Bytes, Idle, Completed, Accepted, NeedsReset, NoMemory, Refused}
 
 -- What the outside let happen in a step: all that was asked of it, or memory was refused.
 pub data Outcome : Type 0 where
   fine : Outcome
   no_memory : Outcome
+
+abbrev pub is_fine : Outcome → Bool
+is_fine fine = true
+is_fine no_memory = false
 
 -- The outcome that a reply tells of.
 abbrev pub outcome_of : Reply → Outcome
@@ -29,6 +35,10 @@ outcome_of (Value v) = fine
 outcome_of Done = fine
 outcome_of (Bytes bs) = fine
 outcome_of (Refused k) = fine
+outcome_of Idle = fine
+outcome_of (Completed n) = fine
+outcome_of (Accepted n) = fine
+outcome_of NeedsReset = fine
 
 -- What a machine answers to an event, and what changes.
 pub record Answer : Type 0 where
@@ -86,14 +96,50 @@ write_ram addr bytes None = record {
   effect = record { writes = byte_writes addr bytes; sectors = []; replaced = None };
 }
 
--- What a machine answers to an event, by the outcome of what it asks of the outside, and what changes.
-abbrev pub answer : MachineState → Event → Outcome → Answer
-answer m (RegRead dev off width) o = read_register (slice_get m.devices dev) off width
-answer m (RegWrite dev off width value) o = write_register dev (slice_get m.devices dev) off width value
-answer m (MemRead addr len) o = read_ram m.ram addr len (refusal_of (length m.ram) addr len) o
-answer m (MemWrite addr bytes) o = write_ram addr bytes (refusal_of (length m.ram) addr (length bytes))
+-- The host puts bytes in. The first that fit are kept.
+abbrev pub room_for : DeviceState → List ℕ → ℕ
+room_for d bytes = min (length bytes) (4096 - length d.pool)
+
+abbrev pub with_input : DeviceState → List ℕ → DeviceState
+with_input d bytes = record d { pool = d.pool ++ take (room_for d bytes) bytes }
+
+abbrev pub put_in : ℕ → Option DeviceState → List ℕ → Answer
+put_in number None bytes = refused NoDevice
+put_in number (Some d) bytes = becomes number (with_input d bytes) (Accepted (room_for d bytes))
+
+-- A device does one piece of its work. Where it looks at no queue it is idle.
+abbrev pub step_device : ℕ → Option DeviceState → List ℕ → ℕ → Outcome → Next → Answer
+step_device number None ram pick o seen = refused NoDevice
+step_device number (Some d) ram pick o seen =
+    let s = device_step d ram pick (is_fine o) seen in
+    record {
+      reply = s.reply;
+      effect = record { writes = s.writes; sectors = []; replaced = Some (record { number = number; device = s.device }) };
+    }
+
+-- What a machine answers to an event, by the outcome of what it asks of the outside and by what a queue that it looks at
+-- answers about its next chain, and what changes.
+abbrev pub answer : MachineState → Event → Outcome → Next → Answer
+answer m (RegRead dev off width) o seen = read_register (slice_get m.devices dev) off width
+answer m (RegWrite dev off width value) o seen = write_register dev (slice_get m.devices dev) off width value
+answer m (MemRead addr len) o seen = read_ram m.ram addr len (refusal_of (length m.ram) addr len) o
+answer m (MemWrite addr bytes) o seen = write_ram addr bytes (refusal_of (length m.ram) addr (length bytes))
+answer m (Step dev pick) o seen = step_device dev (slice_get m.devices dev) m.ram pick o seen
+answer m (Input dev bytes) o seen = put_in dev (slice_get m.devices dev) bytes
+
+-- What a step may see: where it looks at a queue, what that queue answers; and memory is refused only for a queue that is
+-- not empty.
+abbrev pub MaySeeAt : Option DeviceState → List ℕ → ℕ → Outcome → Next → Type 0
+MaySeeAt None ram pick o seen = Unit {0}
+MaySeeAt (Some d) ram pick o seen = MayLook (looked_at d pick) ram (is_fine o) seen
+
+abbrev pub MaySee : MachineState → Event → Outcome → Next → Type 0
+MaySee m (Step dev pick) o seen = MaySeeAt (slice_get m.devices dev) m.ram pick o seen
+MaySee m e o seen = Unit {0}
 
 -- One step of a machine: an event with its outcome, the reply, and the machine after it.
 pub record IsStep (m : MachineState) (e : Event) (o : Outcome) (reply : Reply) (after : MachineState) : Type 0 where
-  pub replied : reply ≡ (answer m e o).reply
-  pub changed : after ≡ applied m (answer m e o).effect
+  pub seen : Next
+  pub may_see : MaySee m e o seen
+  pub replied : reply ≡ (answer m e o seen).reply
+  pub changed : after ≡ applied m (answer m e o seen).effect

@@ -1,12 +1,13 @@
 //! A device and its disk.
 
-ghost use Rattle.std.specs.Prelude.{◌≡◌, None, ℕ, IfOk};
+ghost use Rattle.std.specs.Prelude.{◌≡◌, None, ℕ, IfOk, length};
 ghost use Rattle.machine.specs.Seen.{DeviceSeen, sectors_of, marks_of};
 
 use crate::disk::Disk;
+use crate::reply::Reply;
 use crate::shape::Shape;
 use crate::state::DeviceState;
-use guestmem::NoMemory;
+use guestmem::{NoMemory, Ram, TouchLog};
 use std::alloc::Global;
 use std::marker::Model;
 
@@ -26,7 +27,9 @@ impl<D: Disk> Model for Device<D> {
 }
 
 impl<D: Disk> Device<D> {
-    ghost use Rattle.machine.specs.Step.{register_value_of, register_set};
+    ghost use Rattle.machine.specs.Step.{register_value_of, register_set, room_for, with_input};
+    ghost use Rattle.machine.specs.DeviceWork.{IsDeviceStep};
+    ghost use Rattle.guestmem.specs.Item.{MayPages};
     ghost use Rattle.machine.specs.Sound.{IsSoundDevice};
     ghost use Rattle.machine.specs.First.{first_seen, seen_without_disk};
 
@@ -64,5 +67,33 @@ impl<D: Disk> Device<D> {
         ensures sound { (bytes : ℕ) → IsSoundDevice bytes self.old.state → IsSoundDevice bytes self.new.state }
     {
         self.state.write_register(offset, width, value);
+    }
+
+    pub fn input(&mut self, bytes: &[u8]) -> u32
+        ensures count { result ≡ room_for self.old.state bytes.now }
+        ensures device { self.new ≡ record self.old { state = with_input self.old.state bytes.now } }
+        ensures sound { (len : ℕ) → IsSoundDevice len self.old.state → IsSoundDevice len self.new.state }
+    {
+        self.state.input(bytes)
+    }
+
+    pub fn step<L: TouchLog>(
+        &mut self,
+        alloc: Global,
+        pick: u8,
+        ram: &mut Ram,
+        log: &mut L,
+    ) -> Reply
+        requires sound { IsSoundDevice (length ram.old.bytes) self.old.state }
+        requires may { MayPages L.may log.old (length ram.old.bytes) }
+        ensures step { IsDeviceStep L.after ram.old.bytes log.old self.old.state pick result ram.new.bytes log.new self.new.state }
+        ensures sectors { self.new.sectors ≡ self.old.sectors }
+        ensures marks { self.new.marks ≡ self.old.marks }
+        ensures shape { self.new.state.shape ≡ self.old.state.shape }
+        ensures sound { (len : ℕ) → IsSoundDevice len self.old.state → IsSoundDevice len self.new.state }
+        ensures size { length ram.new.bytes ≡ length ram.old.bytes }
+        ensures may { MayPages L.may log.new (length ram.new.bytes) }
+    {
+        self.state.step(alloc, pick, ram, log)
     }
 }

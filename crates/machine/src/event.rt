@@ -31,4 +31,16 @@ pub enum Event {
         addr: u64,
         bytes: Bytes,
     },
+
+    /// A device does one piece of its work: for an entropy device, pick 0 serves the next buffer of its queue.
+    Step {
+        dev: u8,
+        pick: u8,
+    },
+
+    /// The host puts bytes in, for an entropy device into its pool.
+    Input {
+        dev: u8,
+        bytes: Bytes,
+    },
 }

@@ -156,6 +156,8 @@ impl<D: Disk> Machine<D> {
             } => self.write_register(*dev, *off, *width, *value),
             Event::MemRead { addr, len } => self.read_ram(*addr, *len),
             Event::MemWrite { addr, bytes } => self.write_ram(*addr, bytes.as_slice()),
+            Event::Step { dev, pick } => self.step_device(*dev, *pick),
+            Event::Input { dev, bytes } => self.put_in(*dev, bytes.as_slice()),
         }
     }
 
@@ -228,6 +230,33 @@ impl<D: Disk> Machine<D> {
         self.ram.put(addr, bytes, &mut NoLog);
         let _len = self.ram.len();
         Reply::Done
+    }
+
+    fn step_device(&mut self, dev: u8, pick: u8) -> Reply
+        ensures step { IsStep (state_of self.old) (events.Step dev pick) (outcome_of result) result (state_of self.new) }
+        ensures sound { IsSound (state_of self.new) }
+        ensures disks { all_marks self.new ≡ all_marks self.old }
+    {
+        let dev = dev as usize;
+        if dev >= self.devices.len() {
+            return Reply::Refused(Refusal::NoDevice);
+        }
+        let device = &mut self.devices[dev];
+        let reply = device.step(self.alloc, pick, &mut self.ram, &mut NoLog);
+        let _len = self.ram.len();
+        reply
+    }
+
+    fn put_in(&mut self, dev: u8, bytes: &[u8]) -> Reply
+        ensures step { IsStep (state_of self.old) (events.Input dev bytes.now) (outcome_of result) result (state_of self.new) }
+        ensures sound { IsSound (state_of self.new) }
+        ensures disks { all_marks self.new ≡ all_marks self.old }
+    {
+        let dev = dev as usize;
+        if dev >= self.devices.len() {
+            return Reply::Refused(Refusal::NoDevice);
+        }
+        Reply::Accepted(self.devices[dev].input(bytes))
     }
 
     /// What the devices were made as, in order.

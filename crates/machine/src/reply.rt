@@ -43,6 +43,18 @@ pub enum Reply {
     /// What a read of RAM gave.
     Bytes(Bytes),
 
+    /// The step found nothing to do.
+    Idle,
+
+    /// A chain was published with this used length.
+    Completed(u32),
+
+    /// So many bytes of an input were kept: the first ones.
+    Accepted(u32),
+
+    /// The chain was malformed. The device asks for a reset, and nothing else has changed.
+    NeedsReset,
+
     /// Memory was refused. Nothing has changed.
     NoMemory,
 

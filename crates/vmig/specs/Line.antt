@@ -2,7 +2,7 @@
 use Rattle.std.specs.Prelude.{ℕ, ◌^◌, Bool, true, ◌==◌, if◌then◌else◌, List, [], ◌∷◌, codes, Option, Some, None}
 use Rattle.std.specs.Str.{bytes_eq}
 use Rattle.std.specs.List.{slice_split}
-use Rattle.machine.specs.declared.event.Event.TheVariants.{RegRead, RegWrite, MemRead, MemWrite}
+use Rattle.machine.specs.declared.event.Event.TheVariants.{RegRead, RegWrite, MemRead, MemWrite, Step, Input}
 use Rattle.machine.specs.declared.shape.Shape.TheVariants.{Entropy}
 use Rattle.vmig.specs.declared.line.Line.{Line}
 use Rattle.vmig.specs.declared.line.Line.TheVariants.{Skip, Ram, Device, Act}
@@ -55,6 +55,20 @@ memory_write_line addr bytes = do
   bytes ← bytes_of bytes
   Some (Act (MemWrite addr bytes))
 
+-- s DEV PICK
+abbrev pub step_line : List ℕ → List ℕ → Option Line
+step_line dev pick = do
+  dev ← u8_field dev
+  pick ← u8_field pick
+  Some (Act (Step dev pick))
+
+-- in DEV BYTES
+abbrev pub input_line : List ℕ → List ℕ → Option Line
+input_line dev bytes = do
+  dev ← u8_field dev
+  bytes ← bytes_of bytes
+  Some (Act (Input dev bytes))
+
 -- Each line has its number of words, and among those of one number the first word tells it.
 abbrev pub one_word : List ℕ → Option Line
 one_word verb = if bytes_eq verb (codes "entropy") then Some (Device Entropy) else None
@@ -66,6 +80,8 @@ abbrev pub three_words : List ℕ → List ℕ → List ℕ → Option Line
 three_words verb a b =
     if bytes_eq verb (codes "mr") then memory_read_line a b
     else if bytes_eq verb (codes "mw") then memory_write_line a b
+    else if bytes_eq verb (codes "s") then step_line a b
+    else if bytes_eq verb (codes "in") then input_line a b
     else None
 
 abbrev pub four_words : List ℕ → List ℕ → List ℕ → List ℕ → Option Line

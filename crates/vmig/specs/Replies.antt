@@ -5,7 +5,7 @@ use Rattle.std.specs.Io.KnownBytes.{Appends}
 use Rattle.hex.specs.Hex.{encode_lower}
 use Rattle.machine.specs.Refusal.{code_of}
 use Rattle.machine.specs.declared.reply.Reply.{Reply}
-use Rattle.machine.specs.declared.reply.Reply.TheVariants.{Value, Done, Bytes, NoMemory, Refused}
+use Rattle.machine.specs.declared.reply.Reply.TheVariants.{Value, Done, Bytes, Idle, Completed, Accepted, NeedsReset, NoMemory, Refused}
 
 -- the line's LF
 abbrev pub newline : List ℕ
@@ -25,6 +25,10 @@ abbrev pub reply_line : Reply → List ℕ
 reply_line (Value n) = codes "value " ++ value_text n ++ newline
 reply_line Done = codes "done" ++ newline
 reply_line (Bytes bytes) = codes "bytes " ++ bytes_text bytes ++ newline
+reply_line Idle = codes "idle" ++ newline
+reply_line (Completed count) = codes "completed " ++ decimal count ++ newline
+reply_line (Accepted count) = codes "accepted " ++ decimal count ++ newline
+reply_line NeedsReset = codes "needsreset" ++ newline
 reply_line NoMemory = codes "nomemory" ++ newline
 reply_line (Refused refusal) = codes "refused " ++ decimal (code_of refusal) ++ newline
 

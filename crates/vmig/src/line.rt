@@ -2,7 +2,7 @@
 
 ghost use Rattle.std.specs.Prelude.{◌≡◌, IfOk, map};
 ghost use Rattle.std.specs.List.{slice_split};
-ghost use Rattle.vmig.specs.Line.{one_word, two_words, three_words, four_words, five_words, memory_read_line, memory_write_line, words_say, line_says, is_space};
+ghost use Rattle.vmig.specs.Line.{one_word, two_words, three_words, four_words, five_words, memory_read_line, memory_write_line, step_line, input_line, words_say, line_says, is_space};
 
 use crate::fields::{bytes, number8, number32, number64};
 use machine::{Event, Shape};
@@ -65,6 +65,26 @@ fn memory_write(alloc: Global, a: &[u8], b: &[u8]) -> Result<Option<Line>, Alloc
     Ok(Some(Line::Act(Event::MemWrite { addr, bytes })))
 }
 
+fn step(a: &[u8], b: &[u8]) -> Option<Line>
+    ensures { result ≡ step_line a.now b.now }
+{
+    let dev = number8(a)?;
+    let pick = number8(b)?;
+    Some(Line::Act(Event::Step { dev, pick }))
+}
+
+fn input(alloc: Global, a: &[u8], b: &[u8]) -> Result<Option<Line>, AllocError>
+    ensures { IfOk result (λ line. line ≡ input_line a.now b.now) }
+{
+    let Some(dev) = number8(a) else {
+        return Ok(None);
+    };
+    let Some(bytes) = bytes(alloc, b)? else {
+        return Ok(None);
+    };
+    Ok(Some(Line::Act(Event::Input { dev, bytes })))
+}
+
 fn three(alloc: Global, verb: &[u8], a: &[u8], b: &[u8]) -> Result<Option<Line>, AllocError>
     ensures { IfOk result (λ line. line ≡ three_words verb.now a.now b.now) }
 {
@@ -72,6 +92,10 @@ fn three(alloc: Global, verb: &[u8], a: &[u8], b: &[u8]) -> Result<Option<Line>,
         Ok(memory_read(a, b))
     } else if verb == b"mw".as_slice() {
         memory_write(alloc, a, b)
+    } else if verb == b"s".as_slice() {
+        Ok(step(a, b))
+    } else if verb == b"in".as_slice() {
+        input(alloc, a, b)
     } else {
         Ok(None)
     }

@@ -54,6 +54,10 @@ pub fn write_reply<W: Write>(reply: &Reply, out: &mut W) -> Result<(), WriteFaul
         Reply::Value(value) => put_value(out, *value),
         Reply::Done => put(out, b"done\n"),
         Reply::Bytes(bytes) => put_bytes(out, b"bytes ", bytes.as_slice()),
+        Reply::Idle => put(out, b"idle\n"),
+        Reply::Completed(count) => put_number(out, b"completed ", *count),
+        Reply::Accepted(count) => put_number(out, b"accepted ", *count),
+        Reply::NeedsReset => put(out, b"needsreset\n"),
         Reply::NoMemory => put(out, b"nomemory\n"),
         Reply::Refused(refusal) => put_number(out, b"refused ", refusal.code() as u32),
     }
