@@ -2,5 +2,6 @@ pub mod At
 pub mod Effects
 pub mod Fresh
 pub mod Kept
+pub mod Raised
 pub mod Running
 pub mod Working

@@ -6,6 +6,7 @@ pub mod Effect
 pub mod EffectLaws
 pub mod First
 pub mod Held
+pub mod Lines
 pub mod QueuePositions
 pub mod Refusal
 pub mod Run

@@ -1,10 +1,11 @@
 //! The machine: RAM, devices, and one event after another.
 
-ghost use Rattle.std.specs.Prelude.{◌≡◌, ◌<◌, length, map, slice_index_or, vec_len, Err, None, All, IfOk, IfErr, IfSome, OnErr, []};
+ghost use Rattle.std.specs.Prelude.{◌≡◌, ◌<◌, ◌==◌, if◌then◌else◌, length, map, slice_index_or, vec_len, Err, None, All, IfOk, IfErr, IfSome, OnErr, []};
 ghost use Rattle.machine.specs.Seen.{state_of, all_marks};
 ghost use Rattle.machine.specs.Step.{IsStep, outcome_of, ram_refusal};
 ghost use Rattle.machine.specs.First.{first_machine, saved_machine, seen_without_disk, first_seen, new_refusal};
 ghost use Rattle.machine.specs.Run.{IsRun};
+ghost use Rattle.machine.specs.Lines.{lines_of};
 ghost use Rattle.machine.specs.Sound.{IsSound, IsSoundDevice};
 ghost use Rattle.machine.specs.declared.new_error.NewError.TheVariants as new_error;
 ghost use Rattle.machine.specs.declared.event.Event.TheVariants as events;
@@ -259,6 +260,20 @@ impl<D: Disk> Machine<D> {
         Reply::Accepted(self.devices[dev].input(bytes))
     }
 
+    /// The interrupt lines: bit d is set exactly while device d has an interrupt that its driver has not acknowledged
+    /// (VIRTIO 1.2, 4.2.2, InterruptStatus). Bits past the last device are clear.
+    pub fn lines(&self) -> u16
+        ensures { result ≡ lines_of (state_of self.now).devices }
+    {
+        let mut lines = 0u32;
+        let mut line = 1u32;
+        for device in &self.devices {
+            lines += raised(device.state(), line);
+            line *= 2;
+        }
+        lines as u16
+    }
+
     /// What the devices were made as, in order.
     pub fn shapes(&self) -> &[Shape]
         ensures { result.now ≡ map (λ d. d.shape) (state_of self.now).devices }
@@ -279,6 +294,16 @@ impl<D: Disk> Machine<D> {
         ensures { result.now ≡ self.now.memory }
     {
         &self.ram
+    }
+}
+
+/// The bit of a device, where it has an interrupt.
+fn raised(device: &DeviceState, line: u32) -> u32
+    ensures { result ≡ (if device.now.registers.common.interrupts == 0 then 0 else line) }
+{
+    match device.registers().common().interrupts {
+        0 => 0,
+        _ => line,
     }
 }
 
