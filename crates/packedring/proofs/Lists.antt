@@ -1,0 +1,37 @@
+use Rattle.std.proofs.Common.{Bool, true, false, length, ◌≡◌, ℕ, zero, suc, ◌+◌, ◌-◌, ◌<◌, List, [], ◌∷◌, ◌++◌, refl, ap, sym, ◌∙◌, arith, add-zero}
+use Rattle.std.specs.Prelude.{◌==◌, ◌&&◌, ◌||◌, not, if◌then◌else◌}
+use Rattle.chains.specs.declared.descriptor.Descriptor.{Descriptor}
+use Rattle.chains.specs.declared.position.Position.{Position}
+use Rattle.chains.specs.Descriptor.{descriptor_at}
+use Rattle.chains.specs.PackedChain.{entries_from}
+use Rattle.chains.specs.Publish.{gone_on, positions_from, is_among}
+
+-- One more entry of a table stands at the end.
+pub entries_more : (ram : List ℕ) (table index count : ℕ) → entries_from ram table index (count + 1) ≡ entries_from ram table index count ++ descriptor_at true ram table (index + count) ∷ []
+entries_more ram table index zero = rw add-zero refl
+entries_more ram table index (suc count) =
+    let e : suc count + 1 ≡ suc (count + 1) = omega arith in
+    let f : index + 1 + count ≡ index + suc count = omega arith in
+    let more = entries_more ram table (index + 1) count in
+    rw (e, ← f) (ap (λ (ds : List Descriptor). descriptor_at true ram table index ∷ ds) more)
+
+-- So many entries of a table are so many.
+pub length_entries : (ram : List ℕ) (table index count : ℕ) → length (entries_from ram table index count) ≡ count
+length_entries ram table index zero = refl
+length_entries ram table index (suc count) = ap suc (length_entries ram table (index + 1) count)
+
+-- A position is among those of some slots where it is the first of them, or among the others.
+pub among_step : (offset : ℕ) (wrap : Bool) (size : ℕ) (p : Position) (count : ℕ) → 0 < count
+    → is_among offset wrap (positions_from size p count)
+    ≡ ((p.place == offset && (if p.wrap then wrap else not wrap)) || is_among offset wrap (positions_from size (gone_on size p 1) (count - 1)))
+among_step offset wrap size p zero some = absurd (omega arith)
+among_step offset wrap size p (suc count) some = let e : suc count - 1 ≡ count = omega arith in rw e refl
+
+-- A position that is not the first of them is among the others, or not at all.
+pub among_more : (offset : ℕ) (wrap : Bool) (size : ℕ) (p : Position) (count left : ℕ) → count ≡ left + 1
+    → (p.place == offset && (if p.wrap then wrap else not wrap)) ≡ false
+    → is_among offset wrap (positions_from size (gone_on size p 1) left) ≡ is_among offset wrap (positions_from size p count)
+among_more offset wrap size p count left one other =
+    let some : 0 < count = omega arith in
+    let e : count - 1 ≡ left = omega arith in
+    sym (rw (other, e) at (among_step offset wrap size p count some))

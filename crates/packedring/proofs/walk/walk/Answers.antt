@@ -1,0 +1,23 @@
+use Rattle.std.proofs.Common.{◌≡◌, false, rules, arith, length-append}
+use Rattle.std.proofs.lemmas.List.Elements.{All-push}
+use Rattle.chains.specs.declared.descriptor.Descriptor.{Descriptor}
+use Rattle.packedring.proofs.Leading.{leads_more}
+use Rattle.packedring.proofs.Finding.{none_named}
+use Rattle.packedring.proofs.walk.walk.Goals as goal
+
+pub returns-then-descriptor : goal.returns-then-descriptor
+returns-then-descriptor c =
+    none_named _ _ _ _ _ _ _ c.args.first _ c.requires.first c.requires.plain
+    (leads_more _ _ _ _ c.loop-step.place _ c.loop-step.descriptor c.loop-step.invariant.leads c.loop-step.invariant.here (search rules))
+    c.read_descriptor-descriptor.ensures c.if-descriptor.true
+
+pub loop-step-preserved : goal.loop-step-preserved
+loop-step-preserved c =
+    rw c.in_ok-push.ensures.items (record {
+      count = rw length-append (omega (arith, c.loop-step.invariant.count));
+      inside = omega arith;
+      leads = leads_more _ _ _ _ c.loop-step.place _ c.loop-step.descriptor c.loop-step.invariant.leads c.loop-step.invariant.here (search rules);
+      plain = All-push (λ (d : Descriptor). d.is_indirect ≡ false) _ _ c.loop-step.invariant.plain c.loop-step.invariant.last_plain;
+      here = c.read_descriptor-descriptor.ensures;
+      last_plain = c.if-descriptor.false;
+    })

@@ -1,0 +1,27 @@
+use Rattle.std.specs.Prelude.{◌≡◌, ℕ, ◌+◌, ◌≤◌, List, [], ◌∷◌, ◌++◌, length, Bool, true}
+use Rattle.std.specs.Bool.{MatchBool}
+use Rattle.chains.specs.declared.descriptor.Descriptor.{Descriptor}
+use Rattle.chains.specs.Whole.{ArePlain}
+use Rattle.chains.specs.PackedChain.{AreConsecutive, IsPackedTable}
+
+-- The descriptors from a slot on begin with these, and go on from another slot: what completes the rest completes the
+-- whole, and nothing else does.
+pub record Leads (ram : List ℕ) (table size slot : ℕ) (front : List Descriptor) (next : ℕ) : Type 0 where
+  pub completes : (rest : List Descriptor) → AreConsecutive ram table size next rest → AreConsecutive ram table size slot (front ++ rest)
+  pub only : (whole : List Descriptor) → AreConsecutive ram table size slot whole → (rest : List Descriptor) × (whole ≡ front ++ rest) × AreConsecutive ram table size next rest
+
+-- The descriptors from a slot on, with a table in the place of the one that names it, are these, and no more than there
+-- are slots. They take so many slots, and the last of these holds this id.
+pub record AreFound (ram : List ℕ) (has_indirect : Bool) (table size slot id slots : ℕ) (all : List Descriptor) : Type 0 where
+  pub front : List Descriptor
+  pub last : Descriptor
+  pub consecutive : AreConsecutive ram table size slot (front ++ last ∷ [])
+  pub plain : ArePlain front
+  pub replaced : MatchBool last.is_indirect ((has_indirect ≡ true) × IsPackedTable ram front last all) (all ≡ front ++ last ∷ [])
+  pub few : length all ≤ size
+  pub id_is : id ≡ last.link
+  pub slots_is : slots ≡ length front + 1
+
+-- There are no such descriptors.
+abbrev pub IsNoneFound : List ℕ → Bool → ℕ → ℕ → ℕ → Type 0
+IsNoneFound ram has_indirect table size slot = (id slots : ℕ) (all : List Descriptor) → AreFound ram has_indirect table size slot id slots all → ⊥

@@ -1,0 +1,65 @@
+//! The event suppression areas of a packed ring (VIRTIO 1.2, 2.8.14), by which each side says when it wants to be
+//! notified: an offset and a wrap counter in two bytes, and the flags in two more.
+
+ghost use Rattle.std.specs.Prelude.{◌≡◌, ◌+◌, ◌%◌, ◌<◌, ◌≤◌, ◌==◌, ◌&&◌, ◌++◌, not, if◌then◌else◌};
+ghost use Rattle.chains.specs.State.{has_bit};
+ghost use Rattle.chains.specs.Publish.{positions_from, is_among, bit_if};
+ghost use Rattle.byteorder.specs.Endian.{little_bytes};
+
+use crate::going_on::going_on;
+use byteorder::{ByteOrder, LittleEndian};
+use chains::Position;
+
+/// The bytes of an area.
+pub(crate) const AREA_SIZE: usize = 4;
+
+/// Where the flags stand in an area. Two bits of them count.
+pub(crate) const FLAGS: u64 = 2;
+
+/// The number of values of these two bits. Without one of those named here there are notifications.
+pub(crate) const FLAG_VALUES: u16 = 4;
+
+/// The flags of who wants no notifications.
+pub(crate) const DISABLE: u16 = 1;
+
+/// The flags of who wants one at the descriptor that the offset and the wrap counter name.
+pub(crate) const DESC: u16 = 2;
+
+/// The bit of the wrap counter. The offset is in the bits below it.
+const WRAP: u16 = 1 << 15;
+
+/// Whether the position that two bytes of an area name is among those that so many slots from one on cover.
+pub(crate) fn is_covered(event: u16, from: Position, slots: u16, size: u16) -> bool
+    requires place { from.place < size }
+    requires few { size ≤ 256 }
+    ensures { result ≡ is_among (event % 32768) (has_bit event 32768) (positions_from size from slots) }
+{
+    let offset = event % WRAP;
+    let wrap = event & WRAP != 0;
+    let mut position = from;
+    for _step in 0..slots {
+        if is_at(position, offset, wrap) {
+            return true;
+        }
+        position = going_on(position, 1, size);
+    }
+    false
+}
+
+fn is_at(position: Position, offset: u16, wrap: bool) -> bool
+    ensures { result ≡ (position.place == offset && (if position.wrap then wrap else not wrap)) }
+{
+    position.place == offset && position.wrap == wrap
+}
+
+/// The area that asks for a notification at a position.
+pub(crate) fn asking_at(position: Position) -> [u8; AREA_SIZE]
+    requires { position.place < 32768 }
+    ensures { result ≡ little_bytes 2 (position.place + bit_if position.wrap 32768) ++ little_bytes 2 2 }
+{
+    let wrap = if position.wrap { WRAP } else { 0 };
+    let mut bytes = [0; AREA_SIZE];
+    LittleEndian::write_u16(&mut bytes[0..2], position.place + wrap);
+    LittleEndian::write_u16(&mut bytes[2..4], DESC);
+    bytes
+}

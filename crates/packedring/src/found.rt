@@ -1,0 +1,16 @@
+//! What the slots at a position hold.
+
+use chains::Descriptor;
+
+/// The descriptors that the slots from one on hold, with a table in the place of the descriptor that names it.
+#[derive(Drop)]
+pub(crate) struct Found {
+    /// The id that the last slot's descriptor holds.
+    pub(crate) id: u16,
+
+    /// The number of slots.
+    pub(crate) slots: u16,
+
+    /// The descriptors, in order.
+    pub(crate) all: Vec<Descriptor>,
+}

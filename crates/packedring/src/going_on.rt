@@ -1,0 +1,24 @@
+//! Positions that go on.
+
+ghost use Rattle.std.specs.Prelude.{◌≡◌, ◌<◌, ◌≤◌};
+ghost use Rattle.chains.specs.Publish.{gone_on};
+
+use chains::Position;
+
+/// The position so many slots further on. At the end of the ring it begins anew, and the wrap counter toggles (VIRTIO
+/// 1.2, 2.8.1).
+pub(crate) fn going_on(position: Position, slots: u16, size: u16) -> Position
+    requires place { position.place < size }
+    requires slots { slots ≤ size }
+    requires few { size ≤ 256 }
+    ensures { result ≡ gone_on size position slots }
+{
+    let place = position.place + slots;
+    if place < size {
+        return Position { place, ..position };
+    }
+    Position {
+        place: place - size,
+        wrap: !position.wrap,
+    }
+}
