@@ -8,16 +8,17 @@
 //! - `parse` answers `Ok` with what the text says by the grammar, or the number of the first line that may not stand
 //!   where it stands, or of the line that is missing behind the last. `laws` says that a text has one such answer.
 //! - `write_reply` writes exactly the reply's line and LF, and after a fault a beginning of it. It takes no memory.
-//! - `execute` answers 2 where the words are no line of the program, and 0 only where it wrote the lines of the replies
-//!   of a machine to a trace. That this trace is the one in the file is not in its contract, since the contracts of files
+//! - `execute` answers 2 exactly where the words are no line of the program, and 0 only where it wrote the lines of the
+//!   replies of a fresh machine to a trace. That this trace is the one in the file is not in its contract, since the contracts of files
 //!   say nothing of what a file holds: the tests of the crate `scenarios` show it.
 //!
 //! The definitions stand in `specs/`: `Lines` and `Numbers` how a text is spelled, `Line` the table of a trace's lines,
 //! `Trace` a whole trace and its first bad line, `Replies` the line of each reply, `Words` the program's words, `Run` and
 //! `Status` what a run writes and answers, and `Laws`. `Reading` is for the private parts of `parse` alone.
 //!
-//! It trusts that `clap` reads a line of words that this crate has found to be one of its own, and that a writer of std
-//! tells the bytes that it took.
+//! It stands on `machine`, on `hex` for bytes in texts, and on `clap` for the words, of which this crate first finds that
+//! they are a line of its own; that clap then refuses them only for want of memory is proved. It trusts that a writer of
+//! std tells the bytes that it took.
 //!
 //! A line that is new has its row in `specs/Line`, and its arm in `line.rt`, among the lines of as many words.
 #![tactic(auto)]
