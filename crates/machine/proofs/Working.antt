@@ -114,21 +114,15 @@ right_of_and : (a b : Bool) → (a && b) ≡ true → b ≡ true
 right_of_and true b h = h
 right_of_and false b h = cc
 
-not_true : (b : Bool) → not b ≡ true → b ≡ false
-not_true true h = cc
-not_true false h = refl
-
 pub record IsLooked (d : DeviceState) (q : Queue) : Type 0 where
   pub ready : q.is_ready ≡ true
-  pub split : is_packed_by d.registers.common ≡ false
 
 pub looked : (d : DeviceState) (q : Queue) → true ≡ looks d q → IsLooked d q
 looked d q h =
     let all = sym h in
-    let four = left_of_and _ _ all in
-    let three = left_of_and _ _ four in
+    let three = left_of_and _ _ all in
     let two = left_of_and _ _ three in
-    record { ready = right_of_and _ _ two; split = not_true _ (right_of_and _ _ all) }
+    record { ready = right_of_and _ _ two }
 
 -- A feature bit is there or not.
 bit_or_none : (f : ℕ) (bit : ℕ) → bit_and f (2 ^ 34) ≡ bit * 2 ^ 34 → bit ≤ 1 → has_bit f (2 ^ 34) ≡ has f (2 ^ 34)
@@ -363,7 +357,6 @@ same_place n pick held below = get_or-take n held pick no_positions below
 -- The ring of the queue that is looked at, as it is made.
 pub record IsMadeRing (len : ℕ) (d : DeviceState) (pick : ℕ) (s : RingState) : Type 0 where
   pub ring : IsLookedRing len s
-  pub split : s.is_packed ≡ false
   pub is : looked_at d pick ≡ Some s
 
 pub ring_made : (len : ℕ) (shape : Shape) (r : Registers) (held : List Positions) (pool : List ℕ) (pick : ℕ) (qs : List Queue) (features : ℕ) → IsSoundDevice len (held_device shape r held pool) → qs ≡ r.queues → pick < length qs
@@ -378,7 +371,6 @@ ring_made len shape r held pool pick qs features sound same below looking featur
     rw (same, feature)
     (record {
       ring = rw (same_place (length r.queues) pick held there) at (looked_ring len d pick first_queue no_positions sound there look.ready);
-      split = packed_same r.common.features ∙ look.split;
       is = some_looked d pick first_queue no_positions held there refl long looking_here;
     })
 

@@ -13,14 +13,13 @@ use Rattle.console.specs.Receive.{Step, receive_step}
 use Rattle.console.specs.declared.receiving.Received.{Received}
 use Rattle.console.specs.declared.receiving.Received.TheVariants as received
 use Rattle.machine.specs.State.{DeviceState}
-use Rattle.machine.specs.QueuePositions.{is_packed_by}
 use Rattle.machine.specs.declared.reply.Reply.{Reply}
 use Rattle.machine.specs.declared.reply.Reply.TheVariants.{Idle, Completed, NeedsReset, NoMemory}
 
 -- A step looks at a queue only where the driver drives the device and it has not asked for a reset, the queue is ready and
 -- notified, and there are bytes to give (VIRTIO 1.2, 2.1.2, 5.4.6).
 abbrev pub looks : DeviceState → Queue → Bool
-looks d q = is_running d.registers.common && q.is_ready && q.is_notified && not (length d.pool == 0) && not (is_packed_by d.registers.common)
+looks d q = is_running d.registers.common && q.is_ready && q.is_notified && not (length d.pool == 0)
 
 abbrev pub looked_by : DeviceState → Option Queue → Option Positions → Option RingState
 looked_by d (Some q) (Some p) = if looks d q then Some (state_of q d.registers.common.features p) else None

@@ -1,3 +1,4 @@
+pub mod AnyRing
 pub mod Contents
 pub mod DeviceStep
 pub mod DeviceWork

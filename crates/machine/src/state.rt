@@ -12,13 +12,13 @@ ghost use Rattle.mmio.specs.RegisterRead.{register_read};
 ghost use Rattle.machine.specs.Shapes.{first_device, saved_device, configuration_of, device_id_of, offered_of, queues_of};
 ghost use Rattle.machine.specs.Step.{register_value_of, register_set};
 
+use crate::any_ring::AnyRing;
 use crate::reply::Reply;
 use crate::shape::Shape;
 use chains::{Positions, Ring};
 use console::{HostBytes, Received, receive};
 use guestmem::{NoMemory, Ram, TouchLog};
-use mmio::{Common, Effect, Queue, RING_PACKED, Regs};
-use splitring::SplitRing;
+use mmio::{Common, Effect, Queue, Regs};
 use std::alloc::Global;
 use std::marker::Model;
 
@@ -182,7 +182,7 @@ impl DeviceState {
             return Reply::Idle;
         }
         let features = self.registers.features();
-        let mut ring = SplitRing::new(alloc, &queue, features, self.positions[number]);
+        let mut ring = AnyRing::new(alloc, &queue, features, self.positions[number]);
         match receive(&mut ring, &mut self.pool, ram, log) {
             Ok(received) => {
                 self.positions[number] = ring.positions();
@@ -197,11 +197,7 @@ impl DeviceState {
     fn looks(&self, queue: &Queue) -> bool
         ensures { result ≡ looks self.now queue.now }
     {
-        self.registers.is_running()
-            && queue.is_ready
-            && queue.is_notified
-            && !self.pool.is_empty()
-            && self.registers.features() & RING_PACKED != RING_PACKED
+        self.registers.is_running() && queue.is_ready && queue.is_notified && !self.pool.is_empty()
     }
 }
 
