@@ -87,7 +87,7 @@ impl HostBytes {
         requires { count ≤ length self.old }
         ensures { self.new ≡ drop count self.old }
     {
-        let left = self.held.len() - count;
+        let left = self.len() - count;
         self.held.truncate_front(left);
     }
 }
