@@ -1,3 +1,4 @@
+pub mod Agreeing
 pub mod At
 pub mod Effects
 pub mod Fresh

@@ -16,3 +16,4 @@ pub mod Shapes
 pub mod Sound
 pub mod State
 pub mod Step
+pub mod StepLaws
