@@ -5,4 +5,4 @@ pub mod Fresh
 pub mod Kept
 pub mod Raised
 pub mod Running
-pub mod Working
+pub mod Stepping

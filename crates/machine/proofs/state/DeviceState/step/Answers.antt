@@ -1,7 +1,7 @@
 use Rattle.std.proofs.Common.{arith, ap, sym, length, Some, ◌∙◌}
 use Rattle.guestmem.specs.Memory.{Memory}
 use Rattle.machine.specs.AnyRing.{ring_in}
-use Rattle.machine.proofs.Working.{step_past, step_not, ring_made, refused_step, stepped, sound_stepped, held_device}
+use Rattle.machine.proofs.Stepping.{step_past, step_not, ring_made, refused_step, stepped, sound_stepped, held_device}
 use Rattle.machine.proofs.state.DeviceState.step.Goals as goal
 
 pub returns-then-number-queues-clause-step : goal.returns-then-number-queues-clause-step
