@@ -1,5 +1,8 @@
 pub mod At
+pub mod Choices
+pub mod Digits
 pub mod Effects
 pub mod Fresh
+pub mod HeaderLemmas
 pub mod Kept
 pub mod Running

@@ -3,11 +3,15 @@ pub mod Disk
 pub mod Effect
 pub mod EffectLaws
 pub mod First
+pub mod Header
+pub mod HeaderReading
 pub mod Held
+pub mod Numbers
 pub mod QueuePositions
 pub mod Refusal
 pub mod Run
 pub mod Seen
+pub mod ShapeReading
 pub mod Shapes
 pub mod Sound
 pub mod State

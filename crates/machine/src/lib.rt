@@ -24,6 +24,7 @@ mod new_error;
 mod reply;
 mod shape;
 mod state;
+mod wire;
 
 pub use bytes::Bytes;
 pub use disk::{Disk, DiskFault, SECTOR_SIZE};
