@@ -50,7 +50,7 @@ length-digits (suc zero) n = refl
 length-digits (suc (suc w)) n = length-bytes_low_first 0 (suc (suc w)) n
 
 -- The number that a spelled number reads as.
-digits_read : (w n : ℕ) (rest : List ℕ) → n < 256 ^ w → little_from 0 w (digits w n ++ rest) ≡ n
+pub digits_read : (w n : ℕ) (rest : List ℕ) → n < 256 ^ w → little_from 0 w (digits w n ++ rest) ≡ n
 digits_read zero n rest fits = omega arith
 digits_read (suc zero) n rest fits = omega arith
 digits_read (suc (suc w)) n rest fits = little_number-reads_back (suc (suc w)) n rest fits
@@ -96,7 +96,7 @@ spelled-numbers (w ∷ ws) at bytes are within =
     let both : take (w + size_of ws) (drop at bytes) ≡ take w (drop at bytes) ++ take (size_of ws) (drop w (drop at bytes)) = take-add w (size_of ws) (drop at bytes) in
     rw (both, on, first, others) refl
 
-number_at-digits : (w n : ℕ) (front rest : List ℕ) → n < 256 ^ w → number_at (front ++ (digits w n ++ rest)) (length front) w ≡ n
+pub number_at-digits : (w n : ℕ) (front rest : List ℕ) → n < 256 ^ w → number_at (front ++ (digits w n ++ rest)) (length front) w ≡ n
 unfolding number_at
 number_at-digits w n front rest fits = rw (drop_at front (digits w n ++ rest) (length front) refl) (digits_read w n rest fits)
 

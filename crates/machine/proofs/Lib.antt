@@ -1,4 +1,5 @@
 pub mod At
+pub mod Bodies
 pub mod Choices
 pub mod Digits
 pub mod Effects

@@ -1,4 +1,6 @@
+pub mod BodyReading
 pub mod Contents
+pub mod DeviceBody
 pub mod Disk
 pub mod Effect
 pub mod EffectLaws

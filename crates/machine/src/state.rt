@@ -160,7 +160,8 @@ fn device_id(shape: Shape) -> u32
     }
 }
 
-fn offered(shape: Shape) -> u64
+/// The feature bits that a device of this shape offers.
+pub(crate) fn offered(shape: Shape) -> u64
     ensures { result ≡ offered_of shape }
 {
     match shape {
