@@ -18,7 +18,7 @@ use Rattle.machine.specs.Sound.{IsSoundDevice}
 use Rattle.machine.specs.State.{DeviceState}
 use Rattle.machine.specs.declared.shape.Shape.{Shape}
 use Rattle.machine.specs.declared.shape.Shape.TheVariants.{Entropy}
-use Rattle.machine.proofs.Digits.{IsBytes-drop, spelled-numbers, numbers-spelled, digits-number_at, number_at-digits, length-digits, flag-number, number-flag}
+use Rattle.machine.proofs.Digits.{IsBytes-drop, spelled-numbers, numbers-spelled, digits-number_at, number_at-digits, length-digits, IsBytes-digits, IsBytes-append, IsBytes-spelled, flag-number, number-flag}
 
 -- The registers that a device has once.
 
@@ -213,3 +213,24 @@ short_by ram_len Entropy d shape sound =
 
 pub body_is_short : (ram_len : ℕ) (d : DeviceState) → IsSoundDevice ram_len d → length (body d) ≤ 131072
 body_is_short ram_len d sound = short_by ram_len d.shape d refl sound
+
+common_bytes : (c : Common) → Fit common_widths (common_numbers c) → IsBytes (common_text c)
+unfolding common_text
+common_bytes c fits = IsBytes-spelled common_widths (common_numbers c) fits
+
+queue_bytes : (q : Queue) (p : Positions) → Fit queue_widths (queue_numbers q p) → IsBytes (queue_text q p)
+unfolding queue_text
+queue_bytes q p fits = IsBytes-spelled queue_widths (queue_numbers q p) fits
+
+bytes_by : (ram_len : ℕ) (s : Shape) (d : DeviceState) → d.shape ≡ s → IsSoundDevice ram_len d → IsBytes (body d)
+bytes_by ram_len Entropy d shape sound =
+    let parts = entropy_parts ram_len d shape sound in
+    let c = d.registers.common in
+    let text : body d ≡ common_text c ++ (queue_text parts.queue parts.positions ++ held_text d.pool) = ap body parts.is ∙ body_with ram_len c parts.queue parts.positions d.pool in
+    let held = IsBytes-append (digits 2 (length d.pool)) d.pool (IsBytes-digits 2 (length d.pool) (omega (arith, sound.pool_fits))) sound.pool_bytes in
+    subst (λ (x : List ℕ). IsBytes x) (sym text)
+      (IsBytes-append (common_text c) (queue_text parts.queue parts.positions ++ held_text d.pool) (common_bytes c parts.common_fits)
+        (IsBytes-append (queue_text parts.queue parts.positions) (held_text d.pool) (queue_bytes parts.queue parts.positions parts.queue_fits) held))
+
+pub body_bytes : (ram_len : ℕ) (d : DeviceState) → IsSoundDevice ram_len d → IsBytes (body d)
+body_bytes ram_len d sound = bytes_by ram_len d.shape d refl sound

@@ -55,7 +55,7 @@ digits_read zero n rest fits = omega arith
 digits_read (suc zero) n rest fits = omega arith
 digits_read (suc (suc w)) n rest fits = little_number-reads_back (suc (suc w)) n rest fits
 
-IsBytes-digits : (w n : ℕ) → n < 256 ^ w → IsBytes (digits w n)
+pub IsBytes-digits : (w n : ℕ) → n < 256 ^ w → IsBytes (digits w n)
 IsBytes-digits zero n fits i = omega arith
 IsBytes-digits (suc zero) n fits zero = omega arith
 IsBytes-digits (suc zero) n fits (suc i) = omega arith
@@ -129,3 +129,14 @@ flag-number (suc (suc n)) few = absurd (omega arith)
 pub number-flag : (b : Bool) → nat_eq (flag b) 1 ≡ b
 number-flag true = refl
 number-flag false = refl
+
+pub IsBytes-append : (xs ys : List ℕ) → IsBytes xs → IsBytes ys → IsBytes (xs ++ ys)
+IsBytes-append [] ys a b i = b i
+IsBytes-append (x ∷ xs) ys a b zero = a 0
+IsBytes-append (x ∷ xs) ys a b (suc i) = IsBytes-append xs ys (λ k. a (suc k)) b i
+
+-- Numbers that fit are spelled in bytes.
+pub IsBytes-spelled : (ws ns : List ℕ) → Fit ws ns → IsBytes (spelled ws ns)
+IsBytes-spelled [] ns fits i = omega arith
+IsBytes-spelled (w ∷ ws) [] fits i = absurd fits
+IsBytes-spelled (w ∷ ws) (n ∷ ns) fits i = IsBytes-append (digits w n) (spelled ws ns) (IsBytes-digits w n fits.0) (IsBytes-spelled ws ns fits.1) i

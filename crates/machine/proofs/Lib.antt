@@ -1,9 +1,15 @@
 pub mod At
 pub mod Bodies
 pub mod Choices
+pub mod Devices
 pub mod Digits
 pub mod Effects
 pub mod Fresh
 pub mod HeaderLemmas
 pub mod Kept
 pub mod Running
+pub mod Saving
+pub mod Sinks
+pub mod Spelling
+pub mod Unique
+pub mod Whole

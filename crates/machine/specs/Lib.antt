@@ -10,11 +10,16 @@ pub mod HeaderReading
 pub mod Held
 pub mod Numbers
 pub mod QueuePositions
+pub mod Records
 pub mod Refusal
 pub mod Run
+pub mod Saving
 pub mod Seen
 pub mod ShapeReading
 pub mod Shapes
+pub mod Sinks
 pub mod Sound
 pub mod State
 pub mod Step
+pub mod Stream
+pub mod StreamLaws

@@ -1,6 +1,7 @@
 //! Laws over the definitions alone. These functions do nothing: their contracts are the laws.
 
 ghost use Rattle.machine.specs.EffectLaws.{UntouchedStays, TouchedExists, ShapeStays};
+ghost use Rattle.machine.specs.StreamLaws.{OneRecord, OneMachine, WholeIsStream};
 
 /// What a step's effect does not touch stays as it was.
 pub fn untouched_stays()
@@ -15,4 +16,19 @@ pub fn touched_exists()
 /// A step's effect keeps the size of RAM, the devices' shapes and the disks' sizes.
 pub fn shape_stays()
     ensures { ShapeStays }
+{}
+
+/// No spelling of a record of a stream is the beginning of another's.
+pub fn no_record_begins_another()
+    ensures { OneRecord }
+{}
+
+/// One stream has one machine.
+pub fn a_stream_has_one_machine()
+    ensures { OneMachine }
+{}
+
+/// The whole stream of a sound machine is a stream of it.
+pub fn whole_is_a_stream()
+    ensures { WholeIsStream }
 {}

@@ -35,3 +35,7 @@ pub use new_error::NewError;
 pub use reply::{Refusal, Reply};
 pub use shape::Shape;
 pub use state::DeviceState;
+pub use wire::{
+    DecodeError, Header, MigError, Sink, SinkFault, WriteSink, decode_device, decode_header, encode_commit,
+    encode_device, encode_header, encode_page, save,
+};

@@ -99,7 +99,9 @@ impl DeviceState {
 
     /// How far the device has come in each of its queues.
     pub fn positions(&self) -> &[Positions]
-        ensures { result.now ≡ self.now.positions }
+        ensures positions { result.now ≡ self.now.positions }
+        ensures each { length result.now ≡ length self.now.registers.queues }
+        ensures few { length self.now.registers.queues ≤ 2 }
     {
         let queues = self.registers.queues();
         &self.positions[..queues.len()]

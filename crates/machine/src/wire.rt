@@ -2,11 +2,21 @@
 
 mod decode_error;
 mod device_reading;
+mod encode;
 mod header;
+mod mig_error;
 mod numbers;
 mod registers_text;
+mod saving;
 mod shape_spelling;
+mod sink;
+mod tally;
+mod writing;
 
 pub use decode_error::DecodeError;
 pub use device_reading::decode_device;
+pub use encode::{encode_commit, encode_device, encode_header, encode_page};
 pub use header::{Header, decode_header};
+pub use mig_error::MigError;
+pub use saving::save;
+pub use sink::{Sink, SinkFault, WriteSink};
