@@ -1,6 +1,7 @@
 pub mod At
 pub mod Bodies
 pub mod Choices
+pub mod Decoding
 pub mod Devices
 pub mod Digits
 pub mod Effects
@@ -11,5 +12,7 @@ pub mod Running
 pub mod Saving
 pub mod Sinks
 pub mod Spelling
+pub mod Takings
 pub mod Unique
 pub mod Whole
+pub mod Working

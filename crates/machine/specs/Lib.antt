@@ -1,6 +1,7 @@
 pub mod BodyReading
 pub mod Contents
 pub mod DeviceBody
+pub mod DeviceRecords
 pub mod Disk
 pub mod Effect
 pub mod EffectLaws
@@ -10,6 +11,8 @@ pub mod HeaderReading
 pub mod Held
 pub mod Numbers
 pub mod QueuePositions
+pub mod Receiving
+pub mod RecordView
 pub mod Records
 pub mod Refusal
 pub mod Run
@@ -23,3 +26,4 @@ pub mod State
 pub mod Step
 pub mod Stream
 pub mod StreamLaws
+pub mod Taken

@@ -12,13 +12,13 @@ use crate::wire::shape_spelling::shape_at;
 use std::alloc::{AllocError, Global};
 
 /// "VMIG" as a little-endian number.
-const MAGIC: u32 = 0x4749_4d56;
+pub(crate) const MAGIC: u32 = 0x4749_4d56;
 
 /// The version of the stream that is written and read.
-const VERSION: u32 = 1;
+pub(crate) const VERSION: u32 = 1;
 
 /// The bytes before the shapes.
-const FRONT_LEN: usize = 16;
+pub(crate) const FRONT_LEN: usize = 16;
 
 /// What the header of a stream says.
 #[derive(Debug, Drop)]
