@@ -29,7 +29,7 @@ pub page_more : (x ram b : List ℕ) (n : ℕ) → b ≡ page_of ram n → (x ++
 page_more x ram b n e = rw (e, one_page ram n) (append_assoc x (texts (page_entries ram n)) (spelled_record (page n (page_of ram n))))
 
 -- The first so many of a list, and one more.
-first_more : {A : Type 0} (xs : List A) (n : ℕ) (x : A) → n < length xs → x ≡ get_or xs n x → take (n + 1) xs ≡ take n xs ++ x ∷ []
+pub first_more : {A : Type 0} (xs : List A) (n : ℕ) (x : A) → n < length xs → x ≡ get_or xs n x → take (n + 1) xs ≡ take n xs ++ x ∷ []
 first_more [] n x below is = absurd (omega (arith, below))
 first_more (y ∷ ys) zero x below is = ap (λ z. z ∷ []) (sym is)
 first_more (y ∷ ys) (suc n) x below is =

@@ -2,11 +2,19 @@
 use Rattle.std.specs.Prelude.{◌≡◌, ℕ, List, ◌++◌}
 use Rattle.std.specs.List.{AllByRecursion}
 use Rattle.machine.specs.DeviceBody.{body}
-use Rattle.machine.specs.Records.{device, spelled_record}
+use Rattle.machine.specs.Records.{device, spelled_record, HasSpelling}
 use Rattle.machine.specs.Sound.{IsSoundDevice}
 use Rattle.machine.specs.State.{DeviceState}
 use Rattle.machine.specs.Stream.{device_texts, shapes_in}
 use Rattle.machine.specs.declared.shape.Shape.{Shape}
+
+-- The bytes begin with the record of the device of this number, whatever its body is.
+pub record IsRawDevice (number : ℕ) (bytes raw rest : List ℕ) : Type 0 where
+  pub spells : HasSpelling (device number raw)
+  pub whole : bytes ≡ spelled_record (device number raw) ++ rest
+
+abbrev pub NoRawDevice : ℕ → List ℕ → Type 0
+NoRawDevice number bytes = (raw rest : List ℕ) → ¬ (IsRawDevice number bytes raw rest)
 
 -- The bytes begin with the record of this device.
 pub record StartsDevice (ram_len number : ℕ) (shape : Shape) (bytes : List ℕ) (d : DeviceState) (rest : List ℕ) : Type 0 where

@@ -4,7 +4,7 @@ use Rattle.machine.specs.Records as records
 use Rattle.machine.specs.declared.wire.record.Record.{Record}
 use Rattle.machine.specs.declared.wire.record.Record.TheVariants.{Page, Sector, RoundEnd, Device, Commit}
 
-abbrev map_option : {A B : Type 0} → (A → B) → Option A → Option B
+abbrev pub map_option : {A B : Type 0} → (A → B) → Option A → Option B
 map_option f None = None
 map_option f (Some x) = Some (f x)
 

@@ -2,6 +2,7 @@
 
 mod decode_error;
 mod device_reading;
+mod devices;
 mod encode;
 mod faults;
 mod header;
