@@ -171,3 +171,12 @@ later_shapes (s ∷ shapes) zero shape below is = cons_same (sym is) refl
 later_shapes (s ∷ shapes) (suc n) shape below is =
     let m : suc n + 1 ≡ suc (n + 1) = omega arith in
     rw m (later_shapes shapes n shape (omega (arith, below)) is)
+
+take_nothing : {A : Type 0} (n : ℕ) → take {A = A} n [] ≡ []
+take_nothing zero = refl
+take_nothing (suc n) = refl
+
+pub take_all : {A : Type 0} (n : ℕ) (xs : List A) → length xs ≤ n → take n xs ≡ xs
+take_all n [] all = take_nothing n
+take_all zero (x ∷ xs) all = absurd (omega (arith, all))
+take_all (suc n) (x ∷ xs) all = ap (λ ys. x ∷ ys) (take_all n xs (omega (arith, all)))

@@ -1,3 +1,4 @@
+pub mod Arrivals
 pub mod At
 pub mod Bodies
 pub mod Choices
@@ -5,6 +6,7 @@ pub mod Decoding
 pub mod Devices
 pub mod Digits
 pub mod Effects
+pub mod Endings
 pub mod Fresh
 pub mod HeaderLemmas
 pub mod Kept

@@ -1,5 +1,6 @@
 -- What receiving a stream answers.
-use Rattle.std.specs.Prelude.{◌≡◌, ℕ, List, ◌⊎◌, ◌≢◌}
+use Rattle.std.specs.Prelude.{◌≡◌, ◌++◌, ℕ, List}
+use Rattle.machine.specs.Records.{HasSpelling, commit, spelled_record}
 use Rattle.machine.specs.State.{MachineState}
 use Rattle.machine.specs.Stream.{IsStream, rounds}
 use Rattle.machine.specs.declared.wire.recv_error.RecvError.{RecvError}
@@ -18,6 +19,10 @@ Refuses _ Never = Never
 -- The bytes are a stream of no machine that has so many disks, since no device has a disk.
 abbrev pub IsNoStream : List ℕ → ℕ → Type 0
 IsNoStream bytes disks = disks ≡ 0 → (m : MachineState) → ¬ (IsStream bytes m)
+
+-- The bytes do not begin with the record of a digest.
+abbrev pub NoCommit : List ℕ → Type 0
+NoCommit bytes = (digest rest : List ℕ) → HasSpelling (commit digest) → ¬ (bytes ≡ spelled_record (commit digest) ++ rest)
 
 -- The number that stands for a refusal.
 abbrev pub recv_code_of : RecvError → ℕ

@@ -36,6 +36,7 @@ pub use reply::{Refusal, Reply};
 pub use shape::Shape;
 pub use state::DeviceState;
 pub use wire::{
-    DecodeError, Header, MigError, Sink, SinkFault, WriteSink, decode_device, decode_header, encode_commit,
-    encode_device, encode_header, encode_page, save,
+    DecodeError, Header, MigError, Record, RecvError, Sink, SinkFault, WriteSink, decode_device,
+    decode_header, decode_record, encode_commit, encode_device, encode_header, encode_page, receive,
+    save,
 };

@@ -1,6 +1,6 @@
 //! The records of devices at the front of bytes.
 
-ghost use Rattle.std.specs.Prelude.{◌≡◌, ◌≢◌, ◌≤◌, ◌++◌, ◌+◌, IfOk, IfErr, MatchOption, List, ℕ, length};
+ghost use Rattle.std.specs.Prelude.{◌≡◌, ◌≢◌, ◌<◌, ◌≤◌, ◌++◌, ◌+◌, IfOk, IfErr, MatchOption, List, ℕ, length, slice_index_or};
 ghost use Rattle.machine.specs.DeviceRecords.{IsRawDevice, NoRawDevice, StartsDevice, StartsNoDevice, StartsDevices, StartsNoDevices};
 ghost use Rattle.machine.specs.Receiving.{Refuses};
 
@@ -70,18 +70,25 @@ pub fn devices_at<'a>(
     ensures read { IfOk result (λ x. StartsDevices ram_len shapes.now bytes.now x.0.items x.1.now) }
     ensures refused { IfErr result (λ e. Refuses e (StartsNoDevices ram_len shapes.now bytes.now)) }
 {
-    let Ok(mut devices) = Vec::with_capacity(alloc, shapes.len()) else {
-        return Err(RecvError::NoMemory);
-    };
+    let mut devices = Vec::new(alloc);
     let mut rest = bytes;
     for i in 0..shapes.len() {
-        match device_at(alloc, ram_len, i as u8, shapes[i], rest) {
+        match device_at(alloc, ram_len, i as u8, nth(shapes, i), rest) {
             Ok((state, after)) => {
-                devices.push_reserved(state);
+                let Ok(()) = devices.push(state) else {
+                    return Err(RecvError::NoMemory);
+                };
                 rest = after;
             }
             Err(error) => return Err(error),
         }
     }
     Ok((devices, rest))
+}
+
+fn nth(shapes: &[Shape], i: usize) -> Shape
+    requires { i < length shapes.now }
+    ensures { result ≡ slice_index_or shapes.now i result }
+{
+    shapes[i]
 }
