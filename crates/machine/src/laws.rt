@@ -2,6 +2,7 @@
 
 ghost use Rattle.machine.specs.EffectLaws.{UntouchedStays, TouchedExists, ShapeStays};
 ghost use Rattle.machine.specs.StepLaws.{StepsAgree, RunsAgree, MalformedIsContained};
+ghost use Rattle.machine.specs.StreamLaws.{OneRecord, OneMachine, WholeIsStream};
 
 /// What a step's effect does not touch stays as it was.
 pub fn untouched_stays()
@@ -31,4 +32,19 @@ pub fn runs_agree()
 /// A malformed chain makes its own device ask for a reset, and changes nothing else.
 pub fn malformed_is_contained()
     ensures { MalformedIsContained }
+{}
+
+/// No spelling of a record of a stream is the beginning of another's.
+pub fn no_record_begins_another()
+    ensures { OneRecord }
+{}
+
+/// One stream has one machine.
+pub fn a_stream_has_one_machine()
+    ensures { OneMachine }
+{}
+
+/// The whole stream of a sound machine is a stream of it.
+pub fn whole_is_a_stream()
+    ensures { WholeIsStream }
 {}

@@ -30,6 +30,7 @@ mod new_error;
 mod reply;
 mod shape;
 mod state;
+mod wire;
 
 pub use bytes::Bytes;
 pub use disk::{Disk, DiskFault, SECTOR_SIZE};
@@ -40,3 +41,8 @@ pub use new_error::NewError;
 pub use reply::{Refusal, Reply};
 pub use shape::Shape;
 pub use state::DeviceState;
+pub use wire::{
+    DecodeError, Header, MigError, Record, RecvError, Sink, SinkFault, WriteSink, decode_device,
+    decode_header, decode_record, encode_commit, encode_device, encode_header, encode_page, receive,
+    save,
+};

@@ -276,7 +276,8 @@ impl<D: Disk> Machine<D> {
 
     /// What the devices were made as, in order.
     pub fn shapes(&self) -> &[Shape]
-        ensures { result.now ≡ map (λ d. d.shape) (state_of self.now).devices }
+        ensures shapes { result.now ≡ map (λ d. d.shape) (state_of self.now).devices }
+        ensures sound { IsSound (state_of self.now) }
     {
         self.shapes.as_slice()
     }

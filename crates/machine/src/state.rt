@@ -106,7 +106,9 @@ impl DeviceState {
 
     /// How far the device has come in each of its queues.
     pub fn positions(&self) -> &[Positions]
-        ensures { result.now ≡ self.now.positions }
+        ensures positions { result.now ≡ self.now.positions }
+        ensures each { length result.now ≡ length self.now.registers.queues }
+        ensures few { length self.now.registers.queues ≤ 2 }
     {
         let queues = self.registers.queues();
         &self.positions[..queues.len()]
@@ -283,7 +285,8 @@ fn device_id(shape: Shape) -> u32
     }
 }
 
-fn offered(shape: Shape) -> u64
+/// The feature bits that a device of this shape offers.
+pub(crate) fn offered(shape: Shape) -> u64
     ensures { result ≡ offered_of shape }
 {
     match shape {
