@@ -6,11 +6,15 @@
 #![tactic(auto)]
 
 #[cfg(test)]
+mod damaged_streams;
+#[cfg(test)]
 mod exit_statuses;
 #[cfg(test)]
 mod failing_file;
 #[cfg(test)]
 mod failing_writer;
+#[cfg(test)]
+mod failing_sink;
 #[cfg(test)]
 mod linux_probe;
 #[cfg(test)]
@@ -23,6 +27,10 @@ mod ram_accesses;
 mod registers;
 #[cfg(test)]
 mod reply_lines;
+#[cfg(test)]
+mod saved_machines;
+#[cfg(test)]
+mod streams;
 #[cfg(test)]
 mod support;
 #[cfg(test)]
