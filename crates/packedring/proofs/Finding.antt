@@ -1,5 +1,4 @@
-use Rattle.std.proofs.Common.{Bool, true, false, ◌≡◌, ℕ, zero, suc, ◌+◌, ◌/◌, ◌<◌, ◌≤◌, List, [], ◌∷◌, ◌++◌, length, refl, ap, sym, ◌∙◌, arith, length-append}
-use Rattle.std.specs.Prelude.{All}
+use Rattle.std.proofs.Common.{Bool, true, false, ◌≡◌, ℕ, suc, ◌+◌, ◌/◌, ◌<◌, ◌≤◌, List, [], ◌∷◌, ◌++◌, length, refl, ap, sym, ◌∙◌, arith}
 use Rattle.std.proofs.lemmas.List.Elements.{All-push}
 use Rattle.std.specs.Bool.{MatchBool}
 use Rattle.chains.specs.declared.descriptor.Descriptor.{Descriptor}
@@ -12,7 +11,7 @@ use Rattle.chains.specs.PackedLaws.{consecutive_same}
 use Rattle.chains.specs.SplitLaws.{last_same, front_same}
 use Rattle.packedring.specs.Walk.{Leads, AreFound, IsNoneFound}
 use Rattle.packedring.proofs.Lists.{length_entries}
-use Rattle.packedring.proofs.Leading.{consecutive_some, consecutive_first}
+use Rattle.packedring.proofs.Leading.{consecutive_first}
 
 alone_is : (ram : List ℕ) (table size slot : ℕ) (front : List Descriptor) (last : Descriptor) → front ≡ [] → AreConsecutive ram table size slot (front ++ last ∷ []) → last ≡ descriptor_at true ram table slot
 alone_is ram table size slot [] last e h = consecutive_first ram table size slot last [] h
