@@ -23,7 +23,7 @@ use std::marker::Model;
 /// Where length, id and flags begin in a descriptor, behind the address.
 const LENGTH: u64 = 8;
 
-/// The flag of a used descriptor into whose buffer the device wrote (VIRTIO 1.2, 2.8.9).
+/// The flag of a used descriptor into whose buffer the device wrote (VIRTIO 1.2, 2.8.3).
 const WRITE: u16 = 1 << 1;
 
 /// The two flags of a descriptor that the device sets to its wrap counter (VIRTIO 1.2, 2.8.1).
