@@ -1,5 +1,4 @@
-use Rattle.std.proofs.Common.{Bool, true, false, ◌≡◌, ℕ, zero, suc, ◌+◌, ◌/◌, ◌<◌, ◌≤◌, List, [], ◌∷◌, ◌++◌, length, refl, ap, sym, ◌∙◌, arith, length-append}
-use Rattle.std.specs.Prelude.{All}
+use Rattle.std.proofs.Common.{Bool, true, false, ◌≡◌, ℕ, suc, ◌+◌, ◌/◌, ◌<◌, ◌≤◌, List, [], ◌∷◌, ◌++◌, length, refl, ap, sym, ◌∙◌, arith}
 use Rattle.std.proofs.lemmas.List.Elements.{All-push}
 use Rattle.std.specs.Bool.{MatchBool}
 use Rattle.chains.specs.declared.descriptor.Descriptor.{Descriptor}
@@ -12,7 +11,7 @@ use Rattle.chains.specs.PackedLaws.{consecutive_same}
 use Rattle.chains.specs.SplitLaws.{last_same, front_same}
 use Rattle.packedring.specs.Walk.{Leads, AreFound, IsNoneFound}
 use Rattle.packedring.proofs.Lists.{length_entries}
-use Rattle.packedring.proofs.Leading.{consecutive_some, consecutive_first, consecutive_last, ended}
+use Rattle.packedring.proofs.Leading.{consecutive_first}
 
 alone_is : (ram : List ℕ) (table size slot : ℕ) (front : List Descriptor) (last : Descriptor) → front ≡ [] → AreConsecutive ram table size slot (front ++ last ∷ []) → last ≡ descriptor_at true ram table slot
 alone_is ram table size slot [] last e h = consecutive_first ram table size slot last [] h
@@ -32,16 +31,6 @@ last_plain : (ram : List ℕ) (has_indirect : Bool) (table size slot id slots : 
     → (f : AreFound ram has_indirect table size slot id slots all) → (f.last.is_indirect ≡ false) × (all ≡ f.front ++ f.last ∷ [])
 last_plain ram has_indirect table size slot id slots all plain f =
     last_plain_by ram has_indirect table size slot f.front f.last all f.last.is_indirect refl f.replaced f.consecutive plain
-
--- Where after one round there was no end, nothing is found.
-pub none_long : (ram : List ℕ) (has_indirect : Bool) (table size slot next : ℕ) (front : List Descriptor) (first : Descriptor) → first ≡ descriptor_at true ram table slot → first.is_indirect ≡ false
-    → Leads ram table size slot front next → length front ≡ size → IsNoneFound ram has_indirect table size slot
-none_long ram has_indirect table size slot next front first is plain leads long id slots all f =
-    let p : (descriptor_at true ram table slot).is_indirect ≡ false = rw (← is) plain in
-    let whole = last_plain ram has_indirect table size slot id slots all p f in
-    let a = leads.only (f.front ++ f.last ∷ []) f.consecutive in
-    let one : 1 ≤ length a.0 = consecutive_some ram table size next a.0 a.2 in
-    omega (arith, f.few, ap length whole.1, ap length a.1, length-append front a.0)
 
 plain_at : (ram : List ℕ) (table size next : ℕ) (front rest : List Descriptor) → AreConsecutive ram table size next rest → ArePlain (front ++ rest) → (descriptor_at true ram table next).is_indirect ≡ false
 plain_at ram table size next [] [] h plain = absurd h
@@ -94,25 +83,6 @@ named_found : (ram : List ℕ) (has_indirect : Bool) (table size slot id slots :
 named_found ram has_indirect table size slot id slots all first is named f =
     rw is (named_front ram has_indirect table size slot f.front f.last all (rw is at named) f.consecutive f.plain f.few f.replaced)
 
--- Where the first slot names a table, and has a next one, or there is no such table, nothing is found.
-pub none_alone : (ram : List ℕ) (has_indirect : Bool) (table size slot : ℕ) (first : Descriptor) → first ≡ descriptor_at true ram table slot → first.is_indirect ≡ true
-    → first.has_next ≡ true → IsNoneFound ram has_indirect table size slot
-none_alone ram has_indirect table size slot first is named more id slots all f =
-    let n = named_found ram has_indirect table size slot id slots all first is named f in
-    let bad : true ≡ false = sym more ∙ n.alone in
-    absurd (cc)
-
-pub none_feature : (ram : List ℕ) (has_indirect : Bool) (table size slot : ℕ) (first : Descriptor) → first ≡ descriptor_at true ram table slot → first.is_indirect ≡ true
-    → has_indirect ≡ false → IsNoneFound ram has_indirect table size slot
-none_feature ram has_indirect table size slot first is named off id slots all f =
-    let n = named_found ram has_indirect table size slot id slots all first is named f in
-    let bad : true ≡ false = sym n.feature ∙ off in
-    absurd (cc)
-
-pub none_table : (ram : List ℕ) (has_indirect : Bool) (table size slot : ℕ) (first : Descriptor) → first ≡ descriptor_at true ram table slot → first.is_indirect ≡ true
-    → (IsTable ram first → ⊥) → IsNoneFound ram has_indirect table size slot
-none_table ram has_indirect table size slot first is named bad id slots all f = bad (named_found ram has_indirect table size slot id slots all first is named f).table
-
 -- Where the table has more entries than there are slots, nothing is found.
 pub none_few : (ram : List ℕ) (has_indirect : Bool) (table size slot : ℕ) (first : Descriptor) → first ≡ descriptor_at true ram table slot → first.is_indirect ≡ true
     → size < first.len / 16 → IsNoneFound ram has_indirect table size slot
@@ -124,10 +94,6 @@ none_few ram has_indirect table size slot first is named long id slots all f =
 where_true : (b : Bool) (P Q : Type 0) → b ≡ true → P → MatchBool b P Q
 where_true true P Q is p = p
 where_true false P Q is p = absurd (cc)
-
-where_false : (b : Bool) (P Q : Type 0) → b ≡ false → Q → MatchBool b P Q
-where_false true P Q is q = absurd (cc)
-where_false false P Q is q = q
 
 -- The entries of the table that the first slot names are found.
 pub found_table : (ram : List ℕ) (has_indirect : Bool) (table size slot : ℕ) (all : List Descriptor) (first : Descriptor) → first ≡ descriptor_at true ram table slot → first.is_indirect ≡ true
@@ -142,21 +108,6 @@ found_table ram has_indirect table size slot all first is named alone feature t 
   few = rw entries (let e = length_entries ram first.addr 0 (first.len / 16) in omega arith);
   id_is = refl;
   slots_is = refl;
-}
-
--- Descriptors that lead to one without a next are found with it.
-pub found_walk : (ram : List ℕ) (has_indirect : Bool) (table size slot next : ℕ) (front all : List Descriptor) (last : Descriptor) (slots : ℕ) → Leads ram table size slot front next
-    → ArePlain front → last ≡ descriptor_at true ram table next → last.is_indirect ≡ false → last.has_next ≡ false → all ≡ front ++ last ∷ [] → slots ≡ length all → length front < size
-    → AreFound ram has_indirect table size slot last.link slots all
-found_walk ram has_indirect table size slot next front all last slots leads plain is ends_plain ends parts count room = record {
-  front = front;
-  last = last;
-  consecutive = ended ram table size slot next front last leads is ends;
-  plain = plain;
-  replaced = where_false last.is_indirect ((has_indirect ≡ true) × IsPackedTable ram front last all) (all ≡ front ++ last ∷ []) ends_plain parts;
-  few = omega (arith, ap length parts, length-append front (last ∷ []));
-  id_is = refl;
-  slots_is = omega (arith, ap length parts, length-append front (last ∷ []));
 }
 
 replaced_same : (ram : List ℕ) (has_indirect named : Bool) (front : List Descriptor) (last : Descriptor) (all more : List Descriptor)

@@ -1,11 +1,8 @@
-use Rattle.std.proofs.Common.{Bool, true, false, ◌≡◌, ℕ, ◌+◌, ◌%◌, ◌<◌, ◌≤◌, List, [], ◌∷◌, ◌++◌, length, refl, ap, sym, ◌∙◌, arith, append_assoc, length-append}
+use Rattle.std.proofs.Common.{true, false, ◌≡◌, ℕ, ◌+◌, ◌%◌, List, [], ◌∷◌, ◌++◌, ap, sym, ◌∙◌, append_assoc}
 use Rattle.chains.specs.declared.descriptor.Descriptor.{Descriptor}
 use Rattle.chains.specs.Descriptor.{descriptor_at}
 use Rattle.chains.specs.PackedChain.{AreConsecutive}
 use Rattle.packedring.specs.Walk.{Leads}
-
-pub leads_start : (ram : List ℕ) (table size slot : ℕ) → Leads ram table size slot [] slot
-leads_start ram table size slot = record { completes = λ rest h. h; only = λ whole h. (whole, refl, h) }
 
 behind : (ram : List ℕ) (table size slot : ℕ) (d : Descriptor) → d ≡ descriptor_at true ram table slot → d.has_next ≡ true
     → (rest : List Descriptor) → AreConsecutive ram table size ((slot + 1) % size) rest → AreConsecutive ram table size slot (d ∷ rest)
@@ -34,23 +31,7 @@ leads_more ram table size slot next front d leads is more = record {
       (b.0, a.1 ∙ ap (λ (ys : List Descriptor). front ++ ys) b.1 ∙ sym (append_assoc front (d ∷ []) b.0), b.2);
 }
 
--- Where the last one has no next, the descriptors are whole.
-pub ended : (ram : List ℕ) (table size slot next : ℕ) (front : List Descriptor) (d : Descriptor) → Leads ram table size slot front next
-    → d ≡ descriptor_at true ram table next → d.has_next ≡ false → AreConsecutive ram table size slot (front ++ d ∷ [])
-ended ram table size slot next front d leads is last = leads.completes (d ∷ []) (is, last)
-
--- There is one descriptor at least.
-pub consecutive_some : (ram : List ℕ) (table size slot : ℕ) (ds : List Descriptor) → AreConsecutive ram table size slot ds → 1 ≤ length ds
-consecutive_some ram table size slot [] h = absurd h
-consecutive_some ram table size slot (d ∷ ds) h = omega arith
-
 -- The first of them is that of the slot.
 pub consecutive_first : (ram : List ℕ) (table size slot : ℕ) (d : Descriptor) (ds : List Descriptor) → AreConsecutive ram table size slot (d ∷ ds) → d ≡ descriptor_at true ram table slot
 consecutive_first ram table size slot d [] h = h.0
 consecutive_first ram table size slot d (e ∷ es) h = h.0
-
--- The last of them has no next.
-pub consecutive_last : (ram : List ℕ) (table size slot : ℕ) (front : List Descriptor) (last : Descriptor) → AreConsecutive ram table size slot (front ++ last ∷ []) → last.has_next ≡ false
-consecutive_last ram table size slot [] last h = h.1
-consecutive_last ram table size slot (d ∷ []) last h = h.2.1
-consecutive_last ram table size slot (d ∷ e ∷ es) last h = consecutive_last ram table size ((slot + 1) % size) (e ∷ es) last h.2

@@ -23,7 +23,7 @@ use std::marker::Model;
 /// Where length, id and flags begin in a descriptor, behind the address.
 const LENGTH: u64 = 8;
 
-/// The flag of a used descriptor into whose buffer the device wrote (VIRTIO 1.2, 2.8.9).
+/// The flag of a used descriptor into whose buffer the device wrote (VIRTIO 1.2, 2.8.3).
 const WRITE: u16 = 1 << 1;
 
 /// The two flags of a descriptor that the device sets to its wrap counter (VIRTIO 1.2, 2.8.1).
@@ -70,12 +70,7 @@ impl PackedRing {
 
     /// The ring of a queue that has come this far, under the features that the driver accepted. It takes no memory: the
     /// allocator is for the chains that it finds.
-    pub fn new(
-        alloc: Global,
-        queue: &Queue,
-        features: u64,
-        positions: Positions,
-    ) -> PackedRing
+    pub fn new(alloc: Global, queue: &Queue, features: u64, positions: Positions) -> PackedRing
         requires layout { (state_of queue.now features positions).is_packed ≡ true }
         requires state { MayRing (state_of queue.now features positions) }
         ensures { result ≡ state_of queue.now features positions }
@@ -103,7 +98,15 @@ impl PackedRing {
     {
         let _len = ram.len();
         let (table, slot) = (self.descriptors, self.taking.place);
-        let found = find(self.alloc, ram, self.has_indirect, table, self.size, slot, first)?;
+        let found = find(
+            self.alloc,
+            ram,
+            self.has_indirect,
+            table,
+            self.size,
+            slot,
+            first,
+        )?;
         let Some(found) = found else {
             return Ok(None);
         };

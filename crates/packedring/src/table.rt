@@ -48,12 +48,7 @@ pub(crate) fn find(
 }
 
 /// All entries of a table of so many. Its only error is want of memory.
-fn entries(
-    alloc: Global,
-    ram: &Ram,
-    table: u64,
-    count: u16,
-) -> Result<Vec<Descriptor>, NoMemory>
+fn entries(alloc: Global, ram: &Ram, table: u64, count: u16) -> Result<Vec<Descriptor>, NoMemory>
     requires { table + 16 * count ≤ length ram.now.bytes }
     ensures { IfOk result (λ all. all.items ≡ entries_from ram.now.bytes table 0 count) }
 {

@@ -20,6 +20,24 @@ mod linux_probe;
 #[cfg(test)]
 mod negotiation;
 #[cfg(test)]
+mod packed_hostile;
+#[cfg(test)]
+mod packed_linux;
+#[cfg(test)]
+mod packed_linux_habits;
+#[cfg(test)]
+mod packed_next;
+#[cfg(test)]
+mod packed_round_the_end;
+#[cfg(test)]
+mod packed_sizes;
+#[cfg(test)]
+mod packed_suppression;
+#[cfg(test)]
+mod packed_table;
+#[cfg(test)]
+mod packed_total;
+#[cfg(test)]
 mod queue_ready;
 #[cfg(test)]
 mod ram_accesses;

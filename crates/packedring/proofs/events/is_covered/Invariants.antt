@@ -1,4 +1,4 @@
-use Rattle.std.proofs.Common.{◌≡◌, ◌<◌, ◌-◌, ◌%◌}
+use Rattle.std.proofs.Common.{◌≡◌, ◌<◌, ◌-◌}
 use Rattle.chains.specs.Publish.{positions_from, is_among}
 use Rattle.packedring.proofs.events.is_covered.Given as goal
 
