@@ -4,8 +4,7 @@ use crate::support::{ONE_ENTROPY, Scenario, repeated};
 use std::alloc::Global;
 use std::test::Fail;
 
-/// An entropy device over a queue of two descriptors, the first of two bytes at 0x800 and the second of one byte at 0x900.
-/// No buffer is available, and the queue was not notified.
+/// An entropy device over a queue of two descriptors: the first of two bytes at 0x800, the second of one at 0x900. No buffer is available, and the queue was not notified.
 fn driven(alloc: Global) -> Result<Scenario, Fail> {
     let mut scenario = Scenario::of(alloc, ONE_ENTROPY)?;
     scenario.puts(

@@ -1,7 +1,7 @@
 //! A split ring filled by a hostile driver, beside a healthy device.
 //!
-//! Each malformed chain stops the device that it was given to: the device asks for a reset, RAM stays, and the other device
-//! works as if it were alone.
+//! Each malformed chain stops the device that it was given to: the device asks for a reset, RAM stays, and the other
+//! device works as if it were alone.
 
 use crate::two_devices::{INDIRECT, WITHOUT, split_stops};
 use std::test::Fail;

@@ -85,8 +85,8 @@ fn one_descriptor(
 }
 
 /// With event indexes the driver wants an interrupt at the last used index before the round is whole: 65,535 completions
-/// raise none, and the next one does. Then the used index is 0 again. The device notes its taking position, which is 0 too,
-/// only when it finds the ring empty (VIRTIO 1.2, 2.7.7 and 2.7.10).
+/// raise none, and the next one does. Then the used index is 0 again. The device notes its taking position, which is 0
+/// too, only when it finds the ring empty (VIRTIO 1.2, 2.7.7 and 2.7.10).
 #[test]
 fn one_interrupt_in_a_whole_round(rt: HostRuntime) -> Result<(), Fail> {
     let mut machine = one_descriptor(&rt, 0x20000000, "ffff")?;

@@ -3,8 +3,8 @@
 use crate::support::{ONE_ENTROPY, Scenario};
 use std::test::Fail;
 
-/// Three bytes go into two buffers of two bytes each: the second is filled in part. WRITE on the descriptor that names the
-/// table is ignored.
+/// Three bytes go into two buffers of two bytes each: the second is filled in part. WRITE on the descriptor that names
+/// the table is ignored.
 #[test]
 fn two_buffers_of_a_table(rt: HostRuntime) -> Result<(), Fail> {
     let mut scenario = Scenario::of(rt.alloc(), ONE_ENTROPY)?;
@@ -26,7 +26,8 @@ fn two_buffers_of_a_table(rt: HostRuntime) -> Result<(), Fail> {
     scenario.plays(&rt, "indirect_table.trace")
 }
 
-/// A table behind a direct descriptor: its list stands in the place of the descriptor that names it, which is not counted.
+/// A table behind a direct descriptor: its list stands in the place of the descriptor that names it, which is not
+/// counted.
 #[test]
 fn a_table_behind_a_direct_buffer(rt: HostRuntime) -> Result<(), Fail> {
     let mut scenario = Scenario::of(rt.alloc(), ONE_ENTROPY)?;

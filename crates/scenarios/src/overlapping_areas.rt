@@ -1,7 +1,7 @@
 //! Areas and buffers of a split ring that lie over one another.
 //!
-//! A ready queue asks only that each area lies inside RAM. A step reads the chain first; then it writes the data, then the
-//! used entry, then the used index, and reads last whether the driver wants an interrupt (VIRTIO 1.2, 2.7.8 and 2.7.7).
+//! A ready queue asks only that each area lies inside RAM. A step reads the chain first; then it writes the data, then
+//! the used entry, then the used index, and reads last whether the driver wants an interrupt (VIRTIO 1.2, 2.7.8 and 2.7.7).
 
 use crate::support::{ONE_ENTROPY, Scenario};
 use std::alloc::Global;
