@@ -6,19 +6,41 @@
 #![tactic(auto)]
 
 #[cfg(test)]
+mod bytes_of_a_chain;
+#[cfg(test)]
 mod damaged_streams;
+#[cfg(test)]
+mod end_of_ram;
+#[cfg(test)]
+mod event_indexes;
+#[cfg(test)]
+mod events_and_lines;
 #[cfg(test)]
 mod exit_statuses;
 #[cfg(test)]
 mod failing_file;
 #[cfg(test)]
+mod failing_sink;
+#[cfg(test)]
 mod failing_writer;
 #[cfg(test)]
-mod failing_sink;
+mod hostile_split_rings;
+#[cfg(test)]
+mod index_wrap;
+#[cfg(test)]
+mod indirect_table;
+#[cfg(test)]
+mod interrupt_lines;
 #[cfg(test)]
 mod linux_probe;
 #[cfg(test)]
+mod linux_split;
+#[cfg(test)]
 mod negotiation;
+#[cfg(test)]
+mod odd_split_rings;
+#[cfg(test)]
+mod overlapping_areas;
 #[cfg(test)]
 mod packed_hostile;
 #[cfg(test)]
@@ -48,8 +70,14 @@ mod reply_lines;
 #[cfg(test)]
 mod saved_machines;
 #[cfg(test)]
+mod self_naming_descriptor;
+#[cfg(test)]
+mod split_flags;
+#[cfg(test)]
 mod streams;
 #[cfg(test)]
 mod support;
 #[cfg(test)]
 mod trace_edges;
+#[cfg(test)]
+mod two_devices;

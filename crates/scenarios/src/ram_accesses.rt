@@ -1,7 +1,6 @@
 //! What a guest writes to RAM and reads, and what is refused.
 
-use crate::support::{ONE_ENTROPY, Scenario, answers};
-use std::alloc::Global;
+use crate::support::{ONE_ENTROPY, Scenario, answers, repeated};
 use std::io::Write;
 use std::test::Fail;
 
@@ -85,14 +84,4 @@ fn the_greatest_ram(rt: HostRuntime) -> Result<(), Fail> {
     scenario.then("mr 0x3fffffe 2", "bytes 005a")?;
     scenario.then("mr 0x4000000 1", "refused 2")?;
     scenario.plays(&rt, "greatest_ram.trace")
-}
-
-/// A word, and then another as often as that.
-fn repeated(alloc: Global, word: &str, again: &str, count: usize) -> Result<String, Fail> {
-    let mut text = String::new(alloc);
-    text.push_str(word)?;
-    for _ in 0..count {
-        text.push_str(again)?;
-    }
-    Ok(text)
 }

@@ -1,12 +1,13 @@
 //! A trace and the replies that it must have, written side by side.
 
+use machine::{Event, Machine, MemDisk};
 use std::alloc::Global;
 use std::fs;
 use std::io::Write;
 use std::process::Abort;
 use std::rt::Files;
 use std::test::Fail;
-use vmig::execute;
+use vmig::{Trace, execute, parse, write_reply};
 
 /// One entropy device over one page of RAM.
 pub const ONE_ENTROPY: &str = "ram 1\nentropy\n";
@@ -67,11 +68,96 @@ impl Scenario {
         self.write(dev, 0x044, 1)
     }
 
+    /// The driver is done with setting up (VIRTIO 1.2, 3.1.1, step 8).
+    pub fn go(&mut self, dev: u8) -> Result<(), Fail> {
+        self.write(dev, 0x070, 15)
+    }
+
+    /// The driver notifies the device that a queue has buffers (VIRTIO 1.2, 4.2.2, QueueNotify).
+    pub fn kick(&mut self, dev: u8, queue: u32) -> Result<(), Fail> {
+        self.write(dev, 0x050, queue)
+    }
+
+    /// Reads a register of four bytes, which has this value.
+    pub fn reads(&mut self, dev: u8, off: u32, value: u32) -> Result<(), Fail> {
+        writeln!(self.trace, "r {dev} 0x{off:x} 4")?;
+        writeln!(self.replies, "value 0x{value:08x}")?;
+        Ok(())
+    }
+
+    /// The guest writes bytes, of which the digits are given, into RAM from an address on.
+    pub fn puts(&mut self, addr: u64, bytes: &str) -> Result<(), Fail> {
+        writeln!(self.trace, "mw 0x{addr:x} {bytes}")?;
+        writeln!(self.replies, "done")?;
+        Ok(())
+    }
+
+    /// RAM holds bytes, of which the digits are given, from an address on.
+    pub fn holds(&mut self, addr: u64, bytes: &str) -> Result<(), Fail> {
+        writeln!(self.trace, "mr 0x{addr:x} {}", bytes.len() / 2)?;
+        writeln!(self.replies, "bytes {bytes}")?;
+        Ok(())
+    }
+
+    /// The host puts bytes, of which the digits are given, into a device that has room for them all.
+    pub fn input(&mut self, dev: u8, bytes: &str) -> Result<(), Fail> {
+        writeln!(self.trace, "in {dev} {bytes}")?;
+        writeln!(self.replies, "accepted {}", bytes.len() / 2)?;
+        Ok(())
+    }
+
+    /// The device with its first pick does this.
+    pub fn step(&mut self, dev: u8, reply: &str) -> Result<(), Fail> {
+        writeln!(self.trace, "s {dev} 0")?;
+        writeln!(self.replies, "{reply}")?;
+        Ok(())
+    }
+
     /// Plays the trace from a file of this name, and compares.
     pub fn plays(self, rt: &(impl Abort + Files + AllocGlobal), file: &str) -> Result<(), Fail> {
         let Scenario { trace, replies } = self;
         answers(rt, file, trace.as_slice(), (0, replies.as_slice(), b""))
     }
+
+    /// Plays the trace by library calls, compares, and gives the machine after it.
+    pub fn machine(self, rt: &(impl Abort + AllocGlobal)) -> Result<Machine<MemDisk>, Fail> {
+        let (machine, _events) = self.machine_and_events(rt)?;
+        Ok(machine)
+    }
+
+    /// Plays the trace by library calls, compares, and gives the machine after it and the events.
+    pub fn machine_and_events(
+        self,
+        rt: &(impl Abort + AllocGlobal),
+    ) -> Result<(Machine<MemDisk>, Vec<Event>), Fail> {
+        let Scenario { trace, replies } = self;
+        let Trace {
+            pages,
+            shapes,
+            events,
+        } = parse(rt.alloc(), trace.as_slice())?;
+        let disks = Vec::new(rt.alloc());
+        let mut machine = Machine::new(rt.alloc(), pages, shapes.as_slice(), disks)?;
+        let mut out: Vec<u8> = Vec::new(rt.alloc());
+        for event in &events {
+            write_reply(&machine.apply(event), &mut out)?;
+        }
+        assert_eq!(rt; out.as_slice(), replies.as_slice());
+        Ok((machine, events))
+    }
+}
+
+/// Applies an event, which has a reply of this line.
+pub fn answer(
+    rt: &(impl Abort + AllocGlobal),
+    machine: &mut Machine<MemDisk>,
+    event: &Event,
+    line: &[u8],
+) -> Result<(), Fail> {
+    let mut out: Vec<u8> = Vec::new(rt.alloc());
+    write_reply(&machine.apply(event), &mut out)?;
+    assert_eq!(rt; out.as_slice(), line);
+    Ok(())
 }
 
 /// Calls the program on a file of this name with this text, and compares its status, its standard output and its
@@ -91,4 +177,14 @@ pub fn answers(
     assert_eq!(rt; err.as_slice(), expected.2, "standard error");
     assert_eq!(rt; status, expected.0);
     Ok(())
+}
+
+/// A word, and then another as often as that.
+pub fn repeated(alloc: Global, word: &str, again: &str, count: usize) -> Result<String, Fail> {
+    let mut text = String::new(alloc);
+    text.push_str(word)?;
+    for _ in 0..count {
+        text.push_str(again)?;
+    }
+    Ok(text)
 }
