@@ -69,8 +69,8 @@ all_named bytes p hs rest0 rest i m b w s =
     let r = reach bytes p s.pages hs rest0 m s.entries b s.by in
     let a = at_rest bytes p s.pages hs rest0 rest i m s.entries r s.by w in
     All-from_get_or (λ (b : Bool). b ≡ true) i.named.items false
-      (λ n lt. let low : n < p = omega (arith, lt, w.now.taken.named_size) in
-        shown_some (get_or i.named.items n false) (page_of i.ram.bytes n) (page_of m.ram n) (sym (w.now.taken.last n low) ∙ ap (last_of n) (sym a.entries) ∙ s.by.last n (omega (arith, low, r.pages))))
+    (λ n lt. let low : n < p = omega (arith, lt, w.now.taken.named_size) in
+    shown_some (get_or i.named.items n false) (page_of i.ram.bytes n) (page_of m.ram n) (sym (w.now.taken.last n low) ∙ ap (last_of n) (sym a.entries) ∙ s.by.last n (omega (arith, low, r.pages))))
 
 pub has_devices : (bytes : List ℕ) (p ram : ℕ) (hs : List Shape) (rest0 rest : List ℕ) (i : Intake) (m : MachineState) → Begins bytes p hs rest0 → WorkedOff p i rest0 rest → (s : IsStream bytes m)
     → ram ≡ length i.ram.bytes → StartsDevices ram hs rest m.devices (end_of s.pages s.entries m.devices)
@@ -114,8 +114,12 @@ pub is_sound : (bytes : List ℕ) (p ram : ℕ) (hs : List Shape) (rest0 rest en
 is_sound bytes p ram hs rest0 rest end ss i b w e are d =
     let count : length ss ≡ length hs = sym (length_shapes ss) ∙ ap length d.shapes_are in
     record {
-      pages = p; whole_pages = w.now.taken.ram_size; some_pages = b.good.some_page; few_pages = b.good.few_pages;
-      some_devices = omega (arith, b.good.some_device, count); few_devices = omega (arith, b.good.few_devices, count);
+      pages = p;
+      whole_pages = w.now.taken.ram_size;
+      some_pages = b.good.some_page;
+      few_pages = b.good.few_pages;
+      some_devices = omega (arith, b.good.some_device, count);
+      few_devices = omega (arith, b.good.few_devices, count);
       devices = All-from_recursion (IsSoundDevice (length i.ram.bytes)) ss (rw e at d.each);
       bytes = are;
       disk_each = rw length-map refl;
@@ -135,14 +139,19 @@ is_received bytes p ram hs rest0 rest end ss i b w named e are d c =
     let front = front_is (before_commit p w.entries ss) end bytes whole in
     record {
       stream = record {
-        pages = p; entries = w.entries;
+        pages = p;
+        entries = w.entries;
         by = record {
-          each = w.now.each; numbered = w.now.numbered;
+          each = w.now.each;
+          numbered = w.now.numbered;
           last = λ n lt. w.now.taken.last n lt ∙ ap (λ (x : Bool). shown x (page_of i.ram.bytes n)) (All-get_or (λ (x : Bool). x ≡ true) i.named.items n false (omega (arith, lt, w.now.taken.named_size)) named);
           sound = is_sound bytes p ram hs rest0 rest end ss i b w e are d;
           pages_are = w.now.taken.ram_size;
-          whole = whole ∙ ap (λ (x : List ℕ). before_commit p w.entries ss ++ x) (c ∙ ap (λ (x : List ℕ). spelled_record (commit (sha256 x))) front) } };
-      rounds_are = sym w.now.rounds_are }
+          whole = whole ∙ ap (λ (x : List ℕ). before_commit p w.entries ss ++ x) (c ∙ ap (λ (x : List ℕ). spelled_record (commit (sha256 x))) front);
+        };
+      };
+      rounds_are = sym w.now.rounds_are;
+    }
 
 pub end_fits : (bytes head texts rest0 rest devs end : List ℕ) → bytes ≡ head ++ rest0 → rest0 ≡ texts ++ rest → rest ≡ devs ++ end → length end ≤ length bytes
 end_fits bytes head texts rest0 rest devs end e f g = omega (arith, ap length e, ap length f, ap length g, length-append head rest0, length-append texts rest, length-append devs end)

@@ -66,7 +66,7 @@ queue_text-of : (bytes : List ℕ) → IsBytes bytes → 36 ≤ length bytes →
 unfolding queue_text queue_of positions_of
 queue_text-of bytes are long flags =
     rw (flag-number (number_at bytes 28 1) flags.ready, flag-number (number_at bytes 29 1) flags.notified, flag-number (number_at bytes 32 1) flags.taking, flag-number (number_at bytes 35 1) flags.used)
-      (spelled-numbers queue_widths 0 bytes are long)
+    (spelled-numbers queue_widths 0 bytes are long)
 
 pub length-queue_text : (q : Queue) (p : Positions) → length (queue_text q p) ≡ 36
 unfolding queue_text
@@ -77,9 +77,25 @@ flag_byte true = omega arith
 flag_byte false = omega arith
 
 queue_fits : (ram_len : ℕ) (packed : Bool) (c : Common) (q : Queue) (p : Positions) → IsSoundQueue ram_len c q → HasPositions packed q p → Fit queue_widths (queue_numbers q p)
-queue_fits ram_len packed c q p sound placed =
-    (sound.fits.size, (sound.fits.descriptors, (sound.fits.driver, (sound.fits.device, (flag_byte q.is_ready, (flag_byte q.is_notified,
-      (placed.taking_fits, (flag_byte p.taking.wrap, (placed.used_fits, (flag_byte p.used.wrap, tt))))))))))
+queue_fits ram_len packed c q p sound placed = (
+  sound.fits.size,
+  (
+    sound.fits.descriptors,
+    (
+      sound.fits.driver,
+      (
+        sound.fits.device,
+        (
+          flag_byte q.is_ready,
+          (
+            flag_byte q.is_notified,
+            (placed.taking_fits, (flag_byte p.taking.wrap, (placed.used_fits, (flag_byte p.used.wrap, tt)))),
+          ),
+        ),
+      ),
+    ),
+  ),
+)
 
 -- The body of an entropy device.
 
@@ -124,7 +140,7 @@ reads_as ram_len c q p pool common_fits queue_fits few =
     let before : length (common_text c ++ queue_text q p) ≡ 62 = omega (arith, length-append (common_text c) (queue_text q p), length-common_text c, length-queue_text q p) in
     let grouped : text ≡ (common_text c ++ queue_text q p) ++ (digits 2 (length pool) ++ pool) = sym (append_assoc (common_text c) (queue_text q p) (held_text pool)) in
     let count : number_at text 62 2 ≡ length pool = ap (λ (k : ℕ). number_at text k 2) (sym before) ∙ ap (λ (x : List ℕ). number_at x (length (common_text c ++ queue_text q p)) 2) grouped
-      ∙ number_at-digits 2 (length pool) (common_text c ++ queue_text q p) pool (omega (arith, few)) in
+    ∙ number_at-digits 2 (length pool) (common_text c ++ queue_text q p) pool (omega (arith, few)) in
     let long : length text ≡ 64 + length pool = omega (arith, length-append (common_text c) after, length-append (queue_text q p) (held_text pool), length-common_text c, length-queue_text q p) in
     record {
       form = record { long = omega (arith, long); flags = rw past_common (flags_of-text q p (held_text pool) queue_fits); pool = omega (arith, long, count) };
@@ -143,9 +159,9 @@ same_device : (d e : DeviceState) → d.shape ≡ e.shape → d.registers.device
     → d.registers.common ≡ e.registers.common → d.registers.queues ≡ e.registers.queues → d.positions ≡ e.positions → d.pool ≡ e.pool → d ≡ e
 same_device d e shape id offered ram_len common queues positions pool =
     let same : ◌≡◌ {A = DeviceState}
-      (record { shape = d.shape; registers = record { device_id = d.registers.device_id; offered = d.registers.offered; ram_len = d.registers.ram_len; common = d.registers.common; queues = d.registers.queues }; positions = d.positions; pool = d.pool })
-      (record { shape = e.shape; registers = record { device_id = e.registers.device_id; offered = e.registers.offered; ram_len = e.registers.ram_len; common = e.registers.common; queues = e.registers.queues }; positions = e.positions; pool = e.pool })
-      = rw (shape, id, offered, ram_len, common, queues, positions, pool) refl in
+    (record { shape = d.shape; registers = record { device_id = d.registers.device_id; offered = d.registers.offered; ram_len = d.registers.ram_len; common = d.registers.common; queues = d.registers.queues }; positions = d.positions; pool = d.pool })
+    (record { shape = e.shape; registers = record { device_id = e.registers.device_id; offered = e.registers.offered; ram_len = e.registers.ram_len; common = e.registers.common; queues = e.registers.queues }; positions = e.positions; pool = e.pool })
+    = rw (shape, id, offered, ram_len, common, queues, positions, pool) refl in
     same
 
 positions_at : (packed : Bool) (qs rs : List Queue) (ps os : List Positions) → qs ≡ rs → ps ≡ os → HavePositions packed qs ps → HavePositions packed rs os
@@ -161,7 +177,8 @@ parts_by ram_len d (q ∷ []) (p ∷ []) e f one shape sound =
     let queues : All (IsSoundQueue d.registers.ram_len d.registers.common) (q ∷ []) = rw e at sound.registers.queues in
     let queue : IsSoundQueue d.registers.ram_len d.registers.common q = queues 0 q (omega arith) in
     record {
-      queue = q; positions = p;
+      queue = q;
+      positions = p;
       is = same_device d (device_with ram_len d.registers.common q p d.pool) shape (sound.device_id ∙ ap device_id_of shape) (sound.offered ∙ ap offered_of shape) sound.ram_len refl e f refl;
       common_fits = common_fits d.registers.offered d.registers.common sound.registers.common;
       queue_fits = queue_fits d.registers.ram_len (is_packed_by d.registers.common) d.registers.common q p queue placed.0;
@@ -177,7 +194,7 @@ body_reads_as ram_len d shape sound =
     let text : body d ≡ common_text c ++ (queue_text parts.queue parts.positions ++ held_text d.pool) = ap body parts.is ∙ body_with ram_len c parts.queue parts.positions d.pool in
     let reads = reads_as ram_len c parts.queue parts.positions d.pool parts.common_fits parts.queue_fits sound.pool_fits in
     subst (λ (x : DeviceState). ReadsAs ram_len (body d) x) (sym parts.is)
-      (subst (λ (x : List ℕ). ReadsAs ram_len x (device_with ram_len c parts.queue parts.positions d.pool)) (sym text) reads)
+    (subst (λ (x : List ℕ). ReadsAs ram_len x (device_with ram_len c parts.queue parts.positions d.pool)) (sym text) reads)
 
 -- The answers of the reader.
 
@@ -229,8 +246,8 @@ bytes_by ram_len Entropy d shape sound =
     let text : body d ≡ common_text c ++ (queue_text parts.queue parts.positions ++ held_text d.pool) = ap body parts.is ∙ body_with ram_len c parts.queue parts.positions d.pool in
     let held = IsBytes-append (digits 2 (length d.pool)) d.pool (IsBytes-digits 2 (length d.pool) (omega (arith, sound.pool_fits))) sound.pool_bytes in
     subst (λ (x : List ℕ). IsBytes x) (sym text)
-      (IsBytes-append (common_text c) (queue_text parts.queue parts.positions ++ held_text d.pool) (common_bytes c parts.common_fits)
-        (IsBytes-append (queue_text parts.queue parts.positions) (held_text d.pool) (queue_bytes parts.queue parts.positions parts.queue_fits) held))
+    (IsBytes-append (common_text c) (queue_text parts.queue parts.positions ++ held_text d.pool) (common_bytes c parts.common_fits)
+    (IsBytes-append (queue_text parts.queue parts.positions) (held_text d.pool) (queue_bytes parts.queue parts.positions parts.queue_fits) held))
 
 pub body_bytes : (ram_len : ℕ) (d : DeviceState) → IsSoundDevice ram_len d → IsBytes (body d)
 body_bytes ram_len d sound = bytes_by ram_len d.shape d refl sound

@@ -136,8 +136,8 @@ device_begins rest b d n are long e f room g =
     let head : spelled device_widths (d ∷ length b ∷ []) ≡ take 5 rest = two_same e (many ∙ f) ∙ five in
     let past : drop (5 + n) rest ≡ drop n (drop 5 rest) = sym (drop-drop n 5 rest) in
     let parts : rest ≡ spelled device_widths (d ∷ length b ∷ []) ++ (b ++ drop (5 + n) rest) =
-      sym (take-append-drop 5 rest) ∙ ap (λ (x : List ℕ). x ++ drop 5 rest) (sym head)
-      ∙ ap (λ (x : List ℕ). spelled device_widths (d ∷ length b ∷ []) ++ x) (sym (take-append-drop n (drop 5 rest)) ∙ rw (g, past) refl) in
+    sym (take-append-drop 5 rest) ∙ ap (λ (x : List ℕ). x ++ drop 5 rest) (sym head)
+    ∙ ap (λ (x : List ℕ). spelled device_widths (d ∷ length b ∷ []) ++ x) (sym (take-append-drop n (drop 5 rest)) ∙ rw (g, past) refl) in
     let low : n < 2 ^ 32 = rw f (number_at-fits 4 1 rest are) in
     let skip : drop (6 + n) (4 ∷ rest) ≡ drop (5 + n) rest = let m : 6 + n ≡ suc (5 + n) = omega arith in rw m refl in
     record {
@@ -204,8 +204,8 @@ good_begins rest b d n m are long e f g one room is =
     let many : length b ≡ 512 = omega (arith, ap length is, length-take 512 (drop 6 rest), room) in
     let past : drop 518 rest ≡ drop 512 (drop 6 rest) = sym (drop-drop 512 6 rest) in
     let parts : rest ≡ spelled sector_widths (d ∷ n ∷ 1 ∷ []) ++ (b ++ drop 518 rest) =
-      sector_head rest d n 1 are long e f (sym one ∙ g)
-      ∙ ap (λ (x : List ℕ). spelled sector_widths (d ∷ n ∷ 1 ∷ []) ++ x) (sym (take-append-drop 512 (drop 6 rest)) ∙ rw (is, past) refl) in
+    sector_head rest d n 1 are long e f (sym one ∙ g)
+    ∙ ap (λ (x : List ℕ). spelled sector_widths (d ∷ n ∷ 1 ∷ []) ++ x) (sym (take-append-drop 512 (drop 6 rest)) ∙ rw (is, past) refl) in
     record {
       spells = (rw e (number_at-fits 1 0 rest are), rw f (number_at-fits 4 1 rest are), many, rw is (IsBytes-take 512 (drop 6 rest) (IsBytes-drop 6 rest are)));
       long = omega (arith, many);

@@ -97,7 +97,8 @@ no_body ram_len number shape bytes raw rest low here none d after is =
 
 pub starts : (ram_len number : ℕ) (shape : Shape) (bytes raw rest : List ℕ) (d : DeviceState) → IsRawDevice number bytes raw rest → IsBodyOf shape ram_len raw d → StartsDevice ram_len number shape bytes d rest
 starts ram_len number shape bytes raw rest d here is = record {
-  shape_is = is.shape_is; sound = is.sound;
+  shape_is = is.shape_is;
+  sound = is.sound;
   whole = here.whole ∙ ap (λ (x : List ℕ). spelled_record (device number x) ++ rest) is.is;
 }
 
@@ -123,8 +124,8 @@ one_more ram_len n shapes shape bytes rest after ds d below next h k =
       shapes_are = shapes-snoc ds d ∙ ap (λ (x : List Shape). x ++ d.shape ∷ []) h.shapes_are ∙ ap (λ (x : Shape). take n shapes ++ x ∷ []) k.shape_is ∙ sym next;
       each = each-snoc ram_len ds d h.each k.sound;
       whole =
-        h.whole ∙ ap (λ (x : List ℕ). device_texts 0 ds ++ x) k.whole ∙ sym (append_assoc (device_texts 0 ds) (spelled_record (device n (body d))) after)
-        ∙ ap (λ (x : List ℕ). x ++ after) (sym (device_texts-snoc 0 ds d ∙ ap (λ (m : ℕ). device_texts 0 ds ++ spelled_record (device m (body d))) count));
+          h.whole ∙ ap (λ (x : List ℕ). device_texts 0 ds ++ x) k.whole ∙ sym (append_assoc (device_texts 0 ds) (spelled_record (device n (body d))) after)
+          ∙ ap (λ (x : List ℕ). x ++ after) (sym (device_texts-snoc 0 ds d ∙ ap (λ (m : ℕ). device_texts 0 ds ++ spelled_record (device m (body d))) count));
     }
 
 -- No device more.
@@ -148,7 +149,7 @@ no_first ram_len n shapes others shape rest x ds ts [] below here had has all ea
 no_first ram_len n shapes others shape rest x ds ts (t ∷ more) below here had has all each left none =
     let count : 0 + length ds ≡ n = omega (arith, sym (length_shapes ds), ap length had, length-take n shapes, below) in
     let shown : take n shapes ++ shapes_in (t ∷ more) ≡ take n shapes ++ (shape ∷ others) =
-      ap (λ (x : List Shape). x ++ shapes_in (t ∷ more)) (sym had) ∙ sym (shapes-append ds (t ∷ more)) ∙ ap shapes_in (sym all) ∙ has ∙ sym (take-append-drop n shapes) ∙ ap (λ (x : List Shape). take n shapes ++ x) here in
+    ap (λ (x : List Shape). x ++ shapes_in (t ∷ more)) (sym had) ∙ sym (shapes-append ds (t ∷ more)) ∙ ap shapes_in (sym all) ∙ has ∙ sym (take-append-drop n shapes) ∙ ap (λ (x : List Shape). take n shapes ++ x) here in
     let same = split_same (take n shapes) (take n shapes) (shapes_in (t ∷ more)) (shape ∷ others) refl shown in
     none t (device_texts (n + 1) more ++ x) (record {
       shape_is = first_shape same.1;

@@ -75,7 +75,7 @@ digits-number_at w bytes at are within =
     let read : little_from 0 w (digits w n) ≡ n = rw append-nil at back in
     let taken : little_from 0 w (take w xs) ≡ n = little_from-take 0 w w xs (omega arith) in
     same_bytes (digits w n) (take w xs) (IsBytes-digits w n fits) (IsBytes-take w xs are_xs) (long_digits ∙ sym long)
-      (ap (λ k. little_from 0 k (digits w n)) long_digits ∙ read ∙ sym taken ∙ ap (λ k. little_from 0 k (take w xs)) (sym long))
+    (ap (λ k. little_from 0 k (digits w n)) long_digits ∙ read ∙ sym taken ∙ ap (λ k. little_from 0 k (take w xs)) (sym long))
 
 pub number_at-fits : (w at : ℕ) (bytes : List ℕ) → IsBytes bytes → number_at bytes at w < 256 ^ w
 unfolding number_at

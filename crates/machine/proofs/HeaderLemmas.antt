@@ -87,7 +87,7 @@ shapes_read (suc n) bytes found e =
     let others = shapes_read n a.0.1 b.0 b.1 in
     let regroup : spelled_shape a.0.0 ++ (spelled_shapes b.0.0 ++ b.0.1) ≡ spelled_shapes (a.0.0 ∷ b.0.0) ++ b.0.1 = sym (append_assoc (spelled_shape a.0.0) (spelled_shapes b.0.0) b.0.1) in
     subst (λ (y : List Shape × List ℕ). WereShapes (suc n) bytes y) b.2
-      (record { count = ap suc others.count; whole = first ∙ ap (λ (x : List ℕ). spelled_shape a.0.0 ++ x) others.whole ∙ regroup })
+    (record { count = ap suc others.count; whole = first ∙ ap (λ (x : List ℕ). spelled_shape a.0.0 ++ x) others.whole ∙ regroup })
 
 abbrev head_widths : List ℕ
 head_widths = 4 ∷ 4 ∷ 4 ∷ 4 ∷ []
@@ -114,7 +114,10 @@ head_says pages count rest few_pages few_devices =
     let nth = λ (k : ℕ). ap (λ (ns : List ℕ). get_or ns k 0) read in
     record {
       long = omega (arith, length-append (spelled head_widths (head_numbers pages count)) rest, length-spelled head_widths (head_numbers pages count) fits);
-      magic = nth 0; version = nth 1; pages_are = nth 2; count_is = nth 3;
+      magic = nth 0;
+      version = nth 1;
+      pages_are = nth 2;
+      count_is = nth 3;
     }
 
 four_same : {a b c d m n o p : ℕ} → a ≡ m → b ≡ n → c ≡ o → d ≡ p → spelled head_widths (a ∷ b ∷ c ∷ d ∷ []) ≡ spelled head_widths (m ∷ n ∷ o ∷ p ∷ [])
@@ -132,7 +135,7 @@ unfolding header_of
 header_of-spelled bytes pages shapes rest begins =
     let good = begins.good in
     let same : bytes ≡ spelled head_widths (head_numbers pages (length shapes)) ++ (spelled_shapes shapes ++ rest) =
-      begins.whole ∙ append_assoc (front pages (length shapes)) (spelled_shapes shapes) rest ∙ ap (λ (x : List ℕ). x ++ (spelled_shapes shapes ++ rest)) (head_spelled pages (length shapes)) in
+    begins.whole ∙ append_assoc (front pages (length shapes)) (spelled_shapes shapes) rest ∙ ap (λ (x : List ℕ). x ++ (spelled_shapes shapes ++ rest)) (head_spelled pages (length shapes)) in
     let says = rw (← same) at (head_says pages (length shapes) (spelled_shapes shapes ++ rest) good.few_pages good.few_devices) in
     let after : drop 16 bytes ≡ spelled_shapes shapes ++ rest = ap (drop 16) same in
     let long : nat_lt (length bytes) 16 ≡ false = le-ltb _ _ says.long in
@@ -179,10 +182,10 @@ spelled-header_of bytes found are e =
       few_devices = omega (arith, few_devices, shapes.count);
     } in
     let whole : bytes ≡ header (number_at bytes 8 4) read.0.0 ++ read.0.1 =
-      head_written bytes (number_at bytes 8 4) (number_at bytes 12 4) are says
-      ∙ ap (λ (n : ℕ). front (number_at bytes 8 4) n ++ drop 16 bytes) (sym shapes.count)
-      ∙ ap (λ (x : List ℕ). front (number_at bytes 8 4) (length read.0.0) ++ x) shapes.whole
-      ∙ sym (append_assoc (front (number_at bytes 8 4) (length read.0.0)) (spelled_shapes read.0.0) read.0.1) in
+    head_written bytes (number_at bytes 8 4) (number_at bytes 12 4) are says
+    ∙ ap (λ (n : ℕ). front (number_at bytes 8 4) n ++ drop 16 bytes) (sym shapes.count)
+    ∙ ap (λ (x : List ℕ). front (number_at bytes 8 4) (length read.0.0) ++ x) shapes.whole
+    ∙ sym (append_assoc (front (number_at bytes 8 4) (length read.0.0)) (spelled_shapes read.0.0) read.0.1) in
     subst (λ (y : ℕ × List Shape × List ℕ). Begins bytes y.0 y.1 y.2) read.2 (record { good = good; whole = whole })
 
 pub no_header : (bytes : List ℕ) → header_of bytes ≡ None → (pages : ℕ) (shapes : List Shape) (rest : List ℕ) → ¬ (Begins bytes pages shapes rest)

@@ -39,7 +39,7 @@ first_more (y ∷ ys) (suc n) x below is =
 pub shape_more : (x : List ℕ) (shapes : List Shape) (s : Shape) (n : ℕ) → n < length shapes → s ≡ get_or shapes n s → (x ++ spelled_shapes (take n shapes)) ++ spelled_shape s ≡ x ++ spelled_shapes (take (n + 1) shapes)
 shape_more x shapes s n below is =
     let one : spelled_shapes (take (n + 1) shapes) ≡ spelled_shapes (take n shapes) ++ spelled_shape s =
-      ap spelled_shapes (first_more shapes n s below is) ∙ flat_map-append spelled_shape (take n shapes) (s ∷ []) ∙ ap (λ (t : List ℕ). spelled_shapes (take n shapes) ++ t) (append-nil (spelled_shape s)) in
+    ap spelled_shapes (first_more shapes n s below is) ∙ flat_map-append spelled_shape (take n shapes) (s ∷ []) ∙ ap (λ (t : List ℕ). spelled_shapes (take n shapes) ++ t) (append-nil (spelled_shape s)) in
     rw one (append_assoc x (spelled_shapes (take n shapes)) (spelled_shape s))
 
 pub no_devices : (x : List ℕ) → x ++ device_texts 0 [] ≡ x
@@ -52,7 +52,7 @@ device_more x ds shapes d n are within is =
     let below : n < length ds = omega (arith, within, ap length are, length_shapes ds) in
     let long : 0 + length (take n ds) ≡ n = omega (arith, length-take n ds) in
     let one : device_texts 0 (take (n + 1) ds) ≡ device_texts 0 (take n ds) ++ spelled_record (device n (body d)) =
-      ap (device_texts 0) (first_more ds n d below is) ∙ device_texts-snoc 0 (take n ds) d ∙ ap (λ (k : ℕ). device_texts 0 (take n ds) ++ spelled_record (device k (body d))) long in
+    ap (device_texts 0) (first_more ds n d below is) ∙ device_texts-snoc 0 (take n ds) d ∙ ap (λ (k : ℕ). device_texts 0 (take n ds) ++ spelled_record (device k (body d))) long in
     rw one (append_assoc x (device_texts 0 (take n ds)) (spelled_record (device n (body d))))
 
 length_queues : (qs : List Queue) (ps : List Positions) → length ps ≡ length qs → length (queues_text qs ps) ≡ 36 * length ps
@@ -65,5 +65,11 @@ length_queues (q ∷ qs) (p ∷ ps) e =
 pub length_body : (d : DeviceState) → length d.positions ≡ length d.registers.queues → d.shape ≡ Entropy → length (body d) ≡ 26 + 36 * length d.positions + (2 + length d.pool)
 length_body d each shape =
     let own : body d ≡ common_text d.registers.common ++ (queues_text d.registers.queues d.positions ++ held_text d.pool) = rw shape refl in
-    omega (arith, ap length own, length-append (common_text d.registers.common) (queues_text d.registers.queues d.positions ++ held_text d.pool), length-append (queues_text d.registers.queues d.positions) (held_text d.pool),
-      length-common_text d.registers.common, length_queues d.registers.queues d.positions each)
+    omega (
+      arith,
+      ap length own,
+      length-append (common_text d.registers.common) (queues_text d.registers.queues d.positions ++ held_text d.pool),
+      length-append (queues_text d.registers.queues d.positions) (held_text d.pool),
+      length-common_text d.registers.common,
+      length_queues d.registers.queues d.positions each,
+    )

@@ -33,18 +33,18 @@ page_put_other ram b i n le e other =
     let len : length (take (4096 * i) ram) ≡ 4096 * i = omega (arith, length-take (4096 * i) ram, le) in
     elim (cases_lt n i) [
       | inl lt ↦
-        let room : 4096 * n + 4096 ≤ length (take (4096 * i) ram) = omega (arith, len, lt) in
-        low_page (take (4096 * i) ram) (b ++ drop (4096 * i + 4096) ram) (4096 * n) room
-        ∙ sym (low_page (take (4096 * i) ram) (drop (4096 * i) ram) (4096 * n) room)
-        ∙ ap (λ (x : List ℕ). take 4096 (drop (4096 * n) x)) (take-append-drop (4096 * i) ram)
+          let room : 4096 * n + 4096 ≤ length (take (4096 * i) ram) = omega (arith, len, lt) in
+          low_page (take (4096 * i) ram) (b ++ drop (4096 * i + 4096) ram) (4096 * n) room
+          ∙ sym (low_page (take (4096 * i) ram) (drop (4096 * i) ram) (4096 * n) room)
+          ∙ ap (λ (x : List ℕ). take 4096 (drop (4096 * n) x)) (take-append-drop (4096 * i) ram)
       | inr ge ↦
-        let above : 4096 * i + 4096 ≤ 4096 * n = omega (arith, ge, other) in
-        let len2 : length (take (4096 * i) ram ++ b) ≡ 4096 * i + 4096 = omega (arith, len, e, length-append (take (4096 * i) ram) b) in
-        let len3 : length (take (4096 * i + 4096) ram) ≡ 4096 * i + 4096 = omega (arith, length-take (4096 * i + 4096) ram, le) in
-        let a = high_page (take (4096 * i) ram ++ b) (drop (4096 * i + 4096) ram) (4096 * i + 4096) (4096 * n) len2 above in
-        let z = high_page (take (4096 * i + 4096) ram) (drop (4096 * i + 4096) ram) (4096 * i + 4096) (4096 * n) len3 above in
-        ap (λ (x : List ℕ). take 4096 (drop (4096 * n) x)) (sym (append_assoc (take (4096 * i) ram) b (drop (4096 * i + 4096) ram)))
-        ∙ ap (take 4096) (a ∙ sym z ∙ ap (drop (4096 * n)) (take-append-drop (4096 * i + 4096) ram))
+          let above : 4096 * i + 4096 ≤ 4096 * n = omega (arith, ge, other) in
+          let len2 : length (take (4096 * i) ram ++ b) ≡ 4096 * i + 4096 = omega (arith, len, e, length-append (take (4096 * i) ram) b) in
+          let len3 : length (take (4096 * i + 4096) ram) ≡ 4096 * i + 4096 = omega (arith, length-take (4096 * i + 4096) ram, le) in
+          let a = high_page (take (4096 * i) ram ++ b) (drop (4096 * i + 4096) ram) (4096 * i + 4096) (4096 * n) len2 above in
+          let z = high_page (take (4096 * i + 4096) ram) (drop (4096 * i + 4096) ram) (4096 * i + 4096) (4096 * n) len3 above in
+          ap (λ (x : List ℕ). take 4096 (drop (4096 * n) x)) (sym (append_assoc (take (4096 * i) ram) b (drop (4096 * i + 4096) ram)))
+          ∙ ap (take 4096) (a ∙ sym z ∙ ap (drop (4096 * n)) (take-append-drop (4096 * i + 4096) ram))
     ]
 
 shown_at : (c : Bool) (i n : ℕ) (ram b : List ℕ) (named : List Bool) (last : Option (List ℕ)) → nat_eq i n ≡ c → 4096 * i + 4096 ≤ length ram → i < length named → length b ≡ 4096
@@ -61,7 +61,7 @@ pub taken_page : (ram b : List ℕ) (named : List Bool) (pages i : ℕ) (es : Li
 taken_page ram b named pages i es h le lt e = record {
   ram_size = omega (arith, h.ram_size, le, e, length-append (take (4096 * i) ram) (b ++ drop (4096 * i + 4096) ram), length-append b (drop (4096 * i + 4096) ram), length-take (4096 * i) ram, length-drop (4096 * i + 4096) ram);
   named_size = simp length-set h.named_size;
-  last = λ n k. last-snoc n es (page i b) ∙ shown_at (nat_eq i n) i n ram b named (last_of n es) refl le lt e (h.last n k)
+  last = λ n k. last-snoc n es (page i b) ∙ shown_at (nat_eq i n) i n ram b named (last_of n es) refl le lt e (h.last n k);
 }
 
 pub rounds_page : (es : List Record) (i : ℕ) (b : List ℕ) → rounds (es ++ page i b ∷ []) ≡ rounds es
@@ -100,7 +100,6 @@ taken_round ram named pages k es h = record { ram_size = h.ram_size; named_size 
 pub new_taken : (ram : List ℕ) (named : List Bool) (pages : ℕ) → length ram ≡ 4096 * pages → named ≡ replicate pages false → AreTaken ram named pages []
 unfolding last_of
 new_taken ram named pages e f = rw f (record { ram_size = e; named_size = length-replicate pages false; last = λ n lt. rw (get_or-replicate pages n false false lt) refl })
-
 
 -- What may stand at the front.
 

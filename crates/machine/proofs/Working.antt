@@ -23,7 +23,7 @@ pub one_entry : (pages : ℕ) (i : Intake) (es : List Record) (bytes rest : List
 one_entry pages i es bytes rest len e h = record {
   entries = es ++ h.entry ∷ [];
   now = h.now;
-  whole = e ∙ ap (λ (x : List ℕ). texts es ++ x) h.whole ∙ sym (append_assoc (texts es) (spelled_record h.entry) (drop len rest)) ∙ ap (λ (x : List ℕ). x ++ drop len rest) (sym (texts-snoc es h.entry))
+  whole = e ∙ ap (λ (x : List ℕ). texts es ++ x) h.whole ∙ sym (append_assoc (texts es) (spelled_record h.entry) (drop len rest)) ∙ ap (λ (x : List ℕ). x ++ drop len rest) (sym (texts-snoc es h.entry));
 }
 
 numbered_rest : (k : ℕ) (es more : List Record) → AreNumbered k (es ++ more) → AreNumbered (rounds es + k) more
@@ -53,8 +53,12 @@ never pages i bytes rest h none fs y c =
     none g.more y g.continues
 
 pub at_end : (pages : ℕ) (i : Intake) (bytes rest : List ℕ) → SoFar pages i bytes rest → length rest ≡ 0 → WorkedOff pages i bytes rest
-at_end pages i bytes rest h e = record { entries = h.entries; now = h.now; whole = h.whole;
-  stops = λ k more y c. absurd (omega (arith, e, ap length c.whole, length-append (texts more) (4 ∷ y))) }
+at_end pages i bytes rest h e = record {
+  entries = h.entries;
+  now = h.now;
+  whole = h.whole;
+  stops = λ k more y c. absurd (omega (arith, e, ap length c.whole, length-append (texts more) (4 ∷ y)));
+}
 
 pub stopped : (pages : ℕ) (i j : Intake) (bytes rest : List ℕ) (h : SoFar pages i bytes rest) → HasTaken pages j h.entries → ((k : ℕ) (more : List Record) (y : List ℕ) → Continues pages k rest more y → more ≡ [])
     → WorkedOff pages j bytes rest

@@ -43,6 +43,6 @@ pub use shape::Shape;
 pub use state::DeviceState;
 pub use wire::{
     DecodeError, Header, MigError, Record, RecvError, Sink, SinkFault, WriteSink, decode_device,
-    decode_header, decode_record, encode_commit, encode_device, encode_header, encode_page, receive,
-    save,
+    decode_header, decode_record, encode_commit, encode_device, encode_header, encode_page,
+    receive, save,
 };

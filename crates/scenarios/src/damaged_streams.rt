@@ -77,18 +77,18 @@ fn every_changed_byte_is_refused(rt: HostRuntime) -> Result<(), Fail> {
     let mut stream = fresh_stream(rt.alloc())?;
     for offset in 0..4221usize {
         flip(&mut stream, offset);
-        assert_eq!(rt; refusal(rt.alloc(), stream.as_slice()), refusal_at(offset), "byte {offset}");
+        assert_eq!(rt;
+            refusal(rt.alloc(), stream.as_slice()),
+            refusal_at(offset),
+            "byte {offset}"
+        );
         flip(&mut stream, offset);
     }
     Ok(())
 }
 
 /// The refusal of the header with these bytes behind it.
-fn refused(
-    rt: &(impl Abort + AllocGlobal),
-    records: &[&[u8]],
-    code: u8,
-) -> Result<(), Fail> {
+fn refused(rt: &(impl Abort + AllocGlobal), records: &[&[u8]], code: u8) -> Result<(), Fail> {
     let stream = begun(rt.alloc(), records)?;
     assert_eq!(rt; refusal(rt.alloc(), stream.as_slice()), code);
     Ok(())

@@ -8,6 +8,8 @@
 #[cfg(test)]
 mod bytes_of_a_chain;
 #[cfg(test)]
+mod checked_streams;
+#[cfg(test)]
 mod damaged_streams;
 #[cfg(test)]
 mod end_of_ram;

@@ -98,11 +98,12 @@ fn registers_that_accesses_brought_about(rt: HostRuntime) -> Result<(), Fail> {
     let stream = saved(rt.alloc(), &mut machine)?;
     let body = stream.get(4124..4188).ok_or("too short")?;
     let common = [
-        0x0f, 0, 0x0d, 0x0c, 0x0b, 0x0a, 1, 0, 0, 0, 0, 0, 0, 0x30, 1, 0, 0, 0, 0, 0, 0, 0, 0, 0, 0, 0,
+        0x0f, 0, 0x0d, 0x0c, 0x0b, 0x0a, 1, 0, 0, 0, 0, 0, 0, 0x30, 1, 0, 0, 0, 0, 0, 0, 0, 0, 0,
+        0, 0,
     ];
     let queue = [
-        8, 0, 0, 0, 0, 0, 0, 0, 0, 0, 0, 0, 0, 1, 0, 0, 0, 0, 0, 0, 0, 2, 0, 0, 0, 0, 0, 0, 1, 1, 0, 0, 1,
-        0, 0, 1, 0, 0,
+        8, 0, 0, 0, 0, 0, 0, 0, 0, 0, 0, 0, 0, 1, 0, 0, 0, 0, 0, 0, 0, 2, 0, 0, 0, 0, 0, 0, 1, 1,
+        0, 0, 1, 0, 0, 1, 0, 0,
     ];
     assert_eq!(rt; body.get(..26), Some(common.as_slice()));
     assert_eq!(rt; body.get(26..), Some(queue.as_slice()));

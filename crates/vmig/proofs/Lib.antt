@@ -8,3 +8,4 @@ pub mod HexText
 pub mod OneReading
 pub mod AllReplies
 pub mod TakenWords
+pub mod Refused

@@ -6,5 +6,6 @@ pub mod Reading
 pub mod Replies
 pub mod Laws
 pub mod Words
+pub mod Commands
 pub mod Status
 pub mod Run

@@ -1,18 +1,20 @@
 -- What the program does with the text of a trace.
-use Rattle.std.specs.Prelude.{◌≡◌, ℕ, List, map, flat_map, Option, Some}
+use Rattle.std.specs.Prelude.{◌≡◌, ◌⊎◌, ◌/◌, ◌++◌, ℕ, true, List, length, map, flat_map, codes, decimal, Option, Some}
 use Rattle.std.specs.Io.KnownBytes.{Appends}
 use Rattle.machine.specs.State.{MachineState}
 use Rattle.machine.specs.First.{first_machine, new_refusal}
 use Rattle.machine.specs.Step.{outcome_of}
 use Rattle.machine.specs.Run.{IsRun}
+use Rattle.machine.specs.Receiving.{IsReceived, IsNoStream}
 use Rattle.machine.specs.Refusal.{new_code_of}
 use Rattle.machine.specs.declared.new_error.NewError.{NewError}
 use Rattle.machine.specs.declared.reply.Reply.{Reply}
 use Rattle.vmig.specs.declared.program.Fault.{Fault}
-use Rattle.vmig.specs.declared.program.Fault.TheVariants.{NoMemory, File, Line, Shape}
+use Rattle.vmig.specs.declared.program.Fault.TheVariants.{NoMemory, File, Line, Shape, Stream}
 use Rattle.vmig.specs.declared.trace.TraceError.TheVariants as error
 use Rattle.vmig.specs.Trace.{Contents, IsTrace, Refuses}
-use Rattle.vmig.specs.Replies.{reply_line}
+use Rattle.vmig.specs.Replies.{reply_line, newline}
+use Rattle.vmig.specs.Words.{is_run_line, is_check_line}
 
 -- These are replies of a fresh machine of the trace's shape to its events, each event with the outcome of its reply.
 pub record AreReplies (c : Contents) (replies : List Reply) : Type 0 where
@@ -51,3 +53,30 @@ TellsOfText text (File name) = Unit {0}
 TellsOfText text (Line number) = Refuses text (error.Line number)
 TellsOfText text (Shape code) = (c : Contents) × IsTrace text c × IsRefusedShape c code
 TellsOfText text _ = ⊥
+
+-- The line of a stream that was checked: the pages and the devices of its machine, and how many rounds ended in it.
+abbrev pub checked_line : MachineState → ℕ → List ℕ
+checked_line m rounds = codes "ok " ++ decimal (length m.ram / 4096) ++ codes " " ++ decimal (length m.devices) ++ codes " " ++ decimal rounds ++ newline
+
+-- The bytes are the stream of a machine, and its line was written.
+pub record IsChecked (bytes : List ℕ) (old new : Option (List ℕ)) : Type 0 where
+  pub machine : MachineState
+  pub rounds : ℕ
+  pub received : IsReceived bytes machine rounds
+  pub written : Appends old new (checked_line machine rounds)
+
+-- The line of some stream was written.
+pub record HasChecked (old new : Option (List ℕ)) : Type 0 where
+  pub bytes : List ℕ
+  pub checked : IsChecked bytes old new
+
+-- What was asked for was done.
+abbrev pub HasDone : List (List ℕ) → Option (List ℕ) → Option (List ℕ) → Type 0
+HasDone words old new = ((is_run_line words ≡ true) × HasPlayed old new) ⊎ ((is_check_line words ≡ true) × HasChecked old new)
+
+-- What a fault says of the bytes of a stream. Memory and standard output may fail at any.
+abbrev pub TellsOfStream : List ℕ → Fault → Type 0
+TellsOfStream bytes NoMemory = Unit {0}
+TellsOfStream bytes (File name) = Unit {0}
+TellsOfStream bytes (Stream code) = IsNoStream bytes 0
+TellsOfStream bytes _ = ⊥

@@ -1,11 +1,12 @@
 //! One run of the program, by its words.
 
-ghost use Rattle.std.specs.Prelude.{◌≡◌, ◌↔◌, ◌≤◌, ◌++◌, true, OnOk, OnErr, IfOk, IfErr, map, flat_map, false};
+ghost use Rattle.std.specs.Prelude.{◌≡◌, ◌↔◌, ◌≤◌, ◌++◌, true, OnOk, OnErr, IfOk, IfErr, map, flat_map, false, ℕ, List};
 ghost use Rattle.std.specs.Io.KnownBytes.{Appends};
 ghost use Rattle.vmig.specs.Words.{is_program_line};
 ghost use Rattle.vmig.specs.Status.{status_of, IsPastWords};
 ghost use Rattle.vmig.specs.Trace.{contents_of};
-ghost use Rattle.vmig.specs.Run.{AreReplies, IsPlayed, HasPlayed, TellsOfTrace, TellsOfText};
+ghost use Rattle.vmig.specs.Run.{AreReplies, IsPlayed, HasPlayed, IsChecked, HasChecked, HasDone, TellsOfTrace, TellsOfText, TellsOfStream};
+ghost use Rattle.machine.specs.Receiving.{Refuses, IsNoStream};
 ghost use Rattle.vmig.specs.Replies.{reply_line, AppendsBeginning};
 ghost use Rattle.vmig.specs.declared.program.Fault.TheVariants.{Usage};
 
@@ -13,8 +14,9 @@ use crate::put::WriteFault;
 use crate::reading::parse;
 use crate::trace::{Trace, TraceError};
 use crate::words::{Request, WordsError, read_words};
-use crate::writing::write_reply;
-use machine::{Machine, MemDisk, NewError, Reply};
+use crate::writing::{write_checked, write_reply};
+use guestmem::PAGE_SIZE;
+use machine::{Machine, MemDisk, NewError, RecvError, Reply, receive};
 use std::alloc::Global;
 use std::io::Write;
 use std::rt::Files;
@@ -40,23 +42,28 @@ enum Fault<'a> {
 
     /// The refusal of a machine of this shape, by its number.
     Shape(u8),
+
+    /// The refusal of a stream, by its number.
+    Stream(u8),
 }
 
-/// Runs the program on the words after its name: `run TRACE` plays the trace in a file, and writes one line a reply.
+/// Runs the program on the words after its name. `run TRACE` plays the trace in a file, and writes one line a reply.
+/// `check STREAM` reads the stream of a machine in a file, and writes `ok P D R`: its pages, its devices, and how many
+/// rounds ended in it.
 ///
 /// It answers the exit status, and writes what it stands for to `err`: 0 nothing; 1 `vmig: memory`; 2 `vmig: usage`;
-/// 3 `vmig: file NAME`, where NAME is `-` for standard output; 4 `vmig: trace line N` or `vmig: shape K`. Faults are
-/// looked for in this order: the words, the trace's file, its lines, its shape. `out` is flushed before the status is
-/// known.
+/// 3 `vmig: file NAME`, where NAME is `-` for standard output; 4 `vmig: trace line N` or `vmig: shape K`;
+/// 5 `vmig: stream K`. Faults are looked for in this order: the words, the file, what it holds, and then its shape.
+/// `out` is flushed before the status is known.
 pub fn execute<R: Files + AllocGlobal, O: Write, E: Write>(
     rt: &R,
     words: &[&str],
     out: &mut O,
     err: &mut E,
 ) -> u8
-    ensures status { result ≤ 4 }
+    ensures status { result ≤ 5 }
     ensures usage { result ≡ 2 ↔ is_program_line (map (λ word. word.now) words.now) ≡ false }
-    ensures played { result ≡ 0 → HasPlayed (O.contents out.old) (O.contents out.new) }
+    ensures done { result ≡ 0 → HasDone (map (λ word. word.now) words.now) (O.contents out.old) (O.contents out.new) }
 {
     match run(rt, words, out) {
         Ok(()) => 0,
@@ -75,6 +82,7 @@ fn tell<E: Write>(fault: Fault<'_>, err: &mut E) -> u8
         Fault::File(name) => told(3, writeln!(err, "vmig: file {name}")),
         Fault::Line(number) => told(4, writeln!(err, "vmig: trace line {number}")),
         Fault::Shape(refusal) => told(4, writeln!(err, "vmig: shape {refusal}")),
+        Fault::Stream(refusal) => told(5, writeln!(err, "vmig: stream {refusal}")),
     }
 }
 
@@ -91,10 +99,11 @@ fn run<'a, R: Files + AllocGlobal, O: Write>(
 ) -> Result<(), Fault<'a>>
     ensures usage { is_program_line (map (λ word. word.now) words.entry.now) ≡ false → result ≡ Err Usage }
     ensures known { is_program_line (map (λ word. word.now) words.entry.now) ≡ true → IfErr result IsPastWords }
-    ensures played { OnOk result (HasPlayed (O.contents out.old) (O.contents out.new)) }
+    ensures done { OnOk result (HasDone (map (λ word. word.now) words.entry.now) (O.contents out.old) (O.contents out.new)) }
 {
     match read_words(rt.alloc(), words) {
         Ok(Request::Run { trace }) => run_trace(rt, trace, out),
+        Ok(Request::Check { stream }) => check_stream(rt, stream, out),
         Err(WordsError::Usage) => Err(Fault::Usage),
         Err(WordsError::NoMemory) => Err(Fault::NoMemory),
     }
@@ -113,6 +122,51 @@ fn run_trace<'a, R: Files + AllocGlobal, O: Write>(
         Ok(text) => play_text(rt.alloc(), text.as_slice(), out),
         Err(fault) => Err(fault),
     }
+}
+
+/// Checks the stream in the file of this name.
+fn check_stream<'a, R: Files + AllocGlobal, O: Write>(
+    rt: &R,
+    name: &'a str,
+    out: &mut O,
+) -> Result<(), Fault<'a>>
+    ensures past { IfErr result IsPastWords }
+    ensures checked { OnOk result (HasChecked (O.contents out.old) (O.contents out.new)) }
+{
+    match read_file(rt, name) {
+        Ok(bytes) => check_bytes(rt.alloc(), bytes.as_slice(), out),
+        Err(fault) => Err(fault),
+    }
+}
+
+/// Reads the stream of a machine, and writes its line.
+fn check_bytes<O: Write>(alloc: Global, bytes: &[u8], out: &mut O) -> Result<(), Fault<'static>>
+    ensures ok { OnOk result (IsChecked bytes.now (O.contents out.old) (O.contents out.new)) }
+    ensures err { IfErr result (TellsOfStream bytes.now) }
+    ensures past { IfErr result IsPastWords }
+{
+    let disks: Vec<MemDisk> = Vec::new(alloc);
+    let (machine, rounds) = match receive(alloc, bytes, disks) {
+        Ok(received) => received,
+        Err(refusal) => return Err(stream_fault(refusal)),
+    };
+    let pages = machine.ram().len() / PAGE_SIZE as u64;
+    let devices = machine.shapes().len();
+    if write_checked(out, pages as u32, devices as u32, rounds).is_err() || out.flush().is_err() {
+        return Err(Fault::File(STANDARD_OUTPUT));
+    }
+    Ok(())
+}
+
+/// What the refusal of a stream is to the program.
+fn stream_fault(refusal: RecvError) -> Fault<'static>
+    ensures tells { (bytes : List ℕ) → Refuses refusal (IsNoStream bytes 0) → TellsOfStream bytes result }
+    ensures past { IsPastWords result }
+{
+    if refusal == RecvError::NoMemory {
+        return Fault::NoMemory;
+    }
+    Fault::Stream(refusal.code())
 }
 
 fn read_file<'a, R: Files + AllocGlobal>(rt: &R, name: &'a str) -> Result<Vec<u8>, Fault<'a>>

@@ -1,7 +1,9 @@
 //! The program's words.
 
-ghost use Rattle.std.specs.Prelude.{◌≡◌, map, true, false, IfErr};
-ghost use Rattle.vmig.specs.Words.{is_name, is_program_line};
+ghost use Rattle.std.specs.Prelude.{◌≡◌, map, true, false, IfOk, IfErr};
+ghost use Rattle.vmig.specs.Words.{is_name, is_run_line, is_check_line, is_program_line, Asks};
+ghost use Rattle.vmig.specs.Commands.{command_of};
+ghost use Rattle.clap.specs.Words.{takes};
 ghost use Rattle.vmig.specs.declared.words.WordsError.TheVariants.{Usage, NoMemory};
 ghost use Rattle.clap.specs.Words.{kind_of};
 ghost use Rattle.clap.specs.declared.error.kind.ErrorKind.TheVariants.{OutOfMemory};
@@ -15,6 +17,9 @@ use std::alloc::{AllocError, Global};
 pub enum Request<'a> {
     /// Play the trace in the file of this name.
     Run { trace: &'a str },
+
+    /// Check the stream in the file of this name.
+    Check { stream: &'a str },
 }
 
 /// Why the words ask for nothing.
@@ -53,12 +58,22 @@ fn is_file_name(word: &str) -> bool
     !word.starts_with('-')
 }
 
-/// Whether the words are, in their order, one of the program's lines.
-fn are_a_line(words: &[&str]) -> bool
-    ensures { result ≡ is_program_line (map (λ word. word.now) words.now) }
+/// Whether the words are `run TRACE`.
+fn is_run_line(words: &[&str]) -> bool
+    ensures { result ≡ is_run_line (map (λ word. word.now) words.now) }
 {
     match words {
         [verb, trace] => *verb == "run" && is_file_name(trace),
+        _ => false,
+    }
+}
+
+/// Whether the words are `check STREAM`.
+fn is_check_line(words: &[&str]) -> bool
+    ensures { result ≡ is_check_line (map (λ word. word.now) words.now) }
+{
+    match words {
+        [verb, stream] => *verb == "check" && is_file_name(stream),
         _ => false,
     }
 }
@@ -68,28 +83,38 @@ fn are_a_line(words: &[&str]) -> bool
 pub fn read_words<'a>(alloc: Global, words: &'a [&'a str]) -> Result<Request<'a>, WordsError>
     ensures usage { is_program_line (map (λ word. word.now) words.entry.now) ≡ false → result ≡ Err Usage }
     ensures known { is_program_line (map (λ word. word.now) words.entry.now) ≡ true → IfErr result (λ refusal. refusal ≡ NoMemory) }
+    ensures asks { IfOk result (Asks (map (λ word. word.now) words.entry.now)) }
 {
-    if !are_a_line(words) {
-        return Err(WordsError::Usage);
+    if is_run_line(words) {
+        let trace = read_name(alloc, "run", words)?;
+        return Ok(Request::Run { trace });
     }
-    read_run(alloc, words)
+    if is_check_line(words) {
+        let stream = read_name(alloc, "check", words)?;
+        return Ok(Request::Check { stream });
+    }
+    Err(WordsError::Usage)
 }
 
-/// Reads the words of `run TRACE`.
-fn read_run<'a>(alloc: Global, words: &'a [&'a str]) -> Result<Request<'a>, WordsError>
-    requires { is_program_line (map (λ word. word.now) words.now) ≡ true }
+/// Reads the words of a line of this verb and one name.
+fn read_name<'a>(
+    alloc: Global,
+    verb: &'static str,
+    words: &'a [&'a str],
+) -> Result<&'a str, WordsError>
+    requires { takes (command_of verb.now) (map (λ word. word.now) words.now) ≡ true }
     ensures { IfErr result (λ refusal. refusal ≡ NoMemory) }
 {
-    let trace = Arg::new(alloc, "trace")
+    let input = Arg::new(alloc, "input")
         .required(true)
         .action(ArgAction::Set);
-    let command = Command::new(alloc, "run").arg(trace)?;
+    let command = Command::new(alloc, verb).arg(input)?;
     let matches = match command.try_get_matches_from(words) {
         Ok(matches) => matches,
         Err(error) => return Err(WordsError::from(error)),
     };
-    match matches.get_str("trace") {
-        Some(trace) => Ok(Request::Run { trace }),
+    match matches.get_str("input") {
+        Some(name) => Ok(name),
         None => Err(WordsError::Usage),
     }
 }

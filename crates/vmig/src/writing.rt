@@ -32,6 +32,30 @@ fn put_number<W: Write>(out: &mut W, word: &[u8], number: u32) -> Result<(), Wri
     put_both(out, word, &digits[start..])
 }
 
+/// Writes a word and a decimal number, and ends no line.
+fn put_plain<W: Write>(out: &mut W, word: &[u8], number: u32) -> Result<(), WriteFault>
+    ensures { OnOk result (Appends (W.contents out.old) (W.contents out.new) (word.now ++ decimal number)) }
+{
+    let mut digits = [b'0'; MOST_DIGITS];
+    let start = write_decimal(&mut digits, number);
+    put_both(out, word, &digits[start..])
+}
+
+/// Writes the line of a stream that was checked.
+#[tactic(auto, using(crate::proofs::Known::appends_on))]
+pub fn write_checked<W: Write>(
+    out: &mut W,
+    pages: u32,
+    devices: u32,
+    rounds: u32,
+) -> Result<(), WriteFault>
+    ensures { OnOk result (Appends (W.contents out.old) (W.contents out.new) (codes "ok " ++ decimal pages ++ codes " " ++ decimal devices ++ codes " " ++ decimal rounds ++ newline)) }
+{
+    put_plain(out, b"ok ", pages)?;
+    put_plain(out, b" ", devices)?;
+    put_number(out, b" ", rounds)
+}
+
 /// Writes a word and bytes, or `-` for none.
 #[tactic(auto, using(crate::proofs::Known::appends_on, crate::proofs::Known::begins_first, crate::proofs::Known::begins_on))]
 fn put_bytes<W: Write>(out: &mut W, word: &[u8], bytes: &[u8]) -> Result<(), WriteFault>

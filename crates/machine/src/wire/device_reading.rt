@@ -39,11 +39,7 @@ pub fn decode_device(
     }
 }
 
-fn decode_entropy(
-    alloc: Global,
-    ram_len: u64,
-    body: &[u8],
-) -> Result<DeviceState, DecodeError>
+fn decode_entropy(alloc: Global, ram_len: u64, body: &[u8]) -> Result<DeviceState, DecodeError>
     ensures read { IfOk result (λ d. IsBodyOf shapes.Entropy ram_len body.now d) }
     ensures refused { IfErr result (λ e. RefusesBody shapes.Entropy ram_len body.now e) }
 {

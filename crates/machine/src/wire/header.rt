@@ -6,8 +6,8 @@ ghost use Rattle.machine.specs.HeaderReading.{header_of};
 ghost use Rattle.machine.specs.ShapeReading.{shapes_of};
 ghost use Rattle.machine.specs.declared.shape.Shape.{Shape};
 
-use crate::wire::numbers::u32_at;
 use crate::shape::Shape;
+use crate::wire::numbers::u32_at;
 use crate::wire::shape_spelling::shape_at;
 use std::alloc::{AllocError, Global};
 

@@ -41,7 +41,9 @@ fn take_page(intake: &mut Intake, number: u32, bytes: &[u8])
     requires entry { IsEntry (length intake.old.named.items) (page number bytes.now) }
     ensures { (pages : ℕ) (es : List records.Record) → HasTaken pages intake.old es → HasTaken pages intake.new (es ++ page number bytes.now ∷ []) }
 {
-    intake.ram.put(number as u64 * PAGE_SIZE as u64, bytes, &mut NoLog);
+    intake
+        .ram
+        .put(number as u64 * PAGE_SIZE as u64, bytes, &mut NoLog);
     intake.named[number as usize] = true;
 }
 

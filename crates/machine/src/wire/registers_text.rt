@@ -101,8 +101,5 @@ pub fn has_flags(bytes: &[u8]) -> bool
     requires { 36 ≤ length bytes.now }
     ensures { IsTrue result ↔ HasFlags bytes.now }
 {
-    u8_at(bytes, 28) <= 1
-        && u8_at(bytes, 29) <= 1
-        && u8_at(bytes, 32) <= 1
-        && u8_at(bytes, 35) <= 1
+    u8_at(bytes, 28) <= 1 && u8_at(bytes, 29) <= 1 && u8_at(bytes, 32) <= 1 && u8_at(bytes, 35) <= 1
 }

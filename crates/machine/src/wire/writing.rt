@@ -75,11 +75,7 @@ fn write_shapes<S: Sink, T: Tally>(
 }
 
 #[tactic(auto, unfolding(crate::specs::Header::spelled_shape))]
-fn write_shape<S: Sink, T: Tally>(
-    shape: Shape,
-    out: &mut S,
-    tally: &mut T,
-) -> Result<(), SinkFault>
+fn write_shape<S: Sink, T: Tally>(shape: Shape, out: &mut S, tally: &mut T) -> Result<(), SinkFault>
     ensures count { Counts result (S.failures out.old) (S.failures out.new) }
     ensures honest { OnOk result (IsTrue (S.is_honest out.old) → IsTrue (S.is_honest out.new) × (S.held out.new ≡ S.held out.old ++ spelled_shape shape)) }
     ensures taken { OnOk result ((b : List ℕ) → T.has_taken tally.old b → T.has_taken tally.new (b ++ spelled_shape shape)) }

@@ -30,4 +30,4 @@ returns-clause-read c =
     let made = read_parts c.args.ram_len c.args.body.now c.common_at-common.result c.queue_at-queue.result c.positions_at-positions.result c.in_ok-pool.pool c.common_at-common.ensures queue positions held in
     let sound = c.is_sound_entropy.ensures.0 (search rules) in
     subst (IsBodyOf Entropy c.args.ram_len c.args.body.now) (made ∙ sym c.restored.ensures)
-      (is_body c.args.ram_len c.args.body.now (λ i. omega (arith, c.type_inv.body i)) (c.has_entropy_form.ensures.0 (search rules)) (subst (IsSoundDevice c.args.ram_len) (sym read) sound))
+    (is_body c.args.ram_len c.args.body.now (λ i. omega (arith, c.type_inv.body i)) (c.has_entropy_form.ensures.0 (search rules)) (subst (IsSoundDevice c.args.ram_len) (sym read) sound))

@@ -15,7 +15,7 @@ pub returns-then-not-is_digest-clause-refused : goal.returns-then-not-is_digest-
 returns-then-not-is_digest-clause-refused c =
     let begins : BeginsRecord c.args.bytes.now (commit c.in-Some.digest.now) c.in-Some.len = search rules in
     other_digest c.args.bytes.now c.args.front.now c.in-Some.digest.now c.in-Some.len (λ i. omega (arith, c.type_inv.bytes i)) begins
-      (λ same. let is : c.is_digest.result ≡ true = c.is_digest.ensures.1 same in cc)
+    (λ same. let is : c.is_digest.result ≡ true = c.is_digest.ensures.1 same in cc)
 
 pub returns-then-len-bytes-clause-refused : goal.returns-then-len-bytes-clause-refused
 returns-then-len-bytes-clause-refused c =

@@ -21,7 +21,7 @@ returns-then-not-is_named-clause-refused g c =
     let begins = rw (← e) at b in
     let w = c.in-Ok-work_off.ensures c.in-Ok-Some.header.pages c.in-Ok.ensures in
     refuses _ c.missing_fault.result (λ none m s.
-      let is : c.is_named.result ≡ true = c.is_named.ensures.1 (rw c.deref.ensures.value (all_named c.args.bytes.now c.in-Ok-Some.header.pages c.in-Ok-Some.header.shapes.items c.split_at.result.1.now c.in-Ok-work_off.rest.now c.work_off.new.intake m begins w s)) in cc)
+    let is : c.is_named.result ≡ true = c.is_named.ensures.1 (rw c.deref.ensures.value (all_named c.args.bytes.now c.in-Ok-Some.header.pages c.in-Ok-Some.header.shapes.items c.split_at.result.1.now c.in-Ok-work_off.rest.now c.work_off.new.intake m begins w s)) in cc)
 
 pub returns-in-Err-devices_at-clause-refused : goal.returns-in-Err-devices_at-clause-refused
 returns-in-Err-devices_at-clause-refused g c =
@@ -31,8 +31,8 @@ returns-in-Err-devices_at-clause-refused g c =
     let w = c.in-Ok-work_off.ensures c.in-Ok-Some.header.pages c.in-Ok.ensures in
     let refused = rw c.deref-2.ensures.value at c.in-Err-devices_at.ensures.refused in
     refuses_more _ _ c.in-Err-devices_at.error
-      (λ never none m s. never m.devices _ (has_devices c.args.bytes.now c.in-Ok-Some.header.pages c.len-ram_len.result c.in-Ok-Some.header.shapes.items c.split_at.result.1.now c.in-Ok-work_off.rest.now c.work_off.new.intake m begins w s c.len-ram_len.ensures.len))
-      refused
+    (λ never none m s. never m.devices _ (has_devices c.args.bytes.now c.in-Ok-Some.header.pages c.len-ram_len.result c.in-Ok-Some.header.shapes.items c.split_at.result.1.now c.in-Ok-work_off.rest.now c.work_off.new.intake m begins w s c.len-ram_len.ensures.len))
+    refused
 
 pub overflow_sub-bytes : goal.overflow_sub-bytes
 overflow_sub-bytes g c =
@@ -52,8 +52,8 @@ returns-in-Err-check_commit-clause-refused g c =
     let d = rw c.deref-2.ensures.value at c.in-Ok-devices_at.ensures.read in
     let front : c.split_at-2.result.0.now ≡ take (length c.args.bytes.now - length c.in-Ok-devices_at.found.1.now) c.args.bytes.now = search rules in
     refuses_more _ _ c.in-Err-check_commit.error
-      (λ never none m s. never (rw front (has_commit c.args.bytes.now c.in-Ok-Some.header.pages c.len-ram_len.result c.in-Ok-Some.header.shapes.items c.split_at.result.1.now c.in-Ok-work_off.rest.now c.in-Ok-devices_at.found.1.now _ c.work_off.new.intake m begins w s c.len-ram_len.ensures.len d)))
-      c.in-Err-check_commit.ensures.refused
+    (λ never none m s. never (rw front (has_commit c.args.bytes.now c.in-Ok-Some.header.pages c.len-ram_len.result c.in-Ok-Some.header.shapes.items c.split_at.result.1.now c.in-Ok-work_off.rest.now c.in-Ok-devices_at.found.1.now _ c.work_off.new.intake m begins w s c.len-ram_len.ensures.len d)))
+    c.in-Err-check_commit.ensures.refused
 
 pub restore-requires-clause-sound : goal.restore-requires-clause-sound
 restore-requires-clause-sound g c =
@@ -79,5 +79,5 @@ returns-in-Ok-restore-clause-received g c =
     let front : c.split_at-2.result.0.now ≡ take (length c.args.bytes.now - length c.in-Ok-devices_at.found.1.now) c.args.bytes.now = search rules in
     let named = rw c.deref.ensures.value at (c.is_named.ensures.0 (search rules)) in
     rw c.in-Ok-restore.ensures
-      (is_received c.args.bytes.now c.in-Ok-Some.header.pages c.len-ram_len.result c.in-Ok-Some.header.shapes.items c.split_at.result.1.now c.in-Ok-work_off.rest.now c.in-Ok-devices_at.found.1.now _ c.work_off.new.intake
-        begins w named c.len-ram_len.ensures.len c.len-ram_len.ensures.bytes d (rw front at c.in_default-check_commit.ensures.ok))
+    (is_received c.args.bytes.now c.in-Ok-Some.header.pages c.len-ram_len.result c.in-Ok-Some.header.shapes.items c.split_at.result.1.now c.in-Ok-work_off.rest.now c.in-Ok-devices_at.found.1.now _ c.work_off.new.intake
+    begins w named c.len-ram_len.ensures.len c.len-ram_len.ensures.bytes d (rw front at c.in_default-check_commit.ensures.ok))

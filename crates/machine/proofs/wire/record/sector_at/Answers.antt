@@ -15,4 +15,4 @@ returns-clause-record c =
     let bytes : c.split_at-2.result.0.now ≡ take 512 (drop 6 c.args.rest.now) = search rules in
     let room : 512 ≤ length (drop 6 c.args.rest.now) = rw (← after) (omega arith) in
     good_begins c.args.rest.now c.split_at-2.result.0.now c.u8_at-device.result c.u32_at-number.result c.u8_at-mark.result (λ i. omega (arith, c.type_inv.rest i)) (omega arith)
-      c.u8_at-device.ensures c.u32_at-number.ensures c.u8_at-mark.ensures good room bytes
+    c.u8_at-device.ensures c.u32_at-number.ensures c.u8_at-mark.ensures good room bytes
