@@ -14,10 +14,6 @@ mod damaged_streams;
 #[cfg(test)]
 mod end_of_ram;
 #[cfg(test)]
-mod event_indexes;
-#[cfg(test)]
-mod events_and_lines;
-#[cfg(test)]
 mod exit_statuses;
 #[cfg(test)]
 mod failing_file;
@@ -32,35 +28,19 @@ mod index_wrap;
 #[cfg(test)]
 mod indirect_table;
 #[cfg(test)]
-mod interrupt_lines;
-#[cfg(test)]
 mod linux_probe;
 #[cfg(test)]
 mod linux_split;
 #[cfg(test)]
 mod negotiation;
 #[cfg(test)]
-mod odd_split_rings;
-#[cfg(test)]
 mod overlapping_areas;
-#[cfg(test)]
-mod packed_hostile;
 #[cfg(test)]
 mod packed_linux;
 #[cfg(test)]
 mod packed_linux_habits;
 #[cfg(test)]
-mod packed_next;
-#[cfg(test)]
 mod packed_round_the_end;
-#[cfg(test)]
-mod packed_sizes;
-#[cfg(test)]
-mod packed_suppression;
-#[cfg(test)]
-mod packed_table;
-#[cfg(test)]
-mod packed_total;
 #[cfg(test)]
 mod queue_ready;
 #[cfg(test)]
@@ -73,8 +53,6 @@ mod reply_lines;
 mod saved_machines;
 #[cfg(test)]
 mod self_naming_descriptor;
-#[cfg(test)]
-mod split_flags;
 #[cfg(test)]
 mod streams;
 #[cfg(test)]

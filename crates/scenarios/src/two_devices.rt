@@ -55,14 +55,6 @@ pub fn stops(scenario: &mut Scenario) -> Result<(), Fail> {
     scenario.holds(0x200, "0000000000000000000000000000000000000000")
 }
 
-/// The first device uses a buffer, with one byte. The second device works as if it were alone.
-pub fn is_served(scenario: &mut Scenario) -> Result<(), Fail> {
-    scenario.step(0, "completed 1")?;
-    scenario.reads(0, 0x070, 0x0f)?;
-    scenario.reads(0, 0x060, 1)?;
-    stays_healthy(scenario)
-}
-
 fn stays_healthy(scenario: &mut Scenario) -> Result<(), Fail> {
     scenario.step(1, "completed 1")?;
     scenario.holds(0xc00, "bb")?;
@@ -79,18 +71,5 @@ pub fn split_stops(
 ) -> Result<(), Fail> {
     let mut scenario = split(rt.alloc(), features, writes)?;
     stops(&mut scenario)?;
-    scenario.plays(rt, file)
-}
-
-/// What the driver wrote into the split ring is a chain.
-pub fn split_is_served(
-    rt: &(impl Abort + Files + AllocGlobal),
-    file: &str,
-    features: u32,
-    writes: &[(u64, &str)],
-) -> Result<(), Fail> {
-    let mut scenario = split(rt.alloc(), features, writes)?;
-    is_served(&mut scenario)?;
-    scenario.holds(0x200, "000001000000000001000000")?;
     scenario.plays(rt, file)
 }
