@@ -6,11 +6,7 @@
 #![tactic(auto)]
 
 #[cfg(test)]
-mod bytes_of_a_chain;
-#[cfg(test)]
 mod checked_streams;
-#[cfg(test)]
-mod damaged_streams;
 #[cfg(test)]
 mod end_of_ram;
 #[cfg(test)]
@@ -18,13 +14,7 @@ mod exit_statuses;
 #[cfg(test)]
 mod failing_file;
 #[cfg(test)]
-mod failing_sink;
-#[cfg(test)]
 mod failing_writer;
-#[cfg(test)]
-mod hostile_split_rings;
-#[cfg(test)]
-mod index_wrap;
 #[cfg(test)]
 mod indirect_table;
 #[cfg(test)]
@@ -34,13 +24,7 @@ mod linux_split;
 #[cfg(test)]
 mod negotiation;
 #[cfg(test)]
-mod overlapping_areas;
-#[cfg(test)]
 mod packed_linux;
-#[cfg(test)]
-mod packed_linux_habits;
-#[cfg(test)]
-mod packed_round_the_end;
 #[cfg(test)]
 mod queue_ready;
 #[cfg(test)]
@@ -50,8 +34,6 @@ mod registers;
 #[cfg(test)]
 mod reply_lines;
 #[cfg(test)]
-mod saved_machines;
-#[cfg(test)]
 mod self_naming_descriptor;
 #[cfg(test)]
 mod streams;
@@ -59,5 +41,3 @@ mod streams;
 mod support;
 #[cfg(test)]
 mod trace_edges;
-#[cfg(test)]
-mod two_devices;

@@ -1,13 +1,12 @@
 //! A trace and the replies that it must have, written side by side.
 
-use machine::{Event, Machine, MemDisk};
 use std::alloc::Global;
 use std::fs;
 use std::io::Write;
 use std::process::Abort;
 use std::rt::Files;
 use std::test::Fail;
-use vmig::{Trace, execute, parse, write_reply};
+use vmig::execute;
 
 /// One entropy device over one page of RAM.
 pub const ONE_ENTROPY: &str = "ram 1\nentropy\n";
@@ -118,46 +117,6 @@ impl Scenario {
         let Scenario { trace, replies } = self;
         answers(rt, file, trace.as_slice(), (0, replies.as_slice(), b""))
     }
-
-    /// Plays the trace by library calls, compares, and gives the machine after it.
-    pub fn machine(self, rt: &(impl Abort + AllocGlobal)) -> Result<Machine<MemDisk>, Fail> {
-        let (machine, _events) = self.machine_and_events(rt)?;
-        Ok(machine)
-    }
-
-    /// Plays the trace by library calls, compares, and gives the machine after it and the events.
-    pub fn machine_and_events(
-        self,
-        rt: &(impl Abort + AllocGlobal),
-    ) -> Result<(Machine<MemDisk>, Vec<Event>), Fail> {
-        let Scenario { trace, replies } = self;
-        let Trace {
-            pages,
-            shapes,
-            events,
-        } = parse(rt.alloc(), trace.as_slice())?;
-        let disks = Vec::new(rt.alloc());
-        let mut machine = Machine::new(rt.alloc(), pages, shapes.as_slice(), disks)?;
-        let mut out: Vec<u8> = Vec::new(rt.alloc());
-        for event in &events {
-            write_reply(&machine.apply(event), &mut out)?;
-        }
-        assert_eq!(rt; out.as_slice(), replies.as_slice());
-        Ok((machine, events))
-    }
-}
-
-/// Applies an event, which has a reply of this line.
-pub fn answer(
-    rt: &(impl Abort + AllocGlobal),
-    machine: &mut Machine<MemDisk>,
-    event: &Event,
-    line: &[u8],
-) -> Result<(), Fail> {
-    let mut out: Vec<u8> = Vec::new(rt.alloc());
-    write_reply(&machine.apply(event), &mut out)?;
-    assert_eq!(rt; out.as_slice(), line);
-    Ok(())
 }
 
 /// Calls the program on a file of this name with this text, and compares its status, its standard output and its
