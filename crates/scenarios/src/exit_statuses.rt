@@ -47,7 +47,7 @@ fn other_words_are_usage(rt: HostRuntime) -> Result<(), Fail> {
         &["run", "missing.trace", "--disk", "d"],
         &["run", "missing.trace", "--out", "s"],
         &["--disk", "d", "run"],
-        &["check", "s"],
+        &["check"],
         &["resume", "s", "missing.trace"],
         &["rehearse", "missing.trace"],
         &["Run", "missing.trace"],
