@@ -12,7 +12,7 @@
 //! machine exactly where the bytes are a stream of it and no disk is handed in, want of memory aside. By the laws a stream
 //! has one machine, and the whole stream of a sound machine is a stream of it: what was saved is received as it was.
 //!
-//! Which refusal is told of bytes that are no stream is chosen by the functions of `faults`, and shown by tests. The
+//! Which refusal is told of bytes that are no stream is chosen by the functions of `faults`, and no contract says it. The
 //! digest is `sha2`'s, whose contract says that it is the one of FIPS 180-4.
 
 mod decode_error;
