@@ -1,5 +1,5 @@
 -- What a whole slice gives.
-use Rattle.std.proofs.Common.{◌≡◌, ◌≢◌, ℕ, zero, suc, ◌+◌, ◌-◌, ◌*◌, ◌^◌, ◌<◌, ◌≤◌, Bool, true, false, List, [], ◌∷◌, ◌++◌, length, get_or, take, drop, map, All, Option, Some, None, refl, sym, ap, subst, ◌∙◌, append_assoc, append-nil, arith}
+use Rattle.std.proofs.Common.{◌≡◌, ℕ, ◌+◌, ◌-◌, ◌<◌, ◌≤◌, Bool, true, false, List, [], ◌++◌, length, get_or, take, All, Some, refl, sym, ap, ◌∙◌, append-nil, arith}
 use Rattle.std.proofs.lemmas.List.{length-append, length-map, take_at}
 use Rattle.std.proofs.lemmas.List.Elements.{All-get_or, All-from_get_or, All-from_recursion, All-map, recursion_from_All}
 use Rattle.std.specs.List.{AllByRecursion}
@@ -8,7 +8,6 @@ use Rattle.guestmem.specs.Number.{IsBytes}
 use Rattle.machine.specs.DeviceRecords.{StartsDevices}
 use Rattle.machine.specs.First.{saved_machine}
 use Rattle.machine.specs.Header.{header, Begins}
-use Rattle.machine.specs.HeaderReading.{header_of}
 use Rattle.machine.specs.Receiving.{IsReceived}
 use Rattle.machine.specs.Records.{Record, commit, spelled_record}
 use Rattle.machine.specs.Sound.{IsSound, IsSoundDevice}

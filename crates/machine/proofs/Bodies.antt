@@ -1,6 +1,5 @@
 -- Bodies of devices: what is read was spelled so, and what is spelled so is read.
-use Rattle.std.proofs.Common.{◌≡◌, ℕ, zero, suc, ◌+◌, ◌*◌, ◌^◌, ◌<◌, ◌≤◌, Bool, true, false, nat_eq, List, [], ◌∷◌, ◌++◌, length, take, drop, get_or, refl, sym, ap, subst, ◌∙◌, append_assoc, append-nil, drop-drop, arith}
-use Rattle.std.specs.Prelude.{IsTrue, ◌↔◌, bit_and}
+use Rattle.std.proofs.Common.{◌≡◌, ℕ, ◌+◌, ◌<◌, ◌≤◌, Bool, true, false, List, [], ◌∷◌, ◌++◌, length, take, drop, get_or, refl, sym, ap, subst, ◌∙◌, append_assoc, append-nil, drop-drop, arith}
 use Rattle.std.specs.List.{All}
 use Rattle.std.proofs.lemmas.Nat.{and_le_l}
 use Rattle.std.proofs.lemmas.List.{take-append-drop, length-append, length-drop, drop_at}
@@ -9,8 +8,8 @@ use Rattle.chains.specs.declared.position.Positions.{Positions}
 use Rattle.mmio.specs.Sound.{IsSoundCommon, IsSoundQueue}
 use Rattle.mmio.specs.declared.common.Common.{Common}
 use Rattle.mmio.specs.declared.queue.Queue.{Queue}
-use Rattle.machine.specs.Numbers.{digits, spelled, numbers, Fit, flag}
-use Rattle.machine.specs.DeviceBody.{IsBodyOf, body, common_numbers, common_text, common_widths, held_text, own_text, queue_numbers, queue_text, queue_widths, queues_text}
+use Rattle.machine.specs.Numbers.{digits, Fit, flag}
+use Rattle.machine.specs.DeviceBody.{IsBodyOf, body, common_numbers, common_text, common_widths, held_text, queue_numbers, queue_text, queue_widths}
 use Rattle.machine.specs.BodyReading.{HasEntropyForm, HasFlags, common_from, common_of, entropy_of, positions_from, positions_of, queue_from, queue_of}
 use Rattle.machine.specs.QueuePositions.{HasPositions, HavePositions, is_packed_by}
 use Rattle.machine.specs.Shapes.{device_id_of, offered_of, queues_of, saved_device}
@@ -18,7 +17,7 @@ use Rattle.machine.specs.Sound.{IsSoundDevice}
 use Rattle.machine.specs.State.{DeviceState}
 use Rattle.machine.specs.declared.shape.Shape.{Shape}
 use Rattle.machine.specs.declared.shape.Shape.TheVariants.{Entropy}
-use Rattle.machine.proofs.Digits.{IsBytes-drop, spelled-numbers, numbers-spelled, digits-number_at, number_at-digits, length-digits, IsBytes-digits, IsBytes-append, IsBytes-spelled, flag-number, number-flag}
+use Rattle.machine.proofs.Digits.{IsBytes-drop, spelled-numbers, numbers-spelled, digits-number_at, number_at-digits, IsBytes-digits, IsBytes-append, IsBytes-spelled, flag-number, number-flag}
 
 -- The registers that a device has once.
 

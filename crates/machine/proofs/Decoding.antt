@@ -1,9 +1,9 @@
 -- Records at the front of bytes.
-use Rattle.std.proofs.Common.{◌≡◌, ◌≢◌, ℕ, zero, suc, ◌+◌, ◌*◌, ◌^◌, ◌<◌, ◌≤◌, Bool, true, false, List, [], ◌∷◌, ◌++◌, length, get_or, take, drop, Option, Some, None, refl, sym, ap, subst, ◌∙◌, append_assoc, drop-drop, arith}
+use Rattle.std.proofs.Common.{◌≡◌, ◌≢◌, ℕ, suc, ◌+◌, ◌^◌, ◌<◌, ◌≤◌, List, [], ◌∷◌, ◌++◌, length, take, drop, Some, None, refl, sym, ap, ◌∙◌, append_assoc, drop-drop, arith}
 use Rattle.std.proofs.lemmas.List.{take-append-drop, length-append, length-take, length-drop}
 use Rattle.guestmem.specs.Number.{number_at, IsBytes}
 use Rattle.machine.specs.Numbers.{digits, spelled}
-use Rattle.machine.specs.Records.{Record, page, sector, round_end, device, commit, HasSpelling, spelled_record, BeginsRecord, BeginsNoRecord}
+use Rattle.machine.specs.Records.{page, sector, round_end, device, commit, spelled_record, BeginsRecord, BeginsNoRecord}
 use Rattle.machine.proofs.Digits.{IsBytes-drop, IsBytes-take, spelled-numbers, digits-number_at, number_at-digits, number_at-fits, length-digits}
 use Rattle.machine.proofs.Spelling.{tail_same, head_same}
 

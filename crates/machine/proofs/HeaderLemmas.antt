@@ -3,10 +3,10 @@ use Rattle.std.proofs.lemmas.Bool.{eqb-true, eqb-false, ne_eqb, ltb-false, le-lt
 use Rattle.std.proofs.lemmas.List.{drop_at}
 use Rattle.guestmem.specs.Number.{number_at, IsBytes}
 use Rattle.machine.specs.HeaderReading.{header_of, with_pages}
-use Rattle.machine.specs.Numbers.{digits, spelled, numbers, Fit}
+use Rattle.machine.specs.Numbers.{spelled, Fit}
 use Rattle.machine.proofs.Digits.{spelled-numbers, numbers-spelled, length-spelled}
 use Rattle.machine.proofs.Choices.{same_found, not_chosen, neither, so, then_found}
-use Rattle.std.proofs.Common.{◌≡◌, ℕ, zero, suc, ◌+◌, ◌-◌, ◌*◌, ◌^◌, ◌<◌, ◌≤◌, List, [], ◌∷◌, ◌++◌, length, take, drop, get_or, subst, ◌≢◌, nat_lt, Option, Some, None, Bool, true, false, cond, refl, sym, ap, ◌∙◌, append_assoc, append-nil, length-append, take-append-drop, arith, eqb, ltb, inl, inr}
+use Rattle.std.proofs.Common.{◌≡◌, ℕ, zero, suc, ◌+◌, ◌-◌, ◌<◌, ◌≤◌, List, [], ◌∷◌, ◌++◌, length, drop, get_or, subst, ◌≢◌, nat_lt, Option, Some, None, Bool, true, false, cond, refl, sym, ap, ◌∙◌, append_assoc, append-nil, length-append, take-append-drop, arith, eqb}
 use Rattle.std.specs.Prelude.{option_and_then, not, ◌||◌}
 use Rattle.machine.specs.declared.shape.Shape.{Shape}
 use Rattle.machine.specs.declared.shape.Shape.TheVariants.{Entropy}
@@ -130,14 +130,10 @@ head_written bytes pages count are says =
     sym (take-append-drop 16 bytes) ∙ ap (λ (x : List ℕ). x ++ drop 16 bytes) (sym taken ∙ same ∙ sym (head_spelled pages count))
 
 -- A header that is spelled is read, and one that is read was spelled.
-pub header_of-spelled : (bytes : List ℕ) (pages : ℕ) (shapes : List Shape) (rest : List ℕ) → Begins bytes pages shapes rest → header_of bytes ≡ Some (pages, shapes, rest)
+header_reads : (bytes : List ℕ) (pages : ℕ) (shapes : List Shape) (rest : List ℕ) → IsHeader pages shapes → HeadSays bytes pages (length shapes) → drop 16 bytes ≡ spelled_shapes shapes ++ rest
+    → header_of bytes ≡ Some (pages, shapes, rest)
 unfolding header_of
-header_of-spelled bytes pages shapes rest begins =
-    let good = begins.good in
-    let same : bytes ≡ spelled head_widths (head_numbers pages (length shapes)) ++ (spelled_shapes shapes ++ rest) =
-    begins.whole ∙ append_assoc (front pages (length shapes)) (spelled_shapes shapes) rest ∙ ap (λ (x : List ℕ). x ++ (spelled_shapes shapes ++ rest)) (head_spelled pages (length shapes)) in
-    let says = rw (← same) at (head_says pages (length shapes) (spelled_shapes shapes ++ rest) good.few_pages good.few_devices) in
-    let after : drop 16 bytes ≡ spelled_shapes shapes ++ rest = ap (drop 16) same in
+header_reads bytes pages shapes rest good says after =
     let long : nat_lt (length bytes) 16 ≡ false = le-ltb _ _ says.long in
     let some_page : eqb pages 0 ≡ false = ne_eqb _ _ (λ (z : pages ≡ 0). omega (arith, good.some_page)) in
     let few_pages : nat_lt 16384 pages ≡ false = le-ltb _ _ good.few_pages in
@@ -145,48 +141,97 @@ header_of-spelled bytes pages shapes rest begins =
     let few_devices : nat_lt 16 (length shapes) ≡ false = le-ltb _ _ good.few_devices in
     rw (long, says.magic, says.version, says.pages_are, says.count_is, some_page, few_pages, some_device, few_devices, after, shapes_of-spelled shapes rest) refl
 
+header_at : (bytes : List ℕ) (pages : ℕ) (shapes : List Shape) (rest : List ℕ) → IsHeader pages shapes → bytes ≡ spelled head_widths (head_numbers pages (length shapes)) ++ (spelled_shapes shapes ++ rest)
+    → header_of bytes ≡ Some (pages, shapes, rest)
+header_at bytes pages shapes rest good same =
+    header_reads bytes pages shapes rest good (rw (← same) at (head_says pages (length shapes) (spelled_shapes shapes ++ rest) good.few_pages good.few_devices)) (ap (drop 16) same)
+
+pub header_of-spelled : (bytes : List ℕ) (pages : ℕ) (shapes : List Shape) (rest : List ℕ) → Begins bytes pages shapes rest → header_of bytes ≡ Some (pages, shapes, rest)
+header_of-spelled bytes pages shapes rest begins =
+    header_at bytes pages shapes rest begins.good
+    (begins.whole ∙ append_assoc (front pages (length shapes)) (spelled_shapes shapes) rest ∙ ap (λ (x : List ℕ). x ++ (spelled_shapes shapes ++ rest)) (head_spelled pages (length shapes)))
+
 with_pages_found : (pages : ℕ) (shapes : Option (List Shape × List ℕ)) (found : ℕ × List Shape × List ℕ) → with_pages pages shapes ≡ Some found
     → (x : List Shape × List ℕ) × (shapes ≡ Some x) × ((pages, x.0, x.1) ≡ found)
 with_pages_found pages None found e = absurd cc
 with_pages_found pages (Some x) found e = (x, refl, same_found (pages, x.0, x.1) found e)
 
+-- What is known of the numbers in a header that is read.
+record Limits (pages count : ℕ) : Type 0 where
+  pub some_page : 1 ≤ pages
+  pub few_pages : pages ≤ 16384
+  pub some_device : 1 ≤ count
+  pub few_devices : count ≤ 16
+
+head_from : (bytes : List ℕ) → nat_lt (length bytes) 16 ≡ false → not (eqb (number_at bytes 0 4) 0x47494d56) ≡ false → not (eqb (number_at bytes 4 4) 1) ≡ false
+    → HeadSays bytes (number_at bytes 8 4) (number_at bytes 12 4)
+head_from bytes long magic version = record {
+  long = ltb-false (length bytes) 16 long;
+  magic = eqb-true (number_at bytes 0 4) 0x47494d56 (so _ magic);
+  version = eqb-true (number_at bytes 4 4) 1 (so _ version);
+  pages_are = refl;
+  count_is = refl;
+}
+
+head_of : (bytes : List ℕ) → (nat_lt (length bytes) 16 || not (eqb (number_at bytes 0 4) 0x47494d56) || not (eqb (number_at bytes 4 4) 1)) ≡ false
+    → HeadSays bytes (number_at bytes 8 4) (number_at bytes 12 4)
+head_of bytes e =
+    let version = neither (nat_lt (length bytes) 16 || not (eqb (number_at bytes 0 4) 0x47494d56)) (not (eqb (number_at bytes 4 4) 1)) e in
+    let magic = neither (nat_lt (length bytes) 16) (not (eqb (number_at bytes 0 4) 0x47494d56)) version.0 in
+    head_from bytes magic.0 magic.1 version.1
+
+limits_from : (pages count : ℕ) → eqb pages 0 ≡ false → nat_lt 16384 pages ≡ false → eqb count 0 ≡ false → nat_lt 16 count ≡ false → Limits pages count
+limits_from pages count some few some_device few_devices =
+    let is_page : pages ≢ 0 = eqb-false pages 0 some in
+    let is_device : count ≢ 0 = eqb-false count 0 some_device in
+    record { some_page = omega (arith, is_page); few_pages = ltb-false 16384 pages few; some_device = omega (arith, is_device); few_devices = ltb-false 16 count few_devices }
+
+limits_of : (pages count : ℕ) → (eqb pages 0 || nat_lt 16384 pages || eqb count 0 || nat_lt 16 count) ≡ false → Limits pages count
+limits_of pages count e =
+    let few_devices = neither (eqb pages 0 || nat_lt 16384 pages || eqb count 0) (nat_lt 16 count) e in
+    let some_device = neither (eqb pages 0 || nat_lt 16384 pages) (eqb count 0) few_devices.0 in
+    let few = neither (eqb pages 0) (nat_lt 16384 pages) some_device.0 in
+    limits_from pages count few.0 few.1 some_device.1 few_devices.1
+
+header_within : (pages count : ℕ) (shapes : List Shape) → Limits pages count → length shapes ≡ count → IsHeader pages shapes
+header_within pages count shapes limits is = record {
+  some_page = limits.some_page;
+  few_pages = limits.few_pages;
+  some_device = omega (arith, limits.some_device, is);
+  few_devices = omega (arith, limits.few_devices, is);
+}
+
+header_whole : (bytes : List ℕ) (pages count : ℕ) (shapes : List Shape) (rest : List ℕ) → IsBytes bytes → HeadSays bytes pages count → length shapes ≡ count → drop 16 bytes ≡ spelled_shapes shapes ++ rest
+    → bytes ≡ header pages shapes ++ rest
+header_whole bytes pages count shapes rest are says is after =
+    head_written bytes pages count are says
+    ∙ ap (λ (n : ℕ). front pages n ++ drop 16 bytes) (sym is)
+    ∙ ap (λ (x : List ℕ). front pages (length shapes) ++ x) after
+    ∙ sym (append_assoc (front pages (length shapes)) (spelled_shapes shapes) rest)
+
+begins_with : (bytes : List ℕ) (pages count : ℕ) (x : List Shape × List ℕ) → IsBytes bytes → HeadSays bytes pages count → Limits pages count → WereShapes count (drop 16 bytes) x → Begins bytes pages x.0 x.1
+begins_with bytes pages count x are says limits shapes = record {
+  good = header_within pages count x.0 limits shapes.count;
+  whole = header_whole bytes pages count x.0 x.1 are says shapes.count shapes.whole;
+}
+
+begins_read : (bytes : List ℕ) (pages count : ℕ) (found : ℕ × List Shape × List ℕ) → IsBytes bytes → HeadSays bytes pages count → Limits pages count
+    → (x : List Shape × List ℕ) → shapes_of count (drop 16 bytes) ≡ Some x → (pages, x.0, x.1) ≡ found → Begins bytes found.0 found.1 found.2
+begins_read bytes pages count found are says limits x read is =
+    subst (λ (y : ℕ × List Shape × List ℕ). Begins bytes y.0 y.1 y.2) is (begins_with bytes pages count x are says limits (shapes_read count (drop 16 bytes) x read))
+
+begins_found : (bytes : List ℕ) (pages count : ℕ) (found : ℕ × List Shape × List ℕ) → IsBytes bytes → HeadSays bytes pages count → Limits pages count
+    → with_pages pages (shapes_of count (drop 16 bytes)) ≡ Some found → Begins bytes found.0 found.1 found.2
+begins_found bytes pages count found are says limits e =
+    let read = with_pages_found pages (shapes_of count (drop 16 bytes)) found e in
+    begins_read bytes pages count found are says limits read.0 read.1 read.2
+
 pub spelled-header_of : (bytes : List ℕ) (found : ℕ × List Shape × List ℕ) → IsBytes bytes → header_of bytes ≡ Some found → Begins bytes found.0 found.1 found.2
 unfolding header_of
 spelled-header_of bytes found are e =
-    let wrong_head = nat_lt (length bytes) 16 || not (eqb (number_at bytes 0 4) 0x47494d56) in
-    let wrong_pages = eqb (number_at bytes 8 4) 0 || nat_lt 16384 (number_at bytes 8 4) in
-    let head = not_chosen (wrong_head || not (eqb (number_at bytes 4 4) 1)) _ found e in
-    let limits = not_chosen (wrong_pages || eqb (number_at bytes 12 4) 0 || nat_lt 16 (number_at bytes 12 4)) _ found head.1 in
-    let read = with_pages_found (number_at bytes 8 4) (shapes_of (number_at bytes 12 4) (drop 16 bytes)) found limits.1 in
-    let version = neither wrong_head (not (eqb (number_at bytes 4 4) 1)) head.0 in
-    let magic = neither (nat_lt (length bytes) 16) (not (eqb (number_at bytes 0 4) 0x47494d56)) version.0 in
-    let few = neither (wrong_pages || eqb (number_at bytes 12 4) 0) (nat_lt 16 (number_at bytes 12 4)) limits.0 in
-    let some = neither wrong_pages (eqb (number_at bytes 12 4) 0) few.0 in
-    let pages = neither (eqb (number_at bytes 8 4) 0) (nat_lt 16384 (number_at bytes 8 4)) some.0 in
-    let says : HeadSays bytes (number_at bytes 8 4) (number_at bytes 12 4) = record {
-      long = ltb-false _ _ magic.0;
-      magic = eqb-true _ _ (so _ magic.1);
-      version = eqb-true _ _ (so _ version.1);
-      pages_are = refl;
-      count_is = refl;
-    } in
-    let shapes = shapes_read (number_at bytes 12 4) (drop 16 bytes) read.0 read.1 in
-    let some_page : number_at bytes 8 4 ≢ 0 = eqb-false _ _ pages.0 in
-    let some_device : number_at bytes 12 4 ≢ 0 = eqb-false _ _ some.1 in
-    let few_pages : number_at bytes 8 4 ≤ 16384 = ltb-false _ _ pages.1 in
-    let few_devices : number_at bytes 12 4 ≤ 16 = ltb-false _ _ few.1 in
-    let good : IsHeader (number_at bytes 8 4) read.0.0 = record {
-      some_page = omega (arith, some_page);
-      few_pages = few_pages;
-      some_device = omega (arith, some_device, shapes.count);
-      few_devices = omega (arith, few_devices, shapes.count);
-    } in
-    let whole : bytes ≡ header (number_at bytes 8 4) read.0.0 ++ read.0.1 =
-    head_written bytes (number_at bytes 8 4) (number_at bytes 12 4) are says
-    ∙ ap (λ (n : ℕ). front (number_at bytes 8 4) n ++ drop 16 bytes) (sym shapes.count)
-    ∙ ap (λ (x : List ℕ). front (number_at bytes 8 4) (length read.0.0) ++ x) shapes.whole
-    ∙ sym (append_assoc (front (number_at bytes 8 4) (length read.0.0)) (spelled_shapes read.0.0) read.0.1) in
-    subst (λ (y : ℕ × List Shape × List ℕ). Begins bytes y.0 y.1 y.2) read.2 (record { good = good; whole = whole })
+    let head = not_chosen (nat_lt (length bytes) 16 || not (eqb (number_at bytes 0 4) 0x47494d56) || not (eqb (number_at bytes 4 4) 1)) _ found e in
+    let limits = not_chosen (eqb (number_at bytes 8 4) 0 || nat_lt 16384 (number_at bytes 8 4) || eqb (number_at bytes 12 4) 0 || nat_lt 16 (number_at bytes 12 4)) _ found head.1 in
+    begins_found bytes (number_at bytes 8 4) (number_at bytes 12 4) found are (head_of bytes head.0) (limits_of (number_at bytes 8 4) (number_at bytes 12 4) limits.0) limits.1
 
 pub no_header : (bytes : List ℕ) → header_of bytes ≡ None → (pages : ℕ) (shapes : List Shape) (rest : List ℕ) → ¬ (Begins bytes pages shapes rest)
 no_header bytes none pages shapes rest begins = let read = header_of-spelled bytes pages shapes rest begins in cc

@@ -1,5 +1,5 @@
 -- What a writer that tells its bytes does.
-use Rattle.std.proofs.Common.{◌≡◌, ℕ, List, ◌++◌, Option, Some, None, true, false, refl}
+use Rattle.std.proofs.Common.{◌≡◌, ℕ, List, ◌++◌, Option, Some, None, refl}
 use Rattle.std.specs.Prelude.{is_some, IsTrue}
 use Rattle.std.specs.Io.KnownBytes.{Appends, Keeps}
 use Rattle.machine.specs.Sinks.{known}

@@ -1,13 +1,12 @@
 -- One entry more.
-use Rattle.std.proofs.Common.{◌≡◌, ◌≢◌, ℕ, zero, suc, ◌+◌, ◌-◌, ◌*◌, ◌/◌, ◌^◌, ◌<◌, ◌≤◌, Bool, true, false, cond, nat_eq, List, [], ◌∷◌, ◌++◌, length, get_or, take, drop, Option, Some, None, refl, sym, ap, subst, ◌∙◌, append_assoc, append-nil, drop-drop, replicate, arith, inl, inr}
+use Rattle.std.proofs.Common.{◌≡◌, ◌≢◌, ℕ, ◌+◌, ◌-◌, ◌*◌, ◌<◌, ◌≤◌, Bool, true, false, cond, nat_eq, List, [], ◌∷◌, ◌++◌, length, get_or, take, drop, Option, Some, None, refl, sym, ap, subst, ◌∙◌, append_assoc, replicate, arith, inl, inr}
 use Rattle.std.specs.Prelude.{set}
 use Rattle.std.proofs.lemmas.Bool.{eqb-true, eqb-false, cases_lt}
 use Rattle.std.proofs.lemmas.List.{take-append-drop, take_at, drop_at, length-append, length-take, length-drop, take-append-le, drop-append-le, length-set, get_or-set_same, get_or-set_other, get_or-replicate, length-replicate}
 use Rattle.std.proofs.Math.Seq.{drop-append-add}
-use Rattle.std.specs.List.{AllByRecursion}
-use Rattle.machine.specs.Records.{Record, page, sector, round_end, device, commit, HasSpelling, spelled_record, BeginsRecord, BeginsNoRecord}
-use Rattle.machine.specs.Stream.{IsEntry, AreNumbered, rounds, says, or_else, last_of, page_of, texts}
-use Rattle.machine.specs.Taken.{shown, AreTaken, HasTaken, Continues, TakesEntry, After}
+use Rattle.machine.specs.Records.{Record, page, sector, round_end, device, commit, spelled_record, BeginsRecord, BeginsNoRecord}
+use Rattle.machine.specs.Stream.{IsEntry, AreNumbered, rounds, or_else, last_of, page_of, texts}
+use Rattle.machine.specs.Taken.{shown, AreTaken, HasTaken, Continues, TakesEntry}
 use Rattle.machine.specs.declared.wire.intake.Intake.{Intake}
 use Rattle.machine.proofs.Spelling.{one_record, head_same}
 use Rattle.machine.proofs.Whole.{each-snoc, numbered_page, last-snoc}

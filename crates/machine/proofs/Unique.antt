@@ -1,14 +1,12 @@
 -- One stream has one machine.
-use Rattle.std.proofs.Common.{◌≡◌, ℕ, zero, suc, ◌+◌, ◌-◌, ◌*◌, ◌^◌, ◌<◌, ◌≤◌, List, [], ◌∷◌, ◌++◌, length, take, drop, map, Option, Some, None, refl, sym, ap, subst, ◌∙◌, append_assoc, append-nil, arith}
-use Rattle.std.proofs.lemmas.List.{take_at, drop_at, length-append, length-map}
+use Rattle.std.proofs.Common.{◌≡◌, ℕ, zero, suc, ◌+◌, ◌*◌, ◌<◌, ◌≤◌, List, [], ◌∷◌, ◌++◌, length, take, Option, Some, None, refl, sym, ap, ◌∙◌, append_assoc, append-nil, arith}
+use Rattle.std.proofs.lemmas.List.{length-append, length-map}
 use Rattle.std.proofs.lemmas.List.Elements.{recursion_from_All}
 use Rattle.std.proofs.Math.Seq.{take-length, take-add}
 use Rattle.std.specs.List.{AllByRecursion, All}
 use Rattle.sha2.specs.Sha256.{sha256}
-use Rattle.guestmem.specs.Number.{IsBytes}
 use Rattle.machine.specs.DeviceBody.{body}
 use Rattle.machine.specs.Header.{header, IsHeader, Begins}
-use Rattle.machine.specs.HeaderReading.{header_of}
 use Rattle.machine.specs.Records.{Record, page, sector, round_end, device, commit, HasSpelling, spelled_record}
 use Rattle.machine.specs.Sound.{IsSound, IsSoundDevice}
 use Rattle.machine.specs.State.{DeviceState, MachineState, Sector}
@@ -17,7 +15,7 @@ use Rattle.machine.specs.declared.shape.Shape.{Shape}
 use Rattle.machine.proofs.Bodies.{body_is_short, body_bytes, one_body}
 use Rattle.machine.proofs.Choices.{same_found}
 use Rattle.machine.proofs.HeaderLemmas.{header_of-spelled}
-use Rattle.machine.proofs.Spelling.{one_record, split_same}
+use Rattle.machine.proofs.Spelling.{one_record}
 
 pub cons_same : {A : Type 0} {x y : A} {xs ys : List A} → x ≡ y → xs ≡ ys → x ∷ xs ≡ y ∷ ys
 cons_same p q = rw (p, q) refl
@@ -68,23 +66,29 @@ pub record LeadsDevices (number : ℕ) (ss ts : List DeviceState) (x y : List �
 shape_first : {s t : Shape} {ss ts : List Shape} → t ∷ ts ≡ s ∷ ss → (s ≡ t) × (ts ≡ ss)
 shape_first e = (cc, cc)
 
+bodies_alike : (i j : ℕ) (a b : List ℕ) → device i a ≡ device j b → a ≡ b
+bodies_alike i j a b e = cc
+
+first_device_alike : (ram_len number : ℕ) (s t : DeviceState) (x y : List ℕ) → number < 256 → s.shape ≡ t.shape → IsSoundDevice ram_len s → IsSoundDevice ram_len t
+    → spelled_record (device number (body s)) ++ x ≡ spelled_record (device number (body t)) ++ y → (s ≡ t) × (x ≡ y)
+first_device_alike ram_len number s t x y low kinds h k e =
+    let o = one_record (device number (body s)) (device number (body t)) x y (body_spells ram_len number s low h) (body_spells ram_len number t low k) e in
+    (one_body ram_len s t kinds h k (bodies_alike number number (body s) (body t) o.0), o.1)
+
+one_more_led : (number : ℕ) (s t : DeviceState) (ss ts : List DeviceState) (x y : List ℕ) → s ≡ t → LeadsDevices (number + 1) ss ts x y → LeadsDevices number (s ∷ ss) (t ∷ ts) x y
+one_more_led number s t ss ts x y same ih =
+    let n : number + length (s ∷ ss) ≡ number + 1 + length ss = omega arith in
+    record { more = ih.more; all = cons_same (sym same) ih.all; left = rw n ih.left }
+
 pub devices_lead : (ram_len number : ℕ) (ss ts : List DeviceState) (hs : List Shape) (x y : List ℕ) → number + length ts ≤ 256 → AllByRecursion (IsSoundDevice ram_len) ss → AllByRecursion (IsSoundDevice ram_len) ts
     → shapes_in ts ≡ shapes_in ss ++ hs → device_texts number ss ++ x ≡ device_texts number ts ++ y → LeadsDevices number ss ts x y
 unfolding device_texts
 devices_lead ram_len number [] ts hs x y low h k shapes e = let n : number + 0 ≡ number = omega arith in record { more = ts; all = refl; left = rw n e }
 devices_lead ram_len number (s ∷ ss) [] hs x y low h k shapes e = absurd cc
 devices_lead ram_len number (s ∷ ss) (t ∷ ts) hs x y low h k shapes e =
-    let p = spelled_record (device number (body s)) in
-    let q = spelled_record (device number (body t)) in
-    let f : p ++ (device_texts (number + 1) ss ++ x) ≡ q ++ (device_texts (number + 1) ts ++ y) = sym (append_assoc p (device_texts (number + 1) ss) x) ∙ e ∙ append_assoc q (device_texts (number + 1) ts) y in
-    let here : number < 256 = omega (arith, low) in
-    let o = one_record (device number (body s)) (device number (body t)) (device_texts (number + 1) ss ++ x) (device_texts (number + 1) ts ++ y) (body_spells ram_len number s here h.0) (body_spells ram_len number t here k.0) f in
-    let bodies : body s ≡ body t = cc in
-    let kinds = shape_first shapes in
-    let same : s ≡ t = one_body ram_len s t kinds.0 h.0 k.0 bodies in
-    let ih = devices_lead ram_len (number + 1) ss ts hs x y (omega (arith, low)) h.1 k.1 kinds.1 o.1 in
-    let n : number + length (s ∷ ss) ≡ number + 1 + length ss = omega arith in
-    record { more = ih.more; all = cons_same (sym same) ih.all; left = rw n ih.left }
+    let o = first_device_alike ram_len number s t (device_texts (number + 1) ss ++ x) (device_texts (number + 1) ts ++ y) (omega (arith, low)) (shape_first shapes).0 h.0 k.0
+    (sym (append_assoc (spelled_record (device number (body s))) (device_texts (number + 1) ss) x) ∙ e ∙ append_assoc (spelled_record (device number (body t))) (device_texts (number + 1) ts) y) in
+    one_more_led number s t ss ts x y o.0 (devices_lead ram_len (number + 1) ss ts hs x y (omega (arith, low)) h.1 k.1 (shape_first shapes).1 o.1)
 
 pub length_shapes : (ss : List DeviceState) → length (shapes_in ss) ≡ length ss
 length_shapes ss = simp length-map
@@ -146,28 +150,54 @@ pub record SameParts (p q : ℕ) (es fs : List Record) (ss ts : List DeviceState
   pub entries : es ≡ fs
   pub devices : ss ≡ ts
 
+-- what begins as entries and goes on to a device, in both cases, has the same entries and goes on alike
+ends_none : (es fs : List Record) (u v x y : List ℕ) → u ≡ 4 ∷ x → v ≡ 4 ∷ y → (more : List Record) → fs ≡ es ++ more → (more ≡ []) × (x ≡ y) → (fs ≡ es) × (u ≡ v)
+ends_none es fs u v x y eu ev more all none = (all ∙ ap (λ (z : List Record). es ++ z) none.0 ∙ append-nil es, eu ∙ ap (λ (z : List ℕ). 4 ∷ z) none.1 ∙ sym ev)
+
+ends_led : (q : ℕ) (es fs : List Record) (u v x y : List ℕ) → u ≡ 4 ∷ x → v ≡ 4 ∷ y → Leads q es fs u y → (fs ≡ es) × (u ≡ v)
+ends_led q es fs u v x y eu ev l = ends_none es fs u v x y eu ev l.more l.all (none_more q l.more x y l.each (sym eu ∙ l.left))
+
+ends_alike : (p q : ℕ) (es fs : List Record) (u v x y : List ℕ) → AllByRecursion (IsEntry p) es → AllByRecursion (IsEntry q) fs → u ≡ 4 ∷ x → v ≡ 4 ∷ y
+    → texts es ++ u ≡ texts fs ++ v → (fs ≡ es) × (u ≡ v)
+ends_alike p q es fs u v x y h k eu ev e = ends_led q es fs u v x y eu ev (leads p q es fs u y h k (e ∙ ap (λ (z : List ℕ). texts fs ++ z) ev))
+
+devices_led : (ss ts : List DeviceState) (x y : List ℕ) → LeadsDevices 0 ss ts x y → length ss ≡ length ts → ts ≡ ss
+devices_led ss ts x y d count = d.all ∙ ap (λ (z : List DeviceState). ss ++ z) (none_from_length ss d.more 0 (ap length (sym d.all) ∙ sym count)) ∙ append-nil ss
+
+devices_alike : (ram_len : ℕ) (ss ts : List DeviceState) (x y : List ℕ) → length ts ≤ 16 → All (IsSoundDevice ram_len) ss → All (IsSoundDevice ram_len) ts
+    → shapes_in ss ≡ shapes_in ts → device_texts 0 ss ++ x ≡ device_texts 0 ts ++ y → ts ≡ ss
+devices_alike ram_len ss ts x y few h k shapes e =
+    devices_led ss ts x y
+    (devices_lead ram_len 0 ss ts [] x y (omega (arith, few)) (recursion_from_All (IsSoundDevice ram_len) ss h) (recursion_from_All (IsSoundDevice ram_len) ts k) (sym shapes ∙ sym (append-nil (shapes_in ss))) e)
+    (sym (length_shapes ss) ∙ ap length shapes ∙ length_shapes ts)
+
+same_sizes : (a b p q : ℕ) → p ≡ q → a ≡ 4096 * p → b ≡ 4096 * q → b ≡ a
+same_sizes a b p q e f g = g ∙ ap (λ (x : ℕ). 4096 * x) (sym e) ∙ sym f
+
+parts_from_ends : (bytes : List ℕ) (m n : MachineState) (p q : ℕ) (es fs : List Record) (ca cb : List ℕ) → IsStreamBy bytes m p es → IsStreamBy bytes n q fs → p ≡ q → shapes_in m.devices ≡ shapes_in n.devices
+    → length n.ram ≡ length m.ram → (fs ≡ es) × (device_texts 0 m.devices ++ ca ≡ device_texts 0 n.devices ++ cb) → SameParts p q es fs m.devices n.devices
+parts_from_ends bytes m n p q es fs ca cb a b e f size o = record {
+  pages = e;
+  entries = sym o.0;
+  devices = sym (devices_alike (length m.ram) m.devices n.devices ca cb b.sound.few_devices a.sound.devices (rw size at b.sound.devices) f o.1);
+}
+
+parts_from_texts : (bytes : List ℕ) (m n : MachineState) (p q : ℕ) (es fs : List Record) (ca cb : List ℕ) → IsStreamBy bytes m p es → IsStreamBy bytes n q fs
+    → Alike p q (shapes_in m.devices) (shapes_in n.devices) (texts es ++ (device_texts 0 m.devices ++ ca)) (texts fs ++ (device_texts 0 n.devices ++ cb)) → SameParts p q es fs m.devices n.devices
+parts_from_texts bytes m n p q es fs ca cb a b t =
+    let fa = device_first m.devices ca a.sound.some_devices in
+    let fb = device_first n.devices cb b.sound.some_devices in
+    parts_from_ends bytes m n p q es fs ca cb a b t.first t.second (same_sizes (length m.ram) (length n.ram) p q t.first a.pages_are b.pages_are)
+    (ends_alike p q es fs (device_texts 0 m.devices ++ ca) (device_texts 0 n.devices ++ cb) fa.0 fb.0 a.each b.each fa.1 fb.1 t.third)
+
 pub same_parts : (bytes : List ℕ) (m n : MachineState) (p q : ℕ) (es fs : List Record) → IsStreamBy bytes m p es → IsStreamBy bytes n q fs → SameParts p q es fs m.devices n.devices
 same_parts bytes m n p q es fs a b =
     let ca = spelled_record (commit (sha256 (before_commit p es m.devices))) in
     let cb = spelled_record (commit (sha256 (before_commit q fs n.devices))) in
-    let e = header_of-spelled bytes p (shapes_in m.devices) (texts es ++ (device_texts 0 m.devices ++ ca)) (stream_begins a) in
-    let f = header_of-spelled bytes q (shapes_in n.devices) (texts fs ++ (device_texts 0 n.devices ++ cb)) (stream_begins b) in
-    let t = alike p q (shapes_in m.devices) (shapes_in n.devices) (texts es ++ (device_texts 0 m.devices ++ ca)) (texts fs ++ (device_texts 0 n.devices ++ cb)) (sym e ∙ f) in
-    let fa = device_first m.devices ca a.sound.some_devices in
-    let fb = device_first n.devices cb b.sound.some_devices in
-    let g : texts es ++ (device_texts 0 m.devices ++ ca) ≡ texts fs ++ (4 ∷ fb.0) = t.third ∙ ap (λ (x : List ℕ). texts fs ++ x) fb.1 in
-    let l = leads p q es fs (device_texts 0 m.devices ++ ca) fb.0 a.each b.each g in
-    let none = none_more q l.more fa.0 fb.0 l.each (sym fa.1 ∙ l.left) in
-    let entries : fs ≡ es = l.all ∙ ap (λ (x : List Record). es ++ x) none.0 ∙ append-nil es in
-    let devs : device_texts 0 m.devices ++ ca ≡ device_texts 0 n.devices ++ cb = fa.1 ∙ ap (λ (x : List ℕ). 4 ∷ x) none.1 ∙ sym fb.1 in
-    let count : length m.devices ≡ length n.devices = sym (length_shapes m.devices) ∙ ap length t.second ∙ length_shapes n.devices in
-    let size : length n.ram ≡ length m.ram = b.pages_are ∙ ap (λ (x : ℕ). 4096 * x) (sym t.first) ∙ sym a.pages_are in
-    let each = recursion_from_All (IsSoundDevice (length m.ram)) m.devices a.sound.devices in
-    let others = recursion_from_All (IsSoundDevice (length m.ram)) n.devices (rw size at b.sound.devices) in
-    let d = devices_lead (length m.ram) 0 m.devices n.devices [] ca cb (omega (arith, b.sound.few_devices)) each others (sym t.second ∙ sym (append-nil (shapes_in m.devices))) devs in
-    let none2 : d.more ≡ [] = none_from_length m.devices d.more 0 (ap length (sym d.all) ∙ sym count) in
-    let devices : n.devices ≡ m.devices = d.all ∙ ap (λ (x : List DeviceState). m.devices ++ x) none2 ∙ append-nil m.devices in
-    record { pages = t.first; entries = sym entries; devices = sym devices }
+    parts_from_texts bytes m n p q es fs ca cb a b
+    (alike p q (shapes_in m.devices) (shapes_in n.devices) (texts es ++ (device_texts 0 m.devices ++ ca)) (texts fs ++ (device_texts 0 n.devices ++ cb))
+    (sym (header_of-spelled bytes p (shapes_in m.devices) (texts es ++ (device_texts 0 m.devices ++ ca)) (stream_begins a))
+    ∙ header_of-spelled bytes q (shapes_in n.devices) (texts fs ++ (device_texts 0 n.devices ++ cb)) (stream_begins b)))
 
 -- No device has a disk, so disks are alike where the devices are.
 no_sectors : (a b : List (List Sector)) → length a ≡ length b → AllByRecursion (λ (disk : List Sector). disk ≡ []) a → AllByRecursion (λ (disk : List Sector). disk ≡ []) b → a ≡ b
@@ -180,11 +210,22 @@ machine_same : (m n : MachineState) → m.ram ≡ n.ram → m.devices ≡ n.devi
 machine_same m n e f g =
     let same : ◌≡◌ {A = MachineState} (record { ram = m.ram; devices = m.devices; disks = m.disks }) (record { ram = n.ram; devices = n.devices; disks = n.disks }) = rw (e, f, g) refl in same
 
+ram_alike : (m n : MachineState) (p q : ℕ) (es fs : List Record) → p ≡ q → es ≡ fs → length m.ram ≡ 4096 * p → length n.ram ≡ 4096 * q
+    → ((k : ℕ) → k < p → last_of k es ≡ Some (page_of m.ram k)) → ((k : ℕ) → k < q → last_of k fs ≡ Some (page_of n.ram k)) → m.ram ≡ n.ram
+ram_alike m n p q es fs e f lm ln h k =
+    ram_same p m.ram n.ram lm (ln ∙ ap (λ (x : ℕ). 4096 * x) (sym e))
+    (λ (i : ℕ) (lt : i < p). some_same (h i lt) (ap (last_of i) f ∙ k i (omega (arith, lt, e))))
+
+empty_disks : (m : MachineState) → IsSound m → AllByRecursion (λ (disk : List Sector). disk ≡ []) m.disks
+empty_disks m h = recursion_from_All (λ (disk : List Sector). disk ≡ []) m.disks h.no_sectors
+
+disks_alike : (m n : MachineState) → IsSound m → IsSound n → m.devices ≡ n.devices → m.disks ≡ n.disks
+disks_alike m n h k e = no_sectors m.disks n.disks (h.disk_each ∙ ap length e ∙ sym k.disk_each) (empty_disks m h) (empty_disks n k)
+
+from_parts : (bytes : List ℕ) (m n : MachineState) (a : IsStream bytes m) (b : IsStream bytes n) → SameParts a.pages b.pages a.entries b.entries m.devices n.devices → m ≡ n
+from_parts bytes m n a b s =
+    machine_same m n (ram_alike m n a.pages b.pages a.entries b.entries s.pages s.entries a.by.pages_are b.by.pages_are a.by.last b.by.last) s.devices
+    (disks_alike m n a.by.sound b.by.sound s.devices)
+
 pub one_machine : (bytes : List ℕ) (m n : MachineState) → IsStream bytes m → IsStream bytes n → m ≡ n
-one_machine bytes m n a b =
-    let s = same_parts bytes m n a.pages b.pages a.entries b.entries a.by b.by in
-    let pages = λ (k : ℕ) (lt : k < a.pages). some_same (a.by.last k lt) (ap (last_of k) s.entries ∙ b.by.last k (omega (arith, lt, s.pages))) in
-    let ram = ram_same a.pages m.ram n.ram a.by.pages_are (b.by.pages_are ∙ ap (λ (x : ℕ). 4096 * x) (sym s.pages)) pages in
-    let empty = λ (x : MachineState) (h : IsSound x). recursion_from_All (λ (disk : List Sector). disk ≡ []) x.disks h.no_sectors in
-    let disks = no_sectors m.disks n.disks (a.by.sound.disk_each ∙ ap length s.devices ∙ sym b.by.sound.disk_each) (empty m a.by.sound) (empty n b.by.sound) in
-    machine_same m n ram s.devices disks
+one_machine bytes m n a b = from_parts bytes m n a b (same_parts bytes m n a.pages b.pages a.entries b.entries a.by b.by)

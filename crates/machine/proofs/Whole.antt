@@ -1,13 +1,13 @@
 -- The whole stream of a sound machine is a stream of it.
-use Rattle.std.proofs.Common.{◌≡◌, ◌≢◌, ℕ, zero, suc, ◌+◌, ◌-◌, ◌*◌, ◌/◌, ◌^◌, ◌<◌, ◌≤◌, Bool, true, false, cond, nat_eq, List, [], ◌∷◌, ◌++◌, length, take, drop, Option, Some, None, refl, sym, ap, subst, ◌∙◌, append_assoc, append-nil, arith, inl, inr}
+use Rattle.std.proofs.Common.{◌≡◌, ◌≢◌, ℕ, zero, suc, ◌+◌, ◌*◌, ◌<◌, ◌≤◌, Bool, true, false, cond, nat_eq, List, [], ◌∷◌, ◌++◌, length, drop, Option, Some, None, refl, sym, ap, ◌∙◌, append_assoc, append-nil, arith}
 use Rattle.std.proofs.lemmas.Bool.{eqb-true, eqb-false}
-use Rattle.std.proofs.lemmas.List.{length-append, length-take, length-drop}
+use Rattle.std.proofs.lemmas.List.{length-take, length-drop}
 use Rattle.std.specs.List.{AllByRecursion}
 use Rattle.guestmem.specs.Number.{IsBytes}
-use Rattle.machine.specs.Records.{Record, page, sector, round_end, device, commit, HasSpelling, spelled_record}
+use Rattle.machine.specs.Records.{Record, page, sector, round_end, device, commit, spelled_record}
 use Rattle.machine.specs.Sound.{IsSound}
 use Rattle.machine.specs.State.{MachineState}
-use Rattle.machine.specs.Stream.{IsStream, IsStreamBy, IsEntry, AreNumbered, says, or_else, last_of, rounds, texts, page_entries, page_of, pages_of, whole}
+use Rattle.machine.specs.Stream.{IsStream, IsEntry, AreNumbered, says, or_else, last_of, texts, page_entries, page_of, pages_of, whole}
 use Rattle.machine.proofs.Digits.{IsBytes-drop, IsBytes-take}
 
 pub texts-snoc : (rs : List Record) (r : Record) → texts (rs ++ r ∷ []) ≡ texts rs ++ spelled_record r

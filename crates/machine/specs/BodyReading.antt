@@ -1,5 +1,5 @@
 -- How the body of a device is read. That this is the spelling the other way round is proved beside it.
-use Rattle.std.specs.Prelude.{◌≡◌, ℕ, ◌+◌, ◌≤◌, nat_eq, List, [], ◌∷◌, drop, length, false}
+use Rattle.std.specs.Prelude.{◌≡◌, ℕ, ◌+◌, ◌≤◌, nat_eq, List, [], ◌∷◌, drop, length}
 use Rattle.guestmem.specs.Number.{number_at}
 use Rattle.chains.specs.declared.position.Positions.{Positions}
 use Rattle.mmio.specs.State.{first_queue, first_common}

@@ -1,5 +1,5 @@
 -- What a record that was read from a slice tells.
-use Rattle.std.specs.Prelude.{ℕ, List, Option, Some, None}
+use Rattle.std.specs.Prelude.{Option, Some, None}
 use Rattle.machine.specs.Records as records
 use Rattle.machine.specs.declared.wire.record.Record.{Record}
 use Rattle.machine.specs.declared.wire.record.Record.TheVariants.{Page, Sector, RoundEnd, Device, Commit}

@@ -1,5 +1,5 @@
 -- How shapes are read. That this is the spelling the other way round is proved beside it.
-use Rattle.std.specs.Prelude.{◌≡◌, ℕ, zero, suc, List, [], ◌∷◌, ◌++◌, ◌==◌, if◌then◌else◌, Option, Some, None, option_and_then}
+use Rattle.std.specs.Prelude.{ℕ, zero, suc, List, [], ◌∷◌, ◌++◌, ◌==◌, if◌then◌else◌, Option, Some, None, option_and_then}
 use Rattle.machine.specs.declared.shape.Shape.{Shape}
 use Rattle.machine.specs.declared.shape.Shape.TheVariants.{Entropy}
 

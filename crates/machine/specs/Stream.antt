@@ -5,7 +5,7 @@ use Rattle.std.specs.List.{AllByRecursion}
 use Rattle.sha2.specs.Sha256.{sha256}
 use Rattle.machine.specs.DeviceBody.{body}
 use Rattle.machine.specs.Header.{header}
-use Rattle.machine.specs.Records.{Record, page, sector, round_end, device, commit, spelled_record, HasSpelling}
+use Rattle.machine.specs.Records.{Record, page, round_end, device, commit, spelled_record, HasSpelling}
 use Rattle.machine.specs.Sound.{IsSound}
 use Rattle.machine.specs.State.{DeviceState, MachineState}
 use Rattle.machine.specs.declared.shape.Shape.{Shape}

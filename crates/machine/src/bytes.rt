@@ -40,7 +40,8 @@ impl Bytes {
     pub fn into_vec(self) -> Vec<u8>
         ensures { result.items ≡ self }
     {
-        self.held
+        let Bytes { held } = self;
+        held
     }
 
     /// The bytes in their order.

@@ -1,9 +1,7 @@
-use Rattle.std.proofs.Common.{rules, ◌≡◌, List, ℕ, drop, true, false, arith, subst, sym, ◌∙◌, take, [], ◌∷◌}
-use Rattle.machine.specs.State.{DeviceState}
+use Rattle.std.proofs.Common.{rules, ◌≡◌, drop, true, arith, subst, sym, ◌∙◌}
 use Rattle.machine.specs.Sound.{IsSoundDevice}
-use Rattle.machine.specs.Shapes.{saved_device}
 use Rattle.machine.specs.DeviceBody.{IsBodyOf}
-use Rattle.machine.specs.BodyReading.{common_of, queue_of, positions_of, entropy_of}
+use Rattle.machine.specs.BodyReading.{queue_of, positions_of}
 use Rattle.machine.specs.declared.shape.Shape.TheVariants.{Entropy}
 use Rattle.machine.proofs.Bodies.{no_form, not_sound, is_body, read_parts}
 use Rattle.machine.proofs.wire.device_reading.decode_entropy.Goals as goal

@@ -1,4 +1,4 @@
-use Rattle.std.proofs.Common.{rules, ◌≡◌, List, ℕ, arith}
+use Rattle.std.proofs.Common.{rules, arith}
 use Rattle.machine.specs.DeviceRecords.{IsRawDevice, NoRawDevice}
 use Rattle.machine.proofs.Devices.{refuses, no_device, no_body, starts}
 use Rattle.machine.proofs.wire.devices.device_at.Goals as goal

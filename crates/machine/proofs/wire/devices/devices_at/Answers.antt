@@ -1,6 +1,4 @@
-use Rattle.std.proofs.Common.{rules, ◌≡◌, ◌++◌, ◌∷◌, ◌+◌, ◌<◌, ◌≤◌, [], List, ℕ, arith, take, drop, length, get_or, refl}
-use Rattle.machine.specs.State.{DeviceState}
-use Rattle.machine.specs.DeviceRecords.{StartsDevice, StartsDevices, StartsNoDevice, StartsNoDevices}
+use Rattle.std.proofs.Common.{◌≡◌, take}
 use Rattle.machine.proofs.Devices.{nothing_read, none_starts, one_more, later_shapes, refuses_more, take_all}
 use Rattle.machine.proofs.Saving.{first_more}
 use Rattle.machine.proofs.wire.devices.devices_at.Goals as goal

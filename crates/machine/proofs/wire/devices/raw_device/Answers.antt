@@ -1,4 +1,4 @@
-use Rattle.std.proofs.Common.{rules, ◌≡◌, ◌≢◌, List, ℕ}
+use Rattle.std.proofs.Common.{rules}
 use Rattle.machine.specs.Records.{BeginsRecord, page, round_end, device, commit}
 use Rattle.machine.proofs.Devices.{other_number, raw_is_no_page, raw_is_no_sector, raw_is_no_round, raw_is_no_commit}
 use Rattle.machine.proofs.wire.devices.raw_device.Goals as goal

@@ -1,4 +1,4 @@
-use Rattle.std.proofs.Common.{rules, ◌≡◌, ◌≢◌, List, ℕ, true, arith, length}
+use Rattle.std.proofs.Common.{rules, ◌≡◌, true, arith, length}
 use Rattle.sha2.specs.Sha256.{sha256}
 use Rattle.machine.specs.Receiving.{NoCommit}
 use Rattle.machine.specs.Records.{BeginsRecord, commit}

@@ -1,4 +1,4 @@
-use Rattle.std.proofs.Common.{rules, ◌≡◌, List, ℕ}
+use Rattle.std.proofs.Common.{rules}
 use Rattle.machine.specs.Records.{BeginsRecord, page, round_end, device}
 use Rattle.machine.proofs.Endings.{commit_is_no_page, commit_is_no_sector, commit_is_no_round, commit_is_no_device}
 use Rattle.machine.proofs.wire.ending.commit_at.Goals as goal

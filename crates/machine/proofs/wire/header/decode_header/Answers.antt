@@ -1,4 +1,4 @@
-use Rattle.std.proofs.Common.{rules, ◌≡◌, List, ℕ, Some, None, arith}
+use Rattle.std.proofs.Common.{rules, ◌≡◌, Some, None, arith}
 use Rattle.machine.specs.HeaderReading.{header_of}
 use Rattle.machine.proofs.HeaderLemmas.{spelled-header_of, no_header, behind}
 use Rattle.machine.proofs.wire.header.decode_header.Goals as goal

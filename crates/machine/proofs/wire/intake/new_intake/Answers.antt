@@ -1,4 +1,4 @@
-use Rattle.std.proofs.Common.{rules, ◌≡◌, ◌*◌, List, ℕ, refl, ap, ◌∙◌, replicate, false, length}
+use Rattle.std.proofs.Common.{rules, ◌≡◌, ◌*◌, refl, ap, ◌∙◌, replicate, false, length}
 use Rattle.std.proofs.lemmas.List.{length-replicate}
 use Rattle.machine.specs.Stream.{rounds}
 use Rattle.machine.proofs.Takings.{new_taken}

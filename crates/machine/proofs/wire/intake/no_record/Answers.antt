@@ -1,4 +1,4 @@
-use Rattle.std.proofs.Common.{rules, ◌≡◌, ◌≢◌, ◌∷◌, ◌+◌, List, ℕ, arith}
+use Rattle.std.proofs.Common.{rules, ◌≡◌, ◌∷◌, ◌+◌, arith}
 use Rattle.machine.specs.Stream.{rounds}
 use Rattle.machine.proofs.Takings.{none_stops, none_refused}
 use Rattle.machine.proofs.wire.intake.no_record.Goals as goal

@@ -1,5 +1,4 @@
-use Rattle.std.proofs.Common.{rules, ◌≡◌, ◌≤◌, ◌<◌, ◌+◌, List, ℕ, arith, length}
-use Rattle.machine.specs.Stream.{rounds}
+use Rattle.std.proofs.Common.{arith}
 use Rattle.machine.proofs.Takings.{page_refused, page_taken, some_bytes}
 use Rattle.machine.proofs.wire.intake.page_entry.Goals as goal
 

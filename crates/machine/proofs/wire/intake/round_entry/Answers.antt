@@ -1,4 +1,4 @@
-use Rattle.std.proofs.Common.{rules, ◌≡◌, ◌≢◌, ◌+◌, ◌<◌, List, ℕ, arith, refl}
+use Rattle.std.proofs.Common.{◌+◌, arith, refl}
 use Rattle.machine.specs.Stream.{rounds}
 use Rattle.machine.proofs.Takings.{round_refused, round_taken, some_bytes}
 use Rattle.machine.proofs.wire.intake.round_entry.Goals as goal

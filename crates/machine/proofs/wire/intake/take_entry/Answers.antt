@@ -1,6 +1,5 @@
-use Rattle.std.proofs.Common.{rules, ◌≡◌, ◌+◌, List, ℕ}
-use Rattle.machine.specs.Records.{BeginsRecord, device, commit, sector}
-use Rattle.machine.specs.RecordView.{map_option}
+use Rattle.std.proofs.Common.{rules, ◌+◌}
+use Rattle.machine.specs.Records.{BeginsRecord, device, commit}
 use Rattle.machine.specs.Stream.{rounds}
 use Rattle.machine.proofs.Takings.{sector_refused, device_stops, commit_stops}
 use Rattle.machine.proofs.wire.intake.take_entry.Goals as goal

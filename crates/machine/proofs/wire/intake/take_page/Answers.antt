@@ -1,4 +1,4 @@
-use Rattle.std.proofs.Common.{rules, ◌≡◌, ◌++◌, ◌+◌, ◌*◌, List, ℕ, arith, refl, ◌∙◌, ap, take, drop, length}
+use Rattle.std.proofs.Common.{◌*◌, arith, refl, ◌∙◌, ap}
 use Rattle.guestmem.specs.Memory.{Memory}
 use Rattle.machine.proofs.Takings.{has_page, put_is}
 use Rattle.machine.proofs.wire.intake.take_page.Goals as goal

@@ -1,4 +1,4 @@
-use Rattle.std.proofs.Common.{rules, ◌≡◌, List, ℕ, drop, length}
+use Rattle.std.proofs.Common.{rules, ◌≡◌, drop, length}
 use Rattle.machine.proofs.Working.{nothing_yet, one_entry, never, at_end, stopped}
 use Rattle.machine.proofs.wire.intake.work_off.Goals as goal
 

@@ -1,7 +1,4 @@
-use Rattle.std.proofs.Common.{rules, ◌≡◌, ◌≢◌, ◌∷◌, ◌≤◌, ◌*◌, ◌-◌, List, ℕ, [], arith, drop, take, length, true, refl, sym}
-use Rattle.sha2.specs.Sha256.{sha256}
-use Rattle.machine.specs.Records.{commit, spelled_record}
-use Rattle.machine.proofs.Unique.{stream_begins}
+use Rattle.std.proofs.Common.{rules, ◌≡◌, ◌-◌, drop, take, length, true}
 use Rattle.machine.proofs.Devices.{refuses, refuses_more}
 use Rattle.machine.proofs.Endings.{empty}
 use Rattle.machine.proofs.Arrivals.{all_named, end_fits, has_commit, has_devices, is_received, is_sound, no_going_on}

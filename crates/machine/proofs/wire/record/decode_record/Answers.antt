@@ -1,4 +1,4 @@
-use Rattle.std.proofs.Common.{rules, ◌≡◌, ℕ, List, length}
+use Rattle.std.proofs.Common.{rules, ◌≡◌, length}
 use Rattle.machine.proofs.Decoding.{no_bytes}
 use Rattle.machine.proofs.wire.record.decode_record.Goals as goal
 

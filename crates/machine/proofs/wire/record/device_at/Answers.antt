@@ -1,5 +1,4 @@
-use Rattle.std.proofs.Common.{rules, ◌≡◌, ◌≤◌, ◌<◌, ℕ, List, take, drop, length, arith, [], refl}
-use Rattle.guestmem.specs.Number.{number_at}
+use Rattle.std.proofs.Common.{rules, ◌≡◌, ◌≤◌, take, drop, length, arith}
 use Rattle.machine.proofs.Decoding.{device_begins}
 use Rattle.machine.proofs.wire.record.device_at.Goals as goal
 

@@ -1,4 +1,4 @@
-use Rattle.std.proofs.Common.{◌≡◌, ◌++◌, ◌≤◌, ℕ, List, take}
+use Rattle.std.proofs.Common.{◌≡◌, ◌++◌, ℕ, List}
 use Rattle.std.specs.Prelude.{IsTrue}
 use Rattle.machine.specs.Stream.{page_entries, texts}
 use Rattle.machine.proofs.wire.writing.write_pages.Given as goal

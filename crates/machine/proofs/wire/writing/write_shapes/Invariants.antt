@@ -1,4 +1,4 @@
-use Rattle.std.proofs.Common.{◌≡◌, ◌++◌, ◌≤◌, ℕ, List, take}
+use Rattle.std.proofs.Common.{◌≡◌, ◌++◌, ℕ, List, take}
 use Rattle.std.specs.Prelude.{IsTrue}
 use Rattle.machine.specs.Header.{spelled_shapes}
 use Rattle.machine.proofs.wire.writing.write_shapes.Given as goal
