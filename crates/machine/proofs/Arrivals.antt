@@ -6,15 +6,15 @@ use Rattle.std.specs.List.{AllByRecursion}
 use Rattle.sha2.specs.Sha256.{sha256}
 use Rattle.guestmem.specs.Number.{IsBytes}
 use Rattle.machine.specs.DeviceRecords.{StartsDevices}
-use Rattle.machine.specs.First.{saved_machine}
+use Rattle.board.specs.First.{saved_machine}
 use Rattle.machine.specs.Header.{header, Begins}
 use Rattle.machine.specs.Receiving.{IsReceived}
 use Rattle.machine.specs.Records.{Record, commit, spelled_record}
-use Rattle.machine.specs.Sound.{IsSound, IsSoundDevice}
-use Rattle.machine.specs.State.{DeviceState, MachineState, Sector}
+use Rattle.board.specs.Sound.{IsSound, IsSoundDevice}
+use Rattle.board.specs.State.{DeviceState, MachineState, Sector}
 use Rattle.machine.specs.Stream.{IsStream, IsStreamBy, rounds, shapes_in, texts, device_texts, before_commit, page_of, last_of}
 use Rattle.machine.specs.Taken.{shown, Continues, WorkedOff}
-use Rattle.machine.specs.declared.shape.Shape.{Shape}
+use Rattle.board.specs.declared.shape.Shape.{Shape}
 use Rattle.machine.specs.declared.wire.intake.Intake.{Intake}
 use Rattle.machine.proofs.HeaderLemmas.{header_of-spelled}
 use Rattle.machine.proofs.Spelling.{split_same}

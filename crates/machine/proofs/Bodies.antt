@@ -11,12 +11,12 @@ use Rattle.mmio.specs.declared.queue.Queue.{Queue}
 use Rattle.machine.specs.Numbers.{digits, Fit, flag}
 use Rattle.machine.specs.DeviceBody.{IsBodyOf, body, common_numbers, common_text, common_widths, held_text, queue_numbers, queue_text, queue_widths}
 use Rattle.machine.specs.BodyReading.{HasEntropyForm, HasFlags, common_from, common_of, entropy_of, positions_from, positions_of, queue_from, queue_of}
-use Rattle.machine.specs.QueuePositions.{HasPositions, HavePositions, is_packed_by}
-use Rattle.machine.specs.Shapes.{device_id_of, offered_of, queues_of, saved_device}
-use Rattle.machine.specs.Sound.{IsSoundDevice}
-use Rattle.machine.specs.State.{DeviceState}
-use Rattle.machine.specs.declared.shape.Shape.{Shape}
-use Rattle.machine.specs.declared.shape.Shape.TheVariants.{Entropy}
+use Rattle.board.specs.QueuePositions.{HasPositions, HavePositions, is_packed_by}
+use Rattle.board.specs.Shapes.{device_id_of, offered_of, queues_of, saved_device}
+use Rattle.board.specs.Sound.{IsSoundDevice}
+use Rattle.board.specs.State.{DeviceState}
+use Rattle.board.specs.declared.shape.Shape.{Shape}
+use Rattle.board.specs.declared.shape.Shape.TheVariants.{Entropy}
 use Rattle.machine.proofs.Digits.{IsBytes-drop, spelled-numbers, numbers-spelled, digits-number_at, number_at-digits, IsBytes-digits, IsBytes-append, IsBytes-spelled, flag-number, number-flag}
 
 -- The registers that a device has once.

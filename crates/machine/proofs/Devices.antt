@@ -6,10 +6,10 @@ use Rattle.machine.specs.DeviceBody.{IsBodyOf, body}
 use Rattle.machine.specs.DeviceRecords.{IsRawDevice, NoRawDevice, StartsDevice, StartsDevices, StartsNoDevice, StartsNoDevices}
 use Rattle.machine.specs.Receiving.{Refuses}
 use Rattle.machine.specs.Records.{Record, page, sector, round_end, device, commit, spelled_record, BeginsRecord, BeginsNoRecord}
-use Rattle.machine.specs.Sound.{IsSoundDevice}
-use Rattle.machine.specs.State.{DeviceState}
+use Rattle.board.specs.Sound.{IsSoundDevice}
+use Rattle.board.specs.State.{DeviceState}
 use Rattle.machine.specs.Stream.{device_texts, shapes_in}
-use Rattle.machine.specs.declared.shape.Shape.{Shape}
+use Rattle.board.specs.declared.shape.Shape.{Shape}
 use Rattle.machine.specs.declared.wire.recv_error.RecvError.{RecvError}
 use Rattle.machine.specs.declared.wire.recv_error.RecvError.TheVariants as errors
 use Rattle.machine.proofs.Spelling.{one_record, split_same}

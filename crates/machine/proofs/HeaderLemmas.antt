@@ -8,8 +8,8 @@ use Rattle.machine.proofs.Digits.{spelled-numbers, numbers-spelled, length-spell
 use Rattle.machine.proofs.Choices.{same_found, not_chosen, neither, so, then_found}
 use Rattle.std.proofs.Common.{◌≡◌, ℕ, zero, suc, ◌+◌, ◌-◌, ◌<◌, ◌≤◌, List, [], ◌∷◌, ◌++◌, length, drop, get_or, subst, ◌≢◌, nat_lt, Option, Some, None, Bool, true, false, cond, refl, sym, ap, ◌∙◌, append_assoc, append-nil, length-append, take-append-drop, arith, eqb}
 use Rattle.std.specs.Prelude.{option_and_then, not, ◌||◌}
-use Rattle.machine.specs.declared.shape.Shape.{Shape}
-use Rattle.machine.specs.declared.shape.Shape.TheVariants.{Entropy}
+use Rattle.board.specs.declared.shape.Shape.{Shape}
+use Rattle.board.specs.declared.shape.Shape.TheVariants.{Entropy}
 use Rattle.machine.specs.ShapeReading.{shape_of, shapes_of, in_front}
 use Rattle.machine.specs.Header.{spelled_shape, spelled_shapes, front, header, IsHeader, Begins}
 

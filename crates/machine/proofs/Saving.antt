@@ -7,10 +7,10 @@ use Rattle.mmio.specs.declared.queue.Queue.{Queue}
 use Rattle.machine.specs.DeviceBody.{body, common_text, queue_text, queues_text, held_text}
 use Rattle.machine.specs.Header.{spelled_shape, spelled_shapes}
 use Rattle.machine.specs.Records.{page, device, spelled_record}
-use Rattle.machine.specs.State.{DeviceState}
+use Rattle.board.specs.State.{DeviceState}
 use Rattle.machine.specs.Stream.{device_texts, page_entries, page_of, shapes_in, texts}
-use Rattle.machine.specs.declared.shape.Shape.{Shape}
-use Rattle.machine.specs.declared.shape.Shape.TheVariants.{Entropy}
+use Rattle.board.specs.declared.shape.Shape.{Shape}
+use Rattle.board.specs.declared.shape.Shape.TheVariants.{Entropy}
 use Rattle.machine.proofs.Bodies.{length-common_text, length-queue_text}
 use Rattle.machine.proofs.Whole.{texts-snoc}
 use Rattle.machine.proofs.Unique.{length_shapes}

@@ -8,10 +8,10 @@ use Rattle.sha2.specs.Sha256.{sha256}
 use Rattle.machine.specs.DeviceBody.{body}
 use Rattle.machine.specs.Header.{header, IsHeader, Begins}
 use Rattle.machine.specs.Records.{Record, page, sector, round_end, device, commit, HasSpelling, spelled_record}
-use Rattle.machine.specs.Sound.{IsSound, IsSoundDevice}
-use Rattle.machine.specs.State.{DeviceState, MachineState, Sector}
+use Rattle.board.specs.Sound.{IsSound, IsSoundDevice}
+use Rattle.board.specs.State.{DeviceState, MachineState, Sector}
 use Rattle.machine.specs.Stream.{IsStream, IsStreamBy, IsEntry, shapes_in, texts, device_texts, before_commit, page_of, last_of}
-use Rattle.machine.specs.declared.shape.Shape.{Shape}
+use Rattle.board.specs.declared.shape.Shape.{Shape}
 use Rattle.machine.proofs.Bodies.{body_is_short, body_bytes, one_body}
 use Rattle.machine.proofs.Choices.{same_found}
 use Rattle.machine.proofs.HeaderLemmas.{header_of-spelled}

@@ -5,8 +5,8 @@ use Rattle.std.proofs.lemmas.List.{length-take, length-drop}
 use Rattle.std.specs.List.{AllByRecursion}
 use Rattle.guestmem.specs.Number.{IsBytes}
 use Rattle.machine.specs.Records.{Record, page, sector, round_end, device, commit, spelled_record}
-use Rattle.machine.specs.Sound.{IsSound}
-use Rattle.machine.specs.State.{MachineState}
+use Rattle.board.specs.Sound.{IsSound}
+use Rattle.board.specs.State.{MachineState}
 use Rattle.machine.specs.Stream.{IsStream, IsEntry, AreNumbered, says, or_else, last_of, texts, page_entries, page_of, pages_of, whole}
 use Rattle.machine.proofs.Digits.{IsBytes-drop, IsBytes-take}
 

@@ -7,11 +7,11 @@ use Rattle.mmio.specs.declared.common.Common.{Common}
 use Rattle.mmio.specs.declared.queue.Queue.{Queue}
 use Rattle.machine.specs.DeviceBody.{IsBodyOf, common_widths, queue_widths}
 use Rattle.machine.specs.Numbers.{numbers}
-use Rattle.machine.specs.QueuePositions.{first_positions}
-use Rattle.machine.specs.Shapes.{saved_device}
-use Rattle.machine.specs.State.{DeviceState}
-use Rattle.machine.specs.declared.shape.Shape.{Shape}
-use Rattle.machine.specs.declared.shape.Shape.TheVariants.{Entropy}
+use Rattle.board.specs.QueuePositions.{first_positions}
+use Rattle.board.specs.Shapes.{saved_device}
+use Rattle.board.specs.State.{DeviceState}
+use Rattle.board.specs.declared.shape.Shape.{Shape}
+use Rattle.board.specs.declared.shape.Shape.TheVariants.{Entropy}
 use Rattle.machine.specs.declared.wire.decode_error.DecodeError.{DecodeError}
 use Rattle.machine.specs.declared.wire.decode_error.DecodeError.TheVariants.{BadBody, NoMemory}
 

@@ -5,10 +5,10 @@ use Rattle.chains.specs.declared.position.Positions.{Positions}
 use Rattle.mmio.specs.declared.common.Common.{Common}
 use Rattle.mmio.specs.declared.queue.Queue.{Queue}
 use Rattle.machine.specs.Numbers.{spelled, digits, flag}
-use Rattle.machine.specs.Sound.{IsSoundDevice}
-use Rattle.machine.specs.State.{DeviceState}
-use Rattle.machine.specs.declared.shape.Shape.{Shape}
-use Rattle.machine.specs.declared.shape.Shape.TheVariants.{Entropy}
+use Rattle.board.specs.Sound.{IsSoundDevice}
+use Rattle.board.specs.State.{DeviceState}
+use Rattle.board.specs.declared.shape.Shape.{Shape}
+use Rattle.board.specs.declared.shape.Shape.TheVariants.{Entropy}
 
 -- The registers that a device has once, in 26 bytes: status and interrupt status, DeviceFeaturesSel, DriverFeaturesSel, the
 -- driver's features, QueueSel and ConfigGeneration (VIRTIO 1.2, 4.2.2).

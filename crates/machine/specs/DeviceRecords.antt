@@ -3,10 +3,10 @@ use Rattle.std.specs.Prelude.{◌≡◌, ℕ, List, ◌++◌}
 use Rattle.std.specs.List.{AllByRecursion}
 use Rattle.machine.specs.DeviceBody.{body}
 use Rattle.machine.specs.Records.{device, spelled_record, HasSpelling}
-use Rattle.machine.specs.Sound.{IsSoundDevice}
-use Rattle.machine.specs.State.{DeviceState}
+use Rattle.board.specs.Sound.{IsSoundDevice}
+use Rattle.board.specs.State.{DeviceState}
 use Rattle.machine.specs.Stream.{device_texts, shapes_in}
-use Rattle.machine.specs.declared.shape.Shape.{Shape}
+use Rattle.board.specs.declared.shape.Shape.{Shape}
 
 -- The bytes begin with the record of the device of this number, whatever its body is.
 pub record IsRawDevice (number : ℕ) (bytes raw rest : List ℕ) : Type 0 where

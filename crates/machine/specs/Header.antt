@@ -2,8 +2,8 @@
 use Rattle.std.specs.Prelude.{◌≡◌, ◌≤◌, ℕ, codes, List, [], ◌∷◌, ◌++◌, length}
 use Rattle.std.specs.List.{flat_map}
 use Rattle.machine.specs.Numbers.{digits}
-use Rattle.machine.specs.declared.shape.Shape.{Shape}
-use Rattle.machine.specs.declared.shape.Shape.TheVariants.{Entropy}
+use Rattle.board.specs.declared.shape.Shape.{Shape}
+use Rattle.board.specs.declared.shape.Shape.TheVariants.{Entropy}
 
 -- A device's number, and what else its shape says.
 unfoldable pub spelled_shape : Shape → List ℕ

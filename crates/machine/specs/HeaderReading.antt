@@ -1,7 +1,7 @@
 -- How a header is read. That this is the spelling the other way round is proved beside it.
 use Rattle.std.specs.Prelude.{ℕ, not, List, length, drop, nat_lt, ◌||◌, ◌==◌, if◌then◌else◌, Option, Some, None}
 use Rattle.guestmem.specs.Number.{number_at}
-use Rattle.machine.specs.declared.shape.Shape.{Shape}
+use Rattle.board.specs.declared.shape.Shape.{Shape}
 use Rattle.machine.specs.ShapeReading.{shapes_of}
 
 abbrev pub with_pages : ℕ → Option (List Shape × List ℕ) → Option (ℕ × List Shape × List ℕ)

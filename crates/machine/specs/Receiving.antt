@@ -1,7 +1,7 @@
 -- What receiving a stream answers.
 use Rattle.std.specs.Prelude.{◌≡◌, ◌++◌, ℕ, List}
 use Rattle.machine.specs.Records.{HasSpelling, commit, spelled_record}
-use Rattle.machine.specs.State.{MachineState}
+use Rattle.board.specs.State.{MachineState}
 use Rattle.machine.specs.Stream.{IsStream, rounds}
 use Rattle.machine.specs.declared.wire.recv_error.RecvError.{RecvError}
 use Rattle.machine.specs.declared.wire.recv_error.RecvError.TheVariants.{BadMagic, BadVersion, BadShape, ShapeMismatch, BadTag, BadPage, BadSector, BadRound, BadDevice, BadDigest, Missing, Trailing, Truncated, NoMemory}

@@ -1,7 +1,7 @@
 -- How shapes are read. That this is the spelling the other way round is proved beside it.
 use Rattle.std.specs.Prelude.{ℕ, zero, suc, List, [], ◌∷◌, ◌++◌, ◌==◌, if◌then◌else◌, Option, Some, None, option_and_then}
-use Rattle.machine.specs.declared.shape.Shape.{Shape}
-use Rattle.machine.specs.declared.shape.Shape.TheVariants.{Entropy}
+use Rattle.board.specs.declared.shape.Shape.{Shape}
+use Rattle.board.specs.declared.shape.Shape.TheVariants.{Entropy}
 
 -- The shape at the front of the bytes, and the bytes after it.
 unfoldable pub shape_of : List ℕ → Option (Shape × List ℕ)

@@ -6,9 +6,9 @@ use Rattle.sha2.specs.Sha256.{sha256}
 use Rattle.machine.specs.DeviceBody.{body}
 use Rattle.machine.specs.Header.{header}
 use Rattle.machine.specs.Records.{Record, page, round_end, device, commit, spelled_record, HasSpelling}
-use Rattle.machine.specs.Sound.{IsSound}
-use Rattle.machine.specs.State.{DeviceState, MachineState}
-use Rattle.machine.specs.declared.shape.Shape.{Shape}
+use Rattle.board.specs.Sound.{IsSound}
+use Rattle.board.specs.State.{DeviceState, MachineState}
+use Rattle.board.specs.declared.shape.Shape.{Shape}
 
 abbrev pub shapes_in : List DeviceState → List Shape
 shapes_in devices = map (λ d. d.shape) devices

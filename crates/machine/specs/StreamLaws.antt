@@ -1,8 +1,8 @@
 -- What the laws of streams say.
 use Rattle.std.specs.Prelude.{◌≡◌, List, ◌++◌, ℕ}
 use Rattle.machine.specs.Records.{Record, HasSpelling, spelled_record}
-use Rattle.machine.specs.Sound.{IsSound}
-use Rattle.machine.specs.State.{MachineState}
+use Rattle.board.specs.Sound.{IsSound}
+use Rattle.board.specs.State.{MachineState}
 use Rattle.machine.specs.Stream.{IsStream, whole}
 
 -- Bytes that begin with the spellings of two records begin with one record: no spelling of a record is the beginning of

@@ -3,18 +3,17 @@
 ghost use Rattle.std.specs.Prelude.{◌≡◌, ◌≤◌, ◌↔◌, ◌∷◌, [], IsTrue, IfOk, IfErr, length};
 ghost use Rattle.machine.specs.BodyReading.{HasEntropyForm, RefusesBody};
 ghost use Rattle.machine.specs.DeviceBody.{IsBodyOf};
-ghost use Rattle.machine.specs.QueuePositions.{HasPositions, is_packed_by};
-ghost use Rattle.machine.specs.Shapes.{saved_device};
-ghost use Rattle.machine.specs.Sound.{IsSoundDevice};
-ghost use Rattle.machine.specs.declared.shape.Shape.TheVariants as shapes;
+ghost use Rattle.board.specs.QueuePositions.{HasPositions, is_packed_by};
+ghost use Rattle.board.specs.Shapes.{saved_device};
+ghost use Rattle.board.specs.Sound.{IsSoundDevice};
+ghost use Rattle.board.specs.declared.shape.Shape.TheVariants as shapes;
 
-use crate::shape::Shape;
-use crate::state::{DeviceState, offered};
 use crate::wire::decode_error::DecodeError;
 use crate::wire::numbers::u16_at;
 use crate::wire::registers_text::{
     COMMON_LEN, QUEUE_LEN, common_at, has_flags, positions_at, queue_at,
 };
+use board::{DeviceState, Shape, offered};
 use chains::{Position, Positions};
 use console::{HOST_BYTES_MAX, HostBytes};
 use mmio::{Common, Queue, RING_PACKED, is_sound_common, is_sound_queue};

@@ -4,13 +4,12 @@ ghost use Rattle.std.specs.Prelude.{◌≡◌, ◌≢◌, ◌<◌, ◌≤◌, �
 ghost use Rattle.machine.specs.DeviceRecords.{IsRawDevice, NoRawDevice, StartsDevice, StartsNoDevice, StartsDevices, StartsNoDevices};
 ghost use Rattle.machine.specs.Receiving.{Refuses};
 
-use crate::shape::Shape;
-use crate::state::DeviceState;
 use crate::wire::decode_error::DecodeError;
 use crate::wire::device_reading::decode_device;
 use crate::wire::faults::device_fault;
 use crate::wire::record::{Record, decode_record};
 use crate::wire::recv_error::RecvError;
+use board::{DeviceState, Shape};
 use std::alloc::Global;
 
 /// The body of the device of this number at the front, and the bytes behind it.

@@ -6,11 +6,10 @@ ghost use Rattle.machine.specs.Header.{header};
 ghost use Rattle.machine.specs.Records.{commit, device, page, spelled_record};
 ghost use Rattle.machine.specs.Sinks.{Counts};
 
-use crate::shape::Shape;
-use crate::state::DeviceState;
 use crate::wire::sink::{Sink, SinkFault};
 use crate::wire::tally::NoTally;
 use crate::wire::writing::{write_device, write_header, write_page};
+use board::{DeviceState, Shape};
 
 /// Writes the header of a stream: of a machine of so many pages, with devices of these shapes.
 pub fn encode_header<S: Sink>(pages: u32, shapes: &[Shape], out: &mut S) -> Result<(), SinkFault>

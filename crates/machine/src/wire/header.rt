@@ -4,11 +4,11 @@ ghost use Rattle.std.specs.Prelude.{◌≡◌, ◌≤◌, IfOk, MatchOption, Non
 ghost use Rattle.machine.specs.Header.{Begins};
 ghost use Rattle.machine.specs.HeaderReading.{header_of};
 ghost use Rattle.machine.specs.ShapeReading.{shapes_of};
-ghost use Rattle.machine.specs.declared.shape.Shape.{Shape};
+ghost use Rattle.board.specs.declared.shape.Shape.{Shape};
 
-use crate::shape::Shape;
 use crate::wire::numbers::u32_at;
 use crate::wire::shape_spelling::shape_at;
+use board::Shape;
 use std::alloc::{AllocError, Global};
 
 /// "VMIG" as a little-endian number.

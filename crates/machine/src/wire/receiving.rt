@@ -2,16 +2,15 @@
 
 ghost use Rattle.std.specs.Prelude.{◌≡◌, ◌↔◌, IsTrue, All, IfOk, IfErr, true, vec_len};
 ghost use Rattle.machine.specs.Receiving.{IsNoStream, IsReceived, Refuses};
-ghost use Rattle.machine.specs.Seen.{state_of};
+ghost use Rattle.board.specs.Seen.{state_of};
 
-use crate::disk::Disk;
-use crate::machine::Machine;
 use crate::wire::devices::devices_at;
 use crate::wire::ending::check_commit;
 use crate::wire::faults::{header_fault, missing_fault};
 use crate::wire::header::decode_header;
 use crate::wire::intake::{new_intake, work_off};
 use crate::wire::recv_error::RecvError;
+use board::{Disk, Machine};
 use std::alloc::Global;
 
 /// The machine whose stream the bytes are, with these disks, and how many rounds ended in it. A refusal drops the disks.

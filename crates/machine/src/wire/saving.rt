@@ -1,18 +1,17 @@
 //! A whole machine, saved to a sink.
 
 ghost use Rattle.std.specs.Prelude.{◌≡◌, ◌++◌, ℕ, List, IsTrue, OnOk, IfErr};
-ghost use Rattle.machine.specs.Seen.{state_of};
+ghost use Rattle.board.specs.Seen.{state_of};
 ghost use Rattle.machine.specs.Sinks.{Counts};
 ghost use Rattle.machine.specs.Stream.{device_texts, saved, whole};
 ghost use Rattle.machine.specs.declared.wire.mig_error.MigError.TheVariants as errors;
 
-use crate::disk::Disk;
-use crate::machine::Machine;
 use crate::wire::encode::encode_commit;
 use crate::wire::mig_error::MigError;
 use crate::wire::sink::{Sink, SinkFault};
 use crate::wire::tally::Tally;
 use crate::wire::writing::{write_device, write_header, write_pages};
+use board::{Disk, Machine};
 use guestmem::PAGE_SIZE;
 use sha2::{Digest, Sha256};
 

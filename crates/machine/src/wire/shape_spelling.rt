@@ -3,7 +3,7 @@
 ghost use Rattle.std.specs.Prelude.{◌≡◌, MatchOption, None, Some};
 ghost use Rattle.machine.specs.ShapeReading.{shape_of};
 
-use crate::shape::Shape;
+use board::Shape;
 
 /// The shape at the front of the bytes, and the bytes after it.
 #[tactic(auto, unfolding(crate::specs::ShapeReading::shape_of))]

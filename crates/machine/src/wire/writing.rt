@@ -7,11 +7,10 @@ ghost use Rattle.machine.specs.Records.{page, device, spelled_record};
 ghost use Rattle.machine.specs.Sinks.{Counts};
 ghost use Rattle.machine.specs.Stream.{page_entries, texts};
 
-use crate::shape::Shape;
-use crate::state::DeviceState;
 use crate::wire::registers_text::{COMMON_LEN, QUEUE_LEN, common_bytes, queue_bytes};
 use crate::wire::sink::{Sink, SinkFault};
 use crate::wire::tally::Tally;
+use board::{DeviceState, Shape};
 use byteorder::{ByteOrder, LittleEndian};
 use chains::Positions;
 use guestmem::{PAGE_SIZE, Ram};

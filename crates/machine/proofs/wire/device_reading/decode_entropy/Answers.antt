@@ -1,8 +1,8 @@
 use Rattle.std.proofs.Common.{rules, ◌≡◌, drop, true, arith, subst, sym, ◌∙◌}
-use Rattle.machine.specs.Sound.{IsSoundDevice}
+use Rattle.board.specs.Sound.{IsSoundDevice}
 use Rattle.machine.specs.DeviceBody.{IsBodyOf}
 use Rattle.machine.specs.BodyReading.{queue_of, positions_of}
-use Rattle.machine.specs.declared.shape.Shape.TheVariants.{Entropy}
+use Rattle.board.specs.declared.shape.Shape.TheVariants.{Entropy}
 use Rattle.machine.proofs.Bodies.{no_form, not_sound, is_body, read_parts}
 use Rattle.machine.proofs.wire.device_reading.decode_entropy.Goals as goal
 

@@ -1,6 +1,6 @@
 use Rattle.std.proofs.Common.{◌≡◌, ◌++◌, ℕ, List, take}
 use Rattle.std.specs.Prelude.{IsTrue}
-use Rattle.machine.specs.Seen.{state_of}
+use Rattle.board.specs.Seen.{state_of}
 use Rattle.machine.specs.Stream.{device_texts}
 use Rattle.machine.proofs.wire.saving.write_devices.Given as goal
 
