@@ -1,0 +1,113 @@
+//! One script, and the trace that it stands for.
+
+use std::alloc::Global;
+use std::io::{self, Write};
+
+/// The registers that a driver writes to set up a queue, in the order in which a script names their values.
+const QUEUE_REGISTERS: [&str; 5] = ["0x030", "0x038", "0x080", "0x090", "0x0a0"];
+
+/// A trace, and the lines that its replies must have.
+///
+/// The lines of a script are those of a trace (`ram 1`, `entropy`, `mw 0x100 000001000000`, `s 0 0`). Behind an event
+/// stands ` -> ` and the line of its reply, where that is not `done`. Spaces before a line, empty lines and lines that
+/// begin with `#` mean nothing. Four lines stand for writes of registers, of which each is done (VIRTIO 1.2, 3.1.1 and
+/// 4.2.2):
+///
+/// - `UP DEV LOW HIGH`: the driver finds the device, sets features, of which these are the lower and the upper 32 bits,
+///   and FEATURES_OK;
+/// - `QUEUE DEV QUEUE SIZE TABLE DRIVER DEVICE`: the size of a queue, the addresses of its three areas, QueueReady;
+/// - `GO DEV`: DRIVER_OK;
+/// - `KICK DEV QUEUE`: the driver notifies the device of a queue.
+#[derive(Drop)]
+pub struct Script {
+    trace: Vec<u8>,
+    replies: Vec<u8>,
+}
+
+impl Script {
+    /// A script of no lines. It takes no memory.
+    pub fn new(alloc: Global) -> Script {
+        Script {
+            trace: Vec::new(alloc),
+            replies: Vec::new(alloc),
+        }
+    }
+
+    /// The trace that it stands for.
+    pub fn trace(&self) -> &[u8] {
+        self.trace.as_slice()
+    }
+
+    /// The lines of the replies.
+    pub fn replies(&self) -> &[u8] {
+        self.replies.as_slice()
+    }
+
+    /// Adds the lines of a text. Its only error is want of memory.
+    pub fn add(&mut self, text: &str) -> io::Result<()> {
+        for line in text.lines() {
+            self.add_line(line.trim())?;
+        }
+        Ok(())
+    }
+
+    fn add_line(&mut self, line: &str) -> io::Result<()> {
+        if line.is_empty() || line.starts_with('#') {
+            return Ok(());
+        }
+        if let Some((event, reply)) = line.split_once(" -> ") {
+            return self.add_event(event, reply);
+        }
+        let (first, words) = cut(line);
+        match first {
+            "ram" | "entropy" => writeln!(self.trace, "{line}"),
+            "UP" => self.add_start(words),
+            "QUEUE" => self.add_queue(words),
+            "GO" => self.add_write(words, "0x070", "15"),
+            "KICK" => self.add_kick(words),
+            _ => self.add_event(line, "done"),
+        }
+    }
+
+    fn add_event(&mut self, event: &str, reply: &str) -> io::Result<()> {
+        writeln!(self.trace, "{event}")?;
+        writeln!(self.replies, "{reply}")
+    }
+
+    fn add_start(&mut self, words: &str) -> io::Result<()> {
+        let (device, features) = cut(words);
+        let (low, high) = cut(features);
+        self.add_write(device, "0x070", "3")?;
+        self.add_write(device, "0x024", "0")?;
+        self.add_write(device, "0x020", low)?;
+        self.add_write(device, "0x024", "1")?;
+        self.add_write(device, "0x020", high)?;
+        self.add_write(device, "0x070", "11")
+    }
+
+    fn add_queue(&mut self, words: &str) -> io::Result<()> {
+        let (device, mut values) = cut(words);
+        for register in QUEUE_REGISTERS {
+            let (value, rest) = cut(values);
+            self.add_write(device, register, value)?;
+            values = rest;
+        }
+        self.add_write(device, "0x044", "1")
+    }
+
+    fn add_kick(&mut self, words: &str) -> io::Result<()> {
+        let (device, queue) = cut(words);
+        self.add_write(device, "0x050", queue)
+    }
+
+    /// A write of a register of four bytes.
+    fn add_write(&mut self, device: &str, register: &str, value: &str) -> io::Result<()> {
+        writeln!(self.trace, "w {device} {register} 4 {value}")?;
+        writeln!(self.replies, "done")
+    }
+}
+
+/// The first word, and those behind it.
+fn cut(words: &str) -> (&str, &str) {
+    words.split_once(' ').unwrap_or((words, ""))
+}
