@@ -1,7 +1,7 @@
 //! One script, and the trace that it stands for.
 
 use std::alloc::Global;
-use std::io::{self, Write};
+use std::io::{self, ErrorKind, Write};
 
 /// The registers that a driver writes to set up a queue, in the order in which a script names their values.
 const QUEUE_REGISTERS: [&str; 5] = ["0x030", "0x038", "0x080", "0x090", "0x0a0"];
@@ -10,8 +10,8 @@ const QUEUE_REGISTERS: [&str; 5] = ["0x030", "0x038", "0x080", "0x090", "0x0a0"]
 ///
 /// The lines of a script are those of a trace (`ram 1`, `entropy`, `mw 0x100 000001000000`, `s 0 0`). Behind an event
 /// stands ` -> ` and the line of its reply, where that is not `done`. Spaces before a line, empty lines and lines that
-/// begin with `#` mean nothing. Four lines stand for writes of registers, of which each is done (VIRTIO 1.2, 3.1.1 and
-/// 4.2.2):
+/// begin with `#` mean nothing. Commas part a line into pieces, of which `PIECE*COUNT` stands for so many: `mw 0 ,aa*3,bb`
+/// is `mw 0 aaaaaabb`. Four lines stand for writes of registers, of which each is done (VIRTIO 1.2, 3.1.1 and 4.2.2):
 ///
 /// - `UP DEV LOW HIGH`: the driver finds the device, sets features, of which these are the lower and the upper 32 bits,
 ///   and FEATURES_OK;
@@ -43,7 +43,7 @@ impl Script {
         self.replies.as_slice()
     }
 
-    /// Adds the lines of a text. Its only error is want of memory.
+    /// Adds the lines of a text. `InvalidData` where a count is no number; else its only error is want of memory.
     pub fn add(&mut self, text: &str) -> io::Result<()> {
         for line in text.lines() {
             self.add_line(line.trim())?;
@@ -70,8 +70,8 @@ impl Script {
     }
 
     fn add_event(&mut self, event: &str, reply: &str) -> io::Result<()> {
-        writeln!(self.trace, "{event}")?;
-        writeln!(self.replies, "{reply}")
+        write_line(&mut self.trace, event)?;
+        write_line(&mut self.replies, reply)
     }
 
     fn add_start(&mut self, words: &str) -> io::Result<()> {
@@ -105,6 +105,27 @@ impl Script {
         writeln!(self.trace, "w {device} {register} 4 {value}")?;
         writeln!(self.replies, "done")
     }
+}
+
+/// Writes the pieces of a line.
+fn write_line(out: &mut Vec<u8>, line: &str) -> io::Result<()> {
+    for piece in line.split(',') {
+        write_piece(out, piece)?;
+    }
+    writeln!(out)
+}
+
+fn write_piece(out: &mut Vec<u8>, piece: &str) -> io::Result<()> {
+    let Some((text, count)) = piece.split_once('*') else {
+        return out.write_all(piece.as_bytes());
+    };
+    let Ok(count) = count.parse::<u32>() else {
+        return Err(io::Error::from(ErrorKind::InvalidData));
+    };
+    for _ in 0..count {
+        out.write_all(text.as_bytes())?;
+    }
+    Ok(())
 }
 
 /// The first word, and those behind it.
