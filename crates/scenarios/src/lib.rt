@@ -1,22 +1,27 @@
 //! What the crates do together. There is no code here, only tests: each file is named for what it shows, and its
 //! expected values come from worked examples, from recorded drivers or from the standard, never from our own output.
 //!
-//! Most tests write a trace into a file, call `vmig::execute` on it as the program does, and compare its standard
-//! output, its standard error and its status. `support` has the short forms that they share.
+//! Scenarios that are a script and nothing else stand in the books of `play_scripts`. Here are the tests that need more: the
+//! program's words, files and statuses, writers that fail, streams, and very long runs. `support` has the short forms
+//! that they share.
 #![tactic(auto)]
 
 #[cfg(test)]
 mod checked_streams;
 #[cfg(test)]
-mod end_of_ram;
+mod damaged_streams;
 #[cfg(test)]
 mod exit_statuses;
 #[cfg(test)]
 mod failing_file;
 #[cfg(test)]
+mod failing_sink;
+#[cfg(test)]
 mod failing_writer;
 #[cfg(test)]
-mod indirect_table;
+mod index_wrap;
+#[cfg(test)]
+mod interrupt_lines;
 #[cfg(test)]
 mod linux_probe;
 #[cfg(test)]
@@ -26,15 +31,13 @@ mod negotiation;
 #[cfg(test)]
 mod packed_linux;
 #[cfg(test)]
+mod packed_linux_habits;
+#[cfg(test)]
 mod queue_ready;
-#[cfg(test)]
-mod ram_accesses;
-#[cfg(test)]
-mod registers;
 #[cfg(test)]
 mod reply_lines;
 #[cfg(test)]
-mod self_naming_descriptor;
+mod saved_machines;
 #[cfg(test)]
 mod streams;
 #[cfg(test)]
