@@ -20,11 +20,7 @@ pub fn play(alloc: Global, script: &Script) -> Result<(Machine<MemDisk>, Vec<u8>
 }
 
 /// The lines that a machine answers to these events.
-pub fn play_on(
-    alloc: Global,
-    machine: &mut Machine<MemDisk>,
-    events: &[Event],
-) -> Result<Vec<u8>> {
+pub fn play_on(alloc: Global, machine: &mut Machine<MemDisk>, events: &[Event]) -> Result<Vec<u8>> {
     let mut replies = Vec::new(alloc);
     for event in events {
         write_reply(&machine.apply(event), &mut replies)?;

@@ -3,8 +3,12 @@
 use std::alloc::Global;
 use std::io::{self, ErrorKind, Write};
 
-/// The registers that a driver writes to set up a queue, in the order in which a script names their values.
-const QUEUE_REGISTERS: [&str; 5] = ["0x030", "0x038", "0x080", "0x090", "0x0a0"];
+/// The registers of the addresses of a queue's areas, lower and upper halves, in the order in which a script names them.
+const AREA_REGISTERS: [(&str, &str); 3] = [
+    ("0x080", "0x084"),
+    ("0x090", "0x094"),
+    ("0x0a0", "0x0a4"),
+];
 
 /// A trace, and the lines that its replies must have.
 ///
@@ -15,7 +19,8 @@ const QUEUE_REGISTERS: [&str; 5] = ["0x030", "0x038", "0x080", "0x090", "0x0a0"]
 ///
 /// - `UP DEV LOW HIGH`: the driver finds the device, sets features, of which these are the lower and the upper 32 bits,
 ///   and FEATURES_OK;
-/// - `QUEUE DEV QUEUE SIZE TABLE DRIVER DEVICE`: the size of a queue, the addresses of its three areas, QueueReady;
+/// - `QUEUE DEV QUEUE SIZE TABLE DRIVER DEVICE`: the size of a queue, the addresses of its three areas, which are below
+///   2^32, and QueueReady;
 /// - `GO DEV`: DRIVER_OK;
 /// - `KICK DEV QUEUE`: the driver notifies the device of a queue.
 #[derive(Drop)]
@@ -86,11 +91,16 @@ impl Script {
     }
 
     fn add_queue(&mut self, words: &str) -> io::Result<()> {
-        let (device, mut values) = cut(words);
-        for register in QUEUE_REGISTERS {
-            let (value, rest) = cut(values);
-            self.add_write(device, register, value)?;
-            values = rest;
+        let (device, rest) = cut(words);
+        let (queue, rest) = cut(rest);
+        let (size, mut addresses) = cut(rest);
+        self.add_write(device, "0x030", queue)?;
+        self.add_write(device, "0x038", size)?;
+        for (lower, upper) in AREA_REGISTERS {
+            let (address, rest) = cut(addresses);
+            self.add_write(device, lower, address)?;
+            self.add_write(device, upper, "0")?;
+            addresses = rest;
         }
         self.add_write(device, "0x044", "1")
     }

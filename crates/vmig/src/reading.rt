@@ -12,7 +12,7 @@ use std::alloc::Global;
 ///
 /// Lines end with LF, which the last may lack. Empty lines and lines that begin with `#` are skipped. The others are
 /// one `ram PAGES`, then 1 to 16 of `entropy`, and then events: `r DEV OFF WIDTH`, `w DEV OFF WIDTH VALUE`,
-/// `mr ADDR LEN` and `mw ADDR BYTES`. One space parts two words.
+/// `mr ADDR LEN`, `mw ADDR BYTES`, `s DEV PICK` and `in DEV BYTES`. One space parts two words.
 ///
 /// `Line` names the first line that may not stand where it stands, or the one that is missing behind the last;
 /// skipped lines count. `NoMemory` comes only where memory was refused.
