@@ -1,27 +1,8 @@
 //! The exit statuses of the program, and what it writes to standard error.
 
-use crate::support::answers;
+use crate::support::{answers, ends};
 use std::fs;
-use std::process::Abort;
-use std::rt::Files;
 use std::test::Fail;
-use vmig::execute;
-
-/// Calls the program on these words, and compares its status and its standard error. Nothing is written to standard
-/// output.
-fn ends(
-    rt: &(impl Abort + Files + AllocGlobal),
-    words: &[&str],
-    status: u8,
-    message: &str,
-) -> Result<(), Fail> {
-    let mut out: Vec<u8> = Vec::new(rt.alloc());
-    let mut err: Vec<u8> = Vec::new(rt.alloc());
-    assert_eq!(rt; execute(rt, words, &mut out, &mut err), status);
-    assert_eq!(rt; err.as_slice(), message.as_bytes());
-    assert!(rt; out.is_empty());
-    Ok(())
-}
 
 #[test]
 fn success_writes_nothing_to_standard_error(rt: HostRuntime) -> Result<(), Fail> {
@@ -56,32 +37,20 @@ fn other_words_are_usage(rt: HostRuntime) -> Result<(), Fail> {
         &["--help"],
     ];
     for words in lines {
-        ends(&rt, words, 2, "vmig: usage\n")?;
+        ends(&rt, words, (2, b"", b"vmig: usage\n"))?;
     }
     Ok(())
 }
 
 #[test]
 fn a_file_that_cannot_be_read_is_named(rt: HostRuntime) -> Result<(), Fail> {
-    ends(
-        &rt,
-        &["run", "missing.trace"],
-        3,
-        "vmig: file missing.trace\n",
-    )?;
-    ends(
-        &rt,
-        &["run", "no such/file"],
-        3,
-        "vmig: file no such/file\n",
-    )?;
+    let missing = (3, b"".as_slice(), b"vmig: file missing.trace\n".as_slice());
+    ends(&rt, &["run", "missing.trace"], missing)?;
+    let nowhere = (3, b"".as_slice(), b"vmig: file no such/file\n".as_slice());
+    ends(&rt, &["run", "no such/file"], nowhere)?;
     fs::create_dir(&rt, "folder.trace")?;
-    ends(
-        &rt,
-        &["run", "folder.trace"],
-        3,
-        "vmig: file folder.trace\n",
-    )?;
+    let folder = (3, b"".as_slice(), b"vmig: file folder.trace\n".as_slice());
+    ends(&rt, &["run", "folder.trace"], folder)?;
     fs::remove_dir(&rt, "folder.trace")?;
     Ok(())
 }

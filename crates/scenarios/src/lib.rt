@@ -35,8 +35,6 @@ mod packed_linux_habits;
 #[cfg(test)]
 mod queue_ready;
 #[cfg(test)]
-mod reply_lines;
-#[cfg(test)]
 mod saved_machines;
 #[cfg(test)]
 mod streams;

@@ -49,8 +49,8 @@ pub fn plays_by_program(
     answers(rt, file, script.trace(), (0, script.replies(), b""))
 }
 
-/// Calls the program on a file of this name with this text, and compares its status, its standard output and its
-/// standard error.
+/// Calls the program to run a trace in a file of this name with this text, and compares its status, its standard output
+/// and its standard error.
 pub fn answers(
     rt: &(impl Abort + Files + AllocGlobal),
     file: &str,
@@ -58,10 +58,20 @@ pub fn answers(
     expected: (u8, &[u8], &[u8]),
 ) -> Result<(), Fail> {
     fs::write(rt, file, text)?;
+    ends(rt, &["run", file], expected)?;
+    fs::remove_file(rt, file)?;
+    Ok(())
+}
+
+/// Calls the program on these words, and compares its status, its standard output and its standard error.
+pub fn ends(
+    rt: &(impl Abort + Files + AllocGlobal),
+    words: &[&str],
+    expected: (u8, &[u8], &[u8]),
+) -> Result<(), Fail> {
     let mut out: Vec<u8> = Vec::new(rt.alloc());
     let mut err: Vec<u8> = Vec::new(rt.alloc());
-    let status = execute(rt, &["run", file], &mut out, &mut err);
-    fs::remove_file(rt, file)?;
+    let status = execute(rt, words, &mut out, &mut err);
     assert_eq!(rt; out.as_slice(), expected.1, "standard output");
     assert_eq!(rt; err.as_slice(), expected.2, "standard error");
     assert_eq!(rt; status, expected.0);

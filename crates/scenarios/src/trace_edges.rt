@@ -1,6 +1,5 @@
 //! The edges of the grammar of a trace.
 
-use machine::{Event, Shape};
 use std::alloc::Global;
 use std::process::Abort;
 use std::test::Fail;
@@ -14,53 +13,6 @@ fn devices(alloc: Global, count: usize) -> Result<String, Fail> {
         text.push_str("entropy\n")?;
     }
     Ok(text)
-}
-
-/// What a trace says, in full.
-#[test]
-fn every_line_is_read(rt: HostRuntime) -> Result<(), Fail> {
-    let text =
-        b"# a\n\nram 0x10\n#\nentropy\nentropy\n\nr 255 0x1F 4\nw 0 4294967295 2 0xffffffff\nmr 18446744073709551615 7\nmw 0xFfffffffffffffff 00fF1a\nmw 0 -";
-    let trace = parse(rt.alloc(), text)?;
-    assert_eq!(rt; trace.pages, 16);
-    assert_eq!(rt;
-        trace.shapes.as_slice(),
-        [Shape::Entropy, Shape::Entropy].as_slice()
-    );
-    assert_eq!(rt; trace.events.len(), 5);
-    match trace.events.as_slice() {
-        [
-            Event::RegRead { dev, off, width },
-            Event::RegWrite {
-                dev: second,
-                off: place,
-                width: half,
-                value,
-            },
-            Event::MemRead { addr, len },
-            Event::MemWrite {
-                addr: last,
-                bytes: some,
-            },
-            Event::MemWrite {
-                addr: first,
-                bytes: none,
-            },
-        ] => {
-            assert_eq!(rt; (*dev, *off, *width), (255, 31, 4));
-            assert_eq!(rt;
-                (*second, *place, *half, *value),
-                (0, u32::MAX, 2, u32::MAX)
-            );
-            assert_eq!(rt; (*addr, *len), (u64::MAX, 7));
-            assert_eq!(rt; *last, u64::MAX);
-            assert_eq!(rt; some.as_slice(), [0x00, 0xff, 0x1a].as_slice());
-            assert_eq!(rt; *first, 0);
-            assert!(rt; none.is_empty());
-        }
-        _ => return Err(Fail::from("other events")),
-    }
-    Ok(())
 }
 
 /// Texts that are traces, one a line, where `|` stands for LF.
@@ -78,6 +30,7 @@ ram 1|#entropy|entropy|# r|r 0 0 4|#|r 0 0 4
 ram 1|entropy|mr 18446744073709551615 4294967295
 ram 1|entropy|r 255 4294967295 255
 ram 1|entropy|mw 0 aAfF09
+# a||ram 0x10|#|entropy|entropy||r 255 0x1F 4|w 0 4294967295 2 0xffffffff|mw 0xFfffffffffffffff 00fF1a|in 1 -|s 0 255
 ram 1|entropy|mw 0 -";
     for text in texts.split('\n') {
         let trace = with_line_feeds(rt.alloc(), text)?;
