@@ -1,0 +1,86 @@
+//! Calls of the program.
+
+use crate::spelling::spelled;
+use crate::text::{read_trace, text_of};
+use anyhow::{Context, Result, bail, ensure};
+use std::fs;
+use vmig::execute;
+
+/// Goes through the lines of a scenario. `FILE NAME TEXT` writes a file, `STREAM NAME WORDS` one of the bytes that these
+/// words spell, and `FOLDER NAME` makes a folder. `CALL WORDS -> STATUS; OUT; ERR` calls the program on these words; it
+/// must end so, and write these texts to standard output and standard error. `PLAY NAME` runs the trace NAME.trace, whose
+/// replies must be NAME.replies. `TRACE TEXT -> NUMBER` reads a text as a trace, whose first bad line has this number, or
+/// which is one for 0. How a text is written, `text` says.
+pub fn make_calls(rt: &HostRuntime, lines: &str) -> Result<()> {
+    for line in lines.lines() {
+        make_call(rt, line).context(line)?;
+    }
+    Ok(())
+}
+
+fn make_call(rt: &HostRuntime, line: &str) -> Result<()> {
+    let (first, words) = line.split_once(' ').context("one word")?;
+    match first {
+        "FILE" => write_text(rt, words),
+        "STREAM" => write_stream(rt, words),
+        "FOLDER" => make_folder(rt, words),
+        "CALL" => call(rt, words),
+        "PLAY" => play(rt, words),
+        "TRACE" => read_trace(rt.alloc(), words),
+        _ => bail!("no such line"),
+    }
+}
+
+fn write_text(rt: &HostRuntime, words: &str) -> Result<()> {
+    let (name, text) = words.split_once(' ').unwrap_or((words, ""));
+    let text = text_of(rt.alloc(), text)?;
+    fs::write(rt, name, text.as_bytes())?;
+    Ok(())
+}
+
+fn write_stream(rt: &HostRuntime, words: &str) -> Result<()> {
+    let (name, text) = words.split_once(' ').unwrap_or((words, ""));
+    let stream = spelled(rt.alloc(), text)?;
+    fs::write(rt, name, stream.as_slice())?;
+    Ok(())
+}
+
+fn make_folder(rt: &HostRuntime, name: &str) -> Result<()> {
+    fs::create_dir(rt, name)?;
+    Ok(())
+}
+
+fn call(rt: &HostRuntime, line: &str) -> Result<()> {
+    let (words, end) = line.split_once(" -> ").context("no end")?;
+    let (status, written) = end.split_once("; ").unwrap_or((end, ""));
+    let (out, err) = written.split_once("; ").unwrap_or((written, ""));
+    let status = status.parse::<u8>()?;
+    let out = text_of(rt.alloc(), out)?;
+    let err = text_of(rt.alloc(), err)?;
+    ends(rt, words, status, (out.as_str(), err.as_str()))
+}
+
+fn play(rt: &HostRuntime, name: &str) -> Result<()> {
+    let replies = format!(in rt.alloc(); "{name}.replies")?;
+    let out = fs::read_to_string(rt, replies.as_str())?;
+    let words = format!(in rt.alloc(); "run {name}.trace")?;
+    ends(rt, words.as_str(), 0, (out.as_str(), ""))
+}
+
+/// Calls the program on these words. It must end with this status, and write this to standard output and standard error.
+fn ends(rt: &HostRuntime, line: &str, status: u8, written: (&str, &str)) -> Result<()> {
+    let mut words: Vec<&str> = Vec::new(rt.alloc());
+    for word in line.split_whitespace() {
+        words.push(word)?;
+    }
+    let mut out: Vec<u8> = Vec::new(rt.alloc());
+    let mut err: Vec<u8> = Vec::new(rt.alloc());
+    let ended = execute(rt, words.as_slice(), &mut out, &mut err);
+    ensure!(
+        ended == status
+            && out.as_slice() == written.0.as_bytes()
+            && err.as_slice() == written.1.as_bytes(),
+        "another end"
+    );
+    Ok(())
+}

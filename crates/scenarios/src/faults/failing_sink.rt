@@ -1,0 +1,72 @@
+//! A writer that fails at any byte of a stream.
+
+use crate::stream::saved;
+use anyhow::{Result, ensure};
+use machine::{Machine, MemDisk, MigError, Shape, WriteSink, save};
+use std::alloc::Global;
+use std::io::BufWriter;
+
+/// The number of the fault of a writer.
+const WRITER_FAILED: u8 = 4;
+
+/// The length of the stream of a machine of one page and one entropy device to which nothing has happened.
+const LEN: usize = 4221;
+
+fn fresh_machine(alloc: Global) -> Result<Machine<MemDisk>> {
+    Ok(Machine::new(alloc, 1, &[Shape::Entropy], Vec::new(alloc))?)
+}
+
+/// A slice is a writer that fails where it is full. Wherever that is, the failure is told, and the slice holds a beginning
+/// of the stream: so the machine that failed to be saved is saved again as it was, at the next byte and in the end whole.
+pub fn write_fails(alloc: Global) -> Result<()> {
+    let mut machine = fresh_machine(alloc)?;
+    let stream = saved(alloc, &mut machine)?;
+    ensure!(stream.len() == LEN, "another length");
+    for room in 0..LEN {
+        fails_after(alloc, &mut machine, stream.as_slice(), room)?;
+    }
+    is_saved_again(alloc, &mut machine, stream.as_slice())
+}
+
+fn fails_after(
+    alloc: Global,
+    machine: &mut Machine<MemDisk>,
+    stream: &[u8],
+    room: usize,
+) -> Result<()> {
+    let mut place = vec![in alloc; 0; room]?;
+    let mut sink = WriteSink::new(place.as_mut_slice());
+    let told = save(machine, &mut sink).err().map_or(0, MigError::code);
+    ensure!(
+        told == WRITER_FAILED && stream.starts_with(place.as_slice()),
+        "room for {room}"
+    );
+    Ok(())
+}
+
+fn is_saved_again(alloc: Global, machine: &mut Machine<MemDisk>, stream: &[u8]) -> Result<()> {
+    let again = saved(alloc, machine)?;
+    ensure!(again.as_slice() == stream, "another stream");
+    Ok(())
+}
+
+/// A writer that holds all back fails only where it is flushed: that is told as well.
+pub fn flush_fails(alloc: Global) -> Result<()> {
+    let mut machine = fresh_machine(alloc)?;
+    ends_at_the_flush(alloc, &mut machine, LEN - 1, WRITER_FAILED)?;
+    ends_at_the_flush(alloc, &mut machine, LEN, 0)
+}
+
+fn ends_at_the_flush(
+    alloc: Global,
+    machine: &mut Machine<MemDisk>,
+    room: usize,
+    code: u8,
+) -> Result<()> {
+    let mut place = vec![in alloc; 0; room]?;
+    let held = BufWriter::with_capacity(alloc, 5000, place.as_mut_slice())?;
+    let mut sink = WriteSink::new(held);
+    let told = save(machine, &mut sink).err().map_or(0, MigError::code);
+    ensure!(told == code, "room for {room}");
+    Ok(())
+}

@@ -1,0 +1,118 @@
+//! A writer that fails at any byte.
+
+use anyhow::{Result, ensure};
+use machine::{Bytes, Refusal, Reply};
+use std::alloc::Global;
+use std::io::{ErrorKind, Write};
+use std::{fs, io};
+use vmig::{execute, write_reply};
+
+/// Takes as many bytes as there is room for, three at a time, and then fails. It is interrupted before each write.
+#[derive(Drop)]
+struct Narrow {
+    held: Vec<u8>,
+    room: usize,
+    interrupted: bool,
+    flushes: bool,
+}
+
+impl Write for Narrow {
+    fn write(&mut self, buf: &[u8]) -> io::Result<usize> {
+        self.interrupted = !self.interrupted;
+        if self.interrupted {
+            return Err(io::Error::from(ErrorKind::Interrupted));
+        }
+        let count = buf.len().min(3).min(self.room);
+        if count == 0 {
+            return Err(io::Error::from(ErrorKind::StorageFull));
+        }
+        self.held.extend_from_slice(&buf[..count])?;
+        self.room -= count;
+        Ok(count)
+    }
+
+    fn flush(&mut self) -> io::Result<()> {
+        if self.flushes {
+            Ok(())
+        } else {
+            Err(io::Error::from(ErrorKind::StorageFull))
+        }
+    }
+}
+
+fn narrow_writer(alloc: Global, room: usize, flushes: bool) -> Narrow {
+    Narrow {
+        held: Vec::new(alloc),
+        room,
+        interrupted: false,
+        flushes,
+    }
+}
+
+/// After a fault a beginning of the line is written, as long as there was room.
+pub fn reply_fails(alloc: Global) -> Result<()> {
+    fails_anywhere(alloc, &Reply::Value(0x74726976), "value 0x74726976\n")?;
+    fails_anywhere(alloc, &Reply::Done, "done\n")?;
+    fails_anywhere(alloc, &Reply::NoMemory, "nomemory\n")?;
+    fails_anywhere(alloc, &Reply::Refused(Refusal::TooLong), "refused 3\n")?;
+    many_bytes_fail(alloc)
+}
+
+fn many_bytes_fail(alloc: Global) -> Result<()> {
+    let none = Reply::Bytes(Bytes::new(alloc));
+    fails_anywhere(alloc, &none, "bytes -\n")?;
+    let many = Reply::Bytes(Bytes::from_vec(vec![in alloc; 0xe7; 100]?));
+    let line = format!(in alloc; "bytes {}\n", "e7".repeat(alloc, 100)?.as_str())?;
+    fails_anywhere(alloc, &many, line.as_str())
+}
+
+fn fails_anywhere(alloc: Global, reply: &Reply, line: &str) -> Result<()> {
+    for room in 0..=line.len() {
+        writes_a_beginning(alloc, reply, line.as_bytes(), room)?;
+    }
+    Ok(())
+}
+
+fn writes_a_beginning(alloc: Global, reply: &Reply, line: &[u8], room: usize) -> Result<()> {
+    let mut out = narrow_writer(alloc, room, true);
+    let is_whole = write_reply(reply, &mut out).is_ok();
+    ensure!(is_whole == (room == line.len()), "room for {room}");
+    ensure!(
+        Some(out.held.as_slice()) == line.get(..room),
+        "room for {room}"
+    );
+    Ok(())
+}
+
+/// What the trace below answers.
+const REPLIES: &[u8] = b"bytes -\nrefused 2\nbytes 00\n";
+
+/// Standard output that fails is told as the file `-`, and what was written before is a beginning of the replies.
+pub fn standard_output_fails(rt: &HostRuntime) -> Result<()> {
+    fs::write(
+        rt,
+        "narrow.trace",
+        "ram 1\nentropy\nmr 0 0\nmr 0x1001 0\nmr 0 1\n",
+    )?;
+    for room in 0..=REPLIES.len() {
+        is_told(
+            rt,
+            narrow_writer(rt.alloc(), room, false),
+            (3, b"vmig: file -\n"),
+        )?;
+    }
+    is_told(rt, narrow_writer(rt.alloc(), REPLIES.len(), true), (0, b""))
+}
+
+fn is_told(rt: &HostRuntime, mut out: Narrow, expected: (u8, &[u8])) -> Result<()> {
+    let room = out.room;
+    let mut err: Vec<u8> = Vec::new(rt.alloc());
+    let status = execute(rt, &["run", "narrow.trace"], &mut out, &mut err);
+    ensure!(
+        status == expected.0
+            && err.as_slice() == expected.1
+            && Some(out.held.as_slice()) == REPLIES.get(..room),
+        "room for {room}"
+    );
+    Ok(())
+}

@@ -1,0 +1,194 @@
+//! One script, and the trace that it stands for.
+
+use std::alloc::Global;
+use std::io::{self, ErrorKind, Write};
+
+/// A trace, and the lines that its replies must have.
+///
+/// The lines of a script are those of a trace (`ram 1`, `entropy`, `mw 0x100 000001000000`, `s 0 0`). Behind an event
+/// stands ` -> ` and the line of its reply, where that is not `done`. Commas part a line into pieces, of which
+/// `PIECE*COUNT` stands for so many: `mw 0 ,aa*3,bb` is `mw 0 aaaaaabb`. A line `LINES BITS` asks which devices' interrupt
+/// lines are up: bit 1 is that of device 1. A line `EACH COUNT EVENTS`, with `; ` between its events, stands for these
+/// events so many times; `@` in an event is the number of the turn, from 1 on, as the two bytes of an index in a ring.
+///
+/// Four lines stand for writes of registers, of which each is done (VIRTIO 1.2, 3.1.1 and 4.2.2):
+///
+/// - `UP DEV LOW HIGH`: the driver finds the device, sets features, of which these are the lower and the upper 32 bits,
+///   and FEATURES_OK;
+/// - `QUEUE DEV QUEUE SIZE TABLE DRIVER DEVICE`: the size of a queue, the addresses of its three areas, which are below
+///   2^32, and QueueReady;
+/// - `GO DEV`: DRIVER_OK;
+/// - `KICK DEV QUEUE`: the driver notifies the device of a queue.
+#[derive(Drop)]
+pub struct Script {
+    alloc: Global,
+    trace: Vec<u8>,
+    replies: Vec<u8>,
+    events: usize,
+    asked: Vec<usize>,
+}
+
+impl Script {
+    /// A script of no lines. It takes no memory.
+    pub fn new(alloc: Global) -> Script {
+        Script {
+            alloc,
+            trace: Vec::new(alloc),
+            replies: Vec::new(alloc),
+            events: 0,
+            asked: Vec::new(alloc),
+        }
+    }
+
+    /// The trace that it stands for.
+    pub fn trace(&self) -> &[u8] {
+        self.trace.as_slice()
+    }
+
+    /// The lines of the replies.
+    pub fn replies(&self) -> &[u8] {
+        self.replies.as_slice()
+    }
+
+    /// Whether the interrupt lines are asked for once so many events are done.
+    pub fn asks_after(&self, events: usize) -> bool {
+        self.asked.contains(&events)
+    }
+
+    /// Adds the lines of a text. `InvalidData` where a count is no number; else its only error is want of memory.
+    pub fn add(&mut self, text: &str) -> io::Result<()> {
+        for line in text.lines() {
+            self.add_line(line)?;
+        }
+        Ok(())
+    }
+
+    fn add_line(&mut self, line: &str) -> io::Result<()> {
+        let (first, words) = cut(line);
+        match first {
+            "ram" | "entropy" => writeln!(self.trace, "{line}"),
+            "EACH" => self.add_turns(words),
+            "LINES" => self.add_question(words),
+            "UP" => self.add_start(words),
+            "QUEUE" => self.add_queue(words),
+            "GO" => self.add_write(words, "0x070", "15"),
+            "KICK" => self.add_kick(words),
+            _ => self.add_event(line),
+        }
+    }
+
+    fn add_event(&mut self, line: &str) -> io::Result<()> {
+        let (event, reply) = line.split_once(" -> ").unwrap_or((line, "done"));
+        self.events = self.events.saturating_add(1);
+        write_line(&mut self.trace, event)?;
+        write_line(&mut self.replies, reply)
+    }
+
+    fn add_question(&mut self, bits: &str) -> io::Result<()> {
+        self.asked.push(self.events)?;
+        writeln!(self.replies, "lines {bits}")
+    }
+
+    fn add_turns(&mut self, words: &str) -> io::Result<()> {
+        let (count, events) = cut(words);
+        for turn in 1..=number(count)? {
+            self.add_turn(turn, events)?;
+        }
+        Ok(())
+    }
+
+    fn add_turn(&mut self, turn: u16, events: &str) -> io::Result<()> {
+        let [low, high] = turn.to_le_bytes();
+        let index = format!(in self.alloc; "{low:02x}{high:02x}")?;
+        let events = events.replace(self.alloc, "@", index.as_str())?;
+        for event in events.as_str().split("; ") {
+            self.add_event(event)?;
+        }
+        Ok(())
+    }
+
+    fn add_start(&mut self, words: &str) -> io::Result<()> {
+        let (device, features) = cut(words);
+        let (low, high) = cut(features);
+        let writes = [
+            ("0x070", "3"),
+            ("0x024", "0"),
+            ("0x020", low),
+            ("0x024", "1"),
+            ("0x020", high),
+            ("0x070", "11"),
+        ];
+        self.add_writes(device, &writes)
+    }
+
+    fn add_queue(&mut self, words: &str) -> io::Result<()> {
+        let (device, rest) = cut(words);
+        let (queue, rest) = cut(rest);
+        let (size, rest) = cut(rest);
+        let (table, rest) = cut(rest);
+        let (driver, used) = cut(rest);
+        let writes = [
+            ("0x030", queue),
+            ("0x038", size),
+            ("0x080", table),
+            ("0x084", "0"),
+            ("0x090", driver),
+            ("0x094", "0"),
+            ("0x0a0", used),
+            ("0x0a4", "0"),
+            ("0x044", "1"),
+        ];
+        self.add_writes(device, &writes)
+    }
+
+    fn add_kick(&mut self, words: &str) -> io::Result<()> {
+        let (device, queue) = cut(words);
+        self.add_write(device, "0x050", queue)
+    }
+
+    /// Writes of registers, each with what is written.
+    fn add_writes(&mut self, device: &str, writes: &[(&str, &str)]) -> io::Result<()> {
+        for (register, value) in writes {
+            self.add_write(device, register, value)?;
+        }
+        Ok(())
+    }
+
+    /// A write of a register of four bytes.
+    fn add_write(&mut self, device: &str, register: &str, value: &str) -> io::Result<()> {
+        self.events = self.events.saturating_add(1);
+        writeln!(self.trace, "w {device} {register} 4 {value}")?;
+        writeln!(self.replies, "done")
+    }
+}
+
+/// Writes the pieces of a line.
+fn write_line(out: &mut Vec<u8>, line: &str) -> io::Result<()> {
+    for piece in line.split(',') {
+        write_piece(out, piece)?;
+    }
+    writeln!(out)
+}
+
+fn write_piece(out: &mut Vec<u8>, piece: &str) -> io::Result<()> {
+    let Some((text, count)) = piece.split_once('*') else {
+        return out.write_all(piece.as_bytes());
+    };
+    for _ in 0..number(count)? {
+        out.write_all(text.as_bytes())?;
+    }
+    Ok(())
+}
+
+/// The number of these digits. `InvalidData` where there is none.
+fn number(digits: &str) -> io::Result<u16> {
+    match digits.parse::<u16>() {
+        Ok(number) => Ok(number),
+        Err(_) => Err(io::Error::from(ErrorKind::InvalidData)),
+    }
+}
+
+/// The first word, and those behind it.
+fn cut(words: &str) -> (&str, &str) {
+    words.split_once(' ').unwrap_or((words, ""))
+}

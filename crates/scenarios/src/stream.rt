@@ -1,0 +1,39 @@
+//! Streams of machines: how they are made and received.
+
+use crate::journey::Journey;
+use crate::refusal::tells;
+use anyhow::{Result, ensure};
+use machine::{Machine, MemDisk, RecvError, WriteSink, receive, save};
+use std::alloc::Global;
+
+/// Lines with a line `saved as` are a journey; those of every other scenario are streams and what is told of them.
+pub fn show(alloc: Global, lines: &str) -> Result<()> {
+    if let Some(journey) = Journey::read(lines) {
+        return journey.travel(alloc);
+    }
+    for line in lines.lines() {
+        tells(alloc, line)?;
+    }
+    Ok(())
+}
+
+/// The stream that a machine is saved as.
+pub fn saved(alloc: Global, machine: &mut Machine<MemDisk>) -> Result<Vec<u8>> {
+    let mut sink = WriteSink::new(Vec::new(alloc));
+    save(machine, &mut sink)?;
+    Ok(sink.into_inner())
+}
+
+/// The machine of a stream in which so many rounds ended.
+pub fn arrived(alloc: Global, stream: &[u8], rounds: u32) -> Result<Machine<MemDisk>> {
+    let (machine, ended) = receive(alloc, stream, Vec::new(alloc))?;
+    ensure!(ended == rounds, "{ended} rounds ended");
+    Ok(machine)
+}
+
+/// The number of the refusal of a stream beside these disks, or 0 where it is received.
+pub fn refusal_of(alloc: Global, stream: &[u8], disks: Vec<MemDisk>) -> u8 {
+    receive(alloc, stream, disks)
+        .err()
+        .map_or(0, RecvError::code)
+}
