@@ -1,10 +1,9 @@
 //! Machines that are saved, received, and go on.
 
 use crate::playing::{play, plays_on};
-use crate::script::Script;
-use crate::spelling::spelled;
 use crate::stream::{arrived, saved};
 use anyhow::{Context, Result, ensure};
+use books::{Script, spelled};
 use machine::{Machine, MemDisk};
 use std::alloc::Global;
 

@@ -1,24 +1,18 @@
-//! Goes through the books that it is given, and then through faults of files and writers, and writes the name of each
-//! scenario that is as it says. The first that is not ends the program.
+//! Goes through the books that it is given, and then through faults of writers, and writes the name of each scenario that is
+//! as it says. The first that is not ends the program.
 //!
-//! A book is a text with scenarios. What its lines are, the folder says that it is in: `scripts` are machines and what
-//! happens to them (`script`), `streams` are machines that are saved and streams that are refused (`journey`,
-//! `refusal`), and `calls` are calls of the program (`call`).
+//! What the lines of a book are, the folder says that it is in: `scripts` are machines and what happens to them, `streams`
+//! are machines that are saved and streams that are refused (`journey`, `refusal`).
 #![tactic(auto)]
 
-mod book;
-mod call;
-mod faults;
+mod failing_sink;
 mod journey;
 mod playing;
 mod refusal;
-mod script;
-mod spelling;
 mod stream;
-mod text;
 
 use anyhow::{Context, Result, bail};
-use book::{Book, Scenario};
+use books::{Book, Scenario};
 use std::io::Write;
 use std::{env, fs};
 
@@ -26,7 +20,6 @@ fn show(rt: &HostRuntime, folder: &str, book: &Book, scenario: &Scenario) -> Res
     match folder {
         "scripts" => playing::play_scenario(rt.alloc(), book, scenario),
         "streams" => stream::show(rt.alloc(), scenario.lines()),
-        "calls" => call::make_calls(rt, scenario.lines()),
         _ => bail!("no such books"),
     }
 }
@@ -47,5 +40,7 @@ fn main(rt: HostRuntime) -> Result<()> {
     for file in env::args(&rt)?.skip(1) {
         show_book(&rt, file.as_str())?;
     }
-    faults::show(&rt)
+    failing_sink::fails(rt.alloc())?;
+    println!(rt; "a writer that fails at any byte")?;
+    Ok(())
 }

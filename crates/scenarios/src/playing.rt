@@ -1,8 +1,7 @@
 //! Scripts, played.
 
-use crate::book::{Book, Scenario};
-use crate::script::Script;
 use anyhow::{Result, bail};
+use books::{Book, Scenario, Script};
 use machine::{Event, Machine, MemDisk};
 use std::alloc::Global;
 use std::io::Write;

@@ -1,8 +1,8 @@
 //! Bytes, and what is told of them when they are received.
 
-use crate::spelling::spelled;
 use crate::stream::refusal_of;
 use anyhow::{Context, Result, ensure};
+use books::spelled;
 use machine::MemDisk;
 use std::alloc::Global;
 

@@ -12,13 +12,19 @@ const WRITER_FAILED: u8 = 4;
 /// The length of the stream of a machine of one page and one entropy device to which nothing has happened.
 const LEN: usize = 4221;
 
+/// Goes through all of it.
+pub fn fails(alloc: Global) -> Result<()> {
+    write_fails(alloc)?;
+    flush_fails(alloc)
+}
+
 fn fresh_machine(alloc: Global) -> Result<Machine<MemDisk>> {
     Ok(Machine::new(alloc, 1, &[Shape::Entropy], Vec::new(alloc))?)
 }
 
 /// A slice is a writer that fails where it is full. Wherever that is, the failure is told, and the slice holds a beginning
 /// of the stream: so the machine that failed to be saved is saved again as it was, at the next byte and in the end whole.
-pub fn write_fails(alloc: Global) -> Result<()> {
+fn write_fails(alloc: Global) -> Result<()> {
     let mut machine = fresh_machine(alloc)?;
     let stream = saved(alloc, &mut machine)?;
     ensure!(stream.len() == LEN, "another length");
@@ -51,7 +57,7 @@ fn is_saved_again(alloc: Global, machine: &mut Machine<MemDisk>, stream: &[u8]) 
 }
 
 /// A writer that holds all back fails only where it is flushed: that is told as well.
-pub fn flush_fails(alloc: Global) -> Result<()> {
+fn flush_fails(alloc: Global) -> Result<()> {
     let mut machine = fresh_machine(alloc)?;
     ends_at_the_flush(alloc, &mut machine, LEN - 1, WRITER_FAILED)?;
     ends_at_the_flush(alloc, &mut machine, LEN, 0)

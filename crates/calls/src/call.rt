@@ -1,8 +1,8 @@
 //! Calls of the program.
 
-use crate::spelling::spelled;
 use crate::text::{read_trace, text_of};
 use anyhow::{Context, Result, bail, ensure};
+use books::spelled;
 use std::fs;
 use vmig::execute;
 

@@ -142,7 +142,7 @@ impl Files for Failing<'_> {
 }
 
 /// A read that fails names the file, and one that was refused memory says so, wherever in the file it is.
-pub fn reads_that_fail(rt: &HostRuntime) -> Result<()> {
+pub fn fails(rt: &HostRuntime) -> Result<()> {
     for after in 0..=TEXT.len() {
         is_told(
             rt,

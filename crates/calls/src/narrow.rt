@@ -49,8 +49,17 @@ fn narrow_writer(alloc: Global, room: usize, flushes: bool) -> Narrow {
     }
 }
 
+/// The line of 20 bytes.
+const MANY_BYTES: &str = "bytes e7e7e7e7e7e7e7e7e7e7e7e7e7e7e7e7e7e7e7e7\n";
+
+/// Goes through all of it.
+pub fn fails(rt: &HostRuntime) -> Result<()> {
+    reply_fails(rt.alloc())?;
+    standard_output_fails(rt)
+}
+
 /// After a fault a beginning of the line is written, as long as there was room.
-pub fn reply_fails(alloc: Global) -> Result<()> {
+fn reply_fails(alloc: Global) -> Result<()> {
     fails_anywhere(alloc, &Reply::Value(0x74726976), "value 0x74726976\n")?;
     fails_anywhere(alloc, &Reply::Done, "done\n")?;
     fails_anywhere(alloc, &Reply::NoMemory, "nomemory\n")?;
@@ -61,9 +70,8 @@ pub fn reply_fails(alloc: Global) -> Result<()> {
 fn many_bytes_fail(alloc: Global) -> Result<()> {
     let none = Reply::Bytes(Bytes::new(alloc));
     fails_anywhere(alloc, &none, "bytes -\n")?;
-    let many = Reply::Bytes(Bytes::from_vec(vec![in alloc; 0xe7; 100]?));
-    let line = format!(in alloc; "bytes {}\n", "e7".repeat(alloc, 100)?.as_str())?;
-    fails_anywhere(alloc, &many, line.as_str())
+    let many = Reply::Bytes(Bytes::from_vec(vec![in alloc; 0xe7; 20]?));
+    fails_anywhere(alloc, &many, MANY_BYTES)
 }
 
 fn fails_anywhere(alloc: Global, reply: &Reply, line: &str) -> Result<()> {
@@ -88,7 +96,7 @@ fn writes_a_beginning(alloc: Global, reply: &Reply, line: &[u8], room: usize) ->
 const REPLIES: &[u8] = b"bytes -\nrefused 2\nbytes 00\n";
 
 /// Standard output that fails is told as the file `-`, and what was written before is a beginning of the replies.
-pub fn standard_output_fails(rt: &HostRuntime) -> Result<()> {
+fn standard_output_fails(rt: &HostRuntime) -> Result<()> {
     fs::write(
         rt,
         "narrow.trace",
