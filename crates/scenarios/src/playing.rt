@@ -5,7 +5,7 @@ use books::{Book, Scenario, Script};
 use machine::{Event, Machine, MemDisk};
 use std::alloc::Global;
 use std::io::Write;
-use vmig::{Trace, parse, write_reply};
+use traces::{Trace, parse, write_reply};
 
 /// Plays a scenario of a book of scripts.
 pub fn play_scenario(alloc: Global, book: &Book, scenario: &Scenario) -> Result<()> {

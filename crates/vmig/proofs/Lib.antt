@@ -1,11 +1,4 @@
-pub mod Numerals
-pub mod Cut
-pub mod Progress
 pub mod Known
-pub mod Whole
-pub mod Decimal
-pub mod HexText
-pub mod OneReading
 pub mod AllReplies
 pub mod TakenWords
 pub mod Refused

@@ -1,10 +1,3 @@
-pub mod Lines
-pub mod Numbers
-pub mod Line
-pub mod Trace
-pub mod Reading
-pub mod Replies
-pub mod Laws
 pub mod Words
 pub mod Commands
 pub mod Status

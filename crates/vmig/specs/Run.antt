@@ -11,9 +11,9 @@ use Rattle.board.specs.declared.new_error.NewError.{NewError}
 use Rattle.board.specs.declared.reply.Reply.{Reply}
 use Rattle.vmig.specs.declared.program.Fault.{Fault}
 use Rattle.vmig.specs.declared.program.Fault.TheVariants.{NoMemory, File, Line, Shape, Stream}
-use Rattle.vmig.specs.declared.trace.TraceError.TheVariants as error
-use Rattle.vmig.specs.Trace.{Contents, IsTrace, Refuses}
-use Rattle.vmig.specs.Replies.{reply_line, newline}
+use Rattle.traces.specs.declared.trace.TraceError.TheVariants as error
+use Rattle.traces.specs.Trace.{Contents, IsTrace, Refuses}
+use Rattle.traces.specs.Replies.{reply_line, newline}
 use Rattle.vmig.specs.Words.{is_run_line, is_check_line}
 
 -- These are replies of a fresh machine of the trace's shape to its events, each event with the outcome of its reply.

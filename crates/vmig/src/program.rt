@@ -4,23 +4,20 @@ ghost use Rattle.std.specs.Prelude.{◌≡◌, ◌↔◌, ◌≤◌, ◌++◌, t
 ghost use Rattle.std.specs.Io.KnownBytes.{Appends};
 ghost use Rattle.vmig.specs.Words.{is_program_line};
 ghost use Rattle.vmig.specs.Status.{status_of, IsPastWords};
-ghost use Rattle.vmig.specs.Trace.{contents_of};
+ghost use Rattle.traces.specs.Trace.{contents_of};
 ghost use Rattle.vmig.specs.Run.{AreReplies, IsPlayed, HasPlayed, IsChecked, HasChecked, HasDone, TellsOfTrace, TellsOfText, TellsOfStream};
 ghost use Rattle.machine.specs.Receiving.{Refuses, IsNoStream};
-ghost use Rattle.vmig.specs.Replies.{reply_line, AppendsBeginning};
+ghost use Rattle.traces.specs.Replies.{reply_line, AppendsBeginning};
 ghost use Rattle.vmig.specs.declared.program.Fault.TheVariants.{Usage};
 
-use crate::put::WriteFault;
-use crate::reading::parse;
-use crate::trace::{Trace, TraceError};
 use crate::words::{Request, WordsError, read_words};
-use crate::writing::{write_checked, write_reply};
 use guestmem::PAGE_SIZE;
 use machine::{Machine, MemDisk, NewError, RecvError, Reply, receive};
 use std::alloc::Global;
 use std::io::Write;
 use std::rt::Files;
 use std::{fs, io};
+use traces::{Trace, TraceError, WriteFault, parse, write_checked, write_reply};
 
 /// The name that stands for standard output where it fails.
 const STANDARD_OUTPUT: &str = "-";

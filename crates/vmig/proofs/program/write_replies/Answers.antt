@@ -1,5 +1,5 @@
 use Rattle.std.proofs.Common.{sym, arith}
-use Rattle.vmig.specs.Replies.{reply_line}
+use Rattle.traces.specs.Replies.{reply_line}
 use Rattle.vmig.proofs.Known.{on_err}
 use Rattle.vmig.proofs.AllReplies.{begun_at}
 use Rattle.vmig.proofs.program.write_replies.Goals as goal

@@ -1,6 +1,6 @@
 use Rattle.std.proofs.Common.{flat_map, take}
 use Rattle.std.specs.Io.KnownBytes.{Appends}
-use Rattle.vmig.specs.Replies.{reply_line}
+use Rattle.traces.specs.Replies.{reply_line}
 use Rattle.vmig.proofs.program.write_replies.Given as goal
 
 abbrev pub invariant-loop-reply : goal.invariant-loop-reply

@@ -1,0 +1,111 @@
+-- What one line of a trace says: the table of its lines.
+use Rattle.std.specs.Prelude.{ℕ, ◌^◌, Bool, true, ◌==◌, if◌then◌else◌, List, [], ◌∷◌, codes, Option, Some, None}
+use Rattle.std.specs.Str.{bytes_eq}
+use Rattle.std.specs.List.{slice_split}
+use Rattle.board.specs.declared.event.Event.TheVariants.{RegRead, RegWrite, MemRead, MemWrite, Step, Input}
+use Rattle.board.specs.declared.shape.Shape.TheVariants.{Entropy}
+use Rattle.traces.specs.declared.line.Line.{Line}
+use Rattle.traces.specs.declared.line.Line.TheVariants.{Skip, Ram, Device, Act}
+use Rattle.traces.specs.Numbers.{◌>>=◌, below, bytes_of}
+
+-- the fields of a line, by the greatest number that each may hold
+abbrev pub u8_field : List ℕ → Option ℕ
+u8_field word = below (2 ^ 8) word
+
+abbrev pub u32_field : List ℕ → Option ℕ
+u32_field word = below (2 ^ 32) word
+
+abbrev pub u64_field : List ℕ → Option ℕ
+u64_field word = below (2 ^ 64) word
+
+-- ram PAGES
+abbrev pub ram_line : List ℕ → Option Line
+ram_line pages = do
+  pages ← u32_field pages
+  Some (Ram pages)
+
+-- r DEV OFF WIDTH
+abbrev pub register_read_line : List ℕ → List ℕ → List ℕ → Option Line
+register_read_line dev off width = do
+  dev ← u8_field dev
+  off ← u32_field off
+  width ← u8_field width
+  Some (Act (RegRead dev off width))
+
+-- w DEV OFF WIDTH VALUE
+abbrev pub register_write_line : List ℕ → List ℕ → List ℕ → List ℕ → Option Line
+register_write_line dev off width value = do
+  dev ← u8_field dev
+  off ← u32_field off
+  width ← u8_field width
+  value ← u32_field value
+  Some (Act (RegWrite dev off width value))
+
+-- mr ADDR LEN
+abbrev pub memory_read_line : List ℕ → List ℕ → Option Line
+memory_read_line addr len = do
+  addr ← u64_field addr
+  len ← u32_field len
+  Some (Act (MemRead addr len))
+
+-- mw ADDR BYTES
+abbrev pub memory_write_line : List ℕ → List ℕ → Option Line
+memory_write_line addr bytes = do
+  addr ← u64_field addr
+  bytes ← bytes_of bytes
+  Some (Act (MemWrite addr bytes))
+
+-- s DEV PICK
+abbrev pub step_line : List ℕ → List ℕ → Option Line
+step_line dev pick = do
+  dev ← u8_field dev
+  pick ← u8_field pick
+  Some (Act (Step dev pick))
+
+-- in DEV BYTES
+abbrev pub input_line : List ℕ → List ℕ → Option Line
+input_line dev bytes = do
+  dev ← u8_field dev
+  bytes ← bytes_of bytes
+  Some (Act (Input dev bytes))
+
+-- Each line has its number of words, and among those of one number the first word tells it.
+abbrev pub one_word : List ℕ → Option Line
+one_word verb = if bytes_eq verb (codes "entropy") then Some (Device Entropy) else None
+
+abbrev pub two_words : List ℕ → List ℕ → Option Line
+two_words verb a = if bytes_eq verb (codes "ram") then ram_line a else None
+
+abbrev pub three_words : List ℕ → List ℕ → List ℕ → Option Line
+three_words verb a b =
+    if bytes_eq verb (codes "mr") then memory_read_line a b
+    else if bytes_eq verb (codes "mw") then memory_write_line a b
+    else if bytes_eq verb (codes "s") then step_line a b
+    else if bytes_eq verb (codes "in") then input_line a b
+    else None
+
+abbrev pub four_words : List ℕ → List ℕ → List ℕ → List ℕ → Option Line
+four_words verb a b c = if bytes_eq verb (codes "r") then register_read_line a b c else None
+
+abbrev pub five_words : List ℕ → List ℕ → List ℕ → List ℕ → List ℕ → Option Line
+five_words verb a b c d = if bytes_eq verb (codes "w") then register_write_line a b c d else None
+
+abbrev pub words_say : List (List ℕ) → Option Line
+words_say (verb ∷ []) = one_word verb
+words_say (verb ∷ a ∷ []) = two_words verb a
+words_say (verb ∷ a ∷ b ∷ []) = three_words verb a b
+words_say (verb ∷ a ∷ b ∷ c ∷ []) = four_words verb a b c
+words_say (verb ∷ a ∷ b ∷ c ∷ d ∷ []) = five_words verb a b c d
+words_say _ = None
+
+abbrev pub is_space : ℕ → Bool
+is_space c = c == 32
+
+-- an empty line, or one that begins with `#`
+abbrev pub is_skipped : List ℕ → Bool
+is_skipped [] = true
+is_skipped (c ∷ cs) = c == 35
+
+-- What a line says, or nothing where it is no line of a trace. One space parts two words.
+unfoldable pub line_says : List ℕ → Option Line
+line_says line = if is_skipped line then Some Skip else words_say (slice_split is_space line)

@@ -1,0 +1,54 @@
+-- What a trace that is being read holds so far. Only the private parts of `parse` name these: its own contract does not.
+use Rattle.std.specs.Prelude.{◌<◌, IsTrue, ℕ, ◌==◌, nat_lt, ◌&&◌, if◌then◌else◌, List, [], ◌∷◌, ◌++◌, length, Option, Some, None, Bool, true, false}
+use Rattle.board.specs.declared.event.Event.{Event}
+use Rattle.board.specs.declared.shape.Shape.{Shape}
+use Rattle.traces.specs.declared.line.Line.{Line}
+use Rattle.traces.specs.declared.line.Line.TheVariants.{Skip, Ram, Device, Act}
+use Rattle.traces.specs.declared.building.Building.{Building}
+use Rattle.traces.specs.declared.trace.Trace as trace
+use Rattle.traces.specs.Numbers.{◌>>=◌}
+use Rattle.traces.specs.Line.{line_says}
+
+pub record Said : Type 0 where
+  pub pages : Option ℕ
+  pub shapes : List Shape
+  pub events : List Event
+
+abbrev pub nothing : Said
+nothing = record { pages = None; shapes = []; events = [] }
+
+abbrev pub said_of : Building → Said
+said_of b = record { pages = b.pages; shapes = b.shapes.items; events = b.events.items }
+
+abbrev pub said_in : trace.Trace → Said
+said_in t = record { pages = Some t.pages; shapes = t.shapes.items; events = t.events.items }
+
+abbrev pub with_ram : Said → ℕ → Option ℕ → Option Said
+with_ram said pages None = Some (record said { pages = Some pages })
+with_ram said pages (Some _) = None
+
+abbrev pub has_pages : Option ℕ → Bool
+has_pages None = false
+has_pages (Some _) = true
+
+-- with one line more, where that may stand there
+abbrev pub with_line : Said → Line → Option Said
+with_line said Skip = Some said
+with_line said (Ram pages) = with_ram said pages said.pages
+with_line said (Device shape) =
+    if has_pages said.pages && (length said.events == 0) && nat_lt (length said.shapes) 16
+    then Some (record said { shapes = said.shapes ++ shape ∷ [] }) else None
+with_line said (Act event) =
+    if nat_lt 0 (length said.shapes) then Some (record said { events = said.events ++ event ∷ [] }) else None
+
+abbrev pub after_line : Said → List ℕ → Option Said
+after_line said line = line_says line >>= with_line said
+
+-- after each of the lines, where each may stand
+unfoldable pub after_lines : Said → List (List ℕ) → Option Said
+after_lines said [] = Some said
+after_lines said (line ∷ lines) = after_line said line >>= λ more. after_lines more lines
+
+-- RAM and a device are there
+abbrev pub IsWhole : Said → Type 0
+IsWhole said = IsTrue (has_pages said.pages) × (0 < length said.shapes)

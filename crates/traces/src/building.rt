@@ -1,0 +1,96 @@
+//! A trace that is read line by line.
+
+use crate::line::{Line, line_in};
+use crate::trace::Trace;
+use board::{Event, Shape};
+use std::alloc::{AllocError, Global};
+
+/// The most devices that a machine has.
+const MOST_DEVICES: usize = 16;
+
+/// What the lines so far say.
+#[derive(Drop)]
+pub struct Building {
+    pub pages: Option<u32>,
+    pub shapes: Vec<Shape>,
+    pub events: Vec<Event>,
+}
+
+impl Building {
+    ghost use Rattle.std.specs.Prelude.{◌≡◌, IfOk, IfSome, IsNone, Some, None, if◌then◌else◌};
+    ghost use Rattle.traces.specs.Reading.{nothing, said_of, said_in, with_line, after_line, IsWhole};
+
+    pub fn new(alloc: Global) -> Building
+        ensures { said_of result ≡ nothing }
+    {
+        Building {
+            pages: None,
+            shapes: Vec::new(alloc),
+            events: Vec::new(alloc),
+        }
+    }
+
+    /// Adds what a line says, and answers whether it may stand there.
+    fn add(&mut self, line: Line) -> Result<bool, AllocError>
+        ensures { IfOk result (λ good. with_line (said_of self.old) line ≡ (if good then Some (said_of self.new) else None)) }
+    {
+        match line {
+            Line::Skip => Ok(true),
+            Line::Ram(pages) => {
+                if self.pages.is_some() {
+                    return Ok(false);
+                }
+                self.pages = Some(pages);
+                Ok(true)
+            }
+            Line::Device(shape) => {
+                if self.pages.is_none()
+                    || !self.events.is_empty()
+                    || self.shapes.len() >= MOST_DEVICES
+                {
+                    return Ok(false);
+                }
+                self.shapes.push(shape)?;
+                Ok(true)
+            }
+            Line::Act(event) => {
+                if self.shapes.is_empty() {
+                    return Ok(false);
+                }
+                self.events.push(event)?;
+                Ok(true)
+            }
+        }
+    }
+
+    /// Reads one line more, and answers whether it may stand there.
+    pub fn add_line(&mut self, alloc: Global, line: &[u8]) -> Result<bool, AllocError>
+        ensures { IfOk result (λ good. after_line (said_of self.old) line.now ≡ (if good then Some (said_of self.new) else None)) }
+    {
+        match line_in(alloc, line)? {
+            Some(said) => self.add(said),
+            None => Ok(false),
+        }
+    }
+
+    /// The trace, or `None` where a line of RAM or of a device is missing.
+    pub fn finish(self) -> Option<Trace>
+        ensures whole { IfSome result (λ trace. IsWhole (said_in trace) × (said_in trace ≡ said_of self)) }
+        ensures part { IsNone result → IsWhole (said_of self) → ⊥ }
+    {
+        let Building {
+            pages,
+            shapes,
+            events,
+        } = self;
+        let pages = pages?;
+        if shapes.is_empty() {
+            return None;
+        }
+        Some(Trace {
+            pages,
+            shapes,
+            events,
+        })
+    }
+}

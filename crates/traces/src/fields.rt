@@ -1,0 +1,61 @@
+//! The fields of a line: numbers that fit, and bytes.
+
+ghost use Rattle.std.specs.Prelude.{◌≡◌, IfOk};
+ghost use Rattle.traces.specs.Numbers.{bytes_of};
+ghost use Rattle.traces.specs.Line.{u8_field, u32_field, u64_field};
+
+use crate::numbers::number;
+use board::Bytes;
+use hex::FromHexError;
+use std::alloc::{AllocError, Global};
+
+pub fn number8(word: &[u8]) -> Option<u8>
+    ensures { result ≡ u8_field word.now }
+{
+    let value = number(word)?;
+    if value < 1 << 8 {
+        Some(value as u8)
+    } else {
+        None
+    }
+}
+
+pub fn number32(word: &[u8]) -> Option<u32>
+    ensures { result ≡ u32_field word.now }
+{
+    let value = number(word)?;
+    if value < 1 << 32 {
+        Some(value as u32)
+    } else {
+        None
+    }
+}
+
+pub fn number64(word: &[u8]) -> Option<u64>
+    ensures { result ≡ u64_field word.now }
+{
+    let value = number(word)?;
+    if value < 1 << 64 {
+        Some(value as u64)
+    } else {
+        None
+    }
+}
+
+/// The bytes that a word spells: two digits for each, or `-` for none.
+#[tactic(auto, unfolding(crate::specs::Numbers::bytes_of))]
+pub fn bytes(alloc: Global, word: &[u8]) -> Result<Option<Bytes>, AllocError>
+    ensures { IfOk result (λ bytes. bytes ≡ bytes_of word.now) }
+{
+    if word.is_empty() {
+        return Ok(None);
+    }
+    if word.len() == 1 && word[0] == b'-' {
+        return Ok(Some(Bytes::new(alloc)));
+    }
+    match hex::decode(alloc, word) {
+        Ok(held) => Ok(Some(Bytes::from_vec(held))),
+        Err(FromHexError::OutOfMemory) => Err(AllocError),
+        Err(_) => Ok(None),
+    }
+}

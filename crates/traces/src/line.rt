@@ -1,0 +1,166 @@
+//! One line of a trace: each function reads the lines of one number of words.
+
+ghost use Rattle.std.specs.Prelude.{◌≡◌, IfOk, map};
+ghost use Rattle.std.specs.List.{slice_split};
+ghost use Rattle.traces.specs.Line.{one_word, two_words, three_words, four_words, five_words, memory_read_line, memory_write_line, step_line, input_line, words_say, line_says, is_space};
+
+use crate::fields::{bytes, number8, number32, number64};
+use board::{Event, Shape};
+use std::alloc::{AllocError, Global};
+
+/// What a line says.
+#[derive(Drop)]
+pub enum Line {
+    /// Nothing: it is empty, or a comment.
+    Skip,
+
+    /// The pages of RAM.
+    Ram(u32),
+
+    /// One device more.
+    Device(Shape),
+
+    /// One event more.
+    Act(Event),
+}
+
+fn one(verb: &[u8]) -> Option<Line>
+    ensures { result ≡ one_word verb.now }
+{
+    if verb == b"entropy".as_slice() {
+        Some(Line::Device(Shape::Entropy))
+    } else {
+        None
+    }
+}
+
+fn two(verb: &[u8], a: &[u8]) -> Option<Line>
+    ensures { result ≡ two_words verb.now a.now }
+{
+    if verb == b"ram".as_slice() {
+        let pages = number32(a)?;
+        Some(Line::Ram(pages))
+    } else {
+        None
+    }
+}
+
+fn memory_read(a: &[u8], b: &[u8]) -> Option<Line>
+    ensures { result ≡ memory_read_line a.now b.now }
+{
+    let addr = number64(a)?;
+    let len = number32(b)?;
+    Some(Line::Act(Event::MemRead { addr, len }))
+}
+
+fn memory_write(alloc: Global, a: &[u8], b: &[u8]) -> Result<Option<Line>, AllocError>
+    ensures { IfOk result (λ line. line ≡ memory_write_line a.now b.now) }
+{
+    let Some(addr) = number64(a) else {
+        return Ok(None);
+    };
+    let Some(bytes) = bytes(alloc, b)? else {
+        return Ok(None);
+    };
+    Ok(Some(Line::Act(Event::MemWrite { addr, bytes })))
+}
+
+fn step(a: &[u8], b: &[u8]) -> Option<Line>
+    ensures { result ≡ step_line a.now b.now }
+{
+    let dev = number8(a)?;
+    let pick = number8(b)?;
+    Some(Line::Act(Event::Step { dev, pick }))
+}
+
+fn input(alloc: Global, a: &[u8], b: &[u8]) -> Result<Option<Line>, AllocError>
+    ensures { IfOk result (λ line. line ≡ input_line a.now b.now) }
+{
+    let Some(dev) = number8(a) else {
+        return Ok(None);
+    };
+    let Some(bytes) = bytes(alloc, b)? else {
+        return Ok(None);
+    };
+    Ok(Some(Line::Act(Event::Input { dev, bytes })))
+}
+
+fn three(alloc: Global, verb: &[u8], a: &[u8], b: &[u8]) -> Result<Option<Line>, AllocError>
+    ensures { IfOk result (λ line. line ≡ three_words verb.now a.now b.now) }
+{
+    if verb == b"mr".as_slice() {
+        Ok(memory_read(a, b))
+    } else if verb == b"mw".as_slice() {
+        memory_write(alloc, a, b)
+    } else if verb == b"s".as_slice() {
+        Ok(step(a, b))
+    } else if verb == b"in".as_slice() {
+        input(alloc, a, b)
+    } else {
+        Ok(None)
+    }
+}
+
+fn four(verb: &[u8], a: &[u8], b: &[u8], c: &[u8]) -> Option<Line>
+    ensures { result ≡ four_words verb.now a.now b.now c.now }
+{
+    if verb != b"r".as_slice() {
+        return None;
+    }
+    let dev = number8(a)?;
+    let off = number32(b)?;
+    let width = number8(c)?;
+    Some(Line::Act(Event::RegRead { dev, off, width }))
+}
+
+fn five(verb: &[u8], a: &[u8], b: &[u8], c: &[u8], d: &[u8]) -> Option<Line>
+    ensures { result ≡ five_words verb.now a.now b.now c.now d.now }
+{
+    if verb != b"w".as_slice() {
+        return None;
+    }
+    let dev = number8(a)?;
+    let off = number32(b)?;
+    let width = number8(c)?;
+    let value = number32(d)?;
+    Some(Line::Act(Event::RegWrite {
+        dev,
+        off,
+        width,
+        value,
+    }))
+}
+
+fn of_words(alloc: Global, words: &[&[u8]]) -> Result<Option<Line>, AllocError>
+    ensures { IfOk result (λ line. line ≡ words_say (map (λ word. word.now) words.now)) }
+{
+    match words {
+        [verb] => Ok(one(verb)),
+        [verb, a] => Ok(two(verb, a)),
+        [verb, a, b] => three(alloc, verb, a, b),
+        [verb, a, b, c] => Ok(four(verb, a, b, c)),
+        [verb, a, b, c, d] => Ok(five(verb, a, b, c, d)),
+        _ => Ok(None),
+    }
+}
+
+/// The words of a line, which one space parts.
+fn words_of(alloc: Global, line: &[u8]) -> Result<Vec<&[u8]>, AllocError>
+    ensures { IfOk result (λ words. map (λ word. word.now) words.items ≡ slice_split is_space line.now) }
+{
+    line.split(|c| *c == b' ').collect(alloc)
+}
+
+/// What a line says, or `None` where it is no line of a trace.
+#[tactic(auto, unfolding(crate::specs::Line::line_says))]
+pub fn line_in(alloc: Global, line: &[u8]) -> Result<Option<Line>, AllocError>
+    ensures { IfOk result (λ said. said ≡ line_says line.now) }
+{
+    match line {
+        [] | [b'#', ..] => Ok(Some(Line::Skip)),
+        _ => {
+            let words = words_of(alloc, line)?;
+            of_words(alloc, words.as_slice())
+        }
+    }
+}

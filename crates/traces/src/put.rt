@@ -1,0 +1,88 @@
+//! Bytes to a writer, of which a fault leaves a beginning written.
+
+ghost use Rattle.std.specs.Prelude.{◌≡◌, ◌≤◌, ◌++◌, OnOk, OnErr, take, decimal, length};
+ghost use Rattle.std.specs.Io.KnownBytes.{Appends};
+ghost use Rattle.hex.specs.Hex.{encode_lower};
+ghost use Rattle.traces.specs.Replies.{AppendsBeginning};
+
+use std::io::{ErrorKind, Write};
+use thiserror::Error;
+
+/// The writer failed.
+#[derive(Clone, Copy, Debug, Drop, PartialEq, Eq, Error)]
+#[error("the writer failed")]
+pub struct WriteFault;
+
+/// How many bytes are turned into digits at a time.
+const BYTES_AT_ONCE: usize = 32;
+
+/// Writes the bytes, or a beginning of them. `write_all` of std does not tell what an Err leaves.
+pub fn put<W: Write>(out: &mut W, bytes: &[u8]) -> Result<(), WriteFault>
+    ensures ok { OnOk result (Appends (W.contents out.old) (W.contents out.new) bytes.now) }
+    ensures err { OnErr result (AppendsBeginning (W.contents out.old) (W.contents out.new) bytes.now) }
+{
+    let mut at = 0;
+    for _ in 0..u64::MAX {
+        if at == bytes.len() {
+            return Ok(());
+        }
+        match out.write(&bytes[at..]) {
+            Ok(0) => return Err(WriteFault),
+            Ok(n) => at += n,
+            Err(e) => {
+                if e.kind() != ErrorKind::Interrupted {
+                    return Err(WriteFault);
+                }
+            }
+        }
+    }
+    Err(WriteFault)
+}
+
+/// Writes one after the other, or a beginning of the two.
+#[tactic(auto, using(crate::proofs::Known::appends_on, crate::proofs::Known::begins_first, crate::proofs::Known::begins_on))]
+pub fn put_both<W: Write>(out: &mut W, first: &[u8], second: &[u8]) -> Result<(), WriteFault>
+    ensures ok { OnOk result (Appends (W.contents out.old) (W.contents out.new) (first.now ++ second.now)) }
+    ensures err { OnErr result (AppendsBeginning (W.contents out.old) (W.contents out.new) (first.now ++ second.now)) }
+{
+    put(out, first)?;
+    put(out, second)
+}
+
+/// Writes two digits for each of a few bytes.
+fn put_few_digits<W: Write>(out: &mut W, bytes: &[u8]) -> Result<(), WriteFault>
+    requires { length bytes.now ≤ 32 }
+    ensures ok { OnOk result (Appends (W.contents out.old) (W.contents out.new) (encode_lower bytes.now)) }
+    ensures err { OnErr result (AppendsBeginning (W.contents out.old) (W.contents out.new) (encode_lower bytes.now)) }
+{
+    let mut digits = [0; 2 * BYTES_AT_ONCE];
+    let count = 2 * bytes.len();
+    match hex::encode_to_slice(bytes, &mut digits[..count]) {
+        Ok(()) => put(out, &digits[..count]),
+        Err(_) => Err(WriteFault),
+    }
+}
+
+/// Writes two digits for each byte, in lower case. However many bytes there are, it takes no memory.
+pub fn put_digits<W: Write>(out: &mut W, bytes: &[u8]) -> Result<(), WriteFault>
+    ensures ok { OnOk result (Appends (W.contents out.old) (W.contents out.new) (encode_lower bytes.now)) }
+    ensures err { OnErr result (AppendsBeginning (W.contents out.old) (W.contents out.new) (encode_lower bytes.now)) }
+{
+    let mut at = 0;
+    while at < bytes.len() {
+        let count = BYTES_AT_ONCE.min(bytes.len() - at);
+        put_few_digits(out, &bytes[at..at + count])?;
+        at += count;
+    }
+    Ok(())
+}
+
+/// Writes a word and then the digits of bytes.
+#[tactic(auto, using(crate::proofs::Known::appends_on, crate::proofs::Known::begins_first, crate::proofs::Known::begins_on))]
+pub fn put_with_digits<W: Write>(out: &mut W, word: &[u8], bytes: &[u8]) -> Result<(), WriteFault>
+    ensures ok { OnOk result (Appends (W.contents out.old) (W.contents out.new) (word.now ++ encode_lower bytes.now)) }
+    ensures err { OnErr result (AppendsBeginning (W.contents out.old) (W.contents out.new) (word.now ++ encode_lower bytes.now)) }
+{
+    put(out, word)?;
+    put_digits(out, bytes)
+}

@@ -1,0 +1,38 @@
+//! The whole of a trace.
+
+ghost use Rattle.std.specs.Prelude.{IfOk, IfErr};
+ghost use Rattle.traces.specs.Trace.{IsTrace, contents_of, Refuses};
+
+use crate::building::Building;
+use crate::lines::cut_line;
+use crate::trace::{Trace, TraceError};
+use std::alloc::Global;
+
+/// Reads a trace.
+///
+/// Lines end with LF, which the last may lack. Empty lines and lines that begin with `#` are skipped. The others are
+/// one `ram PAGES`, then 1 to 16 of `entropy`, and then events: `r DEV OFF WIDTH`, `w DEV OFF WIDTH VALUE`,
+/// `mr ADDR LEN`, `mw ADDR BYTES`, `s DEV PICK` and `in DEV BYTES`. One space parts two words.
+///
+/// `Line` names the first line that may not stand where it stands, or the one that is missing behind the last;
+/// skipped lines count. `NoMemory` comes only where memory was refused.
+pub fn parse(alloc: Global, text: &[u8]) -> Result<Trace, TraceError>
+    ensures read { IfOk result (λ trace. IsTrace text.now (contents_of trace)) }
+    ensures bad { IfErr result (Refuses text.now) }
+{
+    let mut trace = Building::new(alloc);
+    let mut rest = text;
+    let mut number = 0u64;
+    while !rest.is_empty() {
+        let (line, after) = cut_line(rest);
+        number += 1;
+        rest = after;
+        if !trace.add_line(alloc, line)? {
+            return Err(TraceError::Line(number));
+        }
+    }
+    match trace.finish() {
+        Some(trace) => Ok(trace),
+        None => Err(TraceError::Line(number + 1)),
+    }
+}

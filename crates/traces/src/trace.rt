@@ -1,0 +1,50 @@
+//! What a trace holds, and why a text is none.
+
+ghost use Rattle.std.specs.Prelude.{◌≡◌};
+ghost use Rattle.traces.specs.declared.trace.TraceError.TheVariants.{NoMemory};
+
+use board::{Event, Shape};
+use std::alloc::{AllocError, AllocFailed};
+use thiserror::Error;
+
+/// A machine's shape, and what happens to it.
+#[derive(Drop)]
+pub struct Trace {
+    /// The pages of its RAM, of 4,096 bytes each. Any number may stand in a trace; `Machine::new` tells which it takes.
+    pub pages: u32,
+
+    /// Its devices, 1 to 16 of them, in their order.
+    pub shapes: Vec<Shape>,
+
+    /// The events, in their order.
+    pub events: Vec<Event>,
+}
+
+/// Why a text is no trace.
+#[derive(Clone, Copy, Debug, Drop, PartialEq, Eq, Error)]
+pub enum TraceError {
+    /// The first line that may not stand where it stands, counted from 1. Where a text ends too early it is the
+    /// line that is missing: one after the last.
+    #[error("line {0} is not a line of a trace")]
+    Line(u64),
+
+    /// Memory was refused.
+    #[error("out of memory")]
+    NoMemory,
+}
+
+impl From<AllocError> for TraceError {
+    ghost from_gives = { λ _ e. e ≡ NoMemory };
+
+    fn from(_error: AllocError) -> TraceError {
+        TraceError::NoMemory
+    }
+}
+
+impl<T: Drop> From<AllocFailed<T>> for TraceError {
+    ghost from_gives = { λ _ e. e ≡ NoMemory };
+
+    fn from(_error: AllocFailed<T>) -> TraceError {
+        TraceError::NoMemory
+    }
+}

@@ -1,9 +1,0 @@
-use Rattle.std.proofs.Common.{◌≤◌, length, take}
-use Rattle.std.specs.Io.KnownBytes.{Appends}
-use Rattle.vmig.proofs.put.put.Given as goal
-
-abbrev pub invariant-loop : goal.invariant-loop
-invariant-loop g l = record {
-  within : l.at ≤ length l.bytes;
-  done : Appends (g.W.Write.contents l.fn.out) (g.W.Write.contents l.out) (take l.at l.bytes);
-}
