@@ -1,11 +1,10 @@
 //! A writer that fails at any byte.
 
 use anyhow::{Result, ensure};
-use machine::{Bytes, Refusal, Reply};
 use std::alloc::Global;
 use std::io::{ErrorKind, Write};
 use std::{fs, io};
-use vmig::{execute, write_reply};
+use vmig::{Bytes, Refusal, Reply, execute, write_reply};
 
 /// Takes as many bytes as there is room for, three at a time, and then fails. It is interrupted before each write.
 #[derive(Drop)]

@@ -1,20 +1,43 @@
-//! The machine: RAM and 1 to 16 virtio devices, to which one event after another is applied, and that is saved to a stream
-//! of bytes and received again.
+//! The machine: RAM and 1 to 16 virtio devices, to which one event after another is applied.
 //!
-//! `Machine`, its events and its replies are those of the crate `board`, handed on from here, so that an embedder needs
-//! this crate alone. Here are the streams: `save` and `receive`, and the spelling of each part (`wire`). The functions of
-//! `laws` say what holds of every step and of every stream.
+//! An `Event` is one atomic step: a register access, an access to RAM, a piece of a device's work, bytes that the host
+//! puts in. `Machine::apply` answers it with a `Reply`, and `Machine::play` plays a whole list. There is no other way to
+//! change a machine, and no thread.
+//!
+//! What the layer above may rely on: `apply` is a step of the machine in the sense of `specs/Step`, where a step has an
+//! outcome (fine, or memory was refused), a reply and an effect, which is then applied (`specs/Effect`); `play` is a run of
+//! such steps (`specs/Run`). A machine's state is `MachineState` (`specs/State`): one list of bytes, the devices, and the
+//! sectors of their disks. Versions of pages are no part of it. Every machine is sound (`specs/Sound`), and stays so. The
+//! functions of `laws` say what holds of every effect: what is not touched stays, what is touched exists, the shape stays.
+//!
+//! A device finds its work in rings: split ones, or packed ones where the driver accepted them. What a step may see there
+//! is what the definitions of `chains` say of the RAM, so steps with equal outcomes are equal. A malformed chain stops its
+//! own device, and changes nothing else.
+//!
+//! It stands on `guestmem` (RAM), `mmio` (registers), the rings and `console`, and trusts nothing else. The disk under a
+//! block device is any type that keeps the contract of the trait `Disk`; `MemDisk` is one. Streams of machines stand
+//! on it, in `wire`, `sender` and `receiver`; an embedder takes all of it from the crate `vmig`.
 #![tactic(auto)]
 
+mod any_ring;
+mod bytes;
+mod device;
+mod disk;
+mod event;
 pub mod laws;
-mod wire;
+mod machine;
+mod mem_disk;
+mod new_error;
+mod reply;
+mod shape;
+mod state;
 
-pub use board::{
-    Bytes, DEVICES_MAX, DeviceState, Disk, DiskFault, Event, Machine, MemDisk, NewError, Refusal,
-    Reply, SECTOR_SIZE, Shape,
-};
-pub use wire::{
-    DecodeError, Header, MigError, Record, RecvError, Sink, SinkFault, WriteSink, decode_device,
-    decode_header, decode_record, encode_commit, encode_device, encode_header, encode_page,
-    receive, save,
-};
+pub use bytes::Bytes;
+pub use disk::{Disk, DiskFault, SECTOR_SIZE};
+pub use event::Event;
+pub use machine::{DEVICES_MAX, Machine};
+pub use mem_disk::MemDisk;
+pub use new_error::NewError;
+pub use reply::{Refusal, Reply};
+pub use shape::Shape;
+pub use state::{DeviceState, offered};

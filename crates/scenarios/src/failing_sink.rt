@@ -2,9 +2,11 @@
 
 use crate::stream::saved;
 use anyhow::{Result, ensure};
-use machine::{Machine, MemDisk, MigError, Shape, WriteSink, save};
+use machine::{Machine, MemDisk, Shape};
+use sender::{MigError, save};
 use std::alloc::Global;
 use std::io::BufWriter;
+use wire::WriteSink;
 
 /// The number of the fault of a writer.
 const WRITER_FAILED: u8 = 4;

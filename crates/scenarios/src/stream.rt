@@ -3,8 +3,11 @@
 use crate::journey::Journey;
 use crate::refusal::tells;
 use anyhow::{Result, ensure};
-use machine::{Machine, MemDisk, RecvError, WriteSink, receive, save};
+use machine::{Machine, MemDisk};
+use receiver::{RecvError, receive};
+use sender::save;
 use std::alloc::Global;
+use wire::WriteSink;
 
 /// Lines with a line `saved as` are a journey; those of every other scenario are streams and what is told of them.
 pub fn show(alloc: Global, lines: &str) -> Result<()> {

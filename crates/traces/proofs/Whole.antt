@@ -3,9 +3,9 @@ use Rattle.std.proofs.Common.{◌≡◌, ℕ, suc, ◌+◌, ◌<◌, ◌≤◌, 
 use Rattle.std.proofs.lemmas.List.{append-nil, map-append, length-append}
 use Rattle.std.proofs.lemmas.Option.{cond_some}
 use borrow.Author.Tests.{ltb-true}
-use Rattle.board.specs.declared.event.Event.{Event}
-use Rattle.board.specs.declared.shape.Shape.{Shape}
-use Rattle.board.specs.declared.shape.Shape.TheVariants.{Entropy}
+use Rattle.machine.specs.declared.event.Event.{Event}
+use Rattle.machine.specs.declared.shape.Shape.{Shape}
+use Rattle.machine.specs.declared.shape.Shape.TheVariants.{Entropy}
 use Rattle.traces.specs.declared.line.Line.{Line}
 use Rattle.traces.specs.declared.line.Line.TheVariants.{Skip, Ram, Device, Act}
 use Rattle.traces.specs.Numbers.{◌>>=◌, number_of, digits_after}

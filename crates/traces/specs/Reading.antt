@@ -1,7 +1,7 @@
 -- What a trace that is being read holds so far. Only the private parts of `parse` name these: its own contract does not.
 use Rattle.std.specs.Prelude.{◌<◌, IsTrue, ℕ, ◌==◌, nat_lt, ◌&&◌, if◌then◌else◌, List, [], ◌∷◌, ◌++◌, length, Option, Some, None, Bool, true, false}
-use Rattle.board.specs.declared.event.Event.{Event}
-use Rattle.board.specs.declared.shape.Shape.{Shape}
+use Rattle.machine.specs.declared.event.Event.{Event}
+use Rattle.machine.specs.declared.shape.Shape.{Shape}
 use Rattle.traces.specs.declared.line.Line.{Line}
 use Rattle.traces.specs.declared.line.Line.TheVariants.{Skip, Ram, Device, Act}
 use Rattle.traces.specs.declared.building.Building.{Building}

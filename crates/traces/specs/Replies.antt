@@ -3,9 +3,9 @@ use Rattle.std.specs.Prelude.{ℕ, List, [], ◌∷◌, ◌++◌, codes, decimal
 use Rattle.std.specs.Int.{w32, to_be_bytes}
 use Rattle.std.specs.Io.KnownBytes.{Appends}
 use Rattle.hex.specs.Hex.{encode_lower}
-use Rattle.board.specs.Refusal.{code_of}
-use Rattle.board.specs.declared.reply.Reply.{Reply}
-use Rattle.board.specs.declared.reply.Reply.TheVariants.{Value, Done, Bytes, Idle, Completed, Accepted, NeedsReset, NoMemory, Refused}
+use Rattle.machine.specs.Refusal.{code_of}
+use Rattle.machine.specs.declared.reply.Reply.{Reply}
+use Rattle.machine.specs.declared.reply.Reply.TheVariants.{Value, Done, Bytes, Idle, Completed, Accepted, NeedsReset, NoMemory, Refused}
 
 -- the line's LF
 abbrev pub newline : List ℕ

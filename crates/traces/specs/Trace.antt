@@ -1,7 +1,7 @@
 -- A whole trace, and the first bad line of a text that is none.
 use Rattle.std.specs.Prelude.{◌≡◌, ◌<◌, ◌≤◌, ◌⊎◌, take, map, ℕ, ◌+◌, List, [], ◌∷◌, ◌++◌, length, Option, Some}
-use Rattle.board.specs.declared.event.Event.{Event}
-use Rattle.board.specs.declared.shape.Shape.{Shape}
+use Rattle.machine.specs.declared.event.Event.{Event}
+use Rattle.machine.specs.declared.shape.Shape.{Shape}
 use Rattle.traces.specs.declared.line.Line.{Line}
 use Rattle.traces.specs.declared.line.Line.TheVariants.{Skip, Ram, Device, Act}
 use Rattle.traces.specs.declared.trace.Trace as trace

@@ -2,7 +2,7 @@
 
 use crate::line::{Line, line_in};
 use crate::trace::Trace;
-use board::{Event, Shape};
+use machine::{Event, Shape};
 use std::alloc::{AllocError, Global};
 
 /// The most devices that a machine has.

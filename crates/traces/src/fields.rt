@@ -5,7 +5,7 @@ ghost use Rattle.traces.specs.Numbers.{bytes_of};
 ghost use Rattle.traces.specs.Line.{u8_field, u32_field, u64_field};
 
 use crate::numbers::number;
-use board::Bytes;
+use machine::Bytes;
 use hex::FromHexError;
 use std::alloc::{AllocError, Global};
 

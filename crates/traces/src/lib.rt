@@ -13,7 +13,7 @@
 //! `Trace` a whole trace and its first bad line, `Replies` the line of each reply, and `Laws`. `Reading` is for the private
 //! parts of `parse` alone.
 //!
-//! It stands on `board`, whose events and replies these are, and on `hex` for bytes in texts. It trusts that a writer of std
+//! It stands on `machine`, whose events and replies these are, and on `hex` for bytes in texts. It trusts that a writer of std
 //! tells the bytes that it took.
 //!
 //! A line that is new has its row in `specs/Line`, and its arm in `line.rt`, among the lines of as many words.

@@ -5,7 +5,7 @@ ghost use Rattle.std.specs.List.{slice_split};
 ghost use Rattle.traces.specs.Line.{one_word, two_words, three_words, four_words, five_words, memory_read_line, memory_write_line, step_line, input_line, words_say, line_says, is_space};
 
 use crate::fields::{bytes, number8, number32, number64};
-use board::{Event, Shape};
+use machine::{Event, Shape};
 use std::alloc::{AllocError, Global};
 
 /// What a line says.

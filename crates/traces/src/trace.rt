@@ -3,7 +3,7 @@
 ghost use Rattle.std.specs.Prelude.{◌≡◌};
 ghost use Rattle.traces.specs.declared.trace.TraceError.TheVariants.{NoMemory};
 
-use board::{Event, Shape};
+use machine::{Event, Shape};
 use std::alloc::{AllocError, AllocFailed};
 use thiserror::Error;
 

@@ -6,7 +6,7 @@ ghost use Rattle.traces.specs.Replies.{reply_line, value_text, bytes_text, newli
 
 use crate::digits::{MOST_DIGITS, write_decimal};
 use crate::put::{WriteFault, put, put_both, put_with_digits};
-use board::Reply;
+use machine::Reply;
 use std::io::Write;
 
 /// Writes `value 0x` and eight digits.

@@ -1,8 +1,8 @@
 -- What the refusal of a stream means.
 use Rattle.std.proofs.Common.{◌≡◌, refl}
-use Rattle.machine.specs.Receiving.{Refuses}
-use Rattle.machine.specs.declared.wire.recv_error.RecvError.{RecvError}
-use Rattle.machine.specs.declared.wire.recv_error.RecvError.TheVariants.{BadMagic, BadVersion, BadShape, ShapeMismatch, BadTag, BadPage, BadSector, BadRound, BadDevice, BadDigest, Missing, Trailing, Truncated, NoMemory}
+use Rattle.receiver.specs.Receiving.{Refuses}
+use Rattle.receiver.specs.declared.recv_error.RecvError.{RecvError}
+use Rattle.receiver.specs.declared.recv_error.RecvError.TheVariants.{BadMagic, BadVersion, BadShape, ShapeMismatch, BadTag, BadPage, BadSector, BadRound, BadDevice, BadDigest, Missing, Trailing, Truncated, NoMemory}
 
 -- Each but want of memory says that something cannot be.
 pub means : (e : RecvError) (Never : Type 0) → (e ≡ NoMemory → ⊥) → Refuses e Never → Never

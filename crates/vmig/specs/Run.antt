@@ -1,14 +1,14 @@
 -- What the program does with the text of a trace.
 use Rattle.std.specs.Prelude.{◌≡◌, ◌⊎◌, ◌/◌, ◌++◌, ℕ, true, List, length, map, flat_map, codes, decimal, Option, Some}
 use Rattle.std.specs.Io.KnownBytes.{Appends}
-use Rattle.board.specs.State.{MachineState}
-use Rattle.board.specs.First.{first_machine, new_refusal}
-use Rattle.board.specs.Step.{outcome_of}
-use Rattle.board.specs.Run.{IsRun}
-use Rattle.machine.specs.Receiving.{IsReceived, IsNoStream}
-use Rattle.board.specs.Refusal.{new_code_of}
-use Rattle.board.specs.declared.new_error.NewError.{NewError}
-use Rattle.board.specs.declared.reply.Reply.{Reply}
+use Rattle.machine.specs.State.{MachineState}
+use Rattle.machine.specs.First.{first_machine, new_refusal}
+use Rattle.machine.specs.Step.{outcome_of}
+use Rattle.machine.specs.Run.{IsRun}
+use Rattle.receiver.specs.Receiving.{IsReceived, IsNoStream}
+use Rattle.machine.specs.Refusal.{new_code_of}
+use Rattle.machine.specs.declared.new_error.NewError.{NewError}
+use Rattle.machine.specs.declared.reply.Reply.{Reply}
 use Rattle.vmig.specs.declared.program.Fault.{Fault}
 use Rattle.vmig.specs.declared.program.Fault.TheVariants.{NoMemory, File, Line, Shape, Stream}
 use Rattle.traces.specs.declared.trace.TraceError.TheVariants as error

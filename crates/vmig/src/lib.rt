@@ -1,6 +1,9 @@
-//! The program `vmig` as a library: the text of traces, the lines of replies, and a run of the program by its words.
+//! All that an embedder needs, from one crate, and the program `vmig` as a library.
 //!
-//! `parse`, `write_reply` and what belongs to them are those of the crate `traces`, and their laws are its `laws`.
+//! Machines, their events and their replies are those of `machine`; `save` is that of `sender` and `receive` that of
+//! `receiver`, over the sinks and records of `wire`; `parse`, `write_reply` and what belongs to them are those of `traces`.
+//! The functions of `laws` are the laws of all of these.
+//!
 //! `execute` is the whole program: its words, the files that they name, what it prints and its exit status. The crate
 //! `vmig_program` is `main` alone.
 //!
@@ -11,12 +14,24 @@
 //!
 //! The definitions stand in `specs/`: `Words` the program's words, `Run` and `Status` what a run writes and answers.
 //!
-//! It stands on `traces`, on `machine`, and on `clap` for the words, of which this crate first finds that they are a line of
+//! It stands on the crates that it hands on, and on `clap` for the words, of which this crate first finds that they are a line of
 //! its own; that clap then refuses them only for want of memory is proved.
 #![tactic(auto)]
 
+pub mod laws;
 mod program;
 mod words;
 
+pub use guestmem::{NoMemory, PAGE_SIZE, PAGES_MAX, Ram};
+pub use machine::{
+    Bytes, DEVICES_MAX, DeviceState, Disk, DiskFault, Event, Machine, MemDisk, NewError, Refusal,
+    Reply, SECTOR_SIZE, Shape,
+};
 pub use program::execute;
-pub use traces::{Trace, TraceError, WriteFault, laws, parse, write_reply};
+pub use receiver::{RecvError, receive};
+pub use sender::{MigError, save};
+pub use traces::{Trace, TraceError, WriteFault, parse, write_reply};
+pub use wire::{
+    DecodeError, Header, Record, Sink, SinkFault, WriteSink, decode_device, decode_header,
+    decode_record, encode_commit, encode_device, encode_header, encode_page,
+};

@@ -6,13 +6,14 @@ ghost use Rattle.vmig.specs.Words.{is_program_line};
 ghost use Rattle.vmig.specs.Status.{status_of, IsPastWords};
 ghost use Rattle.traces.specs.Trace.{contents_of};
 ghost use Rattle.vmig.specs.Run.{AreReplies, IsPlayed, HasPlayed, IsChecked, HasChecked, HasDone, TellsOfTrace, TellsOfText, TellsOfStream};
-ghost use Rattle.machine.specs.Receiving.{Refuses, IsNoStream};
+ghost use Rattle.receiver.specs.Receiving.{Refuses, IsNoStream};
 ghost use Rattle.traces.specs.Replies.{reply_line, AppendsBeginning};
 ghost use Rattle.vmig.specs.declared.program.Fault.TheVariants.{Usage};
 
 use crate::words::{Request, WordsError, read_words};
 use guestmem::PAGE_SIZE;
-use machine::{Machine, MemDisk, NewError, RecvError, Reply, receive};
+use machine::{Machine, MemDisk, NewError, Reply};
+use receiver::{RecvError, receive};
 use std::alloc::Global;
 use std::io::Write;
 use std::rt::Files;

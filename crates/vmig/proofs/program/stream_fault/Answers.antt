@@ -1,5 +1,5 @@
 use Rattle.std.proofs.Common.{◌≡◌, true, false}
-use Rattle.machine.specs.Receiving.{IsNoStream}
+use Rattle.receiver.specs.Receiving.{IsNoStream}
 use Rattle.vmig.proofs.Refused.{means}
 use Rattle.vmig.proofs.program.stream_fault.Goals as goal
 

@@ -1,0 +1,5 @@
+use Rattle.machine.proofs.Agreeing.{contained}
+use Rattle.machine.proofs.laws.malformed_is_contained.Goals as goal
+
+pub returns : goal.returns
+returns c = contained

@@ -1,5 +1,0 @@
-use Rattle.machine.proofs.Spelling.{one_record}
-use Rattle.machine.proofs.laws.no_record_begins_another.Goals as goal
-
-pub returns : goal.returns
-returns c = one_record

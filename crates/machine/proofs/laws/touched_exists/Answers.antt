@@ -1,0 +1,5 @@
+use Rattle.machine.proofs.Effects.{exists}
+use Rattle.machine.proofs.laws.touched_exists.Goals as goal
+
+pub returns : goal.returns
+returns c = exists

@@ -1,5 +1,0 @@
-use Rattle.machine.proofs.HeaderLemmas.{shapes_end}
-use Rattle.machine.proofs.wire.header.shapes_at.Goals as goal
-
-pub returns : goal.returns
-returns c = shapes_end c.args.count c.loop.counter c.loop.shapes.items c.loop.rest.now _ c.loop-test.false c.loop.invariant

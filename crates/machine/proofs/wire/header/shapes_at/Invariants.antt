@@ -1,6 +1,0 @@
-use Rattle.std.proofs.Common.{◌≡◌, ◌-◌}
-use Rattle.machine.specs.ShapeReading.{shapes_of, in_front}
-use Rattle.machine.proofs.wire.header.shapes_at.Given as goal
-
-abbrev pub invariant-loop : goal.invariant-loop
-invariant-loop l = in_front l.shapes.items (shapes_of (l.count - l.counter) l.rest) ≡ shapes_of l.count l.bytes

@@ -1,8 +1,0 @@
-use Rattle.std.proofs.Common.{rules, ◌≡◌, length}
-use Rattle.machine.proofs.Decoding.{no_bytes}
-use Rattle.machine.proofs.wire.record.decode_record.Goals as goal
-
-pub returns-in_default-clause-record : goal.returns-in_default-clause-record
-returns-in_default-clause-record c =
-    let none : length c.args.bytes.now ≡ 0 = search rules in
-    no_bytes c.args.bytes.now none

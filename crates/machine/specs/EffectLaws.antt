@@ -1,0 +1,52 @@
+use Rattle.std.specs.Prelude.{◌≡◌, ℕ, ◌*◌, ◌/◌, ◌<◌, List, length, map, All, Option, Some, None, slice_get, slice_index}
+use Rattle.guestmem.specs.Item.{Item, page, sector}
+use Rattle.guestmem.specs.Laws.{Among}
+use Rattle.machine.specs.State.{MachineState, DeviceState, Sector}
+use Rattle.machine.specs.Effect.{Effect, Replacement, applied, items_of}
+
+-- The sectors of a device's disk.
+abbrev pub sectors_on : MachineState → ℕ → Option (List Sector)
+sectors_on m dev = slice_get m.disks dev
+
+abbrev pub sector_on : Option (List Sector) → ℕ → Option Sector
+sector_on None n = None
+sector_on (Some disk) n = slice_get disk n
+
+-- An item holds the same in two machines: each byte of a page, or the content of a sector.
+abbrev pub IsSameItem : MachineState → MachineState → Item → Type 0
+IsSameItem m k (page n) = (a : ℕ) → a / 4096 ≡ n → slice_index k.ram a ≡ slice_index m.ram a
+IsSameItem m k (sector dev n) = sector_on (sectors_on k dev) n ≡ sector_on (sectors_on m dev) n
+
+-- What an effect does not touch stays.
+abbrev pub UntouchedStays : Type 0
+UntouchedStays = (m : MachineState) (e : Effect) (i : Item) → ¬ (Among (items_of e) i) → IsSameItem m (applied m e) i
+
+-- A machine has the item.
+abbrev pub HasItem : MachineState → Item → Type 0
+HasItem m (page n) = 4096 * n < length m.ram
+HasItem m (sector dev n) = (content : Sector) × (sector_on (sectors_on m dev) n ≡ Some content)
+
+-- An effect that a machine can have: it writes inside RAM, sets sectors that are there, and replaces a device that is
+-- there by one of the same shape.
+abbrev pub MayReplace : List DeviceState → Option Replacement → Type 0
+MayReplace devices None = Unit {0}
+MayReplace devices (Some r) = (old : DeviceState) × (slice_get devices r.number ≡ Some old) × (r.device.shape ≡ old.shape)
+
+pub record IsWithin (m : MachineState) (e : Effect) : Type 0 where
+  pub writes : All (λ w. w.address < length m.ram) e.writes
+  pub sectors : All (λ s. HasItem m (sector s.device s.number)) e.sectors
+  pub replaced : MayReplace m.devices e.replaced
+
+-- What an effect touches exists.
+abbrev pub TouchedExists : Type 0
+TouchedExists = (m : MachineState) (e : Effect) → IsWithin m e → (i : Item) → Among (items_of e) i → HasItem m i
+
+-- Two machines of one shape: as much RAM, the same devices, and disks of the same sizes.
+pub record IsSameShape (m k : MachineState) : Type 0 where
+  pub ram : length k.ram ≡ length m.ram
+  pub devices : map (λ d. d.shape) k.devices ≡ map (λ d. d.shape) m.devices
+  pub disks : map length k.disks ≡ map length m.disks
+
+-- An effect keeps the shape of the machine.
+abbrev pub ShapeStays : Type 0
+ShapeStays = (m : MachineState) (e : Effect) → IsWithin m e → IsSameShape m (applied m e)

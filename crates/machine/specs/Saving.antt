@@ -1,8 +1,0 @@
--- What saving a machine answers.
-use Rattle.std.specs.Prelude.{ℕ}
-use Rattle.machine.specs.declared.wire.mig_error.MigError.{MigError}
-use Rattle.machine.specs.declared.wire.mig_error.MigError.TheVariants.{StreamFailed}
-
--- The number that stands for the reason why a machine is not sent.
-abbrev pub mig_code_of : MigError → ℕ
-mig_code_of StreamFailed = 4

@@ -1,0 +1,23 @@
+use Rattle.std.specs.Prelude.{ℕ, List, Option}
+use Rattle.mmio.specs.State.{Registers}
+use Rattle.chains.specs.declared.position.Positions.{Positions}
+use Rattle.machine.specs.declared.shape.Shape.{Shape}
+
+-- A device: what it was made as, its registers with its queues, how far it has come in each queue, and the bytes that
+-- the host has put in and the guest has not yet taken.
+pub record DeviceState : Type 0 where
+  pub shape : Shape
+  pub registers : Registers
+  pub positions : List Positions
+  pub pool : List ℕ
+
+-- The bytes of a sector, or none where it is bad.
+abbrev pub Sector : Type 0
+Sector = Option (List ℕ)
+
+-- A machine: one list of bytes, its devices in order, and for each device the sectors of its disk, of which a device
+-- without a disk has none. Two machines are equal when all of this is.
+pub record MachineState : Type 0 where
+  pub ram : List ℕ
+  pub devices : List DeviceState
+  pub disks : List (List Sector)

@@ -1,0 +1,63 @@
+//! What a machine answers.
+
+ghost use Rattle.std.specs.Prelude.{◌≡◌};
+ghost use Rattle.machine.specs.Refusal.{code_of};
+
+use crate::bytes::Bytes;
+
+/// Why an event was refused. A refused event changes nothing.
+#[derive(Clone, Copy, Debug, PartialEq, Eq)]
+pub enum Refusal {
+    /// There is no device of this number.
+    NoDevice,
+
+    /// The access reaches past the end of RAM.
+    OutOfRam,
+
+    /// The access is of more than 4,096 bytes. This is told before `OutOfRam`.
+    TooLong,
+}
+
+impl Refusal {
+    /// The number that stands for it in a reply line.
+    pub fn code(self) -> u8
+        ensures { result ≡ code_of self }
+    {
+        match self {
+            Refusal::NoDevice => 1,
+            Refusal::OutOfRam => 2,
+            Refusal::TooLong => 3,
+        }
+    }
+}
+
+/// What a machine answers to an event.
+#[derive(Drop)]
+pub enum Reply {
+    /// What a register read gave.
+    Value(u32),
+
+    /// The write is done, whether the register took or ignored it.
+    Done,
+
+    /// What a read of RAM gave.
+    Bytes(Bytes),
+
+    /// The step found nothing to do.
+    Idle,
+
+    /// A chain was published with this used length.
+    Completed(u32),
+
+    /// So many bytes of an input were kept: the first ones.
+    Accepted(u32),
+
+    /// The chain was malformed. The device asks for a reset, and nothing else has changed.
+    NeedsReset,
+
+    /// Memory was refused. Nothing has changed.
+    NoMemory,
+
+    /// The event was refused. Nothing has changed.
+    Refused(Refusal),
+}

@@ -1,0 +1,3 @@
+pub mod DeviceRecords
+pub mod Receiving
+pub mod Taken

@@ -1,0 +1,11 @@
+pub mod Bodies
+pub mod Choices
+pub mod Decoding
+pub mod Digits
+pub mod HeaderLemmas
+pub mod Saving
+pub mod Sinks
+pub mod Spelling
+pub mod Unique
+pub mod Whole
+pub mod DeviceTexts

@@ -1,0 +1,231 @@
+-- One stream has one machine.
+use Rattle.std.proofs.Common.{◌≡◌, ℕ, zero, suc, ◌+◌, ◌*◌, ◌<◌, ◌≤◌, List, [], ◌∷◌, ◌++◌, length, take, Option, Some, None, refl, sym, ap, ◌∙◌, append_assoc, append-nil, arith}
+use Rattle.std.proofs.lemmas.List.{length-append, length-map}
+use Rattle.std.proofs.lemmas.List.Elements.{recursion_from_All}
+use Rattle.std.proofs.Math.Seq.{take-length, take-add}
+use Rattle.std.specs.List.{AllByRecursion, All}
+use Rattle.sha2.specs.Sha256.{sha256}
+use Rattle.wire.specs.DeviceBody.{body}
+use Rattle.wire.specs.Header.{header, IsHeader, Begins}
+use Rattle.wire.specs.Records.{Record, page, sector, round_end, device, commit, HasSpelling, spelled_record}
+use Rattle.machine.specs.Sound.{IsSound, IsSoundDevice}
+use Rattle.machine.specs.State.{DeviceState, MachineState, Sector}
+use Rattle.wire.specs.Stream.{IsStream, IsStreamBy, IsEntry, shapes_in, texts, device_texts, before_commit, page_of, last_of}
+use Rattle.machine.specs.declared.shape.Shape.{Shape}
+use Rattle.wire.proofs.Bodies.{body_is_short, body_bytes, one_body}
+use Rattle.wire.proofs.Choices.{same_found}
+use Rattle.wire.proofs.HeaderLemmas.{header_of-spelled}
+use Rattle.wire.proofs.Spelling.{one_record}
+
+pub cons_same : {A : Type 0} {x y : A} {xs ys : List A} → x ≡ y → xs ≡ ys → x ∷ xs ≡ y ∷ ys
+cons_same p q = rw (p, q) refl
+
+-- An entry has another tag than a device.
+pub not_device : (pages : ℕ) (r : Record) (x y : List ℕ) → IsEntry pages r → spelled_record r ++ x ≡ 4 ∷ y → ⊥
+unfolding spelled_record
+not_device pages (page n b) x y h e = cc
+not_device pages (sector d n (Some b)) x y h e = h.stands
+not_device pages (sector d n None) x y h e = h.stands
+not_device pages (round_end n) x y h e = cc
+not_device pages (device d b) x y h e = h.stands
+not_device pages (commit b) x y h e = h.stands
+
+-- what begins as entries and goes on to a device has these entries first
+pub record Leads (pages : ℕ) (es fs : List Record) (x y : List ℕ) : Type 0 where
+  pub more : List Record
+  pub all : fs ≡ es ++ more
+  pub each : AllByRecursion (IsEntry pages) more
+  pub left : x ≡ texts more ++ (4 ∷ y)
+
+pub leads : (p q : ℕ) (es fs : List Record) (x y : List ℕ) → AllByRecursion (IsEntry p) es → AllByRecursion (IsEntry q) fs
+    → texts es ++ x ≡ texts fs ++ (4 ∷ y) → Leads q es fs x y
+unfolding texts
+leads p q [] fs x y h k e = record { more = fs; all = refl; each = k; left = e }
+leads p q (r ∷ es) [] x y h k e = absurd (not_device p r (texts es ++ x) y h.0 (sym (append_assoc (spelled_record r) (texts es) x) ∙ e))
+leads p q (r ∷ es) (s ∷ fs) x y h k e =
+    let f : spelled_record r ++ (texts es ++ x) ≡ spelled_record s ++ (texts fs ++ (4 ∷ y)) = sym (append_assoc (spelled_record r) (texts es) x) ∙ e ∙ append_assoc (spelled_record s) (texts fs) (4 ∷ y) in
+    let o = one_record r s (texts es ++ x) (texts fs ++ (4 ∷ y)) h.0.spells k.0.spells f in
+    let ih = leads p q es fs x y h.1 k.1 o.1 in
+    record { more = ih.more; all = cons_same (sym o.0) ih.all; each = ih.each; left = ih.left }
+
+pub none_more : (q : ℕ) (more : List Record) (x y : List ℕ) → AllByRecursion (IsEntry q) more → 4 ∷ x ≡ texts more ++ (4 ∷ y) → (more ≡ []) × (x ≡ y)
+unfolding texts
+none_more q [] x y h e = (refl, cc)
+none_more q (r ∷ rs) x y h e = absurd (not_device q r (texts rs ++ (4 ∷ y)) x h.0 (sym (append_assoc (spelled_record r) (texts rs) (4 ∷ y)) ∙ sym e))
+
+pub body_spells : (ram_len number : ℕ) (d : DeviceState) → number < 256 → IsSoundDevice ram_len d → HasSpelling (device number (body d))
+body_spells ram_len number d low sound = (low, omega (arith, body_is_short ram_len d sound), body_bytes ram_len d sound)
+
+-- What begins as the records of devices, and goes on as those of devices of which the first have the same shapes, has these
+-- devices first.
+pub record LeadsDevices (number : ℕ) (ss ts : List DeviceState) (x y : List ℕ) : Type 0 where
+  pub more : List DeviceState
+  pub all : ts ≡ ss ++ more
+  pub left : x ≡ device_texts (number + length ss) more ++ y
+
+shape_first : {s t : Shape} {ss ts : List Shape} → t ∷ ts ≡ s ∷ ss → (s ≡ t) × (ts ≡ ss)
+shape_first e = (cc, cc)
+
+bodies_alike : (i j : ℕ) (a b : List ℕ) → device i a ≡ device j b → a ≡ b
+bodies_alike i j a b e = cc
+
+first_device_alike : (ram_len number : ℕ) (s t : DeviceState) (x y : List ℕ) → number < 256 → s.shape ≡ t.shape → IsSoundDevice ram_len s → IsSoundDevice ram_len t
+    → spelled_record (device number (body s)) ++ x ≡ spelled_record (device number (body t)) ++ y → (s ≡ t) × (x ≡ y)
+first_device_alike ram_len number s t x y low kinds h k e =
+    let o = one_record (device number (body s)) (device number (body t)) x y (body_spells ram_len number s low h) (body_spells ram_len number t low k) e in
+    (one_body ram_len s t kinds h k (bodies_alike number number (body s) (body t) o.0), o.1)
+
+one_more_led : (number : ℕ) (s t : DeviceState) (ss ts : List DeviceState) (x y : List ℕ) → s ≡ t → LeadsDevices (number + 1) ss ts x y → LeadsDevices number (s ∷ ss) (t ∷ ts) x y
+one_more_led number s t ss ts x y same ih =
+    let n : number + length (s ∷ ss) ≡ number + 1 + length ss = omega arith in
+    record { more = ih.more; all = cons_same (sym same) ih.all; left = rw n ih.left }
+
+pub devices_lead : (ram_len number : ℕ) (ss ts : List DeviceState) (hs : List Shape) (x y : List ℕ) → number + length ts ≤ 256 → AllByRecursion (IsSoundDevice ram_len) ss → AllByRecursion (IsSoundDevice ram_len) ts
+    → shapes_in ts ≡ shapes_in ss ++ hs → device_texts number ss ++ x ≡ device_texts number ts ++ y → LeadsDevices number ss ts x y
+unfolding device_texts
+devices_lead ram_len number [] ts hs x y low h k shapes e = let n : number + 0 ≡ number = omega arith in record { more = ts; all = refl; left = rw n e }
+devices_lead ram_len number (s ∷ ss) [] hs x y low h k shapes e = absurd cc
+devices_lead ram_len number (s ∷ ss) (t ∷ ts) hs x y low h k shapes e =
+    let o = first_device_alike ram_len number s t (device_texts (number + 1) ss ++ x) (device_texts (number + 1) ts ++ y) (omega (arith, low)) (shape_first shapes).0 h.0 k.0
+    (sym (append_assoc (spelled_record (device number (body s))) (device_texts (number + 1) ss) x) ∙ e ∙ append_assoc (spelled_record (device number (body t))) (device_texts (number + 1) ts) y) in
+    one_more_led number s t ss ts x y o.0 (devices_lead ram_len (number + 1) ss ts hs x y (omega (arith, low)) h.1 k.1 (shape_first shapes).1 o.1)
+
+pub length_shapes : (ss : List DeviceState) → length (shapes_in ss) ≡ length ss
+length_shapes ss = simp length-map
+
+pub pages_limits : (pages : ℕ) (m : MachineState) → length m.ram ≡ 4096 * pages → IsSound m → IsHeader pages (shapes_in m.devices)
+pages_limits pages m e sound = record {
+  some_page = omega (arith, e, sound.whole_pages, sound.some_pages);
+  few_pages = omega (arith, e, sound.whole_pages, sound.few_pages);
+  some_device = omega (arith, length_shapes m.devices, sound.some_devices);
+  few_devices = omega (arith, length_shapes m.devices, sound.few_devices);
+}
+
+pub after_header : (pages : ℕ) (entries : List Record) (ss : List DeviceState) (c : List ℕ) → before_commit pages entries ss ++ c ≡ header pages (shapes_in ss) ++ (texts entries ++ (device_texts 0 ss ++ c))
+after_header pages entries ss c = simp append_assoc
+
+pub stream_begins : {bytes : List ℕ} {m : MachineState} {pages : ℕ} {entries : List Record} → IsStreamBy bytes m pages entries
+    → Begins bytes pages (shapes_in m.devices) (texts entries ++ (device_texts 0 m.devices ++ spelled_record (commit (sha256 (before_commit pages entries m.devices)))))
+stream_begins {bytes} {m} {pages} {entries} h = record { good = pages_limits pages m h.pages_are h.sound; whole = h.whole ∙ after_header pages entries m.devices _ }
+
+-- the devices begin with their tag
+pub device_first : (ss : List DeviceState) (c : List ℕ) → 1 ≤ length ss → (t : List ℕ) × (device_texts 0 ss ++ c ≡ 4 ∷ t)
+unfolding device_texts spelled_record
+device_first [] c h = absurd (omega (arith, h))
+device_first (s ∷ ss) c h = (_, refl)
+
+pages_same : (p : ℕ) (a b : List ℕ) → ((n : ℕ) → n < p → page_of a n ≡ page_of b n) → take (4096 * p) a ≡ take (4096 * p) b
+pages_same zero a b h = refl
+pages_same (suc p) a b h =
+    let e : 4096 * suc p ≡ 4096 * p + 4096 = omega arith in
+    let ih = pages_same p a b (λ n lt. h n (omega (arith, lt))) in
+    let here = h p (omega arith) in
+    rw (e, take-add (4096 * p) 4096 a, take-add (4096 * p) 4096 b, ih, here) refl
+
+some_same : {A : Type 0} {x y : A} {o : Option A} → o ≡ Some x → o ≡ Some y → x ≡ y
+some_same e f = cc
+
+all_taken : (a : List ℕ) (n : ℕ) → length a ≡ n → take n a ≡ a
+all_taken a n e = rw (← e) (take-length a)
+
+pub ram_same : (p : ℕ) (a b : List ℕ) → length a ≡ 4096 * p → length b ≡ 4096 * p → ((n : ℕ) → n < p → page_of a n ≡ page_of b n) → a ≡ b
+ram_same p a b la lb h = sym (all_taken a (4096 * p) la) ∙ pages_same p a b h ∙ all_taken b (4096 * p) lb
+
+pub record Alike {A B C : Type 0} (p q : A) (s t : B) (r u : C) : Type 0 where
+  pub first : p ≡ q
+  pub second : s ≡ t
+  pub third : r ≡ u
+
+pub alike : (p q : ℕ) (s t : List Shape) (r u : List ℕ) → (◌≡◌ {A = Option (ℕ × List Shape × List ℕ)} (Some (p, s, r)) (Some (q, t, u))) → Alike p q s t r u
+alike p q s t r u e =
+    let same = same_found (p, s, r) (q, t, u) e in
+    record { first = ap (λ (x : ℕ × List Shape × List ℕ). x.0) same; second = ap (λ (x : ℕ × List Shape × List ℕ). x.1) same; third = ap (λ (x : ℕ × List Shape × List ℕ). x.2) same }
+
+pub none_from_length : {A : Type 0} (xs more : List A) (n : ℕ) → length (xs ++ more) ≡ length xs → more ≡ []
+none_from_length xs [] n e = refl
+none_from_length xs (y ∷ ys) n e = absurd (omega (arith, e, length-append xs (y ∷ ys)))
+
+pub record SameParts (p q : ℕ) (es fs : List Record) (ss ts : List DeviceState) : Type 0 where
+  pub pages : p ≡ q
+  pub entries : es ≡ fs
+  pub devices : ss ≡ ts
+
+-- what begins as entries and goes on to a device, in both cases, has the same entries and goes on alike
+ends_none : (es fs : List Record) (u v x y : List ℕ) → u ≡ 4 ∷ x → v ≡ 4 ∷ y → (more : List Record) → fs ≡ es ++ more → (more ≡ []) × (x ≡ y) → (fs ≡ es) × (u ≡ v)
+ends_none es fs u v x y eu ev more all none = (all ∙ ap (λ (z : List Record). es ++ z) none.0 ∙ append-nil es, eu ∙ ap (λ (z : List ℕ). 4 ∷ z) none.1 ∙ sym ev)
+
+ends_led : (q : ℕ) (es fs : List Record) (u v x y : List ℕ) → u ≡ 4 ∷ x → v ≡ 4 ∷ y → Leads q es fs u y → (fs ≡ es) × (u ≡ v)
+ends_led q es fs u v x y eu ev l = ends_none es fs u v x y eu ev l.more l.all (none_more q l.more x y l.each (sym eu ∙ l.left))
+
+ends_alike : (p q : ℕ) (es fs : List Record) (u v x y : List ℕ) → AllByRecursion (IsEntry p) es → AllByRecursion (IsEntry q) fs → u ≡ 4 ∷ x → v ≡ 4 ∷ y
+    → texts es ++ u ≡ texts fs ++ v → (fs ≡ es) × (u ≡ v)
+ends_alike p q es fs u v x y h k eu ev e = ends_led q es fs u v x y eu ev (leads p q es fs u y h k (e ∙ ap (λ (z : List ℕ). texts fs ++ z) ev))
+
+devices_led : (ss ts : List DeviceState) (x y : List ℕ) → LeadsDevices 0 ss ts x y → length ss ≡ length ts → ts ≡ ss
+devices_led ss ts x y d count = d.all ∙ ap (λ (z : List DeviceState). ss ++ z) (none_from_length ss d.more 0 (ap length (sym d.all) ∙ sym count)) ∙ append-nil ss
+
+devices_alike : (ram_len : ℕ) (ss ts : List DeviceState) (x y : List ℕ) → length ts ≤ 16 → All (IsSoundDevice ram_len) ss → All (IsSoundDevice ram_len) ts
+    → shapes_in ss ≡ shapes_in ts → device_texts 0 ss ++ x ≡ device_texts 0 ts ++ y → ts ≡ ss
+devices_alike ram_len ss ts x y few h k shapes e =
+    devices_led ss ts x y
+    (devices_lead ram_len 0 ss ts [] x y (omega (arith, few)) (recursion_from_All (IsSoundDevice ram_len) ss h) (recursion_from_All (IsSoundDevice ram_len) ts k) (sym shapes ∙ sym (append-nil (shapes_in ss))) e)
+    (sym (length_shapes ss) ∙ ap length shapes ∙ length_shapes ts)
+
+same_sizes : (a b p q : ℕ) → p ≡ q → a ≡ 4096 * p → b ≡ 4096 * q → b ≡ a
+same_sizes a b p q e f g = g ∙ ap (λ (x : ℕ). 4096 * x) (sym e) ∙ sym f
+
+parts_from_ends : (bytes : List ℕ) (m n : MachineState) (p q : ℕ) (es fs : List Record) (ca cb : List ℕ) → IsStreamBy bytes m p es → IsStreamBy bytes n q fs → p ≡ q → shapes_in m.devices ≡ shapes_in n.devices
+    → length n.ram ≡ length m.ram → (fs ≡ es) × (device_texts 0 m.devices ++ ca ≡ device_texts 0 n.devices ++ cb) → SameParts p q es fs m.devices n.devices
+parts_from_ends bytes m n p q es fs ca cb a b e f size o = record {
+  pages = e;
+  entries = sym o.0;
+  devices = sym (devices_alike (length m.ram) m.devices n.devices ca cb b.sound.few_devices a.sound.devices (rw size at b.sound.devices) f o.1);
+}
+
+parts_from_texts : (bytes : List ℕ) (m n : MachineState) (p q : ℕ) (es fs : List Record) (ca cb : List ℕ) → IsStreamBy bytes m p es → IsStreamBy bytes n q fs
+    → Alike p q (shapes_in m.devices) (shapes_in n.devices) (texts es ++ (device_texts 0 m.devices ++ ca)) (texts fs ++ (device_texts 0 n.devices ++ cb)) → SameParts p q es fs m.devices n.devices
+parts_from_texts bytes m n p q es fs ca cb a b t =
+    let fa = device_first m.devices ca a.sound.some_devices in
+    let fb = device_first n.devices cb b.sound.some_devices in
+    parts_from_ends bytes m n p q es fs ca cb a b t.first t.second (same_sizes (length m.ram) (length n.ram) p q t.first a.pages_are b.pages_are)
+    (ends_alike p q es fs (device_texts 0 m.devices ++ ca) (device_texts 0 n.devices ++ cb) fa.0 fb.0 a.each b.each fa.1 fb.1 t.third)
+
+pub same_parts : (bytes : List ℕ) (m n : MachineState) (p q : ℕ) (es fs : List Record) → IsStreamBy bytes m p es → IsStreamBy bytes n q fs → SameParts p q es fs m.devices n.devices
+same_parts bytes m n p q es fs a b =
+    let ca = spelled_record (commit (sha256 (before_commit p es m.devices))) in
+    let cb = spelled_record (commit (sha256 (before_commit q fs n.devices))) in
+    parts_from_texts bytes m n p q es fs ca cb a b
+    (alike p q (shapes_in m.devices) (shapes_in n.devices) (texts es ++ (device_texts 0 m.devices ++ ca)) (texts fs ++ (device_texts 0 n.devices ++ cb))
+    (sym (header_of-spelled bytes p (shapes_in m.devices) (texts es ++ (device_texts 0 m.devices ++ ca)) (stream_begins a))
+    ∙ header_of-spelled bytes q (shapes_in n.devices) (texts fs ++ (device_texts 0 n.devices ++ cb)) (stream_begins b)))
+
+-- No device has a disk, so disks are alike where the devices are.
+no_sectors : (a b : List (List Sector)) → length a ≡ length b → AllByRecursion (λ (disk : List Sector). disk ≡ []) a → AllByRecursion (λ (disk : List Sector). disk ≡ []) b → a ≡ b
+no_sectors [] [] e h k = refl
+no_sectors [] (y ∷ b) e h k = absurd (omega (arith, e))
+no_sectors (x ∷ a) [] e h k = absurd (omega (arith, e))
+no_sectors (x ∷ a) (y ∷ b) e h k = cons_same (h.0 ∙ sym k.0) (no_sectors a b (omega (arith, e)) h.1 k.1)
+
+machine_same : (m n : MachineState) → m.ram ≡ n.ram → m.devices ≡ n.devices → m.disks ≡ n.disks → m ≡ n
+machine_same m n e f g =
+    let same : ◌≡◌ {A = MachineState} (record { ram = m.ram; devices = m.devices; disks = m.disks }) (record { ram = n.ram; devices = n.devices; disks = n.disks }) = rw (e, f, g) refl in same
+
+ram_alike : (m n : MachineState) (p q : ℕ) (es fs : List Record) → p ≡ q → es ≡ fs → length m.ram ≡ 4096 * p → length n.ram ≡ 4096 * q
+    → ((k : ℕ) → k < p → last_of k es ≡ Some (page_of m.ram k)) → ((k : ℕ) → k < q → last_of k fs ≡ Some (page_of n.ram k)) → m.ram ≡ n.ram
+ram_alike m n p q es fs e f lm ln h k =
+    ram_same p m.ram n.ram lm (ln ∙ ap (λ (x : ℕ). 4096 * x) (sym e))
+    (λ (i : ℕ) (lt : i < p). some_same (h i lt) (ap (last_of i) f ∙ k i (omega (arith, lt, e))))
+
+empty_disks : (m : MachineState) → IsSound m → AllByRecursion (λ (disk : List Sector). disk ≡ []) m.disks
+empty_disks m h = recursion_from_All (λ (disk : List Sector). disk ≡ []) m.disks h.no_sectors
+
+disks_alike : (m n : MachineState) → IsSound m → IsSound n → m.devices ≡ n.devices → m.disks ≡ n.disks
+disks_alike m n h k e = no_sectors m.disks n.disks (h.disk_each ∙ ap length e ∙ sym k.disk_each) (empty_disks m h) (empty_disks n k)
+
+from_parts : (bytes : List ℕ) (m n : MachineState) (a : IsStream bytes m) (b : IsStream bytes n) → SameParts a.pages b.pages a.entries b.entries m.devices n.devices → m ≡ n
+from_parts bytes m n a b s =
+    machine_same m n (ram_alike m n a.pages b.pages a.entries b.entries s.pages s.entries a.by.pages_are b.by.pages_are a.by.last b.by.last) s.devices
+    (disks_alike m n a.by.sound b.by.sound s.devices)
+
+pub one_machine : (bytes : List ℕ) (m n : MachineState) → IsStream bytes m → IsStream bytes n → m ≡ n
+one_machine bytes m n a b = from_parts bytes m n a b (same_parts bytes m n a.pages b.pages a.entries b.entries a.by b.by)

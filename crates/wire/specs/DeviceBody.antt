@@ -1,0 +1,56 @@
+-- The body of a device's record: the registers that it has once, each queue with its positions, and what else its shape
+-- has. Every number is little-endian.
+use Rattle.std.specs.Prelude.{◌≡◌, ℕ, List, [], ◌∷◌, ◌++◌, length}
+use Rattle.chains.specs.declared.position.Positions.{Positions}
+use Rattle.mmio.specs.declared.common.Common.{Common}
+use Rattle.mmio.specs.declared.queue.Queue.{Queue}
+use Rattle.wire.specs.Numbers.{spelled, digits, flag}
+use Rattle.machine.specs.Sound.{IsSoundDevice}
+use Rattle.machine.specs.State.{DeviceState}
+use Rattle.machine.specs.declared.shape.Shape.{Shape}
+use Rattle.machine.specs.declared.shape.Shape.TheVariants.{Entropy}
+
+-- The registers that a device has once, in 26 bytes: status and interrupt status, DeviceFeaturesSel, DriverFeaturesSel, the
+-- driver's features, QueueSel and ConfigGeneration (VIRTIO 1.2, 4.2.2).
+abbrev pub common_widths : List ℕ
+common_widths = 1 ∷ 1 ∷ 4 ∷ 4 ∷ 8 ∷ 4 ∷ 4 ∷ []
+
+abbrev pub common_numbers : Common → List ℕ
+common_numbers c = c.status ∷ c.interrupts ∷ c.device_select ∷ c.driver_select ∷ c.features ∷ c.queue_select ∷ c.generation ∷ []
+
+unfoldable pub common_text : Common → List ℕ
+common_text c = spelled common_widths (common_numbers c)
+
+-- A queue, in 36 bytes: its size, the addresses of its descriptor, driver and device areas, whether it is ready and
+-- notified, and where the next chain is taken and published: a place and a wrap counter each.
+abbrev pub queue_widths : List ℕ
+queue_widths = 4 ∷ 8 ∷ 8 ∷ 8 ∷ 1 ∷ 1 ∷ 2 ∷ 1 ∷ 2 ∷ 1 ∷ []
+
+abbrev pub queue_numbers : Queue → Positions → List ℕ
+queue_numbers q p =
+    q.size ∷ q.descriptors ∷ q.driver ∷ q.device ∷ flag q.is_ready ∷ flag q.is_notified
+    ∷ p.taking.place ∷ flag p.taking.wrap ∷ p.used.place ∷ flag p.used.wrap ∷ []
+
+unfoldable pub queue_text : Queue → Positions → List ℕ
+queue_text q p = spelled queue_widths (queue_numbers q p)
+
+abbrev pub queues_text : List Queue → List Positions → List ℕ
+queues_text (q ∷ qs) (p ∷ ps) = queue_text q p ++ queues_text qs ps
+queues_text qs ps = []
+
+-- Bytes with their number before them, in two bytes.
+abbrev pub held_text : List ℕ → List ℕ
+held_text bytes = digits 2 (length bytes) ++ bytes
+
+-- What a device of a shape has beside registers and queues: an entropy device the bytes of its pool.
+abbrev pub own_text : Shape → DeviceState → List ℕ
+own_text Entropy d = held_text d.pool
+
+abbrev pub body : DeviceState → List ℕ
+body d = common_text d.registers.common ++ (queues_text d.registers.queues d.positions ++ own_text d.shape d)
+
+-- The bytes are the body of this device, which has this shape and is sound in a machine with so many bytes of RAM.
+pub record IsBodyOf (shape : Shape) (ram_len : ℕ) (bytes : List ℕ) (d : DeviceState) : Type 0 where
+  pub shape_is : d.shape ≡ shape
+  pub sound : IsSoundDevice ram_len d
+  pub is : bytes ≡ body d

@@ -1,0 +1,11 @@
+pub mod BodyReading
+pub mod DeviceBody
+pub mod Header
+pub mod HeaderReading
+pub mod Numbers
+pub mod RecordView
+pub mod Records
+pub mod ShapeReading
+pub mod Sinks
+pub mod Stream
+pub mod StreamLaws

@@ -1,0 +1,18 @@
+//! Laws over the definitions alone. These functions do nothing: their contracts are the laws.
+
+ghost use Rattle.wire.specs.StreamLaws.{OneRecord, OneMachine, WholeIsStream};
+
+/// No spelling of a record of a stream is the beginning of another's.
+pub fn no_record_begins_another()
+    ensures { OneRecord }
+{}
+
+/// One stream has one machine.
+pub fn a_stream_has_one_machine()
+    ensures { OneMachine }
+{}
+
+/// The whole stream of a sound machine is a stream of it.
+pub fn whole_is_a_stream()
+    ensures { WholeIsStream }
+{}

@@ -1,0 +1,33 @@
+//! What is kept of bytes on their way to a sink: their digest, or nothing.
+
+use sha2::{Digest, Sha256};
+
+/// Keeps something of bytes that it takes one after another.
+pub trait Tally {
+    ghost use Rattle.std.specs.Prelude.{List, ℕ, ◌++◌};
+
+    ghost has_taken: { Self → List ℕ → Type 0 };
+
+    fn take(&mut self, bytes: &[u8])
+        ensures { (b : List ℕ) → has_taken self.old b → has_taken self.new (b ++ bytes.now) };
+}
+
+/// Keeps nothing.
+#[derive(Drop)]
+pub struct NoTally;
+
+impl Tally for NoTally {
+    ghost has_taken = { λ _ _. Unit {0} };
+
+    fn take(&mut self, _bytes: &[u8]) {}
+}
+
+impl Tally for Sha256 {
+    ghost use Rattle.sha2.specs.Hashers.{Holds256};
+
+    ghost has_taken = { λ digest bytes. Holds256 digest bytes };
+
+    fn take(&mut self, bytes: &[u8]) {
+        self.update(bytes);
+    }
+}

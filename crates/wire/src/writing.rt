@@ -1,0 +1,209 @@
+//! Records on their way to a sink, and what is kept of them meanwhile.
+
+ghost use Rattle.std.specs.Prelude.{◌≡◌, ◌++◌, ◌≤◌, ◌<◌, ◌^◌, ◌/◌, ℕ, List, IsTrue, OnOk, length};
+ghost use Rattle.wire.specs.DeviceBody.{body, held_text, queues_text};
+ghost use Rattle.wire.specs.Header.{front, header, spelled_shape, spelled_shapes};
+ghost use Rattle.wire.specs.Records.{page, device, spelled_record};
+ghost use Rattle.wire.specs.Sinks.{Counts};
+ghost use Rattle.wire.specs.Stream.{page_entries, texts};
+
+use crate::registers_text::{COMMON_LEN, QUEUE_LEN, common_bytes, queue_bytes};
+use crate::sink::{Sink, SinkFault};
+use crate::tally::Tally;
+use machine::{DeviceState, Shape};
+use byteorder::{ByteOrder, LittleEndian};
+use chains::Positions;
+use guestmem::{PAGE_SIZE, Ram};
+use mmio::Queue;
+
+/// Puts bytes into the sink, and where that succeeds, takes them into the tally.
+pub fn put<S: Sink, T: Tally>(
+    bytes: &[u8],
+    out: &mut S,
+    tally: &mut T,
+) -> Result<(), SinkFault>
+    ensures count { Counts result (S.failures out.old) (S.failures out.new) }
+    ensures honest { OnOk result (IsTrue (S.is_honest out.old) → IsTrue (S.is_honest out.new) × (S.held out.new ≡ S.held out.old ++ bytes.now)) }
+    ensures taken { OnOk result ((b : List ℕ) → T.has_taken tally.old b → T.has_taken tally.new (b ++ bytes.now)) }
+{
+    out.put(bytes)?;
+    tally.take(bytes);
+    Ok(())
+}
+
+/// The header of a machine of so many pages and these devices.
+pub fn write_header<S: Sink, T: Tally>(
+    pages: u32,
+    shapes: &[Shape],
+    out: &mut S,
+    tally: &mut T,
+) -> Result<(), SinkFault>
+    requires { length shapes.now < 2 ^ 32 }
+    ensures count { Counts result (S.failures out.old) (S.failures out.new) }
+    ensures honest { OnOk result (IsTrue (S.is_honest out.old) → IsTrue (S.is_honest out.new) × (S.held out.new ≡ S.held out.old ++ header pages shapes.now)) }
+    ensures taken { OnOk result ((b : List ℕ) → T.has_taken tally.old b → T.has_taken tally.new (b ++ header pages shapes.now)) }
+{
+    put(&front_bytes(pages, shapes.len() as u32), out, tally)?;
+    write_shapes(shapes, out, tally)
+}
+
+#[tactic(auto, unfolding(crate::specs::Header::front))]
+fn front_bytes(pages: u32, count: u32) -> [u8; 16]
+    ensures { result ≡ front pages count }
+{
+    let mut bytes = [b'V', b'M', b'I', b'G', 1, 0, 0, 0, 0, 0, 0, 0, 0, 0, 0, 0];
+    LittleEndian::write_u32(&mut bytes[8..], pages);
+    LittleEndian::write_u32(&mut bytes[12..], count);
+    bytes
+}
+
+#[tactic(auto, using(crate::proofs::Saving::shape_more))]
+fn write_shapes<S: Sink, T: Tally>(
+    shapes: &[Shape],
+    out: &mut S,
+    tally: &mut T,
+) -> Result<(), SinkFault>
+    ensures count { Counts result (S.failures out.old) (S.failures out.new) }
+    ensures honest { OnOk result (IsTrue (S.is_honest out.old) → IsTrue (S.is_honest out.new) × (S.held out.new ≡ S.held out.old ++ spelled_shapes shapes.now)) }
+    ensures taken { OnOk result ((b : List ℕ) → T.has_taken tally.old b → T.has_taken tally.new (b ++ spelled_shapes shapes.now)) }
+{
+    for i in 0..shapes.len() {
+        write_shape(shapes[i], out, tally)?;
+    }
+    Ok(())
+}
+
+#[tactic(auto, unfolding(crate::specs::Header::spelled_shape))]
+fn write_shape<S: Sink, T: Tally>(shape: Shape, out: &mut S, tally: &mut T) -> Result<(), SinkFault>
+    ensures count { Counts result (S.failures out.old) (S.failures out.new) }
+    ensures honest { OnOk result (IsTrue (S.is_honest out.old) → IsTrue (S.is_honest out.new) × (S.held out.new ≡ S.held out.old ++ spelled_shape shape)) }
+    ensures taken { OnOk result ((b : List ℕ) → T.has_taken tally.old b → T.has_taken tally.new (b ++ spelled_shape shape)) }
+{
+    match shape {
+        Shape::Entropy => put(&[4], out, tally),
+    }
+}
+
+/// The record of a page.
+#[tactic(auto, unfolding(crate::specs::Records::spelled_record))]
+pub fn write_page<S: Sink, T: Tally>(
+    number: u32,
+    bytes: &[u8; 4096],
+    out: &mut S,
+    tally: &mut T,
+) -> Result<(), SinkFault>
+    ensures count { Counts result (S.failures out.old) (S.failures out.new) }
+    ensures honest { OnOk result (IsTrue (S.is_honest out.old) → IsTrue (S.is_honest out.new) × (S.held out.new ≡ S.held out.old ++ spelled_record (page number bytes.now))) }
+    ensures taken { OnOk result ((b : List ℕ) → T.has_taken tally.old b → T.has_taken tally.new (b ++ spelled_record (page number bytes.now))) }
+{
+    let mut head = [1, 0, 0, 0, 0];
+    LittleEndian::write_u32(&mut head[1..], number);
+    put(&head, out, tally)?;
+    put(bytes, out, tally)
+}
+
+/// The record of each page, in order.
+#[tactic(auto, using(crate::proofs::Saving::no_pages, crate::proofs::Saving::page_more))]
+pub fn write_pages<S: Sink, T: Tally>(
+    ram: &Ram,
+    out: &mut S,
+    tally: &mut T,
+) -> Result<(), SinkFault>
+    ensures count { Counts result (S.failures out.old) (S.failures out.new) }
+    ensures honest { OnOk result (IsTrue (S.is_honest out.old) → IsTrue (S.is_honest out.new) × (S.held out.new ≡ S.held out.old ++ texts (page_entries ram.now.bytes (length ram.now.bytes / 4096)))) }
+    ensures taken { OnOk result ((b : List ℕ) → T.has_taken tally.old b → T.has_taken tally.new (b ++ texts (page_entries ram.now.bytes (length ram.now.bytes / 4096)))) }
+{
+    let pages = ram.len() / PAGE_SIZE as u64;
+    for number in 0..pages {
+        write_page(number as u32, ram.page(number), out, tally)?;
+    }
+    Ok(())
+}
+
+/// The record of a device.
+#[tactic(auto, unfolding(crate::specs::Records::spelled_record))]
+pub fn write_device<S: Sink, T: Tally>(
+    number: u8,
+    state: &DeviceState,
+    out: &mut S,
+    tally: &mut T,
+) -> Result<(), SinkFault>
+    ensures count { Counts result (S.failures out.old) (S.failures out.new) }
+    ensures honest { OnOk result (IsTrue (S.is_honest out.old) → IsTrue (S.is_honest out.new) × (S.held out.new ≡ S.held out.old ++ spelled_record (device number (body state.now)))) }
+    ensures taken { OnOk result ((b : List ℕ) → T.has_taken tally.old b → T.has_taken tally.new (b ++ spelled_record (device number (body state.now)))) }
+{
+    let mut head = [4, number, 0, 0, 0, 0];
+    LittleEndian::write_u32(&mut head[2..], body_len(state));
+    put(&head, out, tally)?;
+    write_body(state, out, tally)
+}
+
+/// How many bytes the body of a device has.
+#[tactic(auto, using(crate::proofs::Saving::length_body))]
+fn body_len(state: &DeviceState) -> u32
+    ensures { result ≡ length (body state.now) }
+{
+    let queues = state.positions().len() as u32;
+    let own = match state.shape() {
+        Shape::Entropy => 2 + state.pool().len() as u32,
+    };
+    COMMON_LEN as u32 + QUEUE_LEN as u32 * queues + own
+}
+
+fn write_body<S: Sink, T: Tally>(
+    state: &DeviceState,
+    out: &mut S,
+    tally: &mut T,
+) -> Result<(), SinkFault>
+    ensures count { Counts result (S.failures out.old) (S.failures out.new) }
+    ensures honest { OnOk result (IsTrue (S.is_honest out.old) → IsTrue (S.is_honest out.new) × (S.held out.new ≡ S.held out.old ++ body state.now)) }
+    ensures taken { OnOk result ((b : List ℕ) → T.has_taken tally.old b → T.has_taken tally.new (b ++ body state.now)) }
+{
+    let registers = state.registers();
+    put(&common_bytes(&registers.common()), out, tally)?;
+    write_queues(registers.queues(), state.positions(), out, tally)?;
+    match state.shape() {
+        Shape::Entropy => write_held(state, out, tally),
+    }
+}
+
+fn write_queues<S: Sink, T: Tally>(
+    queues: &[Queue],
+    positions: &[Positions],
+    out: &mut S,
+    tally: &mut T,
+) -> Result<(), SinkFault>
+    requires few { length queues.now ≤ 2 }
+    requires each { length positions.now ≡ length queues.now }
+    ensures count { Counts result (S.failures out.old) (S.failures out.new) }
+    ensures honest { OnOk result (IsTrue (S.is_honest out.old) → IsTrue (S.is_honest out.new) × (S.held out.new ≡ S.held out.old ++ queues_text queues.now positions.now)) }
+    ensures taken { OnOk result ((b : List ℕ) → T.has_taken tally.old b → T.has_taken tally.new (b ++ queues_text queues.now positions.now)) }
+{
+    match (queues, positions) {
+        ([only], [its]) => put(&queue_bytes(only, its), out, tally),
+        ([one, two], [its, others]) => {
+            put(&queue_bytes(one, its), out, tally)?;
+            put(&queue_bytes(two, others), out, tally)
+        }
+        _ => Ok(()),
+    }
+}
+
+/// The bytes that the host has put in, with their number before them.
+fn write_held<S: Sink, T: Tally>(
+    state: &DeviceState,
+    out: &mut S,
+    tally: &mut T,
+) -> Result<(), SinkFault>
+    ensures count { Counts result (S.failures out.old) (S.failures out.new) }
+    ensures honest { OnOk result (IsTrue (S.is_honest out.old) → IsTrue (S.is_honest out.new) × (S.held out.new ≡ S.held out.old ++ held_text state.now.pool)) }
+    ensures taken { OnOk result ((b : List ℕ) → T.has_taken tally.old b → T.has_taken tally.new (b ++ held_text state.now.pool)) }
+{
+    let pool = state.pool();
+    let mut count = [0; 2];
+    LittleEndian::write_u16(&mut count, pool.len() as u16);
+    put(&count, out, tally)?;
+    let (front, back) = pool.as_slices();
+    put(front, out, tally)?;
+    put(back, out, tally)
+}
