@@ -1,3 +1,4 @@
 pub mod StatusBits
 pub mod Keeping
 pub mod StayingReady
+pub mod StayingSound

@@ -4,13 +4,11 @@ ghost use Rattle.std.specs.Prelude.{◌≡◌, ◌≢◌, ◌<◌, ◌≤◌, �
 ghost use Rattle.receiver.specs.DeviceRecords.{IsRawDevice, NoRawDevice, StartsDevice, StartsNoDevice, StartsDevices, StartsNoDevices};
 ghost use Rattle.receiver.specs.Receiving.{Refuses};
 
-use wire::DecodeError;
-use wire::decode_device;
 use crate::faults::device_fault;
-use wire::{Record, decode_record};
 use crate::recv_error::RecvError;
 use machine::{DeviceState, Shape};
 use std::alloc::Global;
+use wire::{DecodeError, Record, decode_device, decode_record};
 
 /// The body of the device of this number at the front, and the bytes behind it.
 fn raw_device(number: u8, bytes: &[u8]) -> Option<(&[u8], &[u8])>

@@ -6,9 +6,9 @@ ghost use Rattle.wire.specs.Records.{BeginsRecord, commit, spelled_record};
 ghost use Rattle.sha2.specs.Sha256.{sha256};
 
 use crate::faults::commit_fault;
-use wire::{Record, decode_record};
 use crate::recv_error::RecvError;
 use sha2::{Digest, Sha256};
+use wire::{Record, decode_record};
 
 /// Whether the bytes are the digest of those before them, and nothing more.
 pub fn check_commit(front: &[u8], bytes: &[u8]) -> Result<(), RecvError>

@@ -1,10 +1,8 @@
 //! Which refusal is told of bytes that were found to be no stream: the first fault in their order.
 
-use wire::{FRONT_LEN, MAGIC, VERSION};
-use wire::{u8_at, u32_at};
 use crate::recv_error::RecvError;
-use wire::shape_at;
 use guestmem::PAGES_MAX;
+use wire::{FRONT_LEN, MAGIC, VERSION, shape_at, u8_at, u32_at};
 
 /// The most bytes that a body may have.
 const BODY_MAX: u32 = 131_072;

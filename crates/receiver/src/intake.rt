@@ -7,10 +7,10 @@ ghost use Rattle.wire.specs.Stream.{IsEntry};
 ghost use Rattle.receiver.specs.Taken.{HasTaken, After, Worked};
 
 use crate::faults::entry_fault;
-use wire::{Record, decode_record};
 use crate::recv_error::RecvError;
 use guestmem::{NoLog, NoMemory, PAGE_SIZE, Ram};
 use std::alloc::Global;
+use wire::{Record, decode_record};
 
 /// What was taken of a stream: the pages, which of them were named, and how many rounds ended.
 #[derive(Drop)]

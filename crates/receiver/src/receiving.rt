@@ -7,11 +7,11 @@ ghost use Rattle.machine.specs.Seen.{state_of};
 use crate::devices::devices_at;
 use crate::ending::check_commit;
 use crate::faults::{header_fault, missing_fault};
-use wire::decode_header;
 use crate::intake::{new_intake, work_off};
 use crate::recv_error::RecvError;
 use machine::{Disk, Machine};
 use std::alloc::Global;
+use wire::decode_header;
 
 /// The machine whose stream the bytes are, with these disks, and how many rounds ended in it. A refusal drops the disks.
 pub fn receive<D: Disk + Drop>(

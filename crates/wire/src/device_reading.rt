@@ -10,12 +10,10 @@ ghost use Rattle.machine.specs.declared.shape.Shape.TheVariants as shapes;
 
 use crate::decode_error::DecodeError;
 use crate::numbers::u16_at;
-use crate::registers_text::{
-    COMMON_LEN, QUEUE_LEN, common_at, has_flags, positions_at, queue_at,
-};
-use machine::{DeviceState, Shape, offered};
+use crate::registers_text::{COMMON_LEN, QUEUE_LEN, common_at, has_flags, positions_at, queue_at};
 use chains::{Position, Positions};
 use console::{HOST_BYTES_MAX, HostBytes};
+use machine::{DeviceState, Shape, offered};
 use mmio::{Common, Queue, RING_PACKED, is_sound_common, is_sound_queue};
 use std::alloc::Global;
 

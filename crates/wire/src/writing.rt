@@ -10,18 +10,14 @@ ghost use Rattle.wire.specs.Stream.{page_entries, texts};
 use crate::registers_text::{COMMON_LEN, QUEUE_LEN, common_bytes, queue_bytes};
 use crate::sink::{Sink, SinkFault};
 use crate::tally::Tally;
-use machine::{DeviceState, Shape};
 use byteorder::{ByteOrder, LittleEndian};
 use chains::Positions;
 use guestmem::{PAGE_SIZE, Ram};
+use machine::{DeviceState, Shape};
 use mmio::Queue;
 
 /// Puts bytes into the sink, and where that succeeds, takes them into the tally.
-pub fn put<S: Sink, T: Tally>(
-    bytes: &[u8],
-    out: &mut S,
-    tally: &mut T,
-) -> Result<(), SinkFault>
+pub fn put<S: Sink, T: Tally>(bytes: &[u8], out: &mut S, tally: &mut T) -> Result<(), SinkFault>
     ensures count { Counts result (S.failures out.old) (S.failures out.new) }
     ensures honest { OnOk result (IsTrue (S.is_honest out.old) → IsTrue (S.is_honest out.new) × (S.held out.new ≡ S.held out.old ++ bytes.now)) }
     ensures taken { OnOk result ((b : List ℕ) → T.has_taken tally.old b → T.has_taken tally.new (b ++ bytes.now)) }
