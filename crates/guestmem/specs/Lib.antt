@@ -1,7 +1,10 @@
+pub mod ByteLaws
+pub mod Failures
 pub mod Item
 pub mod Laws
 pub mod Memory
 pub mod Number
+pub mod Page
 pub mod Write
 pub mod Writes
 pub mod WriteLaws

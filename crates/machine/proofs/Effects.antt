@@ -1,10 +1,11 @@
 -- What an effect does not touch stays, what it touches is there, and the shape of the machine stays.
-use Rattle.std.proofs.Common.{◌≡◌, ◌≢◌, ℕ, zero, suc, ◌/◌, ◌<◌, ◌⊎◌, inl, inr, List, [], ◌∷◌, ◌++◌, length, map, set, get_or, Option, Some, None, refl, ap, sym, ◌∙◌, subst, arith}
+use Rattle.std.proofs.Common.{◌≡◌, ◌≢◌, ℕ, zero, suc, ◌+◌, ◌-◌, ◌*◌, ◌/◌, ◌<◌, ◌≤◌, ◌⊎◌, inl, inr, List, [], ◌∷◌, ◌++◌, length, take, drop, map, set, Option, Some, None, refl, ap, sym, ◌∙◌, subst, arith}
 use Rattle.std.proofs.lemmas.Bool.{cases_lt}
-use Rattle.std.proofs.lemmas.List.{length-set, get_or-set_other}
+use Rattle.std.proofs.lemmas.List.{length-set, drop-set-lt, drop-set-add, take-set-le}
 use Rattle.std.specs.List.{slice_get, All}
 use Rattle.guestmem.specs.Item.{Item, page, sector}
 use Rattle.guestmem.specs.Laws.{Among}
+use Rattle.guestmem.specs.Page.{page_of}
 use Rattle.guestmem.specs.Writes.{Write, set_all, touched}
 use Rattle.guestmem.specs.WriteLaws.{length-set_all}
 use Rattle.machine.specs.State.{MachineState, DeviceState, Sector}
@@ -26,12 +27,29 @@ among_either [] js i h = inr h
 among_either (k ∷ is) js i (inl e) = inl (inl e)
 among_either (k ∷ is) js i (inr h) = elim (among_either is js i h) as (λ _. Among (k ∷ is) i ⊎ Among js i) [ inl x ↦ inl (inr x) | inr y ↦ inr y ]
 
--- A byte of a page that is not touched stays.
-byte_stays : (ram : List ℕ) (ws : List Write) (n a : ℕ) → (Among (touched ws) (page n) → ⊥) → a / 4096 ≡ n → get_or (set_all ram ws) a 0 ≡ get_or ram a 0
-byte_stays ram [] n a far at = refl
-byte_stays ram (w ∷ ws) n a far at =
-    let other : a ≢ w.address = λ e. far (inl (ap page (sym at ∙ ap (λ x. x / 4096) e))) in
-    byte_stays (set ram w.address w.byte) ws n a (λ h. far (inr h)) at ∙ get_or-set_other ram w.address a w.byte 0 other
+-- A part of a list that a setting does not reach stays.
+set_behind : (k w i : ℕ) (xs : List ℕ) (b : ℕ) → w ≤ i → take w (drop k (set xs (k + i) b)) ≡ take w (drop k xs)
+set_behind k w i xs b past = rw drop-set-add (take-set-le w (drop k xs) i b past)
+
+part_stays : (k w : ℕ) (xs : List ℕ) (at b : ℕ) → (at < k) ⊎ (k + w ≤ at) → take w (drop k (set xs at b)) ≡ take w (drop k xs)
+part_stays k w xs at b (inl before) = rw (drop-set-lt k xs at b before) refl
+part_stays k w xs at b (inr behind) =
+    let i : ℕ = at - k in
+    let is : at ≡ k + i = omega (arith, behind) in
+    rw is (set_behind k w i xs b (omega (arith, behind)))
+
+around : (n at : ℕ) → n ≢ at / 4096 → (at < 4096 * n) ⊎ (4096 * n + 4096 ≤ at)
+around n at other = elim (cases_lt at (4096 * n)) as (λ _. (at < 4096 * n) ⊎ (4096 * n + 4096 ≤ at)) [
+  | inl before ↦ inl before
+  | inr from ↦ inr (omega (arith, from, other))
+]
+
+-- A page that is not touched stays.
+page_stays : (ram : List ℕ) (ws : List Write) (n : ℕ) → (Among (touched ws) (page n) → ⊥) → page_of (set_all ram ws) n ≡ page_of ram n
+page_stays ram [] n far = refl
+page_stays ram (w ∷ ws) n far =
+    let other : n ≢ w.address / 4096 = λ e. far (inl (ap page e)) in
+    page_stays (set ram w.address w.byte) ws n (λ h. far (inr h)) ∙ part_stays (4096 * n) 4096 ram w.address w.byte (around n w.address other)
 
 slice_get-set_other : {A : Type 0} (xs : List A) (i j : ℕ) (x : A) → j ≢ i → slice_get (set xs i x) j ≡ slice_get xs j
 slice_get-set_other [] i j x other = refl
@@ -69,7 +87,7 @@ sector_stays disks (s ∷ ss) dev n far =
     sector_stays (set_on disks s (slice_get disks s.device)) ss dev n (λ h. far (inr h)) ∙ one_stays disks s (slice_get disks s.device) dev n refl (λ e. far (inl e))
 
 pub untouched : UntouchedStays
-untouched m e (page n) far = λ a at. byte_stays m.ram e.writes n a (λ h. far (among_left (touched e.writes) (map (λ (s : SectorSet). sector s.device s.number) e.sectors) (page n) h)) at
+untouched m e (page n) far = page_stays m.ram e.writes n (λ h. far (among_left (touched e.writes) (map (λ (s : SectorSet). sector s.device s.number) e.sectors) (page n) h))
 untouched m e (sector dev n) far = sector_stays m.disks e.sectors dev n (λ h. far (among_right (touched e.writes) (map (λ (s : SectorSet). sector s.device s.number) e.sectors) (sector dev n) h))
 
 page_exists : (m : MachineState) (ws : List Write) (i : Item) → All (λ (w : Write). w.address < length m.ram) ws → Among (touched ws) i → HasItem m i
@@ -93,7 +111,7 @@ shapes_stay [] n old new there same = refl
 shapes_stay (d ∷ devices) zero old new there same = let is : d ≡ old = cc in ap (λ x. x ∷ map (λ (d : DeviceState). d.shape) devices) (same ∙ sym (ap (λ (d : DeviceState). d.shape) is))
 shapes_stay (d ∷ devices) (suc n) old new there same = ap (λ xs. d.shape ∷ xs) (shapes_stay devices n old new there same)
 
-replaced_shapes : (devices : List DeviceState) (r : Option Replacement) → MayReplace devices r → map (λ (d : DeviceState). d.shape) (replaced_in devices r) ≡ map (λ (d : DeviceState). d.shape) devices
+pub replaced_shapes : (devices : List DeviceState) (r : Option Replacement) → MayReplace devices r → map (λ (d : DeviceState). d.shape) (replaced_in devices r) ≡ map (λ (d : DeviceState). d.shape) devices
 replaced_shapes devices None may = refl
 replaced_shapes devices (Some r) may = shapes_stay devices r.number may.0 r.device may.1 may.2
 
@@ -106,7 +124,7 @@ size_stays : (disks : List (List Sector)) (s : SectorSet) (found : Option (List 
 size_stays disks s None is = refl
 size_stays disks s (Some disk) is = sizes_stay disks s.device disk (set disk s.number s.content) is (length-set disk s.number s.content)
 
-all_sizes_stay : (disks : List (List Sector)) (ss : List SectorSet) → map length (sectors_set disks ss) ≡ map length disks
+pub all_sizes_stay : (disks : List (List Sector)) (ss : List SectorSet) → map length (sectors_set disks ss) ≡ map length disks
 all_sizes_stay disks [] = refl
 all_sizes_stay disks (s ∷ ss) = all_sizes_stay (set_on disks s (slice_get disks s.device)) ss ∙ size_stays disks s (slice_get disks s.device) refl
 

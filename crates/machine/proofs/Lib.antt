@@ -1,8 +1,11 @@
 pub mod Agreeing
-pub mod At
 pub mod Effects
-pub mod Fresh
-pub mod Kept
-pub mod Raised
-pub mod Running
+pub mod Inside
+pub mod Looking
+pub mod Rings
+pub mod Serving
+pub mod Staying
+pub mod Within
+pub mod Containing
 pub mod Stepping
+pub mod At

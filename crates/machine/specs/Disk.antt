@@ -1,4 +1,15 @@
-use Rattle.std.specs.Prelude.{◌≡◌, ◌≢◌, ℕ, ◌+◌, ◌%◌, ◌^◌, List, length, Bool, IsTrue, Result, slice_set, slice_index_or, [], IsOk, is_ok, if◌then◌else◌, OnOk, OnErr}
+-- What the disk under a block device means (VIRTIO 1.2, 5.2).
+use Rattle.std.specs.Prelude.{◌≡◌, ◌≢◌, ℕ, List, length, All, Bool, IsTrue, Result, slice_set, slice_index_or, [], IsOk, OnOk, OnErr}
+use Rattle.guestmem.specs.Failures.{counted}
+use Rattle.guestmem.specs.Number.{IsBytes}
+
+-- A sector is 512 bytes.
+pub record IsSector (sector : List ℕ) : Type 0 where
+  pub size : length sector ≡ 512
+  pub bytes : IsBytes sector
+
+abbrev pub AreSectors : List (List ℕ) → Type 0
+AreSectors sectors = All IsSector sectors
 
 -- What a disk means: its sectors, how often it failed (modulo 2^64), whether a read gives what was written, and whether
 -- it never fails.
@@ -7,10 +18,6 @@ pub record DiskState : Type 0 where
   pub failures : ℕ
   pub honest : Bool
   pub steady : Bool
-
--- The count of failures rises by one exactly at an Err.
-abbrev pub counted : {T E : Type 0} → ℕ → Result T E → ℕ
-counted failures result = if is_ok result then failures else (failures + 1) % 2 ^ 64
 
 abbrev pub sector_at : List (List ℕ) → ℕ → List ℕ
 sector_at sectors n = slice_index_or sectors n []

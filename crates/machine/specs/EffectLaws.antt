@@ -1,6 +1,8 @@
-use Rattle.std.specs.Prelude.{◌≡◌, ℕ, ◌*◌, ◌/◌, ◌<◌, List, length, map, All, Option, Some, None, slice_get, slice_index}
+-- What follows for every effect.
+use Rattle.std.specs.Prelude.{◌≡◌, ℕ, ◌*◌, ◌<◌, List, length, map, All, Option, Some, None, slice_get}
 use Rattle.guestmem.specs.Item.{Item, page, sector}
 use Rattle.guestmem.specs.Laws.{Among}
+use Rattle.guestmem.specs.Page.{page_of}
 use Rattle.machine.specs.State.{MachineState, DeviceState, Sector}
 use Rattle.machine.specs.Effect.{Effect, Replacement, applied, items_of}
 
@@ -12,9 +14,9 @@ abbrev pub sector_on : Option (List Sector) → ℕ → Option Sector
 sector_on None n = None
 sector_on (Some disk) n = slice_get disk n
 
--- An item holds the same in two machines: each byte of a page, or the content of a sector.
+-- An item holds the same in two machines: the bytes of a page, or the content of a sector.
 abbrev pub IsSameItem : MachineState → MachineState → Item → Type 0
-IsSameItem m k (page n) = (a : ℕ) → a / 4096 ≡ n → slice_index k.ram a ≡ slice_index m.ram a
+IsSameItem m k (page n) = page_of k.ram n ≡ page_of m.ram n
 IsSameItem m k (sector dev n) = sector_on (sectors_on k dev) n ≡ sector_on (sectors_on m dev) n
 
 -- What an effect does not touch stays.

@@ -1,6 +1,7 @@
 use Rattle.std.specs.Prelude.{◌≡◌, List, [], ◌∷◌}
 use Rattle.machine.specs.State.{MachineState}
-use Rattle.machine.specs.Step.{Outcome, IsStep}
+use Rattle.machine.specs.Outcome.{Outcome}
+use Rattle.machine.specs.Step.{IsStep}
 use Rattle.machine.specs.declared.event.Event.{Event}
 use Rattle.machine.specs.declared.reply.Reply.{Reply}
 

@@ -1,3 +1,4 @@
+-- What contracts see of a machine.
 use Rattle.std.specs.Prelude.{ℕ, List, [], map, Option, Some, None, Bool, true}
 use Rattle.guestmem.specs.Memory.{Memory}
 use Rattle.machine.specs.Disk.{DiskState}
@@ -14,7 +15,7 @@ pub record DeviceSeen : Type 0 where
   pub sectors : List Sector
   pub marks : Marks
 
--- What contracts see of a machine: its memory with the versions of the pages, and its devices with their disks.
+-- A machine: its memory with the versions of the pages, and its devices with their disks.
 pub record Seen : Type 0 where
   pub memory : Memory
   pub devices : List DeviceSeen

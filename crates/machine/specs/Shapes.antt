@@ -1,8 +1,11 @@
-use Rattle.std.specs.Prelude.{ℕ, ◌+◌, ◌^◌, List, [], replicate}
+-- What each shape of device is.
+use Rattle.std.specs.Prelude.{ℕ, zero, ◌+◌, ◌^◌, List, [], ◌∷◌, Option, Some, None, replicate, slice_get}
 use Rattle.mmio.specs.State.{first_registers}
 use Rattle.chains.specs.declared.position.Positions.{Positions}
 use Rattle.mmio.specs.declared.common.Common.{Common}
 use Rattle.mmio.specs.declared.queue.Queue.{Queue}
+use Rattle.machine.specs.declared.own.Own.{Own}
+use Rattle.machine.specs.declared.own.Own.TheVariants as own
 use Rattle.machine.specs.declared.shape.Shape.{Shape}
 use Rattle.machine.specs.declared.shape.Shape.TheVariants.{Entropy}
 use Rattle.machine.specs.State.{DeviceState}
@@ -29,20 +32,45 @@ queues_of Entropy = 1
 abbrev pub configuration_of : DeviceState → List ℕ
 configuration_of d = []
 
+-- How many sectors its disk has, if it has one.
+abbrev pub disk_size_of : Shape → Option ℕ
+disk_size_of Entropy = None
+
+abbrev pub or_zero : Option ℕ → ℕ
+or_zero None = 0
+or_zero (Some n) = n
+
+-- How many sectors a device of this shape has.
+abbrev pub sector_count : Shape → ℕ
+sector_count shape = or_zero (disk_size_of shape)
+
+abbrev pub with_size : Option ℕ → List ℕ → List ℕ
+with_size None sizes = sizes
+with_size (Some n) sizes = n ∷ sizes
+
+-- How many sectors the disks of these devices have, in the order of the devices that have one.
+abbrev pub disk_sizes : List Shape → List ℕ
+disk_sizes [] = []
+disk_sizes (shape ∷ shapes) = with_size (disk_size_of shape) (disk_sizes shapes)
+
+-- What a device of its kind begins with.
+abbrev pub first_own : Shape → Own
+first_own Entropy = own.Entropy []
+
 -- A new device in a machine whose RAM has so many bytes.
 abbrev pub first_device : ℕ → Shape → DeviceState
 first_device ram_len shape = record {
   shape = shape;
   registers = first_registers (device_id_of shape) (offered_of shape) (queues_of shape) ram_len;
   positions = replicate (queues_of shape) first_positions;
-  pool = [];
+  own = first_own shape;
 }
 
 -- A device as it was saved.
-abbrev pub saved_device : ℕ → Shape → Common → List Queue → List Positions → List ℕ → DeviceState
-saved_device ram_len shape common queues positions pool = record {
+abbrev pub saved_device : ℕ → Shape → Common → List Queue → List Positions → Own → DeviceState
+saved_device ram_len shape common queues positions own_is = record {
   shape = shape;
   registers = record { device_id = device_id_of shape; offered = offered_of shape; ram_len = ram_len; common = common; queues = queues };
   positions = positions;
-  pool = pool;
+  own = own_is;
 }

@@ -1,15 +1,17 @@
+-- A machine, as what two equal machines agree on.
 use Rattle.std.specs.Prelude.{ℕ, List, Option}
 use Rattle.mmio.specs.State.{Registers}
 use Rattle.chains.specs.declared.position.Positions.{Positions}
+use Rattle.machine.specs.declared.own.Own.{Own}
 use Rattle.machine.specs.declared.shape.Shape.{Shape}
 
--- A device: what it was made as, its registers with its queues, how far it has come in each queue, and the bytes that
--- the host has put in and the guest has not yet taken.
+-- A device: what it was made as, its registers with its queues, how far it has come in each queue, and what only its kind
+-- has.
 pub record DeviceState : Type 0 where
   pub shape : Shape
   pub registers : Registers
   pub positions : List Positions
-  pub pool : List ℕ
+  pub own : Own
 
 -- The bytes of a sector, or none where it is bad.
 abbrev pub Sector : Type 0

@@ -1,44 +1,29 @@
-use Rattle.std.specs.Prelude.{Bool, true, false, min, ◌-◌, ◌++◌, ◌≡◌, ℕ, List, [], take, drop, length, Option, Some, None, slice_get}
+-- Steps of a machine.
+use Rattle.std.specs.Prelude.{min, ◌-◌, ◌++◌, ◌≡◌, ℕ, List, [], take, drop, length, Option, Some, None, slice_get}
+use Rattle.guestmem.specs.Item.{Item, after_all}
 use Rattle.guestmem.specs.Write.{refusal_of}
 use Rattle.guestmem.specs.Writes.{byte_writes}
 use Rattle.guestmem.specs.declared.error.RamError.{RamError}
 use Rattle.guestmem.specs.declared.error.RamError.TheVariants as ram_error
 use Rattle.mmio.specs.RegisterRead.{register_read}
 use Rattle.mmio.specs.RegisterWrite.{register_write}
-use Rattle.machine.specs.QueuePositions.{kept_positions}
 use Rattle.mmio.specs.State.{Registers}
-use Rattle.machine.specs.State.{DeviceState, MachineState}
-use Rattle.machine.specs.Shapes.{configuration_of}
-use Rattle.machine.specs.DeviceStep.{device_step, looked_at, MayLook}
-use Rattle.machine.specs.Effect.{Effect, no_effect, applied}
 use Rattle.chains.specs.declared.next.Next.{Next}
+use Rattle.console.specs.declared.host_bytes.TheConstants.{HOST_BYTES_MAX}
+use Rattle.machine.specs.DeviceStep.{device_step, looked_at, MayLook}
+use Rattle.machine.specs.Effect.{Effect, no_effect, applied, items_of}
+use Rattle.machine.specs.Outcome.{Outcome, fine, no_memory, outcome_of}
+use Rattle.machine.specs.QueuePositions.{kept_positions}
+use Rattle.machine.specs.Shapes.{configuration_of}
+use Rattle.machine.specs.State.{DeviceState, MachineState}
 use Rattle.machine.specs.declared.event.Event.{Event}
 use Rattle.machine.specs.declared.event.Event.TheVariants.{RegRead, RegWrite, MemRead, MemWrite, Step, Input}
+use Rattle.machine.specs.declared.own.Own.{Own}
+use Rattle.machine.specs.declared.own.Own.TheVariants.{Entropy}
 use Rattle.machine.specs.declared.reply.Refusal.{Refusal}
 use Rattle.machine.specs.declared.reply.Refusal.TheVariants.{NoDevice, OutOfRam, TooLong}
 use Rattle.machine.specs.declared.reply.Reply.{Reply}
-use Rattle.machine.specs.declared.reply.Reply.TheVariants.{Value, Done, Bytes, Idle, Completed, Accepted, NeedsReset, NoMemory, Refused}
-
--- What the outside let happen in a step: all that was asked of it, or memory was refused.
-pub data Outcome : Type 0 where
-  fine : Outcome
-  no_memory : Outcome
-
-abbrev pub is_fine : Outcome → Bool
-is_fine fine = true
-is_fine no_memory = false
-
--- The outcome that a reply tells of.
-abbrev pub outcome_of : Reply → Outcome
-outcome_of NoMemory = no_memory
-outcome_of (Value v) = fine
-outcome_of Done = fine
-outcome_of (Bytes bs) = fine
-outcome_of (Refused k) = fine
-outcome_of Idle = fine
-outcome_of (Completed n) = fine
-outcome_of (Accepted n) = fine
-outcome_of NeedsReset = fine
+use Rattle.machine.specs.declared.reply.Reply.TheVariants.{Value, Done, Bytes, Accepted, NoMemory, Refused}
 
 -- What a machine answers to an event, and what changes.
 pub record Answer : Type 0 where
@@ -96,22 +81,25 @@ write_ram addr bytes None = record {
   effect = record { writes = byte_writes addr bytes; sectors = []; replaced = None };
 }
 
--- The host puts bytes in. The first that fit are kept.
-abbrev pub room_for : DeviceState → List ℕ → ℕ
-room_for d bytes = min (length bytes) (4096 - length d.pool)
+-- The host puts bytes in. An entropy device keeps the first that fit into its pool.
+abbrev pub kept_of : Own → List ℕ → ℕ
+kept_of (Entropy pool) bytes = min (length bytes) (HOST_BYTES_MAX - length pool)
+
+abbrev pub own_with : Own → List ℕ → Own
+own_with (Entropy pool) bytes = Entropy (pool ++ bytes)
 
 abbrev pub with_input : DeviceState → List ℕ → DeviceState
-with_input d bytes = record d { pool = d.pool ++ take (room_for d bytes) bytes }
+with_input d bytes = record d { own = own_with d.own (take (kept_of d.own bytes) bytes) }
 
 abbrev pub put_in : ℕ → Option DeviceState → List ℕ → Answer
 put_in number None bytes = refused NoDevice
-put_in number (Some d) bytes = becomes number (with_input d bytes) (Accepted (room_for d bytes))
+put_in number (Some d) bytes = becomes number (with_input d bytes) (Accepted (kept_of d.own bytes))
 
 -- A device does one piece of its work. Where it looks at no queue it is idle.
 abbrev pub step_device : ℕ → Option DeviceState → List ℕ → ℕ → Outcome → Next → Answer
 step_device number None ram pick o seen = refused NoDevice
 step_device number (Some d) ram pick o seen =
-    let s = device_step d ram pick (is_fine o) seen in
+    let s = device_step d ram pick o seen in
     record {
       reply = s.reply;
       effect = record { writes = s.writes; sectors = []; replaced = Some (record { number = number; device = s.device }) };
@@ -131,15 +119,29 @@ answer m (Input dev bytes) o seen = put_in dev (slice_get m.devices dev) bytes
 -- not empty.
 abbrev pub MaySeeAt : Option DeviceState → List ℕ → ℕ → Outcome → Next → Type 0
 MaySeeAt None ram pick o seen = Unit {0}
-MaySeeAt (Some d) ram pick o seen = MayLook (looked_at d pick) ram (is_fine o) seen
+MaySeeAt (Some d) ram pick o seen = MayLook (looked_at d pick) ram o seen
 
 abbrev pub MaySee : MachineState → Event → Outcome → Next → Type 0
 MaySee m (Step dev pick) o seen = MaySeeAt (slice_get m.devices dev) m.ram pick o seen
 MaySee m e o seen = Unit {0}
 
--- One step of a machine: an event with its outcome, the reply, and the machine after it.
-pub record IsStep (m : MachineState) (e : Event) (o : Outcome) (reply : Reply) (after : MachineState) : Type 0 where
+-- An event with an outcome has this reply and this effect. The outcome is the one that the reply tells of.
+pub record HasEffect (m : MachineState) (e : Event) (o : Outcome) (reply : Reply) (effect : Effect) : Type 0 where
   pub seen : Next
   pub may_see : MaySee m e o seen
-  pub replied : reply ≡ (answer m e o seen).reply
-  pub changed : after ≡ applied m (answer m e o seen).effect
+  pub reply_is : reply ≡ (answer m e o seen).reply
+  pub effect_is : effect ≡ (answer m e o seen).effect
+  pub outcome_is : outcome_of reply ≡ o
+
+-- One step of a machine: an event with its outcome, the reply, and the machine after it, which is the effect applied.
+pub record IsStep (m : MachineState) (e : Event) (o : Outcome) (reply : Reply) (after : MachineState) : Type 0 where
+  pub effect : Effect
+  pub has : HasEffect m e o reply effect
+  pub changed : after ≡ applied m effect
+
+-- A step with the outcome of its reply, and a log after it, which took in exactly the items that the step writes into.
+pub record IsLoggedStep {L : Type 0} (taking : L → Item → L) (m : MachineState) (log : L) (e : Event) (reply : Reply) (after : MachineState) (new_log : L) : Type 0 where
+  pub effect : Effect
+  pub has : HasEffect m e (outcome_of reply) reply effect
+  pub changed : after ≡ applied m effect
+  pub logged : new_log ≡ after_all taking log (items_of effect)

@@ -1,21 +1,61 @@
 -- What follows from the definition of a step.
-use Rattle.std.specs.Prelude.{◌≡◌, ℕ, List, Some, slice_get, slice_set, bit_or}
+use Rattle.std.specs.Prelude.{◌≡◌, ◌↔◌, ◌<◌, ◌^◌, ℕ, List, Some, slice_get, slice_set, bit_or}
+use Rattle.guestmem.specs.Number.{IsBytes}
 use Rattle.mmio.specs.State.{with_common}
-use Rattle.machine.specs.State.{MachineState, DeviceState}
-use Rattle.machine.specs.Step.{Outcome, IsStep}
+use Rattle.machine.specs.Effect.{Effect, applied}
+use Rattle.machine.specs.EffectLaws.{IsWithin, IsSameShape}
+use Rattle.machine.specs.Looked.{LooksAtMalformed}
+use Rattle.machine.specs.Outcome.{Outcome, fine}
 use Rattle.machine.specs.Run.{IsRun}
+use Rattle.machine.specs.Sound.{IsSound}
+use Rattle.machine.specs.State.{MachineState, DeviceState}
+use Rattle.machine.specs.Step.{HasEffect, IsStep}
 use Rattle.machine.specs.declared.event.Event.{Event}
-use Rattle.machine.specs.declared.event.Event.TheVariants.{Step}
+use Rattle.machine.specs.declared.event.Event.TheVariants.{RegRead, RegWrite, MemRead, MemWrite, Step, Input}
 use Rattle.machine.specs.declared.reply.Reply.{Reply}
-use Rattle.machine.specs.declared.reply.Reply.TheVariants.{NeedsReset}
+use Rattle.machine.specs.declared.reply.Reply.TheVariants.{NeedsReset, NoMemory, Refused}
 
--- Steps of one machine with one outcome are one step: whatever a device sees in a ring is settled by RAM.
+-- Effects of one event on one machine with one outcome are one effect: whatever a device sees in a ring is settled by RAM.
+abbrev pub EffectsAgree : Type 0
+EffectsAgree = (m : MachineState) (e : Event) (o : Outcome) (r s : Reply) (f g : Effect) → HasEffect m e o r f → HasEffect m e o s g → (r ≡ s) × (f ≡ g)
+
+-- So steps of one machine with one outcome are one step.
 abbrev pub StepsAgree : Type 0
 StepsAgree = (m : MachineState) (e : Event) (o : Outcome) (r s : Reply) (a b : MachineState) → IsStep m e o r a → IsStep m e o s b → (r ≡ s) × (a ≡ b)
 
 -- So are runs.
 abbrev pub RunsAgree : Type 0
 RunsAgree = (m : MachineState) (es : List Event) (os : List Outcome) (rs ss : List Reply) (a b : MachineState) → IsRun m es os rs a → IsRun m es os ss b → (rs ≡ ss) × (a ≡ b)
+
+-- The numbers of an event fit their fields, and bytes are bytes.
+abbrev pub Fits : Event → Type 0
+Fits (RegRead dev off width) = (dev < 2 ^ 8) × (off < 2 ^ 32) × (width < 2 ^ 8)
+Fits (RegWrite dev off width value) = (dev < 2 ^ 8) × (off < 2 ^ 32) × (width < 2 ^ 8) × (value < 2 ^ 32)
+Fits (MemRead addr len) = (addr < 2 ^ 64) × (len < 2 ^ 32)
+Fits (MemWrite addr bytes) = (addr < 2 ^ 64) × IsBytes bytes
+Fits (Step dev pick) = (dev < 2 ^ 8) × (pick < 2 ^ 8)
+Fits (Input dev bytes) = (dev < 2 ^ 8) × IsBytes bytes
+
+-- The effect of a step of a sound machine lies within it.
+abbrev pub StepStaysWithin : Type 0
+StepStaysWithin = (m : MachineState) (e : Event) (o : Outcome) (r : Reply) (f : Effect) → IsSound m → HasEffect m e o r f → IsWithin m f
+
+-- A step keeps the shape of a machine.
+abbrev pub StepKeepsShape : Type 0
+StepKeepsShape = (m : MachineState) (e : Event) (o : Outcome) (r : Reply) (f : Effect) → HasEffect m e o r f → IsSameShape m (applied m f)
+
+-- A sound machine is sound after a step.
+abbrev pub StepStaysSound : Type 0
+StepStaysSound = (m : MachineState) (e : Event) (o : Outcome) (r : Reply) (f : Effect) → IsSound m → Fits e → HasEffect m e o r f → IsSound (applied m f)
+
+-- An event that was refused, or was refused memory, changes nothing.
+abbrev pub IsRefusal : Reply → Type 0
+IsRefusal NoMemory = Unit {0}
+IsRefusal (Refused refusal) = Unit {0}
+IsRefusal _ = ⊥
+
+abbrev pub RefusalsChangeNothing : Type 0
+RefusalsChangeNothing = (m : MachineState) (e : Event) (o : Outcome) (r : Reply) (after : MachineState) → IsStep m e o r after → IsRefusal r → after ≡ m
 
 -- One device has asked for a reset: its status has DEVICE_NEEDS_RESET and its interrupts that of a changed configuration
 -- (VIRTIO 1.2, 2.1.2). Nothing else has changed, in no device, in RAM and on no disk.
@@ -34,3 +74,8 @@ pub record IsContained (m after : MachineState) (dev : ℕ) : Type 0 where
 -- A malformed chain stops its own device, and harms nothing else.
 abbrev pub MalformedIsContained : Type 0
 MalformedIsContained = (m : MachineState) (dev pick : ℕ) (o : Outcome) (after : MachineState) → IsStep m (Step dev pick) o NeedsReset after → IsContained m after dev
+
+-- A device asks for a reset exactly where it looks at a queue that is malformed and memory was not refused.
+abbrev pub MalformedAsksForReset : Type 0
+MalformedAsksForReset = (m : MachineState) (dev pick : ℕ) (o : Outcome) (r : Reply) (after : MachineState) → IsStep m (Step dev pick) o r after
+    → (r ≡ NeedsReset) ↔ ((o ≡ fine) × LooksAtMalformed m dev pick)

@@ -1,12 +1,30 @@
 //! The bytes that an event or a reply carries.
 
+ghost use Rattle.std.specs.Prelude.{nat_eq};
+ghost use Rattle.std.specs.Cmp.Lexicographic.{pointwise, nat_list_eq_equiv};
+ghost use Rattle.std.specs.Cmp.{partial_equiv_from_equiv};
+
 use std::alloc::Global;
 use std::marker::Model;
 
 /// A list of bytes, which contracts see as that list.
-#[derive(Drop)]
+#[derive(Debug, Drop)]
 pub struct Bytes {
     held: Vec<u8>,
+}
+
+impl PartialEq for Bytes {
+    ghost eq = { pointwise nat_eq };
+
+    ghost laws = { partial_equiv_from_equiv nat_list_eq_equiv };
+
+    fn eq(&self, other: &Bytes) -> bool {
+        self.as_slice() == other.as_slice()
+    }
+}
+
+impl Eq for Bytes {
+    ghost laws = { nat_list_eq_equiv };
 }
 
 impl Model for Bytes {

@@ -1,6 +1,6 @@
 //! A device and its disk.
 
-ghost use Rattle.std.specs.Prelude.{◌≡◌, None, ℕ, IfOk, length};
+ghost use Rattle.std.specs.Prelude.{◌≡◌, ℕ, IfOk, length};
 ghost use Rattle.machine.specs.Seen.{DeviceSeen, sectors_of, marks_of};
 
 use crate::disk::Disk;
@@ -22,24 +22,22 @@ impl<D: Disk> Model for Device<D> {
     ghost Value = { DeviceSeen };
 
     ghost view = { λ d. record { state = d.state; sectors = sectors_of D.state d.disk; marks = marks_of D.state d.disk } };
-
-    ghost invariant = { λ d. d.disk ≡ None };
 }
 
 impl<D: Disk> Device<D> {
-    ghost use Rattle.machine.specs.Step.{register_value_of, register_set, room_for, with_input};
+    ghost use Rattle.machine.specs.Step.{register_value_of, register_set, kept_of, with_input};
     ghost use Rattle.machine.specs.DeviceWork.{IsDeviceStep};
     ghost use Rattle.guestmem.specs.Item.{MayPages};
     ghost use Rattle.machine.specs.Sound.{IsSoundDevice};
-    ghost use Rattle.machine.specs.First.{first_seen, seen_without_disk};
+    ghost use Rattle.machine.specs.First.{seen_without_disk};
+    ghost use Rattle.machine.specs.Shapes.{first_device};
 
     /// A new device without a disk, in a machine whose RAM has so many bytes.
     pub fn new(alloc: Global, shape: Shape, ram_len: u64) -> Result<Device<D>, NoMemory>
-        ensures first { IfOk result (λ d. d ≡ first_seen ram_len shape) }
-        ensures sound { IfOk result (λ d. IsSoundDevice ram_len d.state) }
+        ensures { IfOk result (λ d. d ≡ seen_without_disk (first_device ram_len shape)) }
     {
         let state = DeviceState::new(alloc, shape, ram_len)?;
-        Ok(Device { state, disk: None })
+        Ok(Device::without_disk(state))
     }
 
     /// A device without a disk, which is this beside it.
@@ -63,16 +61,14 @@ impl<D: Disk> Device<D> {
     }
 
     pub fn write_register(&mut self, offset: u32, width: u8, value: u32)
-        ensures set { self.new ≡ record self.old { state = register_set self.old.state offset width value } }
-        ensures sound { (bytes : ℕ) → IsSoundDevice bytes self.old.state → IsSoundDevice bytes self.new.state }
+        ensures { self.new ≡ record self.old { state = register_set self.old.state offset width value } }
     {
         self.state.write_register(offset, width, value);
     }
 
     pub fn input(&mut self, bytes: &[u8]) -> u32
-        ensures count { result ≡ room_for self.old.state bytes.now }
+        ensures count { result ≡ kept_of self.old.state.own bytes.now }
         ensures device { self.new ≡ record self.old { state = with_input self.old.state bytes.now } }
-        ensures sound { (len : ℕ) → IsSoundDevice len self.old.state → IsSoundDevice len self.new.state }
     {
         self.state.input(bytes)
     }
@@ -89,10 +85,7 @@ impl<D: Disk> Device<D> {
         ensures step { IsDeviceStep L.after ram.old.bytes log.old self.old.state pick result ram.new.bytes log.new self.new.state }
         ensures sectors { self.new.sectors ≡ self.old.sectors }
         ensures marks { self.new.marks ≡ self.old.marks }
-        ensures shape { self.new.state.shape ≡ self.old.state.shape }
-        ensures sound { (len : ℕ) → IsSoundDevice len self.old.state → IsSoundDevice len self.new.state }
         ensures size { length ram.new.bytes ≡ length ram.old.bytes }
-        ensures may { MayPages L.may log.new (length ram.new.bytes) }
     {
         self.state.step(alloc, pick, ram, log)
     }

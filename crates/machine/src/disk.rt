@@ -1,7 +1,7 @@
 //! The disk under a block device.
 
 ghost use Rattle.std.specs.Prelude.{◌≡◌, ◌<◌, length};
-ghost use Rattle.machine.specs.Disk.{DiskState, Reads, Writes, Flushes};
+ghost use Rattle.machine.specs.Disk.{DiskState, AreSectors, Reads, Writes, Flushes};
 
 use thiserror::Error;
 
@@ -21,9 +21,10 @@ pub trait Disk {
     /// Its sectors, the count of its failures modulo 2^64, and whether it is honest and steady.
     ghost state: { Self → DiskState };
 
-    /// How many sectors it has.
+    /// How many sectors it has. Each of them is 512 bytes.
     fn sectors(&self) -> u64
-        ensures { result ≡ length (state self.now).sectors };
+        ensures count { result ≡ length (state self.now).sectors }
+        ensures whole { AreSectors (state self.now).sectors };
 
     /// Reads a sector. Where this fails, the buffer may hold anything.
     fn read(&mut self, n: u64, buf: &mut [u8; 512]) -> Result<(), DiskFault>

@@ -3,7 +3,7 @@
 use crate::bytes::Bytes;
 
 /// One thing that the guest or the host does to a machine: one atomic step.
-#[derive(Drop)]
+#[derive(Debug, Drop, PartialEq, Eq)]
 pub enum Event {
     /// The driver reads a register of a device, `width` bytes at the offset `off` of its window.
     RegRead {
@@ -32,7 +32,8 @@ pub enum Event {
         bytes: Bytes,
     },
 
-    /// A device does one piece of its work: for an entropy device, pick 0 serves the next buffer of its queue.
+    /// A device does one piece of its work, which the pick names: for an entropy device pick 0, which serves the next buffer
+    /// of its queue 0. A pick that names nothing is answered `Idle`.
     Step {
         dev: u8,
         pick: u8,

@@ -1,21 +1,26 @@
 //! Laws over the definitions alone. These functions do nothing: their contracts are the laws.
 
 ghost use Rattle.machine.specs.EffectLaws.{UntouchedStays, TouchedExists, ShapeStays};
-ghost use Rattle.machine.specs.StepLaws.{StepsAgree, RunsAgree, MalformedIsContained};
+ghost use Rattle.machine.specs.StepLaws.{EffectsAgree, StepsAgree, RunsAgree, StepStaysWithin, StepKeepsShape, StepStaysSound, RefusalsChangeNothing, MalformedIsContained, MalformedAsksForReset};
 
-/// What a step's effect does not touch stays as it was.
+/// What an effect does not touch stays as it was.
 pub fn untouched_stays()
     ensures { UntouchedStays }
 {}
 
-/// What a step's effect touches is a page or a sector of the machine.
+/// What an effect touches is a page or a sector of the machine.
 pub fn touched_exists()
     ensures { TouchedExists }
 {}
 
-/// A step's effect keeps the size of RAM, the devices' shapes and the disks' sizes.
+/// An effect keeps the size of RAM, the devices' shapes and the disks' sizes.
 pub fn shape_stays()
     ensures { ShapeStays }
+{}
+
+/// Effects of one event on one machine with one outcome are one effect.
+pub fn effects_agree()
+    ensures { EffectsAgree }
 {}
 
 /// Steps of one machine with one outcome are one step: they answer alike, and leave the same machine.
@@ -28,7 +33,32 @@ pub fn runs_agree()
     ensures { RunsAgree }
 {}
 
+/// The effect of a step of a sound machine lies within it: inside RAM, on sectors and a device that are there.
+pub fn step_stays_within()
+    ensures { StepStaysWithin }
+{}
+
+/// A step keeps the size of RAM, the devices' shapes and the disks' sizes.
+pub fn step_keeps_shape()
+    ensures { StepKeepsShape }
+{}
+
+/// A sound machine is sound after a step.
+pub fn step_stays_sound()
+    ensures { StepStaysSound }
+{}
+
+/// An event that is answered `Refused` or `NoMemory` changes nothing.
+pub fn refusals_change_nothing()
+    ensures { RefusalsChangeNothing }
+{}
+
 /// A malformed chain makes its own device ask for a reset, and changes nothing else.
 pub fn malformed_is_contained()
     ensures { MalformedIsContained }
+{}
+
+/// A device asks for a reset exactly where it looks at a queue that is malformed and memory was not refused.
+pub fn malformed_asks_for_reset()
+    ensures { MalformedAsksForReset }
 {}

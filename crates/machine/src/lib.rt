@@ -28,7 +28,9 @@ pub mod laws;
 mod machine;
 mod mem_disk;
 mod new_error;
+mod own;
 mod reply;
+mod served;
 mod shape;
 mod state;
 
@@ -38,6 +40,7 @@ pub use event::Event;
 pub use machine::{DEVICES_MAX, Machine};
 pub use mem_disk::MemDisk;
 pub use new_error::NewError;
+pub use own::Own;
 pub use reply::{Refusal, Reply};
 pub use shape::Shape;
 pub use state::{DeviceState, offered};

@@ -5,6 +5,7 @@ ghost use Rattle.std.specs.Prelude.{◌≡◌, replicate, true, IfOk};
 use crate::disk::{Disk, DiskFault, SECTOR_SIZE};
 use guestmem::NoMemory;
 use std::alloc::Global;
+use std::marker::Model;
 
 /// A disk in memory. It is honest and steady.
 #[derive(Drop)]
@@ -12,12 +13,21 @@ pub struct MemDisk {
     sectors: Vec<[u8; 512]>,
 }
 
-impl MemDisk {
-    ghost use Rattle.machine.specs.Contents.{contents};
+impl Model for MemDisk {
+    ghost use Rattle.std.specs.Prelude.{List, ℕ};
+    ghost use Rattle.machine.specs.Disk.{AreSectors};
 
+    ghost Value = { List (List ℕ) };
+
+    ghost view = { λ d. d.sectors.items };
+
+    ghost invariant = { λ d. AreSectors d.sectors.items };
+}
+
+impl MemDisk {
     /// A disk of so many sectors of zeros. Its only error is want of memory.
     pub fn new(alloc: Global, sectors: u64) -> Result<MemDisk, NoMemory>
-        ensures { IfOk result (λ disk. contents disk ≡ replicate sectors (replicate 512 0)) }
+        ensures { IfOk result (λ disk. disk ≡ replicate sectors (replicate 512 0)) }
     {
         let sectors = vec![in alloc; [0u8; SECTOR_SIZE]; sectors as usize]?;
         Ok(MemDisk { sectors })
@@ -25,9 +35,7 @@ impl MemDisk {
 }
 
 impl Disk for MemDisk {
-    ghost use Rattle.machine.specs.Contents.{contents};
-
-    ghost state = { λ d. record { sectors = contents d; failures = 0; honest = true; steady = true } };
+    ghost state = { λ d. record { sectors = d; failures = 0; honest = true; steady = true } };
 
     fn sectors(&self) -> u64 {
         self.sectors.len() as u64

@@ -2,8 +2,10 @@
 
 ghost use Rattle.std.specs.Prelude.{◌≡◌};
 ghost use Rattle.machine.specs.Refusal.{code_of};
+ghost use Rattle.machine.specs.Step.{ram_refusal};
 
 use crate::bytes::Bytes;
+use guestmem::RamError;
 
 /// Why an event was refused. A refused event changes nothing.
 #[derive(Clone, Copy, Debug, PartialEq, Eq)]
@@ -31,8 +33,19 @@ impl Refusal {
     }
 }
 
+impl From<RamError> for Refusal {
+    ghost from_gives = { λ error refusal. refusal ≡ ram_refusal error };
+
+    fn from(error: RamError) -> Refusal {
+        match error {
+            RamError::OutOfRam => Refusal::OutOfRam,
+            RamError::TooLong => Refusal::TooLong,
+        }
+    }
+}
+
 /// What a machine answers to an event.
-#[derive(Drop)]
+#[derive(Debug, Drop, PartialEq, Eq)]
 pub enum Reply {
     /// What a register read gave.
     Value(u32),

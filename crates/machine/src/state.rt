@@ -2,23 +2,20 @@
 
 ghost use Rattle.std.specs.Prelude.{◌≡◌, ◌≤◌, ◌<◌, ℕ, IfOk, length, take, if◌then◌else◌};
 ghost use Rattle.mmio.specs.State.{queue_at, with_common};
-ghost use Rattle.mmio.specs.Sound.{IsSoundRegisters};
 ghost use Rattle.mmio.specs.Interrupts.{reset_asked, used_raised};
 ghost use Rattle.mmio.specs.QueueRegisters.{notified_cleared};
 ghost use Rattle.machine.specs.DeviceStep.{reply_of, registers_after};
 ghost use Rattle.machine.specs.QueuePositions.{first_positions, kept_positions};
-ghost use Rattle.machine.specs.Sound.{IsSoundDevice};
-ghost use Rattle.mmio.specs.RegisterRead.{register_read};
-ghost use Rattle.machine.specs.Shapes.{first_device, saved_device, configuration_of, device_id_of, offered_of, queues_of};
-ghost use Rattle.machine.specs.Step.{register_value_of, register_set};
+ghost use Rattle.machine.specs.Shapes.{device_id_of, offered_of, queues_of};
 
 use crate::any_ring::AnyRing;
+use crate::own::Own;
 use crate::reply::Reply;
+use crate::served::Served;
 use crate::shape::Shape;
 use chains::{Positions, Ring};
-use console::{HostBytes, Received, receive};
 use guestmem::{NoMemory, Ram, TouchLog};
-use mmio::{Common, Effect, Queue, Regs};
+use mmio::{Common, Effect, QUEUE_COUNT_MAX, Queue, Regs};
 use std::alloc::Global;
 use std::marker::Model;
 
@@ -28,8 +25,8 @@ pub struct DeviceState {
     shape: Shape,
     registers: Regs,
     // How far the device has come in its queues, of which it has two at most.
-    positions: [Positions; 2],
-    pool: HostBytes,
+    positions: [Positions; QUEUE_COUNT_MAX],
+    own: Own,
 }
 
 impl Model for DeviceState {
@@ -38,28 +35,34 @@ impl Model for DeviceState {
 
     ghost Value = { DeviceState };
 
-    ghost view = { λ d. record { shape = d.shape; registers = d.registers; positions = take (length d.registers.queues) d.positions; pool = d.pool } };
+    ghost view = { λ d. record { shape = d.shape; registers = d.registers; positions = take (length d.registers.queues) d.positions; own = d.own } };
 }
 
 impl DeviceState {
+    ghost use Rattle.std.specs.Prelude.{◌≡◌, ◌≤◌, ◌<◌, ℕ, IfOk, MatchOption, IsSome, None, Some, length, take};
+    ghost use Rattle.guestmem.specs.Item.{MayPages};
+    ghost use Rattle.machine.specs.AnyRing.{ring_in};
+    ghost use Rattle.machine.specs.DeviceStep.{looks, looked_at};
+    ghost use Rattle.machine.specs.DeviceWork.{IsDeviceStep};
+    ghost use Rattle.machine.specs.Shapes.{first_device, saved_device};
+    ghost use Rattle.machine.specs.Sound.{IsSoundDevice};
+    ghost use Rattle.machine.specs.Step.{register_value_of, register_set, kept_of, with_input};
+
     /// A new device, in a machine whose RAM has so many bytes. Its only error is want of memory.
-    pub fn new(alloc: Global, shape: Shape, ram_len: u64) -> Result<DeviceState, NoMemory>
-        ensures first { IfOk result (λ d. d ≡ first_device ram_len shape) }
-        ensures sound { IfOk result (λ d. IsSoundDevice ram_len d) }
+    pub(crate) fn new(alloc: Global, shape: Shape, ram_len: u64) -> Result<DeviceState, NoMemory>
+        ensures { IfOk result (λ d. d ≡ first_device ram_len shape) }
     {
-        let registers = Regs::new(
-            device_id(shape),
-            offered(shape),
-            queue_count(shape),
-            ram_len,
-        );
-        let _common = registers.common();
-        let pool = HostBytes::new(alloc)?;
+        let own = Own::new(alloc, shape)?;
         Ok(DeviceState {
             shape,
-            registers,
-            positions: [Positions::FIRST; 2],
-            pool,
+            registers: Regs::new(
+                device_id(shape),
+                offered(shape),
+                queue_count(shape),
+                ram_len,
+            ),
+            positions: [Positions::FIRST; QUEUE_COUNT_MAX],
+            own,
         })
     }
 
@@ -69,11 +72,11 @@ impl DeviceState {
         ram_len: u64,
         common: Common,
         queues: &[Queue],
-        positions: [Positions; 2],
-        pool: HostBytes,
+        positions: [Positions; QUEUE_COUNT_MAX],
+        own: Own,
     ) -> DeviceState
-        requires { IsSoundDevice ram_len (saved_device ram_len shape common queues.now (take (length queues.now) positions) pool) }
-        ensures { result ≡ saved_device ram_len shape common queues.now (take (length queues.now) positions) pool }
+        requires { IsSoundDevice ram_len (saved_device ram_len shape common queues.now (take (length queues.now) positions) own) }
+        ensures { result ≡ saved_device ram_len shape common queues.now (take (length queues.now) positions) own }
     {
         let mut registers = Regs::new(
             device_id(shape),
@@ -86,7 +89,7 @@ impl DeviceState {
             shape,
             registers,
             positions,
-            pool,
+            own,
         }
     }
 
@@ -108,17 +111,17 @@ impl DeviceState {
     pub fn positions(&self) -> &[Positions]
         ensures positions { result.now ≡ self.now.positions }
         ensures each { length result.now ≡ length self.now.registers.queues }
-        ensures few { length self.now.registers.queues ≤ 2 }
+        ensures few { length self.now.registers.queues ≤ QUEUE_COUNT_MAX }
     {
         let queues = self.registers.queues();
         &self.positions[..queues.len()]
     }
 
-    /// The bytes that the host has put in and the guest has not yet taken.
-    pub fn pool(&self) -> &HostBytes
-        ensures { result.now ≡ self.now.pool }
+    /// What only its kind has.
+    pub fn own(&self) -> &Own
+        ensures { result.now ≡ self.now.own }
     {
-        &self.pool
+        &self.own
     }
 
     pub(crate) fn read_register(&self, offset: u32, width: u8) -> u32
@@ -128,34 +131,18 @@ impl DeviceState {
     }
 
     pub(crate) fn write_register(&mut self, offset: u32, width: u8, value: u32)
-        ensures set { self.new ≡ register_set self.old offset width value }
-        ensures sound { (bytes : ℕ) → IsSoundDevice bytes self.old → IsSoundDevice bytes self.new }
+        ensures { self.new ≡ register_set self.old offset width value }
     {
         let _effect: Effect = self.registers.write(offset, width, value);
-        let _common = self.registers.common();
         self.positions = kept(self.registers.queues(), self.positions);
     }
-}
-
-impl DeviceState {
-    ghost use Rattle.std.specs.Prelude.{◌≡◌, ℕ, length, slice_get};
-    ghost use Rattle.guestmem.specs.Item.{MayPages};
-    ghost use Rattle.mmio.specs.State.{queue_at};
-    ghost use Rattle.machine.specs.DeviceStep.{looks};
-    ghost use Rattle.machine.specs.DeviceWork.{IsDeviceStep};
-    ghost use Rattle.machine.specs.Sound.{IsSoundDevice};
-    ghost use Rattle.machine.specs.Step.{room_for, with_input};
 
     /// Keeps the first bytes that fit, and answers how many these are.
     pub(crate) fn input(&mut self, bytes: &[u8]) -> u32
-        ensures count { result ≡ room_for self.old bytes.now }
+        ensures count { result ≡ kept_of self.old.own bytes.now }
         ensures device { self.new ≡ with_input self.old bytes.now }
-        ensures sound { (len : ℕ) → IsSoundDevice len self.old → IsSoundDevice len self.new }
     {
-        let count = self.pool.put_in(bytes);
-        let _slices = self.pool.as_slices();
-        let _len = self.pool.len();
-        count as u32
+        self.own.input(bytes)
     }
 
     /// Does one piece of the device's work.
@@ -168,52 +155,62 @@ impl DeviceState {
     ) -> Reply
         requires sound { IsSoundDevice (length ram.old.bytes) self.old }
         requires may { MayPages L.may log.old (length ram.old.bytes) }
-        ensures shape { self.new.shape ≡ self.old.shape }
         ensures step { IsDeviceStep L.after ram.old.bytes log.old self.old pick result ram.new.bytes log.new self.new }
-        ensures sound { (len : ℕ) → IsSoundDevice len self.old → IsSoundDevice len self.new }
         ensures size { length ram.new.bytes ≡ length ram.old.bytes }
-        ensures may { MayPages L.may log.new (length ram.new.bytes) }
     {
-        let number = pick as usize;
-        let queues = self.registers.queues();
-        if number >= queues.len() {
+        let Some(mut ring) = self.looked_ring(alloc, pick) else {
             return Reply::Idle;
-        }
-        let queue = queues[number];
-        if !self.looks(&queue) {
-            return Reply::Idle;
-        }
-        let features = self.registers.features();
-        let mut ring = AnyRing::new(alloc, &queue, features, self.positions[number]);
-        match receive(&mut ring, &mut self.pool, ram, log) {
-            Ok(received) => {
-                self.positions[number] = ring.positions();
-                let _slices = self.pool.as_slices();
-                tell(&mut self.registers, pick, received)
+        };
+        match self.own.serve(pick, &mut ring, ram, log) {
+            Ok(served) => {
+                self.positions[pick as usize] = ring.positions();
+                tell(&mut self.registers, pick, served)
             }
             Err(_) => Reply::NoMemory,
         }
     }
 
-    /// Whether the device looks at a queue of its own.
-    fn looks(&self, queue: &Queue) -> bool
-        ensures { result ≡ looks self.now queue.now }
+    /// The ring that a step with this pick looks at, if it looks at one.
+    fn looked_ring(&self, alloc: Global, pick: u8) -> Option<AnyRing>
+        requires sound { (len : ℕ) × IsSoundDevice len self.now }
+        ensures ring { MatchOption result (looked_at self.now pick ≡ None) (λ ring. looked_at self.now pick ≡ Some (ring_in ring)) }
+        ensures there { IsSome result → pick < length self.now.registers.queues }
     {
-        self.registers.is_running() && queue.is_ready && queue.is_notified && !self.pool.is_empty()
+        let queues = self.registers.queues();
+        let number = pick as usize;
+        if number >= queues.len() {
+            return None;
+        }
+        let queue = queues[number];
+        if !self.looks(pick, &queue) {
+            return None;
+        }
+        let features = self.registers.features();
+        let positions = self.positions[number];
+        Some(AnyRing::new(alloc, &queue, features, positions))
+    }
+
+    /// Whether the device looks at a queue of its own.
+    fn looks(&self, number: u8, queue: &Queue) -> bool
+        ensures { result ≡ looks self.now number queue.now }
+    {
+        self.registers.is_running()
+            && queue.is_ready
+            && queue.is_notified
+            && self.own.has_work(number)
     }
 }
 
-/// Tells the driver by the registers how a step on a queue went, and answers the step.
-fn tell(registers: &mut Regs, pick: u8, received: Received) -> Reply
+/// Tells the driver by the registers how a queue was served, and answers the step.
+fn tell(registers: &mut Regs, pick: u8, served: Served) -> Reply
     requires { pick < length registers.old.queues }
-    ensures reply { result ≡ reply_of received }
-    ensures registers { registers.new ≡ registers_after registers.old pick received }
-    ensures sound { IsSoundRegisters registers.new }
+    ensures reply { result ≡ reply_of served }
+    ensures registers { registers.new ≡ registers_after registers.old pick served }
 {
-    match received {
-        Received::Empty => wait_for_notification(registers, pick),
-        Received::Malformed => ask_reset(registers),
-        Received::Completed(len, due) => complete(registers, len, due),
+    match served {
+        Served::Empty => wait_for_notification(registers, pick),
+        Served::Malformed => ask_reset(registers),
+        Served::Published { reply, is_due } => publish(registers, reply, is_due),
     }
 }
 
@@ -222,10 +219,8 @@ fn wait_for_notification(registers: &mut Regs, pick: u8) -> Reply
     requires { pick < length registers.old.queues }
     ensures reply { result ≡ Reply.Idle }
     ensures registers { registers.new ≡ notified_cleared registers.old pick (queue_at registers.old pick) }
-    ensures sound { IsSoundRegisters registers.new }
 {
     registers.clear_notified(pick);
-    let _common = registers.common();
     Reply::Idle
 }
 
@@ -233,29 +228,28 @@ fn wait_for_notification(registers: &mut Regs, pick: u8) -> Reply
 fn ask_reset(registers: &mut Regs) -> Reply
     ensures reply { result ≡ Reply.NeedsReset }
     ensures registers { registers.new ≡ with_common registers.old (reset_asked registers.old.common) }
-    ensures sound { IsSoundRegisters registers.new }
 {
     registers.ask_reset();
-    let _common = registers.common();
     Reply::NeedsReset
 }
 
 /// A chain was published: the interrupt is raised where it is due.
-fn complete(registers: &mut Regs, len: u32, due: bool) -> Reply
-    ensures reply { result ≡ Reply.Completed len }
-    ensures registers { registers.new ≡ (if due then with_common registers.old (used_raised registers.old.common) else registers.old) }
-    ensures sound { IsSoundRegisters registers.new }
+fn publish(registers: &mut Regs, reply: Reply, is_due: bool) -> Reply
+    ensures reply { result ≡ reply }
+    ensures registers { registers.new ≡ (if is_due then with_common registers.old (used_raised registers.old.common) else registers.old) }
 {
-    if due {
+    if is_due {
         registers.raise_used();
     }
-    let _common = registers.common();
-    Reply::Completed(len)
+    reply
 }
 
 /// The positions in queues whose registers were written.
-fn kept(queues: &[Queue], positions: [Positions; 2]) -> [Positions; 2]
-    requires { length queues.now ≤ 2 }
+fn kept(
+    queues: &[Queue],
+    positions: [Positions; QUEUE_COUNT_MAX],
+) -> [Positions; QUEUE_COUNT_MAX]
+    requires { length queues.now ≤ QUEUE_COUNT_MAX }
     ensures { take (length queues.now) result ≡ kept_positions queues.now (take (length queues.now) positions) }
 {
     let [first, second] = positions;

@@ -110,7 +110,7 @@ features_sound r f false is fits h =
     }
 
 -- A queue of sound registers is sound.
-queue_sound : (r : Registers) (n : ℕ) (q : Queue) → slice_get r.queues n ≡ Some q → IsSoundRegisters r → IsSoundQueue r.ram_len r.common q
+pub queue_sound : (r : Registers) (n : ℕ) (q : Queue) → slice_get r.queues n ≡ Some q → IsSoundRegisters r → IsSoundQueue r.ram_len r.common q
 queue_sound r n q at h = rw (get_or_from_slice_get r.queues n q q at) at (h.queues n q (slice_get_within r.queues n q at))
 
 with_queue_sound : (r : Registers) (n : ℕ) (q : Queue) → IsSoundQueue r.ram_len r.common q → IsSoundRegisters r → StaysSound r (with_queue r n q)

@@ -6,27 +6,9 @@ use Rattle.std.proofs.Math.Seq.{take-add}
 use Rattle.std.specs.Int.{byte_at, bytes_low_first}
 use Rattle.byteorder.specs.Endian.{little_from}
 use Rattle.byteorder.specs.Numbers.{little_from-cons, little_from-take, little_number-reads_back, little_from-lt, length-bytes_low_first}
+use Rattle.guestmem.specs.ByteLaws.{IsBytes-drop, IsBytes-take, IsBytes-low_first}
 use Rattle.guestmem.specs.Number.{number_at, IsBytes}
 use Rattle.wire.specs.Numbers.{digits, spelled, numbers, Fit, size_of, flag}
-
-pub IsBytes-drop : (n : ℕ) (bytes : List ℕ) → IsBytes bytes → IsBytes (drop n bytes)
-IsBytes-drop n bytes are i = rw get_or-drop (are (n + i))
-
-pub IsBytes-take : (n : ℕ) (bytes : List ℕ) → IsBytes bytes → IsBytes (take n bytes)
-IsBytes-take n bytes are i =
-    elim (cases_lt i n) [
-      | inl within ↦ rw (get_or-take n bytes i 0 within) (are i)
-      | inr past ↦ rw (get_or_past (take n bytes) i 0 (omega (arith, length-take n bytes))) (omega arith)
-    ]
-
-byte_at-small : (k x : ℕ) → byte_at k x < 256
-byte_at-small zero x = omega arith
-byte_at-small (suc k) x = omega arith
-
-IsBytes-low_first : (n i x : ℕ) → IsBytes (bytes_low_first i n x)
-IsBytes-low_first zero i x k = omega arith
-IsBytes-low_first (suc n) i x zero = byte_at-small i x
-IsBytes-low_first (suc n) i x (suc k) = IsBytes-low_first n (suc i) x k
 
 -- Two lists of as many bytes that are one number are one list.
 same_bytes : (xs ys : List ℕ) → IsBytes xs → IsBytes ys → length xs ≡ length ys → little_from 0 (length xs) xs ≡ little_from 0 (length ys) ys → xs ≡ ys

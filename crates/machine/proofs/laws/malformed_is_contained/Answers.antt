@@ -1,4 +1,4 @@
-use Rattle.machine.proofs.Agreeing.{contained}
+use Rattle.machine.proofs.Containing.{contained}
 use Rattle.machine.proofs.laws.malformed_is_contained.Goals as goal
 
 pub returns : goal.returns

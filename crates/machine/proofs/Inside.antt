@@ -1,0 +1,172 @@
+-- Where steps write: inside RAM, and bytes.
+use Rattle.std.proofs.Common.{◌≡◌, ℕ, zero, suc, ◌+◌, ◌*◌, ◌%◌, ◌<◌, ◌≤◌, Bool, true, false, cond, List, [], ◌∷◌, ◌++◌, length, take, set, refl, sym, ap, ◌∙◌, arith, length-append}
+use Rattle.std.specs.Prelude.{min, ◌-◌}
+use Rattle.std.specs.List.{All}
+use Rattle.std.proofs.lemmas.List.{length-set}
+use Rattle.std.proofs.lemmas.Nat.{mod_below}
+use Rattle.guestmem.specs.ByteLaws.{little_bytes, IsBytes-append, IsBytes-take, IsBytes-set, IsBytes-little_bytes, length-little_bytes}
+use Rattle.guestmem.specs.Number.{IsBytes}
+use Rattle.guestmem.specs.Writes.{Write, byte_writes, set_all}
+use Rattle.chains.specs.Places.{addresses, places, place_writes, AreSegmentsInside}
+use Rattle.chains.specs.Publish.{published, split_published, packed_published, event_note, split_note, packed_note, after_take, bit_if}
+use Rattle.chains.specs.Ring.{Answers, IsBounded, IsBoundedNext}
+use Rattle.chains.specs.ChainLaws.{next_bounded}
+use Rattle.chains.specs.State.{RingState, AreInside, MayRing}
+use Rattle.chains.specs.declared.chain.Chain.{Chain}
+use Rattle.chains.specs.declared.next.Next.{Next}
+use Rattle.chains.specs.declared.next.Next.TheVariants as next
+use Rattle.chains.specs.declared.segs.Seg.{Seg}
+use Rattle.console.specs.Receive.{receive_step, takes_bytes, give, refuse, writes_into, count_into}
+use Rattle.machine.specs.DeviceStep.{serve}
+use Rattle.machine.specs.Sound.{AreHostBytes, IsSoundOwn}
+use Rattle.machine.specs.declared.own.Own.{Own}
+use Rattle.machine.specs.declared.own.Own.TheVariants.{Entropy}
+use Rattle.machine.specs.declared.shape.Shape.{Shape}
+use Rattle.machine.specs.declared.shape.Shape.TheVariants as shapes
+use Rattle.machine.proofs.Rings.{IsLookedRing, IsPlacedRing}
+
+-- Each write is one of a byte inside a RAM of so many bytes.
+abbrev pub AreInsideRam : ℕ → List Write → Type 0
+AreInsideRam len [] = Unit {0}
+AreInsideRam len (w ∷ ws) = (w.address < len) × (w.byte < 256) × AreInsideRam len ws
+
+pub inside_append : (len : ℕ) (ws vs : List Write) → AreInsideRam len ws → AreInsideRam len vs → AreInsideRam len (ws ++ vs)
+inside_append len [] vs h k = k
+inside_append len (w ∷ ws) vs h k = (h.0, h.1, inside_append len ws vs h.2 k)
+
+pub all_inside : (len : ℕ) (ws : List Write) → AreInsideRam len ws → All (λ (w : Write). w.address < len) ws
+all_inside len [] h k d below = absurd (omega (arith, below))
+all_inside len (w ∷ ws) h zero d below = h.0
+all_inside len (w ∷ ws) h (suc k) d below = all_inside len ws h.2 k d (omega (arith, below))
+
+-- RAM holds bytes after such writes.
+pub bytes_after : (ram : List ℕ) (ws : List Write) → IsBytes ram → AreInsideRam (length ram) ws → IsBytes (set_all ram ws)
+bytes_after ram [] are h = are
+bytes_after ram (w ∷ ws) are h = bytes_after (set ram w.address w.byte) ws (IsBytes-set ram w.address w.byte are h.1) (rw (length-set ram w.address w.byte) h.2)
+
+-- Bytes from an address on.
+pub run_inside : (len at : ℕ) (bytes : List ℕ) → at + length bytes ≤ len → IsBytes bytes → AreInsideRam len (byte_writes at bytes)
+run_inside len at [] inside are = tt
+run_inside len at (b ∷ bytes) inside are = (omega (arith, inside), are 0, run_inside len (at + 1) bytes (omega (arith, inside)) (λ i. are (suc i)))
+
+-- Bytes at places.
+abbrev AreAddresses : ℕ → List ℕ → Type 0
+AreAddresses len [] = Unit {0}
+AreAddresses len (a ∷ at) = (a < len) × AreAddresses len at
+
+addresses_append : (len : ℕ) (xs ys : List ℕ) → AreAddresses len xs → AreAddresses len ys → AreAddresses len (xs ++ ys)
+addresses_append len [] ys h k = k
+addresses_append len (x ∷ xs) ys h k = (h.0, addresses_append len xs ys h.1 k)
+
+addresses_inside : (len address count : ℕ) → address + count ≤ len → AreAddresses len (addresses address count)
+addresses_inside len address zero inside = tt
+addresses_inside len address (suc count) inside = (omega (arith, inside), addresses_inside len (address + 1) count (omega (arith, inside)))
+
+places_inside : (len : ℕ) (segs : List Seg) → AreSegmentsInside len segs → AreAddresses len (places segs)
+places_inside len [] h = tt
+places_inside len (seg ∷ segs) h =
+    addresses_append len (addresses seg.addr seg.len) (places segs) (addresses_inside len seg.addr seg.len (h 0 seg (omega arith)))
+    (places_inside len segs (λ k d below. h (suc k) d (omega (arith, below))))
+
+first_inside : (len n : ℕ) (at : List ℕ) → AreAddresses len at → AreAddresses len (take n at)
+first_inside len zero at h = tt
+first_inside len (suc n) [] h = tt
+first_inside len (suc n) (a ∷ at) h = (h.0, first_inside len n at h.1)
+
+placed_inside : (len : ℕ) (at bytes : List ℕ) → AreAddresses len at → IsBytes bytes → AreInsideRam len (place_writes at bytes)
+placed_inside len [] bytes h are = tt
+placed_inside len (a ∷ at) [] h are = tt
+placed_inside len (a ∷ at) (b ∷ bytes) h are = (h.0, are 0, placed_inside len at bytes h.1 (λ i. are (suc i)))
+
+-- The first bytes of a list, at the first places of segments.
+pub copied_inside : (len n : ℕ) (segs : List Seg) (bytes : List ℕ) → AreSegmentsInside len segs → IsBytes bytes → AreInsideRam len (place_writes (take n (places segs)) bytes)
+copied_inside len n segs bytes h are = placed_inside len (take n (places segs)) bytes (first_inside len n (places segs) (places_inside len segs h)) are
+
+-- What publishing writes.
+slot_below : (place size : ℕ) → 1 ≤ size → place % size < size
+slot_below place size some = mod_below place size some
+
+-- A ring in which a chain can be published.
+pub record MayPublish (len : ℕ) (q : RingState) : Type 0 where
+  pub some : 1 ≤ q.size
+  pub used : q.is_packed ≡ true → q.used.place < q.size
+  pub inside : AreInside len q
+
+split_inside : (len : ℕ) (q : RingState) (id n : ℕ) → q.is_packed ≡ false → MayPublish len q → AreInsideRam len (split_published q id n)
+unfolding split_published
+split_inside len q id n layout may =
+    let device : q.device + (6 + 8 * q.size) ≤ len = rw layout at may.inside.device in
+    let slot = slot_below q.used.place q.size may.some in
+    inside_append len (byte_writes (q.device + 4 + 8 * (q.used.place % q.size)) (little_bytes 4 id ++ little_bytes 4 n)) (byte_writes (q.device + 2) (little_bytes 2 ((q.used.place + 1) % 65536)))
+    (run_inside len (q.device + 4 + 8 * (q.used.place % q.size)) (little_bytes 4 id ++ little_bytes 4 n)
+    (omega (arith, device, slot, length-append (little_bytes 4 id) (little_bytes 4 n), length-little_bytes 4 id, length-little_bytes 4 n))
+    (IsBytes-append (little_bytes 4 id) (little_bytes 4 n) (IsBytes-little_bytes 4 id) (IsBytes-little_bytes 4 n)))
+    (run_inside len (q.device + 2) (little_bytes 2 ((q.used.place + 1) % 65536)) (omega (arith, device, length-little_bytes 2 ((q.used.place + 1) % 65536)))
+    (IsBytes-little_bytes 2 ((q.used.place + 1) % 65536)))
+
+packed_inside : (len : ℕ) (q : RingState) (id n : ℕ) (wrote : Bool) → q.is_packed ≡ true → MayPublish len q → AreInsideRam len (packed_published q id n wrote)
+unfolding packed_published
+packed_inside len q id n wrote layout may =
+    let flags = bit_if wrote 2 + bit_if q.used.wrap 128 + bit_if q.used.wrap 32768 in
+    let first = little_bytes 4 n ++ little_bytes 2 id in
+    run_inside len (q.descriptors + 16 * q.used.place + 8) (first ++ little_bytes 2 flags)
+    (omega (arith, may.inside.descriptors, may.used layout, length-append first (little_bytes 2 flags), length-append (little_bytes 4 n) (little_bytes 2 id), length-little_bytes 4 n, length-little_bytes 2 id, length-little_bytes 2 flags))
+    (IsBytes-append first (little_bytes 2 flags) (IsBytes-append (little_bytes 4 n) (little_bytes 2 id) (IsBytes-little_bytes 4 n) (IsBytes-little_bytes 2 id)) (IsBytes-little_bytes 2 flags))
+
+published_by : (len : ℕ) (q : RingState) (id slots n : ℕ) (wrote packed : Bool) → q.is_packed ≡ packed → MayPublish len q → AreInsideRam len (cond packed (packed_published q id n wrote) (split_published q id n))
+published_by len q id slots n wrote true is h = packed_inside len q id n wrote is h
+published_by len q id slots n wrote false is h = split_inside len q id n is h
+
+pub published_inside : (len : ℕ) (q : RingState) (id slots n : ℕ) (wrote : Bool) → MayPublish len q → AreInsideRam len (published q id slots n wrote)
+published_inside len q id slots n wrote h = published_by len q id slots n wrote q.is_packed refl h
+
+used_by : (q : RingState) (packed : Bool) → q.is_packed ≡ packed → MayRing q → packed ≡ true → q.used.place < q.size
+used_by q true is may layout = (rw is at may.slots).1
+used_by q false is may layout = cc
+
+-- A ring that is looked at, also after a chain of it was taken.
+pub may_publish : (len : ℕ) (q : RingState) → IsLookedRing len q → MayPublish len q
+may_publish len q h = record { some = h.may.some; used = used_by q q.is_packed refl h.may; inside = h.inside }
+
+pub may_publish_taken : (len : ℕ) (q : RingState) (slots : ℕ) → IsLookedRing len q → MayPublish len (after_take q slots)
+may_publish_taken len q slots h =
+    let may = may_publish len q h in
+    record { some = may.some; used = may.used; inside = record { descriptors = may.inside.descriptors; driver = may.inside.driver; device = may.inside.device } }
+
+-- The event note.
+note_by : (len : ℕ) (q : RingState) (packed : Bool) → q.is_packed ≡ packed → AreInside len q → AreInsideRam len (cond packed (packed_note q) (split_note q))
+unfolding packed_note split_note
+note_by len q true is inside =
+    let device : q.device + 4 ≤ len = rw is at inside.device in
+    let place = q.taking.place + bit_if q.taking.wrap 32768 in
+    run_inside len q.device (little_bytes 2 place ++ little_bytes 2 2) (omega (arith, device, length-append (little_bytes 2 place) (little_bytes 2 2), length-little_bytes 2 place, length-little_bytes 2 2))
+    (IsBytes-append (little_bytes 2 place) (little_bytes 2 2) (IsBytes-little_bytes 2 place) (IsBytes-little_bytes 2 2))
+note_by len q false is inside =
+    let device : q.device + (6 + 8 * q.size) ≤ len = rw is at inside.device in
+    run_inside len (q.device + 4 + 8 * q.size) (little_bytes 2 q.taking.place) (omega (arith, device, length-little_bytes 2 q.taking.place)) (IsBytes-little_bytes 2 q.taking.place)
+
+noted_if : (len : ℕ) (ws : List Write) (wanted : Bool) → AreInsideRam len ws → AreInsideRam len (cond wanted ws [])
+noted_if len ws true h = h
+noted_if len ws false h = tt
+
+pub note_inside : (len : ℕ) (q : RingState) → AreInside len q → AreInsideRam len (event_note q)
+note_inside len q inside = noted_if len (cond q.is_packed (packed_note q) (split_note q)) q.has_event_index (note_by len q q.is_packed refl inside)
+
+-- What the step that gives bytes writes.
+given_by : (ram : List ℕ) (q : RingState) (held : List ℕ) (c : Chain) (takes : Bool) → IsLookedRing (length ram) q → AreSegmentsInside (length ram) c.writable → AreHostBytes held
+    → AreInsideRam (length ram) (cond takes (give ram q held c) (refuse q held)).writes
+unfolding give
+given_by ram q held c false looked inside are = tt
+given_by ram q held c true looked inside are =
+    inside_append (length ram) (place_writes (take (count_into held c) (places c.writable)) (take (count_into held c) held)) (published (after_take q c.slots) c.id c.slots (count_into held c) true)
+    (copied_inside (length ram) (count_into held c) c.writable (take (count_into held c) held) inside (IsBytes-take (count_into held c) held are.are))
+    (published_inside (length ram) (after_take q c.slots) c.id c.slots (count_into held c) true (may_publish_taken (length ram) q c.slots looked))
+
+given_inside : (ram : List ℕ) (q : RingState) (held : List ℕ) (seen : Next) → IsLookedRing (length ram) q → IsBoundedNext (length ram) q seen → AreHostBytes held → AreInsideRam (length ram) (receive_step ram q held seen).writes
+given_inside ram q held next.Empty looked bounded are = note_inside (length ram) q looked.inside
+given_inside ram q held next.Malformed looked bounded are = tt
+given_inside ram q held (next.Chain c) looked bounded are = given_by ram q held c (takes_bytes c) looked bounded.writable are
+
+-- What serving a queue writes.
+pub served_inside : (shape : Shape) (own : Own) (number : ℕ) (ram : List ℕ) (q : RingState) (seen : Next) → IsLookedRing (length ram) q → Answers ram q seen → IsSoundOwn shape own → AreInsideRam (length ram) (serve own number ram q seen).writes
+served_inside shapes.Entropy (Entropy pool) number ram q seen looked answers sound = given_inside ram q pool seen looked (next_bounded ram q seen answers) sound

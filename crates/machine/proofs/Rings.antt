@@ -1,0 +1,140 @@
+-- The ring of a queue that is looked at: what holds of it before and after the step.
+use Rattle.std.proofs.Common.{◌≡◌, ℕ, zero, suc, ◌+◌, ◌-◌, ◌*◌, ◌^◌, ◌<◌, ◌≤◌, Bool, true, false, cond, ltb, List, [], ◌∷◌, length, set, Some, refl, sym, ap, subst, arith}
+use Rattle.std.specs.Prelude.{not, bit_and}
+use Rattle.std.specs.Bool.{MatchBool}
+use Rattle.std.specs.List.{slice_get}
+use Rattle.std.specs.Int.{bit_at}
+use Rattle.std.proofs.lemmas.Bool.{eqb-true, eqb-false}
+use borrow.Author.Tests.{ltb-true, ltb-false}
+use Rattle.std.proofs.lemmas.Nat.Bits.{and_pow}
+use Rattle.mmio.specs.Bits.{has}
+use Rattle.mmio.specs.QueueReady.{MayBeReady}
+use Rattle.mmio.specs.declared.common.Common.{Common}
+use Rattle.mmio.specs.declared.queue.Queue.{Queue}
+use Rattle.mmio.proofs.StayingSound.{queue_sound}
+use Rattle.chains.specs.State.{RingState, state_of, has_bit, MayRing, AreInside}
+use Rattle.chains.specs.Publish.{after_take, after_publish, gone_on, after_chain}
+use Rattle.chains.specs.declared.position.Position.{Position}
+use Rattle.chains.specs.declared.position.Positions.{Positions}
+use Rattle.machine.specs.Looked.{IsLookedAt}
+use Rattle.machine.specs.QueuePositions.{HavePositions, HasPositions, ArePlaced, is_packed_by, first_positions}
+use Rattle.machine.specs.Sound.{IsSoundDevice}
+use Rattle.machine.specs.State.{DeviceState}
+
+-- A feature bit is there or not.
+bit_or_none : (f : ℕ) (bit : ℕ) → bit_and f (2 ^ 34) ≡ bit * 2 ^ 34 → bit ≤ 1 → has_bit f (2 ^ 34) ≡ has f (2 ^ 34)
+bit_or_none f zero is low = let e : bit_and f (2 ^ 34) ≡ 0 = omega (arith, is) in rw e refl
+bit_or_none f (suc zero) is low = let e : bit_and f (2 ^ 34) ≡ 2 ^ 34 = omega (arith, is) in rw e refl
+bit_or_none f (suc (suc n)) is low = absurd (omega (arith, low))
+
+bit_low : (n k : ℕ) → bit_at n k ≤ 1
+bit_low n k = omega arith
+
+pub packed_same : (f : ℕ) → has_bit f (2 ^ 34) ≡ has f (2 ^ 34)
+packed_same f = bit_or_none f (bit_at f 34) (and_pow f 34) (bit_low f 34)
+
+-- How far a ring has come, where each place fits.
+pub record IsPlacedRing (s : RingState) : Type 0 where
+  pub taking_fits : s.taking.place < 2 ^ 16
+  pub used_fits : s.used.place < 2 ^ 16
+  pub placed : ArePlaced s.is_packed s.size (record { taking = s.taking; used = s.used })
+
+of_true : (b : Bool) (P Q : Type 0) → MatchBool b P Q → b ≡ true → P
+of_true true P Q h is = h
+of_true false P Q h is = cc
+
+have_at : (packed : Bool) (qs : List Queue) (ps : List Positions) (n : ℕ) (q : Queue) (p : Positions) → HavePositions packed qs ps → slice_get qs n ≡ Some q → slice_get ps n ≡ Some p → HasPositions packed q p
+have_at packed [] ps n q p have there placed = cc
+have_at packed (x ∷ qs) [] n q p have there placed = absurd have
+have_at packed (x ∷ qs) (y ∷ ps) zero q p have there placed =
+    let one : x ≡ q = cc in
+    let other : y ≡ p = cc in
+    rw (← one, ← other) have.0
+have_at packed (x ∷ qs) (y ∷ ps) (suc n) q p have there placed = have_at packed qs ps n q p have.1 there placed
+
+pub have_set : (packed : Bool) (qs : List Queue) (ps : List Positions) (n : ℕ) (q : Queue) (new : Positions) → HavePositions packed qs ps → slice_get qs n ≡ Some q → HasPositions packed q new → HavePositions packed qs (set ps n new)
+have_set packed [] ps n q new have there h = cc
+have_set packed (x ∷ qs) [] n q new have there h = absurd have
+have_set packed (x ∷ qs) (p ∷ ps) zero q new have there h = let one : x ≡ q = cc in (rw one h, have.1)
+have_set packed (x ∷ qs) (p ∷ ps) (suc n) q new have there h = (have.0, have_set packed qs ps n q new have.1 there h)
+
+pub have_cleared : (packed : Bool) (qs : List Queue) (ps : List Positions) (n : ℕ) (q : Queue) → HavePositions packed qs ps → slice_get qs n ≡ Some q → HavePositions packed (set qs n (record q { is_notified = false })) ps
+have_cleared packed [] ps n q have at = cc
+have_cleared packed (x ∷ qs) [] n q have at = absurd have
+have_cleared packed (x ∷ qs) (p ∷ ps) zero q have at =
+    let is : x ≡ q = cc in
+    let here : HasPositions packed q p = subst (λ y. HasPositions packed y p) is have.0 in
+    (record { taking_fits = here.taking_fits; used_fits = here.used_fits; where_ready = here.where_ready }, have.1)
+have_cleared packed (x ∷ qs) (p ∷ ps) (suc n) q have at = (have.0, have_cleared packed qs ps n q have.1 at)
+
+pub positions_long : (packed : Bool) (qs : List Queue) (ps : List Positions) → HavePositions packed qs ps → length ps ≡ length qs
+positions_long packed [] [] h = refl
+positions_long packed [] (p ∷ ps) h = absurd h
+positions_long packed (q ∷ qs) [] h = absurd h
+positions_long packed (q ∷ qs) (p ∷ ps) h = ap suc (positions_long packed qs ps h.1)
+
+-- What holds of the ring that is looked at.
+pub record IsLookedRing (len : ℕ) (s : RingState) : Type 0 where
+  pub may : MayRing s
+  pub inside : AreInside len s
+  pub placed : IsPlacedRing s
+
+ring_by : (len : ℕ) (c : Common) (q : Queue) (p : Positions) (packed : Bool) → has c.features (2 ^ 34) ≡ packed → has_bit c.features (2 ^ 34) ≡ packed → MayBeReady len c q → q.is_ready ≡ true → HasPositions packed q p → IsLookedRing len (state_of q c.features p)
+ring_by len c q p true is bit may ready at =
+    let areas = may.packed (eqb-true _ _ is) in
+    let placed : ArePlaced true q.size p = of_true q.is_ready (ArePlaced true q.size p) (p ≡ first_positions) at.where_ready ready in
+    record {
+      may = record { some = may.some; few = may.few; slots = rw bit placed };
+      inside = record { descriptors = areas.descriptors.inside; driver = rw bit areas.driver.inside; device = rw bit areas.device.inside };
+      placed = record { taking_fits = at.taking_fits; used_fits = at.used_fits; placed = rw bit placed };
+    }
+ring_by len c q p false is bit may ready at =
+    let areas = may.split (eqb-false _ _ is) in
+    let placed : ArePlaced false q.size p = of_true q.is_ready (ArePlaced false q.size p) (p ≡ first_positions) at.where_ready ready in
+    record {
+      may = record { some = may.some; few = may.few; slots = rw bit tt };
+      inside = record { descriptors = areas.descriptors.inside; driver = rw bit areas.driver.inside; device = rw bit areas.device.inside };
+      placed = record { taking_fits = at.taking_fits; used_fits = at.used_fits; placed = rw bit placed };
+    }
+
+-- The ring of a ready queue of a sound device.
+pub ready_ring : (len : ℕ) (d : DeviceState) (pick : ℕ) (queue : Queue) (p : Positions) → IsSoundDevice len d → slice_get d.registers.queues pick ≡ Some queue → slice_get d.positions pick ≡ Some p → queue.is_ready ≡ true
+    → IsLookedRing len (state_of queue d.registers.common.features p)
+ready_ring len d pick queue p sound there placed ready =
+    let may : MayBeReady len d.registers.common queue = rw sound.ram_len at ((queue_sound d.registers pick queue there sound.registers).ready ready) in
+    ring_by len d.registers.common queue p (has d.registers.common.features (2 ^ 34)) refl (packed_same d.registers.common.features) may ready
+    (have_at (is_packed_by d.registers.common) d.registers.queues d.positions pick queue p sound.positions there placed)
+
+pub looked_ring : (len : ℕ) (d : DeviceState) (pick : ℕ) (q : RingState) → IsSoundDevice len d → IsLookedAt d pick q → IsLookedRing len q
+looked_ring len d pick q sound h = rw h.is (ready_ring len d pick h.queue h.positions sound h.there h.placed h.ready)
+
+-- The ring after a chain was taken and published.
+gone_fits : (s : RingState) (p : Position) (slots : ℕ) (less : Bool) → ltb (p.place + slots) s.size ≡ less → slots ≤ s.size → s.size ≤ 256 → p.place < s.size
+    → (cond less (record p { place = p.place + slots }) (record { place = p.place + slots - s.size; wrap = not p.wrap })).place < s.size
+gone_fits s p slots true is few small at = ltb-true (p.place + slots) s.size is
+gone_fits s p slots false is few small at = let past : s.size ≤ p.place + slots = ltb-false (p.place + slots) s.size is in omega (arith, past, few, at)
+
+record IsOn (packed : Bool) (size : ℕ) (p : Position) : Type 0 where
+  fits : p.place < 2 ^ 16
+  placed : MatchBool packed (p.place < size) (p.wrap ≡ true)
+
+one_on : (s : RingState) (p : Position) (slots : ℕ) (packed : Bool) → s.is_packed ≡ packed → slots ≤ s.size → s.size ≤ 256 → IsOn packed s.size p → IsOn packed s.size (after_chain s p slots)
+one_on s p slots true is few small on =
+    let below : (gone_on s.size p slots).place < s.size = gone_fits s p slots (ltb (p.place + slots) s.size) refl few small on.placed in
+    rw is (record { fits = omega (arith, below, small); placed = below })
+one_on s p slots false is few small on = rw is (record { fits = omega arith; placed = on.placed })
+
+both_of : {A B : Type 0} → A → B → A × B
+both_of a b = (a, b)
+
+pub placed_by : (s : RingState) (slots : ℕ) (packed : Bool) → s.is_packed ≡ packed → MayRing s → IsPlacedRing s → slots ≤ s.size → IsPlacedRing (after_publish (after_take s slots) slots)
+placed_by s slots true is may at few =
+    let both : ArePlaced true s.size (record { taking = s.taking; used = s.used }) = rw is at at.placed in
+    let taking = one_on s s.taking slots true is few may.few (record { fits = at.taking_fits; placed = both.0 }) in
+    let used = one_on s s.used slots true is few may.few (record { fits = at.used_fits; placed = both.1 }) in
+    record { taking_fits = taking.fits; used_fits = used.fits; placed = rw is (both_of (rw is at taking.placed) (rw is at used.placed)) }
+placed_by s slots false is may at few =
+    let both : ArePlaced false s.size (record { taking = s.taking; used = s.used }) = rw is at at.placed in
+    let taking = one_on s s.taking slots false is few may.few (record { fits = at.taking_fits; placed = both.0 }) in
+    let used = one_on s s.used slots false is few may.few (record { fits = at.used_fits; placed = both.1 }) in
+    record { taking_fits = taking.fits; used_fits = used.fits; placed = rw is (both_of (rw is at taking.placed) (rw is at used.placed)) }

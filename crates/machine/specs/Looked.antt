@@ -1,0 +1,45 @@
+-- The queue that a step looks at, and what is malformed there.
+use Rattle.std.specs.Prelude.{◌≡◌, ℕ, List, Bool, true, false, Some, slice_get}
+use Rattle.mmio.specs.State.{queue_at}
+use Rattle.mmio.specs.Status.{is_running}
+use Rattle.mmio.specs.declared.queue.Queue.{Queue}
+use Rattle.chains.specs.State.{RingState, state_of}
+use Rattle.chains.specs.Ring.{Answers}
+use Rattle.chains.specs.declared.next.Next.{Next}
+use Rattle.chains.specs.declared.next.Next.TheVariants as next
+use Rattle.chains.specs.declared.position.Positions.{Positions}
+use Rattle.console.specs.Receive.{takes_bytes}
+use Rattle.machine.specs.DeviceStep.{has_work}
+use Rattle.machine.specs.State.{DeviceState, MachineState}
+use Rattle.machine.specs.declared.own.Own.{Own}
+use Rattle.machine.specs.declared.own.Own.TheVariants.{Entropy}
+
+-- A step of a device with this pick looks at this ring: the driver drives the device, which has not asked for a reset; the
+-- pick names one of its queues, which is ready and notified; and the device has something to do there (VIRTIO 1.2, 2.1.2).
+pub record IsLookedAt (d : DeviceState) (pick : ℕ) (q : RingState) : Type 0 where
+  pub queue : Queue
+  pub positions : Positions
+  pub there : queue_at d.registers pick ≡ Some queue
+  pub placed : slice_get d.positions pick ≡ Some positions
+  pub driven : is_running d.registers.common ≡ true
+  pub ready : queue.is_ready ≡ true
+  pub notified : queue.is_notified ≡ true
+  pub work : has_work d.own pick ≡ true
+  pub is : q ≡ state_of queue d.registers.common.features positions
+
+-- What a queue of a number answers is malformed for the device: no chain at all, or one that is none for its kind. An
+-- entropy device has use only for a chain without a readable byte and with a writable one (VIRTIO 1.2, 5.4.6.1).
+abbrev pub IsMalformed : Own → ℕ → Next → Type 0
+IsMalformed own number next.Empty = ⊥
+IsMalformed own number next.Malformed = Unit {0}
+IsMalformed (Entropy pool) number (next.Chain c) = takes_bytes c ≡ false
+
+-- A step of a device with this pick looks at a queue that is malformed.
+pub record LooksAtMalformed (m : MachineState) (dev pick : ℕ) : Type 0 where
+  pub device : DeviceState
+  pub there : slice_get m.devices dev ≡ Some device
+  pub ring : RingState
+  pub looked : IsLookedAt device pick ring
+  pub seen : Next
+  pub answers : Answers m.ram ring seen
+  pub malformed : IsMalformed device.own pick seen

@@ -1,0 +1,107 @@
+//! Events, applied to a machine.
+
+ghost use Rattle.std.specs.Prelude.{◌≡◌, map, length, IfOk, OnErr};
+ghost use Rattle.machine.specs.Applied.{IsApplied, IsAppliedLogged, MayItems};
+ghost use Rattle.machine.specs.Direct.{value_reply, done_reply, accepted_reply};
+ghost use Rattle.machine.specs.Outcome.{outcome_of};
+ghost use Rattle.machine.specs.Run.{IsRun};
+ghost use Rattle.machine.specs.Seen.{state_of, all_marks};
+ghost use Rattle.machine.specs.Sound.{IsSound};
+ghost use Rattle.machine.specs.declared.event.Event.TheVariants as events;
+
+use crate::bytes::Bytes;
+use crate::disk::Disk;
+use crate::event::Event;
+use crate::machine::Machine;
+use crate::reply::{Refusal, Reply};
+use guestmem::{NoLog, NoMemory, TouchLog};
+
+impl<D: Disk> Machine<D> {
+    /// Applies one event, and answers. After `NoMemory` and `Refused` nothing has changed.
+    pub fn apply(&mut self, event: &Event) -> Reply
+        ensures { IsApplied self.old event.now result self.new }
+    {
+        self.apply_logged(event, &mut NoLog)
+    }
+
+    /// Does what `apply` does, and tells the log each page and sector that is written, also with what was there.
+    pub fn apply_logged<L: TouchLog>(&mut self, event: &Event, log: &mut L) -> Reply
+        requires may { MayItems L.may log.old (state_of self.old) }
+        ensures { IsAppliedLogged L.after self.old log.old event.now result self.new log.new }
+    {
+        match event {
+            Event::RegRead { dev, off, width } => value(self.read_register(*dev, *off, *width)),
+            Event::RegWrite {
+                dev,
+                off,
+                width,
+                value,
+            } => done(self.write_register(*dev, *off, *width, *value)),
+            Event::MemRead { addr, len } => self.read_bytes(*addr, *len),
+            Event::MemWrite { addr, bytes } => {
+                done(self.write_ram_logged(*addr, bytes.as_slice(), log))
+            }
+            Event::Step { dev, pick } => self.step_logged(*dev, *pick, log),
+            Event::Input { dev, bytes } => accepted(self.input(*dev, bytes.as_slice())),
+        }
+    }
+
+    /// Applies all events in order, and gives their replies. It reserves room for the replies first: where that is
+    /// refused, nothing was played.
+    pub fn play(&mut self, events: &[Event]) -> Result<Vec<Reply>, NoMemory>
+        ensures run { IfOk result (λ replies. IsRun (state_of self.old) events.now (map outcome_of replies.items) replies.items (state_of self.new)) }
+        ensures sound { IsSound (state_of self.new) }
+        ensures disks { all_marks self.new ≡ all_marks self.old }
+        ensures err { OnErr result (self.new ≡ self.old) }
+    {
+        let mut replies = Vec::with_capacity(self.alloc, events.len())?;
+        for event in events {
+            let reply = self.apply(event);
+            replies.push_reserved(reply);
+        }
+        Ok(replies)
+    }
+
+    /// Reads RAM into memory of its own.
+    fn read_bytes(&self, addr: u64, len: u32) -> Reply
+        ensures { IsApplied self.now (events.MemRead addr len) result self.now }
+    {
+        if let Some(error) = self.ram.refusal(addr, len as usize) {
+            return Reply::Refused(Refusal::from(error));
+        }
+        let Ok(mut bytes) = vec![in self.alloc; 0u8; len as usize] else {
+            return Reply::NoMemory;
+        };
+        match self.ram.read(addr, &mut bytes) {
+            Ok(()) => Reply::Bytes(Bytes::from_vec(bytes)),
+            Err(error) => Reply::Refused(Refusal::from(error)),
+        }
+    }
+}
+
+fn value(answer: Result<u32, Refusal>) -> Reply
+    ensures { result ≡ value_reply answer }
+{
+    match answer {
+        Ok(value) => Reply::Value(value),
+        Err(refusal) => Reply::Refused(refusal),
+    }
+}
+
+fn done(answer: Result<(), Refusal>) -> Reply
+    ensures { result ≡ done_reply answer }
+{
+    match answer {
+        Ok(()) => Reply::Done,
+        Err(refusal) => Reply::Refused(refusal),
+    }
+}
+
+fn accepted(answer: Result<u32, Refusal>) -> Reply
+    ensures { result ≡ accepted_reply answer }
+{
+    match answer {
+        Ok(count) => Reply::Accepted(count),
+        Err(refusal) => Reply::Refused(refusal),
+    }
+}

@@ -1,0 +1,114 @@
+//! The events of a machine as calls of their own: for a host that has the numbers and the bytes at hand, and needs no list of
+//! events. Each is the step of its event.
+
+ghost use Rattle.std.specs.Prelude.{◌≡◌, length, OnErr};
+ghost use Rattle.guestmem.specs.Item.{MayPages};
+ghost use Rattle.machine.specs.Applied.{IsApplied, IsAppliedLogged, MayItems};
+ghost use Rattle.machine.specs.Direct.{value_reply, done_reply, bytes_reply, accepted_reply};
+ghost use Rattle.machine.specs.Seen.{state_of};
+ghost use Rattle.machine.specs.declared.event.Event.TheVariants as events;
+
+use crate::disk::Disk;
+use crate::machine::Machine;
+use crate::reply::{Refusal, Reply};
+use guestmem::{NoLog, TouchLog};
+
+impl<D: Disk> Machine<D> {
+    /// The driver reads a register of a device, `width` bytes at an offset of its window (VIRTIO 1.2, 4.2.2).
+    pub fn read_register(&self, dev: u8, offset: u32, width: u8) -> Result<u32, Refusal>
+        ensures { IsApplied self.now (events.RegRead dev offset width) (value_reply result) self.now }
+    {
+        let dev = dev as usize;
+        if dev >= self.devices.len() {
+            return Err(Refusal::NoDevice);
+        }
+        Ok(self.devices[dev].read_register(offset, width))
+    }
+
+    /// The driver writes a register of a device, `width` bytes at an offset of its window (VIRTIO 1.2, 4.2.2). Whether the
+    /// device takes the value does not show.
+    pub fn write_register(
+        &mut self,
+        dev: u8,
+        offset: u32,
+        width: u8,
+        value: u32,
+    ) -> Result<(), Refusal>
+        ensures { IsApplied self.old (events.RegWrite dev offset width value) (done_reply result) self.new }
+    {
+        let dev = dev as usize;
+        if dev >= self.devices.len() {
+            return Err(Refusal::NoDevice);
+        }
+        self.devices[dev].write_register(offset, width, value);
+        Ok(())
+    }
+
+    /// The guest reads RAM from an address on into the whole buffer. It takes no memory. A refusal leaves the buffer as it
+    /// was.
+    pub fn read_ram(&self, addr: u64, buf: &mut [u8]) -> Result<(), Refusal>
+        ensures applied { IsApplied self.now (events.MemRead addr (length buf.old)) (bytes_reply result buf.new) self.now }
+        ensures err { OnErr result (buf.new ≡ buf.old) }
+    {
+        match self.ram.read(addr, buf) {
+            Ok(()) => Ok(()),
+            Err(error) => Err(Refusal::from(error)),
+        }
+    }
+
+    /// The guest writes bytes into RAM from an address on.
+    pub fn write_ram(&mut self, addr: u64, bytes: &[u8]) -> Result<(), Refusal>
+        ensures { IsApplied self.old (events.MemWrite addr bytes.now) (done_reply result) self.new }
+    {
+        self.write_ram_logged(addr, bytes, &mut NoLog)
+    }
+
+    /// The host puts bytes in, for an entropy device into its pool. It answers how many were kept: the first ones.
+    pub fn input(&mut self, dev: u8, bytes: &[u8]) -> Result<u32, Refusal>
+        ensures { IsApplied self.old (events.Input dev bytes.now) (accepted_reply result) self.new }
+    {
+        let dev = dev as usize;
+        if dev >= self.devices.len() {
+            return Err(Refusal::NoDevice);
+        }
+        Ok(self.devices[dev].input(bytes))
+    }
+
+    /// A device does one piece of its work, which the pick names.
+    pub fn step(&mut self, dev: u8, pick: u8) -> Reply
+        ensures { IsApplied self.old (events.Step dev pick) result self.new }
+    {
+        self.step_logged(dev, pick, &mut NoLog)
+    }
+
+    pub(super) fn write_ram_logged<L: TouchLog>(
+        &mut self,
+        addr: u64,
+        bytes: &[u8],
+        log: &mut L,
+    ) -> Result<(), Refusal>
+        requires may { MayItems L.may log.old (state_of self.old) }
+        ensures { IsAppliedLogged L.after self.old log.old (events.MemWrite addr bytes.now) (done_reply result) self.new log.new }
+    {
+        if let Some(error) = self.ram.refusal(addr, bytes.len()) {
+            return Err(Refusal::from(error));
+        }
+        self.ram.put(addr, bytes, log);
+        let _len = self.ram.len();
+        Ok(())
+    }
+
+    pub(super) fn step_logged<L: TouchLog>(&mut self, dev: u8, pick: u8, log: &mut L) -> Reply
+        requires may { MayItems L.may log.old (state_of self.old) }
+        ensures { IsAppliedLogged L.after self.old log.old (events.Step dev pick) result self.new log.new }
+    {
+        let dev = dev as usize;
+        if dev >= self.devices.len() {
+            return Reply::Refused(Refusal::NoDevice);
+        }
+        let device = &mut self.devices[dev];
+        let reply = device.step(self.alloc, pick, &mut self.ram, log);
+        let _len = self.ram.len();
+        reply
+    }
+}

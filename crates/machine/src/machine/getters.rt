@@ -1,0 +1,61 @@
+//! What a machine is.
+
+ghost use Rattle.std.specs.Prelude.{◌≡◌, ◌<◌, ◌==◌, if◌then◌else◌, length, map, Some, slice_get};
+ghost use Rattle.machine.specs.Seen.{state_of};
+ghost use Rattle.machine.specs.Lines.{lines_of};
+ghost use Rattle.machine.specs.Sound.{IsSound};
+
+use crate::disk::Disk;
+use crate::machine::Machine;
+use crate::shape::Shape;
+use crate::state::DeviceState;
+use guestmem::Ram;
+
+impl<D: Disk> Machine<D> {
+    /// The interrupt lines: bit d is set exactly while device d has an interrupt that its driver has not acknowledged
+    /// (VIRTIO 1.2, 4.2.2, InterruptStatus). Bits past the last device are clear.
+    pub fn lines(&self) -> u16
+        ensures { result ≡ lines_of (state_of self.now).devices }
+    {
+        let mut lines = 0u32;
+        let mut line = 1u32;
+        for device in &self.devices {
+            lines += raised(device.state(), line);
+            line *= 2;
+        }
+        lines as u16
+    }
+
+    /// What the devices were made as, in order.
+    pub fn shapes(&self) -> &[Shape]
+        ensures shapes { result.now ≡ map (λ d. d.shape) (state_of self.now).devices }
+        ensures sound { IsSound (state_of self.now) }
+    {
+        self.shapes.as_slice()
+    }
+
+    /// What a device is, beside its disk.
+    pub fn state(&self, dev: u8) -> &DeviceState
+        requires { dev < length (state_of self.now).devices }
+        ensures { slice_get (state_of self.now).devices dev ≡ Some result.now }
+    {
+        self.devices[dev as usize].state()
+    }
+
+    /// The RAM.
+    pub fn ram(&self) -> &Ram
+        ensures { result.now ≡ self.now.memory }
+    {
+        &self.ram
+    }
+}
+
+/// The bit of a device, where it has an interrupt.
+fn raised(device: &DeviceState, line: u32) -> u32
+    ensures { result ≡ (if device.now.registers.common.interrupts == 0 then 0 else line) }
+{
+    match device.registers().common().interrupts {
+        0 => 0,
+        _ => line,
+    }
+}
