@@ -9,3 +9,4 @@ pub mod Within
 pub mod Containing
 pub mod Stepping
 pub mod At
+pub mod Raised

@@ -11,7 +11,7 @@ pub invariant_of-self : goal.invariant_of-self
 invariant_of-self g c =
     let i = c.self.inside in
     let at : IsAt i.devices.items c.args.dev c.index_mut.result.now = record { below = omega arith; is = c.index_mut.ensures.value } in
-    held_step i.shapes.items (record { memory = i.ram; devices = i.devices.items }) _ (events.RegWrite c.args.dev c.args.offset c.args.width c.args.value) fine replies.Done c.self.invariant ?
+    held_step i.shapes.items (record { memory = i.ram; devices = i.devices.items }) _ (events.RegWrite c.args.dev c.args.offset c.args.width c.args.value) fine replies.Done c.self.invariant (c.ranges.dev.fits, c.ranges.offset.fits, c.ranges.width.fits, c.ranges.value.fits)
     (register_step i.ram i.devices.items c.args.dev c.args.offset c.args.width c.args.value c.index_mut.result.now c.write_register.new.self at c.write_register.ensures)
 
 pub returns : goal.returns
@@ -19,6 +19,6 @@ returns g c =
     let i = c.self.inside in
     let at : IsAt i.devices.items c.args.dev c.index_mut.result.now = record { below = omega arith; is = c.index_mut.ensures.value } in
     rw (← c.self.view_is)
-    (applied_step i.shapes.items (record { memory = i.ram; devices = i.devices.items }) _ (events.RegWrite c.args.dev c.args.offset c.args.width c.args.value) replies.Done c.self.invariant ?
+    (applied_step i.shapes.items (record { memory = i.ram; devices = i.devices.items }) _ (events.RegWrite c.args.dev c.args.offset c.args.width c.args.value) replies.Done c.self.invariant (c.ranges.dev.fits, c.ranges.offset.fits, c.ranges.width.fits, c.ranges.value.fits)
     (register_step i.ram i.devices.items c.args.dev c.args.offset c.args.width c.args.value c.index_mut.result.now c.write_register.new.self at c.write_register.ensures)
     (map-set_same (λ (d : DeviceSeen). d.marks) i.devices.items c.args.dev c.index_mut.result.now c.write_register.new.self at (ap (λ (d : DeviceSeen). d.marks) c.write_register.ensures)))
