@@ -24,7 +24,7 @@ const AVAIL: u16 = 1 << 7;
 const USED: u16 = 1 << 15;
 
 /// One entry of a table of descriptors, decoded. Other flags than those named here are ignored.
-#[derive(Clone, Copy, Debug, PartialEq, Eq)]
+#[derive(Clone, Copy, Debug, Default, PartialEq, Eq)]
 pub struct Descriptor {
     /// The address of the buffer, or of the table that an indirect descriptor names.
     pub addr: u64,

@@ -5,7 +5,8 @@ ghost use Rattle.guestmem.specs.Item.{after_all, MayPages};
 ghost use Rattle.guestmem.specs.Writes.{set_all, touched};
 ghost use Rattle.chains.specs.State.{RingState, AreInside};
 ghost use Rattle.chains.specs.Publish.{published, event_note, is_interrupt_due, after_take, after_publish};
-ghost use Rattle.chains.specs.Ring.{Answers, IsBoundedNext, IsEmptyQueue};
+ghost use Rattle.chains.specs.Ring.{Answers, IsBoundedNext};
+ghost use Rattle.chains.specs.LongQueue.{IsLongQueue};
 
 use crate::chain::Chain;
 use crate::next::Next;
@@ -22,12 +23,12 @@ pub trait Ring {
 
     /// What stands at the taking position. The meaning of the ring stays, so asking again on the same RAM gives the
     /// same answer. A chain, whatever the driver wrote, is bounded: its segments lie inside RAM. The only error is want
-    /// of memory, which an empty ring never answers.
+    /// of memory, which is met only behind more than `SHORT_CHAIN_MAX` descriptors.
     fn next(&mut self, ram: &Ram) -> Result<Next, NoMemory>
         requires inside { AreInside (length ram.now.bytes) (state self.old) }
         ensures answer { IfOk result (Answers ram.now.bytes (state self.old)) }
         ensures bounded { IfOk result (IsBoundedNext (length ram.now.bytes) (state self.old)) }
-        ensures memory { OnErr result (¬ (IsEmptyQueue ram.now.bytes (state self.old))) }
+        ensures memory { OnErr result (IsLongQueue ram.now.bytes (state self.old)) }
         ensures state { state self.new ≡ state self.old };
 
     /// Takes the chain that `next` found: the taking position goes on.

@@ -4,7 +4,8 @@ ghost use Rattle.std.specs.Prelude.{◌≡◌, ◌≤◌, ◌<◌, ◌+◌, ◌^
 ghost use Rattle.guestmem.specs.Item.{MayPages};
 ghost use Rattle.chains.specs.State.{AreInside};
 ghost use Rattle.chains.specs.Places.{places};
-ghost use Rattle.chains.specs.Ring.{IsEmptyQueue, IsBounded};
+ghost use Rattle.chains.specs.Ring.{IsBounded};
+ghost use Rattle.chains.specs.LongQueue.{IsLongQueue};
 ghost use Rattle.console.specs.Receive.{takes_bytes, give, IsAfter, IsReceived};
 
 use crate::host_bytes::HostBytes;
@@ -36,7 +37,7 @@ pub fn receive<R: Ring, L: TouchLog>(
     requires may { MayPages L.may log.old (length ram.old.bytes) }
     requires few { (R.state ring.old).size ≤ 256 }
     ensures received { IfOk result (λ answer. IsReceived L.after ram.old.bytes (R.state ring.old) held.old log.old answer ram.new.bytes (R.state ring.new) held.new log.new) }
-    ensures memory { OnErr result (¬ (IsEmptyQueue ram.old.bytes (R.state ring.old))) }
+    ensures memory { OnErr result (IsLongQueue ram.old.bytes (R.state ring.old)) }
     ensures ram_stays { OnErr result (ram.new ≡ ram.old) }
     ensures ring_stays { OnErr result (R.state ring.new ≡ R.state ring.old) }
     ensures held_stay { OnErr result (held.new ≡ held.old) }

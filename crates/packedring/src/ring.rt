@@ -1,6 +1,6 @@
 //! A packed ring.
 
-ghost use Rattle.std.specs.Prelude.{◌≡◌, ◌≤◌, ◌<◌, ◌+◌, ◌*◌, ◌++◌, true, IfOk, MatchOption, length, IsTrue, ◌↔◌};
+ghost use Rattle.std.specs.Prelude.{◌≡◌, ◌≤◌, ◌<◌, ◌+◌, ◌*◌, ◌++◌, true, IfOk, OnErr, MatchOption, length, IsTrue, ◌↔◌};
 ghost use Rattle.chains.specs.State.{state_of, MayRing, AreInside};
 ghost use Rattle.chains.specs.Descriptor.{descriptor_at};
 ghost use Rattle.chains.specs.PackedChain.{IsAvailable};
@@ -66,6 +66,7 @@ impl Model for PackedRing {
 
 impl PackedRing {
     ghost use Rattle.chains.specs.PackedChain.{IsPackedChain};
+    ghost use Rattle.chains.specs.LongQueue.{IsLongPacked};
     ghost use Rattle.chains.specs.declared.chain.Chain.{Chain as C};
 
     /// The ring of a queue that has come this far, under the features that the driver accepted. It takes no memory: the
@@ -92,9 +93,11 @@ impl PackedRing {
     fn chain(&self, ram: &Ram, first: Descriptor) -> Result<Option<Chain>, NoMemory>
         requires inside { AreInside (length ram.now.bytes) self.now }
         requires first { first ≡ descriptor_at true ram.now.bytes self.now.descriptors self.now.taking.place }
-        ensures { IfOk result (λ found. MatchOption found
+        ensures chain { IfOk result (λ found. MatchOption found
             ((c : C) → ¬ (IsPackedChain ram.now.bytes self.now c))
             (IsPackedChain ram.now.bytes self.now)) }
+        ensures memory { OnErr result
+            (IsLongPacked ram.now.bytes self.now.has_indirect self.now.descriptors self.now.size self.now.taking.place) }
     {
         let _len = ram.len();
         let (table, slot) = (self.descriptors, self.taking.place);
@@ -110,10 +113,12 @@ impl PackedRing {
         let Some(found) = found else {
             return Ok(None);
         };
-        if !is_whole(&found.all, ram, self.size) {
+        let all = found.all.as_slice();
+        // A rule of both layouts.
+        if !is_whole(all, ram, self.size) {
             return Ok(None);
         }
-        let (readable, writable) = segments(self.alloc, &found.all)?;
+        let (readable, writable) = segments(self.alloc, all)?;
         Ok(Some(Chain {
             id: found.id,
             slots: found.slots,

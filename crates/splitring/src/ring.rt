@@ -1,8 +1,8 @@
 //! A split ring.
 
-ghost use Rattle.std.specs.Prelude.{◌≡◌, ◌≤◌, ◌+◌, ◌*◌, ◌++◌, false, IfOk, MatchOption, length};
+ghost use Rattle.std.specs.Prelude.{◌≡◌, ◌≤◌, ◌+◌, ◌*◌, ◌++◌, false, IfOk, OnErr, MatchOption, length};
 ghost use Rattle.chains.specs.State.{state_of, MayRing, AreInside};
-ghost use Rattle.chains.specs.SplitChain.{available_index};
+ghost use Rattle.chains.specs.SplitChain.{available_index, head};
 ghost use Rattle.chains.specs.Publish.{is_split_due, next_index};
 ghost use Rattle.byteorder.specs.Endian.{little_bytes};
 
@@ -66,6 +66,7 @@ impl Model for SplitRing {
 
 impl SplitRing {
     ghost use Rattle.chains.specs.SplitChain.{IsSplitChain};
+    ghost use Rattle.chains.specs.LongQueue.{IsLongSplit};
     ghost use Rattle.chains.specs.declared.chain.Chain.{Chain as C};
 
     /// The ring of a queue that has come this far, under the features that the driver accepted. It takes no memory: the
@@ -92,11 +93,14 @@ impl SplitRing {
     fn chain(&self, ram: &Ram, available: u16) -> Result<Option<Chain>, NoMemory>
         requires inside { AreInside (length ram.now.bytes) self.now }
         requires available { available ≡ available_index ram.now.bytes self.now }
-        ensures { IfOk result (λ found. MatchOption found
+        ensures chain { IfOk result (λ found. MatchOption found
             ((c : C) → ¬ (IsSplitChain ram.now.bytes self.now c))
             (IsSplitChain ram.now.bytes self.now)) }
+        ensures memory { OnErr result
+            (IsLongSplit ram.now.bytes self.now.has_indirect self.now.descriptors self.now.size (head ram.now.bytes self.now)) }
     {
         let _len = ram.len();
+        // More chains than there are slots.
         if available.wrapping_sub(self.taking.place) > self.size {
             return Ok(None);
         }
@@ -107,10 +111,11 @@ impl SplitRing {
         let Some(all) = found else {
             return Ok(None);
         };
-        if !is_whole(&all, ram, self.size) {
+        // A rule of both layouts.
+        if !is_whole(all.as_slice(), ram, self.size) {
             return Ok(None);
         }
-        let (readable, writable) = segments(self.alloc, &all)?;
+        let (readable, writable) = segments(self.alloc, all.as_slice())?;
         Ok(Some(Chain {
             id: head,
             slots: 1,
