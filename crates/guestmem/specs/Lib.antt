@@ -1,6 +1,10 @@
 pub mod Item
 pub mod Laws
 pub mod Memory
+pub mod Page
+pub mod PageLaws
+pub mod Later
+pub mod LaterLaws
 pub mod Number
 pub mod Write
 pub mod Writes
