@@ -2,6 +2,7 @@
 
 ghost use Rattle.std.specs.Prelude.{◌≡◌, ◌≤◌, length, IfOk, OnErr};
 ghost use Rattle.guestmem.specs.Item.{after_all, MayPages};
+ghost use Rattle.guestmem.specs.Later.{IsLater};
 ghost use Rattle.guestmem.specs.Writes.{set_all, touched};
 ghost use Rattle.chains.specs.State.{RingState, AreInside};
 ghost use Rattle.chains.specs.Publish.{published, event_note, is_interrupt_due, after_take, after_publish};
@@ -52,6 +53,7 @@ pub trait Ring {
         requires may { MayPages L.may log.old (length ram.old.bytes) }
         ensures bytes { ram.new.bytes ≡ set_all ram.old.bytes (published (state self.old) id slots len wrote) }
         ensures size { length ram.new.bytes ≡ length ram.old.bytes }
+        ensures later { IsLater ram.old ram.new }
         ensures log { log.new ≡ after_all L.after log.old (touched (published (state self.old) id slots len wrote)) }
         ensures may { MayPages L.may log.new (length ram.new.bytes) }
         ensures state { state self.new ≡ after_publish (state self.old) slots }
@@ -64,6 +66,7 @@ pub trait Ring {
         requires may { MayPages L.may log.old (length ram.old.bytes) }
         ensures bytes { ram.new.bytes ≡ set_all ram.old.bytes (event_note (state self.old)) }
         ensures size { length ram.new.bytes ≡ length ram.old.bytes }
+        ensures later { IsLater ram.old ram.new }
         ensures log { log.new ≡ after_all L.after log.old (touched (event_note (state self.old))) }
         ensures may { MayPages L.may log.new (length ram.new.bytes) }
         ensures state { state self.new ≡ state self.old };

@@ -2,6 +2,7 @@
 
 ghost use Rattle.std.specs.Prelude.{◌≡◌, ◌≤◌, ◌<◌, ◌+◌, ◌^◌, length, IfOk, OnErr, Some};
 ghost use Rattle.guestmem.specs.Item.{MayPages};
+ghost use Rattle.guestmem.specs.Later.{IsLater};
 ghost use Rattle.chains.specs.State.{AreInside};
 ghost use Rattle.chains.specs.Places.{places};
 ghost use Rattle.chains.specs.Ring.{IsBounded};
@@ -43,6 +44,7 @@ pub fn receive<R: Ring, L: TouchLog>(
     ensures held_stay { OnErr result (held.new ≡ held.old) }
     ensures log_stays { OnErr result (log.new ≡ log.old) }
     ensures size { length ram.new.bytes ≡ length ram.old.bytes }
+    ensures later { IsLater ram.old ram.new }
     ensures may { MayPages L.may log.new (length ram.new.bytes) }
 {
     let next = match ring.next(ram) {
@@ -89,6 +91,7 @@ fn give<R: Ring, L: TouchLog>(
     ensures answer { result ≡ (give ram.old.bytes (R.state ring.old) held.old chain.now).answer }
     ensures changes { IsAfter L.after ram.old.bytes log.old (give ram.old.bytes (R.state ring.old) held.old chain.now) ram.new.bytes (R.state ring.new) held.new log.new }
     ensures size { length ram.new.bytes ≡ length ram.old.bytes }
+    ensures later { IsLater ram.old ram.new }
     ensures may { MayPages L.may log.new (length ram.new.bytes) }
 {
     let segs = chain.writable.as_slice();

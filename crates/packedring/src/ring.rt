@@ -99,7 +99,7 @@ impl PackedRing {
         ensures memory { OnErr result
             (IsLongPacked ram.now.bytes self.now.has_indirect self.now.descriptors self.now.size self.now.taking.place) }
     {
-        let _len = ram.len();
+        ram.recall();
         let (table, slot) = (self.descriptors, self.taking.place);
         let found = find(
             self.alloc,
@@ -134,7 +134,7 @@ impl PackedRing {
         requires { AreInside (length ram.now.bytes) self.now }
         ensures { result ≡ is_packed_due self.now slots ram.now.bytes }
     {
-        let _len = ram.len();
+        ram.recall();
         let flags = ram.u16_at(self.driver + FLAGS) % FLAG_VALUES;
         if flags == DISABLE {
             return false;
@@ -150,7 +150,7 @@ impl Ring for PackedRing {
     ghost state = { λ r. r };
 
     fn next(&mut self, ram: &Ram) -> Result<Next, NoMemory> {
-        let _len = ram.len();
+        ram.recall();
         let first = read_descriptor(ram, true, self.descriptors, self.taking.place);
         if !is_available(&first, self.taking.wrap) {
             return Ok(Next::Empty);
@@ -174,7 +174,7 @@ impl Ring for PackedRing {
         ram: &mut Ram,
         log: &mut L,
     ) -> bool {
-        let _len = ram.len();
+        ram.recall();
         let entry = self.descriptors + DESCRIPTOR_SIZE * self.used.place as u64;
         let bytes = used_bytes(len, id, used_flags(wrote, self.used.wrap));
         ram.put(entry + LENGTH, &bytes, log);
@@ -185,7 +185,7 @@ impl Ring for PackedRing {
 
     #[tactic(auto, unfolding(chains::specs::Publish::packed_note))]
     fn note_empty<L: TouchLog>(&mut self, ram: &mut Ram, log: &mut L) {
-        let _len = ram.len();
+        ram.recall();
         if self.has_event_index {
             ram.put(self.device, &asking_at(self.taking), log);
         }

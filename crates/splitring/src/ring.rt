@@ -99,7 +99,7 @@ impl SplitRing {
         ensures memory { OnErr result
             (IsLongSplit ram.now.bytes self.now.has_indirect self.now.descriptors self.now.size (head ram.now.bytes self.now)) }
     {
-        let _len = ram.len();
+        ram.recall();
         // More chains than there are slots.
         if available.wrapping_sub(self.taking.place) > self.size {
             return Ok(None);
@@ -130,7 +130,7 @@ impl SplitRing {
         requires { AreInside (length ram.now.bytes) self.now }
         ensures { result ≡ is_split_due self.now ram.now.bytes }
     {
-        let _len = ram.len();
+        ram.recall();
         if self.has_event_index {
             let event = ram.u16_at(self.driver + RING + HEAD_SIZE * self.size as u64);
             return event == self.used.place;
@@ -143,7 +143,7 @@ impl Ring for SplitRing {
     ghost state = { λ r. r };
 
     fn next(&mut self, ram: &Ram) -> Result<Next, NoMemory> {
-        let _len = ram.len();
+        ram.recall();
         let available = ram.u16_at(self.driver + INDEX);
         if available == self.taking.place {
             return Ok(Next::Empty);
@@ -167,7 +167,7 @@ impl Ring for SplitRing {
         ram: &mut Ram,
         log: &mut L,
     ) -> bool {
-        let _len = ram.len();
+        ram.recall();
         let slot = self.used.place % self.size;
         let element = self.device + RING + ELEMENT_SIZE * slot as u64;
         ram.put(element, &element_bytes(id, len), log);
@@ -180,7 +180,7 @@ impl Ring for SplitRing {
 
     #[tactic(auto, unfolding(chains::specs::Publish::split_note))]
     fn note_empty<L: TouchLog>(&mut self, ram: &mut Ram, log: &mut L) {
-        let _len = ram.len();
+        ram.recall();
         if self.has_event_index {
             let event = self.device + RING + ELEMENT_SIZE * self.size as u64;
             ram.put(event, &index_bytes(self.taking.place), log);
