@@ -7,7 +7,7 @@
 //! This crate has what both layouts share, and what each of them means. The contract of the trait `Ring` stands on
 //! the definitions alone, for both layouts:
 //!
-//! - `specs/State`: what a ring means (`RingState`) and where its three areas lie (`AreInside`);
+//! - `specs/State`: what a ring means (`RingState`) and where its three areas lie (`HasAreas`);
 //! - `specs/Places`: the addresses of the bytes of segments, in order;
 //! - `specs/Descriptor`: the descriptor at an index of a table;
 //! - `specs/Whole`: the rules that the descriptors of a chain keep in either layout, and their segments;

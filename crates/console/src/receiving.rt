@@ -3,7 +3,7 @@
 ghost use Rattle.std.specs.Prelude.{◌≡◌, ◌≤◌, ◌<◌, ◌+◌, ◌^◌, length, IfOk, OnErr, Some};
 ghost use Rattle.guestmem.specs.Item.{MayPages};
 ghost use Rattle.guestmem.specs.Later.{IsLater};
-ghost use Rattle.chains.specs.State.{AreInside};
+ghost use Rattle.chains.specs.State.{HasAreas};
 ghost use Rattle.chains.specs.Places.{places};
 ghost use Rattle.chains.specs.Ring.{IsBounded};
 ghost use Rattle.chains.specs.LongQueue.{IsLongQueue};
@@ -34,7 +34,7 @@ pub fn receive<R: Ring, L: TouchLog>(
     ram: &mut Ram,
     log: &mut L,
 ) -> Result<Received, NoMemory>
-    requires inside { AreInside (length ram.old.bytes) (R.state ring.old) }
+    requires areas { HasAreas (length ram.old.bytes) (R.state ring.old) }
     requires may { MayPages L.may log.old (length ram.old.bytes) }
     requires few { (R.state ring.old).size ≤ 256 }
     ensures received { IfOk result (λ answer. IsReceived L.after ram.old.bytes (R.state ring.old) held.old log.old answer ram.new.bytes (R.state ring.new) held.new log.new) }
@@ -84,7 +84,7 @@ fn give<R: Ring, L: TouchLog>(
     ram: &mut Ram,
     log: &mut L,
 ) -> Received
-    requires inside { AreInside (length ram.old.bytes) (R.state ring.old) }
+    requires areas { HasAreas (length ram.old.bytes) (R.state ring.old) }
     requires may { MayPages L.may log.old (length ram.old.bytes) }
     requires bounded { IsBounded (length ram.old.bytes) (R.state ring.old) chain.now }
     requires size_small { (R.state ring.old).size ≤ 256 }

@@ -1,7 +1,7 @@
 //! A packed ring.
 
 ghost use Rattle.std.specs.Prelude.{◌≡◌, ◌≤◌, ◌<◌, ◌+◌, ◌*◌, ◌++◌, true, IfOk, OnErr, MatchOption, length, IsTrue, ◌↔◌};
-ghost use Rattle.chains.specs.State.{state_of, MayRing, AreInside};
+ghost use Rattle.chains.specs.State.{state_of, MayRing, HasAreas};
 ghost use Rattle.chains.specs.Descriptor.{descriptor_at};
 ghost use Rattle.chains.specs.PackedChain.{IsAvailable};
 ghost use Rattle.chains.specs.Publish.{is_packed_due, bit_if};
@@ -91,7 +91,7 @@ impl PackedRing {
 
     /// The chain at the taking position, where the descriptor there, which is available, is this; or none.
     fn chain(&self, ram: &Ram, first: Descriptor) -> Result<Option<Chain>, NoMemory>
-        requires inside { AreInside (length ram.now.bytes) self.now }
+        requires areas { HasAreas (length ram.now.bytes) self.now }
         requires first { first ≡ descriptor_at true ram.now.bytes self.now.descriptors self.now.taking.place }
         ensures chain { IfOk result (λ found. MatchOption found
             ((c : C) → ¬ (IsPackedChain ram.now.bytes self.now c))
@@ -131,7 +131,7 @@ impl PackedRing {
     /// RAM now.
     #[tactic(auto, unfolding(chains::specs::Publish::is_packed_due))]
     fn is_due(&self, slots: u16, ram: &Ram) -> bool
-        requires { AreInside (length ram.now.bytes) self.now }
+        requires { HasAreas (length ram.now.bytes) self.now }
         ensures { result ≡ is_packed_due self.now slots ram.now.bytes }
     {
         ram.recall();

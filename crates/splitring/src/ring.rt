@@ -1,7 +1,7 @@
 //! A split ring.
 
 ghost use Rattle.std.specs.Prelude.{◌≡◌, ◌≤◌, ◌+◌, ◌*◌, ◌++◌, false, IfOk, OnErr, MatchOption, length};
-ghost use Rattle.chains.specs.State.{state_of, MayRing, AreInside};
+ghost use Rattle.chains.specs.State.{state_of, MayRing, HasAreas};
 ghost use Rattle.chains.specs.SplitChain.{available_index, head};
 ghost use Rattle.chains.specs.Publish.{is_split_due, next_index};
 ghost use Rattle.byteorder.specs.Endian.{little_bytes};
@@ -91,7 +91,7 @@ impl SplitRing {
 
     /// The chain at the taking position, where the driver's index, which is not that position, is this; or none.
     fn chain(&self, ram: &Ram, available: u16) -> Result<Option<Chain>, NoMemory>
-        requires inside { AreInside (length ram.now.bytes) self.now }
+        requires areas { HasAreas (length ram.now.bytes) self.now }
         requires available { available ≡ available_index ram.now.bytes self.now }
         ensures chain { IfOk result (λ found. MatchOption found
             ((c : C) → ¬ (IsSplitChain ram.now.bytes self.now c))
@@ -127,7 +127,7 @@ impl SplitRing {
     /// Whether the driver asks for an interrupt at the used index, by what it holds in RAM now.
     #[tactic(auto, unfolding(chains::specs::Publish::is_split_due))]
     fn is_due(&self, ram: &Ram) -> bool
-        requires { AreInside (length ram.now.bytes) self.now }
+        requires { HasAreas (length ram.now.bytes) self.now }
         ensures { result ≡ is_split_due self.now ram.now.bytes }
     {
         ram.recall();
