@@ -5,6 +5,7 @@ pub mod Whole
 pub mod SplitChain
 pub mod PackedChain
 pub mod Ring
+pub mod LongQueue
 pub mod Publish
 pub mod SplitLaws
 pub mod EffectLaws

@@ -1,6 +1,7 @@
 use Rattle.std.specs.Prelude.{ℕ, ◌+◌, ◌*◌, ◌^◌, ◌<◌, ◌≤◌, ◌==◌, Bool, not, bit_and, if◌then◌else◌}
 use Rattle.std.specs.Bool.{MatchBool}
 use Rattle.mmio.specs.declared.queue.Queue.{Queue}
+use Rattle.mmio.specs.QueueReady.{IsInside}
 use Rattle.chains.specs.declared.position.Position.{Position}
 use Rattle.chains.specs.declared.position.Positions.{Positions}
 
@@ -51,8 +52,12 @@ driver_bytes q = if q.is_packed then 4 else 6 + 2 * q.size
 abbrev pub device_bytes : RingState → ℕ
 device_bytes q = if q.is_packed then 4 else 6 + 8 * q.size
 
--- The three areas of a queue lie inside a RAM of so many bytes.
-pub record AreInside (len : ℕ) (q : RingState) : Type 0 where
-  pub descriptors : q.descriptors + 16 * q.size ≤ len
-  pub driver : q.driver + driver_bytes q ≤ len
-  pub device : q.device + device_bytes q ≤ len
+-- The alignment of the driver area (VIRTIO 1.2, 2.7 and 2.8).
+abbrev pub driver_alignment : RingState → ℕ
+driver_alignment q = if q.is_packed then 4 else 2
+
+-- The three areas of a queue are aligned (VIRTIO 1.2, 2.7 and 2.8), and lie inside a RAM of so many bytes.
+pub record HasAreas (len : ℕ) (q : RingState) : Type 0 where
+  pub descriptors : IsInside len q.descriptors 16 (16 * q.size)
+  pub driver : IsInside len q.driver (driver_alignment q) (driver_bytes q)
+  pub device : IsInside len q.device 4 (device_bytes q)

@@ -2,6 +2,7 @@
 
 ghost use Rattle.std.specs.Prelude.{◌≡◌, ◌+◌, ◌*◌, ◌<◌, ◌≤◌, ◌^◌, length, take, drop};
 ghost use Rattle.guestmem.specs.Item.{after_all, MayPages};
+ghost use Rattle.guestmem.specs.Later.{IsLater};
 ghost use Rattle.guestmem.specs.Writes.{set_all, touched};
 ghost use Rattle.chains.specs.Places.{places, read_places, place_writes, AreSegmentsInside};
 
@@ -23,7 +24,7 @@ pub fn copy_out(ram: &Ram, segs: &[Seg], at: u64, buf: &mut [u8])
     requires room { at + length buf.old ≤ length (places segs.now) }
     ensures { buf.new ≡ take (length buf.old) (drop at (read_places ram.now.bytes (places segs.now))) }
 {
-    let _len = ram.len();
+    ram.recall();
     let mut skip = at;
     let mut filled = 0;
     for seg in segs {
@@ -44,7 +45,7 @@ fn read_run(ram: &Ram, addr: u64, buf: &mut [u8])
     requires { addr + length buf.old ≤ length ram.now.bytes }
     ensures { buf.new ≡ take (length buf.old) (drop addr ram.now.bytes) }
 {
-    let _len = ram.len();
+    ram.recall();
     let mut done = 0;
     while done < buf.len() {
         let end = buf.len().min(done + ACCESS_MAX);
@@ -62,10 +63,11 @@ pub fn copy_in<L: TouchLog>(ram: &mut Ram, segs: &[Seg], at: u64, bytes: &[u8], 
     requires may { MayPages L.may log.old (length ram.old.bytes) }
     ensures bytes { ram.new.bytes ≡ set_all ram.old.bytes (place_writes (take (length bytes.now) (drop at (places segs.now))) bytes.now) }
     ensures size { length ram.new.bytes ≡ length ram.old.bytes }
+    ensures later { IsLater ram.old ram.new }
     ensures log { log.new ≡ after_all L.after log.old (touched (place_writes (take (length bytes.now) (drop at (places segs.now))) bytes.now)) }
     ensures may { MayPages L.may log.new (length ram.new.bytes) }
 {
-    let _len = ram.len();
+    ram.recall();
     let mut skip = at;
     let mut rest = bytes;
     for seg in segs {

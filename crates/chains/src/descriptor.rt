@@ -24,7 +24,7 @@ const AVAIL: u16 = 1 << 7;
 const USED: u16 = 1 << 15;
 
 /// One entry of a table of descriptors, decoded. Other flags than those named here are ignored.
-#[derive(Clone, Copy, Debug, PartialEq, Eq)]
+#[derive(Clone, Copy, Debug, Default, PartialEq, Eq)]
 pub struct Descriptor {
     /// The address of the buffer, or of the table that an indirect descriptor names.
     pub addr: u64,
@@ -57,7 +57,7 @@ pub fn read_descriptor(ram: &Ram, is_packed: bool, table: u64, index: u16) -> De
     requires inside { table + 16 * index + 16 ≤ length ram.now.bytes }
     ensures { result ≡ descriptor_at is_packed ram.now.bytes table index }
 {
-    let _len = ram.len();
+    ram.recall();
     let entry = table + DESCRIPTOR_SIZE * index as u64;
     let (low, high) = (ram.u16_at(entry + 12), ram.u16_at(entry + 14));
     let flags = if is_packed { high } else { low };

@@ -7,25 +7,29 @@
 //! This crate has what both layouts share, and what each of them means. The contract of the trait `Ring` stands on
 //! the definitions alone, for both layouts:
 //!
-//! - `specs/State`: what a ring means (`RingState`) and where its three areas lie (`AreInside`);
+//! - `specs/State`: what a ring means (`RingState`) and where its three areas lie (`HasAreas`);
 //! - `specs/Places`: the addresses of the bytes of segments, in order;
 //! - `specs/Descriptor`: the descriptor at an index of a table;
 //! - `specs/Whole`: the rules that the descriptors of a chain keep in either layout, and their segments;
 //! - `specs/SplitChain` and `specs/PackedChain`: the chain at the taking position, and when there is none;
 //! - `specs/Ring`: the answers of a ring, by its layout;
+//! - `specs/LongQueue`: the queues at which memory may be wanted;
 //! - `specs/Publish`: what publishing and the event note write, and when an interrupt is due;
 //! - `specs/PlaceLaws`, `EffectLaws`, `SplitLaws`, `PackedLaws` and `ChainLaws`: what follows, for proofs above.
 //!
 //! A chain is a relation on whole lists of descriptors: it says which list is the chain, and not how to find it. What
 //! no list meets is malformed. The module `laws` says that a queue has at most one chain, and so one answer, and that
 //! every chain is bounded, whatever the driver wrote: its segments lie inside RAM, and there are no more than slots.
-//! Nothing is trusted here beside the toolchain and the crates below. `smallvec` keeps short lists of segments inline.
+//! A chain of at most `SHORT_CHAIN_MAX` descriptors takes no memory: `smallvec` keeps short lists of descriptors and of
+//! segments inline. Nothing is trusted here beside the toolchain and the crates below.
 #![tactic(auto)]
 
 mod chain;
 mod copy;
 mod descriptor;
+mod descriptors;
 pub mod laws;
+mod limits;
 mod next;
 mod position;
 mod ring;
@@ -35,6 +39,8 @@ mod whole;
 pub use chain::Chain;
 pub use copy::{copy_in, copy_out, total_len};
 pub use descriptor::{DESCRIPTOR_SIZE, Descriptor, is_table, read_descriptor};
+pub use descriptors::Descriptors;
+pub use limits::SHORT_CHAIN_MAX;
 pub use next::Next;
 pub use position::{Position, Positions};
 pub use ring::Ring;

@@ -1,7 +1,8 @@
 //! Segments of guest memory.
 
-ghost use Rattle.std.specs.Prelude.{◌≡◌, ◌==◌, [], ◌∷◌, ◌++◌, length, OnOk, OnErr, IfOk};
+ghost use Rattle.std.specs.Prelude.{◌≡◌, ◌==◌, ◌<◌, ◌≤◌, [], ◌∷◌, ◌++◌, length, OnOk, OnErr, IsOk, IfOk};
 
+use crate::limits::SHORT_CHAIN_MAX;
 use guestmem::NoMemory;
 use smallvec::SmallVec;
 use std::alloc::Global;
@@ -17,23 +18,23 @@ pub struct Seg {
     pub len: u32,
 }
 
-/// The number of segments that a list keeps inline. A network, console or entropy buffer has one or two, and a block
-/// request three: its header, its data and its status byte. So serving a common chain needs no allocation.
-const INLINE: usize = 4;
-
-/// Segments in order. Contracts see the list of them.
+/// Segments in order. Contracts see the list of them. The first `SHORT_CHAIN_MAX` are kept inline, so serving a chain of
+/// no more needs no memory.
 #[derive(Drop)]
 pub struct Segs {
-    list: SmallVec<Seg, INLINE>,
+    list: SmallVec<Seg, SHORT_CHAIN_MAX>,
 }
 
 impl Model for Segs {
-    ghost use Rattle.std.specs.Prelude.{List};
+    ghost use Rattle.std.specs.Prelude.{List, ◌≤◌};
     ghost use Rattle.chains.specs.declared.segs.Seg.{Seg};
+    ghost use Rattle.chains.specs.declared.limits.TheConstants.{SHORT_CHAIN_MAX};
 
     ghost Value = { List Seg };
 
     ghost view = { λ s. s.list.items };
+
+    ghost invariant = { λ s. SHORT_CHAIN_MAX ≤ s.list.capacity };
 }
 
 impl Segs {
@@ -46,19 +47,22 @@ impl Segs {
         }
     }
 
-    /// A list of these segments. Its only error is want of memory.
+    /// A list of these segments. Its only error is want of memory, which few segments do not meet.
     pub fn from_slice(alloc: Global, segs: &[Seg]) -> Result<Segs, NoMemory>
-        ensures { IfOk result (λ list. list ≡ segs.now) }
+        ensures ok { IfOk result (λ list. list ≡ segs.now) }
+        ensures short { length segs.now ≤ SHORT_CHAIN_MAX → IsOk result }
     {
-        Ok(Segs {
-            list: SmallVec::from_slice(alloc, segs)?,
-        })
+        let list = SmallVec::from_slice(alloc, segs)?;
+        prove!(list.capacity() >= SHORT_CHAIN_MAX);
+        Ok(Segs { list })
     }
 
-    /// Adds a segment at the end. Its only error is want of memory, and then nothing has changed.
+    /// Adds a segment at the end. Its only error is want of memory, and then nothing has changed. A short list has room
+    /// for it.
     pub fn push(&mut self, seg: Seg) -> Result<(), NoMemory>
         ensures ok { OnOk result (self.new ≡ self.old ++ seg ∷ []) }
         ensures err { OnErr result (self.new ≡ self.old) }
+        ensures short { length self.old < SHORT_CHAIN_MAX → IsOk result }
     {
         self.list.push(seg)?;
         Ok(())

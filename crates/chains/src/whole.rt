@@ -1,9 +1,10 @@
 //! The rules for the descriptors of a chain, whatever the layout.
 
-ghost use Rattle.std.specs.Prelude.{◌≡◌, ◌<◌, ◌≤◌, ◌+◌, ◌^◌, length, IsTrue, ◌↔◌, All, sum, map, IfOk};
+ghost use Rattle.std.specs.Prelude.{◌≡◌, ◌<◌, ◌≤◌, ◌+◌, ◌^◌, length, IsTrue, ◌↔◌, All, sum, map, IfOk, OnErr};
 ghost use Rattle.chains.specs.Whole.{IsWhole, IsInOrder, readable_of, writable_of};
 
 use crate::descriptor::Descriptor;
+use crate::limits::SHORT_CHAIN_MAX;
 use crate::segs::{Seg, Segs};
 use guestmem::{NoMemory, Ram};
 use std::alloc::Global;
@@ -44,9 +45,10 @@ fn total(descriptors: &[Descriptor]) -> u64
 }
 
 /// The segments of descriptors: those that the device may read, and those that it may write. Its only error is want of
-/// memory.
+/// memory, which few descriptors do not meet.
 pub fn segments(alloc: Global, descriptors: &[Descriptor]) -> Result<(Segs, Segs), NoMemory>
-    ensures { IfOk result (λ segs. (segs.0 ≡ readable_of descriptors.now) × (segs.1 ≡ writable_of descriptors.now)) }
+    ensures segments { IfOk result (λ segs. (segs.0 ≡ readable_of descriptors.now) × (segs.1 ≡ writable_of descriptors.now)) }
+    ensures memory { OnErr result (SHORT_CHAIN_MAX < length descriptors.now) }
 {
     let mut readable = Segs::new(alloc);
     let mut writable = Segs::new(alloc);

@@ -2,9 +2,11 @@
 
 ghost use Rattle.std.specs.Prelude.{◌≡◌, ◌≤◌, ◌<◌, ◌+◌, ◌^◌, length, IfOk, OnErr, Some};
 ghost use Rattle.guestmem.specs.Item.{MayPages};
-ghost use Rattle.chains.specs.State.{AreInside};
+ghost use Rattle.guestmem.specs.Later.{IsLater};
+ghost use Rattle.chains.specs.State.{HasAreas};
 ghost use Rattle.chains.specs.Places.{places};
-ghost use Rattle.chains.specs.Ring.{IsEmptyQueue, IsBounded};
+ghost use Rattle.chains.specs.Ring.{IsBounded};
+ghost use Rattle.chains.specs.LongQueue.{IsLongQueue};
 ghost use Rattle.console.specs.Receive.{takes_bytes, give, IsAfter, IsReceived};
 
 use crate::host_bytes::HostBytes;
@@ -32,16 +34,17 @@ pub fn receive<R: Ring, L: TouchLog>(
     ram: &mut Ram,
     log: &mut L,
 ) -> Result<Received, NoMemory>
-    requires inside { AreInside (length ram.old.bytes) (R.state ring.old) }
+    requires areas { HasAreas (length ram.old.bytes) (R.state ring.old) }
     requires may { MayPages L.may log.old (length ram.old.bytes) }
     requires few { (R.state ring.old).size ≤ 256 }
     ensures received { IfOk result (λ answer. IsReceived L.after ram.old.bytes (R.state ring.old) held.old log.old answer ram.new.bytes (R.state ring.new) held.new log.new) }
-    ensures memory { OnErr result (¬ (IsEmptyQueue ram.old.bytes (R.state ring.old))) }
+    ensures memory { OnErr result (IsLongQueue ram.old.bytes (R.state ring.old)) }
     ensures ram_stays { OnErr result (ram.new ≡ ram.old) }
     ensures ring_stays { OnErr result (R.state ring.new ≡ R.state ring.old) }
     ensures held_stay { OnErr result (held.new ≡ held.old) }
     ensures log_stays { OnErr result (log.new ≡ log.old) }
     ensures size { length ram.new.bytes ≡ length ram.old.bytes }
+    ensures later { IsLater ram.old ram.new }
     ensures may { MayPages L.may log.new (length ram.new.bytes) }
 {
     let next = match ring.next(ram) {
@@ -81,13 +84,14 @@ fn give<R: Ring, L: TouchLog>(
     ram: &mut Ram,
     log: &mut L,
 ) -> Received
-    requires inside { AreInside (length ram.old.bytes) (R.state ring.old) }
+    requires areas { HasAreas (length ram.old.bytes) (R.state ring.old) }
     requires may { MayPages L.may log.old (length ram.old.bytes) }
     requires bounded { IsBounded (length ram.old.bytes) (R.state ring.old) chain.now }
     requires size_small { (R.state ring.old).size ≤ 256 }
     ensures answer { result ≡ (give ram.old.bytes (R.state ring.old) held.old chain.now).answer }
     ensures changes { IsAfter L.after ram.old.bytes log.old (give ram.old.bytes (R.state ring.old) held.old chain.now) ram.new.bytes (R.state ring.new) held.new log.new }
     ensures size { length ram.new.bytes ≡ length ram.old.bytes }
+    ensures later { IsLater ram.old ram.new }
     ensures may { MayPages L.may log.new (length ram.new.bytes) }
 {
     let segs = chain.writable.as_slice();

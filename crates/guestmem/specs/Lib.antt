@@ -3,6 +3,10 @@ pub mod Failures
 pub mod Item
 pub mod Laws
 pub mod Memory
+pub mod Page
+pub mod PageLaws
+pub mod Later
+pub mod LaterLaws
 pub mod Number
 pub mod Page
 pub mod Write

@@ -1,12 +1,13 @@
 use Rattle.std.specs.Prelude.{◌≡◌, ℕ, ◌*◌, ◌≤◌, List, length}
+use Rattle.guestmem.specs.declared.limits.TheConstants.{PAGE_SIZE, PAGES_MAX}
 
 -- Flat memory. What contracts see of a RAM: its bytes in the order of their addresses, and the version of each page.
 pub record Memory : Type 0 where
   pub bytes : List ℕ
   pub versions : List ℕ
 
--- Pages of 4,096 bytes, from one to 16,384, each with a version.
+-- Whole pages, from one to the most that there may be, each with a version.
 pub record IsMemory (m : Memory) : Type 0 where
-  pub pages : length m.bytes ≡ 4096 * length m.versions
+  pub pages : length m.bytes ≡ PAGE_SIZE * length m.versions
   pub some : 1 ≤ length m.versions
-  pub few : length m.versions ≤ 16384
+  pub few : length m.versions ≤ PAGES_MAX

@@ -1,4 +1,5 @@
 use Rattle.std.specs.Prelude.{ℕ, ◌+◌, ◌-◌, ◌/◌, ◌^◌, ◌++◌, List, length, take, drop, map, nat_lt, Option, Some, None, Result, Ok, Err, if◌then◌else◌, ◌==◌}
+use Rattle.guestmem.specs.declared.limits.TheConstants.{PAGE_SIZE, ACCESS_MAX}
 use Rattle.guestmem.specs.Memory.{Memory}
 use Rattle.guestmem.specs.declared.touched.Touched.{Touched}
 use Rattle.guestmem.specs.declared.touched.Touched.TheVariants.{NoPage, Pages}
@@ -7,7 +8,7 @@ use Rattle.guestmem.specs.declared.error.RamError.TheVariants.{OutOfRam, TooLong
 
 -- Why an access of so many bytes at an address is refused, by the length of RAM. Too long is told first.
 abbrev pub refusal_of : ℕ → ℕ → ℕ → Option RamError
-refusal_of len at count = if nat_lt 4096 count then Some TooLong else if nat_lt len (at + count) then Some OutOfRam else None
+refusal_of len at count = if nat_lt ACCESS_MAX count then Some TooLong else if nat_lt len (at + count) then Some OutOfRam else None
 
 abbrev pub unless_refused : {A : Type 0} → Option RamError → A → Result A RamError
 unless_refused None x = Ok x
@@ -27,7 +28,7 @@ raise versions first last = take first versions ++ map raised (take (last + 1 - 
 
 -- The pages of so many bytes at an address.
 abbrev pub touched_of : ℕ → ℕ → Touched
-touched_of at count = if count == 0 then NoPage else Pages (at / 4096) ((at + count - 1) / 4096)
+touched_of at count = if count == 0 then NoPage else Pages (at / PAGE_SIZE) ((at + count - 1) / PAGE_SIZE)
 
 abbrev pub raise_touched : List ℕ → Touched → List ℕ
 raise_touched versions NoPage = versions

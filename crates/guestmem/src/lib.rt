@@ -9,12 +9,18 @@
 //!   sector that was written. `NoLog` is for everybody else, and keeps nothing.
 //!
 //! What the layers above may rely on is in the contracts alone. They speak of the record `Memory` (`specs/Memory`:
-//! the bytes in order of their addresses, and the versions), of the little-endian number at an address
-//! (`specs/Number`), of writes and lists of writes (`specs/Write`, `specs/Writes`) and of the items that a log takes
-//! in (`specs/Item`, `specs/Laws`). Nothing is trusted here beside the toolchain and `byteorder`.
+//! the bytes in order of their addresses, and the versions) and of the bytes of a page (`specs/Page`), of the
+//! little-endian number at an address (`specs/Number`), of writes and lists of writes (`specs/Write`, `specs/Writes`), of
+//! one RAM that is another one later (`specs/Later`) and of the items that a log takes in (`specs/Item`, `specs/Laws`).
+//! Nothing is trusted here beside the toolchain and `byteorder`.
+//!
+//! A habit of these crates: a method `recall` does nothing and returns nothing. Its contract is what every value of its
+//! type keeps, of which a proof outside of the type knows nothing until the method is called. So a call of `recall` is a
+//! note to the checker, which the lines after it stand on.
 #![tactic(auto)]
 
 mod error;
+pub mod laws;
 mod limits;
 mod log;
 mod ram;
@@ -23,6 +29,6 @@ mod touched;
 pub use error::RamError;
 pub use limits::{ACCESS_MAX, PAGE_SIZE, PAGES_MAX};
 pub use log::{NoLog, TouchLog};
-pub use ram::Ram;
+pub use ram::{Ram, recall_bytes};
 pub use std::alloc::AllocError as NoMemory;
 pub use touched::Touched;

@@ -5,6 +5,8 @@ ghost use Rattle.guestmem.specs.Number.{number_at, IsBytes};
 ghost use Rattle.guestmem.specs.Item.{page as page_item, after_all, pages_between, MayPages};
 ghost use Rattle.guestmem.specs.Writes.{byte_writes, set_all, touched};
 ghost use Rattle.guestmem.specs.Memory.{Memory, IsMemory};
+ghost use Rattle.guestmem.specs.Page.{page_of};
+ghost use Rattle.guestmem.specs.Later.{IsLater};
 ghost use Rattle.guestmem.specs.Write.{written, touched_of, refusal_of, unless_refused, raised};
 
 use crate::error::RamError;
@@ -35,27 +37,33 @@ impl Ram {
     pub fn new(alloc: Global, pages: u32) -> Result<Ram, AllocError>
         requires some { 1 ≤ pages }
         requires few { pages ≤ PAGES_MAX }
-        ensures { IfOk result (λ ram. ram ≡ record { bytes = replicate (4096 * pages) 0; versions = replicate pages 0 }) }
+        ensures { IfOk result (λ ram. ram ≡ record { bytes = replicate (PAGE_SIZE * pages) 0; versions = replicate pages 0 }) }
     {
         let bytes = vec![in alloc; 0u8; pages as usize * PAGE_SIZE]?;
         let versions = vec![in alloc; 0u64; pages as usize]?;
         Ok(Ram { bytes, versions })
     }
 
-    /// The number of bytes, a multiple of 4,096.
-    pub fn len(&self) -> u64
-        ensures len { result ≡ length self.now.bytes }
+    /// Tells a proof what every RAM keeps.
+    pub fn recall(&self)
         ensures sound { IsMemory self.now }
         ensures bytes { IsBytes self.now.bytes }
     {
-        count_of(self.bytes.as_slice())
+        recall_bytes(self.bytes.as_slice());
+    }
+
+    /// The number of bytes, a multiple of 4,096.
+    pub fn len(&self) -> u64
+        ensures { result ≡ length self.now.bytes }
+    {
+        self.bytes.len() as u64
     }
 
     /// Always false: a RAM has a page at least.
     pub fn is_empty(&self) -> bool
         ensures { result ≡ false }
     {
-        self.len() == 0
+        self.bytes.is_empty()
     }
 
     /// The version of a page.
@@ -67,14 +75,14 @@ impl Ram {
     }
 
     /// The bytes of a page.
-    pub fn page(&self, page: u64) -> &[u8; 4096]
+    pub fn page(&self, page: u64) -> &[u8; PAGE_SIZE]
         requires { page < length self.now.versions }
-        ensures { result.now ≡ take 4096 (drop (4096 * page) self.now.bytes) }
+        ensures { result.now ≡ page_of self.now.bytes page }
     {
         let bytes = self.bytes.as_slice();
         let start = page as usize * PAGE_SIZE;
         let bytes = &bytes[start..start + PAGE_SIZE];
-        match <&[u8; 4096]>::try_from(bytes) {
+        match <&[u8; PAGE_SIZE]>::try_from(bytes) {
             Ok(page) => page,
             Err(_) => &[0; PAGE_SIZE],
         }
@@ -140,7 +148,9 @@ impl Ram {
         ensures result { result ≡ unless_refused (refusal_of (length self.old.bytes) addr (length bytes.now)) (touched_of addr (length bytes.now)) }
         ensures ok { OnOk result (self.new ≡ written self.old addr bytes.now) }
         ensures err { OnErr result (self.new ≡ self.old) }
+        ensures later { IsLater self.old self.new }
     {
+        self.recall();
         if let Some(error) = self.refusal(addr, bytes.len()) {
             return Err(error);
         }
@@ -156,10 +166,11 @@ impl Ram {
         ensures bytes { self.new.bytes ≡ set_all self.old.bytes (byte_writes addr bytes.now) }
         ensures size { length self.new.bytes ≡ length self.old.bytes }
         ensures versions { self.new ≡ written self.old addr bytes.now }
+        ensures later { IsLater self.old self.new }
         ensures log { log.new ≡ after_all L.after log.old (touched (byte_writes addr bytes.now)) }
         ensures may { MayPages L.may log.new (length self.new.bytes) }
     {
-        let _len = self.len();
+        self.recall();
         match self.store(addr, bytes) {
             Touched::NoPage => {}
             Touched::Pages(first, last) => tell_pages(log, first, last),
@@ -171,7 +182,7 @@ impl Ram {
         ensures touched { result ≡ touched_of addr (length bytes.now) }
         ensures written { self.new ≡ written self.old addr bytes.now }
     {
-        let _held = &self.bytes;
+        self.recall();
         if bytes.is_empty() {
             return Touched::NoPage;
         }
@@ -195,13 +206,10 @@ fn tell_pages<L: TouchLog>(log: &mut L, first: u64, last: u64)
     }
 }
 
-/// How many bytes there are, each of which is one.
-fn count_of(bytes: &[u8]) -> u64
-    ensures count { result ≡ length bytes.now }
-    ensures bytes { IsBytes bytes.now }
-{
-    bytes.len() as u64
-}
+/// Tells a proof that each number of a slice of bytes is one.
+pub fn recall_bytes(bytes: &[u8])
+    ensures { IsBytes bytes.now }
+{}
 
 fn raise_all(versions: &mut [u64])
     ensures { versions.new ≡ map raised versions.old }

@@ -2,12 +2,18 @@ use Rattle.std.proofs.Common.{true, false, ◌≡◌, ℕ, ◌+◌, ◌%◌, Lis
 use Rattle.chains.specs.declared.descriptor.Descriptor.{Descriptor}
 use Rattle.chains.specs.Descriptor.{descriptor_at}
 use Rattle.chains.specs.PackedChain.{AreConsecutive}
+use Rattle.chains.specs.LongQueue.{AreInSlots}
 use Rattle.packedring.specs.Walk.{Leads}
 
 behind : (ram : List ℕ) (table size slot : ℕ) (d : Descriptor) → d ≡ descriptor_at true ram table slot → d.has_next ≡ true
     → (rest : List Descriptor) → AreConsecutive ram table size ((slot + 1) % size) rest → AreConsecutive ram table size slot (d ∷ rest)
 behind ram table size slot d is next [] h = absurd h
 behind ram table size slot d is next (e ∷ es) h = (is, next, h)
+
+row_behind : (ram : List ℕ) (table size slot : ℕ) (d : Descriptor) → d ≡ descriptor_at true ram table slot → d.has_next ≡ true
+    → (rest : List Descriptor) → AreInSlots ram table size ((slot + 1) % size) rest → AreInSlots ram table size slot (d ∷ rest)
+row_behind ram table size slot d is next [] h = absurd h
+row_behind ram table size slot d is next (e ∷ es) h = (is, next, h)
 
 first_is : (ram : List ℕ) (table size slot : ℕ) (d : Descriptor) → d ≡ descriptor_at true ram table slot → d.has_next ≡ true
     → (whole : List Descriptor) → AreConsecutive ram table size slot whole → (rest : List Descriptor) × (whole ≡ d ∷ rest) × AreConsecutive ram table size ((slot + 1) % size) rest
@@ -29,6 +35,7 @@ leads_more ram table size slot next front d leads is more = record {
       let a = leads.only whole h in
       let b = first_is ram table size next d is more a.0 a.2 in
       (b.0, a.1 ∙ ap (λ (ys : List Descriptor). front ++ ys) b.1 ∙ sym (append_assoc front (d ∷ []) b.0), b.2);
+  rows = λ rest h. rw append_assoc (leads.rows (d ∷ rest) (row_behind ram table size next d is more rest h));
 }
 
 -- The first of them is that of the slot.

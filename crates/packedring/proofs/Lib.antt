@@ -1,3 +1,4 @@
 pub mod Leading
 pub mod Finding
 pub mod Lists
+pub mod Long

@@ -1,6 +1,6 @@
 //! What the slots at a position hold.
 
-use chains::Descriptor;
+use chains::Descriptors;
 
 /// The descriptors that the slots from one on hold, with a table in the place of the descriptor that names it.
 #[derive(Drop)]
@@ -12,5 +12,5 @@ pub(crate) struct Found {
     pub(crate) slots: u16,
 
     /// The descriptors, in order.
-    pub(crate) all: Vec<Descriptor>,
+    pub(crate) all: Descriptors,
 }

@@ -1,7 +1,7 @@
 //! A packed ring.
 
-ghost use Rattle.std.specs.Prelude.{◌≡◌, ◌≤◌, ◌<◌, ◌+◌, ◌*◌, ◌++◌, true, IfOk, MatchOption, length, IsTrue, ◌↔◌};
-ghost use Rattle.chains.specs.State.{state_of, MayRing, AreInside};
+ghost use Rattle.std.specs.Prelude.{◌≡◌, ◌≤◌, ◌<◌, ◌+◌, ◌*◌, ◌++◌, true, IfOk, OnErr, MatchOption, length, IsTrue, ◌↔◌};
+ghost use Rattle.chains.specs.State.{state_of, MayRing, HasAreas};
 ghost use Rattle.chains.specs.Descriptor.{descriptor_at};
 ghost use Rattle.chains.specs.PackedChain.{IsAvailable};
 ghost use Rattle.chains.specs.Publish.{is_packed_due, bit_if};
@@ -66,6 +66,7 @@ impl Model for PackedRing {
 
 impl PackedRing {
     ghost use Rattle.chains.specs.PackedChain.{IsPackedChain};
+    ghost use Rattle.chains.specs.LongQueue.{IsLongPacked};
     ghost use Rattle.chains.specs.declared.chain.Chain.{Chain as C};
 
     /// The ring of a queue that has come this far, under the features that the driver accepted. It takes no memory: the
@@ -90,13 +91,15 @@ impl PackedRing {
 
     /// The chain at the taking position, where the descriptor there, which is available, is this; or none.
     fn chain(&self, ram: &Ram, first: Descriptor) -> Result<Option<Chain>, NoMemory>
-        requires inside { AreInside (length ram.now.bytes) self.now }
+        requires areas { HasAreas (length ram.now.bytes) self.now }
         requires first { first ≡ descriptor_at true ram.now.bytes self.now.descriptors self.now.taking.place }
-        ensures { IfOk result (λ found. MatchOption found
+        ensures chain { IfOk result (λ found. MatchOption found
             ((c : C) → ¬ (IsPackedChain ram.now.bytes self.now c))
             (IsPackedChain ram.now.bytes self.now)) }
+        ensures memory { OnErr result
+            (IsLongPacked ram.now.bytes self.now.has_indirect self.now.descriptors self.now.size self.now.taking.place) }
     {
-        let _len = ram.len();
+        ram.recall();
         let (table, slot) = (self.descriptors, self.taking.place);
         let found = find(
             self.alloc,
@@ -110,10 +113,12 @@ impl PackedRing {
         let Some(found) = found else {
             return Ok(None);
         };
-        if !is_whole(&found.all, ram, self.size) {
+        let all = found.all.as_slice();
+        // A rule of both layouts.
+        if !is_whole(all, ram, self.size) {
             return Ok(None);
         }
-        let (readable, writable) = segments(self.alloc, &found.all)?;
+        let (readable, writable) = segments(self.alloc, all)?;
         Ok(Some(Chain {
             id: found.id,
             slots: found.slots,
@@ -126,10 +131,10 @@ impl PackedRing {
     /// RAM now.
     #[tactic(auto, unfolding(chains::specs::Publish::is_packed_due))]
     fn is_due(&self, slots: u16, ram: &Ram) -> bool
-        requires { AreInside (length ram.now.bytes) self.now }
+        requires { HasAreas (length ram.now.bytes) self.now }
         ensures { result ≡ is_packed_due self.now slots ram.now.bytes }
     {
-        let _len = ram.len();
+        ram.recall();
         let flags = ram.u16_at(self.driver + FLAGS) % FLAG_VALUES;
         if flags == DISABLE {
             return false;
@@ -145,7 +150,7 @@ impl Ring for PackedRing {
     ghost state = { λ r. r };
 
     fn next(&mut self, ram: &Ram) -> Result<Next, NoMemory> {
-        let _len = ram.len();
+        ram.recall();
         let first = read_descriptor(ram, true, self.descriptors, self.taking.place);
         if !is_available(&first, self.taking.wrap) {
             return Ok(Next::Empty);
@@ -169,7 +174,7 @@ impl Ring for PackedRing {
         ram: &mut Ram,
         log: &mut L,
     ) -> bool {
-        let _len = ram.len();
+        ram.recall();
         let entry = self.descriptors + DESCRIPTOR_SIZE * self.used.place as u64;
         let bytes = used_bytes(len, id, used_flags(wrote, self.used.wrap));
         ram.put(entry + LENGTH, &bytes, log);
@@ -180,7 +185,7 @@ impl Ring for PackedRing {
 
     #[tactic(auto, unfolding(chains::specs::Publish::packed_note))]
     fn note_empty<L: TouchLog>(&mut self, ram: &mut Ram, log: &mut L) {
-        let _len = ram.len();
+        ram.recall();
         if self.has_event_index {
             ram.put(self.device, &asking_at(self.taking), log);
         }

@@ -1,11 +1,12 @@
 //! The descriptors of consecutive slots.
 
-ghost use Rattle.std.specs.Prelude.{◌≡◌, ◌+◌, ◌*◌, ◌<◌, ◌≤◌, true, false, length, IfOk, MatchOption};
+ghost use Rattle.std.specs.Prelude.{◌≡◌, ◌+◌, ◌*◌, ◌<◌, ◌≤◌, true, false, length, IfOk, OnErr, MatchOption};
 ghost use Rattle.chains.specs.Descriptor.{descriptor_at};
+ghost use Rattle.chains.specs.LongQueue.{IsLongPacked};
 ghost use Rattle.packedring.specs.Walk.{IsNoneFound, AreFound};
 
 use crate::found::Found;
-use chains::{Descriptor, read_descriptor};
+use chains::{Descriptor, Descriptors, read_descriptor};
 use guestmem::{NoMemory, Ram};
 use std::alloc::Global;
 
@@ -25,27 +26,30 @@ pub(crate) fn walk(
     requires few { size ≤ 256 }
     requires first { first ≡ descriptor_at true ram.now.bytes table slot }
     requires plain { first.is_indirect ≡ false }
-    ensures { IfOk result (λ found. MatchOption found
+    ensures found { IfOk result (λ found. MatchOption found
         (IsNoneFound ram.now.bytes has_indirect table size slot)
-        (λ f. AreFound ram.now.bytes has_indirect table size slot f.id f.slots f.all.items)) }
+        (λ f. AreFound ram.now.bytes has_indirect table size slot f.id f.slots f.all)) }
+    ensures memory { OnErr result (IsLongPacked ram.now.bytes has_indirect table size slot) }
 {
-    let mut all = Vec::new(alloc);
+    let mut all = Descriptors::new(alloc);
     let mut place = slot;
     let mut descriptor = first;
-    for _step in 0..size {
+    for step in 0..size {
         all.push(descriptor)?;
         if !descriptor.has_next {
             return Ok(Some(Found {
                 id: descriptor.link,
-                slots: all.len() as u16,
+                slots: step + 1,
                 all,
             }));
         }
         place = (place + 1) % size;
         descriptor = read_descriptor(ram, true, table, place);
+        // INDIRECT after another descriptor.
         if descriptor.is_indirect {
             return Ok(None);
         }
     }
+    // More descriptors than slots.
     Ok(None)
 }

@@ -1,18 +1,28 @@
-use Rattle.std.proofs.Common.{Bool, true, false, ◌/◌, ◌≡◌, ℕ, ◌<◌, ◌≤◌, List, [], ◌∷◌, ◌++◌, length, refl, ap, sym, ◌∙◌, arith, append_assoc, length-append}
+use Rattle.std.proofs.Common.{Bool, true, false, ◌/◌, ◌≡◌, ℕ, ◌+◌, ◌-◌, ◌<◌, ◌≤◌, List, [], ◌∷◌, ◌++◌, length, take, refl, ap, sym, ◌∙◌, arith, append_assoc, append-nil, length-append}
+use Rattle.std.specs.Bool.{MatchBool}
+use Rattle.std.proofs.lemmas.List.{take_at}
+use Rattle.std.proofs.lemmas.List.Elements.{All-append, All-drop}
+use Rattle.std.proofs.Math.Seq.{drop-append_seam}
 use Rattle.chains.specs.declared.descriptor.Descriptor.{Descriptor}
 use Rattle.chains.specs.Descriptor.{descriptor_at}
-use Rattle.chains.specs.Whole.{ArePlain}
-use Rattle.chains.specs.SplitChain.{AreLinked}
+use Rattle.chains.specs.Whole.{ArePlain, IsTable}
+use Rattle.chains.specs.SplitChain.{AreLinked, IsFromTable, IsReplaced}
 use Rattle.chains.specs.SplitLaws.{linked_same, linked_some, last_same}
-use Rattle.splitring.specs.Walk.{Leads, IsNoList, IsNoReplacement}
+use Rattle.chains.specs.LongQueue.{AreInRow}
+use Rattle.splitring.specs.Walk.{Leads, IsNoList, AreListed, IsNoReplacement}
 
 pub leads_start : (ram : List ℕ) (table entries index : ℕ) → Leads ram table entries index [] index
-leads_start ram table entries index = record { completes = λ rest h. h; only = λ whole h. (whole, refl, h) }
+leads_start ram table entries index = record { completes = λ rest h. h; only = λ whole h. (whole, refl, h); rows = λ rest h. h }
 
 behind : (ram : List ℕ) (table entries index : ℕ) (d : Descriptor) → index < entries → d ≡ descriptor_at false ram table index → d.has_next ≡ true
     → (rest : List Descriptor) → AreLinked ram table entries d.link rest → AreLinked ram table entries index (d ∷ rest)
 behind ram table entries index d below is next [] h = absurd h
 behind ram table entries index d below is next (e ∷ es) h = (below, is, next, h)
+
+row_behind : (ram : List ℕ) (table entries index : ℕ) (d : Descriptor) → index < entries → d ≡ descriptor_at false ram table index → d.has_next ≡ true
+    → (rest : List Descriptor) → AreInRow ram table entries d.link rest → AreInRow ram table entries index (d ∷ rest)
+row_behind ram table entries index d below is next [] h = absurd h
+row_behind ram table entries index d below is next (e ∷ es) h = (below, is, next, h)
 
 first_is : (ram : List ℕ) (table entries index : ℕ) (d : Descriptor) → d ≡ descriptor_at false ram table index → d.has_next ≡ true
     → (whole : List Descriptor) → AreLinked ram table entries index whole → (rest : List Descriptor) × (whole ≡ d ∷ rest) × AreLinked ram table entries d.link rest
@@ -33,6 +43,7 @@ leads_more ram table entries index next front d leads below is more = record {
       let a = leads.only whole h in
       let b = first_is ram table entries next d is more a.0 a.2 in
       (b.0, a.1 ∙ ap (λ (ys : List Descriptor). front ++ ys) b.1 ∙ sym (append_assoc front (d ∷ []) b.0), b.2);
+  rows = λ rest h. rw append_assoc (leads.rows (d ∷ rest) (row_behind ram table entries next d below is more rest h));
 }
 
 -- An index past the table begins no list.
@@ -41,25 +52,83 @@ past ram table entries index beyond [] h = h
 past ram table entries index beyond (d ∷ []) h = omega (arith, h.0)
 past ram table entries index beyond (d ∷ e ∷ es) h = omega (arith, h.0)
 
-pub none_past : (ram : List ℕ) (table entries index next most : ℕ) (front : List Descriptor) → Leads ram table entries index front next → entries ≤ next → IsNoList ram table entries index most
-none_past ram table entries index next most front leads beyond ds h few = let a = leads.only ds h in past ram table entries next beyond a.0 a.2
+-- Behind some descriptors stand the first so many of the list that begins at an entry, and it goes on from an index.
+pub record IsWalked (ram : List ℕ) (table entries first : ℕ) (before list : List Descriptor) (count next : ℕ) : Type 0 where
+  pub walked : List Descriptor
+  pub parts : list ≡ before ++ walked
+  pub count_is : length walked ≡ count
+  pub leads : Leads ram table entries first walked next
 
-pub none_long : (ram : List ℕ) (table entries index next most : ℕ) (front : List Descriptor) → Leads ram table entries index front next → length front ≡ most → IsNoList ram table entries index most
-none_long ram table entries index next most front leads long ds h few =
-    let a = leads.only ds h in
+-- None yet.
+pub walked_none : (ram : List ℕ) (table entries first : ℕ) (before : List Descriptor) → IsWalked ram table entries first before before 0 first
+walked_none ram table entries first before = record { walked = []; parts = sym (append-nil before); count_is = refl; leads = leads_start ram table entries first }
+
+-- One more, that has a next one.
+pub walked_more : (ram : List ℕ) (table entries first : ℕ) (before list : List Descriptor) (count next : ℕ) (d : Descriptor) → IsWalked ram table entries first before list count next
+    → next < entries → d ≡ descriptor_at false ram table next → d.has_next ≡ true → IsWalked ram table entries first before (list ++ d ∷ []) (count + 1) d.link
+walked_more ram table entries first before list count next d w below is more = record {
+  walked = w.walked ++ d ∷ [];
+  parts = ap (λ (ds : List Descriptor). ds ++ d ∷ []) w.parts ∙ append_assoc before w.walked (d ∷ []);
+  count_is = omega (arith, length-append w.walked (d ∷ []), w.count_is);
+  leads = leads_more ram table entries first next w.walked d w.leads below is more;
+}
+
+-- An index past the table.
+pub walked_past : (ram : List ℕ) (table entries first room : ℕ) (before list : List Descriptor) (count next : ℕ) → IsWalked ram table entries first before list count next → entries ≤ next
+    → IsNoList ram table entries first room
+walked_past ram table entries first room before list count next w beyond ds h few = let a = w.leads.only ds h in past ram table entries next beyond a.0 a.2
+
+-- No room for another one.
+pub walked_full : (ram : List ℕ) (table entries first room : ℕ) (before list : List Descriptor) (count next : ℕ) → IsWalked ram table entries first before list count next → room ≤ count
+    → IsNoList ram table entries first room
+walked_full ram table entries first room before list count next w full ds h few =
+    let a = w.leads.only ds h in
     let one : 1 ≤ length a.0 = linked_some ram table entries next a.0 a.2 in
-    omega (arith, ap length a.1, length-append front a.0)
+    omega (arith, ap length a.1, length-append w.walked a.0, w.count_is)
 
--- Where the last one names none, the list is whole.
-pub ended : (ram : List ℕ) (table entries index next : ℕ) (front : List Descriptor) (d : Descriptor) → Leads ram table entries index front next
-    → next < entries → d ≡ descriptor_at false ram table next → d.has_next ≡ false → AreLinked ram table entries index (front ++ d ∷ [])
-ended ram table entries index next front d leads below is last = leads.completes (d ∷ []) (below, is, last)
+-- Behind nothing stands the list itself.
+pub listed_alone : (ram : List ℕ) (table entries first room : ℕ) (all : List Descriptor) → AreListed ram table entries first room [] all → AreLinked ram table entries first all × (length all ≤ room)
+listed_alone ram table entries first room all t = (rw t.parts t.linked, rw t.parts t.few)
+
+front_is : (direct front : List Descriptor) (last : Descriptor) → direct ≡ front ++ last ∷ [] → take (length direct - 1) direct ≡ front
+front_is direct front last parts = rw parts (take_at front (last ∷ []) (length (front ++ last ∷ []) - 1) (omega (arith, length-append front (last ∷ []))))
 
 -- Where the list of the table names a table, there is no replacement.
-pub none_plain : (ram : List ℕ) (has_indirect : Bool) (direct : List Descriptor) (most : ℕ) (front : List Descriptor) (last : Descriptor) (inner : List Descriptor)
+none_plain : (ram : List ℕ) (has_indirect : Bool) (direct : List Descriptor) (most : ℕ) (front : List Descriptor) (last : Descriptor) (inner : List Descriptor)
     → direct ≡ front ++ last ∷ [] → last.is_indirect ≡ true → AreLinked ram last.addr (last.len / 16) 0 inner → (ArePlain inner → ⊥) → IsNoReplacement ram has_indirect direct most
 none_plain ram has_indirect direct most front last inner parts named linked bad all r few =
     let same : r.last ≡ last = last_same r.front front r.last last (sym r.parts ∙ parts) in
     let t = rw (same, named) at r.whole in
     let one : t.1.inner ≡ inner = linked_same ram last.addr (last.len / 16) 0 t.1.inner inner t.1.linked linked in
     bad (rw one at t.1.plain)
+
+pub listed_not_plain : (ram : List ℕ) (has_indirect : Bool) (direct : List Descriptor) (most room : ℕ) (front : List Descriptor) (last : Descriptor) (before all : List Descriptor)
+    → direct ≡ front ++ last ∷ [] → before ≡ take (length direct - 1) direct → last.is_indirect ≡ true → ArePlain front
+    → AreListed ram last.addr (last.len / 16) 0 room before all → (ArePlain all → ⊥) → IsNoReplacement ram has_indirect direct most
+listed_not_plain ram has_indirect direct most room front last before all parts before_is named plain t bad =
+    let first : before ≡ front = before_is ∙ front_is direct front last parts in
+    none_plain ram has_indirect direct most front last t.list parts named t.linked
+    (λ inner. bad (rw (t.parts, first) (All-append (λ (d : Descriptor). d.is_indirect ≡ false) front t.list plain inner)))
+
+where_true : (b : Bool) (P Q : Type 0) → b ≡ true → P → MatchBool b P Q
+where_true true P Q is p = p
+where_true false P Q is p = absurd (cc)
+
+-- The list of the table stands in the place of the descriptor that names it.
+pub listed_is_replaced : (ram : List ℕ) (has_indirect : Bool) (direct : List Descriptor) (most : ℕ) (front : List Descriptor) (last : Descriptor) (before all : List Descriptor)
+    → direct ≡ front ++ last ∷ [] → before ≡ take (length direct - 1) direct → last.is_indirect ≡ true → ArePlain front → has_indirect ≡ true → IsTable ram last → length direct ≤ most
+    → AreListed ram last.addr (last.len / 16) 0 (most - length front) before all → ArePlain all → IsReplaced ram has_indirect direct all × (length all ≤ most)
+listed_is_replaced ram has_indirect direct most front last before all parts before_is named plain feature table few t all_plain =
+    let whole : all ≡ front ++ t.list = t.parts ∙ ap (λ (ds : List Descriptor). ds ++ t.list) (before_is ∙ front_is direct front last parts) in
+    let inner : ArePlain t.list =
+    rw drop-append_seam at (All-drop (λ (d : Descriptor). d.is_indirect ≡ false) (length front) (front ++ t.list) (rw whole at all_plain)) in (
+      record {
+        front = front;
+        last = last;
+        parts = parts;
+        plain = plain;
+        whole = where_true last.is_indirect ((has_indirect ≡ true) × IsFromTable ram front last all) (all ≡ direct) named
+            (feature, record { table = table; inner = t.list; linked = t.linked; plain = inner; parts = whole });
+      },
+      omega (arith, ap length whole, length-append front t.list, t.few, ap length parts, length-append front (last ∷ [])),
+    )

@@ -1,20 +1,50 @@
-use Rattle.std.specs.Prelude.{◌≡◌, ℕ, ◌≤◌, List, length, ◌++◌, Bool}
+use Rattle.std.specs.Prelude.{◌≡◌, ℕ, ◌+◌, ◌-◌, ◌/◌, ◌<◌, ◌≤◌, [], ◌∷◌, List, length, ◌++◌, Bool, true}
 use Rattle.chains.specs.declared.descriptor.Descriptor.{Descriptor}
+use Rattle.chains.specs.declared.limits.TheConstants.{SHORT_CHAIN_MAX}
+use Rattle.chains.specs.Whole.{IsTable}
 use Rattle.chains.specs.SplitChain.{AreLinked, IsReplaced}
+use Rattle.chains.specs.LongQueue.{AreInRow}
 
 -- The list from an index on begins with these, and goes on from another index: what completes the rest completes the
--- whole, and nothing else does.
+-- whole, and nothing else does. A row from there on goes on from these, too.
 pub record Leads (ram : List ℕ) (table entries index : ℕ) (front : List Descriptor) (next : ℕ) : Type 0 where
   pub completes : (rest : List Descriptor) → AreLinked ram table entries next rest → AreLinked ram table entries index (front ++ rest)
   pub only : (whole : List Descriptor) → AreLinked ram table entries index whole → (rest : List Descriptor) × (whole ≡ front ++ rest) × AreLinked ram table entries next rest
+  pub rows : (rest : List Descriptor) → AreInRow ram table entries next rest → AreInRow ram table entries index (front ++ rest)
 
 -- No list of at most so many descriptors begins at this entry.
 abbrev pub IsNoList : List ℕ → ℕ → ℕ → ℕ → ℕ → Type 0
-IsNoList ram table entries index most = (ds : List Descriptor) → AreLinked ram table entries index ds → length ds ≤ most → ⊥
+IsNoList ram table entries index room = (ds : List Descriptor) → AreLinked ram table entries index ds → length ds ≤ room → ⊥
+
+-- Some descriptors, and behind them the list that begins at an entry, which has at most so many, are these.
+pub record AreListed (ram : List ℕ) (table entries index room : ℕ) (before all : List Descriptor) : Type 0 where
+  pub list : List Descriptor
+  pub linked : AreLinked ram table entries index list
+  pub few : length list ≤ room
+  pub parts : all ≡ before ++ list
+
+-- Behind some descriptors at most so many stand in a row from an entry on, and all of them are too many to be handled
+-- without memory.
+pub record IsLongBehind (ram : List ℕ) (table entries index room : ℕ) (before : List Descriptor) : Type 0 where
+  pub row : List Descriptor
+  pub in_row : AreInRow ram table entries index row
+  pub few : length row ≤ room
+  pub long : SHORT_CHAIN_MAX < length before + length row
 
 -- In no way does a table come into this list so that there are at most so many descriptors.
 abbrev pub IsNoReplacement : List ℕ → Bool → List Descriptor → ℕ → Type 0
 IsNoReplacement ram has_indirect direct most = (all : List Descriptor) → IsReplaced ram has_indirect direct all → length all ≤ most → ⊥
+
+-- The last of these descriptors names a table, and behind the others stand descriptors of it in a row, at most so many
+-- with them, and all of them are too many to be handled without memory.
+pub record IsLongReplacement (ram : List ℕ) (has_indirect : Bool) (direct : List Descriptor) (most : ℕ) : Type 0 where
+  pub front : List Descriptor
+  pub last : Descriptor
+  pub parts : direct ≡ front ++ last ∷ []
+  pub feature : has_indirect ≡ true
+  pub named : last.is_indirect ≡ true
+  pub table : IsTable ram last
+  pub behind : IsLongBehind ram last.addr (last.len / 16) 0 (most - length front) front
 
 -- The descriptors of the list that begins at an entry, with a table in the place of the descriptor that names it, are
 -- these, and no more than the table has entries.

@@ -1,8 +1,8 @@
 //! A split ring.
 
-ghost use Rattle.std.specs.Prelude.{◌≡◌, ◌≤◌, ◌+◌, ◌*◌, ◌++◌, false, IfOk, MatchOption, length};
-ghost use Rattle.chains.specs.State.{state_of, MayRing, AreInside};
-ghost use Rattle.chains.specs.SplitChain.{available_index};
+ghost use Rattle.std.specs.Prelude.{◌≡◌, ◌≤◌, ◌+◌, ◌*◌, ◌++◌, false, IfOk, OnErr, MatchOption, length};
+ghost use Rattle.chains.specs.State.{state_of, MayRing, HasAreas};
+ghost use Rattle.chains.specs.SplitChain.{available_index, head};
 ghost use Rattle.chains.specs.Publish.{is_split_due, next_index};
 ghost use Rattle.byteorder.specs.Endian.{little_bytes};
 
@@ -66,6 +66,7 @@ impl Model for SplitRing {
 
 impl SplitRing {
     ghost use Rattle.chains.specs.SplitChain.{IsSplitChain};
+    ghost use Rattle.chains.specs.LongQueue.{IsLongSplit};
     ghost use Rattle.chains.specs.declared.chain.Chain.{Chain as C};
 
     /// The ring of a queue that has come this far, under the features that the driver accepted. It takes no memory: the
@@ -90,13 +91,16 @@ impl SplitRing {
 
     /// The chain at the taking position, where the driver's index, which is not that position, is this; or none.
     fn chain(&self, ram: &Ram, available: u16) -> Result<Option<Chain>, NoMemory>
-        requires inside { AreInside (length ram.now.bytes) self.now }
+        requires areas { HasAreas (length ram.now.bytes) self.now }
         requires available { available ≡ available_index ram.now.bytes self.now }
-        ensures { IfOk result (λ found. MatchOption found
+        ensures chain { IfOk result (λ found. MatchOption found
             ((c : C) → ¬ (IsSplitChain ram.now.bytes self.now c))
             (IsSplitChain ram.now.bytes self.now)) }
+        ensures memory { OnErr result
+            (IsLongSplit ram.now.bytes self.now.has_indirect self.now.descriptors self.now.size (head ram.now.bytes self.now)) }
     {
-        let _len = ram.len();
+        ram.recall();
+        // More chains than there are slots.
         if available.wrapping_sub(self.taking.place) > self.size {
             return Ok(None);
         }
@@ -107,10 +111,11 @@ impl SplitRing {
         let Some(all) = found else {
             return Ok(None);
         };
-        if !is_whole(&all, ram, self.size) {
+        // A rule of both layouts.
+        if !is_whole(all.as_slice(), ram, self.size) {
             return Ok(None);
         }
-        let (readable, writable) = segments(self.alloc, &all)?;
+        let (readable, writable) = segments(self.alloc, all.as_slice())?;
         Ok(Some(Chain {
             id: head,
             slots: 1,
@@ -122,10 +127,10 @@ impl SplitRing {
     /// Whether the driver asks for an interrupt at the used index, by what it holds in RAM now.
     #[tactic(auto, unfolding(chains::specs::Publish::is_split_due))]
     fn is_due(&self, ram: &Ram) -> bool
-        requires { AreInside (length ram.now.bytes) self.now }
+        requires { HasAreas (length ram.now.bytes) self.now }
         ensures { result ≡ is_split_due self.now ram.now.bytes }
     {
-        let _len = ram.len();
+        ram.recall();
         if self.has_event_index {
             let event = ram.u16_at(self.driver + RING + HEAD_SIZE * self.size as u64);
             return event == self.used.place;
@@ -138,7 +143,7 @@ impl Ring for SplitRing {
     ghost state = { λ r. r };
 
     fn next(&mut self, ram: &Ram) -> Result<Next, NoMemory> {
-        let _len = ram.len();
+        ram.recall();
         let available = ram.u16_at(self.driver + INDEX);
         if available == self.taking.place {
             return Ok(Next::Empty);
@@ -162,7 +167,7 @@ impl Ring for SplitRing {
         ram: &mut Ram,
         log: &mut L,
     ) -> bool {
-        let _len = ram.len();
+        ram.recall();
         let slot = self.used.place % self.size;
         let element = self.device + RING + ELEMENT_SIZE * slot as u64;
         ram.put(element, &element_bytes(id, len), log);
@@ -175,7 +180,7 @@ impl Ring for SplitRing {
 
     #[tactic(auto, unfolding(chains::specs::Publish::split_note))]
     fn note_empty<L: TouchLog>(&mut self, ram: &mut Ram, log: &mut L) {
-        let _len = ram.len();
+        ram.recall();
         if self.has_event_index {
             let event = self.device + RING + ELEMENT_SIZE * self.size as u64;
             ram.put(event, &index_bytes(self.taking.place), log);

@@ -1,12 +1,13 @@
 //! Tables that stand in the place of the descriptor that names them.
 
-ghost use Rattle.std.specs.Prelude.{◌≡◌, ◌+◌, ◌*◌, ◌<◌, ◌≤◌, length, IfOk, MatchOption, IsTrue, ◌↔◌, false};
+ghost use Rattle.std.specs.Prelude.{◌≡◌, ◌+◌, ◌*◌, ◌<◌, ◌≤◌, length, IfOk, OnErr, MatchOption, IsTrue, ◌↔◌, false};
 ghost use Rattle.chains.specs.SplitChain.{IsReplaced};
 ghost use Rattle.chains.specs.Whole.{ArePlain};
-ghost use Rattle.splitring.specs.Walk.{IsNoReplacement, AreFound};
+ghost use Rattle.chains.specs.LongQueue.{IsLongSplit};
+ghost use Rattle.splitring.specs.Walk.{IsNoReplacement, IsLongReplacement, AreFound};
 
 use crate::walk::walk;
-use chains::{DESCRIPTOR_SIZE, Descriptor, is_table};
+use chains::{DESCRIPTOR_SIZE, Descriptor, Descriptors, is_table};
 use guestmem::{NoMemory, Ram};
 use std::alloc::Global;
 
@@ -21,59 +22,63 @@ pub(crate) fn find(
     table: u64,
     size: u16,
     first: u16,
-) -> Result<Option<Vec<Descriptor>>, NoMemory>
+) -> Result<Option<Descriptors>, NoMemory>
     requires inside { table + 16 * size ≤ length ram.now.bytes }
-    ensures { IfOk result (λ found. MatchOption found
+    ensures found { IfOk result (λ found. MatchOption found
         ((all : _) → AreFound ram.now.bytes has_indirect table size first all → ⊥)
-        (λ all. AreFound ram.now.bytes has_indirect table size first all.items)) }
+        (AreFound ram.now.bytes has_indirect table size first)) }
+    ensures memory { OnErr result (IsLongSplit ram.now.bytes has_indirect table size first) }
 {
-    let Some(direct) = walk(alloc, ram, table, size as u32, size, first)? else {
+    let none = Descriptors::new(alloc);
+    let Some(direct) = walk(ram, table, size as u32, first, size, none)? else {
         return Ok(None);
     };
-    let Some(all) = replace(alloc, ram, has_indirect, size, direct)? else {
+    let Some(all) = replace(ram, has_indirect, size, direct)? else {
         return Ok(None);
     };
     Ok(Some(all))
 }
 
 /// The descriptors with the list of its table in the place of the last one, where that is indirect: none where a rule
-/// is broken, or there are more than so many.
+/// is broken, or there are more than so many. The only error is want of memory.
 fn replace(
-    alloc: Global,
     ram: &Ram,
     has_indirect: bool,
     most: u16,
-    mut direct: Vec<Descriptor>,
-) -> Result<Option<Vec<Descriptor>>, NoMemory>
-    requires some { 0 < length direct.items }
-    requires few { length direct.items ≤ most }
-    ensures { IfOk result (λ found. MatchOption found
-        (IsNoReplacement ram.now.bytes has_indirect direct.items most)
-        (λ all. IsReplaced ram.now.bytes has_indirect direct.items all.items × (length all.items ≤ most))) }
+    mut direct: Descriptors,
+) -> Result<Option<Descriptors>, NoMemory>
+    requires some { 0 < length direct }
+    requires few { length direct ≤ most }
+    ensures found { IfOk result (λ found. MatchOption found
+        (IsNoReplacement ram.now.bytes has_indirect direct most)
+        (λ all. IsReplaced ram.now.bytes has_indirect direct all × (length all ≤ most))) }
+    ensures memory { OnErr result (IsLongReplacement ram.now.bytes has_indirect direct most) }
 {
-    let Some(last) = direct.pop() else {
+    let Some((last, front)) = direct.as_slice().split_last() else {
         return Ok(None);
     };
-    if !are_plain(&direct) {
+    // A descriptor with INDIRECT and NEXT.
+    if !are_plain(front) {
         return Ok(None);
     }
     if !last.is_indirect {
-        direct.push_reserved(last);
         return Ok(Some(direct));
     }
-    if !has_indirect || !is_table(&last, ram) {
+    // INDIRECT without the feature, or a table that is none.
+    if !has_indirect || !is_table(last, ram) {
         return Ok(None);
     }
-    let room = most - direct.len() as u16;
-    let entries = last.len / DESCRIPTOR_SIZE as u32;
-    let Some(inner) = walk(alloc, ram, last.addr, entries, room, 0)? else {
+    let room = most - front.len() as u16;
+    let (table, entries) = (last.addr, last.len / DESCRIPTOR_SIZE as u32);
+    direct.remove_last();
+    let Some(all) = walk(ram, table, entries, 0, room, direct)? else {
         return Ok(None);
     };
-    if !are_plain(&inner) {
+    // INDIRECT inside the table.
+    if !are_plain(all.as_slice()) {
         return Ok(None);
     }
-    direct.extend_from_slice(&inner)?;
-    Ok(Some(direct))
+    Ok(Some(all))
 }
 
 fn are_plain(descriptors: &[Descriptor]) -> bool

@@ -1,31 +1,31 @@
 //! The list of descriptors that begins at an entry of a table.
 
-ghost use Rattle.std.specs.Prelude.{◌≡◌, ◌+◌, ◌*◌, ◌≤◌, length, IfOk, MatchOption};
-ghost use Rattle.chains.specs.SplitChain.{AreLinked};
-ghost use Rattle.splitring.specs.Walk.{IsNoList};
+ghost use Rattle.std.specs.Prelude.{◌≡◌, ◌+◌, ◌*◌, ◌≤◌, length, IfOk, OnErr, MatchOption};
+ghost use Rattle.splitring.specs.Walk.{IsNoList, AreListed, IsLongBehind};
 
-use chains::{Descriptor, read_descriptor};
+use chains::{Descriptors, read_descriptor};
 use guestmem::{NoMemory, Ram};
-use std::alloc::Global;
 
-/// The descriptors of the list that begins at an entry of a table, or none where there is no such list or it has more
-/// than so many. The only error is want of memory.
+/// The descriptors at hand, and behind them those of the list that begins at an entry of a table: none where there is no
+/// such list, or it has more than there is room for. The only error is want of memory.
 pub(crate) fn walk(
-    alloc: Global,
     ram: &Ram,
     table: u64,
     entries: u32,
-    most: u16,
     first: u16,
-) -> Result<Option<Vec<Descriptor>>, NoMemory>
+    room: u16,
+    before: Descriptors,
+) -> Result<Option<Descriptors>, NoMemory>
     requires inside { table + 16 * entries ≤ length ram.now.bytes }
-    ensures { IfOk result (λ found. MatchOption found
-        (IsNoList ram.now.bytes table entries first most)
-        (λ ds. AreLinked ram.now.bytes table entries first ds.items × (length ds.items ≤ most))) }
+    ensures list { IfOk result (λ found. MatchOption found
+        (IsNoList ram.now.bytes table entries first room)
+        (AreListed ram.now.bytes table entries first room before)) }
+    ensures memory { OnErr result (IsLongBehind ram.now.bytes table entries first room before) }
 {
-    let mut list = Vec::new(alloc);
+    let mut list = before;
     let mut index = first;
-    for _step in 0..most {
+    for _step in 0..room {
+        // An index past the table.
         if index as u32 >= entries {
             return Ok(None);
         }
@@ -36,5 +36,6 @@ pub(crate) fn walk(
         }
         index = descriptor.link;
     }
+    // More descriptors than there is room for, or no end.
     Ok(None)
 }

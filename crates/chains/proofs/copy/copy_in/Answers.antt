@@ -1,6 +1,7 @@
 use Rattle.std.proofs.Common.{◌≡◌, ◌+◌, ◌-◌, ◌<◌, ◌++◌, ◌∙◌, length, drop, get_or, sym, arith, length-drop, take-append-drop}
 use Rattle.std.proofs.lemmas.List.{drop_all}
 use Rattle.std.proofs.Math.Seq.{drop-nil}
+use Rattle.guestmem.specs.LaterLaws.{later_trans}
 use Rattle.guestmem.specs.WriteLaws.{set_all-append}
 use Rattle.guestmem.specs.Writes.{byte_writes}
 use Rattle.chains.specs.declared.segs.Seg.{Seg}
@@ -18,6 +19,7 @@ loop-seg-preserved-then-skip-len g c =
     record {
       room = omega (arith, c.loop-seg.invariant.room);
       size = c.loop-seg.invariant.size;
+      later = c.loop-seg.invariant.later;
       may = c.loop-seg.invariant.may;
       bytes = rw e at c.loop-seg.invariant.bytes;
       log = rw e at c.loop-seg.invariant.log;
@@ -38,6 +40,7 @@ loop-seg-preserved g c =
     record {
       room = omega (arith, c.loop-seg.invariant.room);
       size = c.put.ensures.size ∙ c.loop-seg.invariant.size;
+      later = later_trans _ _ _ c.loop-seg.invariant.later c.put.ensures.later;
       may = c.put.ensures.may;
       bytes = rw c.put.ensures.bytes (sym (set_all-append c.loop-seg.ram.bytes (byte_writes (seg.addr + c.loop-seg.skip) front) (place_writes (places (drop (c.loop-seg.seg-index + 1) c.args.segs.now)) back)) ∙ (rw writes at c.loop-seg.invariant.bytes));
       log = rw c.put.ensures.log (sym (after_touched g.L.TouchLog.after c.loop-seg.log (byte_writes (seg.addr + c.loop-seg.skip) front) (place_writes (places (drop (c.loop-seg.seg-index + 1) c.args.segs.now)) back)) ∙ (rw writes at c.loop-seg.invariant.log));

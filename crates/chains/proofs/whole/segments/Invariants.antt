@@ -1,4 +1,4 @@
-use Rattle.std.proofs.Common.{◌≡◌, take}
+use Rattle.std.proofs.Common.{◌≡◌, ◌+◌, ◌≤◌, length, take}
 use Rattle.chains.specs.Whole.{readable_of, writable_of}
 use Rattle.chains.proofs.whole.segments.Given as goal
 
@@ -6,4 +6,5 @@ abbrev pub invariant-loop-descriptor : goal.invariant-loop-descriptor
 invariant-loop-descriptor l = record {
   readable : l.readable ≡ readable_of (take l.descriptor-index l.descriptors);
   writable : l.writable ≡ writable_of (take l.descriptor-index l.descriptors);
+  few : length l.readable + length l.writable ≤ l.descriptor-index;
 }

@@ -5,15 +5,15 @@ use Rattle.packedring.proofs.Leading.{leads_more}
 use Rattle.packedring.proofs.Finding.{none_named}
 use Rattle.packedring.proofs.walk.walk.Goals as goal
 
-pub returns-then-descriptor : goal.returns-then-descriptor
-returns-then-descriptor c =
+pub returns-then-descriptor-clause-found : goal.returns-then-descriptor-clause-found
+returns-then-descriptor-clause-found c =
     none_named _ _ _ _ _ _ _ c.args.first _ c.requires.first c.requires.plain
     (leads_more _ _ _ _ c.loop-step.place _ c.loop-step.descriptor c.loop-step.invariant.leads c.loop-step.invariant.here (search rules))
     c.read_descriptor-descriptor.ensures c.if-descriptor.true
 
 pub loop-step-preserved : goal.loop-step-preserved
 loop-step-preserved c =
-    rw c.in_ok-push.ensures.items (record {
+    rw c.in_ok-push.ensures.ok (record {
       count = rw length-append (omega (arith, c.loop-step.invariant.count));
       inside = omega arith;
       leads = leads_more _ _ _ _ c.loop-step.place _ c.loop-step.descriptor c.loop-step.invariant.leads c.loop-step.invariant.here (search rules);

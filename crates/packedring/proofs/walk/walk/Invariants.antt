@@ -6,10 +6,10 @@ use Rattle.packedring.proofs.walk.walk.Given as goal
 
 abbrev pub invariant-loop-step : goal.invariant-loop-step
 invariant-loop-step l = record {
-  count : length l.all.items ≡ l._step;
+  count : length l.all ≡ l.step;
   inside : l.place < l.size;
-  leads : Leads l.ram.bytes l.table l.size l.slot l.all.items l.place;
-  plain : ArePlain l.all.items;
+  leads : Leads l.ram.bytes l.table l.size l.slot l.all l.place;
+  plain : ArePlain l.all;
   here : l.descriptor ≡ descriptor_at true l.ram.bytes l.table l.place;
   last_plain : l.descriptor.is_indirect ≡ false;
 }

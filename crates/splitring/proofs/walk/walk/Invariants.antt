@@ -1,9 +1,5 @@
-use Rattle.std.proofs.Common.{◌≡◌, length}
-use Rattle.splitring.specs.Walk.{Leads}
+use Rattle.splitring.proofs.Leading.{IsWalked}
 use Rattle.splitring.proofs.walk.walk.Given as goal
 
 abbrev pub invariant-loop-step : goal.invariant-loop-step
-invariant-loop-step l = record {
-  count : length l.list.items ≡ l._step;
-  leads : Leads l.ram.bytes l.table l.entries l.first l.list.items l.index;
-}
+invariant-loop-step l = IsWalked l.ram.bytes l.table l.entries l.first l.fn.before l.list l._step l.index

@@ -8,4 +8,4 @@ returns-clause-bytes g c = rw (← c.self.view_is) (simp (c.put.ensures.bytes, c
 
 pub returns-clause-log : goal.returns-clause-log
 unfolding packed_published
-returns-clause-log g c = rw (← c.self.view_is) (simp (c.put.ensures.log, c.used_bytes-bytes.ensures, c.used_flags.ensures) refl)
+returns-clause-log g c = rw (← c.self.view_is) (simp (c.put.ensures.log, c.used_bytes-bytes.ensures) refl)

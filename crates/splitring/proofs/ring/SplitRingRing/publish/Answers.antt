@@ -1,4 +1,5 @@
 use Rattle.std.proofs.Common.{refl}
+use Rattle.guestmem.specs.LaterLaws.{later_trans}
 use Rattle.chains.specs.Publish.{split_published}
 use Rattle.splitring.proofs.ring.SplitRingRing.publish.Goals as goal
 
@@ -9,3 +10,6 @@ returns-clause-bytes g c = rw (← c.self.view_is) (simp (c.put-2.ensures.bytes,
 pub returns-clause-log : goal.returns-clause-log
 unfolding split_published
 returns-clause-log g c = rw (← c.self.view_is) (simp (c.put-2.ensures.log, c.put.ensures.log, c.element_bytes.ensures, c.index_bytes.ensures) refl)
+
+pub returns-clause-later : goal.returns-clause-later
+returns-clause-later g c = later_trans _ _ _ c.put.ensures.later c.put-2.ensures.later

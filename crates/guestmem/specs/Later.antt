@@ -1,0 +1,12 @@
+use Rattle.std.specs.Prelude.{◌≡◌, ℕ, ◌-◌, ◌/◌, ◌^◌, ◌<◌, ◌≤◌, length, slice_index}
+use Rattle.guestmem.specs.declared.limits.TheConstants.{PAGE_SIZE}
+use Rattle.guestmem.specs.Memory.{Memory}
+
+-- A RAM, and the same RAM later: as many bytes and versions; no version fell; and a byte whose page has its old version
+-- still, which is below the greatest, is the byte that it was.
+pub record IsLater (old new : Memory) : Type 0 where
+  pub bytes : length new.bytes ≡ length old.bytes
+  pub versions : length new.versions ≡ length old.versions
+  pub rises : (n : ℕ) → slice_index old.versions n ≤ slice_index new.versions n
+  pub stays : (a : ℕ) → slice_index new.versions (a / PAGE_SIZE) ≡ slice_index old.versions (a / PAGE_SIZE) → slice_index old.versions (a / PAGE_SIZE) < 2 ^ 64 - 1
+      → slice_index new.bytes a ≡ slice_index old.bytes a
