@@ -8,7 +8,6 @@ pub mod PageLaws
 pub mod Later
 pub mod LaterLaws
 pub mod Number
-pub mod Page
 pub mod Write
 pub mod Writes
 pub mod WriteLaws

@@ -9,7 +9,7 @@ use Rattle.machine.specs.Effect.{Effect, applied}
 use Rattle.machine.specs.Outcome.{Outcome, fine, no_memory}
 use Rattle.machine.specs.Run.{IsRun}
 use Rattle.machine.specs.State.{MachineState, DeviceState}
-use Rattle.machine.specs.Step.{answer, Answer, MaySee, MaySeeAt, IsStep, HasEffect, step_device}
+use Rattle.machine.specs.Step.{answer, Answer, MaySee, MaySeeAt, step_device}
 use Rattle.machine.specs.StepLaws.{EffectsAgree, StepsAgree, RunsAgree}
 use Rattle.machine.specs.declared.event.Event.{Event}
 use Rattle.machine.specs.declared.event.Event.TheVariants.{RegRead, RegWrite, MemRead, MemWrite, Step, Input}

@@ -1,17 +1,18 @@
 -- One device of a machine changes, or its RAM does.
-use Rattle.std.proofs.Common.{◌≡◌, ℕ, zero, suc, ◌<◌, ◌≤◌, ◌^◌, List, [], ◌∷◌, length, map, set, get_or, Some, None, Ok, Err, refl, ap, sym, ◌∙◌, subst, arith, append-nil}
-use Rattle.std.specs.Prelude.{slice_get, slice_index}
+use Rattle.std.proofs.Common.{◌≡◌, ℕ, zero, suc, ◌<◌, ◌≤◌, List, [], ◌∷◌, length, map, set, get_or, Some, None, refl, ap, sym, ◌∙◌, arith, append-nil}
+use Rattle.std.specs.Prelude.{slice_get}
 use Rattle.std.proofs.lemmas.List.{map-set, length-map}
 use Rattle.std.proofs.lemmas.Option.{slice_get_past}
 use Rattle.guestmem.specs.Item.{Item, after_all}
+use Rattle.guestmem.specs.Later.{IsLater}
 use Rattle.guestmem.specs.Memory.{Memory}
-use Rattle.guestmem.specs.Number.{IsBytes}
-use Rattle.guestmem.specs.Writes.{Write, set_all, touched}
+use Rattle.guestmem.specs.Write.{refusal_of}
+use Rattle.guestmem.specs.Writes.{Write, byte_writes, set_all, touched}
 use Rattle.chains.specs.declared.next.Next.TheVariants.{Empty}
 use Rattle.machine.specs.Applied.{IsApplied, IsAppliedLogged}
 use Rattle.machine.specs.DeviceStep.{device_step}
 use Rattle.machine.specs.DeviceWork.{IsDeviceStep}
-use Rattle.machine.specs.Effect.{Effect, applied, no_effect, items_of}
+use Rattle.machine.specs.Effect.{Effect, applied, no_effect}
 use Rattle.machine.specs.Held.{IsHeld}
 use Rattle.machine.specs.Outcome.{Outcome, fine, outcome_of}
 use Rattle.machine.specs.Seen.{DeviceSeen, Seen, state_of, all_marks}
@@ -20,7 +21,7 @@ use Rattle.machine.specs.State.{DeviceState, MachineState}
 use Rattle.machine.specs.Step.{IsStep, IsLoggedStep, register_set, with_input, kept_of}
 use Rattle.machine.specs.StepLaws.{Fits}
 use Rattle.machine.specs.declared.event.Event.{Event}
-use Rattle.machine.specs.declared.event.Event.TheVariants.{RegWrite, Step, Input}
+use Rattle.machine.specs.declared.event.Event.TheVariants.{RegWrite, MemWrite, Step, Input}
 use Rattle.machine.specs.declared.reply.Refusal.TheVariants.{NoDevice}
 use Rattle.machine.specs.declared.reply.Reply.{Reply}
 use Rattle.machine.specs.declared.reply.Reply.TheVariants.{Done, Accepted, Refused}
@@ -84,6 +85,17 @@ work_step taking m new_m log new_log ds dev pick d new reply at h same =
       logged = h.log_is ∙ ap (after_all taking log) (sym (append-nil (touched ws)));
     }
 
+-- The guest wrote RAM.
+pub stored_step : {L : Type 0} (taking : L → Item → L) (m new_m : Memory) (log new_log : L) (ds : List DeviceSeen) (addr : ℕ) (bytes : List ℕ) → refusal_of (length m.bytes) addr (length bytes) ≡ None
+    → new_m.bytes ≡ set_all m.bytes (byte_writes addr bytes) → new_log ≡ after_all taking log (touched (byte_writes addr bytes))
+    → IsLoggedStep taking (state_of (record { memory = m; devices = ds })) log (MemWrite addr bytes) Done (state_of (record { memory = new_m; devices = ds })) new_log
+stored_step taking m new_m log new_log ds addr bytes none is told = record {
+  effect = record { writes = byte_writes addr bytes; sectors = []; replaced = None };
+  has = record { seen = Empty; may_see = tt; reply_is = rw none refl; effect_is = rw none refl; outcome_is = refl };
+  changed = rw is refl;
+  logged = told ∙ ap (after_all taking log) (sym (append-nil (touched (byte_writes addr bytes))));
+}
+
 past : (ds : List DeviceSeen) (dev : ℕ) → length ds ≤ dev → slice_get (map (λ (x : DeviceSeen). x.state) ds) dev ≡ None
 past ds dev h = slice_get_past (map (λ (x : DeviceSeen). x.state) ds) dev (rw length-map h)
 
@@ -119,13 +131,14 @@ pub plain_step : {L : Type 0} (taking : L → Item → L) (m next : MachineState
 plain_step taking m next log new_log e reply h = record { effect = h.effect; has = h.has; changed = h.changed }
 
 -- Such a step of a machine that is held is one that was applied.
-pub applied_step : (shapes : List Shape) (old new : Seen) (e : Event) (reply : Reply) → IsHeld shapes old → Fits e → IsStep (state_of old) e (outcome_of reply) reply (state_of new) → all_marks new ≡ all_marks old → IsApplied old e reply new
-applied_step shapes old new e reply held fits h marks = record { step = h; sound = (held_step shapes old new e (outcome_of reply) reply held fits h).sound; marks = marks }
+pub applied_step : (shapes : List Shape) (old new : Seen) (e : Event) (reply : Reply) → IsHeld shapes old → Fits e → IsStep (state_of old) e (outcome_of reply) reply (state_of new) → IsLater old.memory new.memory → all_marks new ≡ all_marks old → IsApplied old e reply new
+applied_step shapes old new e reply held fits h later marks = record { step = h; sound = (held_step shapes old new e (outcome_of reply) reply held fits h).sound; later = later; marks = marks }
 
-pub applied_logged : {L : Type 0} (taking : L → Item → L) (shapes : List Shape) (old new : Seen) (log new_log : L) (e : Event) (reply : Reply) → IsHeld shapes old → Fits e → IsLoggedStep taking (state_of old) log e reply (state_of new) new_log → all_marks new ≡ all_marks old
+pub applied_logged : {L : Type 0} (taking : L → Item → L) (shapes : List Shape) (old new : Seen) (log new_log : L) (e : Event) (reply : Reply) → IsHeld shapes old → Fits e → IsLoggedStep taking (state_of old) log e reply (state_of new) new_log → IsLater old.memory new.memory → all_marks new ≡ all_marks old
     → IsAppliedLogged taking old log e reply new new_log
-applied_logged taking shapes old new log new_log e reply held fits h marks = record {
+applied_logged taking shapes old new log new_log e reply held fits h later marks = record {
   step = h;
   sound = (held_step shapes old new e (outcome_of reply) reply held fits (plain_step taking (state_of old) (state_of new) log new_log e reply h)).sound;
+  later = later;
   marks = marks;
 }

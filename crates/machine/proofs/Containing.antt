@@ -1,31 +1,27 @@
 -- Malformed chains, and events that change nothing.
 use Rattle.std.proofs.Common.{◌≡◌, ℕ, zero, suc, set, Bool, true, false, cond, List, [], ◌∷◌, length, Option, Some, None, refl, ap, sym, ◌∙◌, subst}
-use Rattle.std.specs.Prelude.{bit_and, bit_or, ◌&&◌, not, ◌↔◌, slice_get}
+use Rattle.std.specs.Prelude.{bit_or, slice_get}
 use Rattle.guestmem.specs.Write.{refusal_of}
 use Rattle.guestmem.specs.declared.error.RamError.{RamError}
-use Rattle.mmio.specs.State.{with_common, Registers, queue_at}
-use Rattle.mmio.specs.Status.{is_running}
+use Rattle.mmio.specs.State.{with_common, Registers}
 use Rattle.mmio.specs.Bits.{has}
-use Rattle.chains.specs.Ring.{Answers}
 use Rattle.chains.specs.declared.chain.Chain.{Chain}
 use Rattle.chains.specs.declared.next.Next.{Next}
 use Rattle.chains.specs.declared.next.Next.TheVariants as next
-use Rattle.chains.specs.State.{RingState, state_of}
-use Rattle.chains.specs.declared.position.Positions.{Positions}
-use Rattle.console.specs.Receive.{receive_step, takes_bytes, give, refuse}
+use Rattle.chains.specs.State.{RingState}
+use Rattle.console.specs.Receive.{takes_bytes, give, refuse}
 use Rattle.machine.specs.DeviceStep.{device_step, looked_at, MayLook, step_at, serve, Service, served_of, reply_of, registers_after}
-use Rattle.machine.specs.Effect.{Effect, applied, no_effect}
+use Rattle.machine.specs.Effect.{Effect, applied}
 use Rattle.machine.specs.Looked.{IsLookedAt, IsMalformed, LooksAtMalformed}
-use Rattle.machine.specs.Outcome.{Outcome, fine, no_memory, outcome_of}
+use Rattle.machine.specs.Outcome.{Outcome, fine, no_memory}
 use Rattle.machine.specs.State.{MachineState, DeviceState}
-use Rattle.machine.specs.Step.{answer, Answer, MaySee, MaySeeAt, IsStep, HasEffect, read_register, write_register, read_ram, write_ram, put_in, step_device}
+use Rattle.machine.specs.Step.{answer, MaySeeAt, HasEffect, read_register, write_register, read_ram, write_ram, put_in, step_device}
 use Rattle.machine.specs.StepLaws.{IsContained, MalformedIsContained, MalformedAsksForReset, IsRefusal, RefusalsChangeNothing}
 use Rattle.machine.specs.declared.event.Event.{Event}
 use Rattle.machine.specs.declared.event.Event.TheVariants.{RegRead, RegWrite, MemRead, MemWrite, Step, Input}
 use Rattle.machine.specs.declared.own.Own.{Own}
 use Rattle.machine.specs.declared.own.Own.TheVariants.{Entropy}
-use Rattle.machine.specs.declared.reply.Reply.{Reply}
-use Rattle.machine.specs.declared.reply.Reply.TheVariants.{Idle, NeedsReset, NoMemory}
+use Rattle.machine.specs.declared.reply.Reply.TheVariants.{NeedsReset}
 use Rattle.machine.specs.declared.served.Served.{Served}
 use Rattle.machine.specs.declared.served.Served.TheVariants as served
 use Rattle.machine.proofs.Agreeing.{effects_same}
@@ -51,11 +47,11 @@ record IsServedSo (own : Own) (number : ℕ) (seen : Next) (s : Service) (q : Ri
 
 chain_by : (ram : List ℕ) (q : RingState) (pool : List ℕ) (number : ℕ) (c : Chain) (takes : Bool) → takes_bytes c ≡ takes
     → IsServedSo (Entropy pool) number (next.Chain c) (record {
-        served = served_of (cond takes (give ram q pool c) (refuse q pool)).answer;
-        writes = (cond takes (give ram q pool c) (refuse q pool)).writes;
-        ring = (cond takes (give ram q pool c) (refuse q pool)).ring;
-        own = Entropy (cond takes (give ram q pool c) (refuse q pool)).left;
-      }) q
+      served = served_of (cond takes (give ram q pool c) (refuse q pool)).answer;
+      writes = (cond takes (give ram q pool c) (refuse q pool)).writes;
+      ring = (cond takes (give ram q pool c) (refuse q pool)).ring;
+      own = Entropy (cond takes (give ram q pool c) (refuse q pool)).left;
+    }) q
 unfolding give
 chain_by ram q pool number c true is = record { refused = λ h. cc; there = λ h. cc; back = λ h. cc; other = λ h. cc }
 chain_by ram q pool number c false is = record { refused = λ h. record { writes = refl; ring = refl; own_is = refl }; there = λ h. is; back = λ h. refl; other = λ h. refl }

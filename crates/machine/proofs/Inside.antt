@@ -1,6 +1,5 @@
 -- Where steps write: inside RAM, and bytes.
-use Rattle.std.proofs.Common.{◌≡◌, ℕ, zero, suc, ◌+◌, ◌*◌, ◌%◌, ◌<◌, ◌≤◌, Bool, true, false, cond, List, [], ◌∷◌, ◌++◌, length, take, set, refl, sym, ap, ◌∙◌, arith, length-append}
-use Rattle.std.specs.Prelude.{min, ◌-◌}
+use Rattle.std.proofs.Common.{◌≡◌, ℕ, zero, suc, ◌+◌, ◌*◌, ◌%◌, ◌<◌, ◌≤◌, Bool, true, false, cond, List, [], ◌∷◌, ◌++◌, length, take, set, refl, arith, length-append}
 use Rattle.std.specs.List.{All}
 use Rattle.std.proofs.lemmas.List.{length-set}
 use Rattle.std.proofs.lemmas.Nat.{mod_below}
@@ -9,21 +8,21 @@ use Rattle.guestmem.specs.Number.{IsBytes}
 use Rattle.guestmem.specs.Writes.{Write, byte_writes, set_all}
 use Rattle.chains.specs.Places.{addresses, places, place_writes, AreSegmentsInside}
 use Rattle.chains.specs.Publish.{published, split_published, packed_published, event_note, split_note, packed_note, after_take, bit_if}
-use Rattle.chains.specs.Ring.{Answers, IsBounded, IsBoundedNext}
+use Rattle.chains.specs.Ring.{Answers, IsBoundedNext}
 use Rattle.chains.specs.ChainLaws.{next_bounded}
-use Rattle.chains.specs.State.{RingState, AreInside, MayRing}
+use Rattle.chains.specs.State.{RingState, HasAreas, MayRing}
 use Rattle.chains.specs.declared.chain.Chain.{Chain}
 use Rattle.chains.specs.declared.next.Next.{Next}
 use Rattle.chains.specs.declared.next.Next.TheVariants as next
 use Rattle.chains.specs.declared.segs.Seg.{Seg}
-use Rattle.console.specs.Receive.{receive_step, takes_bytes, give, refuse, writes_into, count_into}
+use Rattle.console.specs.Receive.{receive_step, takes_bytes, give, refuse, count_into}
 use Rattle.machine.specs.DeviceStep.{serve}
 use Rattle.machine.specs.Sound.{AreHostBytes, IsSoundOwn}
 use Rattle.machine.specs.declared.own.Own.{Own}
 use Rattle.machine.specs.declared.own.Own.TheVariants.{Entropy}
 use Rattle.machine.specs.declared.shape.Shape.{Shape}
 use Rattle.machine.specs.declared.shape.Shape.TheVariants as shapes
-use Rattle.machine.proofs.Rings.{IsLookedRing, IsPlacedRing}
+use Rattle.machine.proofs.Rings.{IsLookedRing}
 
 -- Each write is one of a byte inside a RAM of so many bytes.
 abbrev pub AreInsideRam : ℕ → List Write → Type 0
@@ -90,12 +89,12 @@ slot_below place size some = mod_below place size some
 pub record MayPublish (len : ℕ) (q : RingState) : Type 0 where
   pub some : 1 ≤ q.size
   pub used : q.is_packed ≡ true → q.used.place < q.size
-  pub inside : AreInside len q
+  pub areas : HasAreas len q
 
 split_inside : (len : ℕ) (q : RingState) (id n : ℕ) → q.is_packed ≡ false → MayPublish len q → AreInsideRam len (split_published q id n)
 unfolding split_published
 split_inside len q id n layout may =
-    let device : q.device + (6 + 8 * q.size) ≤ len = rw layout at may.inside.device in
+    let device : q.device + (6 + 8 * q.size) ≤ len = rw layout at may.areas.device.inside in
     let slot = slot_below q.used.place q.size may.some in
     inside_append len (byte_writes (q.device + 4 + 8 * (q.used.place % q.size)) (little_bytes 4 id ++ little_bytes 4 n)) (byte_writes (q.device + 2) (little_bytes 2 ((q.used.place + 1) % 65536)))
     (run_inside len (q.device + 4 + 8 * (q.used.place % q.size)) (little_bytes 4 id ++ little_bytes 4 n)
@@ -110,7 +109,7 @@ packed_inside len q id n wrote layout may =
     let flags = bit_if wrote 2 + bit_if q.used.wrap 128 + bit_if q.used.wrap 32768 in
     let first = little_bytes 4 n ++ little_bytes 2 id in
     run_inside len (q.descriptors + 16 * q.used.place + 8) (first ++ little_bytes 2 flags)
-    (omega (arith, may.inside.descriptors, may.used layout, length-append first (little_bytes 2 flags), length-append (little_bytes 4 n) (little_bytes 2 id), length-little_bytes 4 n, length-little_bytes 2 id, length-little_bytes 2 flags))
+    (omega (arith, may.areas.descriptors.inside, may.used layout, length-append first (little_bytes 2 flags), length-append (little_bytes 4 n) (little_bytes 2 id), length-little_bytes 4 n, length-little_bytes 2 id, length-little_bytes 2 flags))
     (IsBytes-append first (little_bytes 2 flags) (IsBytes-append (little_bytes 4 n) (little_bytes 2 id) (IsBytes-little_bytes 4 n) (IsBytes-little_bytes 2 id)) (IsBytes-little_bytes 2 flags))
 
 published_by : (len : ℕ) (q : RingState) (id slots n : ℕ) (wrote packed : Bool) → q.is_packed ≡ packed → MayPublish len q → AreInsideRam len (cond packed (packed_published q id n wrote) (split_published q id n))
@@ -126,31 +125,31 @@ used_by q false is may layout = cc
 
 -- A ring that is looked at, also after a chain of it was taken.
 pub may_publish : (len : ℕ) (q : RingState) → IsLookedRing len q → MayPublish len q
-may_publish len q h = record { some = h.may.some; used = used_by q q.is_packed refl h.may; inside = h.inside }
+may_publish len q h = record { some = h.may.some; used = used_by q q.is_packed refl h.may; areas = h.areas }
 
 pub may_publish_taken : (len : ℕ) (q : RingState) (slots : ℕ) → IsLookedRing len q → MayPublish len (after_take q slots)
 may_publish_taken len q slots h =
     let may = may_publish len q h in
-    record { some = may.some; used = may.used; inside = record { descriptors = may.inside.descriptors; driver = may.inside.driver; device = may.inside.device } }
+    record { some = may.some; used = may.used; areas = record { descriptors = may.areas.descriptors; driver = may.areas.driver; device = may.areas.device } }
 
 -- The event note.
-note_by : (len : ℕ) (q : RingState) (packed : Bool) → q.is_packed ≡ packed → AreInside len q → AreInsideRam len (cond packed (packed_note q) (split_note q))
+note_by : (len : ℕ) (q : RingState) (packed : Bool) → q.is_packed ≡ packed → HasAreas len q → AreInsideRam len (cond packed (packed_note q) (split_note q))
 unfolding packed_note split_note
-note_by len q true is inside =
-    let device : q.device + 4 ≤ len = rw is at inside.device in
+note_by len q true is areas =
+    let device : q.device + 4 ≤ len = rw is at areas.device.inside in
     let place = q.taking.place + bit_if q.taking.wrap 32768 in
     run_inside len q.device (little_bytes 2 place ++ little_bytes 2 2) (omega (arith, device, length-append (little_bytes 2 place) (little_bytes 2 2), length-little_bytes 2 place, length-little_bytes 2 2))
     (IsBytes-append (little_bytes 2 place) (little_bytes 2 2) (IsBytes-little_bytes 2 place) (IsBytes-little_bytes 2 2))
-note_by len q false is inside =
-    let device : q.device + (6 + 8 * q.size) ≤ len = rw is at inside.device in
+note_by len q false is areas =
+    let device : q.device + (6 + 8 * q.size) ≤ len = rw is at areas.device.inside in
     run_inside len (q.device + 4 + 8 * q.size) (little_bytes 2 q.taking.place) (omega (arith, device, length-little_bytes 2 q.taking.place)) (IsBytes-little_bytes 2 q.taking.place)
 
 noted_if : (len : ℕ) (ws : List Write) (wanted : Bool) → AreInsideRam len ws → AreInsideRam len (cond wanted ws [])
 noted_if len ws true h = h
 noted_if len ws false h = tt
 
-pub note_inside : (len : ℕ) (q : RingState) → AreInside len q → AreInsideRam len (event_note q)
-note_inside len q inside = noted_if len (cond q.is_packed (packed_note q) (split_note q)) q.has_event_index (note_by len q q.is_packed refl inside)
+pub note_inside : (len : ℕ) (q : RingState) → HasAreas len q → AreInsideRam len (event_note q)
+note_inside len q areas = noted_if len (cond q.is_packed (packed_note q) (split_note q)) q.has_event_index (note_by len q q.is_packed refl areas)
 
 -- What the step that gives bytes writes.
 given_by : (ram : List ℕ) (q : RingState) (held : List ℕ) (c : Chain) (takes : Bool) → IsLookedRing (length ram) q → AreSegmentsInside (length ram) c.writable → AreHostBytes held
@@ -163,7 +162,7 @@ given_by ram q held c true looked inside are =
     (published_inside (length ram) (after_take q c.slots) c.id c.slots (count_into held c) true (may_publish_taken (length ram) q c.slots looked))
 
 given_inside : (ram : List ℕ) (q : RingState) (held : List ℕ) (seen : Next) → IsLookedRing (length ram) q → IsBoundedNext (length ram) q seen → AreHostBytes held → AreInsideRam (length ram) (receive_step ram q held seen).writes
-given_inside ram q held next.Empty looked bounded are = note_inside (length ram) q looked.inside
+given_inside ram q held next.Empty looked bounded are = note_inside (length ram) q looked.areas
 given_inside ram q held next.Malformed looked bounded are = tt
 given_inside ram q held (next.Chain c) looked bounded are = given_by ram q held c (takes_bytes c) looked bounded.writable are
 

@@ -10,3 +10,7 @@ pub mod Containing
 pub mod Stepping
 pub mod At
 pub mod Raised
+pub mod Running
+pub mod Disks
+pub mod Zeros
+pub mod Fresh

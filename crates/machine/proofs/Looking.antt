@@ -1,9 +1,9 @@
 -- The queue that a step of a device looks at.
-use Rattle.std.proofs.Common.{◌≡◌, ℕ, ◌<◌, ◌≤◌, List, length, take, get_or, Option, Some, None, Bool, true, false, cond, refl, sym, ap, ◌∙◌, subst, arith}
+use Rattle.std.proofs.Common.{◌≡◌, ℕ, ◌<◌, ◌≤◌, List, length, take, get_or, Option, Some, None, Bool, true, false, cond, refl, sym, ap, ◌∙◌, arith}
 use Rattle.std.specs.Prelude.{◌&&◌, slice_get}
 use Rattle.std.proofs.lemmas.List.{get_or-take}
 use Rattle.std.proofs.lemmas.Option.{slice_get-get_or, slice_get_past}
-use Rattle.mmio.specs.State.{Registers, queue_at}
+use Rattle.mmio.specs.State.{queue_at}
 use Rattle.mmio.specs.Status.{is_running}
 use Rattle.mmio.specs.declared.queue.Queue.{Queue}
 use Rattle.chains.specs.State.{RingState, state_of}

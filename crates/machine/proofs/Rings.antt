@@ -1,5 +1,5 @@
 -- The ring of a queue that is looked at: what holds of it before and after the step.
-use Rattle.std.proofs.Common.{◌≡◌, ℕ, zero, suc, ◌+◌, ◌-◌, ◌*◌, ◌^◌, ◌<◌, ◌≤◌, Bool, true, false, cond, ltb, List, [], ◌∷◌, length, set, Some, refl, sym, ap, subst, arith}
+use Rattle.std.proofs.Common.{◌≡◌, ℕ, zero, suc, ◌+◌, ◌-◌, ◌*◌, ◌^◌, ◌<◌, ◌≤◌, Bool, true, false, cond, ltb, List, [], ◌∷◌, length, set, Some, refl, ap, subst, arith}
 use Rattle.std.specs.Prelude.{not, bit_and}
 use Rattle.std.specs.Bool.{MatchBool}
 use Rattle.std.specs.List.{slice_get}
@@ -12,7 +12,7 @@ use Rattle.mmio.specs.QueueReady.{MayBeReady}
 use Rattle.mmio.specs.declared.common.Common.{Common}
 use Rattle.mmio.specs.declared.queue.Queue.{Queue}
 use Rattle.mmio.proofs.StayingSound.{queue_sound}
-use Rattle.chains.specs.State.{RingState, state_of, has_bit, MayRing, AreInside}
+use Rattle.chains.specs.State.{RingState, state_of, has_bit, MayRing, HasAreas}
 use Rattle.chains.specs.Publish.{after_take, after_publish, gone_on, after_chain}
 use Rattle.chains.specs.declared.position.Position.{Position}
 use Rattle.chains.specs.declared.position.Positions.{Positions}
@@ -76,7 +76,7 @@ positions_long packed (q ∷ qs) (p ∷ ps) h = ap suc (positions_long packed qs
 -- What holds of the ring that is looked at.
 pub record IsLookedRing (len : ℕ) (s : RingState) : Type 0 where
   pub may : MayRing s
-  pub inside : AreInside len s
+  pub areas : HasAreas len s
   pub placed : IsPlacedRing s
 
 ring_by : (len : ℕ) (c : Common) (q : Queue) (p : Positions) (packed : Bool) → has c.features (2 ^ 34) ≡ packed → has_bit c.features (2 ^ 34) ≡ packed → MayBeReady len c q → q.is_ready ≡ true → HasPositions packed q p → IsLookedRing len (state_of q c.features p)
@@ -85,7 +85,7 @@ ring_by len c q p true is bit may ready at =
     let placed : ArePlaced true q.size p = of_true q.is_ready (ArePlaced true q.size p) (p ≡ first_positions) at.where_ready ready in
     record {
       may = record { some = may.some; few = may.few; slots = rw bit placed };
-      inside = record { descriptors = areas.descriptors.inside; driver = rw bit areas.driver.inside; device = rw bit areas.device.inside };
+      areas = record { descriptors = areas.descriptors; driver = rw bit areas.driver; device = rw bit areas.device };
       placed = record { taking_fits = at.taking_fits; used_fits = at.used_fits; placed = rw bit placed };
     }
 ring_by len c q p false is bit may ready at =
@@ -93,7 +93,7 @@ ring_by len c q p false is bit may ready at =
     let placed : ArePlaced false q.size p = of_true q.is_ready (ArePlaced false q.size p) (p ≡ first_positions) at.where_ready ready in
     record {
       may = record { some = may.some; few = may.few; slots = rw bit tt };
-      inside = record { descriptors = areas.descriptors.inside; driver = rw bit areas.driver.inside; device = rw bit areas.device.inside };
+      areas = record { descriptors = areas.descriptors; driver = rw bit areas.driver; device = rw bit areas.device };
       placed = record { taking_fits = at.taking_fits; used_fits = at.used_fits; placed = rw bit placed };
     }
 

@@ -1,5 +1,5 @@
 -- What serving a queue leaves, whatever was seen there.
-use Rattle.std.proofs.Common.{◌≡◌, ℕ, ◌≤◌, Bool, true, false, cond, List, length, drop, refl, ap, arith}
+use Rattle.std.proofs.Common.{◌≡◌, ℕ, ◌≤◌, Bool, true, false, cond, List, length, refl, arith}
 use Rattle.std.specs.Prelude.{min}
 use Rattle.std.proofs.lemmas.List.{length-drop}
 use Rattle.guestmem.specs.ByteLaws.{IsBytes-drop}
@@ -11,7 +11,6 @@ use Rattle.chains.specs.declared.chain.Chain.{Chain}
 use Rattle.chains.specs.declared.next.Next.{Next}
 use Rattle.chains.specs.declared.next.Next.TheVariants as next
 use Rattle.console.specs.Receive.{receive_step, takes_bytes, give, refuse}
-use Rattle.console.specs.declared.receiving.Received.TheVariants as received
 use Rattle.machine.specs.DeviceStep.{serve}
 use Rattle.machine.specs.Sound.{AreHostBytes, IsSoundOwn}
 use Rattle.machine.specs.declared.own.Own.{Own}

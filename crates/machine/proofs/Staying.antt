@@ -1,8 +1,7 @@
 -- A sound device stays sound.
-use Rattle.std.proofs.Common.{◌≡◌, ℕ, ◌+◌, ◌^◌, ◌<◌, ◌≤◌, ◌⊎◌, inl, inr, Bool, true, false, cond, eqb, List, [], ◌∷◌, ◌++◌, length, take, set, get_or, Option, Some, None, refl, sym, ap, ◌∙◌, subst, arith, length-append}
+use Rattle.std.proofs.Common.{◌≡◌, ℕ, ◌+◌, ◌^◌, ◌<◌, ◌≤◌, ◌⊎◌, inl, inr, Bool, true, false, cond, eqb, List, [], ◌∷◌, ◌++◌, length, take, set, Option, Some, None, refl, sym, ap, ◌∙◌, subst, arith, length-append}
 use Rattle.std.specs.Prelude.{◌-◌, min, bit_and, bit_or}
 use Rattle.std.specs.Bool.{MatchBool}
-use Rattle.std.specs.List.{slice_get}
 use Rattle.std.proofs.lemmas.List.{length-take}
 use Rattle.guestmem.specs.ByteLaws.{IsBytes-append, IsBytes-take}
 use Rattle.guestmem.specs.Number.{IsBytes}
@@ -10,23 +9,21 @@ use Rattle.chains.specs.Ring.{Answers}
 use Rattle.chains.specs.State.{RingState}
 use Rattle.chains.specs.declared.next.Next.{Next}
 use Rattle.chains.specs.declared.position.Positions.{Positions}
-use Rattle.mmio.specs.Effects.{IsSameDevice, StaysReady, EachStaysReady, StayReady}
-use Rattle.mmio.specs.Interrupts.{used_raised}
+use Rattle.mmio.specs.Effects.{StaysReady, EachStaysReady}
 use Rattle.mmio.specs.QueueRegisters.{notified_cleared}
 use Rattle.mmio.specs.RegisterWrite.{register_write}
 use Rattle.mmio.specs.Sound.{IsSoundRegisters}
-use Rattle.mmio.specs.State.{Registers, with_common, queue_at}
-use Rattle.mmio.specs.declared.common.Common.{Common}
+use Rattle.mmio.specs.State.{Registers, queue_at}
 use Rattle.mmio.specs.declared.queue.Queue.{Queue}
 use Rattle.mmio.proofs.StayingReady.{write_stays}
 use Rattle.mmio.proofs.StayingSound.{StaysSound, write_sound, used_sound, asked_sound, cleared_sound}
-use Rattle.machine.specs.DeviceStep.{Service, serve, registers_after, after_service, step_at, looked_at, device_step, MayLook}
+use Rattle.machine.specs.DeviceStep.{serve, registers_after, after_service, step_at, looked_at, device_step, MayLook}
 use Rattle.machine.specs.Looked.{IsLookedAt}
 use Rattle.machine.specs.Outcome.{Outcome, fine, no_memory}
 use Rattle.machine.specs.QueuePositions.{HavePositions, HasPositions, ArePlaced, first_positions, kept_positions, is_packed_by}
 use Rattle.machine.specs.Sound.{AreHostBytes, IsSoundDevice, IsSoundOwn}
 use Rattle.machine.specs.State.{DeviceState}
-use Rattle.machine.specs.Step.{with_registers, register_set, kept_of, own_with, with_input}
+use Rattle.machine.specs.Step.{register_set, kept_of, own_with, with_input}
 use Rattle.machine.specs.declared.own.Own.{Own}
 use Rattle.machine.specs.declared.own.Own.TheVariants.{Entropy}
 use Rattle.machine.specs.declared.served.Served.{Served}

@@ -1,11 +1,10 @@
 -- Steps of a device as they are made: its positions are held in an array with room to spare.
-use Rattle.std.proofs.Common.{◌≡◌, ℕ, ◌<◌, ◌≤◌, Bool, true, false, List, length, take, set, get_or, Option, Some, None, refl, sym, ap, ◌∙◌, arith}
+use Rattle.std.proofs.Common.{◌≡◌, ℕ, ◌<◌, true, false, List, length, take, set, get_or, Some, None, refl, ap, ◌∙◌, arith}
 use Rattle.std.proofs.Math.Seq.{take-set-lt}
 use Rattle.guestmem.specs.Item.{Item}
 use Rattle.mmio.specs.State.{Registers, first_queue}
 use Rattle.mmio.specs.declared.queue.Queue.{Queue}
-use Rattle.mmio.specs.Sound.{IsSoundRegisters}
-use Rattle.chains.specs.Ring.{IsEmptyQueue}
+use Rattle.chains.specs.LongQueue.{IsLongQueue}
 use Rattle.chains.specs.State.{RingState, state_of}
 use Rattle.chains.specs.declared.next.Next.{Next}
 use Rattle.chains.specs.declared.next.Next.TheVariants as next
@@ -15,19 +14,16 @@ use Rattle.console.specs.declared.receiving.Received.{Received}
 use Rattle.console.specs.declared.receiving.Received.TheVariants as received
 use Rattle.machine.specs.DeviceStep.{device_step, looks, looked_at, serve, served_of, reply_of, registers_after}
 use Rattle.machine.specs.DeviceWork.{IsServed, IsDeviceStep}
-use Rattle.machine.specs.Looked.{IsLookedAt}
-use Rattle.machine.specs.Outcome.{Outcome, fine, outcome_of}
+use Rattle.machine.specs.Outcome.{fine, outcome_of}
 use Rattle.machine.specs.Sound.{IsSoundDevice}
 use Rattle.machine.specs.State.{DeviceState}
 use Rattle.machine.specs.declared.own.Own.{Own}
 use Rattle.machine.specs.declared.own.Own.TheVariants.{Entropy}
 use Rattle.machine.specs.declared.reply.Reply.TheVariants.{Idle, NoMemory}
 use Rattle.machine.specs.declared.served.Served.{Served}
-use Rattle.machine.specs.declared.served.Served.TheVariants as served
 use Rattle.machine.specs.declared.shape.Shape.{Shape}
 use Rattle.machine.proofs.Looking.{looked_is, some_looked}
 use Rattle.machine.proofs.Rings.{IsLookedRing, looked_ring, positions_long}
-use Rattle.machine.proofs.Staying.{served_registers}
 
 -- A device as it is held.
 abbrev pub held_device : Shape → Registers → List Positions → Own → DeviceState
@@ -53,7 +49,7 @@ pub idle_step : {L : Type 0} (after : L → Item → L) (ram : List ℕ) (log : 
 unfolding device_step
 idle_step after ram log d pick none = record { seen = next.Empty; may_look = rw none tt; reply_is = rw none refl; ram_is = rw none refl; log_is = rw none refl; device_is = rw none refl }
 
-pub refused_step : {L : Type 0} (after : L → Item → L) (ram : List ℕ) (log : L) (d : DeviceState) (pick : ℕ) (q : RingState) → looked_at d pick ≡ Some q → ¬ (IsEmptyQueue ram q) → IsDeviceStep after ram log d pick NoMemory ram log d
+pub refused_step : {L : Type 0} (after : L → Item → L) (ram : List ℕ) (log : L) (d : DeviceState) (pick : ℕ) (q : RingState) → looked_at d pick ≡ Some q → IsLongQueue ram q → IsDeviceStep after ram log d pick NoMemory ram log d
 unfolding device_step
 refused_step after ram log d pick q some full = record { seen = next.Empty; may_look = rw some full; reply_is = rw some refl; ram_is = rw some refl; log_is = rw some refl; device_is = rw some refl }
 

@@ -1,5 +1,5 @@
 -- The effect of a step lies within its machine, and keeps it sound.
-use Rattle.std.proofs.Common.{◌≡◌, ℕ, zero, suc, ◌+◌, ◌*◌, ◌/◌, ◌^◌, ◌<◌, ◌≤◌, Bool, true, false, cond, ltb, List, [], ◌∷◌, length, map, set, get_or, Option, Some, None, refl, sym, ap, ◌∙◌, subst, arith}
+use Rattle.std.proofs.Common.{◌≡◌, ℕ, zero, suc, ◌+◌, ◌^◌, ◌<◌, ◌≤◌, Bool, true, false, cond, ltb, List, [], ◌∷◌, length, map, Option, Some, None, refl, sym, ap, ◌∙◌, arith}
 use Rattle.std.specs.Prelude.{slice_get}
 use Rattle.std.specs.List.{All}
 use Rattle.std.proofs.lemmas.List.{length-set}
@@ -14,18 +14,17 @@ use Rattle.guestmem.specs.declared.error.RamError.{RamError}
 use Rattle.guestmem.specs.declared.error.RamError.TheVariants as ram_error
 use Rattle.chains.specs.State.{RingState}
 use Rattle.chains.specs.declared.next.Next.{Next}
-use Rattle.machine.specs.DeviceStep.{device_step, looked_at, MayLook, step_at, serve}
+use Rattle.machine.specs.DeviceStep.{device_step, looked_at, MayLook, step_at}
 use Rattle.machine.specs.Effect.{Effect, Replacement, applied, replaced_in}
-use Rattle.machine.specs.EffectLaws.{IsWithin, IsSameShape, MayReplace, HasItem}
+use Rattle.machine.specs.EffectLaws.{IsSameShape, MayReplace}
 use Rattle.machine.specs.Outcome.{Outcome, fine, no_memory}
 use Rattle.machine.specs.Shapes.{sector_count}
 use Rattle.machine.specs.Sound.{IsSound, IsSoundDevice}
-use Rattle.machine.specs.State.{MachineState, DeviceState, Sector}
-use Rattle.machine.specs.Step.{answer, Answer, MaySee, MaySeeAt, HasEffect, read_register, write_register, read_ram, write_ram, put_in, step_device}
+use Rattle.machine.specs.State.{MachineState, DeviceState}
+use Rattle.machine.specs.Step.{answer, MaySee, MaySeeAt, read_register, write_register, read_ram, write_ram, put_in, step_device}
 use Rattle.machine.specs.StepLaws.{Fits, StepStaysWithin, StepKeepsShape, StepStaysSound}
 use Rattle.machine.specs.declared.event.Event.{Event}
 use Rattle.machine.specs.declared.event.Event.TheVariants.{RegRead, RegWrite, MemRead, MemWrite, Step, Input}
-use Rattle.machine.specs.declared.shape.Shape.{Shape}
 use Rattle.machine.proofs.Effects.{replaced_shapes, all_sizes_stay}
 use Rattle.machine.proofs.Inside.{AreInsideRam, all_inside, bytes_after, run_inside, served_inside}
 use Rattle.machine.proofs.Looking.{looked_is}

@@ -7,7 +7,8 @@ use Rattle.mmio.specs.Interrupts.{used_raised, reset_asked}
 use Rattle.mmio.specs.QueueRegisters.{notified_cleared}
 use Rattle.mmio.specs.declared.queue.Queue.{Queue}
 use Rattle.chains.specs.State.{RingState, state_of}
-use Rattle.chains.specs.Ring.{Answers, IsEmptyQueue}
+use Rattle.chains.specs.LongQueue.{IsLongQueue}
+use Rattle.chains.specs.Ring.{Answers}
 use Rattle.chains.specs.declared.next.Next.{Next}
 use Rattle.chains.specs.declared.position.Positions.{Positions}
 use Rattle.console.specs.Receive.{receive_step}
@@ -39,10 +40,11 @@ looked_by d number q p = None
 abbrev pub looked_at : DeviceState → ℕ → Option RingState
 looked_at d pick = looked_by d pick (queue_at d.registers pick) (slice_get d.positions pick)
 
--- What a look may see: what the queue answers about its next chain. Memory is refused only for one that is not empty.
+-- What a look may see: what the queue answers about its next chain. Memory is refused only at a queue with more descriptors
+-- in a row than are handled without memory.
 abbrev pub MayLookAt : RingState → List ℕ → Outcome → Next → Type 0
 MayLookAt q ram fine seen = Answers ram q seen
-MayLookAt q ram no_memory seen = ¬ (IsEmptyQueue ram q)
+MayLookAt q ram no_memory seen = IsLongQueue ram q
 
 abbrev pub MayLook : Option RingState → List ℕ → Outcome → Next → Type 0
 MayLook None ram o seen = Unit {0}

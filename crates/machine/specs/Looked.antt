@@ -1,5 +1,5 @@
 -- The queue that a step looks at, and what is malformed there.
-use Rattle.std.specs.Prelude.{◌≡◌, ℕ, List, Bool, true, false, Some, slice_get}
+use Rattle.std.specs.Prelude.{◌≡◌, ℕ, true, false, Some, slice_get}
 use Rattle.mmio.specs.State.{queue_at}
 use Rattle.mmio.specs.Status.{is_running}
 use Rattle.mmio.specs.declared.queue.Queue.{Queue}

@@ -1,5 +1,5 @@
 -- What each shape of device is.
-use Rattle.std.specs.Prelude.{ℕ, zero, ◌+◌, ◌^◌, List, [], ◌∷◌, Option, Some, None, replicate, slice_get}
+use Rattle.std.specs.Prelude.{ℕ, ◌+◌, ◌^◌, List, [], ◌∷◌, Option, Some, None, replicate}
 use Rattle.mmio.specs.State.{first_registers}
 use Rattle.chains.specs.declared.position.Positions.{Positions}
 use Rattle.mmio.specs.declared.common.Common.{Common}

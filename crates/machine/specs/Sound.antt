@@ -1,5 +1,5 @@
 -- What holds of every machine.
-use Rattle.std.specs.Prelude.{◌≡◌, ℕ, ◌*◌, ◌/◌, ◌≤◌, List, length, map, All, Option, Some, None}
+use Rattle.std.specs.Prelude.{◌≡◌, ℕ, ◌*◌, ◌/◌, ◌≤◌, List, length, map, All, Some, None}
 use Rattle.guestmem.specs.Number.{IsBytes}
 use Rattle.guestmem.specs.declared.limits.TheConstants.{PAGES_MAX}
 use Rattle.mmio.specs.Sound.{IsSoundRegisters}

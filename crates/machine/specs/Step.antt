@@ -115,8 +115,8 @@ answer m (MemWrite addr bytes) o seen = write_ram addr bytes (refusal_of (length
 answer m (Step dev pick) o seen = step_device dev (slice_get m.devices dev) m.ram pick o seen
 answer m (Input dev bytes) o seen = put_in dev (slice_get m.devices dev) bytes
 
--- What a step may see: where it looks at a queue, what that queue answers; and memory is refused only for a queue that is
--- not empty.
+-- What a step may see: where it looks at a queue, what that queue answers; and memory is refused only at a queue with
+-- more descriptors in a row than are handled without memory.
 abbrev pub MaySeeAt : Option DeviceState → List ℕ → ℕ → Outcome → Next → Type 0
 MaySeeAt None ram pick o seen = Unit {0}
 MaySeeAt (Some d) ram pick o seen = MayLook (looked_at d pick) ram o seen

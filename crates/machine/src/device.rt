@@ -28,6 +28,7 @@ impl<D: Disk> Device<D> {
     ghost use Rattle.machine.specs.Step.{register_value_of, register_set, kept_of, with_input};
     ghost use Rattle.machine.specs.DeviceWork.{IsDeviceStep};
     ghost use Rattle.guestmem.specs.Item.{MayPages};
+    ghost use Rattle.guestmem.specs.Later.{IsLater};
     ghost use Rattle.machine.specs.Sound.{IsSoundDevice};
     ghost use Rattle.machine.specs.First.{seen_without_disk};
     ghost use Rattle.machine.specs.Shapes.{first_device};
@@ -86,6 +87,7 @@ impl<D: Disk> Device<D> {
         ensures sectors { self.new.sectors ≡ self.old.sectors }
         ensures marks { self.new.marks ≡ self.old.marks }
         ensures size { length ram.new.bytes ≡ length ram.old.bytes }
+        ensures later { IsLater ram.old ram.new }
     {
         self.state.step(alloc, pick, ram, log)
     }

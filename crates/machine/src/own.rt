@@ -2,8 +2,9 @@
 
 ghost use Rattle.std.specs.Prelude.{◌≡◌, ◌≤◌, ◌<◌, ℕ, length, take, IfOk, OnErr};
 ghost use Rattle.guestmem.specs.Item.{MayPages};
-ghost use Rattle.chains.specs.State.{AreInside};
-ghost use Rattle.chains.specs.Ring.{IsEmptyQueue};
+ghost use Rattle.guestmem.specs.Later.{IsLater};
+ghost use Rattle.chains.specs.State.{HasAreas};
+ghost use Rattle.chains.specs.LongQueue.{IsLongQueue};
 ghost use Rattle.machine.specs.DeviceStep.{has_work, served_of};
 ghost use Rattle.machine.specs.DeviceWork.{IsServed};
 ghost use Rattle.machine.specs.Shapes.{first_own};
@@ -62,16 +63,17 @@ impl Own {
         ram: &mut Ram,
         log: &mut L,
     ) -> Result<Served, NoMemory>
-        requires inside { AreInside (length ram.old.bytes) (R.state ring.old) }
+        requires areas { HasAreas (length ram.old.bytes) (R.state ring.old) }
         requires may { MayPages L.may log.old (length ram.old.bytes) }
         requires few { (R.state ring.old).size ≤ 256 }
         ensures served { IfOk result (λ served. IsServed L.after ram.old.bytes (R.state ring.old) self.old number log.old served ram.new.bytes (R.state ring.new) self.new log.new) }
-        ensures memory { OnErr result (¬ (IsEmptyQueue ram.old.bytes (R.state ring.old))) }
+        ensures memory { OnErr result (IsLongQueue ram.old.bytes (R.state ring.old)) }
         ensures ram_stays { OnErr result (ram.new ≡ ram.old) }
         ensures ring_stays { OnErr result (R.state ring.new ≡ R.state ring.old) }
         ensures own_stays { OnErr result (self.new ≡ self.old) }
         ensures log_stays { OnErr result (log.new ≡ log.old) }
         ensures size { length ram.new.bytes ≡ length ram.old.bytes }
+        ensures later { IsLater ram.old ram.new }
         ensures may { MayPages L.may log.new (length ram.new.bytes) }
     {
         match self {

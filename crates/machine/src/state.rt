@@ -41,6 +41,7 @@ impl Model for DeviceState {
 impl DeviceState {
     ghost use Rattle.std.specs.Prelude.{◌≡◌, ◌≤◌, ◌<◌, ℕ, IfOk, MatchOption, IsSome, None, Some, length, take};
     ghost use Rattle.guestmem.specs.Item.{MayPages};
+    ghost use Rattle.guestmem.specs.Later.{IsLater};
     ghost use Rattle.machine.specs.AnyRing.{ring_in};
     ghost use Rattle.machine.specs.DeviceStep.{looks, looked_at};
     ghost use Rattle.machine.specs.DeviceWork.{IsDeviceStep};
@@ -157,6 +158,7 @@ impl DeviceState {
         requires may { MayPages L.may log.old (length ram.old.bytes) }
         ensures step { IsDeviceStep L.after ram.old.bytes log.old self.old pick result ram.new.bytes log.new self.new }
         ensures size { length ram.new.bytes ≡ length ram.old.bytes }
+        ensures later { IsLater ram.old ram.new }
     {
         let Some(mut ring) = self.looked_ring(alloc, pick) else {
             return Reply::Idle;
@@ -245,10 +247,7 @@ fn publish(registers: &mut Regs, reply: Reply, is_due: bool) -> Reply
 }
 
 /// The positions in queues whose registers were written.
-fn kept(
-    queues: &[Queue],
-    positions: [Positions; QUEUE_COUNT_MAX],
-) -> [Positions; QUEUE_COUNT_MAX]
+fn kept(queues: &[Queue], positions: [Positions; QUEUE_COUNT_MAX]) -> [Positions; QUEUE_COUNT_MAX]
     requires { length queues.now ≤ QUEUE_COUNT_MAX }
     ensures { take (length queues.now) result ≡ kept_positions queues.now (take (length queues.now) positions) }
 {

@@ -1,5 +1,5 @@
 -- Sound registers stay sound, and those of the same device, whatever fits is written and whatever the device tells.
-use Rattle.std.proofs.Common.{◌≡◌, ℕ, ◌+◌, ◌-◌, ◌*◌, ◌%◌, ◌^◌, ◌<◌, ◌≤◌, length, Option, Some, None, Bool, true, false, cond, refl, sym, ◌∙◌, arith, eqb, ltb}
+use Rattle.std.proofs.Common.{◌≡◌, ℕ, ◌+◌, ◌-◌, ◌*◌, ◌%◌, ◌^◌, ◌<◌, ◌≤◌, length, replicate, Option, Some, None, Bool, true, false, cond, refl, sym, ◌∙◌, arith, eqb, ltb}
 use Rattle.std.specs.Prelude.{not, ◌&&◌, bit_and, bit_or}
 use Rattle.std.specs.List.{slice_get}
 use Rattle.std.proofs.lemmas.Bool.{eqb-true, eqb-false, leb-true}
@@ -10,7 +10,7 @@ use Rattle.std.proofs.lemmas.List.Elements.{All-replicate}
 use Rattle.std.proofs.lemmas.Option.{get_or_from_slice_get, slice_get_within}
 use Rattle.std.proofs.Math.ListN.{length-set}
 use Rattle.mmio.specs.Bits.{Has, with_half}
-use Rattle.mmio.specs.State.{Registers, first_queue, first_common, reset_registers, with_common, with_queue, queue_at, selected}
+use Rattle.mmio.specs.State.{Registers, first_queue, first_common, first_registers, reset_registers, with_common, with_queue, queue_at, selected}
 use Rattle.mmio.specs.Effects.{IsSameDevice}
 use Rattle.mmio.specs.Interrupts.{used_raised, reset_asked}
 use Rattle.mmio.specs.QueueReady.{IsInside, IsSplit, IsPacked, MayBeReady, is_inside, is_split, is_packed, may_be_ready}
@@ -21,6 +21,7 @@ use Rattle.mmio.specs.Configuration.{configuration_effect}
 use Rattle.mmio.specs.Status.{status_after}
 use Rattle.mmio.specs.Sound.{FitsQueue, IsSoundQueue, IsSoundRegisters}
 use Rattle.mmio.specs.declared.common.Common.{Common}
+use Rattle.mmio.specs.declared.constants.TheConstants.{QUEUE_COUNT_MAX}
 use Rattle.mmio.specs.declared.effect.Effect.{Effect}
 use Rattle.mmio.specs.declared.effect.Effect.TheVariants as e
 use Rattle.mmio.specs.declared.queue.Queue.{Queue}
@@ -270,28 +271,36 @@ notify_sound : (r : Registers) (v : ℕ) (q : Option Queue) → slice_get r.queu
 notify_sound r v None at h = stays_as_it_is r h
 notify_sound r v (Some q) at h = notify_by r v q q.is_ready refl at h
 
+-- Registers as they begin, and after a reset.
+begun : (device_id offered ram_len queues generation : ℕ) → device_id < 2 ^ 32 → offered < 2 ^ 64 → ram_len < 2 ^ 64 → queues ≤ QUEUE_COUNT_MAX → generation < 2 ^ 32
+    → IsSoundRegisters (record { device_id = device_id; offered = offered; ram_len = ram_len; common = first_common generation; queues = replicate queues first_queue })
+begun device_id offered ram_len queues generation id_fits offered_fits len_fits few generation_fits = record {
+  device_id = id_fits;
+  offered = offered_fits;
+  ram_len = len_fits;
+  few = rw (length-replicate queues first_queue) few;
+  common = record {
+    fits = record { device_select = omega arith; driver_select = omega arith; features = omega arith; queue_select = omega arith; generation = generation_fits };
+    status = record { known = refl; driver_ok = λ k. cc; needs_reset = λ k. cc };
+    interrupts = omega arith;
+    offered_only = λ k. cc;
+    version = λ k. cc;
+  };
+  queues = All-replicate (IsSoundQueue ram_len (first_common generation)) queues first_queue (record {
+    fits = record { size = omega arith; descriptors = omega arith; driver = omega arith; device = omega arith };
+    notified = λ k. cc;
+    ready = λ k. cc;
+  });
+}
+
+pub first_sound : (device_id offered queues ram_len : ℕ) → device_id < 2 ^ 32 → offered < 2 ^ 64 → queues ≤ QUEUE_COUNT_MAX → ram_len < 2 ^ 64 → IsSoundRegisters (first_registers device_id offered queues ram_len)
+first_sound device_id offered queues ram_len id_fits offered_fits few len_fits = begun device_id offered ram_len queues 0 id_fits offered_fits len_fits few (omega arith)
+
 -- A reset.
 reset_sound : (r : Registers) → IsSoundRegisters r → StaysSound r (reset_registers r)
 reset_sound r h = record {
   same = record { device_id = refl; offered = refl; ram_len = refl; queue_count = length-replicate (length r.queues) first_queue };
-  sound = record {
-    device_id = h.device_id;
-    offered = h.offered;
-    ram_len = h.ram_len;
-    few = rw (length-replicate (length r.queues) first_queue) h.few;
-    common = record {
-      fits = record { device_select = omega arith; driver_select = omega arith; features = omega arith; queue_select = omega arith; generation = h.common.fits.generation };
-      status = record { known = refl; driver_ok = λ k. cc; needs_reset = λ k. cc };
-      interrupts = omega arith;
-      offered_only = λ k. cc;
-      version = λ k. cc;
-    };
-    queues = All-replicate (IsSoundQueue r.ram_len (first_common r.common.generation)) (length r.queues) first_queue (record {
-      fits = record { size = omega arith; descriptors = omega arith; driver = omega arith; device = omega arith };
-      notified = λ k. cc;
-      ready = λ k. cc;
-    });
-  };
+  sound = begun r.device_id r.offered r.ram_len (length r.queues) r.common.generation h.device_id h.offered h.ram_len h.few h.common.fits.generation;
 }
 
 status_sound : (r : Registers) (v : ℕ) → IsSoundRegisters r → StaysSound r (status_written r v).1

@@ -1,6 +1,7 @@
 //! Events, applied to a machine.
 
 ghost use Rattle.std.specs.Prelude.{◌≡◌, map, length, IfOk, OnErr};
+ghost use Rattle.guestmem.specs.Later.{IsLater};
 ghost use Rattle.machine.specs.Applied.{IsApplied, IsAppliedLogged, MayItems};
 ghost use Rattle.machine.specs.Direct.{value_reply, done_reply, accepted_reply};
 ghost use Rattle.machine.specs.Outcome.{outcome_of};
@@ -51,6 +52,7 @@ impl<D: Disk> Machine<D> {
     pub fn play(&mut self, events: &[Event]) -> Result<Vec<Reply>, NoMemory>
         ensures run { IfOk result (λ replies. IsRun (state_of self.old) events.now (map outcome_of replies.items) replies.items (state_of self.new)) }
         ensures sound { IsSound (state_of self.new) }
+        ensures later { IsLater self.old.memory self.new.memory }
         ensures disks { all_marks self.new ≡ all_marks self.old }
         ensures err { OnErr result (self.new ≡ self.old) }
     {

@@ -11,7 +11,7 @@ ghost use Rattle.machine.specs.declared.event.Event.TheVariants as events;
 use crate::disk::Disk;
 use crate::machine::Machine;
 use crate::reply::{Refusal, Reply};
-use guestmem::{NoLog, TouchLog};
+use guestmem::{NoLog, TouchLog, recall_bytes};
 
 impl<D: Disk> Machine<D> {
     /// The driver reads a register of a device, `width` bytes at an offset of its window (VIRTIO 1.2, 4.2.2).
@@ -71,6 +71,7 @@ impl<D: Disk> Machine<D> {
         if dev >= self.devices.len() {
             return Err(Refusal::NoDevice);
         }
+        recall_bytes(bytes);
         Ok(self.devices[dev].input(bytes))
     }
 
@@ -93,8 +94,8 @@ impl<D: Disk> Machine<D> {
         if let Some(error) = self.ram.refusal(addr, bytes.len()) {
             return Err(Refusal::from(error));
         }
+        recall_bytes(bytes);
         self.ram.put(addr, bytes, log);
-        let _len = self.ram.len();
         Ok(())
     }
 
@@ -107,8 +108,6 @@ impl<D: Disk> Machine<D> {
             return Reply::Refused(Refusal::NoDevice);
         }
         let device = &mut self.devices[dev];
-        let reply = device.step(self.alloc, pick, &mut self.ram, log);
-        let _len = self.ram.len();
-        reply
+        device.step(self.alloc, pick, &mut self.ram, log)
     }
 }

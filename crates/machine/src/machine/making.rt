@@ -1,6 +1,6 @@
 //! Machines that are made, or were saved.
 
-ghost use Rattle.std.specs.Prelude.{◌≡◌, ◌≤◌, length, map, Err, None, IfOk, IfErr, IfSome, []};
+ghost use Rattle.std.specs.Prelude.{◌≡◌, ◌≤◌, length, map, Err, None, Some, IfOk, IfErr, IfSome};
 ghost use Rattle.machine.specs.Seen.{state_of};
 ghost use Rattle.machine.specs.Shapes.{disk_size_of, disk_sizes, first_device};
 ghost use Rattle.machine.specs.First.{are_same, first_machine, saved_machine, seen_without_disk, new_refusal};
@@ -26,7 +26,7 @@ impl<D: Disk + Drop> Machine<D> {
         shapes: &[Shape],
         disks: Vec<D>,
     ) -> Result<Machine<D>, NewError>
-        ensures made { IfOk result (λ m. state_of m ≡ first_machine ram_pages shapes.now []) }
+        ensures made { IfOk result (λ m. state_of m ≡ first_machine ram_pages shapes.now (map (λ d. map Some (D.state d).sectors) disks.items)) }
         ensures sound { IfOk result (λ m. IsSound (state_of m)) }
         ensures refused { IfSome (new_refusal ram_pages shapes.now (map (λ d. length (D.state d).sectors) disks.items)) (λ error. result ≡ Err error) }
         ensures memory { new_refusal ram_pages shapes.now (map (λ d. length (D.state d).sectors) disks.items) ≡ None → IfErr result (λ error. error ≡ new_error.NoMemory) }
@@ -45,8 +45,8 @@ impl<D: Disk + Drop> Machine<D> {
         })
     }
 
-    /// A machine as it was saved, none of whose devices has a disk. The caller has seen to it that it is sound. Its only
-    /// error is want of memory.
+    /// A machine as it was saved, whose block devices get the disks in order. The caller has seen to it that it is sound. Its
+    /// only error is want of memory.
     pub fn restore(
         alloc: Global,
         ram: Ram,
@@ -54,10 +54,9 @@ impl<D: Disk + Drop> Machine<D> {
         states: Vec<DeviceState>,
         disks: Vec<D>,
     ) -> Result<Machine<D>, NoMemory>
-        requires sound { IsSound (saved_machine ram.bytes states.items []) }
+        requires sound { IsSound (saved_machine ram.bytes states.items (map (λ d. map Some (D.state d).sectors) disks.items)) }
         requires shapes { shapes.items ≡ map (λ d. d.shape) states.items }
-        requires no_disks { disks.items ≡ [] }
-        ensures restored { IfOk result (λ m. state_of m ≡ saved_machine ram.bytes states.items []) }
+        ensures restored { IfOk result (λ m. state_of m ≡ saved_machine ram.bytes states.items (map (λ d. map Some (D.state d).sectors) disks.items)) }
         ensures sound { IfOk result (λ m. IsSound (state_of m)) }
     {
         let devices = restored_devices(alloc, states)?;

@@ -1,7 +1,7 @@
-use Rattle.std.proofs.Common.{◌≡◌, ap, refl, arith}
-use Rattle.guestmem.specs.Memory.{Memory}
+use Rattle.std.proofs.Common.{ap, arith}
+use Rattle.guestmem.specs.LaterLaws.{later_same}
 use Rattle.machine.specs.Outcome.{fine}
-use Rattle.machine.specs.Seen.{DeviceSeen, Seen, all_marks}
+use Rattle.machine.specs.Seen.{DeviceSeen}
 use Rattle.machine.specs.Step.{kept_of}
 use Rattle.machine.specs.declared.event.Event.TheVariants as events
 use Rattle.machine.specs.declared.reply.Reply.TheVariants as replies
@@ -12,7 +12,7 @@ pub invariant_of-self : goal.invariant_of-self
 invariant_of-self g c =
     let i = c.self.inside in
     let at : IsAt i.devices.items c.args.dev c.index_mut.result.now = record { below = omega arith; is = c.index_mut.ensures.value } in
-    held_step i.shapes.items (record { memory = i.ram; devices = i.devices.items }) _ (events.Input c.args.dev c.args.bytes.now) fine (replies.Accepted (kept_of c.index_mut.result.now.state.own c.args.bytes.now)) c.self.invariant (c.ranges.dev.fits, c.type_inv.bytes)
+    held_step i.shapes.items (record { memory = i.ram; devices = i.devices.items }) _ (events.Input c.args.dev c.args.bytes.now) fine (replies.Accepted (kept_of c.index_mut.result.now.state.own c.args.bytes.now)) c.self.invariant (c.ranges.dev.fits, c.recall_bytes.ensures)
     (input_step i.ram i.devices.items c.args.dev c.args.bytes.now c.index_mut.result.now c.input.new.self at c.input.ensures.device)
 
 pub returns : goal.returns
@@ -20,6 +20,7 @@ returns g c =
     let i = c.self.inside in
     let at : IsAt i.devices.items c.args.dev c.index_mut.result.now = record { below = omega arith; is = c.index_mut.ensures.value } in
     rw (← c.self.view_is, c.input.ensures.count)
-    (applied_step i.shapes.items (record { memory = i.ram; devices = i.devices.items }) _ (events.Input c.args.dev c.args.bytes.now) (replies.Accepted (kept_of c.index_mut.result.now.state.own c.args.bytes.now)) c.self.invariant (c.ranges.dev.fits, c.type_inv.bytes)
+    (applied_step i.shapes.items (record { memory = i.ram; devices = i.devices.items }) _ (events.Input c.args.dev c.args.bytes.now) (replies.Accepted (kept_of c.index_mut.result.now.state.own c.args.bytes.now)) c.self.invariant (c.ranges.dev.fits, c.recall_bytes.ensures)
     (input_step i.ram i.devices.items c.args.dev c.args.bytes.now c.index_mut.result.now c.input.new.self at c.input.ensures.device)
+    (later_same i.ram)
     (map-set_same (λ (d : DeviceSeen). d.marks) i.devices.items c.args.dev c.index_mut.result.now c.input.new.self at (ap (λ (d : DeviceSeen). d.marks) c.input.ensures.device)))

@@ -1,7 +1,7 @@
-use Rattle.std.proofs.Common.{◌≡◌, ap, refl, arith}
-use Rattle.guestmem.specs.Memory.{Memory}
+use Rattle.std.proofs.Common.{ap, arith}
+use Rattle.guestmem.specs.LaterLaws.{later_same}
 use Rattle.machine.specs.Outcome.{fine}
-use Rattle.machine.specs.Seen.{DeviceSeen, Seen, all_marks}
+use Rattle.machine.specs.Seen.{DeviceSeen}
 use Rattle.machine.specs.declared.event.Event.TheVariants as events
 use Rattle.machine.specs.declared.reply.Reply.TheVariants as replies
 use Rattle.machine.proofs.At.{IsAt, map-set_same, register_step, held_step, applied_step}
@@ -21,4 +21,5 @@ returns g c =
     rw (← c.self.view_is)
     (applied_step i.shapes.items (record { memory = i.ram; devices = i.devices.items }) _ (events.RegWrite c.args.dev c.args.offset c.args.width c.args.value) replies.Done c.self.invariant (c.ranges.dev.fits, c.ranges.offset.fits, c.ranges.width.fits, c.ranges.value.fits)
     (register_step i.ram i.devices.items c.args.dev c.args.offset c.args.width c.args.value c.index_mut.result.now c.write_register.new.self at c.write_register.ensures)
+    (later_same i.ram)
     (map-set_same (λ (d : DeviceSeen). d.marks) i.devices.items c.args.dev c.index_mut.result.now c.write_register.new.self at (ap (λ (d : DeviceSeen). d.marks) c.write_register.ensures)))

@@ -10,9 +10,9 @@ use Rattle.machine.proofs.state.DeviceState.step.Goals as goal
 pub returns-in_default-clause-step : goal.returns-in_default-clause-step
 returns-in_default-clause-step g c = idle_step g.L.TouchLog.after c.args.ram.now.bytes c.args.log.now c.args.self.now c.args.pick c.in_default.ensures.ring
 
-pub serve-requires-clause-inside : goal.serve-requires-clause-inside
-serve-requires-clause-inside g c =
-    (looked_ring (length c.args.ram.now.bytes) c.args.self.now c.args.pick (ring_in c.in-Some.ring) c.requires.sound (looked_is c.args.self.now c.args.pick (ring_in c.in-Some.ring) c.in-Some.ensures.ring)).inside
+pub serve-requires-clause-areas : goal.serve-requires-clause-areas
+serve-requires-clause-areas g c =
+    (looked_ring (length c.args.ram.now.bytes) c.args.self.now c.args.pick (ring_in c.in-Some.ring) c.requires.sound (looked_is c.args.self.now c.args.pick (ring_in c.in-Some.ring) c.in-Some.ensures.ring)).areas
 
 pub returns-in-Ok-clause-step : goal.returns-in-Ok-clause-step
 returns-in-Ok-clause-step g c =

@@ -1,0 +1,22 @@
+use Rattle.std.proofs.Common.{refl, sym, ◌∙◌}
+use Rattle.machine.specs.Outcome.{fine}
+use Rattle.machine.specs.Seen.{state_of}
+use Rattle.machine.specs.declared.event.Event.TheVariants as events
+use Rattle.machine.specs.declared.reply.Reply.TheVariants as replies
+use Rattle.machine.proofs.At.{stored_step, plain_step, held_step, applied_logged}
+use Rattle.machine.proofs.machine.Machine.write_ram_logged.Goals as goal
+
+pub invariant_of-self : goal.invariant_of-self
+invariant_of-self g c =
+    let i = c.self.inside in
+    let step = stored_step g.L.TouchLog.after i.ram c.put.new.self c.args.log.now c.put.new.log i.devices.items c.args.addr c.args.bytes.now (sym c.refusal.ensures ∙ c.in_default.is) c.put.ensures.bytes c.put.ensures.log in
+    held_step i.shapes.items (record { memory = i.ram; devices = i.devices.items }) _ (events.MemWrite c.args.addr c.args.bytes.now) fine replies.Done c.self.invariant (c.ranges.addr.fits, c.recall_bytes.ensures)
+    (plain_step g.L.TouchLog.after (state_of (record { memory = i.ram; devices = i.devices.items })) _ c.args.log.now c.put.new.log (events.MemWrite c.args.addr c.args.bytes.now) replies.Done step)
+
+pub returns : goal.returns
+returns g c =
+    let i = c.self.inside in
+    let step = stored_step g.L.TouchLog.after i.ram c.put.new.self c.args.log.now c.put.new.log i.devices.items c.args.addr c.args.bytes.now (sym c.refusal.ensures ∙ c.in_default.is) c.put.ensures.bytes c.put.ensures.log in
+    rw (← c.self.view_is)
+    (applied_logged g.L.TouchLog.after i.shapes.items (record { memory = i.ram; devices = i.devices.items }) _ c.args.log.now c.put.new.log (events.MemWrite c.args.addr c.args.bytes.now) replies.Done c.self.invariant (c.ranges.addr.fits, c.recall_bytes.ensures)
+    step c.put.ensures.later refl)
