@@ -8,9 +8,9 @@ use Rattle.std.proofs.lemmas.Bool.{eqb-false}
 use borrow.Author.Tests.{ltb-false}
 use Rattle.guestmem.specs.Memory.{Memory}
 use Rattle.mmio.proofs.StayingSound.{first_sound}
-use Rattle.machine.specs.First.{are_same, dealt, seen_without_disk, saved_machine, first_machine, new_refusal}
+use Rattle.machine.specs.First.{are_same, dealt, dealt_sectors, dealt_marks, seen_without_disk, saved_machine, first_machine, new_refusal}
 use Rattle.machine.specs.Held.{IsHeld}
-use Rattle.machine.specs.Seen.{DeviceSeen, state_of}
+use Rattle.machine.specs.Seen.{DeviceSeen, Marks, state_of, no_marks}
 use Rattle.machine.specs.Shapes.{first_device, disk_sizes, sector_count}
 use Rattle.machine.specs.Sound.{IsSound, IsSoundDevice, IsWhole}
 use Rattle.machine.specs.State.{DeviceState, Sector}
@@ -57,9 +57,12 @@ first_device_sound bytes Entropy fits = record {
 abbrev pub no_disk : Shape → List Sector
 no_disk shape = []
 
-none_dealt : (shapes : List Shape) (disks : List (List Sector)) → dealt shapes disks ≡ map no_disk shapes
-none_dealt [] disks = refl
-none_dealt (Entropy ∷ shapes) disks = ap (λ (xs : List (List Sector)). [] ∷ xs) (none_dealt shapes disks)
+none_given : {A : Type 0} (none : A) (shapes : List Shape) (disks : List A) → dealt none shapes disks ≡ map (λ _. none) shapes
+none_given none [] disks = refl
+none_given none (Entropy ∷ shapes) disks = ap (λ xs. none ∷ xs) (none_given none shapes disks)
+
+none_dealt : (shapes : List Shape) (disks : List (List Sector)) → dealt_sectors shapes disks ≡ map no_disk shapes
+none_dealt shapes disks = none_given [] shapes disks
 
 no_sizes : (shapes : List Shape) → map length (map no_disk shapes) ≡ map sector_count shapes
 no_sizes [] = refl
@@ -143,3 +146,19 @@ saved_held shapes ram states disks ds is sound same = record {
   sound = rw (is_saved ram states disks ds is) sound;
   shapes_are = same ∙ sym (ap (map (λ (x : DeviceSeen). x.state.shape)) is ∙ saved_shapes states);
 }
+
+-- No device has a disk that is marked.
+first_marks : (bytes : ℕ) (shapes : List Shape) → map (λ (x : DeviceSeen). x.marks) (map (first_seen bytes) shapes) ≡ map (λ (_ : Shape). no_marks) shapes
+first_marks bytes [] = refl
+first_marks bytes (s ∷ shapes) = ap (λ xs. no_marks ∷ xs) (first_marks bytes shapes)
+
+pub are_first_marks : (bytes : ℕ) (shapes : List Shape) (marks : List Marks) (ds : List DeviceSeen) → ds ≡ map (first_seen bytes) shapes → map (λ (x : DeviceSeen). x.marks) ds ≡ dealt_marks shapes marks
+are_first_marks bytes shapes marks ds is = ap (map (λ (x : DeviceSeen). x.marks)) is ∙ first_marks bytes shapes ∙ sym (none_given no_marks shapes marks)
+
+saved_marks : (states : List DeviceState) → map (λ (x : DeviceSeen). x.marks) (map seen_without_disk states) ≡ map (λ (_ : Shape). no_marks) (map (λ (d : DeviceState). d.shape) states)
+saved_marks [] = refl
+saved_marks (s ∷ states) = ap (λ xs. no_marks ∷ xs) (saved_marks states)
+
+pub are_saved_marks : (shapes : List Shape) (states : List DeviceState) (marks : List Marks) (ds : List DeviceSeen) → ds ≡ map seen_without_disk states → shapes ≡ map (λ (d : DeviceState). d.shape) states
+    → map (λ (x : DeviceSeen). x.marks) ds ≡ dealt_marks shapes marks
+are_saved_marks shapes states marks ds is same = ap (map (λ (x : DeviceSeen). x.marks)) is ∙ saved_marks states ∙ ap (map (λ (_ : Shape). no_marks)) (sym same) ∙ sym (none_given no_marks shapes marks)

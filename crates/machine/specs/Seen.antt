@@ -33,10 +33,16 @@ abbrev pub all_marks : Seen → List Marks
 all_marks s = map (λ d. d.marks) s.devices
 
 -- A device without a disk has no sectors, and its marks are those of a disk that is honest and steady.
+abbrev pub no_marks : Marks
+no_marks = record { failures = 0; honest = true; steady = true }
+
+abbrev pub disk_marks : DiskState → Marks
+disk_marks disk = record { failures = disk.failures; honest = disk.honest; steady = disk.steady }
+
 abbrev pub sectors_of : {D : Type 0} → (D → DiskState) → Option D → List Sector
 sectors_of state None = []
 sectors_of state (Some disk) = map Some (state disk).sectors
 
 abbrev pub marks_of : {D : Type 0} → (D → DiskState) → Option D → Marks
-marks_of state None = record { failures = 0; honest = true; steady = true }
-marks_of state (Some disk) = record { failures = (state disk).failures; honest = (state disk).honest; steady = (state disk).steady }
+marks_of state None = no_marks
+marks_of state (Some disk) = disk_marks (state disk)

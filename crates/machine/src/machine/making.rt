@@ -1,9 +1,9 @@
 //! Machines that are made, or were saved.
 
 ghost use Rattle.std.specs.Prelude.{◌≡◌, ◌≤◌, length, map, Err, None, Some, IfOk, IfErr, IfSome};
-ghost use Rattle.machine.specs.Seen.{state_of};
+ghost use Rattle.machine.specs.Seen.{state_of, all_marks, disk_marks};
 ghost use Rattle.machine.specs.Shapes.{disk_size_of, disk_sizes, first_device};
-ghost use Rattle.machine.specs.First.{are_same, first_machine, saved_machine, seen_without_disk, new_refusal};
+ghost use Rattle.machine.specs.First.{are_same, dealt_marks, first_machine, saved_machine, seen_without_disk, new_refusal};
 ghost use Rattle.machine.specs.Sound.{IsSound};
 ghost use Rattle.machine.specs.declared.new_error.NewError.TheVariants as new_error;
 
@@ -27,6 +27,7 @@ impl<D: Disk + Drop> Machine<D> {
         disks: Vec<D>,
     ) -> Result<Machine<D>, NewError>
         ensures made { IfOk result (λ m. state_of m ≡ first_machine ram_pages shapes.now (map (λ d. map Some (D.state d).sectors) disks.items)) }
+        ensures marks { IfOk result (λ m. all_marks m ≡ dealt_marks shapes.now (map (λ d. disk_marks (D.state d)) disks.items)) }
         ensures sound { IfOk result (λ m. IsSound (state_of m)) }
         ensures refused { IfSome (new_refusal ram_pages shapes.now (map (λ d. length (D.state d).sectors) disks.items)) (λ error. result ≡ Err error) }
         ensures memory { new_refusal ram_pages shapes.now (map (λ d. length (D.state d).sectors) disks.items) ≡ None → IfErr result (λ error. error ≡ new_error.NoMemory) }
@@ -57,6 +58,7 @@ impl<D: Disk + Drop> Machine<D> {
         requires sound { IsSound (saved_machine ram.bytes states.items (map (λ d. map Some (D.state d).sectors) disks.items)) }
         requires shapes { shapes.items ≡ map (λ d. d.shape) states.items }
         ensures restored { IfOk result (λ m. state_of m ≡ saved_machine ram.bytes states.items (map (λ d. map Some (D.state d).sectors) disks.items)) }
+        ensures marks { IfOk result (λ m. all_marks m ≡ dealt_marks shapes.items (map (λ d. disk_marks (D.state d)) disks.items)) }
         ensures sound { IfOk result (λ m. IsSound (state_of m)) }
     {
         let devices = restored_devices(alloc, states)?;
