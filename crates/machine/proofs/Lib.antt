@@ -14,3 +14,4 @@ pub mod Running
 pub mod Disks
 pub mod Zeros
 pub mod Fresh
+pub mod Numbering

@@ -2,7 +2,7 @@
 
 ghost use Rattle.std.specs.Prelude.{◌≡◌, ◌++◌, ℕ, List, IsTrue, OnOk, IfErr};
 ghost use Rattle.machine.specs.Seen.{state_of};
-ghost use Rattle.wire.specs.Sinks.{Counts};
+ghost use Rattle.wire.specs.Sinks.{Appends, Takes};
 ghost use Rattle.wire.specs.Stream.{device_texts, saved, whole};
 ghost use Rattle.sender.specs.declared.mig_error.MigError.TheVariants as errors;
 
@@ -16,8 +16,7 @@ use wire::{Sink, SinkFault, Tally, encode_commit, write_device, write_header, wr
 /// answers `StreamFailed` exactly where the writer failed. The machine stays as it was. It takes no memory.
 #[tactic(auto, unfolding(wire::specs::Stream::whole))]
 pub fn save<D: Disk, S: Sink>(machine: &mut Machine<D>, out: &mut S) -> Result<(), MigError>
-    ensures count { Counts result (S.failures out.old) (S.failures out.new) }
-    ensures honest { OnOk result (IsTrue (S.is_honest out.old) → IsTrue (S.is_honest out.new) × (S.held out.new ≡ S.held out.old ++ whole (state_of machine.old))) }
+    ensures out { Appends (S.state out.old) (whole (state_of machine.old)) result (S.state out.new) }
     ensures refused { IfErr result (λ e. e ≡ errors.StreamFailed) }
     ensures same { machine.new ≡ machine.old }
 {
@@ -34,9 +33,8 @@ fn write_saved<D: Disk, S: Sink, T: Tally>(
     out: &mut S,
     tally: &mut T,
 ) -> Result<(), SinkFault>
-    ensures count { Counts result (S.failures out.old) (S.failures out.new) }
-    ensures honest { OnOk result (IsTrue (S.is_honest out.old) → IsTrue (S.is_honest out.new) × (S.held out.new ≡ S.held out.old ++ saved (state_of machine.now))) }
-    ensures taken { OnOk result ((b : List ℕ) → T.has_taken tally.old b → T.has_taken tally.new (b ++ saved (state_of machine.now))) }
+    ensures out { Appends (S.state out.old) (saved (state_of machine.now)) result (S.state out.new) }
+    ensures taken { OnOk result (Takes (T.has_taken tally.old) (saved (state_of machine.now)) (T.has_taken tally.new)) }
 {
     let pages = machine.ram().len() / PAGE_SIZE as u64;
     write_header(pages as u32, machine.shapes(), out, tally)?;
@@ -50,9 +48,8 @@ fn write_devices<D: Disk, S: Sink, T: Tally>(
     out: &mut S,
     tally: &mut T,
 ) -> Result<(), SinkFault>
-    ensures count { Counts result (S.failures out.old) (S.failures out.new) }
-    ensures honest { OnOk result (IsTrue (S.is_honest out.old) → IsTrue (S.is_honest out.new) × (S.held out.new ≡ S.held out.old ++ device_texts 0 (state_of machine.now).devices)) }
-    ensures taken { OnOk result ((b : List ℕ) → T.has_taken tally.old b → T.has_taken tally.new (b ++ device_texts 0 (state_of machine.now).devices)) }
+    ensures out { Appends (S.state out.old) (device_texts 0 (state_of machine.now).devices) result (S.state out.new) }
+    ensures taken { OnOk result (Takes (T.has_taken tally.old) (device_texts 0 (state_of machine.now).devices) (T.has_taken tally.new)) }
 {
     for number in 0..machine.shapes().len() as u8 {
         write_device(number, machine.state(number), out, tally)?;

@@ -3,6 +3,7 @@ use Rattle.std.proofs.Common.{◌≡◌, ℕ, ◌+◌, ◌<◌, ◌≤◌, Bool,
 use Rattle.std.specs.List.{All}
 use Rattle.std.proofs.lemmas.Nat.{and_le_l}
 use Rattle.std.proofs.lemmas.List.{take-append-drop, length-append, length-drop, drop_at}
+use Rattle.guestmem.specs.ByteLaws.{IsBytes-append, IsBytes-drop}
 use Rattle.guestmem.specs.Number.{number_at, IsBytes}
 use Rattle.chains.specs.declared.position.Positions.{Positions}
 use Rattle.mmio.specs.Sound.{IsSoundCommon, IsSoundQueue}
@@ -13,11 +14,13 @@ use Rattle.wire.specs.DeviceBody.{IsBodyOf, body, common_numbers, common_text, c
 use Rattle.wire.specs.BodyReading.{HasEntropyForm, HasFlags, common_from, common_of, entropy_of, positions_from, positions_of, queue_from, queue_of}
 use Rattle.machine.specs.QueuePositions.{HasPositions, HavePositions, is_packed_by}
 use Rattle.machine.specs.Shapes.{device_id_of, offered_of, queues_of, saved_device}
-use Rattle.machine.specs.Sound.{IsSoundDevice}
+use Rattle.machine.specs.Sound.{AreHostBytes, IsSoundDevice, IsSoundOwn}
 use Rattle.machine.specs.State.{DeviceState}
+use Rattle.machine.specs.declared.own.Own.{Own}
+use Rattle.machine.specs.declared.own.Own.TheVariants as own
 use Rattle.machine.specs.declared.shape.Shape.{Shape}
 use Rattle.machine.specs.declared.shape.Shape.TheVariants.{Entropy}
-use Rattle.wire.proofs.Digits.{IsBytes-drop, spelled-numbers, numbers-spelled, digits-number_at, number_at-digits, IsBytes-digits, IsBytes-append, IsBytes-spelled, flag-number, number-flag}
+use Rattle.wire.proofs.Digits.{spelled-numbers, numbers-spelled, digits-number_at, number_at-digits, IsBytes-digits, IsBytes-spelled, flag-number, number-flag}
 
 -- The registers that a device has once.
 
@@ -99,7 +102,7 @@ queue_fits ram_len packed c q p sound placed = (
 -- The body of an entropy device.
 
 abbrev device_with : ℕ → Common → Queue → Positions → List ℕ → DeviceState
-device_with ram_len c q p pool = saved_device ram_len Entropy c (q ∷ []) (p ∷ []) pool
+device_with ram_len c q p pool = saved_device ram_len Entropy c (q ∷ []) (p ∷ []) (own.Entropy pool)
 
 body_with : (ram_len : ℕ) (c : Common) (q : Queue) (p : Positions) (pool : List ℕ) → body (device_with ram_len c q p pool) ≡ common_text c ++ (queue_text q p ++ held_text pool)
 body_with ram_len c q p pool = ap (λ (x : List ℕ). common_text c ++ (x ++ held_text pool)) (append-nil (queue_text q p))
@@ -146,21 +149,32 @@ reads_as ram_len c q p pool common_fits queue_fits few =
       device = rw (common_of-text c after common_fits, past_common, queue_of-text q p (held_text pool) queue_fits, positions_of-text q p (held_text pool) queue_fits, past_count) refl;
     }
 
+-- What an entropy device has.
+pub record HasPool (o : Own) : Type 0 where
+  pub pool : List ℕ
+  pub is : o ≡ own.Entropy pool
+  pub are : AreHostBytes pool
+
+entropy_own : (o : Own) → IsSoundOwn Entropy o → HasPool o
+entropy_own (own.Entropy pool) are = record { pool = pool; is = refl; are = are }
+
 -- A sound entropy device is one of its parts.
 pub record EntropyParts (ram_len : ℕ) (d : DeviceState) : Type 0 where
   pub queue : Queue
   pub positions : Positions
-  pub is : d ≡ device_with ram_len d.registers.common queue positions d.pool
+  pub pool : List ℕ
+  pub pool_are : AreHostBytes pool
+  pub is : d ≡ device_with ram_len d.registers.common queue positions pool
   pub common_fits : Fit common_widths (common_numbers d.registers.common)
   pub queue_fits : Fit queue_widths (queue_numbers queue positions)
 
 same_device : (d e : DeviceState) → d.shape ≡ e.shape → d.registers.device_id ≡ e.registers.device_id → d.registers.offered ≡ e.registers.offered → d.registers.ram_len ≡ e.registers.ram_len
-    → d.registers.common ≡ e.registers.common → d.registers.queues ≡ e.registers.queues → d.positions ≡ e.positions → d.pool ≡ e.pool → d ≡ e
-same_device d e shape id offered ram_len common queues positions pool =
+    → d.registers.common ≡ e.registers.common → d.registers.queues ≡ e.registers.queues → d.positions ≡ e.positions → d.own ≡ e.own → d ≡ e
+same_device d e shape id offered ram_len common queues positions own_is =
     let same : ◌≡◌ {A = DeviceState}
-    (record { shape = d.shape; registers = record { device_id = d.registers.device_id; offered = d.registers.offered; ram_len = d.registers.ram_len; common = d.registers.common; queues = d.registers.queues }; positions = d.positions; pool = d.pool })
-    (record { shape = e.shape; registers = record { device_id = e.registers.device_id; offered = e.registers.offered; ram_len = e.registers.ram_len; common = e.registers.common; queues = e.registers.queues }; positions = e.positions; pool = e.pool })
-    = rw (shape, id, offered, ram_len, common, queues, positions, pool) refl in
+    (record { shape = d.shape; registers = record { device_id = d.registers.device_id; offered = d.registers.offered; ram_len = d.registers.ram_len; common = d.registers.common; queues = d.registers.queues }; positions = d.positions; own = d.own })
+    (record { shape = e.shape; registers = record { device_id = e.registers.device_id; offered = e.registers.offered; ram_len = e.registers.ram_len; common = e.registers.common; queues = e.registers.queues }; positions = e.positions; own = e.own })
+    = rw (shape, id, offered, ram_len, common, queues, positions, own_is) refl in
     same
 
 positions_at : (packed : Bool) (qs rs : List Queue) (ps os : List Positions) → qs ≡ rs → ps ≡ os → HavePositions packed qs ps → HavePositions packed rs os
@@ -175,10 +189,13 @@ parts_by ram_len d (q ∷ []) (p ∷ []) e f one shape sound =
     let placed = positions_at (is_packed_by d.registers.common) _ _ _ _ e f sound.positions in
     let queues : All (IsSoundQueue d.registers.ram_len d.registers.common) (q ∷ []) = rw e at sound.registers.queues in
     let queue : IsSoundQueue d.registers.ram_len d.registers.common q = queues 0 q (omega arith) in
+    let held = entropy_own d.own (rw shape at sound.own) in
     record {
       queue = q;
       positions = p;
-      is = same_device d (device_with ram_len d.registers.common q p d.pool) shape (sound.device_id ∙ ap device_id_of shape) (sound.offered ∙ ap offered_of shape) sound.ram_len refl e f refl;
+      is = same_device d (device_with ram_len d.registers.common q p held.pool) shape (sound.device_id ∙ ap device_id_of shape) (sound.offered ∙ ap offered_of shape) sound.ram_len refl e f held.is;
+      pool = held.pool;
+      pool_are = held.are;
       common_fits = common_fits d.registers.offered d.registers.common sound.registers.common;
       queue_fits = queue_fits d.registers.ram_len (is_packed_by d.registers.common) d.registers.common q p queue placed.0;
     }
@@ -190,10 +207,10 @@ pub body_reads_as : (ram_len : ℕ) (d : DeviceState) → d.shape ≡ Entropy �
 body_reads_as ram_len d shape sound =
     let parts = entropy_parts ram_len d shape sound in
     let c = d.registers.common in
-    let text : body d ≡ common_text c ++ (queue_text parts.queue parts.positions ++ held_text d.pool) = ap body parts.is ∙ body_with ram_len c parts.queue parts.positions d.pool in
-    let reads = reads_as ram_len c parts.queue parts.positions d.pool parts.common_fits parts.queue_fits sound.pool_fits in
+    let text : body d ≡ common_text c ++ (queue_text parts.queue parts.positions ++ held_text parts.pool) = ap body parts.is ∙ body_with ram_len c parts.queue parts.positions parts.pool in
+    let reads = reads_as ram_len c parts.queue parts.positions parts.pool parts.common_fits parts.queue_fits parts.pool_are.few in
     subst (λ (x : DeviceState). ReadsAs ram_len (body d) x) (sym parts.is)
-    (subst (λ (x : List ℕ). ReadsAs ram_len x (device_with ram_len c parts.queue parts.positions d.pool)) (sym text) reads)
+    (subst (λ (x : List ℕ). ReadsAs ram_len x (device_with ram_len c parts.queue parts.positions parts.pool)) (sym text) reads)
 
 -- The answers of the reader.
 
@@ -209,7 +226,7 @@ is_body ram_len bytes are form sound = record { shape_is = refl; sound = sound; 
 
 -- The parts that were read, in place of where they stand.
 pub read_parts : (ram_len : ℕ) (bytes : List ℕ) (c : Common) (q : Queue) (p : Positions) (pool : List ℕ) → c ≡ common_of bytes → q ≡ queue_of (drop 26 bytes) → p ≡ positions_of (drop 26 bytes) → pool ≡ drop 64 bytes
-    → entropy_of ram_len bytes ≡ device_with ram_len c q p pool
+    → entropy_of ram_len bytes ≡ saved_device ram_len Entropy c (q ∷ []) (p ∷ []) (own.Entropy pool)
 read_parts ram_len bytes c q p pool e f g h = rw (e, f, g, h) refl
 
 -- One body is of one sound device, and it is short.
@@ -224,8 +241,8 @@ short_by : (ram_len : ℕ) (s : Shape) (d : DeviceState) → d.shape ≡ s → I
 short_by ram_len Entropy d shape sound =
     let parts = entropy_parts ram_len d shape sound in
     let c = d.registers.common in
-    let text : body d ≡ common_text c ++ (queue_text parts.queue parts.positions ++ held_text d.pool) = ap body parts.is ∙ body_with ram_len c parts.queue parts.positions d.pool in
-    omega (arith, ap length text, length-append (common_text c) (queue_text parts.queue parts.positions ++ held_text d.pool), length-append (queue_text parts.queue parts.positions) (held_text d.pool), length-common_text c, length-queue_text parts.queue parts.positions, sound.pool_fits)
+    let text : body d ≡ common_text c ++ (queue_text parts.queue parts.positions ++ held_text parts.pool) = ap body parts.is ∙ body_with ram_len c parts.queue parts.positions parts.pool in
+    omega (arith, ap length text, length-append (common_text c) (queue_text parts.queue parts.positions ++ held_text parts.pool), length-append (queue_text parts.queue parts.positions) (held_text parts.pool), length-common_text c, length-queue_text parts.queue parts.positions, parts.pool_are.few)
 
 pub body_is_short : (ram_len : ℕ) (d : DeviceState) → IsSoundDevice ram_len d → length (body d) ≤ 131072
 body_is_short ram_len d sound = short_by ram_len d.shape d refl sound
@@ -242,11 +259,11 @@ bytes_by : (ram_len : ℕ) (s : Shape) (d : DeviceState) → d.shape ≡ s → I
 bytes_by ram_len Entropy d shape sound =
     let parts = entropy_parts ram_len d shape sound in
     let c = d.registers.common in
-    let text : body d ≡ common_text c ++ (queue_text parts.queue parts.positions ++ held_text d.pool) = ap body parts.is ∙ body_with ram_len c parts.queue parts.positions d.pool in
-    let held = IsBytes-append (digits 2 (length d.pool)) d.pool (IsBytes-digits 2 (length d.pool) (omega (arith, sound.pool_fits))) sound.pool_bytes in
+    let text : body d ≡ common_text c ++ (queue_text parts.queue parts.positions ++ held_text parts.pool) = ap body parts.is ∙ body_with ram_len c parts.queue parts.positions parts.pool in
+    let held = IsBytes-append (digits 2 (length parts.pool)) parts.pool (IsBytes-digits 2 (length parts.pool) (omega (arith, parts.pool_are.few))) parts.pool_are.are in
     subst (λ (x : List ℕ). IsBytes x) (sym text)
-    (IsBytes-append (common_text c) (queue_text parts.queue parts.positions ++ held_text d.pool) (common_bytes c parts.common_fits)
-    (IsBytes-append (queue_text parts.queue parts.positions) (held_text d.pool) (queue_bytes parts.queue parts.positions parts.queue_fits) held))
+    (IsBytes-append (common_text c) (queue_text parts.queue parts.positions ++ held_text parts.pool) (common_bytes c parts.common_fits)
+    (IsBytes-append (queue_text parts.queue parts.positions) (held_text parts.pool) (queue_bytes parts.queue parts.positions parts.queue_fits) held))
 
 pub body_bytes : (ram_len : ℕ) (d : DeviceState) → IsSoundDevice ram_len d → IsBytes (body d)
 body_bytes ram_len d sound = bytes_by ram_len d.shape d refl sound

@@ -4,7 +4,8 @@ use Rattle.std.proofs.lemmas.List.{take-append-drop, length-append, length-take,
 use Rattle.guestmem.specs.Number.{number_at, IsBytes}
 use Rattle.wire.specs.Numbers.{digits, spelled}
 use Rattle.wire.specs.Records.{page, sector, round_end, device, commit, spelled_record, BeginsRecord, BeginsNoRecord}
-use Rattle.wire.proofs.Digits.{IsBytes-drop, IsBytes-take, spelled-numbers, digits-number_at, number_at-digits, number_at-fits, length-digits}
+use Rattle.guestmem.specs.ByteLaws.{IsBytes-drop, IsBytes-take}
+use Rattle.wire.proofs.Digits.{spelled-numbers, digits-number_at, number_at-digits, number_at-fits, length-digits}
 use Rattle.wire.proofs.Spelling.{tail_same, head_same}
 
 pub page_short : (rest : List ℕ) → length rest < 4100 → BeginsNoRecord (1 ∷ rest)

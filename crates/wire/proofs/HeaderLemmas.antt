@@ -3,11 +3,12 @@ use Rattle.std.proofs.lemmas.Bool.{eqb-true, eqb-false, ne_eqb, ltb-false, le-lt
 use Rattle.std.proofs.lemmas.List.{drop_at}
 use Rattle.guestmem.specs.Number.{number_at, IsBytes}
 use Rattle.wire.specs.HeaderReading.{header_of, with_pages}
-use Rattle.wire.specs.Numbers.{spelled, Fit}
+use Rattle.wire.specs.Numbers.{digits, spelled, Fit}
 use Rattle.wire.proofs.Digits.{spelled-numbers, numbers-spelled, length-spelled}
 use Rattle.wire.proofs.Choices.{same_found, not_chosen, neither, so, then_found}
 use Rattle.std.proofs.Common.{◌≡◌, ℕ, zero, suc, ◌+◌, ◌-◌, ◌<◌, ◌≤◌, List, [], ◌∷◌, ◌++◌, length, drop, get_or, subst, ◌≢◌, nat_lt, Option, Some, None, Bool, true, false, cond, refl, sym, ap, ◌∙◌, append_assoc, append-nil, length-append, take-append-drop, arith, eqb}
-use Rattle.std.specs.Prelude.{option_and_then, not, ◌||◌}
+use Rattle.std.specs.Int.{byte_at}
+use Rattle.std.specs.Prelude.{codes, option_and_then, not, ◌||◌, ◌%◌}
 use Rattle.machine.specs.declared.shape.Shape.{Shape}
 use Rattle.machine.specs.declared.shape.Shape.TheVariants.{Entropy}
 use Rattle.wire.specs.ShapeReading.{shape_of, shapes_of, in_front}
@@ -246,3 +247,23 @@ behind text rest bytes e =
     let both : length bytes ≡ length text + length rest = ap length e ∙ length-append text rest in
     let before : length bytes - length rest ≡ length text = omega arith in
     record { shorter = omega arith; dropped = rw (before, e) (drop_at text rest (length text) refl) }
+
+-- A count of devices is spelled by its lowest four bytes.
+first_byte : (n : ℕ) → byte_at 0 (n % 4294967296) ≡ byte_at 0 n
+first_byte n = omega arith
+
+second_byte : (n : ℕ) → byte_at 1 (n % 4294967296) ≡ byte_at 1 n
+second_byte n = omega arith
+
+third_byte : (n : ℕ) → byte_at 2 (n % 4294967296) ≡ byte_at 2 n
+third_byte n = omega arith
+
+fourth_byte : (n : ℕ) → byte_at 3 (n % 4294967296) ≡ byte_at 3 n
+fourth_byte n = omega arith
+
+low_digits : (n : ℕ) → digits 4 (n % 4294967296) ≡ digits 4 n
+low_digits n = rw (first_byte n, second_byte n, third_byte n, fourth_byte n) refl
+
+pub front_low : (pages n : ℕ) → front pages (n % 4294967296) ≡ front pages n
+unfolding front
+front_low pages n = ap (λ (x : List ℕ). codes "VMIG" ++ (digits 4 1 ++ (digits 4 pages ++ x))) (low_digits n)

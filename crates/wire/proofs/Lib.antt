@@ -3,6 +3,7 @@ pub mod Choices
 pub mod Decoding
 pub mod Digits
 pub mod HeaderLemmas
+pub mod ItemRecords
 pub mod Saving
 pub mod Sinks
 pub mod Spelling

@@ -6,26 +6,20 @@ use Rattle.chains.specs.declared.position.Positions.{Positions}
 use Rattle.mmio.specs.declared.queue.Queue.{Queue}
 use Rattle.wire.specs.DeviceBody.{body, common_text, queue_text, queues_text, held_text}
 use Rattle.wire.specs.Header.{spelled_shape, spelled_shapes}
-use Rattle.wire.specs.Records.{page, device, spelled_record}
-use Rattle.machine.specs.State.{DeviceState}
-use Rattle.wire.specs.Stream.{device_texts, page_entries, page_of, shapes_in, texts}
+use Rattle.wire.specs.Records.{device, spelled_record}
+use Rattle.machine.specs.Layout.{layout_of, item_at}
+use Rattle.machine.specs.State.{DeviceState, MachineState}
+use Rattle.machine.specs.declared.own.Own.TheVariants as own
+use Rattle.wire.specs.Stream.{device_texts, record_of, records_below, shapes_in, texts}
 use Rattle.machine.specs.declared.shape.Shape.{Shape}
-use Rattle.machine.specs.declared.shape.Shape.TheVariants.{Entropy}
 use Rattle.wire.proofs.Bodies.{length-common_text, length-queue_text}
 use Rattle.wire.proofs.Whole.{texts-snoc}
 use Rattle.wire.proofs.Unique.{length_shapes}
 use Rattle.wire.proofs.DeviceTexts.{device_texts-snoc}
 
-one_page : (ram : List ℕ) (n : ℕ) → texts (page_entries ram (n + 1)) ≡ texts (page_entries ram n) ++ spelled_record (page n (page_of ram n))
-unfolding page_entries
-one_page ram n = let m : n + 1 ≡ suc n = omega arith in rw m (texts-snoc (page_entries ram n) (page n (page_of ram n)))
-
-pub no_pages : (x ram : List ℕ) → x ++ texts (page_entries ram 0) ≡ x
-unfolding page_entries texts
-no_pages x ram = append-nil x
-
-pub page_more : (x ram b : List ℕ) (n : ℕ) → b ≡ page_of ram n → (x ++ texts (page_entries ram n)) ++ spelled_record (page n b) ≡ x ++ texts (page_entries ram (n + 1))
-page_more x ram b n e = rw (e, one_page ram n) (append_assoc x (texts (page_entries ram n)) (spelled_record (page n (page_of ram n))))
+one_record : (m : MachineState) (n : ℕ) → texts (records_below m (n + 1)) ≡ texts (records_below m n) ++ spelled_record (record_of m (item_at (layout_of m) n))
+unfolding records_below
+one_record m n = let more : n + 1 ≡ suc n = omega arith in rw more (texts-snoc (records_below m n) (record_of m (item_at (layout_of m) n)))
 
 -- The first so many of a list, and one more.
 pub first_more : {A : Type 0} (xs : List A) (n : ℕ) (x : A) → n < length xs → x ≡ get_or xs n x → take (n + 1) xs ≡ take n xs ++ x ∷ []
@@ -61,14 +55,14 @@ length_queues (q ∷ qs) [] e = refl
 length_queues (q ∷ qs) (p ∷ ps) e =
     omega (arith, length-append (queue_text q p) (queues_text qs ps), length-queue_text q p, length_queues qs ps (omega (arith, e)))
 
-pub length_body : (d : DeviceState) → length d.positions ≡ length d.registers.queues → d.shape ≡ Entropy → length (body d) ≡ 26 + 36 * length d.positions + (2 + length d.pool)
-length_body d each shape =
-    let own : body d ≡ common_text d.registers.common ++ (queues_text d.registers.queues d.positions ++ held_text d.pool) = rw shape refl in
+pub length_body : (d : DeviceState) (pool : List ℕ) → length d.positions ≡ length d.registers.queues → d.own ≡ own.Entropy pool → length (body d) ≡ 26 + 36 * length d.positions + (2 + length pool)
+length_body d pool each own_is =
+    let whole : body d ≡ common_text d.registers.common ++ (queues_text d.registers.queues d.positions ++ held_text pool) = rw own_is refl in
     omega (
       arith,
-      ap length own,
-      length-append (common_text d.registers.common) (queues_text d.registers.queues d.positions ++ held_text d.pool),
-      length-append (queues_text d.registers.queues d.positions) (held_text d.pool),
+      ap length whole,
+      length-append (common_text d.registers.common) (queues_text d.registers.queues d.positions ++ held_text pool),
+      length-append (queues_text d.registers.queues d.positions) (held_text pool),
       length-common_text d.registers.common,
       length_queues d.registers.queues d.positions each,
     )

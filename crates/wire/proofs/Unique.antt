@@ -1,5 +1,5 @@
 -- One stream has one machine.
-use Rattle.std.proofs.Common.{◌≡◌, ℕ, zero, suc, ◌+◌, ◌*◌, ◌<◌, ◌≤◌, List, [], ◌∷◌, ◌++◌, length, take, Option, Some, None, refl, sym, ap, ◌∙◌, append_assoc, append-nil, arith}
+use Rattle.std.proofs.Common.{◌≡◌, ℕ, zero, suc, ◌+◌, ◌*◌, ◌<◌, ◌≤◌, List, [], ◌∷◌, ◌++◌, length, map, take, slice_get, Option, Some, None, refl, sym, ap, ◌∙◌, append_assoc, append-nil, arith}
 use Rattle.std.proofs.lemmas.List.{length-append, length-map}
 use Rattle.std.proofs.lemmas.List.Elements.{recursion_from_All}
 use Rattle.std.proofs.Math.Seq.{take-length, take-add}
@@ -8,9 +8,15 @@ use Rattle.sha2.specs.Sha256.{sha256}
 use Rattle.wire.specs.DeviceBody.{body}
 use Rattle.wire.specs.Header.{header, IsHeader, Begins}
 use Rattle.wire.specs.Records.{Record, page, sector, round_end, device, commit, HasSpelling, spelled_record}
+use Rattle.guestmem.specs.Item.{Item, page as page_item, sector as sector_item}
+use Rattle.guestmem.specs.Page.{page_of}
+use Rattle.machine.specs.EffectLaws.{HasItem, sectors_on, sector_on}
+use Rattle.machine.specs.Layout.{pages_of}
+use Rattle.machine.specs.Shapes.{sector_count}
 use Rattle.machine.specs.Sound.{IsSound, IsSoundDevice}
+use Rattle.machine.proofs.Numbering.{on_disk, sector_there}
 use Rattle.machine.specs.State.{DeviceState, MachineState, Sector}
-use Rattle.wire.specs.Stream.{IsStream, IsStreamBy, IsEntry, shapes_in, texts, device_texts, before_commit, page_of, last_of}
+use Rattle.wire.specs.Stream.{IsStream, IsStreamBy, IsEntry, shapes_in, content_of, record_of, last_named, rounds, texts, device_texts, before_commit}
 use Rattle.machine.specs.declared.shape.Shape.{Shape}
 use Rattle.wire.proofs.Bodies.{body_is_short, body_bytes, one_body}
 use Rattle.wire.proofs.Choices.{same_found}
@@ -21,37 +27,37 @@ pub cons_same : {A : Type 0} {x y : A} {xs ys : List A} → x ≡ y → xs ≡ y
 cons_same p q = rw (p, q) refl
 
 -- An entry has another tag than a device.
-pub not_device : (pages : ℕ) (r : Record) (x y : List ℕ) → IsEntry pages r → spelled_record r ++ x ≡ 4 ∷ y → ⊥
+pub not_device : (pages : ℕ) (hs : List Shape) (r : Record) (x y : List ℕ) → IsEntry pages hs r → spelled_record r ++ x ≡ 4 ∷ y → ⊥
 unfolding spelled_record
-not_device pages (page n b) x y h e = cc
-not_device pages (sector d n (Some b)) x y h e = h.stands
-not_device pages (sector d n None) x y h e = h.stands
-not_device pages (round_end n) x y h e = cc
-not_device pages (device d b) x y h e = h.stands
-not_device pages (commit b) x y h e = h.stands
+not_device pages hs (page n b) x y h e = cc
+not_device pages hs (sector d n (Some b)) x y h e = cc
+not_device pages hs (sector d n None) x y h e = cc
+not_device pages hs (round_end n) x y h e = cc
+not_device pages hs (device d b) x y h e = h.stands
+not_device pages hs (commit b) x y h e = h.stands
 
 -- what begins as entries and goes on to a device has these entries first
-pub record Leads (pages : ℕ) (es fs : List Record) (x y : List ℕ) : Type 0 where
+pub record Leads (pages : ℕ) (hs : List Shape) (es fs : List Record) (x y : List ℕ) : Type 0 where
   pub more : List Record
   pub all : fs ≡ es ++ more
-  pub each : AllByRecursion (IsEntry pages) more
+  pub each : AllByRecursion (IsEntry pages hs) more
   pub left : x ≡ texts more ++ (4 ∷ y)
 
-pub leads : (p q : ℕ) (es fs : List Record) (x y : List ℕ) → AllByRecursion (IsEntry p) es → AllByRecursion (IsEntry q) fs
-    → texts es ++ x ≡ texts fs ++ (4 ∷ y) → Leads q es fs x y
+pub leads : (p q : ℕ) (gs hs : List Shape) (es fs : List Record) (x y : List ℕ) → AllByRecursion (IsEntry p gs) es → AllByRecursion (IsEntry q hs) fs
+    → texts es ++ x ≡ texts fs ++ (4 ∷ y) → Leads q hs es fs x y
 unfolding texts
-leads p q [] fs x y h k e = record { more = fs; all = refl; each = k; left = e }
-leads p q (r ∷ es) [] x y h k e = absurd (not_device p r (texts es ++ x) y h.0 (sym (append_assoc (spelled_record r) (texts es) x) ∙ e))
-leads p q (r ∷ es) (s ∷ fs) x y h k e =
+leads p q gs hs [] fs x y h k e = record { more = fs; all = refl; each = k; left = e }
+leads p q gs hs (r ∷ es) [] x y h k e = absurd (not_device p gs r (texts es ++ x) y h.0 (sym (append_assoc (spelled_record r) (texts es) x) ∙ e))
+leads p q gs hs (r ∷ es) (s ∷ fs) x y h k e =
     let f : spelled_record r ++ (texts es ++ x) ≡ spelled_record s ++ (texts fs ++ (4 ∷ y)) = sym (append_assoc (spelled_record r) (texts es) x) ∙ e ∙ append_assoc (spelled_record s) (texts fs) (4 ∷ y) in
     let o = one_record r s (texts es ++ x) (texts fs ++ (4 ∷ y)) h.0.spells k.0.spells f in
-    let ih = leads p q es fs x y h.1 k.1 o.1 in
+    let ih = leads p q gs hs es fs x y h.1 k.1 o.1 in
     record { more = ih.more; all = cons_same (sym o.0) ih.all; each = ih.each; left = ih.left }
 
-pub none_more : (q : ℕ) (more : List Record) (x y : List ℕ) → AllByRecursion (IsEntry q) more → 4 ∷ x ≡ texts more ++ (4 ∷ y) → (more ≡ []) × (x ≡ y)
+pub none_more : (q : ℕ) (hs : List Shape) (more : List Record) (x y : List ℕ) → AllByRecursion (IsEntry q hs) more → 4 ∷ x ≡ texts more ++ (4 ∷ y) → (more ≡ []) × (x ≡ y)
 unfolding texts
-none_more q [] x y h e = (refl, cc)
-none_more q (r ∷ rs) x y h e = absurd (not_device q r (texts rs ++ (4 ∷ y)) x h.0 (sym (append_assoc (spelled_record r) (texts rs) (4 ∷ y)) ∙ sym e))
+none_more q hs [] x y h e = (refl, cc)
+none_more q hs (r ∷ rs) x y h e = absurd (not_device q hs r (texts rs ++ (4 ∷ y)) x h.0 (sym (append_assoc (spelled_record r) (texts rs) (4 ∷ y)) ∙ sym e))
 
 pub body_spells : (ram_len number : ℕ) (d : DeviceState) → number < 256 → IsSoundDevice ram_len d → HasSpelling (device number (body d))
 body_spells ram_len number d low sound = (low, omega (arith, body_is_short ram_len d sound), body_bytes ram_len d sound)
@@ -93,10 +99,10 @@ devices_lead ram_len number (s ∷ ss) (t ∷ ts) hs x y low h k shapes e =
 pub length_shapes : (ss : List DeviceState) → length (shapes_in ss) ≡ length ss
 length_shapes ss = simp length-map
 
-pub pages_limits : (pages : ℕ) (m : MachineState) → length m.ram ≡ 4096 * pages → IsSound m → IsHeader pages (shapes_in m.devices)
-pages_limits pages m e sound = record {
-  some_page = omega (arith, e, sound.whole_pages, sound.some_pages);
-  few_pages = omega (arith, e, sound.whole_pages, sound.few_pages);
+pub pages_limits : (m : MachineState) → IsSound m → IsHeader (pages_of m) (shapes_in m.devices)
+pages_limits m sound = record {
+  some_page = sound.some_pages;
+  few_pages = sound.few_pages;
   some_device = omega (arith, length_shapes m.devices, sound.some_devices);
   few_devices = omega (arith, length_shapes m.devices, sound.few_devices);
 }
@@ -104,9 +110,9 @@ pages_limits pages m e sound = record {
 pub after_header : (pages : ℕ) (entries : List Record) (ss : List DeviceState) (c : List ℕ) → before_commit pages entries ss ++ c ≡ header pages (shapes_in ss) ++ (texts entries ++ (device_texts 0 ss ++ c))
 after_header pages entries ss c = simp append_assoc
 
-pub stream_begins : {bytes : List ℕ} {m : MachineState} {pages : ℕ} {entries : List Record} → IsStreamBy bytes m pages entries
-    → Begins bytes pages (shapes_in m.devices) (texts entries ++ (device_texts 0 m.devices ++ spelled_record (commit (sha256 (before_commit pages entries m.devices)))))
-stream_begins {bytes} {m} {pages} {entries} h = record { good = pages_limits pages m h.pages_are h.sound; whole = h.whole ∙ after_header pages entries m.devices _ }
+pub stream_begins : {bytes : List ℕ} {m : MachineState} {entries : List Record} → IsStreamBy bytes m entries
+    → Begins bytes (pages_of m) (shapes_in m.devices) (texts entries ++ (device_texts 0 m.devices ++ spelled_record (commit (sha256 (before_commit (pages_of m) entries m.devices)))))
+stream_begins {bytes} {m} {entries} h = record { good = pages_limits m h.sound; whole = h.whole ∙ after_header (pages_of m) entries m.devices _ }
 
 -- the devices begin with their tag
 pub device_first : (ss : List DeviceState) (c : List ℕ) → 1 ≤ length ss → (t : List ℕ) × (device_texts 0 ss ++ c ≡ 4 ∷ t)
@@ -154,12 +160,12 @@ pub record SameParts (p q : ℕ) (es fs : List Record) (ss ts : List DeviceState
 ends_none : (es fs : List Record) (u v x y : List ℕ) → u ≡ 4 ∷ x → v ≡ 4 ∷ y → (more : List Record) → fs ≡ es ++ more → (more ≡ []) × (x ≡ y) → (fs ≡ es) × (u ≡ v)
 ends_none es fs u v x y eu ev more all none = (all ∙ ap (λ (z : List Record). es ++ z) none.0 ∙ append-nil es, eu ∙ ap (λ (z : List ℕ). 4 ∷ z) none.1 ∙ sym ev)
 
-ends_led : (q : ℕ) (es fs : List Record) (u v x y : List ℕ) → u ≡ 4 ∷ x → v ≡ 4 ∷ y → Leads q es fs u y → (fs ≡ es) × (u ≡ v)
-ends_led q es fs u v x y eu ev l = ends_none es fs u v x y eu ev l.more l.all (none_more q l.more x y l.each (sym eu ∙ l.left))
+ends_led : (q : ℕ) (hs : List Shape) (es fs : List Record) (u v x y : List ℕ) → u ≡ 4 ∷ x → v ≡ 4 ∷ y → Leads q hs es fs u y → (fs ≡ es) × (u ≡ v)
+ends_led q hs es fs u v x y eu ev l = ends_none es fs u v x y eu ev l.more l.all (none_more q hs l.more x y l.each (sym eu ∙ l.left))
 
-ends_alike : (p q : ℕ) (es fs : List Record) (u v x y : List ℕ) → AllByRecursion (IsEntry p) es → AllByRecursion (IsEntry q) fs → u ≡ 4 ∷ x → v ≡ 4 ∷ y
+ends_alike : (p q : ℕ) (gs hs : List Shape) (es fs : List Record) (u v x y : List ℕ) → AllByRecursion (IsEntry p gs) es → AllByRecursion (IsEntry q hs) fs → u ≡ 4 ∷ x → v ≡ 4 ∷ y
     → texts es ++ u ≡ texts fs ++ v → (fs ≡ es) × (u ≡ v)
-ends_alike p q es fs u v x y h k eu ev e = ends_led q es fs u v x y eu ev (leads p q es fs u y h k (e ∙ ap (λ (z : List ℕ). texts fs ++ z) ev))
+ends_alike p q gs hs es fs u v x y h k eu ev e = ends_led q hs es fs u v x y eu ev (leads p q gs hs es fs u y h k (e ∙ ap (λ (z : List ℕ). texts fs ++ z) ev))
 
 devices_led : (ss ts : List DeviceState) (x y : List ℕ) → LeadsDevices 0 ss ts x y → length ss ≡ length ts → ts ≡ ss
 devices_led ss ts x y d count = d.all ∙ ap (λ (z : List DeviceState). ss ++ z) (none_from_length ss d.more 0 (ap length (sym d.all) ∙ sym count)) ∙ append-nil ss
@@ -174,58 +180,85 @@ devices_alike ram_len ss ts x y few h k shapes e =
 same_sizes : (a b p q : ℕ) → p ≡ q → a ≡ 4096 * p → b ≡ 4096 * q → b ≡ a
 same_sizes a b p q e f g = g ∙ ap (λ (x : ℕ). 4096 * x) (sym e) ∙ sym f
 
-parts_from_ends : (bytes : List ℕ) (m n : MachineState) (p q : ℕ) (es fs : List Record) (ca cb : List ℕ) → IsStreamBy bytes m p es → IsStreamBy bytes n q fs → p ≡ q → shapes_in m.devices ≡ shapes_in n.devices
-    → length n.ram ≡ length m.ram → (fs ≡ es) × (device_texts 0 m.devices ++ ca ≡ device_texts 0 n.devices ++ cb) → SameParts p q es fs m.devices n.devices
-parts_from_ends bytes m n p q es fs ca cb a b e f size o = record {
+parts_from_ends : (bytes : List ℕ) (m n : MachineState) (es fs : List Record) (ca cb : List ℕ) → IsStreamBy bytes m es → IsStreamBy bytes n fs → pages_of m ≡ pages_of n → shapes_in m.devices ≡ shapes_in n.devices
+    → length n.ram ≡ length m.ram → (fs ≡ es) × (device_texts 0 m.devices ++ ca ≡ device_texts 0 n.devices ++ cb) → SameParts (pages_of m) (pages_of n) es fs m.devices n.devices
+parts_from_ends bytes m n es fs ca cb a b e f size o = record {
   pages = e;
   entries = sym o.0;
   devices = sym (devices_alike (length m.ram) m.devices n.devices ca cb b.sound.few_devices a.sound.devices (rw size at b.sound.devices) f o.1);
 }
 
-parts_from_texts : (bytes : List ℕ) (m n : MachineState) (p q : ℕ) (es fs : List Record) (ca cb : List ℕ) → IsStreamBy bytes m p es → IsStreamBy bytes n q fs
-    → Alike p q (shapes_in m.devices) (shapes_in n.devices) (texts es ++ (device_texts 0 m.devices ++ ca)) (texts fs ++ (device_texts 0 n.devices ++ cb)) → SameParts p q es fs m.devices n.devices
-parts_from_texts bytes m n p q es fs ca cb a b t =
+parts_from_texts : (bytes : List ℕ) (m n : MachineState) (es fs : List Record) (ca cb : List ℕ) → IsStreamBy bytes m es → IsStreamBy bytes n fs
+    → Alike (pages_of m) (pages_of n) (shapes_in m.devices) (shapes_in n.devices) (texts es ++ (device_texts 0 m.devices ++ ca)) (texts fs ++ (device_texts 0 n.devices ++ cb))
+    → SameParts (pages_of m) (pages_of n) es fs m.devices n.devices
+parts_from_texts bytes m n es fs ca cb a b t =
     let fa = device_first m.devices ca a.sound.some_devices in
     let fb = device_first n.devices cb b.sound.some_devices in
-    parts_from_ends bytes m n p q es fs ca cb a b t.first t.second (same_sizes (length m.ram) (length n.ram) p q t.first a.pages_are b.pages_are)
-    (ends_alike p q es fs (device_texts 0 m.devices ++ ca) (device_texts 0 n.devices ++ cb) fa.0 fb.0 a.each b.each fa.1 fb.1 t.third)
+    parts_from_ends bytes m n es fs ca cb a b t.first t.second (same_sizes (length m.ram) (length n.ram) (pages_of m) (pages_of n) t.first a.sound.whole_pages b.sound.whole_pages)
+    (ends_alike (pages_of m) (pages_of n) (shapes_in m.devices) (shapes_in n.devices) es fs (device_texts 0 m.devices ++ ca) (device_texts 0 n.devices ++ cb) fa.0 fb.0 a.each b.each fa.1 fb.1 t.third)
 
-pub same_parts : (bytes : List ℕ) (m n : MachineState) (p q : ℕ) (es fs : List Record) → IsStreamBy bytes m p es → IsStreamBy bytes n q fs → SameParts p q es fs m.devices n.devices
-same_parts bytes m n p q es fs a b =
-    let ca = spelled_record (commit (sha256 (before_commit p es m.devices))) in
-    let cb = spelled_record (commit (sha256 (before_commit q fs n.devices))) in
-    parts_from_texts bytes m n p q es fs ca cb a b
-    (alike p q (shapes_in m.devices) (shapes_in n.devices) (texts es ++ (device_texts 0 m.devices ++ ca)) (texts fs ++ (device_texts 0 n.devices ++ cb))
-    (sym (header_of-spelled bytes p (shapes_in m.devices) (texts es ++ (device_texts 0 m.devices ++ ca)) (stream_begins a))
-    ∙ header_of-spelled bytes q (shapes_in n.devices) (texts fs ++ (device_texts 0 n.devices ++ cb)) (stream_begins b)))
+pub same_parts : (bytes : List ℕ) (m n : MachineState) (es fs : List Record) → IsStreamBy bytes m es → IsStreamBy bytes n fs → SameParts (pages_of m) (pages_of n) es fs m.devices n.devices
+same_parts bytes m n es fs a b =
+    let ca = spelled_record (commit (sha256 (before_commit (pages_of m) es m.devices))) in
+    let cb = spelled_record (commit (sha256 (before_commit (pages_of n) fs n.devices))) in
+    parts_from_texts bytes m n es fs ca cb a b
+    (alike (pages_of m) (pages_of n) (shapes_in m.devices) (shapes_in n.devices) (texts es ++ (device_texts 0 m.devices ++ ca)) (texts fs ++ (device_texts 0 n.devices ++ cb))
+    (sym (header_of-spelled bytes (pages_of m) (shapes_in m.devices) (texts es ++ (device_texts 0 m.devices ++ ca)) (stream_begins a))
+    ∙ header_of-spelled bytes (pages_of n) (shapes_in n.devices) (texts fs ++ (device_texts 0 n.devices ++ cb)) (stream_begins b)))
 
--- No device has a disk, so disks are alike where the devices are.
-no_sectors : (a b : List (List Sector)) → length a ≡ length b → AllByRecursion (λ (disk : List Sector). disk ≡ []) a → AllByRecursion (λ (disk : List Sector). disk ≡ []) b → a ≡ b
-no_sectors [] [] e h k = refl
-no_sectors [] (y ∷ b) e h k = absurd (omega (arith, e))
-no_sectors (x ∷ a) [] e h k = absurd (omega (arith, e))
-no_sectors (x ∷ a) (y ∷ b) e h k = cons_same (h.0 ∙ sym k.0) (no_sectors a b (omega (arith, e)) h.1 k.1)
+-- What the last records say is the machine.
+content_told : (m n : MachineState) (dev k : ℕ) → record_of m (sector_item dev k) ≡ record_of n (sector_item dev k) → content_of (sector_on (sectors_on m dev) k) ≡ content_of (sector_on (sectors_on n dev) k)
+content_told m n dev k e = cc
+
+page_told : (m n : MachineState) (k : ℕ) → record_of m (page_item k) ≡ record_of n (page_item k) → page_of m.ram k ≡ page_of n.ram k
+page_told m n k e = cc
+
+disk_same : (x y : List Sector) → length x ≡ length y → ((k : ℕ) (content : Sector) → slice_get x k ≡ Some content → content_of (slice_get x k) ≡ content_of (slice_get y k)) → x ≡ y
+disk_same [] [] e h = refl
+disk_same [] (b ∷ y) e h = absurd (omega (arith, e))
+disk_same (a ∷ x) [] e h = absurd (omega (arith, e))
+disk_same (a ∷ x) (b ∷ y) e h = cons_same (h 0 a refl) (disk_same x y (omega (arith, e)) (λ k content there. h (suc k) content there))
+
+first_same : (a b : ℕ) (as_ bs : List ℕ) → a ∷ as_ ≡ b ∷ bs → (a ≡ b) × (as_ ≡ bs)
+first_same a b as_ bs e = (cc, cc)
+
+disks_same : (a b : List (List Sector)) → map length a ≡ map length b
+    → ((dev k : ℕ) (content : Sector) → sector_on (slice_get a dev) k ≡ Some content → content_of (sector_on (slice_get a dev) k) ≡ content_of (sector_on (slice_get b dev) k)) → a ≡ b
+disks_same [] [] e h = refl
+disks_same [] (y ∷ b) e h = absurd cc
+disks_same (x ∷ a) [] e h = absurd cc
+disks_same (x ∷ a) (y ∷ b) e h =
+    let sizes = first_same (length x) (length y) (map length a) (map length b) e in
+    cons_same (disk_same x y sizes.0 (λ k content there. h 0 k content there)) (disks_same a b sizes.1 (λ dev k content there. h (suc dev) k content there))
 
 machine_same : (m n : MachineState) → m.ram ≡ n.ram → m.devices ≡ n.devices → m.disks ≡ n.disks → m ≡ n
 machine_same m n e f g =
     let same : ◌≡◌ {A = MachineState} (record { ram = m.ram; devices = m.devices; disks = m.disks }) (record { ram = n.ram; devices = n.devices; disks = n.disks }) = rw (e, f, g) refl in same
 
-ram_alike : (m n : MachineState) (p q : ℕ) (es fs : List Record) → p ≡ q → es ≡ fs → length m.ram ≡ 4096 * p → length n.ram ≡ 4096 * q
-    → ((k : ℕ) → k < p → last_of k es ≡ Some (page_of m.ram k)) → ((k : ℕ) → k < q → last_of k fs ≡ Some (page_of n.ram k)) → m.ram ≡ n.ram
-ram_alike m n p q es fs e f lm ln h k =
-    ram_same p m.ram n.ram lm (ln ∙ ap (λ (x : ℕ). 4096 * x) (sym e))
-    (λ (i : ℕ) (lt : i < p). some_same (h i lt) (ap (last_of i) f ∙ k i (omega (arith, lt, e))))
+told_alike : (bytes : List ℕ) (m n : MachineState) (es fs : List Record) (i : Item) → IsStreamBy bytes m es → IsStreamBy bytes n fs → es ≡ fs → HasItem m i → HasItem n i → record_of m i ≡ record_of n i
+told_alike bytes m n es fs i a b e has too = some_same (a.last i has) (ap (last_named i) e ∙ b.last i too)
 
-empty_disks : (m : MachineState) → IsSound m → AllByRecursion (λ (disk : List Sector). disk ≡ []) m.disks
-empty_disks m h = recursion_from_All (λ (disk : List Sector). disk ≡ []) m.disks h.no_sectors
+-- Machines with as many items have the same ones.
+sizes_alike : (m n : MachineState) → IsSound m → IsSound n → m.devices ≡ n.devices → map length m.disks ≡ map length n.disks
+sizes_alike m n h k e = h.disks ∙ ap (map (λ (d : DeviceState). sector_count d.shape)) e ∙ sym k.disks
 
-disks_alike : (m n : MachineState) → IsSound m → IsSound n → m.devices ≡ n.devices → m.disks ≡ n.disks
-disks_alike m n h k e = no_sectors m.disks n.disks (h.disk_each ∙ ap length e ∙ sym k.disk_each) (empty_disks m h) (empty_disks n k)
+sector_too : (a b : List (List Sector)) (dev k : ℕ) (content : Sector) → map length a ≡ map length b → sector_on (slice_get a dev) k ≡ Some content → (other : Sector) × (sector_on (slice_get b dev) k ≡ Some other)
+sector_too a b dev k content sizes there =
+    let on = on_disk a dev k content there in
+    sector_there b dev k on.size (rw (← sizes) on.there) on.within
 
-from_parts : (bytes : List ℕ) (m n : MachineState) (a : IsStream bytes m) (b : IsStream bytes n) → SameParts a.pages b.pages a.entries b.entries m.devices n.devices → m ≡ n
+from_parts : (bytes : List ℕ) (m n : MachineState) (a : IsStream bytes m) (b : IsStream bytes n) → SameParts (pages_of m) (pages_of n) a.entries b.entries m.devices n.devices → m ≡ n
 from_parts bytes m n a b s =
-    machine_same m n (ram_alike m n a.pages b.pages a.entries b.entries s.pages s.entries a.by.pages_are b.by.pages_are a.by.last b.by.last) s.devices
-    (disks_alike m n a.by.sound b.by.sound s.devices)
+    let p = pages_of m in
+    let size : length n.ram ≡ 4096 * p = b.by.sound.whole_pages ∙ ap (λ (x : ℕ). 4096 * x) (sym s.pages) in
+    let sizes = sizes_alike m n a.by.sound b.by.sound s.devices in
+    machine_same m n
+    (ram_same p m.ram n.ram a.by.sound.whole_pages size (λ k lt. page_told m n k (told_alike bytes m n a.entries b.entries (page_item k) a.by b.by s.entries (omega (arith, lt, a.by.sound.whole_pages)) (omega (arith, lt, size)))))
+    s.devices
+    (disks_same m.disks n.disks sizes (λ dev k content there. content_told m n dev k (told_alike bytes m n a.entries b.entries (sector_item dev k) a.by b.by s.entries (content, there) (sector_too m.disks n.disks dev k content sizes there))))
 
 pub one_machine : (bytes : List ℕ) (m n : MachineState) → IsStream bytes m → IsStream bytes n → m ≡ n
-one_machine bytes m n a b = from_parts bytes m n a b (same_parts bytes m n a.pages b.pages a.entries b.entries a.by b.by)
+one_machine bytes m n a b = from_parts bytes m n a b (same_parts bytes m n a.entries b.entries a.by b.by)
+
+pub one_count : (bytes : List ℕ) (m n : MachineState) (a : IsStream bytes m) (b : IsStream bytes n) → rounds a.entries ≡ rounds b.entries
+one_count bytes m n a b = ap rounds (same_parts bytes m n a.entries b.entries a.by b.by).entries

@@ -10,6 +10,7 @@ use Rattle.wire.specs.Numbers.{numbers}
 use Rattle.machine.specs.QueuePositions.{first_positions}
 use Rattle.machine.specs.Shapes.{saved_device}
 use Rattle.machine.specs.State.{DeviceState}
+use Rattle.machine.specs.declared.own.Own.TheVariants as own
 use Rattle.machine.specs.declared.shape.Shape.{Shape}
 use Rattle.machine.specs.declared.shape.Shape.TheVariants.{Entropy}
 use Rattle.wire.specs.declared.decode_error.DecodeError.{DecodeError}
@@ -53,7 +54,7 @@ pub record HasEntropyForm (bytes : List ℕ) : Type 0 where
 
 -- The entropy device whose body these bytes would be, in a machine with so many bytes of RAM.
 abbrev pub entropy_of : ℕ → List ℕ → DeviceState
-entropy_of ram_len bytes = saved_device ram_len Entropy (common_of bytes) (queue_of (drop 26 bytes) ∷ []) (positions_of (drop 26 bytes) ∷ []) (drop 64 bytes)
+entropy_of ram_len bytes = saved_device ram_len Entropy (common_of bytes) (queue_of (drop 26 bytes) ∷ []) (positions_of (drop 26 bytes) ∷ []) (own.Entropy (drop 64 bytes))
 
 -- What an error tells of bytes that are no body.
 abbrev pub RefusesBody : Shape → ℕ → List ℕ → DecodeError → Type 0

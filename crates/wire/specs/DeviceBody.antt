@@ -7,8 +7,9 @@ use Rattle.mmio.specs.declared.queue.Queue.{Queue}
 use Rattle.wire.specs.Numbers.{spelled, digits, flag}
 use Rattle.machine.specs.Sound.{IsSoundDevice}
 use Rattle.machine.specs.State.{DeviceState}
+use Rattle.machine.specs.declared.own.Own.{Own}
+use Rattle.machine.specs.declared.own.Own.TheVariants.{Entropy}
 use Rattle.machine.specs.declared.shape.Shape.{Shape}
-use Rattle.machine.specs.declared.shape.Shape.TheVariants.{Entropy}
 
 -- The registers that a device has once, in 26 bytes: status and interrupt status, DeviceFeaturesSel, DriverFeaturesSel, the
 -- driver's features, QueueSel and ConfigGeneration (VIRTIO 1.2, 4.2.2).
@@ -42,12 +43,12 @@ queues_text qs ps = []
 abbrev pub held_text : List ℕ → List ℕ
 held_text bytes = digits 2 (length bytes) ++ bytes
 
--- What a device of a shape has beside registers and queues: an entropy device the bytes of its pool.
-abbrev pub own_text : Shape → DeviceState → List ℕ
-own_text Entropy d = held_text d.pool
+-- What only a kind of device has: an entropy device the bytes of its pool.
+abbrev pub own_text : Own → List ℕ
+own_text (Entropy pool) = held_text pool
 
 abbrev pub body : DeviceState → List ℕ
-body d = common_text d.registers.common ++ (queues_text d.registers.queues d.positions ++ own_text d.shape d)
+body d = common_text d.registers.common ++ (queues_text d.registers.queues d.positions ++ own_text d.own)
 
 -- The bytes are the body of this device, which has this shape and is sound in a machine with so many bytes of RAM.
 pub record IsBodyOf (shape : Shape) (ram_len : ℕ) (bytes : List ℕ) (d : DeviceState) : Type 0 where

@@ -1,12 +1,32 @@
--- What sinks do to their counts of failures, and the bytes that a writer tells.
-use Rattle.std.specs.Prelude.{◌≡◌, ℕ, ◌+◌, ◌%◌, ◌^◌, List, [], Option, Some, None, Result, Ok, Err}
+-- What a sink means, and what is said of bytes on their way to one.
+use Rattle.std.specs.Prelude.{◌≡◌, ℕ, ◌++◌, List, [], Bool, IsTrue, Option, Some, None, Result, OnOk, is_some}
+use Rattle.guestmem.specs.Failures.{counted}
 
--- A count of failures, modulo 2^64, rises by one at an Err, and only there.
-abbrev pub Counts : {A E : Type 0} → Result A E → ℕ → ℕ → Type 0
-Counts (Ok x) old new = new ≡ old
-Counts (Err e) old new = new ≡ (old + 1) % 2 ^ 64
+-- The bytes that a sink holds, how often it failed (modulo 2^64), and whether it is honest.
+pub record SinkState : Type 0 where
+  pub held : List ℕ
+  pub failures : ℕ
+  pub honest : Bool
 
--- The bytes that a writer tells, where it does.
+-- A call that adds these bytes to a sink: the count of failures rises exactly where it fails, and an honest sink stays so
+-- and holds, where it succeeds, the bytes behind what it held.
+pub record Appends {T E : Type 0} (old : SinkState) (bytes : List ℕ) (result : Result T E) (new : SinkState) : Type 0 where
+  pub count : new.failures ≡ counted old.failures result
+  pub holds : OnOk result (IsTrue old.honest → IsTrue new.honest × (new.held ≡ old.held ++ bytes))
+
+-- A call that adds nothing.
+pub record Flushes {T E : Type 0} (old : SinkState) (result : Result T E) (new : SinkState) : Type 0 where
+  pub count : new.failures ≡ counted old.failures result
+  pub holds : OnOk result (IsTrue old.honest → IsTrue new.honest × (new.held ≡ old.held))
+
+-- What is kept of bytes goes on by these: had it taken some, it has taken them and these now.
+abbrev pub Takes : (List ℕ → Type 0) → List ℕ → (List ℕ → Type 0) → Type 0
+Takes has_taken bytes has_taken_now = (before : List ℕ) → has_taken before → has_taken_now (before ++ bytes)
+
+-- What a sink over a writer means: it is honest where the writer tells its bytes.
 abbrev pub known : Option (List ℕ) → List ℕ
 known None = []
 known (Some bytes) = bytes
+
+abbrev pub over_writer : Option (List ℕ) → ℕ → SinkState
+over_writer contents failures = record { held = known contents; failures = failures; honest = is_some contents }

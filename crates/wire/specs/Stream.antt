@@ -1,32 +1,34 @@
--- The stream of a machine: a header; pages and ends of rounds in any order; each device once, in order; and the digest of
--- all bytes before it.
-use Rattle.std.specs.Prelude.{◌≡◌, ◌<◌, ℕ, zero, suc, ◌+◌, ◌*◌, ◌/◌, List, [], ◌∷◌, ◌++◌, length, take, drop, map, Option, Some, None, ◌==◌, if◌then◌else◌}
+-- The stream of a machine: a header; pages, sectors and ends of rounds in any order; each device once, in order; and the
+-- digest of all bytes before it.
+use Rattle.std.specs.Prelude.{◌≡◌, ◌<◌, ℕ, zero, suc, ◌+◌, List, [], ◌∷◌, ◌++◌, map, Option, Some, None, Bool, false, ◌==◌, ◌&&◌, if◌then◌else◌}
 use Rattle.std.specs.List.{AllByRecursion}
 use Rattle.sha2.specs.Sha256.{sha256}
+use Rattle.guestmem.specs.Item as items
+use Rattle.guestmem.specs.Item.{Item}
+use Rattle.guestmem.specs.Page.{page_of}
+use Rattle.machine.specs.EffectLaws.{HasItem, sectors_on, sector_on}
+use Rattle.machine.specs.Layout.{layout_of, pages_of, item_at, size_of}
+use Rattle.machine.specs.Shapes.{sectors_at}
+use Rattle.machine.specs.Sound.{IsSound}
+use Rattle.machine.specs.State.{DeviceState, MachineState, Sector}
+use Rattle.machine.specs.declared.shape.Shape.{Shape}
 use Rattle.wire.specs.DeviceBody.{body}
 use Rattle.wire.specs.Header.{header}
-use Rattle.wire.specs.Records.{Record, page, round_end, device, commit, spelled_record, HasSpelling}
-use Rattle.machine.specs.Sound.{IsSound}
-use Rattle.machine.specs.State.{DeviceState, MachineState}
-use Rattle.machine.specs.declared.shape.Shape.{Shape}
+use Rattle.wire.specs.Records.{Record, page, sector, round_end, device, commit, spelled_record, HasSpelling}
 
 abbrev pub shapes_in : List DeviceState → List Shape
 shapes_in devices = map (λ d. d.shape) devices
 
--- The bytes of a page.
-abbrev pub page_of : List ℕ → ℕ → List ℕ
-page_of ram n = take 4096 (drop (4096 * n) ram)
+-- The records that may stand before the devices: pages and sectors that there are, and ends of rounds.
+abbrev pub MayStand : ℕ → List Shape → Record → Type 0
+MayStand pages shapes (page n bytes) = n < pages
+MayStand pages shapes (sector dev n content) = n < sectors_at shapes dev
+MayStand pages shapes (round_end n) = Unit {0}
+MayStand pages shapes _ = ⊥
 
--- The records that may stand before the devices: pages that there are, and ends of rounds. No device has a disk, so there
--- are no sectors.
-abbrev pub MayStand : ℕ → Record → Type 0
-MayStand pages (page n bytes) = n < pages
-MayStand pages (round_end n) = Unit {0}
-MayStand pages _ = ⊥
-
-pub record IsEntry (pages : ℕ) (r : Record) : Type 0 where
+pub record IsEntry (pages : ℕ) (shapes : List Shape) (r : Record) : Type 0 where
   pub spells : HasSpelling r
-  pub stands : MayStand pages r
+  pub stands : MayStand pages shapes r
 
 -- The ends of rounds are numbered one after another, from here on.
 abbrev pub AreNumbered : ℕ → List Record → Type 0
@@ -44,15 +46,30 @@ abbrev pub or_else : {A : Type 0} → Option A → Option A → Option A
 or_else (Some x) other = Some x
 or_else None other = other
 
--- What a record says of a page.
-abbrev pub says : ℕ → Record → Option (List ℕ)
-says n (page k bytes) = if k == n then Some bytes else None
-says n _ = None
+-- The record, where it names the item.
+abbrev pub same_item : Item → Item → Bool
+same_item (items.page a) (items.page b) = a == b
+same_item (items.sector a b) (items.sector c d) = a == c && b == d
+same_item _ _ = false
 
--- What the last record that names a page says of it.
-unfoldable pub last_of : ℕ → List Record → Option (List ℕ)
-last_of n [] = None
-last_of n (r ∷ rs) = or_else (last_of n rs) (says n r)
+abbrev pub says_of : Item → Record → Option Record
+says_of i (page n bytes) = if same_item i (items.page n) then Some (page n bytes) else None
+says_of i (sector dev n content) = if same_item i (items.sector dev n) then Some (sector dev n content) else None
+says_of i _ = None
+
+-- The last record that names an item.
+unfoldable pub last_named : Item → List Record → Option Record
+last_named i [] = None
+last_named i (r ∷ rs) = or_else (last_named i rs) (says_of i r)
+
+-- The record of an item, as the machine has it.
+abbrev pub content_of : Option Sector → Sector
+content_of None = None
+content_of (Some content) = content
+
+abbrev pub record_of : MachineState → Item → Record
+record_of m (items.page n) = page n (page_of m.ram n)
+record_of m (items.sector dev n) = sector dev n (content_of (sector_on (sectors_on m dev) n))
 
 -- Records one after another.
 unfoldable pub texts : List Record → List ℕ
@@ -67,32 +84,27 @@ device_texts number (d ∷ ds) = spelled_record (device number (body d)) ++ devi
 abbrev pub before_commit : ℕ → List Record → List DeviceState → List ℕ
 before_commit pages entries devices = header pages (shapes_in devices) ++ (texts entries ++ device_texts 0 devices)
 
--- The bytes are a stream of this machine, with these records before its devices: each page is named, and is what the last
--- record that names it says.
-pub record IsStreamBy (bytes : List ℕ) (m : MachineState) (pages : ℕ) (entries : List Record) : Type 0 where
-  pub each : AllByRecursion (IsEntry pages) entries
+-- The bytes are a stream of this machine, with these records before its devices: each item of the machine is named, and is
+-- what the last record that names it says.
+pub record IsStreamBy (bytes : List ℕ) (m : MachineState) (entries : List Record) : Type 0 where
+  pub each : AllByRecursion (IsEntry (pages_of m) (shapes_in m.devices)) entries
   pub numbered : AreNumbered 1 entries
-  pub last : (n : ℕ) → n < pages → last_of n entries ≡ Some (page_of m.ram n)
+  pub last : (i : Item) → HasItem m i → last_named i entries ≡ Some (record_of m i)
   pub sound : IsSound m
-  pub pages_are : length m.ram ≡ 4096 * pages
-  pub whole : bytes ≡ before_commit pages entries m.devices ++ spelled_record (commit (sha256 (before_commit pages entries m.devices)))
+  pub whole : bytes ≡ before_commit (pages_of m) entries m.devices ++ spelled_record (commit (sha256 (before_commit (pages_of m) entries m.devices)))
 
 pub record IsStream (bytes : List ℕ) (m : MachineState) : Type 0 where
-  pub pages : ℕ
   pub entries : List Record
-  pub by : IsStreamBy bytes m pages entries
+  pub by : IsStreamBy bytes m entries
 
--- The pages below a number, each once, in order.
-unfoldable pub page_entries : List ℕ → ℕ → List Record
-page_entries ram zero = []
-page_entries ram (suc n) = page_entries ram n ++ page n (page_of ram n) ∷ []
+-- The records of the items below a number, each once, in their order.
+unfoldable pub records_below : MachineState → ℕ → List Record
+records_below m zero = []
+records_below m (suc n) = records_below m n ++ record_of m (item_at (layout_of m) n) ∷ []
 
-abbrev pub pages_of : MachineState → ℕ
-pages_of m = length m.ram / 4096
-
--- The stream of a machine that names each page once, in order, and ends no round: what is saved.
+-- The stream of a machine that names each item once, in order, and ends no round: what is saved.
 abbrev pub saved : MachineState → List ℕ
-saved m = before_commit (pages_of m) (page_entries m.ram (pages_of m)) m.devices
+saved m = before_commit (pages_of m) (records_below m (size_of (layout_of m))) m.devices
 
 unfoldable pub whole : MachineState → List ℕ
 whole m = saved m ++ spelled_record (commit (sha256 (saved m)))

@@ -6,6 +6,7 @@ ghost use Rattle.wire.specs.DeviceBody.{IsBodyOf};
 ghost use Rattle.machine.specs.QueuePositions.{HasPositions, is_packed_by};
 ghost use Rattle.machine.specs.Shapes.{saved_device};
 ghost use Rattle.machine.specs.Sound.{IsSoundDevice};
+ghost use Rattle.machine.specs.declared.own.Own.TheVariants as own;
 ghost use Rattle.machine.specs.declared.shape.Shape.TheVariants as shapes;
 
 use crate::decode_error::DecodeError;
@@ -13,7 +14,7 @@ use crate::numbers::u16_at;
 use crate::registers_text::{COMMON_LEN, QUEUE_LEN, common_at, has_flags, positions_at, queue_at};
 use chains::{Position, Positions};
 use console::{HOST_BYTES_MAX, HostBytes};
-use machine::{DeviceState, Shape, offered};
+use machine::{DeviceState, Own, Shape, offered};
 use mmio::{Common, Queue, RING_PACKED, is_sound_common, is_sound_queue};
 use std::alloc::Global;
 
@@ -58,7 +59,7 @@ fn decode_entropy(alloc: Global, ram_len: u64, body: &[u8]) -> Result<DeviceStat
         common,
         &[queue],
         [positions, Positions::FIRST],
-        pool,
+        Own::Entropy(pool),
     ))
 }
 
@@ -80,7 +81,7 @@ fn is_sound_entropy(
     positions: &Positions,
     pool: &[u8],
 ) -> bool
-    ensures { IsTrue result ↔ IsSoundDevice ram_len (saved_device ram_len shapes.Entropy common.now (queue.now ∷ []) (positions.now ∷ []) pool.now) }
+    ensures { IsTrue result ↔ IsSoundDevice ram_len (saved_device ram_len shapes.Entropy common.now (queue.now ∷ []) (positions.now ∷ []) (own.Entropy pool.now)) }
 {
     is_sound_common(offered(Shape::Entropy), common)
         && is_sound_queue(ram_len, common, queue)

@@ -4,7 +4,7 @@ ghost use Rattle.std.specs.Prelude.{◌≡◌, ◌++◌, ◌<◌, ◌^◌, ℕ, 
 ghost use Rattle.wire.specs.DeviceBody.{body};
 ghost use Rattle.wire.specs.Header.{header};
 ghost use Rattle.wire.specs.Records.{commit, device, page, spelled_record};
-ghost use Rattle.wire.specs.Sinks.{Counts};
+ghost use Rattle.wire.specs.Sinks.{Appends};
 
 use crate::sink::{Sink, SinkFault};
 use crate::tally::NoTally;
@@ -13,25 +13,21 @@ use machine::{DeviceState, Shape};
 
 /// Writes the header of a stream: of a machine of so many pages, with devices of these shapes.
 pub fn encode_header<S: Sink>(pages: u32, shapes: &[Shape], out: &mut S) -> Result<(), SinkFault>
-    requires { length shapes.now < 2 ^ 32 }
-    ensures count { Counts result (S.failures out.old) (S.failures out.new) }
-    ensures honest { OnOk result (IsTrue (S.is_honest out.old) → IsTrue (S.is_honest out.new) × (S.held out.new ≡ S.held out.old ++ header pages shapes.now)) }
+    ensures out { Appends (S.state out.old) (header pages shapes.now) result (S.state out.new) }
 {
     write_header(pages, shapes, out, &mut NoTally)
 }
 
 /// Writes the record of a page.
 pub fn encode_page<S: Sink>(number: u32, bytes: &[u8; 4096], out: &mut S) -> Result<(), SinkFault>
-    ensures count { Counts result (S.failures out.old) (S.failures out.new) }
-    ensures honest { OnOk result (IsTrue (S.is_honest out.old) → IsTrue (S.is_honest out.new) × (S.held out.new ≡ S.held out.old ++ spelled_record (page number bytes.now))) }
+    ensures out { Appends (S.state out.old) (spelled_record (page number bytes.now)) result (S.state out.new) }
 {
     write_page(number, bytes, out, &mut NoTally)
 }
 
 /// Writes the record of a device.
 pub fn encode_device<S: Sink>(number: u8, state: &DeviceState, out: &mut S) -> Result<(), SinkFault>
-    ensures count { Counts result (S.failures out.old) (S.failures out.new) }
-    ensures honest { OnOk result (IsTrue (S.is_honest out.old) → IsTrue (S.is_honest out.new) × (S.held out.new ≡ S.held out.old ++ spelled_record (device number (body state.now)))) }
+    ensures out { Appends (S.state out.old) (spelled_record (device number (body state.now))) result (S.state out.new) }
 {
     write_device(number, state, out, &mut NoTally)
 }
@@ -39,8 +35,7 @@ pub fn encode_device<S: Sink>(number: u8, state: &DeviceState, out: &mut S) -> R
 /// Writes the record with which a stream ends: the digest of all bytes before it.
 #[tactic(auto, unfolding(crate::specs::Records::spelled_record))]
 pub fn encode_commit<S: Sink>(digest: &[u8; 32], out: &mut S) -> Result<(), SinkFault>
-    ensures count { Counts result (S.failures out.old) (S.failures out.new) }
-    ensures honest { OnOk result (IsTrue (S.is_honest out.old) → IsTrue (S.is_honest out.new) × (S.held out.new ≡ S.held out.old ++ spelled_record (commit digest.now))) }
+    ensures out { Appends (S.state out.old) (spelled_record (commit digest.now)) result (S.state out.new) }
 {
     out.put(&[5])?;
     out.put(digest)

@@ -1,6 +1,6 @@
 //! Laws over the definitions alone. These functions do nothing: their contracts are the laws.
 
-ghost use Rattle.wire.specs.StreamLaws.{OneRecord, OneMachine, WholeIsStream};
+ghost use Rattle.wire.specs.StreamLaws.{OneRecord, OneMachine, OneCount, WholeIsStream};
 
 /// No spelling of a record of a stream is the beginning of another's.
 pub fn no_record_begins_another()
@@ -10,6 +10,11 @@ pub fn no_record_begins_another()
 /// One stream has one machine.
 pub fn a_stream_has_one_machine()
     ensures { OneMachine }
+{}
+
+/// One stream has one number of rounds that ended.
+pub fn a_stream_has_one_count_of_rounds()
+    ensures { OneCount }
 {}
 
 /// The whole stream of a sound machine is a stream of it.

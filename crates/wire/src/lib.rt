@@ -37,4 +37,4 @@ pub use record::{Record, decode_record};
 pub use shape_spelling::shape_at;
 pub use sink::{Sink, SinkFault, WriteSink};
 pub use tally::{NoTally, Tally};
-pub use writing::{write_device, write_header, write_pages};
+pub use writing::{write_device, write_header, write_page};

@@ -12,24 +12,18 @@ pub struct SinkFault;
 /// stays so and holds, after a `put` that succeeds, what it held and then the bytes given. After a failure its bytes and
 /// its honesty are open.
 pub trait Sink {
-    ghost use Rattle.std.specs.Prelude.{List, ℕ, Bool, OnOk, IsTrue, ◌≡◌, ◌++◌};
-    ghost use Rattle.wire.specs.Sinks.{Counts};
+    ghost use Rattle.wire.specs.Sinks.{SinkState, Appends, Flushes};
 
-    ghost held: { Self → List ℕ };
-
-    ghost failures: { Self → ℕ };
-
-    ghost is_honest: { Self → Bool };
+    /// The bytes that it holds, the count of its failures, and whether it is honest.
+    ghost state: { Self → SinkState };
 
     /// Takes all the bytes, behind those that it holds.
     fn put(&mut self, bytes: &[u8]) -> Result<(), SinkFault>
-        ensures count { Counts result (failures self.old) (failures self.new) }
-        ensures honest { OnOk result (IsTrue (is_honest self.old) → IsTrue (is_honest self.new) × (held self.new ≡ held self.old ++ bytes.now)) };
+        ensures { Appends (state self.old) bytes.now result (state self.new) };
 
     /// Brings all that it took to where it goes.
     fn flush(&mut self) -> Result<(), SinkFault>
-        ensures count { Counts result (failures self.old) (failures self.new) }
-        ensures honest { OnOk result (IsTrue (is_honest self.old) → IsTrue (is_honest self.new) × (held self.new ≡ held self.old)) };
+        ensures { Flushes (state self.old) result (state self.new) };
 }
 
 /// A sink over a writer. It is honest where the writer tells its bytes.
@@ -40,21 +34,19 @@ pub struct WriteSink<W> {
 }
 
 impl<W: Write> WriteSink<W> {
-    ghost use Rattle.std.specs.Prelude.{◌≡◌, is_some};
-    ghost use Rattle.wire.specs.Sinks.{known};
+    ghost use Rattle.std.specs.Prelude.{◌≡◌};
+    ghost use Rattle.wire.specs.Sinks.{over_writer};
 
     /// A sink over this writer, which has not failed yet. It takes no memory.
     pub fn new(writer: W) -> WriteSink<W>
-        ensures held { ⟦<WriteSink<W> as Sink>⟧.held result ≡ known (W.contents writer) }
-        ensures honest { ⟦<WriteSink<W> as Sink>⟧.is_honest result ≡ is_some (W.contents writer) }
-        ensures fresh { ⟦<WriteSink<W> as Sink>⟧.failures result ≡ 0 }
+        ensures { ⟦<WriteSink<W> as Sink>⟧.state result ≡ over_writer (W.contents writer) 0 }
     {
         WriteSink { writer, failed: 0 }
     }
 
     /// The writer, with all that was put into it.
     pub fn into_inner(self) -> W
-        ensures { known (W.contents result) ≡ ⟦<WriteSink<W> as Sink>⟧.held self }
+        ensures { ⟦<WriteSink<W> as Sink>⟧.state self ≡ over_writer (W.contents result) (⟦<WriteSink<W> as Sink>⟧.state self).failures }
     {
         let WriteSink { writer, failed: _ } = self;
         writer
@@ -62,14 +54,9 @@ impl<W: Write> WriteSink<W> {
 }
 
 impl<W: Write> Sink for WriteSink<W> {
-    ghost use Rattle.std.specs.Prelude.{is_some};
-    ghost use Rattle.wire.specs.Sinks.{known};
+    ghost use Rattle.wire.specs.Sinks.{over_writer};
 
-    ghost held = { λ s. known (W.contents s.writer) };
-
-    ghost failures = { λ s. s.failed };
-
-    ghost is_honest = { λ s. is_some (W.contents s.writer) };
+    ghost state = { λ s. over_writer (W.contents s.writer) s.failed };
 
     #[tactic(auto, using(crate::proofs::Sinks::appended, crate::proofs::Sinks::kept))]
     fn put(&mut self, bytes: &[u8]) -> Result<(), SinkFault> {

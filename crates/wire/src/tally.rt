@@ -4,12 +4,13 @@ use sha2::{Digest, Sha256};
 
 /// Keeps something of bytes that it takes one after another.
 pub trait Tally {
-    ghost use Rattle.std.specs.Prelude.{List, ℕ, ◌++◌};
+    ghost use Rattle.std.specs.Prelude.{List, ℕ};
+    ghost use Rattle.wire.specs.Sinks.{Takes};
 
     ghost has_taken: { Self → List ℕ → Type 0 };
 
     fn take(&mut self, bytes: &[u8])
-        ensures { (b : List ℕ) → has_taken self.old b → has_taken self.new (b ++ bytes.now) };
+        ensures { Takes (has_taken self.old) bytes.now (has_taken self.new) };
 }
 
 /// Keeps nothing.

@@ -4,23 +4,24 @@ ghost use Rattle.std.specs.Prelude.{◌≡◌, ◌++◌, ◌≤◌, ◌<◌, ◌
 ghost use Rattle.wire.specs.DeviceBody.{body, held_text, queues_text};
 ghost use Rattle.wire.specs.Header.{front, header, spelled_shape, spelled_shapes};
 ghost use Rattle.wire.specs.Records.{page, device, spelled_record};
-ghost use Rattle.wire.specs.Sinks.{Counts};
-ghost use Rattle.wire.specs.Stream.{page_entries, texts};
+ghost use Rattle.wire.specs.Sinks.{Appends, Takes};
 
 use crate::registers_text::{COMMON_LEN, QUEUE_LEN, common_bytes, queue_bytes};
 use crate::sink::{Sink, SinkFault};
 use crate::tally::Tally;
 use byteorder::{ByteOrder, LittleEndian};
 use chains::Positions;
-use guestmem::{PAGE_SIZE, Ram};
-use machine::{DeviceState, Shape};
+use console::HostBytes;
+use machine::{DeviceState, Own, Shape};
 use mmio::Queue;
+
+/// One past the greatest count of devices that the header's field can tell.
+const COUNT_END: usize = 1 << 32;
 
 /// Puts bytes into the sink, and where that succeeds, takes them into the tally.
 pub fn put<S: Sink, T: Tally>(bytes: &[u8], out: &mut S, tally: &mut T) -> Result<(), SinkFault>
-    ensures count { Counts result (S.failures out.old) (S.failures out.new) }
-    ensures honest { OnOk result (IsTrue (S.is_honest out.old) → IsTrue (S.is_honest out.new) × (S.held out.new ≡ S.held out.old ++ bytes.now)) }
-    ensures taken { OnOk result ((b : List ℕ) → T.has_taken tally.old b → T.has_taken tally.new (b ++ bytes.now)) }
+    ensures out { Appends (S.state out.old) bytes.now result (S.state out.new) }
+    ensures taken { OnOk result (Takes (T.has_taken tally.old) bytes.now (T.has_taken tally.new)) }
 {
     out.put(bytes)?;
     tally.take(bytes);
@@ -28,18 +29,18 @@ pub fn put<S: Sink, T: Tally>(bytes: &[u8], out: &mut S, tally: &mut T) -> Resul
 }
 
 /// The header of a machine of so many pages and these devices.
+#[tactic(auto, using(crate::proofs::HeaderLemmas::front_low))]
 pub fn write_header<S: Sink, T: Tally>(
     pages: u32,
     shapes: &[Shape],
     out: &mut S,
     tally: &mut T,
 ) -> Result<(), SinkFault>
-    requires { length shapes.now < 2 ^ 32 }
-    ensures count { Counts result (S.failures out.old) (S.failures out.new) }
-    ensures honest { OnOk result (IsTrue (S.is_honest out.old) → IsTrue (S.is_honest out.new) × (S.held out.new ≡ S.held out.old ++ header pages shapes.now)) }
-    ensures taken { OnOk result ((b : List ℕ) → T.has_taken tally.old b → T.has_taken tally.new (b ++ header pages shapes.now)) }
+    ensures out { Appends (S.state out.old) (header pages shapes.now) result (S.state out.new) }
+    ensures taken { OnOk result (Takes (T.has_taken tally.old) (header pages shapes.now) (T.has_taken tally.new)) }
 {
-    put(&front_bytes(pages, shapes.len() as u32), out, tally)?;
+    let count = (shapes.len() % COUNT_END) as u32;
+    put(&front_bytes(pages, count), out, tally)?;
     write_shapes(shapes, out, tally)
 }
 
@@ -59,9 +60,8 @@ fn write_shapes<S: Sink, T: Tally>(
     out: &mut S,
     tally: &mut T,
 ) -> Result<(), SinkFault>
-    ensures count { Counts result (S.failures out.old) (S.failures out.new) }
-    ensures honest { OnOk result (IsTrue (S.is_honest out.old) → IsTrue (S.is_honest out.new) × (S.held out.new ≡ S.held out.old ++ spelled_shapes shapes.now)) }
-    ensures taken { OnOk result ((b : List ℕ) → T.has_taken tally.old b → T.has_taken tally.new (b ++ spelled_shapes shapes.now)) }
+    ensures out { Appends (S.state out.old) (spelled_shapes shapes.now) result (S.state out.new) }
+    ensures taken { OnOk result (Takes (T.has_taken tally.old) (spelled_shapes shapes.now) (T.has_taken tally.new)) }
 {
     for i in 0..shapes.len() {
         write_shape(shapes[i], out, tally)?;
@@ -71,9 +71,8 @@ fn write_shapes<S: Sink, T: Tally>(
 
 #[tactic(auto, unfolding(crate::specs::Header::spelled_shape))]
 fn write_shape<S: Sink, T: Tally>(shape: Shape, out: &mut S, tally: &mut T) -> Result<(), SinkFault>
-    ensures count { Counts result (S.failures out.old) (S.failures out.new) }
-    ensures honest { OnOk result (IsTrue (S.is_honest out.old) → IsTrue (S.is_honest out.new) × (S.held out.new ≡ S.held out.old ++ spelled_shape shape)) }
-    ensures taken { OnOk result ((b : List ℕ) → T.has_taken tally.old b → T.has_taken tally.new (b ++ spelled_shape shape)) }
+    ensures out { Appends (S.state out.old) (spelled_shape shape) result (S.state out.new) }
+    ensures taken { OnOk result (Takes (T.has_taken tally.old) (spelled_shape shape) (T.has_taken tally.new)) }
 {
     match shape {
         Shape::Entropy => put(&[4], out, tally),
@@ -88,32 +87,13 @@ pub fn write_page<S: Sink, T: Tally>(
     out: &mut S,
     tally: &mut T,
 ) -> Result<(), SinkFault>
-    ensures count { Counts result (S.failures out.old) (S.failures out.new) }
-    ensures honest { OnOk result (IsTrue (S.is_honest out.old) → IsTrue (S.is_honest out.new) × (S.held out.new ≡ S.held out.old ++ spelled_record (page number bytes.now))) }
-    ensures taken { OnOk result ((b : List ℕ) → T.has_taken tally.old b → T.has_taken tally.new (b ++ spelled_record (page number bytes.now))) }
+    ensures out { Appends (S.state out.old) (spelled_record (page number bytes.now)) result (S.state out.new) }
+    ensures taken { OnOk result (Takes (T.has_taken tally.old) (spelled_record (page number bytes.now)) (T.has_taken tally.new)) }
 {
     let mut head = [1, 0, 0, 0, 0];
     LittleEndian::write_u32(&mut head[1..], number);
     put(&head, out, tally)?;
     put(bytes, out, tally)
-}
-
-/// The record of each page, in order.
-#[tactic(auto, using(crate::proofs::Saving::no_pages, crate::proofs::Saving::page_more))]
-pub fn write_pages<S: Sink, T: Tally>(
-    ram: &Ram,
-    out: &mut S,
-    tally: &mut T,
-) -> Result<(), SinkFault>
-    ensures count { Counts result (S.failures out.old) (S.failures out.new) }
-    ensures honest { OnOk result (IsTrue (S.is_honest out.old) → IsTrue (S.is_honest out.new) × (S.held out.new ≡ S.held out.old ++ texts (page_entries ram.now.bytes (length ram.now.bytes / 4096)))) }
-    ensures taken { OnOk result ((b : List ℕ) → T.has_taken tally.old b → T.has_taken tally.new (b ++ texts (page_entries ram.now.bytes (length ram.now.bytes / 4096)))) }
-{
-    let pages = ram.len() / PAGE_SIZE as u64;
-    for number in 0..pages {
-        write_page(number as u32, ram.page(number), out, tally)?;
-    }
-    Ok(())
 }
 
 /// The record of a device.
@@ -124,9 +104,8 @@ pub fn write_device<S: Sink, T: Tally>(
     out: &mut S,
     tally: &mut T,
 ) -> Result<(), SinkFault>
-    ensures count { Counts result (S.failures out.old) (S.failures out.new) }
-    ensures honest { OnOk result (IsTrue (S.is_honest out.old) → IsTrue (S.is_honest out.new) × (S.held out.new ≡ S.held out.old ++ spelled_record (device number (body state.now)))) }
-    ensures taken { OnOk result ((b : List ℕ) → T.has_taken tally.old b → T.has_taken tally.new (b ++ spelled_record (device number (body state.now)))) }
+    ensures out { Appends (S.state out.old) (spelled_record (device number (body state.now))) result (S.state out.new) }
+    ensures taken { OnOk result (Takes (T.has_taken tally.old) (spelled_record (device number (body state.now))) (T.has_taken tally.new)) }
 {
     let mut head = [4, number, 0, 0, 0, 0];
     LittleEndian::write_u32(&mut head[2..], body_len(state));
@@ -140,8 +119,8 @@ fn body_len(state: &DeviceState) -> u32
     ensures { result ≡ length (body state.now) }
 {
     let queues = state.positions().len() as u32;
-    let own = match state.shape() {
-        Shape::Entropy => 2 + state.pool().len() as u32,
+    let own = match state.own() {
+        Own::Entropy(pool) => 2 + pool.len() as u32,
     };
     COMMON_LEN as u32 + QUEUE_LEN as u32 * queues + own
 }
@@ -151,15 +130,14 @@ fn write_body<S: Sink, T: Tally>(
     out: &mut S,
     tally: &mut T,
 ) -> Result<(), SinkFault>
-    ensures count { Counts result (S.failures out.old) (S.failures out.new) }
-    ensures honest { OnOk result (IsTrue (S.is_honest out.old) → IsTrue (S.is_honest out.new) × (S.held out.new ≡ S.held out.old ++ body state.now)) }
-    ensures taken { OnOk result ((b : List ℕ) → T.has_taken tally.old b → T.has_taken tally.new (b ++ body state.now)) }
+    ensures out { Appends (S.state out.old) (body state.now) result (S.state out.new) }
+    ensures taken { OnOk result (Takes (T.has_taken tally.old) (body state.now) (T.has_taken tally.new)) }
 {
     let registers = state.registers();
     put(&common_bytes(&registers.common()), out, tally)?;
     write_queues(registers.queues(), state.positions(), out, tally)?;
-    match state.shape() {
-        Shape::Entropy => write_held(state, out, tally),
+    match state.own() {
+        Own::Entropy(pool) => write_held(pool, out, tally),
     }
 }
 
@@ -171,9 +149,8 @@ fn write_queues<S: Sink, T: Tally>(
 ) -> Result<(), SinkFault>
     requires few { length queues.now ≤ 2 }
     requires each { length positions.now ≡ length queues.now }
-    ensures count { Counts result (S.failures out.old) (S.failures out.new) }
-    ensures honest { OnOk result (IsTrue (S.is_honest out.old) → IsTrue (S.is_honest out.new) × (S.held out.new ≡ S.held out.old ++ queues_text queues.now positions.now)) }
-    ensures taken { OnOk result ((b : List ℕ) → T.has_taken tally.old b → T.has_taken tally.new (b ++ queues_text queues.now positions.now)) }
+    ensures out { Appends (S.state out.old) (queues_text queues.now positions.now) result (S.state out.new) }
+    ensures taken { OnOk result (Takes (T.has_taken tally.old) (queues_text queues.now positions.now) (T.has_taken tally.new)) }
 {
     match (queues, positions) {
         ([only], [its]) => put(&queue_bytes(only, its), out, tally),
@@ -187,19 +164,17 @@ fn write_queues<S: Sink, T: Tally>(
 
 /// The bytes that the host has put in, with their number before them.
 fn write_held<S: Sink, T: Tally>(
-    state: &DeviceState,
+    bytes: &HostBytes,
     out: &mut S,
     tally: &mut T,
 ) -> Result<(), SinkFault>
-    ensures count { Counts result (S.failures out.old) (S.failures out.new) }
-    ensures honest { OnOk result (IsTrue (S.is_honest out.old) → IsTrue (S.is_honest out.new) × (S.held out.new ≡ S.held out.old ++ held_text state.now.pool)) }
-    ensures taken { OnOk result ((b : List ℕ) → T.has_taken tally.old b → T.has_taken tally.new (b ++ held_text state.now.pool)) }
+    ensures out { Appends (S.state out.old) (held_text bytes.now) result (S.state out.new) }
+    ensures taken { OnOk result (Takes (T.has_taken tally.old) (held_text bytes.now) (T.has_taken tally.new)) }
 {
-    let pool = state.pool();
     let mut count = [0; 2];
-    LittleEndian::write_u16(&mut count, pool.len() as u16);
+    LittleEndian::write_u16(&mut count, bytes.len() as u16);
     put(&count, out, tally)?;
-    let (front, back) = pool.as_slices();
+    let (front, back) = bytes.as_slices();
     put(front, out, tally)?;
     put(back, out, tally)
 }
