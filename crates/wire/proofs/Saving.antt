@@ -1,6 +1,7 @@
 -- Parts of a stream, one after another.
-use Rattle.std.proofs.Common.{◌≡◌, ℕ, zero, suc, ◌+◌, ◌*◌, ◌<◌, List, [], ◌∷◌, ◌++◌, length, take, get_or, refl, sym, ap, ◌∙◌, append_assoc, append-nil, arith}
+use Rattle.std.proofs.Common.{◌≡◌, ℕ, zero, suc, ◌+◌, ◌*◌, ◌<◌, List, [], ◌∷◌, ◌++◌, length, take, get_or, slice_get, Some, refl, sym, ap, ◌∙◌, append_assoc, append-nil, arith}
 use Rattle.std.proofs.lemmas.List.{length-append, length-take}
+use Rattle.std.proofs.lemmas.Option.{get_or_from_slice_get}
 use Rattle.std.proofs.lemmas.Grind.{flat_map-append}
 use Rattle.chains.specs.declared.position.Positions.{Positions}
 use Rattle.mmio.specs.declared.queue.Queue.{Queue}
@@ -17,7 +18,7 @@ use Rattle.wire.proofs.Whole.{texts-snoc}
 use Rattle.wire.proofs.Unique.{length_shapes}
 use Rattle.wire.proofs.DeviceTexts.{device_texts-snoc}
 
-one_record : (m : MachineState) (n : ℕ) → texts (records_below m (n + 1)) ≡ texts (records_below m n) ++ spelled_record (record_of m (item_at (layout_of m) n))
+pub one_record : (m : MachineState) (n : ℕ) → texts (records_below m (n + 1)) ≡ texts (records_below m n) ++ spelled_record (record_of m (item_at (layout_of m) n))
 unfolding records_below
 one_record m n = let more : n + 1 ≡ suc n = omega arith in rw more (texts-snoc (records_below m n) (record_of m (item_at (layout_of m) n)))
 
@@ -39,13 +40,13 @@ pub no_devices : (x : List ℕ) → x ++ device_texts 0 [] ≡ x
 unfolding device_texts
 no_devices x = append-nil x
 
-pub device_more : (x : List ℕ) (ds : List DeviceState) (shapes : List Shape) (d : DeviceState) (n : ℕ) → shapes ≡ shapes_in ds → n < length shapes → d ≡ get_or ds n d
+pub device_more : (x : List ℕ) (ds : List DeviceState) (shapes : List Shape) (d : DeviceState) (n : ℕ) → shapes ≡ shapes_in ds → n < length shapes → slice_get ds n ≡ Some d
     → (x ++ device_texts 0 (take n ds)) ++ spelled_record (device n (body d)) ≡ x ++ device_texts 0 (take (n + 1) ds)
 device_more x ds shapes d n are within is =
     let below : n < length ds = omega (arith, within, ap length are, length_shapes ds) in
     let long : 0 + length (take n ds) ≡ n = omega (arith, length-take n ds) in
     let one : device_texts 0 (take (n + 1) ds) ≡ device_texts 0 (take n ds) ++ spelled_record (device n (body d)) =
-    ap (device_texts 0) (first_more ds n d below is) ∙ device_texts-snoc 0 (take n ds) d ∙ ap (λ (k : ℕ). device_texts 0 (take n ds) ++ spelled_record (device k (body d))) long in
+    ap (device_texts 0) (first_more ds n d below (sym (get_or_from_slice_get ds n d d is))) ∙ device_texts-snoc 0 (take n ds) d ∙ ap (λ (k : ℕ). device_texts 0 (take n ds) ++ spelled_record (device k (body d))) long in
     rw one (append_assoc x (device_texts 0 (take n ds)) (spelled_record (device n (body d))))
 
 length_queues : (qs : List Queue) (ps : List Positions) → length ps ≡ length qs → length (queues_text qs ps) ≡ 36 * length ps
