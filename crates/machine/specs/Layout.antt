@@ -1,12 +1,23 @@
 -- The items of a machine in one numbering: the pages ascending, then the sectors of each disk ascending, in device order.
-use Rattle.std.specs.Prelude.{ℕ, ◌+◌, ◌-◌, ◌/◌, nat_lt, if◌then◌else◌, List, [], ◌∷◌, map, length, slice_index}
+use Rattle.std.specs.Prelude.{ℕ, ◌<◌, ◌+◌, ◌-◌, ◌/◌, nat_lt, if◌then◌else◌, List, [], ◌∷◌, map, length, slice_index}
 use Rattle.guestmem.specs.Item.{Item, page, sector}
+use Rattle.machine.specs.Shapes.{sector_count}
 use Rattle.machine.specs.State.{MachineState}
+use Rattle.machine.specs.declared.shape.Shape.{Shape}
 
 -- How many pages there are, and how many sectors the disk of each device has.
 pub record Layout : Type 0 where
   pub pages : ℕ
   pub disks : List ℕ
+
+-- The layout has the item. A device without a disk has no sectors, and neither has one that is not there.
+abbrev pub IsItemIn : Layout → Item → Type 0
+IsItemIn l (page n) = n < l.pages
+IsItemIn l (sector dev n) = n < slice_index l.disks dev
+
+-- The layout of a machine of so many pages and devices of these shapes.
+abbrev pub layout_by : ℕ → List Shape → Layout
+layout_by pages shapes = record { pages = pages; disks = map sector_count shapes }
 
 abbrev pub pages_of : MachineState → ℕ
 pages_of m = length m.ram / 4096

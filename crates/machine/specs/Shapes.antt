@@ -1,5 +1,5 @@
 -- What each shape of device is.
-use Rattle.std.specs.Prelude.{ℕ, zero, suc, ◌+◌, ◌^◌, List, [], ◌∷◌, Option, Some, None, replicate}
+use Rattle.std.specs.Prelude.{ℕ, ◌+◌, ◌^◌, List, [], ◌∷◌, Option, Some, None, replicate}
 use Rattle.mmio.specs.State.{first_registers}
 use Rattle.chains.specs.declared.position.Positions.{Positions}
 use Rattle.mmio.specs.declared.common.Common.{Common}
@@ -43,12 +43,6 @@ or_zero (Some n) = n
 -- How many sectors a device of this shape has.
 abbrev pub sector_count : Shape → ℕ
 sector_count shape = or_zero (disk_size_of shape)
-
--- How many sectors the device of this number has.
-unfoldable pub sectors_at : List Shape → ℕ → ℕ
-sectors_at [] dev = 0
-sectors_at (shape ∷ shapes) zero = sector_count shape
-sectors_at (shape ∷ shapes) (suc dev) = sectors_at shapes dev
 
 abbrev pub with_size : Option ℕ → List ℕ → List ℕ
 with_size None sizes = sizes

@@ -1,42 +1,108 @@
--- What receiving a stream answers.
-use Rattle.std.specs.Prelude.{◌≡◌, ◌++◌, ℕ, List}
-use Rattle.wire.specs.Records.{HasSpelling, commit, spelled_record}
-use Rattle.machine.specs.State.{MachineState}
+-- What a receiver knows of the bytes that it was fed.
+use Rattle.std.specs.Prelude.{◌≡◌, ◌<◌, ◌≤◌, ℕ, List, [], ◌∷◌, ◌++◌, length, take, drop, map, Result, Ok, Err, Bool, true, false}
+use Rattle.wire.specs.Header.{Begins}
+use Rattle.wire.specs.Records.{Record, spelled_record}
 use Rattle.wire.specs.Stream.{IsStream, rounds}
+use Rattle.machine.specs.Disk.{DiskState}
+use Rattle.machine.specs.State.{MachineState}
+use Rattle.machine.specs.declared.shape.Shape.{Shape}
+use Rattle.receiver.specs.Good.{Follows}
+use Rattle.receiver.specs.Faults.{Fault, IsFront}
+use Rattle.receiver.specs.Fed.{IsOpen, IsEnded, HasRead, Tells}
+use Rattle.receiver.specs.Heading.{WaitsHead}
+use Rattle.receiver.specs.declared.intake.Intake.{Intake}
+use Rattle.receiver.specs.declared.stage.Stage.{Stage}
+use Rattle.receiver.specs.declared.stage.Stage.TheVariants as stages
 use Rattle.receiver.specs.declared.recv_error.RecvError.{RecvError}
-use Rattle.receiver.specs.declared.recv_error.RecvError.TheVariants.{BadMagic, BadVersion, BadShape, ShapeMismatch, BadTag, BadPage, BadSector, BadRound, BadDevice, BadDigest, Missing, Trailing, Truncated, NoMemory}
+use Rattle.receiver.specs.declared.recv_error.RecvError.TheVariants.{NoMemory, Truncated}
 
--- The bytes are a stream of this machine, with so many ends of rounds.
-pub record IsReceived (bytes : List ℕ) (m : MachineState) (n : ℕ) : Type 0 where
-  pub stream : IsStream bytes m
-  pub rounds_are : rounds stream.entries ≡ n
+-- The sizes of disks, in sectors.
+abbrev pub sizes_of : {D : Type 0} → (D → DiskState) → List D → List ℕ
+sizes_of state disks = map (λ d. length (state d).sectors) disks
 
--- Each refusal but want of memory says that something cannot be.
-abbrev pub Refuses : RecvError → Type 0 → Type 0
-Refuses NoMemory Never = Unit {0}
-Refuses _ Never = Never
+pub record IsReading (sizes held : List ℕ) (at : ℕ) (i : Intake) : Type 0 where
+  pub pages : ℕ
+  pub shapes : List Shape
+  pub within : at ≤ length held
+  pub open_at : IsOpen sizes pages shapes i (take at held) (drop at held)
 
--- The bytes are a stream of no machine that has so many disks, since no device has a disk.
-abbrev pub IsNoStream : List ℕ → ℕ → Type 0
-IsNoStream bytes disks = disks ≡ 0 → (m : MachineState) → ¬ (IsStream bytes m)
+pub record HasCome (sizes held : List ℕ) (at : ℕ) (i : Intake) : Type 0 where
+  pub pages : ℕ
+  pub shapes : List Shape
+  pub ended : IsEnded sizes pages shapes i held
+  pub at_end : at ≡ length held
 
--- The bytes do not begin with the record of a digest.
-abbrev pub NoCommit : List ℕ → Type 0
-NoCommit bytes = (digest rest : List ℕ) → HasSpelling (commit digest) → ¬ (bytes ≡ spelled_record (commit digest) ++ rest)
+-- A receiver at this stage, which has read the bytes up to a place, knows this of them.
+abbrev pub IsKnown : List ℕ → List ℕ → ℕ → Stage → Type 0
+IsKnown sizes held at stages.Head = WaitsHead held × (at ≡ 0)
+IsKnown sizes held at (stages.Records i) = IsReading sizes held at i
+IsKnown sizes held at (stages.Ended i) = HasCome sizes held at i
+IsKnown sizes held at stages.Failed = Unit {0}
 
--- The number that stands for a refusal.
-abbrev pub recv_code_of : RecvError → ℕ
-recv_code_of BadMagic = 1
-recv_code_of BadVersion = 2
-recv_code_of BadShape = 3
-recv_code_of ShapeMismatch = 4
-recv_code_of BadTag = 5
-recv_code_of BadPage = 6
-recv_code_of BadSector = 7
-recv_code_of BadRound = 8
-recv_code_of BadDevice = 9
-recv_code_of BadDigest = 10
-recv_code_of Missing = 11
-recv_code_of Trailing = 12
-recv_code_of Truncated = 13
-recv_code_of NoMemory = 15
+-- No refusal came.
+abbrev pub GoesOn : Stage → Type 0
+GoesOn stages.Failed = ⊥
+GoesOn _ = Unit {0}
+
+-- No fault stands in the bytes.
+abbrev pub NoFault : List ℕ → List ℕ → Type 0
+NoFault sizes bytes = (k : RecvError) (at : ℕ) → ¬ (Fault sizes bytes k at)
+
+-- The refusal tells a fault of the bytes, want of memory aside.
+abbrev pub TellsFault : List ℕ → List ℕ → RecvError → Type 0
+TellsFault sizes bytes e = Tells e ((at : ℕ) × Fault sizes bytes e at)
+
+-- The refusal tells a fault of the bytes whose place lies behind those that were fed before, want of memory aside.
+abbrev pub TellsNow : List ℕ → List ℕ → List ℕ → RecvError → Type 0
+TellsNow sizes b piece e = Tells e ((at : ℕ) × (length b < at) × Fault sizes (b ++ piece) e at)
+
+abbrev pub Stepped : List ℕ → List ℕ → Result (ℕ × Stage) RecvError → Type 0
+Stepped sizes held (Ok next) = IsKnown sizes held next.0 next.1 × GoesOn next.1
+Stepped sizes held (Err e) = Tells e ((at : ℕ) × Fault sizes held e at)
+
+-- The rounds that ended, by what was read.
+abbrev pub rounds_in : Stage → ℕ
+rounds_in stages.Head = 0
+rounds_in (stages.Records i) = i.rounds
+rounds_in (stages.Ended i) = i.rounds
+rounds_in stages.Failed = 0
+
+abbrev pub has_failed : Stage → Bool
+has_failed stages.Head = false
+has_failed (stages.Records i) = false
+has_failed (stages.Ended i) = false
+has_failed stages.Failed = true
+
+-- What contracts see of a receiver: the sizes of its disks, the bytes that it was fed, the rounds that ended, and whether
+-- a refusal came.
+pub record Received : Type 0 where
+  pub sizes : List ℕ
+  pub bytes : List ℕ
+  pub rounds : ℕ
+  pub failed : Bool
+
+-- The receiver was fed these bytes, and no refusal came.
+pub record HasBeenFed (r : Received) (b : List ℕ) : Type 0 where
+  pub fed : r.bytes ≡ b
+  pub goes_on : r.failed ≡ false
+
+-- A stream that is not whole is of no machine.
+abbrev pub IsFinish : List ℕ → RecvError → Type 0
+IsFinish b NoMemory = Unit {0}
+IsFinish b Truncated = (m : MachineState) → ¬ (IsStream b m)
+IsFinish b _ = ⊥
+
+-- What a refusal of a whole slice tells: a fault of the bytes, or that they are a stream that is not whole.
+abbrev pub RefusesSlice : List ℕ → List ℕ → RecvError → Type 0
+RefusesSlice sizes bytes NoMemory = Unit {0}
+RefusesSlice sizes bytes Truncated = NoFault sizes bytes × ((m : MachineState) → ¬ (IsStream bytes m))
+RefusesSlice sizes bytes e = (at : ℕ) × Fault sizes bytes e at
+
+-- A record that may stand behind the good ones does not stand there.
+abbrev pub NoNext : ℕ → List Shape → List Record → List ℕ → Type 0
+NoNext pages shapes before tail = (r : Record) (y : List ℕ) → Follows pages shapes before r → ¬ (tail ≡ spelled_record r ++ y)
+
+-- So many rounds ended among the whole good records of the bytes, and none where the header is not whole.
+pub record HasRounds (sizes b : List ℕ) (n : ℕ) : Type 0 where
+  pub none : ((pages : ℕ) (shapes : List Shape) (rest : List ℕ) → ¬ (Begins b pages shapes rest)) → n ≡ 0
+  pub some : (pages : ℕ) (shapes : List Shape) (before : List Record) (tail : List ℕ) → IsFront sizes b pages shapes before tail → NoNext pages shapes before tail → n ≡ rounds before

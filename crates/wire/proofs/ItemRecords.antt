@@ -2,8 +2,7 @@
 use Rattle.std.proofs.Common.{◌≡◌, ℕ, zero, suc, ◌*◌, ◌<◌, ◌≤◌, Bool, true, false, cond, ◌&&◌, eqb, List, [], ◌∷◌, ◌++◌, length, inl, inr, Option, Some, None, refl, sym, ap, subst, ◌∙◌, arith}
 use Rattle.std.proofs.lemmas.Bool.{eqb-true, eqb-false, eq-eqb}
 use Rattle.guestmem.specs.Item.{Item, page, sector}
-use Rattle.machine.specs.EffectLaws.{HasItem}
-use Rattle.machine.specs.Layout.{Layout, layout_of, pages_of, size_of, number_of, item_at}
+use Rattle.machine.specs.Layout.{Layout, IsItemIn, layout_of, pages_of, size_of, number_of, item_at}
 use Rattle.machine.specs.State.{MachineState}
 use Rattle.machine.proofs.Numbering.{either_way, number_back, number_below, item_back}
 use Rattle.wire.specs.Records.{Record}
@@ -89,9 +88,8 @@ named_below m (suc n) k few below =
     ∙ ap (λ y. or_else y (last_named (item_at l k) (records_below m n))) (says_at m k n (omega (arith, few, below)) (omega (arith, few)))
     ∙ chosen m n k (eqb k n) (last_named (item_at l k) (records_below m n)) refl (λ less. named_below m n k (omega (arith, few)) less) below
 
-pub all_named : (m : MachineState) (i : Item) → length m.ram ≡ 4096 * pages_of m → HasItem m i → last_named i (records_below m (size_of (layout_of m))) ≡ Some (record_of m i)
-all_named m i whole has =
+pub all_named : (m : MachineState) (i : Item) → IsItemIn (layout_of m) i → last_named i (records_below m (size_of (layout_of m))) ≡ Some (record_of m i)
+all_named m i has =
     let l = layout_of m in
-    let back = item_back m i whole has in
-    let named = named_below m (size_of l) (number_of l i) (omega arith) (number_below m i whole has) in
-    rw back at named
+    let named = named_below m (size_of l) (number_of l i) (omega arith) (number_below l i has) in
+    rw (item_back l i has) at named

@@ -10,11 +10,11 @@ use Rattle.wire.specs.Header.{header, IsHeader, Begins}
 use Rattle.wire.specs.Records.{Record, page, sector, round_end, device, commit, HasSpelling, spelled_record}
 use Rattle.guestmem.specs.Item.{Item, page as page_item, sector as sector_item}
 use Rattle.guestmem.specs.Page.{page_of}
-use Rattle.machine.specs.EffectLaws.{HasItem, sectors_on, sector_on}
-use Rattle.machine.specs.Layout.{pages_of}
+use Rattle.machine.specs.EffectLaws.{sector_on}
+use Rattle.machine.specs.Layout.{Layout, IsItemIn, layout_of, pages_of}
 use Rattle.machine.specs.Shapes.{sector_count}
 use Rattle.machine.specs.Sound.{IsSound, IsSoundDevice}
-use Rattle.machine.proofs.Numbering.{on_disk, sector_there}
+use Rattle.machine.proofs.Numbering.{in_layout}
 use Rattle.machine.specs.State.{DeviceState, MachineState, Sector}
 use Rattle.wire.specs.Stream.{IsStream, IsStreamBy, IsEntry, shapes_in, content_of, record_of, last_named, rounds, texts, device_texts, before_commit}
 use Rattle.machine.specs.declared.shape.Shape.{Shape}
@@ -27,37 +27,37 @@ pub cons_same : {A : Type 0} {x y : A} {xs ys : List A} → x ≡ y → xs ≡ y
 cons_same p q = rw (p, q) refl
 
 -- An entry has another tag than a device.
-pub not_device : (pages : ℕ) (hs : List Shape) (r : Record) (x y : List ℕ) → IsEntry pages hs r → spelled_record r ++ x ≡ 4 ∷ y → ⊥
+pub not_device : (l : Layout) (r : Record) (x y : List ℕ) → IsEntry l r → spelled_record r ++ x ≡ 4 ∷ y → ⊥
 unfolding spelled_record
-not_device pages hs (page n b) x y h e = cc
-not_device pages hs (sector d n (Some b)) x y h e = cc
-not_device pages hs (sector d n None) x y h e = cc
-not_device pages hs (round_end n) x y h e = cc
-not_device pages hs (device d b) x y h e = h.stands
-not_device pages hs (commit b) x y h e = h.stands
+not_device l (page n b) x y h e = cc
+not_device l (sector d n (Some b)) x y h e = cc
+not_device l (sector d n None) x y h e = cc
+not_device l (round_end n) x y h e = cc
+not_device l (device d b) x y h e = h.stands
+not_device l (commit b) x y h e = h.stands
 
 -- what begins as entries and goes on to a device has these entries first
-pub record Leads (pages : ℕ) (hs : List Shape) (es fs : List Record) (x y : List ℕ) : Type 0 where
+pub record Leads (l : Layout) (es fs : List Record) (x y : List ℕ) : Type 0 where
   pub more : List Record
   pub all : fs ≡ es ++ more
-  pub each : AllByRecursion (IsEntry pages hs) more
+  pub each : AllByRecursion (IsEntry l) more
   pub left : x ≡ texts more ++ (4 ∷ y)
 
-pub leads : (p q : ℕ) (gs hs : List Shape) (es fs : List Record) (x y : List ℕ) → AllByRecursion (IsEntry p gs) es → AllByRecursion (IsEntry q hs) fs
-    → texts es ++ x ≡ texts fs ++ (4 ∷ y) → Leads q hs es fs x y
+pub leads : (k l : Layout) (es fs : List Record) (x y : List ℕ) → AllByRecursion (IsEntry k) es → AllByRecursion (IsEntry l) fs
+    → texts es ++ x ≡ texts fs ++ (4 ∷ y) → Leads l es fs x y
 unfolding texts
-leads p q gs hs [] fs x y h k e = record { more = fs; all = refl; each = k; left = e }
-leads p q gs hs (r ∷ es) [] x y h k e = absurd (not_device p gs r (texts es ++ x) y h.0 (sym (append_assoc (spelled_record r) (texts es) x) ∙ e))
-leads p q gs hs (r ∷ es) (s ∷ fs) x y h k e =
+leads k l [] fs x y h i e = record { more = fs; all = refl; each = i; left = e }
+leads k l (r ∷ es) [] x y h i e = absurd (not_device k r (texts es ++ x) y h.0 (sym (append_assoc (spelled_record r) (texts es) x) ∙ e))
+leads k l (r ∷ es) (s ∷ fs) x y h i e =
     let f : spelled_record r ++ (texts es ++ x) ≡ spelled_record s ++ (texts fs ++ (4 ∷ y)) = sym (append_assoc (spelled_record r) (texts es) x) ∙ e ∙ append_assoc (spelled_record s) (texts fs) (4 ∷ y) in
-    let o = one_record r s (texts es ++ x) (texts fs ++ (4 ∷ y)) h.0.spells k.0.spells f in
-    let ih = leads p q gs hs es fs x y h.1 k.1 o.1 in
+    let o = one_record r s (texts es ++ x) (texts fs ++ (4 ∷ y)) h.0.spells i.0.spells f in
+    let ih = leads k l es fs x y h.1 i.1 o.1 in
     record { more = ih.more; all = cons_same (sym o.0) ih.all; each = ih.each; left = ih.left }
 
-pub none_more : (q : ℕ) (hs : List Shape) (more : List Record) (x y : List ℕ) → AllByRecursion (IsEntry q hs) more → 4 ∷ x ≡ texts more ++ (4 ∷ y) → (more ≡ []) × (x ≡ y)
+pub none_more : (l : Layout) (more : List Record) (x y : List ℕ) → AllByRecursion (IsEntry l) more → 4 ∷ x ≡ texts more ++ (4 ∷ y) → (more ≡ []) × (x ≡ y)
 unfolding texts
-none_more q hs [] x y h e = (refl, cc)
-none_more q hs (r ∷ rs) x y h e = absurd (not_device q hs r (texts rs ++ (4 ∷ y)) x h.0 (sym (append_assoc (spelled_record r) (texts rs) (4 ∷ y)) ∙ sym e))
+none_more l [] x y h e = (refl, cc)
+none_more l (r ∷ rs) x y h e = absurd (not_device l r (texts rs ++ (4 ∷ y)) x h.0 (sym (append_assoc (spelled_record r) (texts rs) (4 ∷ y)) ∙ sym e))
 
 pub body_spells : (ram_len number : ℕ) (d : DeviceState) → number < 256 → IsSoundDevice ram_len d → HasSpelling (device number (body d))
 body_spells ram_len number d low sound = (low, omega (arith, body_is_short ram_len d sound), body_bytes ram_len d sound)
@@ -160,12 +160,12 @@ pub record SameParts (p q : ℕ) (es fs : List Record) (ss ts : List DeviceState
 ends_none : (es fs : List Record) (u v x y : List ℕ) → u ≡ 4 ∷ x → v ≡ 4 ∷ y → (more : List Record) → fs ≡ es ++ more → (more ≡ []) × (x ≡ y) → (fs ≡ es) × (u ≡ v)
 ends_none es fs u v x y eu ev more all none = (all ∙ ap (λ (z : List Record). es ++ z) none.0 ∙ append-nil es, eu ∙ ap (λ (z : List ℕ). 4 ∷ z) none.1 ∙ sym ev)
 
-ends_led : (q : ℕ) (hs : List Shape) (es fs : List Record) (u v x y : List ℕ) → u ≡ 4 ∷ x → v ≡ 4 ∷ y → Leads q hs es fs u y → (fs ≡ es) × (u ≡ v)
-ends_led q hs es fs u v x y eu ev l = ends_none es fs u v x y eu ev l.more l.all (none_more q hs l.more x y l.each (sym eu ∙ l.left))
+ends_led : (l : Layout) (es fs : List Record) (u v x y : List ℕ) → u ≡ 4 ∷ x → v ≡ 4 ∷ y → Leads l es fs u y → (fs ≡ es) × (u ≡ v)
+ends_led l es fs u v x y eu ev led = ends_none es fs u v x y eu ev led.more led.all (none_more l led.more x y led.each (sym eu ∙ led.left))
 
-ends_alike : (p q : ℕ) (gs hs : List Shape) (es fs : List Record) (u v x y : List ℕ) → AllByRecursion (IsEntry p gs) es → AllByRecursion (IsEntry q hs) fs → u ≡ 4 ∷ x → v ≡ 4 ∷ y
+ends_alike : (k l : Layout) (es fs : List Record) (u v x y : List ℕ) → AllByRecursion (IsEntry k) es → AllByRecursion (IsEntry l) fs → u ≡ 4 ∷ x → v ≡ 4 ∷ y
     → texts es ++ u ≡ texts fs ++ v → (fs ≡ es) × (u ≡ v)
-ends_alike p q gs hs es fs u v x y h k eu ev e = ends_led q hs es fs u v x y eu ev (leads p q gs hs es fs u y h k (e ∙ ap (λ (z : List ℕ). texts fs ++ z) ev))
+ends_alike k l es fs u v x y h i eu ev e = ends_led l es fs u v x y eu ev (leads k l es fs u y h i (e ∙ ap (λ (z : List ℕ). texts fs ++ z) ev))
 
 devices_led : (ss ts : List DeviceState) (x y : List ℕ) → LeadsDevices 0 ss ts x y → length ss ≡ length ts → ts ≡ ss
 devices_led ss ts x y d count = d.all ∙ ap (λ (z : List DeviceState). ss ++ z) (none_from_length ss d.more 0 (ap length (sym d.all) ∙ sym count)) ∙ append-nil ss
@@ -195,7 +195,7 @@ parts_from_texts bytes m n es fs ca cb a b t =
     let fa = device_first m.devices ca a.sound.some_devices in
     let fb = device_first n.devices cb b.sound.some_devices in
     parts_from_ends bytes m n es fs ca cb a b t.first t.second (same_sizes (length m.ram) (length n.ram) (pages_of m) (pages_of n) t.first a.sound.whole_pages b.sound.whole_pages)
-    (ends_alike (pages_of m) (pages_of n) (shapes_in m.devices) (shapes_in n.devices) es fs (device_texts 0 m.devices ++ ca) (device_texts 0 n.devices ++ cb) fa.0 fb.0 a.each b.each fa.1 fb.1 t.third)
+    (ends_alike (layout_of m) (layout_of n) es fs (device_texts 0 m.devices ++ ca) (device_texts 0 n.devices ++ cb) fa.0 fb.0 a.each b.each fa.1 fb.1 t.third)
 
 pub same_parts : (bytes : List ℕ) (m n : MachineState) (es fs : List Record) → IsStreamBy bytes m es → IsStreamBy bytes n fs → SameParts (pages_of m) (pages_of n) es fs m.devices n.devices
 same_parts bytes m n es fs a b =
@@ -207,7 +207,7 @@ same_parts bytes m n es fs a b =
     ∙ header_of-spelled bytes (pages_of n) (shapes_in n.devices) (texts fs ++ (device_texts 0 n.devices ++ cb)) (stream_begins b)))
 
 -- What the last records say is the machine.
-content_told : (m n : MachineState) (dev k : ℕ) → record_of m (sector_item dev k) ≡ record_of n (sector_item dev k) → content_of (sector_on (sectors_on m dev) k) ≡ content_of (sector_on (sectors_on n dev) k)
+content_told : (m n : MachineState) (dev k : ℕ) → record_of m (sector_item dev k) ≡ record_of n (sector_item dev k) → content_of (sector_on (slice_get m.disks dev) k) ≡ content_of (sector_on (slice_get n.disks dev) k)
 content_told m n dev k e = cc
 
 page_told : (m n : MachineState) (k : ℕ) → record_of m (page_item k) ≡ record_of n (page_item k) → page_of m.ram k ≡ page_of n.ram k
@@ -235,17 +235,11 @@ machine_same : (m n : MachineState) → m.ram ≡ n.ram → m.devices ≡ n.devi
 machine_same m n e f g =
     let same : ◌≡◌ {A = MachineState} (record { ram = m.ram; devices = m.devices; disks = m.disks }) (record { ram = n.ram; devices = n.devices; disks = n.disks }) = rw (e, f, g) refl in same
 
-told_alike : (bytes : List ℕ) (m n : MachineState) (es fs : List Record) (i : Item) → IsStreamBy bytes m es → IsStreamBy bytes n fs → es ≡ fs → HasItem m i → HasItem n i → record_of m i ≡ record_of n i
+told_alike : (bytes : List ℕ) (m n : MachineState) (es fs : List Record) (i : Item) → IsStreamBy bytes m es → IsStreamBy bytes n fs → es ≡ fs → IsItemIn (layout_of m) i → IsItemIn (layout_of n) i → record_of m i ≡ record_of n i
 told_alike bytes m n es fs i a b e has too = some_same (a.last i has) (ap (last_named i) e ∙ b.last i too)
 
--- Machines with as many items have the same ones.
 sizes_alike : (m n : MachineState) → IsSound m → IsSound n → m.devices ≡ n.devices → map length m.disks ≡ map length n.disks
 sizes_alike m n h k e = h.disks ∙ ap (map (λ (d : DeviceState). sector_count d.shape)) e ∙ sym k.disks
-
-sector_too : (a b : List (List Sector)) (dev k : ℕ) (content : Sector) → map length a ≡ map length b → sector_on (slice_get a dev) k ≡ Some content → (other : Sector) × (sector_on (slice_get b dev) k ≡ Some other)
-sector_too a b dev k content sizes there =
-    let on = on_disk a dev k content there in
-    sector_there b dev k on.size (rw (← sizes) on.there) on.within
 
 from_parts : (bytes : List ℕ) (m n : MachineState) (a : IsStream bytes m) (b : IsStream bytes n) → SameParts (pages_of m) (pages_of n) a.entries b.entries m.devices n.devices → m ≡ n
 from_parts bytes m n a b s =
@@ -253,9 +247,11 @@ from_parts bytes m n a b s =
     let size : length n.ram ≡ 4096 * p = b.by.sound.whole_pages ∙ ap (λ (x : ℕ). 4096 * x) (sym s.pages) in
     let sizes = sizes_alike m n a.by.sound b.by.sound s.devices in
     machine_same m n
-    (ram_same p m.ram n.ram a.by.sound.whole_pages size (λ k lt. page_told m n k (told_alike bytes m n a.entries b.entries (page_item k) a.by b.by s.entries (omega (arith, lt, a.by.sound.whole_pages)) (omega (arith, lt, size)))))
+    (ram_same p m.ram n.ram a.by.sound.whole_pages size (λ k lt. page_told m n k (told_alike bytes m n a.entries b.entries (page_item k) a.by b.by s.entries lt (omega (arith, lt, s.pages)))))
     s.devices
-    (disks_same m.disks n.disks sizes (λ dev k content there. content_told m n dev k (told_alike bytes m n a.entries b.entries (sector_item dev k) a.by b.by s.entries (content, there) (sector_too m.disks n.disks dev k content sizes there))))
+    (disks_same m.disks n.disks sizes (λ dev k content there.
+    let within = in_layout m (sector_item dev k) a.by.sound.whole_pages (content, there) in
+    content_told m n dev k (told_alike bytes m n a.entries b.entries (sector_item dev k) a.by b.by s.entries within (rw sizes at within))))
 
 pub one_machine : (bytes : List ℕ) (m n : MachineState) → IsStream bytes m → IsStream bytes n → m ≡ n
 one_machine bytes m n a b = from_parts bytes m n a b (same_parts bytes m n a.entries b.entries a.by b.by)

@@ -1,5 +1,5 @@
 -- The whole stream of a sound machine is a stream of it.
-use Rattle.std.proofs.Common.{◌≡◌, ℕ, zero, suc, ◌+◌, ◌*◌, ◌^◌, ◌<◌, ◌≤◌, List, [], ◌∷◌, ◌++◌, length, drop, map, Option, Some, None, refl, sym, ap, ◌∙◌, append_assoc, append-nil, arith}
+use Rattle.std.proofs.Common.{◌≡◌, ℕ, zero, suc, ◌+◌, ◌*◌, ◌^◌, ◌<◌, ◌≤◌, List, [], ◌∷◌, ◌++◌, length, drop, get_or, map, Option, Some, None, refl, sym, ap, ◌∙◌, append_assoc, append-nil, arith}
 use Rattle.std.specs.Prelude.{slice_get}
 use Rattle.std.proofs.lemmas.List.{length-take, length-drop}
 use Rattle.std.proofs.lemmas.Option.{get_or_from_slice_get, slice_get_within}
@@ -9,14 +9,14 @@ use Rattle.guestmem.specs.Item as items
 use Rattle.guestmem.specs.Item.{Item}
 use Rattle.guestmem.specs.Number.{IsBytes}
 use Rattle.guestmem.specs.Page.{page_of}
-use Rattle.machine.specs.EffectLaws.{HasItem, sectors_on, sector_on}
-use Rattle.machine.specs.Layout.{layout_of, pages_of, item_at, size_of}
-use Rattle.machine.specs.Shapes.{sector_count, sectors_at}
+use Rattle.machine.specs.EffectLaws.{sector_on}
+use Rattle.machine.specs.Layout.{Layout, IsItemIn, layout_of, item_at, size_of}
+use Rattle.machine.specs.Shapes.{sector_count}
 use Rattle.machine.specs.Sound.{IsSound, IsWhole}
 use Rattle.machine.specs.State.{DeviceState, MachineState, Sector}
 use Rattle.machine.specs.declared.shape.Shape.{Shape}
 use Rattle.machine.specs.declared.shape.Shape.TheVariants.{Entropy}
-use Rattle.machine.proofs.Numbering.{on_disk, item_there}
+use Rattle.machine.proofs.Numbering.{has_item, item_there}
 use Rattle.wire.specs.Records.{Record, page, sector, round_end, device, commit, spelled_record, HasSpelling}
 use Rattle.wire.specs.Stream.{IsStream, IsEntry, AreNumbered, shapes_in, content_of, record_of, records_below, texts, whole}
 use Rattle.wire.proofs.ItemRecords.{all_named}
@@ -26,9 +26,9 @@ unfolding texts
 texts-snoc [] r = append-nil (spelled_record r)
 texts-snoc (q ∷ rs) r = ap (λ (t : List ℕ). spelled_record q ++ t) (texts-snoc rs r) ∙ sym (append_assoc (spelled_record q) (texts rs) (spelled_record r))
 
-pub each-snoc : (pages : ℕ) (shapes : List Shape) (rs : List Record) (r : Record) → AllByRecursion (IsEntry pages shapes) rs → IsEntry pages shapes r → AllByRecursion (IsEntry pages shapes) (rs ++ r ∷ [])
-each-snoc pages shapes [] r h k = (k, tt)
-each-snoc pages shapes (q ∷ rs) r h k = (h.0, each-snoc pages shapes rs r h.1 k)
+pub each-snoc : (l : Layout) (rs : List Record) (r : Record) → AllByRecursion (IsEntry l) rs → IsEntry l r → AllByRecursion (IsEntry l) (rs ++ r ∷ [])
+each-snoc l [] r h k = (k, tt)
+each-snoc l (q ∷ rs) r h k = (h.0, each-snoc l rs r h.1 k)
 
 -- The record of an item changes no number of a round.
 numbered_page : (k : ℕ) (rs : List Record) (n : ℕ) (b : List ℕ) → AreNumbered k rs → AreNumbered k (rs ++ page n b ∷ [])
@@ -49,29 +49,25 @@ numbered_sector k (commit c ∷ rs) dev n content h = numbered_sector k rs dev n
 
 pub numbered_item : (k : ℕ) (rs : List Record) (m : MachineState) (i : Item) → AreNumbered k rs → AreNumbered k (rs ++ record_of m i ∷ [])
 numbered_item k rs m (items.page n) h = numbered_page k rs n (page_of m.ram n) h
-numbered_item k rs m (items.sector dev n) h = numbered_sector k rs dev n (content_of (sector_on (sectors_on m dev) n)) h
+numbered_item k rs m (items.sector dev n) h = numbered_sector k rs dev n (content_of (sector_on (slice_get m.disks dev) n)) h
 
 length_page : (ram : List ℕ) (n pages : ℕ) → length ram ≡ 4096 * pages → n < pages → length (page_of ram n) ≡ 4096
 length_page ram n pages e lt = omega (arith, length-take 4096 (drop (4096 * n) ram), length-drop (4096 * n) ram)
 
-pub is_page_entry : (pages : ℕ) (shapes : List Shape) (ram : List ℕ) (n : ℕ) → length ram ≡ 4096 * pages → pages ≤ 16384 → IsBytes ram → n < pages → IsEntry pages shapes (page n (page_of ram n))
-is_page_entry pages shapes ram n e few are lt = record {
-  spells = (omega (arith, lt, few), length_page ram n pages e lt, IsBytes-take 4096 (drop (4096 * n) ram) (IsBytes-drop (4096 * n) ram are));
+pub is_page_entry : (l : Layout) (ram : List ℕ) (n : ℕ) → length ram ≡ 4096 * l.pages → l.pages ≤ 16384 → IsBytes ram → n < l.pages → IsEntry l (page n (page_of ram n))
+is_page_entry l ram n e few are lt = record {
+  spells = (omega (arith, lt, few), length_page ram n l.pages e lt, IsBytes-take 4096 (drop (4096 * n) ram) (IsBytes-drop (4096 * n) ram are));
   stands = lt;
 }
 
 -- A sector that a sound machine has.
-counts_at : (ds : List DeviceState) (dev size : ℕ) → slice_get (map (λ (d : DeviceState). sector_count d.shape) ds) dev ≡ Some size → (dev < length ds) × (sectors_at (shapes_in ds) dev ≡ size)
-unfolding sectors_at
-counts_at [] dev size there = cc
-counts_at (d ∷ ds) zero size there = let same : sector_count d.shape ≡ size = cc in (omega arith, same)
-counts_at (d ∷ ds) (suc dev) size there = let h = counts_at ds dev size there in (omega (arith, h.0), h.1)
+few_sectors : (shape : Shape) (n : ℕ) → n < sector_count shape → n < 2 ^ 32
+few_sectors Entropy n below = omega (arith, below)
 
-few_sectors : (shapes : List Shape) (dev : ℕ) → sectors_at shapes dev < 2 ^ 32
-unfolding sectors_at
-few_sectors [] dev = omega arith
-few_sectors (Entropy ∷ shapes) zero = omega arith
-few_sectors (Entropy ∷ shapes) (suc dev) = few_sectors shapes dev
+few_counts : (ds : List DeviceState) (dev n : ℕ) → n < get_or (map (λ (d : DeviceState). sector_count d.shape) ds) dev 0 → (dev < length ds) × (n < 2 ^ 32)
+few_counts [] dev n below = absurd (omega (arith, below))
+few_counts (d ∷ ds) zero n below = (omega arith, few_sectors d.shape n below)
+few_counts (d ∷ ds) (suc dev) n below = let h = few_counts ds dev n below in (omega (arith, h.0), h.1)
 
 whole_sector_by : (disks : List (List Sector)) (found : Option (List Sector)) (dev n : ℕ) (content : Sector) → All (All IsWhole) disks → slice_get disks dev ≡ found → sector_on found n ≡ Some content → IsWhole content
 whole_sector_by disks None dev n content all is there = cc
@@ -83,26 +79,23 @@ sector_spells : (dev n : ℕ) (content : Sector) → dev < 256 → n < 2 ^ 32 �
 sector_spells dev n None low few whole = (low, few)
 sector_spells dev n (Some bytes) low few whole = (low, few, whole.size, whole.bytes)
 
-pub is_sector_entry : (m : MachineState) (dev n : ℕ) → IsSound m → HasItem m (items.sector dev n) → IsEntry (pages_of m) (shapes_in m.devices) (record_of m (items.sector dev n))
-is_sector_entry m dev n sound has =
-    let on = on_disk m.disks dev n has.0 has.1 in
-    let at = counts_at m.devices dev on.size (rw sound.disks at on.there) in
-    let below : n < sectors_at (shapes_in m.devices) dev = rw at.1 on.within in
-    let few = few_sectors (shapes_in m.devices) dev in
+is_sector_entry : (m : MachineState) (dev n : ℕ) → IsSound m → IsItemIn (layout_of m) (items.sector dev n) → IsEntry (layout_of m) (record_of m (items.sector dev n))
+is_sector_entry m dev n sound within =
+    let few = few_counts m.devices dev n (rw sound.disks at within) in
+    let has = has_item m (items.sector dev n) sound.whole_pages within in
     let whole = whole_sector_by m.disks (slice_get m.disks dev) dev n has.0 sound.sectors refl has.1 in
-    rw has.1 (record { spells = sector_spells dev n has.0 (omega (arith, at.0, sound.few_devices)) (omega (arith, below, few)) whole; stands = below })
+    rw has.1 (record { spells = sector_spells dev n has.0 (omega (arith, few.0, sound.few_devices)) few.1 whole; stands = within })
 
-pub is_item_entry : (m : MachineState) (i : Item) → IsSound m → HasItem m i → IsEntry (pages_of m) (shapes_in m.devices) (record_of m i)
-is_item_entry m (items.page n) sound has =
-    is_page_entry (pages_of m) (shapes_in m.devices) m.ram n sound.whole_pages sound.few_pages sound.bytes (omega (arith, has, sound.whole_pages))
-is_item_entry m (items.sector dev n) sound has = is_sector_entry m dev n sound has
+pub is_item_entry : (m : MachineState) (i : Item) → IsSound m → IsItemIn (layout_of m) i → IsEntry (layout_of m) (record_of m i)
+is_item_entry m (items.page n) sound within = is_page_entry (layout_of m) m.ram n sound.whole_pages sound.few_pages sound.bytes within
+is_item_entry m (items.sector dev n) sound within = is_sector_entry m dev n sound within
 
-items_each : (m : MachineState) (n : ℕ) → IsSound m → n ≤ size_of (layout_of m) → AllByRecursion (IsEntry (pages_of m) (shapes_in m.devices)) (records_below m n)
+items_each : (m : MachineState) (n : ℕ) → IsSound m → n ≤ size_of (layout_of m) → AllByRecursion (IsEntry (layout_of m)) (records_below m n)
 unfolding records_below
 items_each m zero sound few = tt
 items_each m (suc n) sound few =
-    each-snoc (pages_of m) (shapes_in m.devices) (records_below m n) (record_of m (item_at (layout_of m) n)) (items_each m n sound (omega (arith, few)))
-    (is_item_entry m (item_at (layout_of m) n) sound (item_there m n sound.whole_pages (omega (arith, few))))
+    each-snoc (layout_of m) (records_below m n) (record_of m (item_at (layout_of m) n)) (items_each m n sound (omega (arith, few)))
+    (is_item_entry m (item_at (layout_of m) n) sound (item_there (layout_of m) n (omega (arith, few))))
 
 items_numbered : (m : MachineState) (n : ℕ) → AreNumbered 1 (records_below m n)
 unfolding records_below
@@ -116,7 +109,7 @@ whole_is_stream m sound = record {
   by = record {
     each = items_each m (size_of (layout_of m)) sound (omega arith);
     numbered = items_numbered m (size_of (layout_of m));
-    last = λ i has. all_named m i sound.whole_pages has;
+    last = all_named m;
     sound = sound;
     whole = refl;
   };

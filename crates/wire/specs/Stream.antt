@@ -1,14 +1,13 @@
 -- The stream of a machine: a header; pages, sectors and ends of rounds in any order; each device once, in order; and the
 -- digest of all bytes before it.
-use Rattle.std.specs.Prelude.{◌≡◌, ◌<◌, ℕ, zero, suc, ◌+◌, List, [], ◌∷◌, ◌++◌, map, Option, Some, None, Bool, false, ◌==◌, ◌&&◌, if◌then◌else◌}
+use Rattle.std.specs.Prelude.{◌≡◌, ◌<◌, ℕ, zero, suc, ◌+◌, List, [], ◌∷◌, ◌++◌, map, slice_get, Option, Some, None, Bool, false, ◌==◌, ◌&&◌, if◌then◌else◌}
 use Rattle.std.specs.List.{AllByRecursion}
 use Rattle.sha2.specs.Sha256.{sha256}
 use Rattle.guestmem.specs.Item as items
 use Rattle.guestmem.specs.Item.{Item}
 use Rattle.guestmem.specs.Page.{page_of}
-use Rattle.machine.specs.EffectLaws.{HasItem, sectors_on, sector_on}
-use Rattle.machine.specs.Layout.{layout_of, pages_of, item_at, size_of}
-use Rattle.machine.specs.Shapes.{sectors_at}
+use Rattle.machine.specs.EffectLaws.{sector_on}
+use Rattle.machine.specs.Layout.{Layout, IsItemIn, layout_of, pages_of, item_at, size_of}
 use Rattle.machine.specs.Sound.{IsSound}
 use Rattle.machine.specs.State.{DeviceState, MachineState, Sector}
 use Rattle.machine.specs.declared.shape.Shape.{Shape}
@@ -20,15 +19,15 @@ abbrev pub shapes_in : List DeviceState → List Shape
 shapes_in devices = map (λ d. d.shape) devices
 
 -- The records that may stand before the devices: pages and sectors that there are, and ends of rounds.
-abbrev pub MayStand : ℕ → List Shape → Record → Type 0
-MayStand pages shapes (page n bytes) = n < pages
-MayStand pages shapes (sector dev n content) = n < sectors_at shapes dev
-MayStand pages shapes (round_end n) = Unit {0}
-MayStand pages shapes _ = ⊥
+abbrev pub MayStand : Layout → Record → Type 0
+MayStand l (page n bytes) = IsItemIn l (items.page n)
+MayStand l (sector dev n content) = IsItemIn l (items.sector dev n)
+MayStand l (round_end n) = Unit {0}
+MayStand l _ = ⊥
 
-pub record IsEntry (pages : ℕ) (shapes : List Shape) (r : Record) : Type 0 where
+pub record IsEntry (l : Layout) (r : Record) : Type 0 where
   pub spells : HasSpelling r
-  pub stands : MayStand pages shapes r
+  pub stands : MayStand l r
 
 -- The ends of rounds are numbered one after another, from here on.
 abbrev pub AreNumbered : ℕ → List Record → Type 0
@@ -62,14 +61,17 @@ unfoldable pub last_named : Item → List Record → Option Record
 last_named i [] = None
 last_named i (r ∷ rs) = or_else (last_named i rs) (says_of i r)
 
--- The record of an item, as the machine has it.
+-- The record of an item, as RAM and disks have it.
 abbrev pub content_of : Option Sector → Sector
 content_of None = None
 content_of (Some content) = content
 
+abbrev pub record_in : List ℕ → List (List Sector) → Item → Record
+record_in ram disks (items.page n) = page n (page_of ram n)
+record_in ram disks (items.sector dev n) = sector dev n (content_of (sector_on (slice_get disks dev) n))
+
 abbrev pub record_of : MachineState → Item → Record
-record_of m (items.page n) = page n (page_of m.ram n)
-record_of m (items.sector dev n) = sector dev n (content_of (sector_on (sectors_on m dev) n))
+record_of m i = record_in m.ram m.disks i
 
 -- Records one after another.
 unfoldable pub texts : List Record → List ℕ
@@ -87,9 +89,9 @@ before_commit pages entries devices = header pages (shapes_in devices) ++ (texts
 -- The bytes are a stream of this machine, with these records before its devices: each item of the machine is named, and is
 -- what the last record that names it says.
 pub record IsStreamBy (bytes : List ℕ) (m : MachineState) (entries : List Record) : Type 0 where
-  pub each : AllByRecursion (IsEntry (pages_of m) (shapes_in m.devices)) entries
+  pub each : AllByRecursion (IsEntry (layout_of m)) entries
   pub numbered : AreNumbered 1 entries
-  pub last : (i : Item) → HasItem m i → last_named i entries ≡ Some (record_of m i)
+  pub last : (i : Item) → IsItemIn (layout_of m) i → last_named i entries ≡ Some (record_of m i)
   pub sound : IsSound m
   pub whole : bytes ≡ before_commit (pages_of m) entries m.devices ++ spelled_record (commit (sha256 (before_commit (pages_of m) entries m.devices)))
 

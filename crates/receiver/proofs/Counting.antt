@@ -1,0 +1,109 @@
+-- The rounds that ended in what was read, and what a slice is refused for.
+use Rattle.std.proofs.Common.{◌≡◌, ◌≢◌, ℕ, ◌+◌, ◌<◌, ◌≤◌, ◌⊎◌, inl, inr, Bool, true, false, List, [], ◌∷◌, ◌++◌, length, take, drop, refl, sym, ap, subst, ◌∙◌, append_assoc, append-nil, arith}
+use Rattle.std.proofs.lemmas.List.{take-append-drop}
+use Rattle.sha2.specs.Sha256.{sha256}
+use Rattle.wire.specs.Header.{header, Begins}
+use Rattle.wire.specs.Records.{Record, spelled_record}
+use Rattle.wire.specs.Stream.{IsStream, texts, rounds}
+use Rattle.machine.specs.State.{MachineState}
+use Rattle.machine.specs.declared.shape.Shape.{Shape}
+use Rattle.wire.proofs.HeaderLemmas.{header_of-spelled}
+use Rattle.wire.proofs.Unique.{alike}
+use Rattle.receiver.specs.Good.{AreGood, Follows}
+use Rattle.receiver.specs.Faults.{IsFront, Fault}
+use Rattle.receiver.specs.Receiving.{IsKnown, GoesOn, IsFinish, HasRounds, NoNext, NoFault, RefusesSlice, TellsFault, TellsNow, rounds_in, has_failed}
+use Rattle.receiver.specs.declared.stage.Stage.{Stage}
+use Rattle.receiver.specs.declared.stage.Stage.TheVariants as stages
+use Rattle.receiver.specs.declared.recv_error.RecvError.{RecvError}
+use Rattle.receiver.specs.declared.recv_error.RecvError.TheVariants as errors
+use Rattle.receiver.proofs.Aligned.{LongerRecords, records_led, good_spell, next_good}
+use Rattle.receiver.proofs.Knowing.{no_other}
+use Rattle.receiver.proofs.Working.{front_of, commit_text, tells_more}
+
+not_longer : (pages : ℕ) (shapes : List Shape) (before others : List Record) (tail rest : List ℕ) → AreGood pages shapes [] others → NoNext pages shapes before tail → (more : List Record) → others ≡ before ++ more → tail ≡ texts more ++ rest → others ≡ before
+unfolding texts
+not_longer pages shapes before others tail rest goods none [] all left = all ∙ append-nil before
+not_longer pages shapes before others tail rest goods none (r ∷ more) all left =
+    absurd (none r (texts more ++ rest) (next_good pages shapes [] before more r (rw all at goods)) (left ∙ append_assoc (spelled_record r) (texts more) rest))
+
+as_long : (pages : ℕ) (shapes : List Shape) (before others : List Record) (tail rest : List ℕ) → AreGood pages shapes [] before → AreGood pages shapes [] others → NoNext pages shapes before tail → NoNext pages shapes others rest
+    → LongerRecords before others tail rest ⊎ LongerRecords others before rest tail → others ≡ before
+as_long pages shapes before others tail rest good goods none nothing (inl l) = not_longer pages shapes before others tail rest goods none l.more l.all l.left
+as_long pages shapes before others tail rest good goods none nothing (inr l) = sym (not_longer pages shapes others before rest tail good nothing l.more l.all l.left)
+
+-- The whole good records of bytes are the same, wherever they are cut.
+same_records : (sizes b : List ℕ) (p q : ℕ) (ss ts : List Shape) (before others : List Record) (tail rest : List ℕ) → IsFront sizes b p ss before tail → NoNext p ss before tail → IsFront sizes b q ts others rest → NoNext q ts others rest → others ≡ before
+same_records sizes b p q ss ts before others tail rest f none g nothing =
+    let a = header_of-spelled b p ss (texts before ++ tail) f.begins in
+    let c = header_of-spelled b q ts (texts others ++ rest) g.begins in
+    let t = alike q p ts ss (texts others ++ rest) (texts before ++ tail) (sym c ∙ a) in
+    let goods : AreGood p ss [] others = rw (t.first, t.second) at g.good in
+    let no_next : NoNext p ss others rest = rw (t.first, t.second) at nothing in
+    as_long p ss before others tail rest f.good goods none no_next (records_led before others tail rest (good_spell p ss [] before f.good) (good_spell p ss [] others goods) (sym t.third))
+
+rounds_by : (sizes b : List ℕ) (p : ℕ) (ss : List Shape) (before : List Record) (tail : List ℕ) (n : ℕ) → IsFront sizes b p ss before tail → NoNext p ss before tail → n ≡ rounds before → HasRounds sizes b n
+rounds_by sizes b p ss before tail n f none e = record {
+  none = λ never. absurd (never p ss (texts before ++ tail) f.begins);
+  some = λ q ts others rest g nothing. e ∙ ap rounds (sym (same_records sizes b p q ss ts before others tail rest f none g nothing));
+}
+
+pub rounds_known : (sizes held : List ℕ) (at : ℕ) (stage : Stage) → IsKnown sizes held at stage → has_failed stage ≡ false → HasRounds sizes held (rounds_in stage)
+rounds_known sizes held at stages.Head k f = record { none = λ never. refl; some = λ p ss before tail g none. absurd (k.0.no_header p ss (texts before ++ tail) g.begins) }
+rounds_known sizes held at (stages.Records i) k f =
+    let o = k.open_at in
+    rounds_by sizes held k.pages k.shapes o.before (drop at held) i.rounds (front_of held (drop at held) o.read (sym (take-append-drop at held))) (λ r y g e. o.waits.no_record r y g.spells e) o.read.rounds_are
+rounds_known sizes held at (stages.Ended i) k f =
+    let w = k.ended in
+    let whole : held ≡ w.front ++ (5 ∷ sha256 w.front) = w.whole ∙ ap (λ (x : List ℕ). w.front ++ x) (commit_text (sha256 w.front)) in
+    rounds_by sizes held k.pages k.shapes w.before (5 ∷ sha256 w.front) i.rounds (front_of held (5 ∷ sha256 w.front) w.read whole) (λ r y g e. no_other k.pages k.shapes w.before (sha256 w.front) r y g e) w.read.rounds_are
+rounds_known sizes held at stages.Failed k f = absurd cc
+
+pub none_failed : (stage : Stage) → has_failed stage ≡ true → rounds_in stage ≡ 0
+none_failed stages.Head e = refl
+none_failed (stages.Records i) e = absurd cc
+none_failed (stages.Ended i) e = absurd cc
+none_failed stages.Failed e = refl
+
+no_truncation : (sizes bytes : List ℕ) (at : ℕ) → ¬ (Fault sizes bytes errors.Truncated at)
+no_truncation sizes bytes at (inl h) = h
+no_truncation sizes bytes at (inr h) = h.fault
+
+pub slice_told : (sizes bytes : List ℕ) (e : RecvError) → TellsFault sizes bytes e → RefusesSlice sizes bytes e
+slice_told sizes bytes errors.BadMagic t = t
+slice_told sizes bytes errors.BadVersion t = t
+slice_told sizes bytes errors.BadShape t = t
+slice_told sizes bytes errors.ShapeMismatch t = t
+slice_told sizes bytes errors.BadTag t = t
+slice_told sizes bytes errors.BadPage t = t
+slice_told sizes bytes errors.BadSector t = t
+slice_told sizes bytes errors.BadRound t = t
+slice_told sizes bytes errors.BadDevice t = t
+slice_told sizes bytes errors.BadDigest t = t
+slice_told sizes bytes errors.Missing t = t
+slice_told sizes bytes errors.Trailing t = t
+slice_told sizes bytes errors.Truncated t = absurd (no_truncation sizes bytes t.0 t.1)
+slice_told sizes bytes errors.DiskFailed t = t
+slice_told sizes bytes errors.NoMemory t = tt
+slice_told sizes bytes errors.AlreadyFailed t = t
+
+pub slice_cut : (sizes bytes : List ℕ) (e : RecvError) → IsFinish bytes e → NoFault sizes bytes → RefusesSlice sizes bytes e
+slice_cut sizes bytes errors.BadMagic h n = absurd h
+slice_cut sizes bytes errors.BadVersion h n = absurd h
+slice_cut sizes bytes errors.BadShape h n = absurd h
+slice_cut sizes bytes errors.ShapeMismatch h n = absurd h
+slice_cut sizes bytes errors.BadTag h n = absurd h
+slice_cut sizes bytes errors.BadPage h n = absurd h
+slice_cut sizes bytes errors.BadSector h n = absurd h
+slice_cut sizes bytes errors.BadRound h n = absurd h
+slice_cut sizes bytes errors.BadDevice h n = absurd h
+slice_cut sizes bytes errors.BadDigest h n = absurd h
+slice_cut sizes bytes errors.Missing h n = absurd h
+slice_cut sizes bytes errors.Trailing h n = absurd h
+slice_cut sizes bytes errors.Truncated h n = (n, h)
+slice_cut sizes bytes errors.DiskFailed h n = absurd h
+slice_cut sizes bytes errors.NoMemory h n = tt
+slice_cut sizes bytes errors.AlreadyFailed h n = absurd h
+
+-- What is told of a first piece is told of the slice.
+pub told_at_once : (sizes bytes : List ℕ) (e : RecvError) → TellsNow sizes [] bytes e → TellsFault sizes bytes e
+told_at_once sizes bytes e t = tells_more ((at : ℕ) × (0 < at) × Fault sizes bytes e at) ((at : ℕ) × Fault sizes bytes e at) e (λ x. (x.0, x.2)) t

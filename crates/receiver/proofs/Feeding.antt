@@ -1,0 +1,61 @@
+-- A piece more, and the end.
+use Rattle.std.proofs.Common.{◌≡◌, ◌≢◌, ℕ, ◌+◌, ◌<◌, ◌≤◌, ◌⊎◌, inl, inr, Bool, true, false, List, [], ◌∷◌, ◌++◌, length, map, refl, sym, ap, subst, ◌∙◌, arith}
+use Rattle.std.proofs.lemmas.Bool.{cases_lt}
+use Rattle.std.proofs.lemmas.List.{length-append, length-map}
+use Rattle.guestmem.specs.Number.{IsBytes}
+use Rattle.wire.specs.Stream.{IsStream}
+use Rattle.machine.specs.Disk.{DiskState}
+use Rattle.machine.specs.State.{MachineState}
+use Rattle.machine.specs.declared.shape.Shape.{Shape}
+use Rattle.wire.proofs.Endings.{empty}
+use Rattle.receiver.specs.Good.{disk_sizes}
+use Rattle.receiver.specs.Faults.{Fault}
+use Rattle.receiver.specs.Fed.{Tells}
+use Rattle.receiver.specs.Receiving.{sizes_of, IsKnown, GoesOn, HasCome, IsReading, NoFault, TellsFault, TellsNow, Received, HasBeenFed, has_failed}
+use Rattle.receiver.specs.declared.stage.Stage.{Stage}
+use Rattle.receiver.specs.declared.stage.Stage.TheVariants as stages
+use Rattle.receiver.specs.declared.recv_error.RecvError.{RecvError}
+use Rattle.receiver.proofs.Knowing.{place_within, no_fault_known, whole_stream}
+use Rattle.receiver.proofs.Prefixes.{holds}
+use Rattle.receiver.proofs.Stages.{no_disk}
+use Rattle.receiver.proofs.Streams.{no_stream_head, no_stream_reading}
+use Rattle.receiver.proofs.Working.{tells_more}
+
+pub goes_on_of : (stage : Stage) → has_failed stage ≡ false → GoesOn stage
+goes_on_of stages.Head e = tt
+goes_on_of (stages.Records i) e = tt
+goes_on_of (stages.Ended i) e = tt
+goes_on_of stages.Failed e = absurd cc
+
+pub not_failed : (stage : Stage) → GoesOn stage → has_failed stage ≡ false
+not_failed stages.Head g = refl
+not_failed (stages.Records i) g = refl
+not_failed (stages.Ended i) g = refl
+not_failed stages.Failed g = absurd g
+
+pub within_more : (sizes old piece held : List ℕ) (at : ℕ) (stage : Stage) → IsKnown sizes old at stage → has_failed stage ≡ false → held ≡ old ++ piece → at ≤ length held
+within_more sizes old piece held at stage k f e = omega (arith, place_within sizes old at stage k (goes_on_of stage f), ap length e, length-append old piece)
+
+pub true_false : (b : Bool) → b ≡ true → b ≡ false → ⊥
+true_false b t f = let no : true ≡ false = sym t ∙ f in cc
+
+pub quiet_more : (sizes old piece held b : List ℕ) (at : ℕ) (stage : Stage) → IsKnown sizes held at stage → GoesOn stage → held ≡ old ++ piece → old ≡ b → NoFault sizes (b ++ piece)
+quiet_more sizes old piece held b at stage k g e f = rw (e ∙ ap (λ (x : List ℕ). x ++ piece) f) at (no_fault_known sizes held at stage k g)
+
+later_by : (sizes old piece : List ℕ) (e : RecvError) (at : ℕ) → NoFault sizes old → Fault sizes (old ++ piece) e at → (length old < at) ⊎ (at ≤ length old) → length old < at
+later_by sizes old piece e at none f (inl lt) = lt
+later_by sizes old piece e at none f (inr le) = absurd (none e at (holds sizes old piece e at le f))
+
+-- A fault that did not stand before has its place behind.
+later : (sizes old piece : List ℕ) (e : RecvError) (at : ℕ) → NoFault sizes old → Fault sizes (old ++ piece) e at → length old < at
+later sizes old piece e at none f = later_by sizes old piece e at none f (cases_lt (length old) at)
+
+pub told_more : (sizes old piece held b : List ℕ) (e : RecvError) → TellsFault sizes held e → NoFault sizes old → held ≡ old ++ piece → old ≡ b → TellsNow sizes b piece e
+told_more sizes old piece held b e t none is f =
+    rw f at (tells_more ((at : ℕ) × Fault sizes held e at) ((at : ℕ) × (length old < at) × Fault sizes (old ++ piece) e at) e
+    (λ x. let here : Fault sizes (old ++ piece) e x.0 = rw is at x.1 in (x.0, later sizes old piece e x.0 none here, here)) t)
+
+pub no_disks_left : {D : Type 0} (state : D → DiskState) (disks : List D) (shapes : List Shape) → sizes_of state disks ≡ disk_sizes shapes → disks ≡ []
+no_disks_left state disks shapes e =
+    let count : length (sizes_of state disks) ≡ length disks = simp length-map in
+    empty disks (omega (arith, count, ap length e, ap length (no_disk shapes)))

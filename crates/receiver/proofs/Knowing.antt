@@ -1,0 +1,181 @@
+-- What a receiver knows of its bytes.
+use Rattle.std.proofs.Common.{◌≡◌, ◌≢◌, ℕ, ◌+◌, ◌-◌, ◌*◌, ◌<◌, ◌≤◌, ◌⊎◌, inl, inr, Some, None, Option, Bool, true, false, List, [], ◌∷◌, ◌++◌, length, take, drop, map, get_or, refl, sym, ap, subst, ◌∙◌, append_assoc, append-nil, arith}
+use Rattle.std.specs.Prelude.{is_some, All}
+use Rattle.std.proofs.lemmas.List.{length-append, length-drop, length-map, length-take, take-append-drop}
+use Rattle.std.proofs.lemmas.List.Elements.{All-from_recursion, All-map}
+use Rattle.std.specs.List.{AllByRecursion}
+use Rattle.sha2.specs.Sha256.{sha256}
+use Rattle.sha2.proofs.Facts256.{length-sha256}
+use Rattle.guestmem.specs.Number.{IsBytes}
+use Rattle.wire.specs.DeviceBody.{body}
+use Rattle.wire.specs.Header.{header, Begins}
+use Rattle.wire.specs.Records.{Record, page, sector, round_end, device, commit, spelled_record, HasSpelling}
+use Rattle.wire.specs.Stream.{IsStream, IsStreamBy, IsEntry, texts, rounds, shapes_in, device_texts, before_commit, last_of, or_else, page_of}
+use Rattle.wire.specs.Taken.{shown}
+use Rattle.machine.specs.First.{saved_machine}
+use Rattle.machine.specs.Sound.{IsSound, IsSoundDevice}
+use Rattle.machine.specs.State.{DeviceState, MachineState, Sector}
+use Rattle.machine.specs.declared.shape.Shape.{Shape}
+use Rattle.wire.proofs.Devices.{take_all}
+use Rattle.wire.proofs.Spelling.{head_same, tail_same, split_same}
+use Rattle.wire.proofs.Unique.{after_header, body_spells, length_shapes, stream_begins, alike}
+use Rattle.wire.proofs.HeaderLemmas.{header_of-spelled}
+use Rattle.receiver.specs.Good.{AreGood, AreNamed, Follows, devices_in}
+use Rattle.receiver.specs.Faults.{MayTag, IsComplete, Opens, IsBadDigest, IsTrailing, IsFault, IsFront, IsRecordFault, Fault}
+use Rattle.receiver.specs.Fed.{HasRead, IsOpen, IsEnded, device_records, Waits}
+use Rattle.receiver.specs.Heading.{WaitsHead}
+use Rattle.receiver.specs.Receiving.{IsKnown, IsReading, HasCome, GoesOn, NoFault}
+use Rattle.receiver.specs.declared.intake.Intake.{Intake}
+use Rattle.receiver.specs.declared.stage.Stage.{Stage}
+use Rattle.receiver.specs.declared.stage.Stage.TheVariants as stages
+use Rattle.receiver.specs.declared.recv_error.RecvError.{RecvError}
+use Rattle.receiver.proofs.Aligned.{records_led, LongerRecords, good_spell, no_record_fault}
+use Rattle.receiver.proofs.Heads.{head_short, no_header_fault}
+use Rattle.receiver.proofs.Quiet.{quiet}
+use Rattle.receiver.proofs.Steps.{devices_are}
+use Rattle.receiver.proofs.Working.{front_of, commit_text}
+
+pub nothing_known : WaitsHead []
+nothing_known = head_short [] (omega arith) (λ at h. omega (arith, h.long)) (λ at h. omega (arith, h.long))
+
+pub place_within : (sizes held : List ℕ) (at : ℕ) (stage : Stage) → IsKnown sizes held at stage → GoesOn stage → at ≤ length held
+place_within sizes held at stages.Head k g = omega (arith, k.1)
+place_within sizes held at (stages.Records i) k g = k.within
+place_within sizes held at (stages.Ended i) k g = omega (arith, k.at_end)
+place_within sizes held at stages.Failed k g = absurd g
+
+-- The digest is no other record, and has no fault.
+
+pub no_other : (pages : ℕ) (shapes : List Shape) (before : List Record) (digest : List ℕ) (r : Record) (y : List ℕ) → Follows pages shapes before r → ¬ (5 ∷ digest ≡ spelled_record r ++ y)
+unfolding spelled_record
+no_other pages shapes before digest (page n b) y f e = cc
+no_other pages shapes before digest (sector d n (Some b)) y f e = cc
+no_other pages shapes before digest (sector d n None) y f e = cc
+no_other pages shapes before digest (round_end n) y f e = cc
+no_other pages shapes before digest (device d b) y f e = cc
+no_other pages shapes before digest (commit b) y f e = f.may
+
+digest_quiet : (pages : ℕ) (shapes : List Shape) (before : List Record) (digest : List ℕ) → digest ≡ sha256 (header pages shapes ++ texts before) → (place : ℕ)
+    → ¬ (IsBadDigest pages shapes before (5 ∷ digest) place ⊎ IsTrailing pages shapes before (5 ∷ digest) place)
+digest_quiet pages shapes before digest is place (inl h) =
+    let size : length digest ≡ 32 = ap length is ∙ length-sha256 (header pages shapes ++ texts before) in
+    let t : digest ++ [] ≡ h.digest ++ h.more = append-nil digest ∙ tail_same h.opens.whole in
+    h.never (sym (split_same digest h.digest [] h.more (size ∙ sym h.long) t).0 ∙ is)
+digest_quiet pages shapes before digest is place (inr h) =
+    let size : length digest ≡ 32 = ap length is ∙ length-sha256 (header pages shapes ++ texts before) in
+    omega (arith, size, ap length (tail_same h.opens.whole), length-append (sha256 (header pages shapes ++ texts before)) (h.byte ∷ h.more), length-sha256 (header pages shapes ++ texts before))
+
+pub end_quiet : (pages : ℕ) (shapes : List Shape) (before : List Record) (digest : List ℕ) → IsComplete pages (length shapes) before 5 → digest ≡ sha256 (header pages shapes ++ texts before) → (k : RecvError) (place : ℕ) → ¬ (IsFault pages shapes before (5 ∷ digest) k place)
+end_quiet pages shapes before digest complete is =
+    quiet pages shapes before (5 ∷ digest) 5 digest (record {
+      whole = refl;
+      may = record { least = omega arith; most = omega arith; early = λ low. absurd (omega (arith, low)); missing = λ four. absurd (omega (arith, four)) };
+      complete = λ late. complete;
+    })
+    (λ z. absurd (omega (arith, z))) (λ z. absurd (omega (arith, z))) (λ z. absurd (omega (arith, z))) (λ z. absurd (omega (arith, z)))
+    (λ five. digest_quiet pages shapes before digest is)
+
+pub quiet_front : (sizes bytes : List ℕ) (pages : ℕ) (shapes : List Shape) (before : List Record) (tail : List ℕ) → IsFront sizes bytes pages shapes before tail
+    → ((r : Record) (y : List ℕ) → Follows pages shapes before r → ¬ (tail ≡ spelled_record r ++ y)) → ((k : RecvError) (place : ℕ) → ¬ (IsFault pages shapes before tail k place))
+    → NoFault sizes bytes
+quiet_front sizes bytes pages shapes before tail front none quiets k at (inl h) = no_header_fault sizes bytes pages shapes (texts before ++ tail) front.begins front.fits k at h
+quiet_front sizes bytes pages shapes before tail front none quiets k at (inr h) = no_record_fault sizes bytes pages shapes before tail front none quiets k at h
+
+no_fault_head : (sizes held : List ℕ) → WaitsHead held → NoFault sizes held
+no_fault_head sizes held w k at (inl h) = w.no_fault sizes k at h
+no_fault_head sizes held w k at (inr h) = w.no_header h.pages h.shapes (texts h.before ++ h.tail) h.front.begins
+
+no_fault_reading : (sizes held : List ℕ) (at : ℕ) (i : Intake) → IsReading sizes held at i → NoFault sizes held
+no_fault_reading sizes held at i r =
+    let o = r.open_at in
+    quiet_front sizes held r.pages r.shapes o.before (drop at held) (front_of held (drop at held) o.read (sym (take-append-drop at held))) (λ s y f e. o.waits.no_record s y f.spells e) o.waits.no_fault
+
+no_fault_come : (sizes held : List ℕ) (at : ℕ) (i : Intake) → HasCome sizes held at i → NoFault sizes held
+no_fault_come sizes held at i h =
+    let w = h.ended in
+    let whole : held ≡ w.front ++ (5 ∷ sha256 w.front) = w.whole ∙ ap (λ (x : List ℕ). w.front ++ x) (commit_text (sha256 w.front)) in
+    quiet_front sizes held h.pages h.shapes w.before (5 ∷ sha256 w.front) (front_of held (5 ∷ sha256 w.front) w.read whole)
+    (λ s y f e. no_other h.pages h.shapes w.before (sha256 w.front) s y f e) (end_quiet h.pages h.shapes w.before (sha256 w.front) w.complete (ap sha256 w.read.whole))
+
+-- No fault stands in what was fed while no refusal came.
+pub no_fault_known : (sizes held : List ℕ) (at : ℕ) (stage : Stage) → IsKnown sizes held at stage → GoesOn stage → NoFault sizes held
+no_fault_known sizes held at stages.Head k g = no_fault_head sizes held k.0
+no_fault_known sizes held at (stages.Records i) k g = no_fault_reading sizes held at i k
+no_fault_known sizes held at (stages.Ended i) k g = no_fault_come sizes held at i k
+no_fault_known sizes held at stages.Failed k g = absurd g
+
+-- A whole stream.
+
+pub texts-append : (rs ss : List Record) → texts (rs ++ ss) ≡ texts rs ++ texts ss
+unfolding texts
+texts-append [] ss = refl
+texts-append (r ∷ rs) ss = ap (λ (x : List ℕ). spelled_record r ++ x) (texts-append rs ss) ∙ sym (append_assoc (spelled_record r) (texts rs) (texts ss))
+
+pub texts_devices : (k : ℕ) (ds : List DeviceState) → texts (device_records k ds) ≡ device_texts k ds
+unfolding texts device_records device_texts
+texts_devices k [] = refl
+texts_devices k (d ∷ ds) = ap (λ (x : List ℕ). spelled_record (device k (body d)) ++ x) (texts_devices (k + 1) ds)
+
+last_none : (n k : ℕ) (ds : List DeviceState) → last_of n (device_records k ds) ≡ None
+unfolding last_of device_records
+last_none n k [] = refl
+last_none n k (d ∷ ds) = rw (last_none n (k + 1) ds) refl
+
+pub last_entries : (n k : ℕ) (es : List Record) (ds : List DeviceState) → last_of n (es ++ device_records k ds) ≡ last_of n es
+unfolding last_of
+last_entries n k [] ds = last_none n k ds
+last_entries n k (r ∷ es) ds = rw (last_entries n k es ds) refl
+
+pub rounds_none : (k : ℕ) (ds : List DeviceState) → rounds (device_records k ds) ≡ 0
+unfolding rounds device_records
+rounds_none k [] = refl
+rounds_none k (d ∷ ds) = rounds_none (k + 1) ds
+
+-- The machine that was read.
+abbrev pub read_machine : Intake → MachineState
+read_machine i = saved_machine i.ram.bytes i.devices.items
+
+some_shown : (b : Bool) (x : List ℕ) (o : Option (List ℕ)) → o ≡ shown b x → is_some o ≡ true → o ≡ Some x
+some_shown true x o e s = e
+some_shown false x o e s = let no : false ≡ true = ap is_some (sym e) ∙ s in absurd cc
+
+pub whole_shapes : {sizes front : List ℕ} {pages : ℕ} {shapes : List Shape} {before : List Record} {i : Intake} → HasRead sizes pages shapes before i front → devices_in before ≡ length shapes → shapes_in i.devices.items ≡ shapes
+whole_shapes {shapes = shapes} {i = i} h all = h.devices_are ∙ take_all (length i.devices.items) shapes (omega (arith, all, devices_are h))
+
+pub read_sound : {sizes front : List ℕ} {pages : ℕ} {shapes : List Shape} {before : List Record} {i : Intake} → HasRead sizes pages shapes before i front → devices_in before ≡ length shapes → IsBytes i.ram.bytes → IsSound (read_machine i)
+read_sound {pages = pages} {shapes = shapes} {i = i} h all are =
+    let count : length i.devices.items ≡ length shapes = omega (arith, all, devices_are h) in
+    record {
+      pages = pages;
+      whole_pages = h.taken.ram_size;
+      some_pages = h.head.some_page;
+      few_pages = h.head.few_pages;
+      some_devices = omega (arith, h.head.some_device, count);
+      few_devices = omega (arith, h.head.few_devices, count);
+      devices = All-from_recursion (IsSoundDevice (length i.ram.bytes)) i.devices.items (rw h.taken.ram_size h.sound);
+      bytes = are;
+      disk_each = rw length-map refl;
+      no_sectors = All-map (λ (disk : List Sector). disk ≡ []) (λ (x : DeviceState). []) i.devices.items (λ k x below. refl);
+    }
+
+pub whole_stream : (sizes held : List ℕ) (pages : ℕ) (shapes : List Shape) (i : Intake) → IsEnded sizes pages shapes i held → IsBytes i.ram.bytes → IsStream held (read_machine i)
+whole_stream sizes held pages shapes i w are =
+    let h = w.read in
+    let all = w.complete.devices refl in
+    let same : texts w.before ≡ texts h.entries ++ device_texts 0 i.devices.items =
+    ap texts h.split ∙ texts-append h.entries (device_records 0 i.devices.items) ∙ ap (λ (x : List ℕ). texts h.entries ++ x) (texts_devices 0 i.devices.items) in
+    let front : w.front ≡ before_commit pages h.entries i.devices.items =
+    h.whole ∙ ap (λ (x : List ℕ). header pages shapes ++ x) same ∙ ap (λ (x : List Shape). header pages x ++ (texts h.entries ++ device_texts 0 i.devices.items)) (sym (whole_shapes h all)) in
+    record {
+      pages = pages;
+      entries = h.entries;
+      by = record {
+        each = h.each;
+        numbered = h.numbered;
+        last = λ n lt. sym (ap (last_of n) h.split ∙ last_entries n 0 h.entries i.devices.items)
+            ∙ some_shown (get_or i.named.items n false) (page_of i.ram.bytes n) (last_of n w.before) (h.taken.last n lt) (w.complete.items n lt);
+        sound = read_sound h all are;
+        pages_are = h.taken.ram_size;
+        whole = w.whole ∙ ap (λ (x : List ℕ). x ++ spelled_record (commit (sha256 x))) front;
+      };
+    }

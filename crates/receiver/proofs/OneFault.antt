@@ -1,0 +1,297 @@
+-- A fault stands at one place, and is one.
+use Rattle.std.proofs.Common.{◌≡◌, ◌≢◌, ℕ, suc, ◌+◌, ◌*◌, ◌^◌, ◌<◌, ◌≤◌, ◌⊎◌, inl, inr, List, [], ◌∷◌, ◌++◌, length, take, drop, refl, sym, ap, subst, ◌∙◌, append_assoc, append-nil, arith}
+use Rattle.std.proofs.lemmas.List.{length-append}
+use Rattle.sha2.specs.Sha256.{sha256}
+use Rattle.sha2.proofs.Facts256.{length-sha256}
+use Rattle.wire.specs.Header.{front, header, Begins, spelled_shapes}
+use Rattle.wire.specs.Numbers.{digits}
+use Rattle.wire.specs.Records.{Record, spelled_record}
+use Rattle.wire.specs.Stream.{texts, rounds}
+use Rattle.machine.specs.declared.shape.Shape.{Shape}
+use Rattle.wire.proofs.HeaderLemmas.{header_of-spelled}
+use Rattle.wire.proofs.Spelling.{head_same, tail_same, split_same, number_same}
+use Rattle.wire.proofs.Unique.{alike}
+use Rattle.receiver.specs.Good.{AreGood, devices_in, disk_sizes}
+use Rattle.receiver.specs.Faults.{MayTag, IsComplete, MayCount, Opens, IsBadTag, IsMissing, IsBadPage, IsBadSector, IsBadRound, IsNextHead, IsBadHead, IsBadBody, IsBadDigest, IsTrailing, IsFault, IsFront, IsRecordFault, IsBadMagic, IsBadVersion, IsBadCount, IsBadShape, IsMismatch, IsNoShape, IsHeaderFault, Fault}
+use Rattle.receiver.specs.declared.recv_error.RecvError.{RecvError}
+use Rattle.receiver.specs.declared.recv_error.RecvError.TheVariants as errors
+use Rattle.receiver.proofs.Aligned.{LongerRecords, records_led, good_spell, next_good, no_fault_here}
+use Rattle.receiver.proofs.Heads.{no_header_fault, header_same, says_of, shapes_led, LongerShapes, no_bad_spelled}
+
+abbrev pub Same : RecvError → ℕ → RecvError → ℕ → Type 0
+Same k p j q = (k ≡ j) × (p ≡ q)
+
+by_tag : (G : RecvError → ℕ → Type 0) (pages : ℕ) (shapes : List Shape) (before : List Record) (tail : List ℕ) (tag : ℕ) (more : List ℕ) → Opens pages shapes before tail tag more
+    → (tag ≡ 1 → (q : ℕ) → IsBadPage pages shapes before tail q → G errors.BadPage q)
+    → (tag ≡ 2 → (q : ℕ) → IsBadSector pages shapes before tail q → G errors.BadSector q)
+    → (tag ≡ 3 → (q : ℕ) → IsBadRound pages shapes before tail q → G errors.BadRound q)
+    → (tag ≡ 4 → (q : ℕ) → IsBadHead pages shapes before tail q → G errors.BadDevice q) → (tag ≡ 4 → (q : ℕ) → IsBadBody pages shapes before tail q → G errors.BadDevice q)
+    → (tag ≡ 5 → (q : ℕ) → IsBadDigest pages shapes before tail q → G errors.BadDigest q) → (tag ≡ 5 → (q : ℕ) → IsTrailing pages shapes before tail q → G errors.Trailing q)
+    → (j : RecvError) (q : ℕ) → IsFault pages shapes before tail j q → G j q
+by_tag G pages shapes before tail tag more o p s r d b c t errors.BadMagic q h = absurd h
+by_tag G pages shapes before tail tag more o p s r d b c t errors.BadVersion q h = absurd h
+by_tag G pages shapes before tail tag more o p s r d b c t errors.BadShape q h = absurd h
+by_tag G pages shapes before tail tag more o p s r d b c t errors.ShapeMismatch q h = absurd h
+by_tag G pages shapes before tail tag more o p s r d b c t errors.BadTag q h = absurd (h.never (subst (MayTag (length shapes) (devices_in before)) (head_same (sym o.whole ∙ h.whole)) o.may))
+by_tag G pages shapes before tail tag more o p s r d b c t errors.BadPage q h = p (head_same (sym o.whole ∙ h.opens.whole)) q h
+by_tag G pages shapes before tail tag more o p s r d b c t errors.BadSector q h = s (head_same (sym o.whole ∙ h.opens.whole)) q h
+by_tag G pages shapes before tail tag more o p s r d b c t errors.BadRound q h = r (head_same (sym o.whole ∙ h.opens.whole)) q h
+by_tag G pages shapes before tail tag more o p s r d b c t errors.BadDevice q (inl h) = d (head_same (sym o.whole ∙ h.opens.whole)) q h
+by_tag G pages shapes before tail tag more o p s r d b c t errors.BadDevice q (inr h) = b (head_same (sym o.whole ∙ h.opens.whole)) q h
+by_tag G pages shapes before tail tag more o p s r d b c t errors.BadDigest q h = c (head_same (sym o.whole ∙ h.opens.whole)) q h
+by_tag G pages shapes before tail tag more o p s r d b c t errors.Missing q h = let same : tag ≡ h.tag = head_same (sym o.whole ∙ h.whole) in absurd (h.never (subst (IsComplete pages (length shapes) before) same (o.complete (omega (arith, h.late, same)))))
+by_tag G pages shapes before tail tag more o p s r d b c t errors.Trailing q h = t (head_same (sym o.whole ∙ h.opens.whole)) q h
+by_tag G pages shapes before tail tag more o p s r d b c t errors.Truncated q h = absurd h
+by_tag G pages shapes before tail tag more o p s r d b c t errors.DiskFailed q h = absurd h
+by_tag G pages shapes before tail tag more o p s r d b c t errors.NoMemory q h = absurd h
+by_tag G pages shapes before tail tag more o p s r d b c t errors.AlreadyFailed q h = absurd h
+
+one_tag : (pages : ℕ) (shapes : List Shape) (before : List Record) (tail : List ℕ) (p : ℕ) → IsBadTag shapes before tail p → (j : RecvError) (q : ℕ) → IsFault pages shapes before tail j q → Same errors.BadTag p j q
+one_tag pages shapes before tail p f errors.BadMagic q h = absurd h
+one_tag pages shapes before tail p f errors.BadVersion q h = absurd h
+one_tag pages shapes before tail p f errors.BadShape q h = absurd h
+one_tag pages shapes before tail p f errors.ShapeMismatch q h = absurd h
+one_tag pages shapes before tail p f errors.BadTag q h = (refl, f.there ∙ sym h.there)
+one_tag pages shapes before tail p f errors.BadPage q h = absurd (f.never (subst (MayTag (length shapes) (devices_in before)) (head_same (sym h.opens.whole ∙ f.whole)) h.opens.may))
+one_tag pages shapes before tail p f errors.BadSector q h = absurd (f.never (subst (MayTag (length shapes) (devices_in before)) (head_same (sym h.opens.whole ∙ f.whole)) h.opens.may))
+one_tag pages shapes before tail p f errors.BadRound q h = absurd (f.never (subst (MayTag (length shapes) (devices_in before)) (head_same (sym h.opens.whole ∙ f.whole)) h.opens.may))
+one_tag pages shapes before tail p f errors.BadDevice q (inl h) = absurd (f.never (subst (MayTag (length shapes) (devices_in before)) (head_same (sym h.opens.whole ∙ f.whole)) h.opens.may))
+one_tag pages shapes before tail p f errors.BadDevice q (inr h) = absurd (f.never (subst (MayTag (length shapes) (devices_in before)) (head_same (sym h.opens.whole ∙ f.whole)) h.opens.may))
+one_tag pages shapes before tail p f errors.BadDigest q h = absurd (f.never (subst (MayTag (length shapes) (devices_in before)) (head_same (sym h.opens.whole ∙ f.whole)) h.opens.may))
+one_tag pages shapes before tail p f errors.Missing q h = absurd (f.never (subst (MayTag (length shapes) (devices_in before)) (head_same (sym h.whole ∙ f.whole)) h.may))
+one_tag pages shapes before tail p f errors.Trailing q h = absurd (f.never (subst (MayTag (length shapes) (devices_in before)) (head_same (sym h.opens.whole ∙ f.whole)) h.opens.may))
+one_tag pages shapes before tail p f errors.Truncated q h = absurd h
+one_tag pages shapes before tail p f errors.DiskFailed q h = absurd h
+one_tag pages shapes before tail p f errors.NoMemory q h = absurd h
+one_tag pages shapes before tail p f errors.AlreadyFailed q h = absurd h
+
+one_missing : (pages : ℕ) (shapes : List Shape) (before : List Record) (tail : List ℕ) (p : ℕ) → IsMissing pages shapes before tail p → (j : RecvError) (q : ℕ) → IsFault pages shapes before tail j q → Same errors.Missing p j q
+one_missing pages shapes before tail p f errors.BadMagic q h = absurd h
+one_missing pages shapes before tail p f errors.BadVersion q h = absurd h
+one_missing pages shapes before tail p f errors.BadShape q h = absurd h
+one_missing pages shapes before tail p f errors.ShapeMismatch q h = absurd h
+one_missing pages shapes before tail p f errors.BadTag q h = absurd (h.never (subst (MayTag (length shapes) (devices_in before)) (head_same (sym f.whole ∙ h.whole)) f.may))
+one_missing pages shapes before tail p f errors.BadPage q h = let same = head_same (sym h.opens.whole ∙ f.whole) in absurd (f.never (subst (IsComplete pages (length shapes) before) same (h.opens.complete (omega (arith, f.late, same)))))
+one_missing pages shapes before tail p f errors.BadSector q h = let same = head_same (sym h.opens.whole ∙ f.whole) in absurd (f.never (subst (IsComplete pages (length shapes) before) same (h.opens.complete (omega (arith, f.late, same)))))
+one_missing pages shapes before tail p f errors.BadRound q h = let same = head_same (sym h.opens.whole ∙ f.whole) in absurd (f.never (subst (IsComplete pages (length shapes) before) same (h.opens.complete (omega (arith, f.late, same)))))
+one_missing pages shapes before tail p f errors.BadDevice q (inl h) = let same = head_same (sym h.opens.whole ∙ f.whole) in absurd (f.never (subst (IsComplete pages (length shapes) before) same (h.opens.complete (omega (arith, f.late, same)))))
+one_missing pages shapes before tail p f errors.BadDevice q (inr h) = let same = head_same (sym h.opens.whole ∙ f.whole) in absurd (f.never (subst (IsComplete pages (length shapes) before) same (h.opens.complete (omega (arith, f.late, same)))))
+one_missing pages shapes before tail p f errors.BadDigest q h = let same = head_same (sym h.opens.whole ∙ f.whole) in absurd (f.never (subst (IsComplete pages (length shapes) before) same (h.opens.complete (omega (arith, f.late, same)))))
+one_missing pages shapes before tail p f errors.Missing q h = (refl, f.there ∙ sym h.there)
+one_missing pages shapes before tail p f errors.Trailing q h = let same = head_same (sym h.opens.whole ∙ f.whole) in absurd (f.never (subst (IsComplete pages (length shapes) before) same (h.opens.complete (omega (arith, f.late, same)))))
+one_missing pages shapes before tail p f errors.Truncated q h = absurd h
+one_missing pages shapes before tail p f errors.DiskFailed q h = absurd h
+one_missing pages shapes before tail p f errors.NoMemory q h = absurd h
+one_missing pages shapes before tail p f errors.AlreadyFailed q h = absurd h
+
+head_body : (pages : ℕ) (shapes : List Shape) (before : List Record) (tail : List ℕ) (p q : ℕ) → IsBadHead pages shapes before tail p → IsBadBody pages shapes before tail q → ⊥
+head_body pages shapes before tail p q f h =
+    let t = tail_same (sym f.opens.whole ∙ h.opens.whole) in
+    let s = number_same 4 f.len (length h.body) f.more (h.body ++ h.more) f.fits (omega (arith, h.few)) (tail_same t) in
+    f.never (record { next = head_same t; few = omega (arith, h.few, s.0) })
+
+body_body : (pages : ℕ) (shapes : List Shape) (before : List Record) (tail : List ℕ) (p q : ℕ) → IsBadBody pages shapes before tail p → IsBadBody pages shapes before tail q → p ≡ q
+body_body pages shapes before tail p q f h =
+    let t = tail_same (sym f.opens.whole ∙ h.opens.whole) in
+    let s = number_same 4 (length f.body) (length h.body) (f.body ++ f.more) (h.body ++ h.more) (omega (arith, f.few)) (omega (arith, h.few)) (tail_same t) in
+    omega (arith, f.there, h.there, s.0)
+
+digest_trailing : (pages : ℕ) (shapes : List Shape) (before : List Record) (tail : List ℕ) (p q : ℕ) → IsBadDigest pages shapes before tail p → IsTrailing pages shapes before tail q → ⊥
+digest_trailing pages shapes before tail p q f h =
+    let t : f.digest ++ f.more ≡ sha256 (header pages shapes ++ texts before) ++ (h.byte ∷ h.more) = tail_same (sym f.opens.whole ∙ h.opens.whole) in
+    f.never (split_same f.digest (sha256 (header pages shapes ++ texts before)) f.more (h.byte ∷ h.more) (f.long ∙ sym (length-sha256 (header pages shapes ++ texts before))) t).0
+
+one_local : (pages : ℕ) (shapes : List Shape) (before : List Record) (tail : List ℕ) (k : RecvError) (p : ℕ) → IsFault pages shapes before tail k p → (j : RecvError) (q : ℕ) → IsFault pages shapes before tail j q → Same k p j q
+one_local pages shapes before tail errors.BadMagic p f = absurd f
+one_local pages shapes before tail errors.BadVersion p f = absurd f
+one_local pages shapes before tail errors.BadShape p f = absurd f
+one_local pages shapes before tail errors.ShapeMismatch p f = absurd f
+one_local pages shapes before tail errors.BadTag p f = one_tag pages shapes before tail p f
+one_local pages shapes before tail errors.BadPage p f = by_tag (λ j q. Same errors.BadPage p j q) pages shapes before tail 1 _ f.opens (λ z q h. (refl, f.there ∙ sym h.there)) (λ z q h. absurd (omega (arith, z))) (λ z q h. absurd (omega (arith, z))) (λ z q h. absurd (omega (arith, z))) (λ z q h. absurd (omega (arith, z))) (λ z q h. absurd (omega (arith, z))) (λ z q h. absurd (omega (arith, z)))
+one_local pages shapes before tail errors.BadSector p f = by_tag (λ j q. Same errors.BadSector p j q) pages shapes before tail 2 _ f.opens (λ z q h. absurd (omega (arith, z))) (λ z q h. (refl, f.there ∙ sym h.there)) (λ z q h. absurd (omega (arith, z))) (λ z q h. absurd (omega (arith, z))) (λ z q h. absurd (omega (arith, z))) (λ z q h. absurd (omega (arith, z))) (λ z q h. absurd (omega (arith, z)))
+one_local pages shapes before tail errors.BadRound p f = by_tag (λ j q. Same errors.BadRound p j q) pages shapes before tail 3 _ f.opens (λ z q h. absurd (omega (arith, z))) (λ z q h. absurd (omega (arith, z))) (λ z q h. (refl, f.there ∙ sym h.there)) (λ z q h. absurd (omega (arith, z))) (λ z q h. absurd (omega (arith, z))) (λ z q h. absurd (omega (arith, z))) (λ z q h. absurd (omega (arith, z)))
+one_local pages shapes before tail errors.BadDevice p (inl f) = by_tag (λ j q. Same errors.BadDevice p j q) pages shapes before tail 4 _ f.opens (λ z q h. absurd (omega (arith, z))) (λ z q h. absurd (omega (arith, z))) (λ z q h. absurd (omega (arith, z))) (λ z q h. (refl, f.there ∙ sym h.there)) (λ z q h. absurd (head_body pages shapes before tail p q f h)) (λ z q h. absurd (omega (arith, z))) (λ z q h. absurd (omega (arith, z)))
+one_local pages shapes before tail errors.BadDevice p (inr f) = by_tag (λ j q. Same errors.BadDevice p j q) pages shapes before tail 4 _ f.opens (λ z q h. absurd (omega (arith, z))) (λ z q h. absurd (omega (arith, z))) (λ z q h. absurd (omega (arith, z))) (λ z q h. absurd (head_body pages shapes before tail q p h f)) (λ z q h. (refl, body_body pages shapes before tail p q f h)) (λ z q h. absurd (omega (arith, z))) (λ z q h. absurd (omega (arith, z)))
+one_local pages shapes before tail errors.BadDigest p f = by_tag (λ j q. Same errors.BadDigest p j q) pages shapes before tail 5 _ f.opens (λ z q h. absurd (omega (arith, z))) (λ z q h. absurd (omega (arith, z))) (λ z q h. absurd (omega (arith, z))) (λ z q h. absurd (omega (arith, z))) (λ z q h. absurd (omega (arith, z))) (λ z q h. (refl, f.there ∙ sym h.there)) (λ z q h. absurd (digest_trailing pages shapes before tail p q f h))
+one_local pages shapes before tail errors.Missing p f = one_missing pages shapes before tail p f
+one_local pages shapes before tail errors.Trailing p f = by_tag (λ j q. Same errors.Trailing p j q) pages shapes before tail 5 _ f.opens (λ z q h. absurd (omega (arith, z))) (λ z q h. absurd (omega (arith, z))) (λ z q h. absurd (omega (arith, z))) (λ z q h. absurd (omega (arith, z))) (λ z q h. absurd (omega (arith, z))) (λ z q h. absurd (digest_trailing pages shapes before tail q p h f)) (λ z q h. (refl, f.there ∙ sym h.there))
+one_local pages shapes before tail errors.Truncated p f = absurd f
+one_local pages shapes before tail errors.DiskFailed p f = absurd f
+one_local pages shapes before tail errors.NoMemory p f = absurd f
+one_local pages shapes before tail errors.AlreadyFailed p f = absurd f
+
+longer_one : (pages : ℕ) (shapes : List Shape) (before others : List Record) (tail rest : List ℕ) (k j : RecvError) (p q : ℕ) → AreGood pages shapes [] others → IsFault pages shapes before tail k p → IsFault pages shapes others rest j q
+    → (more : List Record) → others ≡ before ++ more → tail ≡ texts more ++ rest → (k ≡ j) × (length (texts before) + p ≡ length (texts others) + q)
+unfolding texts
+longer_one pages shapes before others tail rest k j p q goods f h [] all left =
+    let same : others ≡ before = all ∙ append-nil before in
+    let there : IsFault pages shapes before tail j q = rw (left, sym same) h in
+    let one = one_local pages shapes before tail k p f j q there in
+    (one.0, omega (arith, one.1, ap (λ (x : List Record). length (texts x)) same))
+longer_one pages shapes before others tail rest k j p q goods f h (r ∷ more) all left =
+    absurd (no_fault_here pages shapes before tail (texts more ++ rest) r (next_good pages shapes [] before more r (rw all at goods)) (left ∙ append_assoc (spelled_record r) (texts more) rest) k p f)
+
+led_one : (pages : ℕ) (shapes : List Shape) (before others : List Record) (tail rest : List ℕ) (k j : RecvError) (p q : ℕ) → AreGood pages shapes [] before → AreGood pages shapes [] others → IsFault pages shapes before tail k p → IsFault pages shapes others rest j q
+    → LongerRecords before others tail rest ⊎ LongerRecords others before rest tail → (k ≡ j) × (length (texts before) + p ≡ length (texts others) + q)
+led_one pages shapes before others tail rest k j p q good goods f h (inl l) = longer_one pages shapes before others tail rest k j p q goods f h l.more l.all l.left
+led_one pages shapes before others tail rest k j p q good goods f h (inr l) = let o = longer_one pages shapes others before rest tail j k q p good h f l.more l.all l.left in (sym o.0, sym o.1)
+
+one_record_fault : (sizes bytes : List ℕ) (k j : RecvError) (at bt : ℕ) → IsRecordFault sizes bytes k at → IsRecordFault sizes bytes j bt → Same k at j bt
+one_record_fault sizes bytes k j at bt f h =
+    let a = header_of-spelled bytes f.pages f.shapes (texts f.before ++ f.tail) f.front.begins in
+    let b = header_of-spelled bytes h.pages h.shapes (texts h.before ++ h.tail) h.front.begins in
+    let t = alike h.pages f.pages h.shapes f.shapes (texts h.before ++ h.tail) (texts f.before ++ f.tail) (sym b ∙ a) in
+    let goods : AreGood f.pages f.shapes [] h.before = rw (t.first, t.second) at h.front.good in
+    let fault : IsFault f.pages f.shapes h.before h.tail j h.place = rw (t.first, t.second) at h.fault in
+    let one = led_one f.pages f.shapes f.before h.before f.tail h.tail k j f.place h.place f.front.good goods f.fault fault
+    (records_led f.before h.before f.tail h.tail (good_spell f.pages f.shapes [] f.before f.front.good) (good_spell f.pages f.shapes [] h.before goods) (sym t.third)) in
+    let heads : length (header h.pages h.shapes) ≡ length (header f.pages f.shapes) = rw (t.first, t.second) refl in
+    (one.0, omega (arith, one.1, heads, f.there, h.there, length-append (header f.pages f.shapes) (texts f.before), length-append (header h.pages h.shapes) (texts h.before)))
+
+-- Headers.
+
+bad_first : (ss : List Shape) (bad other x y : List ℕ) → IsNoShape bad → IsNoShape other → bad ++ x ≡ spelled_shapes ss ++ (other ++ y) → (ss ≡ []) × (length bad ≡ length other)
+bad_first [] (k ∷ []) (j ∷ []) x y n m e = (refl, refl)
+bad_first [] [] other x y n m e = absurd n
+bad_first [] (k ∷ b ∷ bad) other x y n m e = absurd n
+bad_first [] (k ∷ []) [] x y n m e = absurd m
+bad_first [] (k ∷ []) (j ∷ b ∷ other) x y n m e = absurd m
+bad_first (s ∷ ss) bad other x y n m e = absurd (no_bad_spelled s bad x (spelled_shapes ss ++ (other ++ y)) n (e ∙ append_assoc _ (spelled_shapes ss) (other ++ y)))
+
+shapes_one : (ss ts : List Shape) (bad other x y : List ℕ) → IsNoShape bad → IsNoShape other → LongerShapes ss ts (bad ++ x) (other ++ y) ⊎ LongerShapes ts ss (other ++ y) (bad ++ x) → (length (spelled_shapes ss) + length bad ≡ length (spelled_shapes ts) + length other)
+shapes_one ss ts bad other x y n m (inl l) =
+    let o = bad_first l.more bad other x y n m l.left in
+    let same : ts ≡ ss = l.all ∙ ap (λ (z : List Shape). ss ++ z) o.0 ∙ append-nil ss in
+    omega (arith, o.1, ap (λ (z : List Shape). length (spelled_shapes z)) same)
+shapes_one ss ts bad other x y n m (inr l) =
+    let o = bad_first l.more other bad y x m n l.left in
+    let same : ss ≡ ts = l.all ∙ ap (λ (z : List Shape). ts ++ z) o.0 ∙ append-nil ts in
+    omega (arith, o.1, ap (λ (z : List Shape). length (spelled_shapes z)) same)
+
+one_magic : (sizes bytes : List ℕ) (p : ℕ) → IsBadMagic bytes p → (j : RecvError) (q : ℕ) → IsHeaderFault sizes bytes j q → Same errors.BadMagic p j q
+one_magic sizes bytes p f errors.BadMagic q h = (refl, f.there ∙ sym h.there)
+one_magic sizes bytes p f errors.BadVersion q h = absurd (f.never h.magic)
+one_magic sizes bytes p f errors.BadShape q (inl h) = absurd (f.never h.says.magic)
+one_magic sizes bytes p f errors.BadShape q (inr h) = absurd (f.never h.says.magic)
+one_magic sizes bytes p f errors.ShapeMismatch q h = absurd (f.never (says_of h.begins).magic)
+one_magic sizes bytes p f errors.BadTag q h = absurd h
+one_magic sizes bytes p f errors.BadPage q h = absurd h
+one_magic sizes bytes p f errors.BadSector q h = absurd h
+one_magic sizes bytes p f errors.BadRound q h = absurd h
+one_magic sizes bytes p f errors.BadDevice q h = absurd h
+one_magic sizes bytes p f errors.BadDigest q h = absurd h
+one_magic sizes bytes p f errors.Missing q h = absurd h
+one_magic sizes bytes p f errors.Trailing q h = absurd h
+one_magic sizes bytes p f errors.Truncated q h = absurd h
+one_magic sizes bytes p f errors.DiskFailed q h = absurd h
+one_magic sizes bytes p f errors.NoMemory q h = absurd h
+one_magic sizes bytes p f errors.AlreadyFailed q h = absurd h
+
+one_version : (sizes bytes : List ℕ) (p : ℕ) → IsBadVersion bytes p → (j : RecvError) (q : ℕ) → IsHeaderFault sizes bytes j q → Same errors.BadVersion p j q
+one_version sizes bytes p f errors.BadMagic q h = absurd (h.never f.magic)
+one_version sizes bytes p f errors.BadVersion q h = (refl, f.there ∙ sym h.there)
+one_version sizes bytes p f errors.BadShape q (inl h) = absurd (f.never h.says.version)
+one_version sizes bytes p f errors.BadShape q (inr h) = absurd (f.never h.says.version)
+one_version sizes bytes p f errors.ShapeMismatch q h = absurd (f.never (says_of h.begins).version)
+one_version sizes bytes p f errors.BadTag q h = absurd h
+one_version sizes bytes p f errors.BadPage q h = absurd h
+one_version sizes bytes p f errors.BadSector q h = absurd h
+one_version sizes bytes p f errors.BadRound q h = absurd h
+one_version sizes bytes p f errors.BadDevice q h = absurd h
+one_version sizes bytes p f errors.BadDigest q h = absurd h
+one_version sizes bytes p f errors.Missing q h = absurd h
+one_version sizes bytes p f errors.Trailing q h = absurd h
+one_version sizes bytes p f errors.Truncated q h = absurd h
+one_version sizes bytes p f errors.DiskFailed q h = absurd h
+one_version sizes bytes p f errors.NoMemory q h = absurd h
+one_version sizes bytes p f errors.AlreadyFailed q h = absurd h
+
+one_count : (sizes bytes : List ℕ) (p : ℕ) → IsBadCount bytes p → (j : RecvError) (q : ℕ) → IsHeaderFault sizes bytes j q → Same errors.BadShape p j q
+one_count sizes bytes p f errors.BadMagic q h = absurd (h.never f.says.magic)
+one_count sizes bytes p f errors.BadVersion q h = absurd (h.never f.says.version)
+one_count sizes bytes p f errors.BadShape q (inl h) = (refl, f.there ∙ sym h.there)
+one_count sizes bytes p f errors.BadShape q (inr h) = absurd (f.never (rw (sym f.says.pages_are ∙ h.says.pages_are, sym f.says.count_is ∙ h.says.count_is) h.may))
+one_count sizes bytes p f errors.ShapeMismatch q h = absurd (no_header_fault (disk_sizes h.shapes) bytes h.pages h.shapes h.more h.begins refl errors.BadShape p (inl f))
+one_count sizes bytes p f errors.BadTag q h = absurd h
+one_count sizes bytes p f errors.BadPage q h = absurd h
+one_count sizes bytes p f errors.BadSector q h = absurd h
+one_count sizes bytes p f errors.BadRound q h = absurd h
+one_count sizes bytes p f errors.BadDevice q h = absurd h
+one_count sizes bytes p f errors.BadDigest q h = absurd h
+one_count sizes bytes p f errors.Missing q h = absurd h
+one_count sizes bytes p f errors.Trailing q h = absurd h
+one_count sizes bytes p f errors.Truncated q h = absurd h
+one_count sizes bytes p f errors.DiskFailed q h = absurd h
+one_count sizes bytes p f errors.NoMemory q h = absurd h
+one_count sizes bytes p f errors.AlreadyFailed q h = absurd h
+
+one_shape_fault : (sizes bytes : List ℕ) (p : ℕ) → IsBadShape bytes p → (j : RecvError) (q : ℕ) → IsHeaderFault sizes bytes j q → Same errors.BadShape p j q
+one_shape_fault sizes bytes p f errors.BadMagic q h = absurd (h.never f.says.magic)
+one_shape_fault sizes bytes p f errors.BadVersion q h = absurd (h.never f.says.version)
+one_shape_fault sizes bytes p f errors.BadShape q (inl h) = absurd (h.never (rw (sym h.says.pages_are ∙ f.says.pages_are, sym h.says.count_is ∙ f.says.count_is) f.may))
+one_shape_fault sizes bytes p f errors.BadShape q (inr h) = (refl, omega (arith, f.there, h.there, shapes_one f.shapes h.shapes f.bad h.bad f.more h.more f.never h.never (shapes_led f.shapes h.shapes (f.bad ++ f.more) (h.bad ++ h.more) (sym f.whole ∙ h.whole))))
+one_shape_fault sizes bytes p f errors.ShapeMismatch q h = absurd (no_header_fault (disk_sizes h.shapes) bytes h.pages h.shapes h.more h.begins refl errors.BadShape p (inr f))
+one_shape_fault sizes bytes p f errors.BadTag q h = absurd h
+one_shape_fault sizes bytes p f errors.BadPage q h = absurd h
+one_shape_fault sizes bytes p f errors.BadSector q h = absurd h
+one_shape_fault sizes bytes p f errors.BadRound q h = absurd h
+one_shape_fault sizes bytes p f errors.BadDevice q h = absurd h
+one_shape_fault sizes bytes p f errors.BadDigest q h = absurd h
+one_shape_fault sizes bytes p f errors.Missing q h = absurd h
+one_shape_fault sizes bytes p f errors.Trailing q h = absurd h
+one_shape_fault sizes bytes p f errors.Truncated q h = absurd h
+one_shape_fault sizes bytes p f errors.DiskFailed q h = absurd h
+one_shape_fault sizes bytes p f errors.NoMemory q h = absurd h
+one_shape_fault sizes bytes p f errors.AlreadyFailed q h = absurd h
+
+front_length : (pages count : ℕ) → length (front pages count) ≡ 16
+unfolding front
+front_length pages count = refl
+
+header_length : {bytes x y : List ℕ} {p q : ℕ} {ss ts : List Shape} → Begins bytes p ss x → Begins bytes q ts y → length (header p ss) ≡ length (header q ts)
+header_length {p = p} {q = q} {ss = ss} {ts = ts} a b =
+    omega (arith, length-append (front p (length ss)) (spelled_shapes ss), length-append (front q (length ts)) (spelled_shapes ts), front_length p (length ss), front_length q (length ts), ap (λ (z : List Shape). length (spelled_shapes z)) (header_same a b))
+
+one_mismatch : (sizes bytes : List ℕ) (p : ℕ) → IsMismatch sizes bytes p → (j : RecvError) (q : ℕ) → IsHeaderFault sizes bytes j q → Same errors.ShapeMismatch p j q
+one_mismatch sizes bytes p f errors.BadMagic q h = absurd (h.never (says_of f.begins).magic)
+one_mismatch sizes bytes p f errors.BadVersion q h = absurd (h.never (says_of f.begins).version)
+one_mismatch sizes bytes p f errors.BadShape q (inl h) = absurd (no_header_fault (disk_sizes f.shapes) bytes f.pages f.shapes f.more f.begins refl errors.BadShape q (inl h))
+one_mismatch sizes bytes p f errors.BadShape q (inr h) = absurd (no_header_fault (disk_sizes f.shapes) bytes f.pages f.shapes f.more f.begins refl errors.BadShape q (inr h))
+one_mismatch sizes bytes p f errors.ShapeMismatch q h = (refl, f.there ∙ header_length f.begins h.begins ∙ sym h.there)
+one_mismatch sizes bytes p f errors.BadTag q h = absurd h
+one_mismatch sizes bytes p f errors.BadPage q h = absurd h
+one_mismatch sizes bytes p f errors.BadSector q h = absurd h
+one_mismatch sizes bytes p f errors.BadRound q h = absurd h
+one_mismatch sizes bytes p f errors.BadDevice q h = absurd h
+one_mismatch sizes bytes p f errors.BadDigest q h = absurd h
+one_mismatch sizes bytes p f errors.Missing q h = absurd h
+one_mismatch sizes bytes p f errors.Trailing q h = absurd h
+one_mismatch sizes bytes p f errors.Truncated q h = absurd h
+one_mismatch sizes bytes p f errors.DiskFailed q h = absurd h
+one_mismatch sizes bytes p f errors.NoMemory q h = absurd h
+one_mismatch sizes bytes p f errors.AlreadyFailed q h = absurd h
+
+one_header_fault : (sizes bytes : List ℕ) (k : RecvError) (p : ℕ) → IsHeaderFault sizes bytes k p → (j : RecvError) (q : ℕ) → IsHeaderFault sizes bytes j q → Same k p j q
+one_header_fault sizes bytes errors.BadMagic p f = one_magic sizes bytes p f
+one_header_fault sizes bytes errors.BadVersion p f = one_version sizes bytes p f
+one_header_fault sizes bytes errors.BadShape p (inl f) = one_count sizes bytes p f
+one_header_fault sizes bytes errors.BadShape p (inr f) = one_shape_fault sizes bytes p f
+one_header_fault sizes bytes errors.ShapeMismatch p f = one_mismatch sizes bytes p f
+one_header_fault sizes bytes errors.BadTag p f = absurd f
+one_header_fault sizes bytes errors.BadPage p f = absurd f
+one_header_fault sizes bytes errors.BadSector p f = absurd f
+one_header_fault sizes bytes errors.BadRound p f = absurd f
+one_header_fault sizes bytes errors.BadDevice p f = absurd f
+one_header_fault sizes bytes errors.BadDigest p f = absurd f
+one_header_fault sizes bytes errors.Missing p f = absurd f
+one_header_fault sizes bytes errors.Trailing p f = absurd f
+one_header_fault sizes bytes errors.Truncated p f = absurd f
+one_header_fault sizes bytes errors.DiskFailed p f = absurd f
+one_header_fault sizes bytes errors.NoMemory p f = absurd f
+one_header_fault sizes bytes errors.AlreadyFailed p f = absurd f
+
+pub one_fault : (sizes bytes : List ℕ) (k j : RecvError) (at bt : ℕ) → Fault sizes bytes k at → Fault sizes bytes j bt → Same k at j bt
+one_fault sizes bytes k j at bt (inl f) (inl h) = one_header_fault sizes bytes k at f j bt h
+one_fault sizes bytes k j at bt (inl f) (inr h) = absurd (no_header_fault sizes bytes h.pages h.shapes (texts h.before ++ h.tail) h.front.begins h.front.fits k at f)
+one_fault sizes bytes k j at bt (inr f) (inl h) = absurd (no_header_fault sizes bytes f.pages f.shapes (texts f.before ++ f.tail) f.front.begins f.front.fits j bt h)
+one_fault sizes bytes k j at bt (inr f) (inr h) = one_record_fault sizes bytes k j at bt f h

@@ -1,0 +1,151 @@
+-- No fault stands in a stream.
+use Rattle.std.proofs.Common.{◌≡◌, ◌≢◌, ℕ, suc, ◌+◌, ◌-◌, ◌*◌, ◌<◌, ◌≤◌, ◌⊎◌, inl, inr, Some, None, List, [], ◌∷◌, ◌++◌, length, take, drop, refl, sym, ap, subst, ◌∙◌, append_assoc, append-nil, drop-drop, arith}
+use Rattle.std.specs.Prelude.{is_some}
+use Rattle.std.proofs.lemmas.List.{length-append, length-drop}
+use Rattle.std.proofs.lemmas.List.Elements.{recursion_from_All}
+use Rattle.std.specs.List.{AllByRecursion}
+use Rattle.sha2.specs.Sha256.{sha256}
+use Rattle.wire.specs.DeviceBody.{body}
+use Rattle.wire.specs.Header.{header, Begins}
+use Rattle.wire.specs.Records.{Record, page, sector, round_end, device, commit, spelled_record, HasSpelling}
+use Rattle.wire.specs.Stream.{IsStream, IsStreamBy, IsEntry, AreNumbered, texts, rounds, shapes_in, device_texts, before_commit, last_of}
+use Rattle.machine.specs.Sound.{IsSound, IsSoundDevice}
+use Rattle.machine.specs.State.{DeviceState, MachineState}
+use Rattle.machine.specs.declared.shape.Shape.{Shape}
+use Rattle.wire.proofs.Takings.{rounds_page, rounds_round}
+use Rattle.wire.proofs.Unique.{body_spells, length_shapes, stream_begins}
+use Rattle.wire.proofs.Whole.{last-snoc}
+use Rattle.receiver.specs.Good.{AreGood, AreNamed, Follows, devices_in, disk_sizes}
+use Rattle.receiver.specs.Faults.{IsComplete, IsFront, Fault}
+use Rattle.receiver.specs.Fed.{device_records}
+use Rattle.receiver.specs.Receiving.{NoFault, HasRounds}
+use Rattle.receiver.proofs.Knowing.{texts-append, texts_devices, no_other, end_quiet, quiet_front, last_entries, rounds_none}
+use Rattle.receiver.proofs.Steps.{count_all}
+use Rattle.receiver.proofs.Working.{commit_text}
+
+devices_in-append : (rs ss : List Record) → devices_in (rs ++ ss) ≡ devices_in rs + devices_in ss
+unfolding devices_in
+devices_in-append [] ss = let e : devices_in ss ≡ 0 + devices_in ss = omega arith in e
+devices_in-append (page n b ∷ rs) ss = devices_in-append rs ss
+devices_in-append (sector d n o ∷ rs) ss = devices_in-append rs ss
+devices_in-append (round_end n ∷ rs) ss = devices_in-append rs ss
+devices_in-append (device d b ∷ rs) ss = let ih = devices_in-append rs ss in omega (arith, ih)
+devices_in-append (commit b ∷ rs) ss = devices_in-append rs ss
+
+none_in_page : (n : ℕ) (b : List ℕ) → devices_in (page n b ∷ []) ≡ 0
+unfolding devices_in
+none_in_page n b = refl
+
+none_in_round : (n : ℕ) → devices_in (round_end n ∷ []) ≡ 0
+unfolding devices_in
+none_in_round n = refl
+
+one_in_device : (d : ℕ) (b : List ℕ) → devices_in (device d b ∷ []) ≡ 1
+unfolding devices_in
+one_in_device d b = refl
+
+entries_good : (pages : ℕ) (shapes : List Shape) (acc es : List Record) → AllByRecursion (IsEntry pages) es → AreNumbered (rounds acc + 1) es → devices_in acc ≡ 0 → AreGood pages shapes acc es
+unfolding AreGood
+entries_good pages shapes acc [] h k none = tt
+entries_good pages shapes acc (page n b ∷ es) h k none = (
+  record { spells = h.0.spells; may = (h.0.stands, none) },
+  entries_good pages shapes (acc ++ page n b ∷ []) es h.1 (rw (rounds_page acc n b) k) (omega (arith, none, devices_in-append acc (page n b ∷ []), none_in_page n b)),
+)
+entries_good pages shapes acc (sector d n o ∷ es) h k none = absurd h.0.stands
+entries_good pages shapes acc (round_end n ∷ es) h k none = (
+  record { spells = h.0.spells; may = (k.0, none) },
+  entries_good pages shapes (acc ++ round_end n ∷ []) es h.1 (rw (rounds_round acc n) k.1) (omega (arith, none, devices_in-append acc (round_end n ∷ []), none_in_round n)),
+)
+entries_good pages shapes acc (device d b ∷ es) h k none = absurd h.0.stands
+entries_good pages shapes acc (commit b ∷ es) h k none = absurd h.0.stands
+
+devices_good : (pages k : ℕ) (shapes : List Shape) (acc : List Record) (ds : List DeviceState) → AreNamed pages acc → devices_in acc ≡ k → k + length ds ≤ 256 → drop k shapes ≡ shapes_in ds → AllByRecursion (IsSoundDevice (4096 * pages)) ds
+    → AreGood pages shapes acc (device_records k ds)
+unfolding AreGood device_records
+devices_good pages k shapes acc [] named count low here h = tt
+devices_good pages k shapes acc (d ∷ ds) named count low here h =
+    let after : drop (k + 1) shapes ≡ shapes_in ds = sym (drop-drop 1 k shapes) ∙ ap (drop 1) here in (
+      record {
+        spells = body_spells (4096 * pages) k d (omega (arith, low)) h.0;
+        may = record { named = named; next = sym count; shape = d.shape; others = shapes_in ds; here = here; state = d; is = record { shape_is = refl; sound = h.0; is = refl } };
+      },
+      devices_good pages (k + 1) shapes (acc ++ device k (body d) ∷ []) ds
+          (λ n lt. ap is_some (last-snoc n acc (device k (body d))) ∙ named n lt)
+          (omega (arith, count, devices_in-append acc (device k (body d) ∷ []), one_in_device k (body d))) (omega (arith, low)) after h.1,
+    )
+
+good-append : (pages : ℕ) (shapes : List Shape) (acc rs ss : List Record) → AreGood pages shapes acc rs → AreGood pages shapes (acc ++ rs) ss → AreGood pages shapes acc (rs ++ ss)
+unfolding AreGood
+good-append pages shapes acc [] ss h k = rw (append-nil acc) at k
+good-append pages shapes acc (r ∷ rs) ss h k =
+    let same : acc ++ (r ∷ rs) ≡ (acc ++ r ∷ []) ++ rs = sym (append_assoc acc (r ∷ []) rs) in
+    (h.0, good-append pages shapes (acc ++ r ∷ []) rs ss h.1 (rw same at k))
+
+none_yet : devices_in [] ≡ 0
+unfolding devices_in
+none_yet = refl
+
+none_ended : rounds [] ≡ 0
+unfolding rounds
+none_ended = refl
+
+count_none : (pages : ℕ) (es : List Record) → AllByRecursion (IsEntry pages) es → devices_in (es ++ []) ≡ 0
+unfolding device_records
+count_none pages es h = count_all pages 0 es [] h
+
+-- Where the good records of a stream end.
+record StreamFront (sizes bytes : List ℕ) (m : MachineState) (s : IsStream bytes m) : Type 0 where
+  digest : List ℕ
+  front : IsFront sizes bytes s.pages (shapes_in m.devices) (s.entries ++ device_records 0 m.devices) (5 ∷ digest)
+  complete : IsComplete s.pages (length (shapes_in m.devices)) (s.entries ++ device_records 0 m.devices) 5
+  digest_is : digest ≡ sha256 (header s.pages (shapes_in m.devices) ++ texts (s.entries ++ device_records 0 m.devices))
+
+stream_front : (sizes bytes : List ℕ) (m : MachineState) (s : IsStream bytes m) → sizes ≡ disk_sizes (shapes_in m.devices) → StreamFront sizes bytes m s
+stream_front sizes bytes m s fits =
+    let shapes = shapes_in m.devices in
+    let devices = device_records 0 m.devices in
+    let all = s.entries ++ devices in
+    let before_all = before_commit s.pages s.entries m.devices in
+    let digest = sha256 before_all in
+    let text : texts all ≡ texts s.entries ++ device_texts 0 m.devices = texts-append s.entries devices ∙ ap (λ (x : List ℕ). texts s.entries ++ x) (texts_devices 0 m.devices) in
+    let front : header s.pages shapes ++ texts all ≡ before_all = ap (λ (x : List ℕ). header s.pages shapes ++ x) text in
+    let b = stream_begins s.by in
+    let named : AreNamed s.pages s.entries = λ n lt. ap is_some (s.by.last n lt) in
+    let named_all : AreNamed s.pages all = λ n lt. ap is_some (last_entries n 0 s.entries m.devices) ∙ named n lt in
+    let sound : AllByRecursion (IsSoundDevice (4096 * s.pages)) m.devices = rw s.by.pages_are at (recursion_from_All (IsSoundDevice (length m.ram)) m.devices s.by.sound.devices) in
+    let goods : AreGood s.pages shapes [] s.entries = entries_good s.pages shapes [] s.entries s.by.each (rw none_ended s.by.numbered) none_yet in
+    let few : 0 + length m.devices ≤ 256 = omega (arith, s.by.sound.few_devices) in
+    let entries_count : devices_in s.entries ≡ 0 = ap devices_in (sym (append-nil s.entries)) ∙ count_none s.pages s.entries s.by.each in
+    let good : AreGood s.pages shapes [] all = good-append s.pages shapes [] s.entries devices goods (devices_good s.pages 0 shapes s.entries m.devices named entries_count few refl sound) in
+    let complete : IsComplete s.pages (length shapes) all 5 = record { items = named_all; devices = λ five. count_all s.pages 0 s.entries m.devices s.by.each ∙ sym (length_shapes m.devices) } in
+    let whole : bytes ≡ header s.pages shapes ++ (texts all ++ (5 ∷ digest)) =
+    s.by.whole ∙ ap (λ (x : List ℕ). before_all ++ x) (commit_text digest) ∙ ap (λ (x : List ℕ). x ++ (5 ∷ digest)) (sym front) ∙ append_assoc (header s.pages shapes) (texts all) (5 ∷ digest) in
+    record {
+      digest = digest;
+      front = record { begins = record { good = b.good; whole = whole }; fits = fits; good = good };
+      complete = complete;
+      digest_is = ap sha256 (sym front);
+    }
+
+pub stream_quiet : (sizes bytes : List ℕ) (m : MachineState) → IsStream bytes m → sizes ≡ disk_sizes (shapes_in m.devices) → NoFault sizes bytes
+stream_quiet sizes bytes m s fits =
+    let shapes = shapes_in m.devices in
+    let all = s.entries ++ device_records 0 m.devices in
+    let f = stream_front sizes bytes m s fits in
+    quiet_front sizes bytes s.pages shapes all (5 ∷ f.digest) f.front (λ r y g e. no_other s.pages shapes all f.digest r y g e) (end_quiet s.pages shapes all f.digest f.complete f.digest_is)
+
+rounds_entries : (es : List Record) (ds : List DeviceState) → rounds (es ++ device_records 0 ds) ≡ rounds es
+unfolding rounds
+rounds_entries [] ds = rounds_none 0 ds
+rounds_entries (page n b ∷ es) ds = rounds_entries es ds
+rounds_entries (sector d n o ∷ es) ds = rounds_entries es ds
+rounds_entries (round_end n ∷ es) ds = ap (λ (k : ℕ). k + 1) (rounds_entries es ds)
+rounds_entries (device d b ∷ es) ds = rounds_entries es ds
+rounds_entries (commit b ∷ es) ds = rounds_entries es ds
+
+pub stream_rounds : (sizes bytes : List ℕ) (m : MachineState) (n : ℕ) (s : IsStream bytes m) → sizes ≡ disk_sizes (shapes_in m.devices) → HasRounds sizes bytes n → rounds s.entries ≡ n
+stream_rounds sizes bytes m n s fits h =
+    let shapes = shapes_in m.devices in
+    let all = s.entries ++ device_records 0 m.devices in
+    let f = stream_front sizes bytes m s fits in
+    sym (h.some s.pages shapes all (5 ∷ f.digest) f.front (λ r y g e. no_other s.pages shapes all f.digest r y g e) ∙ rounds_entries s.entries m.devices)

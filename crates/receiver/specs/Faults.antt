@@ -1,0 +1,230 @@
+-- The faults of a stream, each with its place: the number of bytes up to the one that tells it. Behind the header and
+-- whole good records stand bytes that begin with the fault.
+use Rattle.std.specs.Prelude.{◌≡◌, ◌≢◌, ◌<◌, ◌≤◌, ◌^◌, ◌⊎◌, ℕ, ◌+◌, ◌*◌, codes, List, [], ◌∷◌, ◌++◌, length, take, drop}
+use Rattle.sha2.specs.Sha256.{sha256}
+use Rattle.guestmem.specs.Number.{number_at}
+use Rattle.wire.specs.DeviceBody.{IsBodyOf}
+use Rattle.wire.specs.Header.{header, spelled_shapes, IsHeader, Begins}
+use Rattle.wire.specs.Numbers.{digits}
+use Rattle.wire.specs.Records.{Record, device, spelled_record, HasSpelling}
+use Rattle.wire.specs.Stream.{rounds, texts}
+use Rattle.machine.specs.State.{DeviceState}
+use Rattle.machine.specs.declared.shape.Shape.{Shape}
+use Rattle.receiver.specs.Good.{AreGood, AreNamed, devices_in, disk_sizes, sectors_at}
+use Rattle.receiver.specs.declared.recv_error.RecvError.{RecvError}
+use Rattle.receiver.specs.declared.recv_error.RecvError.TheVariants.{BadMagic, BadVersion, BadShape, ShapeMismatch, BadTag, BadPage, BadSector, BadRound, BadDevice, BadDigest, Missing, Trailing}
+
+-- A tag that may stand behind so many devices of so many: pages, sectors and ends of rounds before all devices, a device
+-- while one is missing.
+pub record MayTag (count devices tag : ℕ) : Type 0 where
+  pub least : 1 ≤ tag
+  pub most : tag ≤ 5
+  pub early : tag ≤ 3 → devices ≡ 0
+  pub missing : tag ≡ 4 → devices < count
+
+-- What has to be there before a device (tag 4) or the digest (tag 5): each item, and before the digest each device.
+pub record IsComplete (pages count : ℕ) (before : List Record) (tag : ℕ) : Type 0 where
+  pub items : AreNamed pages before
+  pub devices : tag ≡ 5 → devices_in before ≡ count
+
+-- The bytes begin with a tag, and a record of this tag may stand here.
+pub record Opens (pages : ℕ) (shapes : List Shape) (before : List Record) (tail : List ℕ) (tag : ℕ) (more : List ℕ) : Type 0 where
+  pub whole : tail ≡ tag ∷ more
+  pub may : MayTag (length shapes) (devices_in before) tag
+  pub complete : 4 ≤ tag → IsComplete pages (length shapes) before tag
+
+-- 5, told at the tag.
+pub record IsBadTag (shapes : List Shape) (before : List Record) (tail : List ℕ) (place : ℕ) : Type 0 where
+  pub tag : ℕ
+  pub more : List ℕ
+  pub whole : tail ≡ tag ∷ more
+  pub never : ¬ (MayTag (length shapes) (devices_in before) tag)
+  pub there : place ≡ 1
+
+-- 11, told at the tag.
+pub record IsMissing (pages : ℕ) (shapes : List Shape) (before : List Record) (tail : List ℕ) (place : ℕ) : Type 0 where
+  pub tag : ℕ
+  pub more : List ℕ
+  pub whole : tail ≡ tag ∷ more
+  pub may : MayTag (length shapes) (devices_in before) tag
+  pub late : 4 ≤ tag
+  pub never : ¬ (IsComplete pages (length shapes) before tag)
+  pub there : place ≡ 1
+
+-- 6, told at the number's end.
+pub record IsBadPage (pages : ℕ) (shapes : List Shape) (before : List Record) (tail : List ℕ) (place : ℕ) : Type 0 where
+  pub number : ℕ
+  pub more : List ℕ
+  pub opens : Opens pages shapes before tail 1 (digits 4 number ++ more)
+  pub fits : number < 2 ^ 32
+  pub never : pages ≤ number
+  pub there : place ≡ 5
+
+-- 7, told at the byte that says whether the sector is good.
+pub record IsBadSector (pages : ℕ) (shapes : List Shape) (before : List Record) (tail : List ℕ) (place : ℕ) : Type 0 where
+  pub disk : ℕ
+  pub number : ℕ
+  pub mark : ℕ
+  pub more : List ℕ
+  pub opens : Opens pages shapes before tail 2 (disk ∷ (digits 4 number ++ (mark ∷ more)))
+  pub fits : number < 2 ^ 32
+  pub never : ¬ ((number < sectors_at shapes disk) × (mark ≤ 1))
+  pub there : place ≡ 7
+
+-- 8, told at the number's end.
+pub record IsBadRound (pages : ℕ) (shapes : List Shape) (before : List Record) (tail : List ℕ) (place : ℕ) : Type 0 where
+  pub number : ℕ
+  pub more : List ℕ
+  pub opens : Opens pages shapes before tail 3 (digits 4 number ++ more)
+  pub fits : number < 2 ^ 32
+  pub never : number ≢ rounds before + 1
+  pub there : place ≡ 5
+
+-- A device's number and the length of its body that may stand here.
+pub record IsNextHead (before : List Record) (number len : ℕ) : Type 0 where
+  pub next : number ≡ devices_in before
+  pub few : len ≤ 131072
+
+-- 9, told at the length's end.
+pub record IsBadHead (pages : ℕ) (shapes : List Shape) (before : List Record) (tail : List ℕ) (place : ℕ) : Type 0 where
+  pub number : ℕ
+  pub len : ℕ
+  pub more : List ℕ
+  pub opens : Opens pages shapes before tail 4 (number ∷ (digits 4 len ++ more))
+  pub fits : len < 2 ^ 32
+  pub never : ¬ (IsNextHead before number len)
+  pub there : place ≡ 6
+
+-- 9, told at the body's end: no sound device of the shape that is next has this body.
+pub record IsBadBody (pages : ℕ) (shapes : List Shape) (before : List Record) (tail : List ℕ) (place : ℕ) : Type 0 where
+  pub body : List ℕ
+  pub more : List ℕ
+  pub shape : Shape
+  pub others : List Shape
+  pub opens : Opens pages shapes before tail 4 (devices_in before ∷ (digits 4 (length body) ++ (body ++ more)))
+  pub few : length body ≤ 131072
+  pub here : drop (devices_in before) shapes ≡ shape ∷ others
+  pub never : (d : DeviceState) → ¬ (IsBodyOf shape (4096 * pages) body d)
+  pub there : place ≡ 6 + length body
+
+-- 10, told at the digest's last byte.
+pub record IsBadDigest (pages : ℕ) (shapes : List Shape) (before : List Record) (tail : List ℕ) (place : ℕ) : Type 0 where
+  pub digest : List ℕ
+  pub more : List ℕ
+  pub opens : Opens pages shapes before tail 5 (digest ++ more)
+  pub long : length digest ≡ 32
+  pub never : digest ≢ sha256 (header pages shapes ++ texts before)
+  pub there : place ≡ 33
+
+-- 12, told at the first byte behind the digest.
+pub record IsTrailing (pages : ℕ) (shapes : List Shape) (before : List Record) (tail : List ℕ) (place : ℕ) : Type 0 where
+  pub byte : ℕ
+  pub more : List ℕ
+  pub opens : Opens pages shapes before tail 5 (sha256 (header pages shapes ++ texts before) ++ (byte ∷ more))
+  pub there : place ≡ 34
+
+-- The bytes behind whole good records begin with a fault, which the byte at this place of theirs tells.
+abbrev pub IsFault : ℕ → List Shape → List Record → List ℕ → RecvError → ℕ → Type 0
+IsFault pages shapes before tail BadTag place = IsBadTag shapes before tail place
+IsFault pages shapes before tail BadPage place = IsBadPage pages shapes before tail place
+IsFault pages shapes before tail BadSector place = IsBadSector pages shapes before tail place
+IsFault pages shapes before tail BadRound place = IsBadRound pages shapes before tail place
+IsFault pages shapes before tail BadDevice place = IsBadHead pages shapes before tail place ⊎ IsBadBody pages shapes before tail place
+IsFault pages shapes before tail BadDigest place = IsBadDigest pages shapes before tail place
+IsFault pages shapes before tail Missing place = IsMissing pages shapes before tail place
+IsFault pages shapes before tail Trailing place = IsTrailing pages shapes before tail place
+IsFault pages shapes before tail _ place = ⊥
+
+-- The header.
+
+-- How many pages and devices a machine may have.
+pub record MayCount (pages count : ℕ) : Type 0 where
+  pub some_page : 1 ≤ pages
+  pub few_pages : pages ≤ 16384
+  pub some_device : 1 ≤ count
+  pub few_devices : count ≤ 16
+
+-- 1, told at the fourth byte.
+pub record IsBadMagic (bytes : List ℕ) (at : ℕ) : Type 0 where
+  pub long : 4 ≤ length bytes
+  pub never : number_at bytes 0 4 ≢ 0x47494d56
+  pub there : at ≡ 4
+
+-- 2, told at the eighth byte.
+pub record IsBadVersion (bytes : List ℕ) (at : ℕ) : Type 0 where
+  pub long : 8 ≤ length bytes
+  pub magic : number_at bytes 0 4 ≡ 0x47494d56
+  pub never : number_at bytes 4 4 ≢ 1
+  pub there : at ≡ 8
+
+-- The first 16 bytes say so many pages and devices.
+pub record Says (bytes : List ℕ) (pages count : ℕ) : Type 0 where
+  pub long : 16 ≤ length bytes
+  pub magic : number_at bytes 0 4 ≡ 0x47494d56
+  pub version : number_at bytes 4 4 ≡ 1
+  pub pages_are : number_at bytes 8 4 ≡ pages
+  pub count_is : number_at bytes 12 4 ≡ count
+
+-- 3, told at the sixteenth byte.
+pub record IsBadCount (bytes : List ℕ) (at : ℕ) : Type 0 where
+  pub pages : ℕ
+  pub count : ℕ
+  pub says : Says bytes pages count
+  pub never : ¬ (MayCount pages count)
+  pub there : at ≡ 16
+
+-- Bytes that no shape is spelled as: an unknown number.
+abbrev pub IsNoShape : List ℕ → Type 0
+IsNoShape [] = ⊥
+IsNoShape (number ∷ []) = number ≢ 4
+IsNoShape (number ∷ byte ∷ bytes) = ⊥
+
+-- 3, told at the number of a device that is unknown, or at the end of its shape.
+pub record IsBadShape (bytes : List ℕ) (at : ℕ) : Type 0 where
+  pub pages : ℕ
+  pub count : ℕ
+  pub shapes : List Shape
+  pub bad : List ℕ
+  pub more : List ℕ
+  pub says : Says bytes pages count
+  pub may : MayCount pages count
+  pub fewer : length shapes < count
+  pub whole : drop 16 bytes ≡ spelled_shapes shapes ++ (bad ++ more)
+  pub never : IsNoShape bad
+  pub there : at ≡ 16 + (length (spelled_shapes shapes) + length bad)
+
+-- 4, told at the header's end.
+pub record IsMismatch (sizes bytes : List ℕ) (at : ℕ) : Type 0 where
+  pub pages : ℕ
+  pub shapes : List Shape
+  pub more : List ℕ
+  pub begins : Begins bytes pages shapes more
+  pub never : sizes ≢ disk_sizes shapes
+  pub there : at ≡ length (header pages shapes)
+
+abbrev pub IsHeaderFault : List ℕ → List ℕ → RecvError → ℕ → Type 0
+IsHeaderFault sizes bytes BadMagic at = IsBadMagic bytes at
+IsHeaderFault sizes bytes BadVersion at = IsBadVersion bytes at
+IsHeaderFault sizes bytes BadShape at = IsBadCount bytes at ⊎ IsBadShape bytes at
+IsHeaderFault sizes bytes ShapeMismatch at = IsMismatch sizes bytes at
+IsHeaderFault sizes bytes _ at = ⊥
+
+-- The bytes begin with a header of a machine with these disks, and whole good records behind it.
+pub record IsFront (sizes bytes : List ℕ) (pages : ℕ) (shapes : List Shape) (before : List Record) (tail : List ℕ) : Type 0 where
+  pub begins : Begins bytes pages shapes (texts before ++ tail)
+  pub fits : sizes ≡ disk_sizes shapes
+  pub good : AreGood pages shapes [] before
+
+pub record IsRecordFault (sizes bytes : List ℕ) (k : RecvError) (at : ℕ) : Type 0 where
+  pub pages : ℕ
+  pub shapes : List Shape
+  pub before : List Record
+  pub tail : List ℕ
+  pub place : ℕ
+  pub front : IsFront sizes bytes pages shapes before tail
+  pub fault : IsFault pages shapes before tail k place
+  pub there : at ≡ length (header pages shapes ++ texts before) + place
+
+-- For disks of these sizes the bytes hold this fault, told at this place.
+abbrev pub Fault : List ℕ → List ℕ → RecvError → ℕ → Type 0
+Fault sizes bytes k at = IsHeaderFault sizes bytes k at ⊎ IsRecordFault sizes bytes k at

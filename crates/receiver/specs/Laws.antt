@@ -1,0 +1,28 @@
+-- What the laws of faults say.
+use Rattle.std.specs.Prelude.{◌≡◌, ◌≤◌, ℕ, List, ◌++◌, length}
+use Rattle.wire.specs.Stream.{IsStream, rounds, shapes_in}
+use Rattle.machine.specs.State.{MachineState}
+use Rattle.receiver.specs.Good.{disk_sizes}
+use Rattle.receiver.specs.Receiving.{NoFault, HasRounds}
+use Rattle.receiver.specs.Faults.{Fault}
+use Rattle.receiver.specs.declared.recv_error.RecvError.{RecvError}
+
+-- In one list of bytes stands one fault at most, at one place: it is the first.
+abbrev pub OneFault : Type 0
+OneFault = (sizes bytes : List ℕ) (k j : RecvError) (at bt : ℕ) → Fault sizes bytes k at → Fault sizes bytes j bt → (k ≡ j) × (at ≡ bt)
+
+-- In a stream of a machine with these disks stands no fault.
+abbrev pub NoFaultInStream : Type 0
+NoFaultInStream = (sizes bytes : List ℕ) (m : MachineState) → IsStream bytes m → sizes ≡ disk_sizes (shapes_in m.devices) → NoFault sizes bytes
+
+-- What stands in bytes stands in longer bytes, at the same place.
+abbrev pub FaultsStay : Type 0
+FaultsStay = (sizes b c : List ℕ) (k : RecvError) (at : ℕ) → Fault sizes b k at → Fault sizes (b ++ c) k at
+
+-- A fault of longer bytes stands in each beginning of them that reaches its place.
+abbrev pub FaultsStandEarly : Type 0
+FaultsStandEarly = (sizes b c : List ℕ) (k : RecvError) (at : ℕ) → at ≤ length b → Fault sizes (b ++ c) k at → Fault sizes b k at
+
+-- The rounds of a stream are the ends of rounds among its records.
+abbrev pub RoundsOfStream : Type 0
+RoundsOfStream = (sizes bytes : List ℕ) (m : MachineState) (n : ℕ) (s : IsStream bytes m) → sizes ≡ disk_sizes (shapes_in m.devices) → HasRounds sizes bytes n → rounds s.entries ≡ n

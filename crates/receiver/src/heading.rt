@@ -1,0 +1,108 @@
+//! The header of a stream, as far as it came.
+
+ghost use Rattle.std.specs.Prelude.{◌≡◌, ◌↔◌, ◌≤◌, IsTrue, IfOk, IfErr, MatchOption, drop, length, ℕ, List};
+ghost use Rattle.wire.specs.Header.{Begins};
+ghost use Rattle.receiver.specs.Faults.{MayCount, IsHeaderFault};
+ghost use Rattle.receiver.specs.Fed.{Tells};
+ghost use Rattle.receiver.specs.Heading.{FirstShape, WaitsHead, ReadShapes};
+
+use wire::u32_at;
+use crate::recv_error::RecvError;
+use machine::Shape;
+use std::alloc::Global;
+
+/// "VMIG" as a little-endian number.
+const MAGIC: u32 = 0x4749_4d56;
+
+/// The bytes before the shapes.
+const FRONT_LEN: usize = 16;
+
+/// What the header of a stream says.
+#[derive(Drop)]
+pub struct Heading {
+    pub pages: u32,
+    pub shapes: Vec<Shape>,
+    pub len: usize,
+}
+
+/// The shape at the front of the bytes, where it is whole, and the bytes behind it.
+fn first_shape(bytes: &[u8]) -> Result<Option<(Shape, &[u8])>, RecvError>
+    ensures { FirstShape (λ x. x.now) bytes.now result }
+{
+    let Some((number, rest)) = bytes.split_first() else {
+        return Ok(None);
+    };
+    match *number {
+        4 => Ok(Some((Shape::Entropy, rest))),
+        _ => Err(RecvError::BadShape),
+    }
+}
+
+/// So many shapes at the front of the bytes, where they are whole, and the bytes behind them.
+fn read_shapes(
+    alloc: Global,
+    count: u32,
+    bytes: &[u8],
+) -> Result<Option<(Vec<Shape>, &[u8])>, RecvError>
+    ensures { ReadShapes (λ x. x.items) (λ x. x.now) count bytes.now result }
+{
+    let mut shapes = Vec::new(alloc);
+    let mut rest = bytes;
+    for _ in 0..count {
+        match first_shape(rest) {
+            Err(error) => return Err(error),
+            Ok(None) => return Ok(None),
+            Ok(Some((shape, after))) => {
+                let Ok(()) = shapes.push(shape) else {
+                    return Err(RecvError::NoMemory);
+                };
+                rest = after;
+            }
+        }
+    }
+    Ok(Some((shapes, rest)))
+}
+
+/// Whether a machine may have so many pages and devices.
+fn may_count(pages: u32, count: u32) -> bool
+    ensures { IsTrue result ↔ MayCount pages count }
+{
+    1 <= pages && pages <= 16384 && 1 <= count && count <= 16
+}
+
+/// The header at the front of the bytes. `None` where it is not whole, with no fault so far.
+pub fn read_heading(alloc: Global, bytes: &[u8]) -> Result<Option<Heading>, RecvError>
+    ensures read { IfOk result (λ found. MatchOption found (WaitsHead bytes.now)
+        (λ h. (h.len ≤ length bytes.now) × Begins bytes.now h.pages h.shapes.items (drop h.len bytes.now))) }
+    ensures refused { IfErr result (λ e. Tells e ((sizes : List ℕ) → (at : ℕ) × IsHeaderFault sizes bytes.now e at)) }
+{
+    if bytes.len() < 4 {
+        return Ok(None);
+    }
+    if u32_at(bytes, 0) != MAGIC {
+        return Err(RecvError::BadMagic);
+    }
+    if bytes.len() < 8 {
+        return Ok(None);
+    }
+    if u32_at(bytes, 4) != 1 {
+        return Err(RecvError::BadVersion);
+    }
+    if bytes.len() < FRONT_LEN {
+        return Ok(None);
+    }
+    let pages = u32_at(bytes, 8);
+    let count = u32_at(bytes, 12);
+    if !may_count(pages, count) {
+        return Err(RecvError::BadShape);
+    }
+    let (_, rest) = bytes.split_at(FRONT_LEN);
+    match read_shapes(alloc, count, rest) {
+        Err(error) => Err(error),
+        Ok(None) => Ok(None),
+        Ok(Some((shapes, rest))) => {
+            let len = bytes.len() - rest.len();
+            Ok(Some(Heading { pages, shapes, len }))
+        }
+    }
+}

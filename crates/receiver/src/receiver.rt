@@ -1,0 +1,154 @@
+//! A receiver that is fed a stream in pieces.
+
+ghost use Rattle.std.specs.Prelude.{◌≡◌};
+ghost use Rattle.guestmem.specs.Number.{IsBytes};
+ghost use Rattle.receiver.specs.Receiving.{has_failed, rounds_in};
+
+use crate::intake::Intake;
+use crate::recv_error::RecvError;
+use crate::stage::Stage;
+use crate::stepping::step;
+use machine::{Disk, Machine};
+use std::alloc::Global;
+use std::marker::Model;
+use std::mem;
+
+/// A receiver that is fed a stream of a machine in any pieces.
+#[derive(Drop)]
+pub struct Receiver<D: Disk> {
+    alloc: Global,
+    disks: Vec<D>,
+    held: Vec<u8>,
+    at: usize,
+    stage: Stage,
+}
+
+impl<D: Disk> Model for Receiver<D> {
+    ghost use Rattle.receiver.specs.Receiving.{IsKnown, Received, has_failed, rounds_in, sizes_of};
+
+    ghost Value = { Received };
+
+    ghost view = { λ r. record { sizes = sizes_of D.state r.disks.items; bytes = r.held.items; rounds = rounds_in r.stage; failed = has_failed r.stage } };
+
+    ghost invariant = { λ r. IsKnown (sizes_of D.state r.disks.items) r.held.items r.at r.stage };
+}
+
+impl<D: Disk + Drop> Receiver<D> {
+    ghost use Rattle.std.specs.Prelude.{◌≡◌, ◌++◌, [], ℕ, List, IfOk, IfErr, OnOk, OnErr, Err, true, false};
+    ghost use Rattle.machine.specs.Seen.{state_of};
+    ghost use Rattle.wire.specs.Stream.{IsStream};
+    ghost use Rattle.receiver.specs.declared.recv_error.RecvError.TheVariants as errors;
+    ghost use Rattle.receiver.specs.Receiving.{HasBeenFed, NoFault, IsFinish, HasRounds, TellsNow, sizes_of};
+
+    /// A receiver that was fed nothing, with these disks. It takes no memory.
+    pub fn new(alloc: Global, disks: Vec<D>) -> Receiver<D>
+        ensures fed { HasBeenFed result [] }
+        ensures sizes { result.sizes ≡ sizes_of D.state disks.items }
+    {
+        Receiver {
+            alloc,
+            disks,
+            held: Vec::new(alloc),
+            at: 0,
+            stage: Stage::Head,
+        }
+    }
+
+    /// Takes the next piece.
+    pub fn feed(&mut self, piece: &[u8]) -> Result<(), RecvError>
+        ensures sizes { self.new.sizes ≡ self.old.sizes }
+        ensures fed { OnOk result ((b : List ℕ) → HasBeenFed self.old b → HasBeenFed self.new (b ++ piece.now)) }
+        ensures quiet { OnOk result ((b : List ℕ) → HasBeenFed self.old b → NoFault self.old.sizes (b ++ piece.now)) }
+        ensures told { IfErr result (λ e. (b : List ℕ) → HasBeenFed self.old b → TellsNow self.old.sizes b piece.now e) }
+        ensures failed { OnErr result (self.new.failed ≡ true) }
+        ensures already { self.old.failed ≡ true → result ≡ Err errors.AlreadyFailed }
+    {
+        if is_failed(&self.stage) {
+            return Err(RecvError::AlreadyFailed);
+        }
+        if self.held.extend_from_slice(piece).is_err() {
+            self.stage = Stage::Failed;
+            return Err(RecvError::NoMemory);
+        }
+        let stage = mem::replace(&mut self.stage, Stage::Failed);
+        match step(self.alloc, &self.disks, &self.held, self.at, stage) {
+            Ok((at, stage)) => {
+                self.at = at;
+                self.stage = stage;
+                Ok(())
+            }
+            Err(error) => Err(error),
+        }
+    }
+
+    /// How many rounds ended in what was read.
+    pub fn rounds(&self) -> u32
+        ensures failed { self.now.failed ≡ true → result ≡ 0 }
+        ensures rounds { (b : List ℕ) → HasBeenFed self.now b → HasRounds self.now.sizes b result }
+    {
+        rounds_of(&self.stage)
+    }
+
+    /// The machine whose stream was fed.
+    pub fn finish(self) -> Result<Machine<D>, RecvError>
+        ensures received { IfOk result (λ m. (b : List ℕ) → HasBeenFed self b → IsStream b (state_of m)) }
+        ensures refused { IfErr result (λ e. (b : List ℕ) → HasBeenFed self b → IsFinish b e) }
+        ensures already { self.failed ≡ true → result ≡ Err errors.AlreadyFailed }
+    {
+        let Receiver {
+            alloc,
+            disks,
+            held,
+            at: _,
+            stage,
+        } = self;
+        let _len = bytes_in(&held);
+        match stage {
+            Stage::Ended(intake) => {
+                let Intake {
+                    shapes,
+                    ram,
+                    named: _,
+                    rounds: _,
+                    devices,
+                } = intake;
+                let _len = ram.len();
+                match Machine::restore(alloc, ram, shapes, devices, disks) {
+                    Ok(machine) => Ok(machine),
+                    Err(_) => Err(RecvError::NoMemory),
+                }
+            }
+            Stage::Failed => Err(RecvError::AlreadyFailed),
+            Stage::Records(_) => Err(RecvError::Truncated),
+            Stage::Head => Err(RecvError::Truncated),
+        }
+    }
+}
+
+/// How many rounds ended.
+fn rounds_of(stage: &Stage) -> u32
+    ensures { result ≡ rounds_in stage.now }
+{
+    match stage {
+        Stage::Records(intake) => intake.rounds,
+        Stage::Ended(intake) => intake.rounds,
+        _ => 0,
+    }
+}
+
+/// Whether a refusal came.
+fn is_failed(stage: &Stage) -> bool
+    ensures { result ≡ has_failed stage.now }
+{
+    match stage {
+        Stage::Failed => true,
+        _ => false,
+    }
+}
+
+/// How many bytes there are, each below 256.
+fn bytes_in(held: &[u8]) -> usize
+    ensures { IsBytes held.now }
+{
+    held.len()
+}
