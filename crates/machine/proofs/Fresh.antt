@@ -17,6 +17,7 @@ use Rattle.machine.specs.State.{DeviceState, Sector}
 use Rattle.machine.specs.declared.new_error.NewError.TheVariants.{BadShape, DiskMismatch}
 use Rattle.machine.specs.declared.shape.Shape.{Shape}
 use Rattle.machine.specs.declared.shape.Shape.TheVariants.{Entropy}
+use Rattle.machine.proofs.Numbering.{shape_counts}
 use Rattle.machine.proofs.Zeros.{zero_bytes}
 
 record HasLimits (pages : ℕ) (shapes : List Shape) : Type 0 where
@@ -71,6 +72,12 @@ no_sizes (Entropy ∷ shapes) = ap (λ xs. 0 ∷ xs) (no_sizes shapes)
 nothing_bad : (shapes : List Shape) → All (All IsWhole) (map no_disk shapes)
 nothing_bad shapes = All-map (All IsWhole) no_disk shapes (λ k d below. All-nil IsWhole)
 
+pub dealt_whole : (shapes : List Shape) (disks : List (List Sector)) → All (All IsWhole) (dealt_sectors shapes disks)
+dealt_whole shapes disks = rw (none_dealt shapes disks) (nothing_bad shapes)
+
+pub dealt_sizes : (states : List DeviceState) (disks : List (List Sector)) → map length (dealt_sectors (map (λ (d : DeviceState). d.shape) states) disks) ≡ map (λ (d : DeviceState). sector_count d.shape) states
+dealt_sizes states disks = ap (map length) (none_dealt (map (λ (d : DeviceState). d.shape) states) disks) ∙ no_sizes (map (λ (d : DeviceState). d.shape) states) ∙ sym (shape_counts states)
+
 first_counts : (bytes : ℕ) (shapes : List Shape) → map (λ (d : DeviceState). sector_count d.shape) (map (first_device bytes) shapes) ≡ map sector_count shapes
 first_counts bytes [] = refl
 first_counts bytes (shape ∷ shapes) = ap (λ xs. sector_count shape ∷ xs) (first_counts bytes shapes)
@@ -91,7 +98,7 @@ first_machine_sound pages shapes sizes disks none =
       devices = rw long (All-map (IsSoundDevice (4096 * pages)) (first_device (4096 * pages)) shapes (λ k d below. first_device_sound (4096 * pages) (get_or shapes k d) (omega (arith, within.few_pages))));
       bytes = zero_bytes (4096 * pages);
       disks = ap (map length) (none_dealt shapes disks) ∙ no_sizes shapes ∙ sym (first_counts (4096 * pages) shapes);
-      sectors = rw (none_dealt shapes disks) (nothing_bad shapes);
+      sectors = dealt_whole shapes disks;
     }
 
 -- New devices, as they are seen.

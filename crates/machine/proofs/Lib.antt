@@ -13,5 +13,5 @@ pub mod Raised
 pub mod Running
 pub mod Disks
 pub mod Zeros
-pub mod Fresh
 pub mod Numbering
+pub mod Fresh

@@ -150,7 +150,7 @@ pub same_layout : (m k : MachineState) → IsSameShape m k → layout_of k ≡ l
 same_layout m k h = layouts (pages_of k) (pages_of m) (map length k.disks) (map length m.disks) (ap (λ n. n / 4096) h.ram) h.disks
 
 -- The layout of a sound machine is that of its pages and devices.
-shape_counts : (ds : List DeviceState) → map (λ (d : DeviceState). sector_count d.shape) ds ≡ map sector_count (map (λ (d : DeviceState). d.shape) ds)
+pub shape_counts : (ds : List DeviceState) → map (λ (d : DeviceState). sector_count d.shape) ds ≡ map sector_count (map (λ (d : DeviceState). d.shape) ds)
 shape_counts [] = refl
 shape_counts (d ∷ ds) = ap (λ xs. sector_count d.shape ∷ xs) (shape_counts ds)
 

@@ -10,6 +10,8 @@ use Rattle.wire.specs.Header.{header, Begins}
 use Rattle.wire.specs.Numbers.{digits}
 use Rattle.wire.specs.Records.{Record, page, sector, round_end, device, commit, spelled_record, HasSpelling, BeginsNoRecord}
 use Rattle.wire.specs.Stream.{texts, rounds}
+use Rattle.guestmem.specs.Item as items
+use Rattle.machine.specs.Layout.{IsItemIn, layout_by}
 use Rattle.machine.specs.State.{DeviceState}
 use Rattle.machine.specs.declared.shape.Shape.{Shape}
 use Rattle.wire.proofs.Bodies.{body_is_short}
@@ -17,7 +19,8 @@ use Rattle.wire.proofs.Digits.{length-digits}
 use Rattle.wire.proofs.HeaderLemmas.{header_of-spelled}
 use Rattle.wire.proofs.Spelling.{head_same, tail_same, split_same, one_record, number_same}
 use Rattle.wire.proofs.Unique.{cons_same, alike}
-use Rattle.receiver.specs.Good.{AreGood, AreNamed, Follows, MayFollow, IsNextDevice, devices_in, disk_sizes, sectors_at}
+use Rattle.receiver.specs.Good.{AreGood, AreNamed, Follows, MayFollow, IsNextDevice, devices_in}
+use Rattle.machine.specs.Shapes.{disk_sizes}
 use Rattle.receiver.specs.Faults.{MayTag, IsComplete, Opens, IsBadPage, IsBadSector, IsBadRound, IsNextHead, IsBadHead, IsBadBody, IsBadDigest, IsTrailing, IsFault, IsFront, IsRecordFault, Fault}
 use Rattle.receiver.specs.declared.recv_error.RecvError.{RecvError}
 use Rattle.receiver.proofs.Quiet.{quiet}
@@ -99,7 +102,7 @@ no_bad_round : (pages : ℕ) (shapes : List Shape) (before : List Record) (tail 
 no_bad_round pages shapes before tail more n e fits next place h =
     let same = (number_same 4 n h.number more h.more fits h.fits (tail_same (sym e ∙ h.opens.whole))).0 in h.never (sym same ∙ next)
 
-no_bad_sector : (pages : ℕ) (shapes : List Shape) (before : List Record) (tail more : List ℕ) (d n mark : ℕ) → tail ≡ 2 ∷ (d ∷ (digits 4 n ++ (mark ∷ more))) → n < 2 ^ 32 → n < sectors_at shapes d → mark ≤ 1 → (place : ℕ) → ¬ (IsBadSector pages shapes before tail place)
+no_bad_sector : (pages : ℕ) (shapes : List Shape) (before : List Record) (tail more : List ℕ) (d n mark : ℕ) → tail ≡ 2 ∷ (d ∷ (digits 4 n ++ (mark ∷ more))) → n < 2 ^ 32 → IsItemIn (layout_by pages shapes) (items.sector d n) → mark ≤ 1 → (place : ℕ) → ¬ (IsBadSector pages shapes before tail place)
 no_bad_sector pages shapes before tail more d n mark e fits below few place h =
     let t = tail_same (sym e ∙ h.opens.whole) in
     let s = number_same 4 n h.number (mark ∷ more) (h.mark ∷ h.more) fits h.fits (tail_same t) in

@@ -7,8 +7,8 @@ use Rattle.wire.specs.Stream.{IsStream}
 use Rattle.machine.specs.Disk.{DiskState}
 use Rattle.machine.specs.State.{MachineState}
 use Rattle.machine.specs.declared.shape.Shape.{Shape}
-use Rattle.wire.proofs.Endings.{empty}
-use Rattle.receiver.specs.Good.{disk_sizes}
+use Rattle.receiver.proofs.Lists.{empty}
+use Rattle.machine.specs.Shapes.{disk_sizes}
 use Rattle.receiver.specs.Faults.{Fault}
 use Rattle.receiver.specs.Fed.{Tells}
 use Rattle.receiver.specs.Receiving.{sizes_of, IsKnown, GoesOn, HasCome, IsReading, NoFault, TellsFault, TellsNow, Received, HasBeenFed, has_failed}

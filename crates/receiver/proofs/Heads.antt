@@ -12,7 +12,7 @@ use Rattle.wire.proofs.Digits.{spelled-numbers, numbers-spelled, length-spelled}
 use Rattle.wire.proofs.HeaderLemmas.{shape_of-spelled, header_of-spelled}
 use Rattle.wire.proofs.Spelling.{head_same, tail_same}
 use Rattle.wire.proofs.Unique.{cons_same}
-use Rattle.receiver.specs.Good.{disk_sizes}
+use Rattle.machine.specs.Shapes.{disk_sizes}
 use Rattle.receiver.specs.Faults.{MayCount, IsBadMagic, IsBadVersion, Says, IsBadCount, IsNoShape, IsBadShape, IsMismatch, IsHeaderFault}
 use Rattle.receiver.specs.Heading.{ShapeWaits, BadFirst, FewShapes, ShapesWait, ShapesBad, ShapesRead, WaitsHead, OnBad}
 use Rattle.receiver.specs.Fed.{Tells}

@@ -1,5 +1,5 @@
 -- What a receiver knows of its bytes.
-use Rattle.std.proofs.Common.{◌≡◌, ◌≢◌, ℕ, ◌+◌, ◌-◌, ◌*◌, ◌<◌, ◌≤◌, ◌⊎◌, inl, inr, Some, None, Option, Bool, true, false, List, [], ◌∷◌, ◌++◌, length, take, drop, map, get_or, refl, sym, ap, subst, ◌∙◌, append_assoc, append-nil, arith}
+use Rattle.std.proofs.Common.{◌≡◌, ◌≢◌, ℕ, ◌+◌, ◌-◌, ◌*◌, ◌/◌, ◌<◌, ◌≤◌, ◌⊎◌, inl, inr, Some, None, Option, Bool, true, false, List, [], ◌∷◌, ◌++◌, length, take, drop, map, get_or, refl, sym, ap, subst, ◌∙◌, append_assoc, append-nil, arith}
 use Rattle.std.specs.Prelude.{is_some, All}
 use Rattle.std.proofs.lemmas.List.{length-append, length-drop, length-map, length-take, take-append-drop}
 use Rattle.std.proofs.lemmas.List.Elements.{All-from_recursion, All-map}
@@ -10,13 +10,17 @@ use Rattle.guestmem.specs.Number.{IsBytes}
 use Rattle.wire.specs.DeviceBody.{body}
 use Rattle.wire.specs.Header.{header, Begins}
 use Rattle.wire.specs.Records.{Record, page, sector, round_end, device, commit, spelled_record, HasSpelling}
-use Rattle.wire.specs.Stream.{IsStream, IsStreamBy, IsEntry, texts, rounds, shapes_in, device_texts, before_commit, last_of, or_else, page_of}
-use Rattle.wire.specs.Taken.{shown}
-use Rattle.machine.specs.First.{saved_machine}
+use Rattle.wire.specs.Stream.{IsStream, IsStreamBy, IsEntry, texts, rounds, shapes_in, device_texts, before_commit, last_named, record_in}
+use Rattle.receiver.specs.Taken.{shown}
+use Rattle.guestmem.specs.Item.{Item}
+use Rattle.machine.specs.First.{dealt_sectors, saved_machine}
+use Rattle.machine.specs.Layout.{IsItemIn, layout_by, layout_of, number_of, pages_of}
 use Rattle.machine.specs.Sound.{IsSound, IsSoundDevice}
 use Rattle.machine.specs.State.{DeviceState, MachineState, Sector}
 use Rattle.machine.specs.declared.shape.Shape.{Shape}
-use Rattle.wire.proofs.Devices.{take_all}
+use Rattle.machine.proofs.Fresh.{dealt_sizes, dealt_whole}
+use Rattle.machine.proofs.Numbering.{sound_layout}
+use Rattle.receiver.proofs.Lists.{take_all}
 use Rattle.wire.proofs.Spelling.{head_same, tail_same, split_same}
 use Rattle.wire.proofs.Unique.{after_header, body_spells, length_shapes, stream_begins, alike}
 use Rattle.wire.proofs.HeaderLemmas.{header_of-spelled}
@@ -65,7 +69,7 @@ digest_quiet pages shapes before digest is place (inr h) =
     let size : length digest ≡ 32 = ap length is ∙ length-sha256 (header pages shapes ++ texts before) in
     omega (arith, size, ap length (tail_same h.opens.whole), length-append (sha256 (header pages shapes ++ texts before)) (h.byte ∷ h.more), length-sha256 (header pages shapes ++ texts before))
 
-pub end_quiet : (pages : ℕ) (shapes : List Shape) (before : List Record) (digest : List ℕ) → IsComplete pages (length shapes) before 5 → digest ≡ sha256 (header pages shapes ++ texts before) → (k : RecvError) (place : ℕ) → ¬ (IsFault pages shapes before (5 ∷ digest) k place)
+pub end_quiet : (pages : ℕ) (shapes : List Shape) (before : List Record) (digest : List ℕ) → IsComplete pages shapes before 5 → digest ≡ sha256 (header pages shapes ++ texts before) → (k : RecvError) (place : ℕ) → ¬ (IsFault pages shapes before (5 ∷ digest) k place)
 end_quiet pages shapes before digest complete is =
     quiet pages shapes before (5 ∷ digest) 5 digest (record {
       whole = refl;
@@ -116,15 +120,15 @@ unfolding texts device_records device_texts
 texts_devices k [] = refl
 texts_devices k (d ∷ ds) = ap (λ (x : List ℕ). spelled_record (device k (body d)) ++ x) (texts_devices (k + 1) ds)
 
-last_none : (n k : ℕ) (ds : List DeviceState) → last_of n (device_records k ds) ≡ None
-unfolding last_of device_records
-last_none n k [] = refl
-last_none n k (d ∷ ds) = rw (last_none n (k + 1) ds) refl
+last_none : (item : Item) (k : ℕ) (ds : List DeviceState) → last_named item (device_records k ds) ≡ None
+unfolding last_named device_records
+last_none item k [] = refl
+last_none item k (d ∷ ds) = rw (last_none item (k + 1) ds) refl
 
-pub last_entries : (n k : ℕ) (es : List Record) (ds : List DeviceState) → last_of n (es ++ device_records k ds) ≡ last_of n es
-unfolding last_of
-last_entries n k [] ds = last_none n k ds
-last_entries n k (r ∷ es) ds = rw (last_entries n k es ds) refl
+pub last_entries : (item : Item) (k : ℕ) (es : List Record) (ds : List DeviceState) → last_named item (es ++ device_records k ds) ≡ last_named item es
+unfolding last_named
+last_entries item k [] ds = last_none item k ds
+last_entries item k (r ∷ es) ds = rw (last_entries item k es ds) refl
 
 pub rounds_none : (k : ℕ) (ds : List DeviceState) → rounds (device_records k ds) ≡ 0
 unfolding rounds device_records
@@ -133,9 +137,9 @@ rounds_none k (d ∷ ds) = rounds_none (k + 1) ds
 
 -- The machine that was read.
 abbrev pub read_machine : Intake → MachineState
-read_machine i = saved_machine i.ram.bytes i.devices.items
+read_machine i = saved_machine i.ram.bytes i.devices.items []
 
-some_shown : (b : Bool) (x : List ℕ) (o : Option (List ℕ)) → o ≡ shown b x → is_some o ≡ true → o ≡ Some x
+some_shown : (b : Bool) (x : Record) (o : Option Record) → o ≡ shown b x → is_some o ≡ true → o ≡ Some x
 some_shown true x o e s = e
 some_shown false x o e s = let no : false ≡ true = ap is_some (sym e) ∙ s in absurd cc
 
@@ -145,18 +149,24 @@ whole_shapes {shapes = shapes} {i = i} h all = h.devices_are ∙ take_all (lengt
 pub read_sound : {sizes front : List ℕ} {pages : ℕ} {shapes : List Shape} {before : List Record} {i : Intake} → HasRead sizes pages shapes before i front → devices_in before ≡ length shapes → IsBytes i.ram.bytes → IsSound (read_machine i)
 read_sound {pages = pages} {shapes = shapes} {i = i} h all are =
     let count : length i.devices.items ≡ length shapes = omega (arith, all, devices_are h) in
+    let size : length i.ram.bytes / 4096 ≡ pages = omega (arith, h.taken.ram_size) in
     record {
-      pages = pages;
-      whole_pages = h.taken.ram_size;
-      some_pages = h.head.some_page;
-      few_pages = h.head.few_pages;
+      whole_pages = omega (arith, h.taken.ram_size);
+      some_pages = omega (arith, size, h.head.some_page);
+      few_pages = omega (arith, size, h.head.few_pages);
       some_devices = omega (arith, h.head.some_device, count);
       few_devices = omega (arith, h.head.few_devices, count);
       devices = All-from_recursion (IsSoundDevice (length i.ram.bytes)) i.devices.items (rw h.taken.ram_size h.sound);
       bytes = are;
-      disk_each = rw length-map refl;
-      no_sectors = All-map (λ (disk : List Sector). disk ≡ []) (λ (x : DeviceState). []) i.devices.items (λ k x below. refl);
+      disks = dealt_sizes i.devices.items [];
+      sectors = dealt_whole (shapes_in i.devices.items) [];
     }
+
+-- Its layout is that of the header.
+pub read_layout : {sizes front : List ℕ} {pages : ℕ} {shapes : List Shape} {before : List Record} {i : Intake} → HasRead sizes pages shapes before i front → devices_in before ≡ length shapes → IsBytes i.ram.bytes → layout_of (read_machine i) ≡ layout_by pages shapes
+read_layout {pages = pages} {shapes = shapes} {i = i} h all are =
+    let size : length i.ram.bytes / 4096 ≡ pages = omega (arith, h.taken.ram_size) in
+    sound_layout (read_machine i) (read_sound h all are) ∙ rw (size, whole_shapes h all) refl
 
 pub whole_stream : (sizes held : List ℕ) (pages : ℕ) (shapes : List Shape) (i : Intake) → IsEnded sizes pages shapes i held → IsBytes i.ram.bytes → IsStream held (read_machine i)
 whole_stream sizes held pages shapes i w are =
@@ -166,16 +176,20 @@ whole_stream sizes held pages shapes i w are =
     ap texts h.split ∙ texts-append h.entries (device_records 0 i.devices.items) ∙ ap (λ (x : List ℕ). texts h.entries ++ x) (texts_devices 0 i.devices.items) in
     let front : w.front ≡ before_commit pages h.entries i.devices.items =
     h.whole ∙ ap (λ (x : List ℕ). header pages shapes ++ x) same ∙ ap (λ (x : List Shape). header pages x ++ (texts h.entries ++ device_texts 0 i.devices.items)) (sym (whole_shapes h all)) in
+    let m : MachineState = read_machine i in
+    let layout : layout_of m ≡ layout_by pages shapes = read_layout h all are in
+    let size : pages_of m ≡ pages = omega (arith, h.taken.ram_size) in
+    let disks : m.disks ≡ dealt_sectors shapes [] = ap (λ (x : List Shape). dealt_sectors x []) (whole_shapes h all) in
     record {
-      pages = pages;
       entries = h.entries;
       by = record {
-        each = h.each;
+        each = rw layout h.each;
         numbered = h.numbered;
-        last = λ n lt. sym (ap (last_of n) h.split ∙ last_entries n 0 h.entries i.devices.items)
-            ∙ some_shown (get_or i.named.items n false) (page_of i.ram.bytes n) (last_of n w.before) (h.taken.last n lt) (w.complete.items n lt);
+        last = λ item has.
+            let here : IsItemIn (layout_by pages shapes) item = rw layout at has in
+            sym (ap (last_named item) h.split ∙ last_entries item 0 h.entries i.devices.items)
+            ∙ rw disks (some_shown (get_or i.named.items (number_of (layout_by pages shapes) item) false) (record_in i.ram.bytes (dealt_sectors shapes []) item) (last_named item w.before) (h.taken.last item here) (w.complete.items item here));
         sound = read_sound h all are;
-        pages_are = h.taken.ram_size;
-        whole = w.whole ∙ ap (λ (x : List ℕ). x ++ spelled_record (commit (sha256 x))) front;
+        whole = rw size (w.whole ∙ ap (λ (x : List ℕ). x ++ spelled_record (commit (sha256 x))) front);
       };
     }

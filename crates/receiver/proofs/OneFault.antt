@@ -11,7 +11,8 @@ use Rattle.machine.specs.declared.shape.Shape.{Shape}
 use Rattle.wire.proofs.HeaderLemmas.{header_of-spelled}
 use Rattle.wire.proofs.Spelling.{head_same, tail_same, split_same, number_same}
 use Rattle.wire.proofs.Unique.{alike}
-use Rattle.receiver.specs.Good.{AreGood, devices_in, disk_sizes}
+use Rattle.receiver.specs.Good.{AreGood, devices_in}
+use Rattle.machine.specs.Shapes.{disk_sizes}
 use Rattle.receiver.specs.Faults.{MayTag, IsComplete, MayCount, Opens, IsBadTag, IsMissing, IsBadPage, IsBadSector, IsBadRound, IsNextHead, IsBadHead, IsBadBody, IsBadDigest, IsTrailing, IsFault, IsFront, IsRecordFault, IsBadMagic, IsBadVersion, IsBadCount, IsBadShape, IsMismatch, IsNoShape, IsHeaderFault, Fault}
 use Rattle.receiver.specs.declared.recv_error.RecvError.{RecvError}
 use Rattle.receiver.specs.declared.recv_error.RecvError.TheVariants as errors
@@ -39,7 +40,7 @@ by_tag G pages shapes before tail tag more o p s r d b c t errors.BadRound q h =
 by_tag G pages shapes before tail tag more o p s r d b c t errors.BadDevice q (inl h) = d (head_same (sym o.whole ∙ h.opens.whole)) q h
 by_tag G pages shapes before tail tag more o p s r d b c t errors.BadDevice q (inr h) = b (head_same (sym o.whole ∙ h.opens.whole)) q h
 by_tag G pages shapes before tail tag more o p s r d b c t errors.BadDigest q h = c (head_same (sym o.whole ∙ h.opens.whole)) q h
-by_tag G pages shapes before tail tag more o p s r d b c t errors.Missing q h = let same : tag ≡ h.tag = head_same (sym o.whole ∙ h.whole) in absurd (h.never (subst (IsComplete pages (length shapes) before) same (o.complete (omega (arith, h.late, same)))))
+by_tag G pages shapes before tail tag more o p s r d b c t errors.Missing q h = let same : tag ≡ h.tag = head_same (sym o.whole ∙ h.whole) in absurd (h.never (subst (IsComplete pages shapes before) same (o.complete (omega (arith, h.late, same)))))
 by_tag G pages shapes before tail tag more o p s r d b c t errors.Trailing q h = t (head_same (sym o.whole ∙ h.opens.whole)) q h
 by_tag G pages shapes before tail tag more o p s r d b c t errors.Truncated q h = absurd h
 by_tag G pages shapes before tail tag more o p s r d b c t errors.DiskFailed q h = absurd h
@@ -71,14 +72,14 @@ one_missing pages shapes before tail p f errors.BadVersion q h = absurd h
 one_missing pages shapes before tail p f errors.BadShape q h = absurd h
 one_missing pages shapes before tail p f errors.ShapeMismatch q h = absurd h
 one_missing pages shapes before tail p f errors.BadTag q h = absurd (h.never (subst (MayTag (length shapes) (devices_in before)) (head_same (sym f.whole ∙ h.whole)) f.may))
-one_missing pages shapes before tail p f errors.BadPage q h = let same = head_same (sym h.opens.whole ∙ f.whole) in absurd (f.never (subst (IsComplete pages (length shapes) before) same (h.opens.complete (omega (arith, f.late, same)))))
-one_missing pages shapes before tail p f errors.BadSector q h = let same = head_same (sym h.opens.whole ∙ f.whole) in absurd (f.never (subst (IsComplete pages (length shapes) before) same (h.opens.complete (omega (arith, f.late, same)))))
-one_missing pages shapes before tail p f errors.BadRound q h = let same = head_same (sym h.opens.whole ∙ f.whole) in absurd (f.never (subst (IsComplete pages (length shapes) before) same (h.opens.complete (omega (arith, f.late, same)))))
-one_missing pages shapes before tail p f errors.BadDevice q (inl h) = let same = head_same (sym h.opens.whole ∙ f.whole) in absurd (f.never (subst (IsComplete pages (length shapes) before) same (h.opens.complete (omega (arith, f.late, same)))))
-one_missing pages shapes before tail p f errors.BadDevice q (inr h) = let same = head_same (sym h.opens.whole ∙ f.whole) in absurd (f.never (subst (IsComplete pages (length shapes) before) same (h.opens.complete (omega (arith, f.late, same)))))
-one_missing pages shapes before tail p f errors.BadDigest q h = let same = head_same (sym h.opens.whole ∙ f.whole) in absurd (f.never (subst (IsComplete pages (length shapes) before) same (h.opens.complete (omega (arith, f.late, same)))))
+one_missing pages shapes before tail p f errors.BadPage q h = let same = head_same (sym h.opens.whole ∙ f.whole) in absurd (f.never (subst (IsComplete pages shapes before) same (h.opens.complete (omega (arith, f.late, same)))))
+one_missing pages shapes before tail p f errors.BadSector q h = let same = head_same (sym h.opens.whole ∙ f.whole) in absurd (f.never (subst (IsComplete pages shapes before) same (h.opens.complete (omega (arith, f.late, same)))))
+one_missing pages shapes before tail p f errors.BadRound q h = let same = head_same (sym h.opens.whole ∙ f.whole) in absurd (f.never (subst (IsComplete pages shapes before) same (h.opens.complete (omega (arith, f.late, same)))))
+one_missing pages shapes before tail p f errors.BadDevice q (inl h) = let same = head_same (sym h.opens.whole ∙ f.whole) in absurd (f.never (subst (IsComplete pages shapes before) same (h.opens.complete (omega (arith, f.late, same)))))
+one_missing pages shapes before tail p f errors.BadDevice q (inr h) = let same = head_same (sym h.opens.whole ∙ f.whole) in absurd (f.never (subst (IsComplete pages shapes before) same (h.opens.complete (omega (arith, f.late, same)))))
+one_missing pages shapes before tail p f errors.BadDigest q h = let same = head_same (sym h.opens.whole ∙ f.whole) in absurd (f.never (subst (IsComplete pages shapes before) same (h.opens.complete (omega (arith, f.late, same)))))
 one_missing pages shapes before tail p f errors.Missing q h = (refl, f.there ∙ sym h.there)
-one_missing pages shapes before tail p f errors.Trailing q h = let same = head_same (sym h.opens.whole ∙ f.whole) in absurd (f.never (subst (IsComplete pages (length shapes) before) same (h.opens.complete (omega (arith, f.late, same)))))
+one_missing pages shapes before tail p f errors.Trailing q h = let same = head_same (sym h.opens.whole ∙ f.whole) in absurd (f.never (subst (IsComplete pages shapes before) same (h.opens.complete (omega (arith, f.late, same)))))
 one_missing pages shapes before tail p f errors.Truncated q h = absurd h
 one_missing pages shapes before tail p f errors.DiskFailed q h = absurd h
 one_missing pages shapes before tail p f errors.NoMemory q h = absurd h

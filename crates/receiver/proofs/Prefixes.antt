@@ -3,7 +3,6 @@ use Rattle.std.proofs.Common.{◌≡◌, ◌≢◌, ℕ, zero, suc, ◌+◌, ◌
 use Rattle.std.specs.Prelude.{slice_index}
 use Rattle.std.proofs.lemmas.List.{length-append, length-drop, drop-append-le}
 use Rattle.std.proofs.Math.ListN.{get_or-append}
-use Rattle.byteorder.specs.Endian.{little_from, little_number}
 use Rattle.sha2.specs.Sha256.{sha256}
 use Rattle.sha2.proofs.Facts256.{length-sha256}
 use Rattle.guestmem.specs.Number.{number_at}
@@ -12,25 +11,13 @@ use Rattle.wire.specs.Numbers.{digits}
 use Rattle.wire.specs.Records.{Record, spelled_record}
 use Rattle.wire.specs.Stream.{texts}
 use Rattle.machine.specs.declared.shape.Shape.{Shape}
-use Rattle.wire.proofs.Digits.{length-digits}
+use Rattle.wire.proofs.Digits.{length-digits, number_at-append}
 use Rattle.wire.proofs.Spelling.{head_same, tail_same}
 use Rattle.wire.proofs.Unique.{cons_same}
 use Rattle.receiver.specs.Good.{AreGood, devices_in}
 use Rattle.receiver.specs.Faults.{Opens, Says, IsBadTag, IsMissing, IsBadPage, IsBadSector, IsBadRound, IsBadHead, IsBadBody, IsBadDigest, IsTrailing, IsFault, IsFront, IsRecordFault, IsBadMagic, IsBadVersion, IsBadCount, IsBadShape, IsMismatch, IsHeaderFault, Fault}
 use Rattle.receiver.specs.declared.recv_error.RecvError.{RecvError}
 use Rattle.receiver.specs.declared.recv_error.RecvError.TheVariants as errors
-
-little_from-append : (i n : ℕ) (b c : List ℕ) → i + n ≤ length b → little_from i n (b ++ c) ≡ little_from i n b
-little_from-append i zero b c le = refl
-little_from-append i (suc n) b c le =
-    let first : slice_index (b ++ c) i ≡ slice_index b i = get_or-append b c 0 i (omega (arith, le)) in
-    let others : little_from (suc i) n (b ++ c) ≡ little_from (suc i) n b = little_from-append (suc i) n b c (omega (arith, le)) in
-    rw (first, others) refl
-
-number_at-append : (at w : ℕ) (b c : List ℕ) → at + w ≤ length b → number_at (b ++ c) at w ≡ number_at b at w
-unfolding number_at
-number_at-append at w b c le =
-    ap (little_number w) (drop-append-le at b c (omega (arith, le))) ∙ little_from-append 0 w (drop at b) c (omega (arith, le, length-drop at b))
 
 -- What is behind a known beginning.
 record Behind (x c y z : List ℕ) : Type 0 where

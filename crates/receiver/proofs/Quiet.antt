@@ -1,5 +1,5 @@
 -- Faults at the front of the bytes, and bytes that wait.
-use Rattle.std.proofs.Common.{◌≡◌, ◌≢◌, ℕ, zero, suc, ◌+◌, ◌*◌, ◌^◌, ◌<◌, ◌≤◌, ◌⊎◌, List, [], ◌∷◌, ◌++◌, length, take, drop, inl, inr, refl, sym, ap, subst, ◌∙◌, append_assoc, arith}
+use Rattle.std.proofs.Common.{◌≡◌, ◌≢◌, ℕ, zero, suc, ◌+◌, ◌*◌, ◌^◌, ◌<◌, ◌≤◌, ◌⊎◌, List, [], ◌∷◌, ◌++◌, length, map, take, drop, get_or, inl, inr, refl, sym, ap, subst, ◌∙◌, append_assoc, arith}
 use Rattle.std.proofs.lemmas.List.{take-append-drop, take_at, length-append, length-take, length-drop}
 use Rattle.sha2.specs.Sha256.{sha256}
 use Rattle.sha2.proofs.Facts256.{length-sha256}
@@ -9,13 +9,15 @@ use Rattle.wire.specs.Header.{header}
 use Rattle.wire.specs.Numbers.{digits}
 use Rattle.wire.specs.Records.{Record, page, sector, round_end, device, commit, spelled_record, BeginsRecord, BeginsNoRecord}
 use Rattle.wire.specs.Stream.{rounds, texts}
+use Rattle.machine.specs.Shapes.{sector_count}
 use Rattle.machine.specs.State.{DeviceState}
 use Rattle.machine.specs.declared.shape.Shape.{Shape}
 use Rattle.machine.specs.declared.shape.Shape.TheVariants.{Entropy}
 use Rattle.wire.proofs.Decoding.{page_short, sector_short, round_short, device_short, device_cut, commit_short, no_bytes}
-use Rattle.wire.proofs.Digits.{digits-number_at, number_at-digits, number_at-fits, length-digits, spelled-numbers, IsBytes-drop}
+use Rattle.guestmem.specs.ByteLaws.{IsBytes-drop}
+use Rattle.wire.proofs.Digits.{digits-number_at, number_at-digits, number_at-fits, length-digits, spelled-numbers}
 use Rattle.wire.proofs.Spelling.{head_same, tail_same, split_same}
-use Rattle.receiver.specs.Good.{AreNamed, devices_in, sectors_at}
+use Rattle.receiver.specs.Good.{AreNamed, devices_in}
 use Rattle.receiver.specs.Faults.{MayTag, IsComplete, Opens, IsBadTag, IsMissing, IsBadPage, IsBadSector, IsBadRound, IsNextHead, IsBadHead, IsBadBody, IsBadDigest, IsTrailing, IsFault}
 use Rattle.receiver.specs.Fed.{Waits, Ends}
 use Rattle.receiver.specs.declared.recv_error.RecvError.{RecvError}
@@ -42,7 +44,7 @@ quiet pages shapes before tail tag more o p s r d c errors.BadDevice place (inr 
 quiet pages shapes before tail tag more o p s r d c errors.BadDigest place h = c (head_same (sym o.whole ∙ h.opens.whole)) place (inl h)
 quiet pages shapes before tail tag more o p s r d c errors.Missing place h =
     let same : tag ≡ h.tag = head_same (sym o.whole ∙ h.whole) in
-    h.never (subst (IsComplete pages (length shapes) before) same (o.complete (omega (arith, h.late, same))))
+    h.never (subst (IsComplete pages shapes before) same (o.complete (omega (arith, h.late, same))))
 quiet pages shapes before tail tag more o p s r d c errors.Trailing place h = c (head_same (sym o.whole ∙ h.opens.whole)) place (inr h)
 quiet pages shapes before tail tag more o p s r d c errors.Truncated place h = h
 quiet pages shapes before tail tag more o p s r d c errors.DiskFailed place h = h
@@ -140,8 +142,7 @@ sector_waits pages shapes before rest short o = record {
 }
 
 -- No device has a sector.
-pub no_sector : (shapes : List Shape) (d : ℕ) → sectors_at shapes d ≡ 0
-unfolding sectors_at
+pub no_sector : (shapes : List Shape) (d : ℕ) → get_or (map sector_count shapes) d 0 ≡ 0
 no_sector [] d = refl
 no_sector (Entropy ∷ shapes) zero = refl
 no_sector (Entropy ∷ shapes) (suc d) = no_sector shapes d

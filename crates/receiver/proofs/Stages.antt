@@ -7,11 +7,14 @@ use Rattle.wire.specs.Header.{header, Begins}
 use Rattle.wire.specs.Records.{Record, commit, spelled_record}
 use Rattle.wire.specs.Stream.{texts, rounds}
 use Rattle.machine.specs.Disk.{DiskState}
+use Rattle.machine.specs.First.{dealt_sectors}
+use Rattle.machine.specs.Layout.{layout_by, size_from, size_of}
 use Rattle.machine.specs.declared.shape.Shape.{Shape}
 use Rattle.machine.specs.declared.shape.Shape.TheVariants.{Entropy}
-use Rattle.wire.proofs.Endings.{empty}
-use Rattle.wire.proofs.Takings.{new_taken}
-use Rattle.receiver.specs.Good.{AreGood, disk_sizes, devices_in}
+use Rattle.receiver.proofs.Lists.{empty}
+use Rattle.receiver.proofs.Takings.{new_taken}
+use Rattle.receiver.specs.Good.{AreGood, devices_in}
+use Rattle.machine.specs.Shapes.{disk_sizes, sector_count}
 use Rattle.receiver.specs.Faults.{MayTag, IsComplete, Opens, IsTrailing, IsHeaderFault, Fault}
 use Rattle.receiver.specs.Fed.{HasRead, Tells, IsOpen, IsEnded, device_records}
 use Rattle.receiver.specs.Receiving.{sizes_of, IsReading, HasCome, IsKnown, GoesOn, Stepped}
@@ -21,9 +24,20 @@ use Rattle.receiver.specs.declared.recv_error.RecvError.{RecvError}
 use Rattle.receiver.specs.declared.recv_error.RecvError.TheVariants as errors
 use Rattle.receiver.proofs.Working.{tells_more, fault_here, commit_text}
 
+-- No device has a disk, so all items are pages.
+no_more : (first : ℕ) (shape : Shape) → first + sector_count shape ≡ first
+no_more first Entropy = omega arith
+
+no_sizes : (first : ℕ) (shapes : List Shape) → size_from first (map sector_count shapes) ≡ first
+no_sizes first [] = refl
+no_sizes first (shape ∷ shapes) = subst (λ k. size_from k (map sector_count shapes) ≡ first) (sym (no_more first shape)) (no_sizes first shapes)
+
+pub only_pages : (pages : ℕ) (shapes : List Shape) → size_of (layout_by pages shapes) ≡ pages
+only_pages pages shapes = no_sizes pages shapes
+
 -- A header was read.
 
-pub new_read : (sizes bytes rest : List ℕ) (pages : ℕ) (shapes : List Shape) (i : Intake) → Begins bytes pages shapes rest → sizes ≡ disk_sizes shapes → length i.ram.bytes ≡ 4096 * pages → i.named.items ≡ replicate pages false → i.rounds ≡ 0
+pub new_read : (sizes bytes rest : List ℕ) (pages : ℕ) (shapes : List Shape) (i : Intake) → Begins bytes pages shapes rest → sizes ≡ disk_sizes shapes → length i.ram.bytes ≡ 4096 * pages → i.named.items ≡ replicate (size_of (layout_by pages shapes)) false → i.rounds ≡ 0
     → i.shapes.items ≡ shapes → i.devices.items ≡ [] → HasRead sizes pages shapes [] i (header pages shapes)
 unfolding AreGood texts rounds device_records
 new_read sizes bytes rest pages shapes i b fits size marks ends same none = record {
@@ -37,7 +51,7 @@ new_read sizes bytes rest pages shapes i b fits size marks ends same none = reco
   each = tt;
   numbered = tt;
   rounds_are = ends;
-  taken = new_taken i.ram.bytes i.named.items pages size marks;
+  taken = new_taken i.ram.bytes (dealt_sectors shapes []) i.named.items (layout_by pages shapes) size marks;
   devices_are = rw none refl;
   sound = rw none tt;
 }
@@ -48,7 +62,6 @@ head_taken held pages shapes len le b =
     ap (take len) b.whole ∙ take_at (header pages shapes) (drop len held) len size
 
 pub no_disk : (shapes : List Shape) → disk_sizes shapes ≡ []
-unfolding disk_sizes
 no_disk [] = refl
 no_disk (Entropy ∷ shapes) = no_disk shapes
 
@@ -87,7 +100,7 @@ pub still_read : (sizes old piece held : List ℕ) (pages : ℕ) (shapes : List 
 still_read sizes old piece held pages shapes before i at le e h =
     let same : take at held ≡ take at old = ap (take at) e ∙ take-append-le at old piece le in rw same h
 
-trailing_of : (pages : ℕ) (shapes : List Shape) (before : List Record) (digest front piece : List ℕ) → IsComplete pages (length shapes) before 5 → front ≡ header pages shapes ++ texts before → 0 < length piece → digest ≡ sha256 front
+trailing_of : (pages : ℕ) (shapes : List Shape) (before : List Record) (digest front piece : List ℕ) → IsComplete pages shapes before 5 → front ≡ header pages shapes ++ texts before → 0 < length piece → digest ≡ sha256 front
     → IsTrailing pages shapes before ((5 ∷ digest) ++ piece) 34
 trailing_of pages shapes before digest front [] complete e some same = absurd (omega (arith, some))
 trailing_of pages shapes before digest front (byte ∷ more) complete e some same = record {

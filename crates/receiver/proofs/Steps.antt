@@ -9,15 +9,19 @@ use Rattle.guestmem.specs.Number.{number_at, IsBytes}
 use Rattle.wire.specs.DeviceBody.{body, IsBodyOf}
 use Rattle.wire.specs.Header.{header}
 use Rattle.wire.specs.Records.{Record, page, sector, round_end, device, commit, spelled_record, HasSpelling, BeginsRecord}
-use Rattle.wire.specs.Stream.{IsEntry, AreNumbered, rounds, texts, shapes_in, last_of, or_else, page_of}
-use Rattle.wire.specs.Taken.{AreTaken, shown}
+use Rattle.wire.specs.Stream.{IsEntry, AreNumbered, rounds, texts, shapes_in, record_in}
+use Rattle.receiver.specs.Taken.{AreTaken, shown}
+use Rattle.guestmem.specs.Item as items
+use Rattle.machine.specs.First.{dealt_sectors}
+use Rattle.machine.specs.Layout.{Layout, layout_by, item_at, number_of, size_of}
+use Rattle.machine.proofs.Numbering.{item_there, number_back, number_below}
 use Rattle.machine.specs.Sound.{IsSoundDevice}
 use Rattle.machine.specs.State.{DeviceState}
 use Rattle.machine.specs.declared.shape.Shape.{Shape}
-use Rattle.wire.proofs.Endings.{empty}
-use Rattle.wire.proofs.Takings.{put_page, taken_page, taken_round, rounds_page, rounds_round, numbered_round}
+use Rattle.receiver.proofs.Lists.{empty}
+use Rattle.receiver.proofs.Takings.{put_page, taken_device, taken_page, taken_round, rounds_page, rounds_round, numbered_round}
 use Rattle.wire.proofs.Unique.{length_shapes, body_spells}
-use Rattle.wire.proofs.Whole.{texts-snoc, each-snoc, last-snoc, numbered_page}
+use Rattle.wire.proofs.Whole.{texts-snoc, each-snoc, numbered_page}
 use Rattle.receiver.specs.Good.{AreGood, AreNamed, Follows, MayFollow, IsNextDevice, devices_in}
 use Rattle.receiver.specs.Faults.{MayTag, IsComplete, Opens}
 use Rattle.receiver.specs.Fed.{HasRead, device_records}
@@ -35,21 +39,21 @@ unfolding devices_in device_records
 count_devices k [] = refl
 count_devices k (d ∷ ds) = let ih = count_devices (k + 1) ds in omega (arith, ih)
 
-pub count_all : (pages k : ℕ) (es : List Record) (ds : List DeviceState) → AllByRecursion (IsEntry pages) es → devices_in (es ++ device_records k ds) ≡ length ds
+pub count_all : (l : Layout) (k : ℕ) (es : List Record) (ds : List DeviceState) → AllByRecursion (IsEntry l) es → devices_in (es ++ device_records k ds) ≡ length ds
 unfolding devices_in
-count_all pages k [] ds h = count_devices k ds
-count_all pages k (page n b ∷ es) ds h = count_all pages k es ds h.1
-count_all pages k (sector d n o ∷ es) ds h = count_all pages k es ds h.1
-count_all pages k (round_end n ∷ es) ds h = count_all pages k es ds h.1
-count_all pages k (device d b ∷ es) ds h = absurd h.0.stands
-count_all pages k (commit b ∷ es) ds h = count_all pages k es ds h.1
+count_all l k [] ds h = count_devices k ds
+count_all l k (page n b ∷ es) ds h = count_all l k es ds h.1
+count_all l k (sector d n o ∷ es) ds h = count_all l k es ds h.1
+count_all l k (round_end n ∷ es) ds h = count_all l k es ds h.1
+count_all l k (device d b ∷ es) ds h = absurd h.0.stands
+count_all l k (commit b ∷ es) ds h = count_all l k es ds h.1
 
 pub devices_are : {sizes front : List ℕ} {pages : ℕ} {shapes : List Shape} {before : List Record} {i : Intake} → HasRead sizes pages shapes before i front → devices_in before ≡ length i.devices.items
-devices_are {pages = pages} {before = before} {i = i} h = ap devices_in h.split ∙ count_all pages 0 h.entries i.devices.items h.each
+devices_are {pages = pages} {shapes = shapes} {before = before} {i = i} h = ap devices_in h.split ∙ count_all (layout_by pages shapes) 0 h.entries i.devices.items h.each
 
 -- Behind no device all records are entries.
-record AreEntries (pages : ℕ) (before : List Record) : Type 0 where
-  each : AllByRecursion (IsEntry pages) before
+record AreEntries (l : Layout) (before : List Record) : Type 0 where
+  each : AllByRecursion (IsEntry l) before
   numbered : AreNumbered 1 before
 
 no_devices : (entries before : List Record) (ds : List DeviceState) → before ≡ entries ++ device_records 0 ds → length ds ≡ 0 → before ≡ entries
@@ -57,7 +61,7 @@ unfolding device_records
 no_devices entries before [] e n = e ∙ append-nil entries
 no_devices entries before (d ∷ ds) e n = absurd (omega (arith, n))
 
-are_entries : {sizes front : List ℕ} {pages : ℕ} {shapes : List Shape} {before : List Record} {i : Intake} → HasRead sizes pages shapes before i front → devices_in before ≡ 0 → AreEntries pages before
+are_entries : {sizes front : List ℕ} {pages : ℕ} {shapes : List Shape} {before : List Record} {i : Intake} → HasRead sizes pages shapes before i front → devices_in before ≡ 0 → AreEntries (layout_by pages shapes) before
 are_entries {before = before} {i = i} h none =
     let same : before ≡ h.entries = no_devices h.entries before i.devices.items h.split (sym (devices_are h) ∙ none) in
     rw same (record { each = h.each; numbered = h.numbered })
@@ -70,8 +74,8 @@ unfolding device_records
 no_records before [] n = sym (append-nil before)
 no_records before (d ∷ ds) n = absurd (omega (arith, n))
 
-more_entry : (sizes front : List ℕ) (pages : ℕ) (shapes : List Shape) (before : List Record) (i j : Intake) (r : Record) → HasRead sizes pages shapes before i front → devices_in before ≡ 0 → Follows pages shapes before r → IsEntry pages r
-    → (AreNumbered 1 before → AreNumbered 1 (before ++ r ∷ [])) → j.rounds ≡ rounds (before ++ r ∷ []) → AreTaken j.ram.bytes j.named.items pages (before ++ r ∷ []) → j.shapes.items ≡ i.shapes.items → j.devices.items ≡ i.devices.items
+more_entry : (sizes front : List ℕ) (pages : ℕ) (shapes : List Shape) (before : List Record) (i j : Intake) (r : Record) → HasRead sizes pages shapes before i front → devices_in before ≡ 0 → Follows pages shapes before r → IsEntry (layout_by pages shapes) r
+    → (AreNumbered 1 before → AreNumbered 1 (before ++ r ∷ [])) → j.rounds ≡ rounds (before ++ r ∷ []) → AreTaken j.ram.bytes (dealt_sectors shapes []) j.named.items (layout_by pages shapes) (before ++ r ∷ []) → j.shapes.items ≡ i.shapes.items → j.devices.items ≡ i.devices.items
     → HasRead sizes pages shapes (before ++ r ∷ []) j (front ++ spelled_record r)
 more_entry sizes front pages shapes before i j r h none follows entry numbers ends taken same_shapes same_devices =
     let are = are_entries h none in
@@ -84,7 +88,7 @@ more_entry sizes front pages shapes before i j r h none follows entry numbers en
       shapes_are = same_shapes ∙ h.shapes_are;
       entries = before ++ r ∷ [];
       split = no_records (before ++ r ∷ []) j.devices.items count;
-      each = each-snoc pages before r are.each entry;
+      each = each-snoc (layout_by pages shapes) before r are.each entry;
       numbered = numbers are.numbered;
       rounds_are = ends;
       taken = taken;
@@ -92,14 +96,14 @@ more_entry sizes front pages shapes before i j r h none follows entry numbers en
       sound = rw same_devices h.sound;
     }
 
-pub more_page : (sizes front : List ℕ) (pages : ℕ) (shapes : List Shape) (before : List Record) (i j : Intake) (n : ℕ) (b : List ℕ) → HasRead sizes pages shapes before i front → devices_in before ≡ 0 → IsEntry (length i.named.items) (page n b)
+pub more_page : (sizes front : List ℕ) (pages : ℕ) (shapes : List Shape) (before : List Record) (i j : Intake) (n : ℕ) (b : List ℕ) → HasRead sizes pages shapes before i front → devices_in before ≡ 0 → HasSpelling (page n b) → n < length i.named.items
     → 4096 * n + 4096 ≤ length i.ram.bytes → j.ram.bytes ≡ put_page i.ram.bytes n b → j.named.items ≡ set i.named.items n true → j.rounds ≡ i.rounds → j.shapes.items ≡ i.shapes.items → j.devices.items ≡ i.devices.items
     → HasRead sizes pages shapes (before ++ page n b ∷ []) j (front ++ spelled_record (page n b))
-more_page sizes front pages shapes before i j n b h none entry le ram named ends same_shapes same_devices =
-    let here : IsEntry pages (page n b) = subst (λ (x : ℕ). IsEntry x (page n b)) h.taken.named_size entry in
-    more_entry sizes front pages shapes before i j (page n b) h none (record { spells = here.spells; may = (here.stands, none) }) here
+more_page sizes front pages shapes before i j n b h none spells marked le ram named ends same_shapes same_devices =
+    let low : n < pages = omega (arith, le, h.taken.ram_size) in
+    more_entry sizes front pages shapes before i j (page n b) h none (record { spells = spells; may = (low, none) }) (record { spells = spells; stands = low })
     (numbered_page 1 before n b) (ends ∙ h.rounds_are ∙ sym (rounds_page before n b))
-    (rw (ram, named) (taken_page i.ram.bytes b i.named.items pages n before h.taken le entry.stands entry.spells.1)) same_shapes same_devices
+    (rw (ram, named) (taken_page i.ram.bytes b (dealt_sectors shapes []) i.named.items (layout_by pages shapes) n before h.taken low le marked spells.1)) same_shapes same_devices
 
 pub more_round : (sizes front : List ℕ) (pages : ℕ) (shapes : List Shape) (before : List Record) (i j : Intake) (n : ℕ) → HasRead sizes pages shapes before i front → devices_in before ≡ 0 → n < 2 ^ 32 → n ≡ i.rounds + 1
     → j.ram.bytes ≡ i.ram.bytes → j.named.items ≡ i.named.items → j.rounds ≡ n → j.shapes.items ≡ i.shapes.items → j.devices.items ≡ i.devices.items
@@ -108,7 +112,7 @@ more_round sizes front pages shapes before i j n h none fits next ram named ends
     let is : n ≡ rounds before + 1 = next ∙ ap (λ (x : ℕ). x + 1) h.rounds_are in
     more_entry sizes front pages shapes before i j (round_end n) h none (record { spells = fits; may = (is, none) }) (record { spells = fits; stands = tt })
     (λ k. numbered_round 1 before n k (omega (arith, is))) (ends ∙ is ∙ sym (rounds_round before n))
-    (rw (ram, named) (taken_round i.ram.bytes i.named.items pages n before h.taken)) same_shapes same_devices
+    (rw (ram, named) (taken_round i.ram.bytes (dealt_sectors shapes []) i.named.items (layout_by pages shapes) n before h.taken)) same_shapes same_devices
 
 -- A device.
 
@@ -146,7 +150,7 @@ next_shape (s ∷ shapes) (suc n) shape others e =
     rw m (ap (λ (x : List Shape). s ∷ x) (next_shape shapes n shape others e))
 
 pub more_device : (sizes front : List ℕ) (pages : ℕ) (shapes others : List Shape) (shape : Shape) (before : List Record) (i j : Intake) (n : ℕ) (raw : List ℕ) (d : DeviceState) → HasRead sizes pages shapes before i front
-    → AreNamed pages before → HasSpelling (device n raw) → n ≡ devices_in before → drop n shapes ≡ shape ∷ others → IsBodyOf shape (4096 * pages) raw d
+    → AreNamed (layout_by pages shapes) before → HasSpelling (device n raw) → n ≡ devices_in before → drop n shapes ≡ shape ∷ others → IsBodyOf shape (4096 * pages) raw d
     → j.ram.bytes ≡ i.ram.bytes → j.named.items ≡ i.named.items → j.rounds ≡ i.rounds → j.shapes.items ≡ i.shapes.items → j.devices.items ≡ i.devices.items ++ d ∷ []
     → HasRead sizes pages shapes (before ++ device n raw ∷ []) j (front ++ spelled_record (device n raw))
 more_device sizes front pages shapes others shape before i j n raw d h named spells next here is ram marks ends same_shapes more =
@@ -170,7 +174,7 @@ more_device sizes front pages shapes others shape before i j n raw d h named spe
       each = h.each;
       numbered = h.numbered;
       rounds_are = ends ∙ h.rounds_are ∙ sym (rounds_device before n raw);
-      taken = rw (ram, marks) (record { ram_size = h.taken.ram_size; named_size = h.taken.named_size; last = λ k lt. last-snoc k before r ∙ h.taken.last k lt });
+      taken = rw (ram, marks) (taken_device i.ram.bytes (dealt_sectors shapes []) i.named.items (layout_by pages shapes) n raw before h.taken);
       devices_are = rw more (shown ∙ ap (λ (k : ℕ). take k shapes) (sym size));
       sound = rw more (sound-snoc (4096 * pages) i.devices.items d h.sound is.sound);
     }
@@ -191,15 +195,23 @@ tag_there a b tag h e f m =
     let devices = devices_are h in
     record { least = m.least; most = m.most; early = λ low. omega (arith, f, devices, m.early low); missing = λ four. omega (arith, e, f, count, devices, m.missing four) }
 
-pub named_all : {sizes front : List ℕ} {pages : ℕ} {shapes : List Shape} {before : List Record} {i : Intake} → HasRead sizes pages shapes before i front → All (λ (b : Bool). b ≡ true) i.named.items → AreNamed pages before
-named_all {i = i} h all n lt =
-    ap is_some (h.taken.last n lt ∙ ap (λ (x : Bool). shown x (page_of i.ram.bytes n)) (All-get_or (λ (x : Bool). x ≡ true) i.named.items n false (omega (arith, lt, h.taken.named_size)) all))
+pub named_all : {sizes front : List ℕ} {pages : ℕ} {shapes : List Shape} {before : List Record} {i : Intake} → HasRead sizes pages shapes before i front → All (λ (b : Bool). b ≡ true) i.named.items → AreNamed (layout_by pages shapes) before
+named_all {pages = pages} {shapes = shapes} {i = i} h all item has =
+    let l = layout_by pages shapes in
+    let low = number_below l item has in
+    ap is_some (h.taken.last item has ∙ ap (λ (x : Bool). shown x (record_in i.ram.bytes (dealt_sectors shapes []) item)) (All-get_or (λ (x : Bool). x ≡ true) i.named.items (number_of l item) false (omega (arith, low, h.taken.named_size)) all))
 
-shown_some : (b : Bool) (x : List ℕ) → is_some (shown b x) ≡ true → b ≡ true
+shown_some : (b : Bool) (x : Record) → is_some (shown b x) ≡ true → b ≡ true
 shown_some true x e = refl
 shown_some false x e = absurd cc
 
-pub all_named : {sizes front : List ℕ} {pages : ℕ} {shapes : List Shape} {before : List Record} {i : Intake} → HasRead sizes pages shapes before i front → AreNamed pages before → All (λ (b : Bool). b ≡ true) i.named.items
-all_named {pages = pages} {i = i} h named =
+pub all_named : {sizes front : List ℕ} {pages : ℕ} {shapes : List Shape} {before : List Record} {i : Intake} → HasRead sizes pages shapes before i front → AreNamed (layout_by pages shapes) before → All (λ (b : Bool). b ≡ true) i.named.items
+all_named {pages = pages} {shapes = shapes} {i = i} h named =
+    let l = layout_by pages shapes in
     All-from_get_or (λ (b : Bool). b ≡ true) i.named.items false
-    (λ n lt. let low : n < pages = omega (arith, lt, h.taken.named_size) in shown_some (get_or i.named.items n false) (page_of i.ram.bytes n) (sym (ap is_some (h.taken.last n low)) ∙ named n low))
+    (λ n lt.
+    let low : n < size_of l = omega (arith, lt, h.taken.named_size) in
+    let item = item_at l n in
+    let has = item_there l n low in
+    let at : get_or i.named.items (number_of l item) false ≡ true = shown_some (get_or i.named.items (number_of l item) false) (record_in i.ram.bytes (dealt_sectors shapes []) item) (sym (ap is_some (h.taken.last item has)) ∙ named item has) in
+    rw (number_back l n low) at at)

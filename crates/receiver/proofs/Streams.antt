@@ -10,10 +10,11 @@ use Rattle.wire.specs.DeviceBody.{body}
 use Rattle.wire.specs.Header.{header, Begins}
 use Rattle.wire.specs.Records.{Record, page, sector, round_end, device, commit, spelled_record, HasSpelling, BeginsNoRecord}
 use Rattle.wire.specs.Stream.{IsStream, IsStreamBy, IsEntry, texts, rounds, shapes_in, device_texts, before_commit}
+use Rattle.machine.specs.Layout.{Layout, layout_of, pages_of}
 use Rattle.machine.specs.Sound.{IsSound, IsSoundDevice}
 use Rattle.machine.specs.State.{DeviceState, MachineState}
 use Rattle.machine.specs.declared.shape.Shape.{Shape}
-use Rattle.wire.proofs.Digits.{IsBytes-drop}
+use Rattle.guestmem.specs.ByteLaws.{IsBytes-drop}
 use Rattle.wire.proofs.Unique.{body_spells, stream_begins, alike}
 use Rattle.wire.proofs.HeaderLemmas.{header_of-spelled}
 use Rattle.receiver.specs.Good.{AreGood, Follows}
@@ -26,9 +27,9 @@ use Rattle.receiver.proofs.Aligned.{records_led, LongerRecords, good_spell, next
 use Rattle.receiver.proofs.Knowing.{texts-append, texts_devices, no_other}
 use Rattle.receiver.proofs.Working.{front_of, commit_text}
 
-entries_spell : (pages : ℕ) (es : List Record) → AllByRecursion (IsEntry pages) es → AllByRecursion HasSpelling es
-entries_spell pages [] h = tt
-entries_spell pages (r ∷ es) h = (h.0.spells, entries_spell pages es h.1)
+entries_spell : (l : Layout) (es : List Record) → AllByRecursion (IsEntry l) es → AllByRecursion HasSpelling es
+entries_spell l [] h = tt
+entries_spell l (r ∷ es) h = (h.0.spells, entries_spell l es h.1)
 
 devices_spell : (ram_len k : ℕ) (ds : List DeviceState) → k + length ds ≤ 256 → AllByRecursion (IsSoundDevice ram_len) ds → AllByRecursion HasSpelling (device_records k ds)
 unfolding device_records
@@ -65,26 +66,26 @@ not_led pages shapes before others tail digest good spell none other (inl l) = n
 not_led pages shapes before others tail digest good spell none other (inr l) = not_led_off pages shapes before others l.more tail digest good l.all other l.left
 
 pub no_stream_head : (held : List ℕ) (m : MachineState) → WaitsHead held → ¬ (IsStream held m)
-no_stream_head held m w s = w.no_header s.pages (shapes_in m.devices) _ (stream_begins s.by)
+no_stream_head held m w s = w.no_header (pages_of m) (shapes_in m.devices) _ (stream_begins s.by)
 
 pub no_stream_reading : (sizes held : List ℕ) (at : ℕ) (i : Intake) (m : MachineState) → IsBytes held → IsReading sizes held at i → ¬ (IsStream held m)
 no_stream_reading sizes held at i m are r s =
     let o = r.open_at in
     let tail = drop at held in
     let front = front_of held tail o.read (sym (take-append-drop at held)) in
-    let before_all = before_commit s.pages s.entries m.devices in
+    let before_all = before_commit (pages_of m) s.entries m.devices in
     let digest = sha256 before_all in
     let others = s.entries ++ device_records 0 m.devices in
     let a = header_of-spelled held r.pages r.shapes (texts o.before ++ tail) front.begins in
-    let b = header_of-spelled held s.pages (shapes_in m.devices) (texts s.entries ++ (device_texts 0 m.devices ++ spelled_record (commit digest))) (stream_begins s.by) in
-    let t = alike r.pages s.pages r.shapes (shapes_in m.devices) (texts o.before ++ tail) (texts s.entries ++ (device_texts 0 m.devices ++ spelled_record (commit digest))) (sym a ∙ b) in
+    let b = header_of-spelled held (pages_of m) (shapes_in m.devices) (texts s.entries ++ (device_texts 0 m.devices ++ spelled_record (commit digest))) (stream_begins s.by) in
+    let t = alike r.pages (pages_of m) r.shapes (shapes_in m.devices) (texts o.before ++ tail) (texts s.entries ++ (device_texts 0 m.devices ++ spelled_record (commit digest))) (sym a ∙ b) in
     let text : texts others ≡ texts s.entries ++ device_texts 0 m.devices = texts-append s.entries (device_records 0 m.devices) ∙ ap (λ (x : List ℕ). texts s.entries ++ x) (texts_devices 0 m.devices) in
     let same : texts o.before ++ tail ≡ texts others ++ (5 ∷ digest) =
     t.third ∙ sym (append_assoc (texts s.entries) (device_texts 0 m.devices) (spelled_record (commit digest))) ∙ ap (λ (x : List ℕ). (texts s.entries ++ device_texts 0 m.devices) ++ x) (commit_text digest)
     ∙ ap (λ (x : List ℕ). x ++ (5 ∷ digest)) (sym text) in
     let whole : held ≡ before_all ++ (5 ∷ digest) = s.by.whole ∙ ap (λ (x : List ℕ). before_all ++ x) (commit_text digest) in
     let spells : HasSpelling (commit digest) = (length-sha256 before_all, digest_bytes before_all digest held are whole) in
-    let spell : AllByRecursion HasSpelling others = both_spell s.entries (device_records 0 m.devices) (entries_spell s.pages s.entries s.by.each)
+    let spell : AllByRecursion HasSpelling others = both_spell s.entries (device_records 0 m.devices) (entries_spell (layout_of m) s.entries s.by.each)
     (devices_spell (length m.ram) 0 m.devices (omega (arith, s.by.sound.few_devices)) (recursion_from_All (IsSoundDevice (length m.ram)) m.devices s.by.sound.devices)) in
     not_led r.pages r.shapes o.before others tail digest o.read.good spell o.waits.no_record
     (λ x e. o.waits.no_record (commit digest) x spells (e ∙ ap (λ (y : List ℕ). y ++ x) (sym (commit_text digest))))

@@ -8,14 +8,17 @@ use Rattle.sha2.specs.Sha256.{sha256}
 use Rattle.wire.specs.DeviceBody.{body}
 use Rattle.wire.specs.Header.{header, Begins}
 use Rattle.wire.specs.Records.{Record, page, sector, round_end, device, commit, spelled_record, HasSpelling}
-use Rattle.wire.specs.Stream.{IsStream, IsStreamBy, IsEntry, AreNumbered, texts, rounds, shapes_in, device_texts, before_commit, last_of}
+use Rattle.wire.specs.Stream.{IsStream, IsStreamBy, IsEntry, AreNumbered, texts, rounds, shapes_in, device_texts, before_commit}
+use Rattle.machine.specs.Layout.{Layout, layout_by, layout_of, pages_of}
 use Rattle.machine.specs.Sound.{IsSound, IsSoundDevice}
-use Rattle.machine.specs.State.{DeviceState, MachineState}
+use Rattle.machine.specs.State.{DeviceState, MachineState, Sector}
 use Rattle.machine.specs.declared.shape.Shape.{Shape}
-use Rattle.wire.proofs.Takings.{rounds_page, rounds_round}
+use Rattle.machine.proofs.Numbering.{sound_layout}
+use Rattle.receiver.proofs.Takings.{rounds_page, rounds_round, rounds_sector}
 use Rattle.wire.proofs.Unique.{body_spells, length_shapes, stream_begins}
-use Rattle.wire.proofs.Whole.{last-snoc}
-use Rattle.receiver.specs.Good.{AreGood, AreNamed, Follows, devices_in, disk_sizes}
+use Rattle.wire.proofs.ItemRecords.{named-snoc}
+use Rattle.receiver.specs.Good.{AreGood, AreNamed, Follows, devices_in}
+use Rattle.machine.specs.Shapes.{disk_sizes}
 use Rattle.receiver.specs.Faults.{IsComplete, IsFront, Fault}
 use Rattle.receiver.specs.Fed.{device_records}
 use Rattle.receiver.specs.Receiving.{NoFault, HasRounds}
@@ -36,6 +39,10 @@ none_in_page : (n : ℕ) (b : List ℕ) → devices_in (page n b ∷ []) ≡ 0
 unfolding devices_in
 none_in_page n b = refl
 
+none_in_sector : (d n : ℕ) (o : Sector) → devices_in (sector d n o ∷ []) ≡ 0
+unfolding devices_in
+none_in_sector d n o = refl
+
 none_in_round : (n : ℕ) → devices_in (round_end n ∷ []) ≡ 0
 unfolding devices_in
 none_in_round n = refl
@@ -44,14 +51,17 @@ one_in_device : (d : ℕ) (b : List ℕ) → devices_in (device d b ∷ []) ≡ 
 unfolding devices_in
 one_in_device d b = refl
 
-entries_good : (pages : ℕ) (shapes : List Shape) (acc es : List Record) → AllByRecursion (IsEntry pages) es → AreNumbered (rounds acc + 1) es → devices_in acc ≡ 0 → AreGood pages shapes acc es
+entries_good : (pages : ℕ) (shapes : List Shape) (acc es : List Record) → AllByRecursion (IsEntry (layout_by pages shapes)) es → AreNumbered (rounds acc + 1) es → devices_in acc ≡ 0 → AreGood pages shapes acc es
 unfolding AreGood
 entries_good pages shapes acc [] h k none = tt
 entries_good pages shapes acc (page n b ∷ es) h k none = (
   record { spells = h.0.spells; may = (h.0.stands, none) },
   entries_good pages shapes (acc ++ page n b ∷ []) es h.1 (rw (rounds_page acc n b) k) (omega (arith, none, devices_in-append acc (page n b ∷ []), none_in_page n b)),
 )
-entries_good pages shapes acc (sector d n o ∷ es) h k none = absurd h.0.stands
+entries_good pages shapes acc (sector d n o ∷ es) h k none = (
+  record { spells = h.0.spells; may = (h.0.stands, none) },
+  entries_good pages shapes (acc ++ sector d n o ∷ []) es h.1 (rw (rounds_sector acc d n o) k) (omega (arith, none, devices_in-append acc (sector d n o ∷ []), none_in_sector d n o)),
+)
 entries_good pages shapes acc (round_end n ∷ es) h k none = (
   record { spells = h.0.spells; may = (k.0, none) },
   entries_good pages shapes (acc ++ round_end n ∷ []) es h.1 (rw (rounds_round acc n) k.1) (omega (arith, none, devices_in-append acc (round_end n ∷ []), none_in_round n)),
@@ -59,7 +69,7 @@ entries_good pages shapes acc (round_end n ∷ es) h k none = (
 entries_good pages shapes acc (device d b ∷ es) h k none = absurd h.0.stands
 entries_good pages shapes acc (commit b ∷ es) h k none = absurd h.0.stands
 
-devices_good : (pages k : ℕ) (shapes : List Shape) (acc : List Record) (ds : List DeviceState) → AreNamed pages acc → devices_in acc ≡ k → k + length ds ≤ 256 → drop k shapes ≡ shapes_in ds → AllByRecursion (IsSoundDevice (4096 * pages)) ds
+devices_good : (pages k : ℕ) (shapes : List Shape) (acc : List Record) (ds : List DeviceState) → AreNamed (layout_by pages shapes) acc → devices_in acc ≡ k → k + length ds ≤ 256 → drop k shapes ≡ shapes_in ds → AllByRecursion (IsSoundDevice (4096 * pages)) ds
     → AreGood pages shapes acc (device_records k ds)
 unfolding AreGood device_records
 devices_good pages k shapes acc [] named count low here h = tt
@@ -70,7 +80,7 @@ devices_good pages k shapes acc (d ∷ ds) named count low here h =
         may = record { named = named; next = sym count; shape = d.shape; others = shapes_in ds; here = here; state = d; is = record { shape_is = refl; sound = h.0; is = refl } };
       },
       devices_good pages (k + 1) shapes (acc ++ device k (body d) ∷ []) ds
-          (λ n lt. ap is_some (last-snoc n acc (device k (body d))) ∙ named n lt)
+          (λ item has. ap is_some (named-snoc item acc (device k (body d))) ∙ named item has)
           (omega (arith, count, devices_in-append acc (device k (body d) ∷ []), one_in_device k (body d))) (omega (arith, low)) after h.1,
     )
 
@@ -89,37 +99,38 @@ none_ended : rounds [] ≡ 0
 unfolding rounds
 none_ended = refl
 
-count_none : (pages : ℕ) (es : List Record) → AllByRecursion (IsEntry pages) es → devices_in (es ++ []) ≡ 0
+count_none : (l : Layout) (es : List Record) → AllByRecursion (IsEntry l) es → devices_in (es ++ []) ≡ 0
 unfolding device_records
-count_none pages es h = count_all pages 0 es [] h
+count_none l es h = count_all l 0 es [] h
 
 -- Where the good records of a stream end.
 record StreamFront (sizes bytes : List ℕ) (m : MachineState) (s : IsStream bytes m) : Type 0 where
   digest : List ℕ
-  front : IsFront sizes bytes s.pages (shapes_in m.devices) (s.entries ++ device_records 0 m.devices) (5 ∷ digest)
-  complete : IsComplete s.pages (length (shapes_in m.devices)) (s.entries ++ device_records 0 m.devices) 5
-  digest_is : digest ≡ sha256 (header s.pages (shapes_in m.devices) ++ texts (s.entries ++ device_records 0 m.devices))
+  front : IsFront sizes bytes (pages_of m) (shapes_in m.devices) (s.entries ++ device_records 0 m.devices) (5 ∷ digest)
+  complete : IsComplete (pages_of m) (shapes_in m.devices) (s.entries ++ device_records 0 m.devices) 5
+  digest_is : digest ≡ sha256 (header (pages_of m) (shapes_in m.devices) ++ texts (s.entries ++ device_records 0 m.devices))
 
 stream_front : (sizes bytes : List ℕ) (m : MachineState) (s : IsStream bytes m) → sizes ≡ disk_sizes (shapes_in m.devices) → StreamFront sizes bytes m s
 stream_front sizes bytes m s fits =
     let shapes = shapes_in m.devices in
     let devices = device_records 0 m.devices in
     let all = s.entries ++ devices in
-    let before_all = before_commit s.pages s.entries m.devices in
+    let before_all = before_commit (pages_of m) s.entries m.devices in
     let digest = sha256 before_all in
     let text : texts all ≡ texts s.entries ++ device_texts 0 m.devices = texts-append s.entries devices ∙ ap (λ (x : List ℕ). texts s.entries ++ x) (texts_devices 0 m.devices) in
-    let front : header s.pages shapes ++ texts all ≡ before_all = ap (λ (x : List ℕ). header s.pages shapes ++ x) text in
+    let front : header (pages_of m) shapes ++ texts all ≡ before_all = ap (λ (x : List ℕ). header (pages_of m) shapes ++ x) text in
     let b = stream_begins s.by in
-    let named : AreNamed s.pages s.entries = λ n lt. ap is_some (s.by.last n lt) in
-    let named_all : AreNamed s.pages all = λ n lt. ap is_some (last_entries n 0 s.entries m.devices) ∙ named n lt in
-    let sound : AllByRecursion (IsSoundDevice (4096 * s.pages)) m.devices = rw s.by.pages_are at (recursion_from_All (IsSoundDevice (length m.ram)) m.devices s.by.sound.devices) in
-    let goods : AreGood s.pages shapes [] s.entries = entries_good s.pages shapes [] s.entries s.by.each (rw none_ended s.by.numbered) none_yet in
+    let layout : layout_of m ≡ layout_by (pages_of m) shapes = sound_layout m s.by.sound in
+    let named : AreNamed (layout_by (pages_of m) shapes) s.entries = λ item has. ap is_some (s.by.last item (rw layout has)) in
+    let named_all : AreNamed (layout_by (pages_of m) shapes) all = λ item has. ap is_some (last_entries item 0 s.entries m.devices) ∙ named item has in
+    let sound : AllByRecursion (IsSoundDevice (4096 * (pages_of m))) m.devices = rw s.by.sound.whole_pages at (recursion_from_All (IsSoundDevice (length m.ram)) m.devices s.by.sound.devices) in
+    let goods : AreGood (pages_of m) shapes [] s.entries = entries_good (pages_of m) shapes [] s.entries (rw layout at s.by.each) (rw none_ended s.by.numbered) none_yet in
     let few : 0 + length m.devices ≤ 256 = omega (arith, s.by.sound.few_devices) in
-    let entries_count : devices_in s.entries ≡ 0 = ap devices_in (sym (append-nil s.entries)) ∙ count_none s.pages s.entries s.by.each in
-    let good : AreGood s.pages shapes [] all = good-append s.pages shapes [] s.entries devices goods (devices_good s.pages 0 shapes s.entries m.devices named entries_count few refl sound) in
-    let complete : IsComplete s.pages (length shapes) all 5 = record { items = named_all; devices = λ five. count_all s.pages 0 s.entries m.devices s.by.each ∙ sym (length_shapes m.devices) } in
-    let whole : bytes ≡ header s.pages shapes ++ (texts all ++ (5 ∷ digest)) =
-    s.by.whole ∙ ap (λ (x : List ℕ). before_all ++ x) (commit_text digest) ∙ ap (λ (x : List ℕ). x ++ (5 ∷ digest)) (sym front) ∙ append_assoc (header s.pages shapes) (texts all) (5 ∷ digest) in
+    let entries_count : devices_in s.entries ≡ 0 = ap devices_in (sym (append-nil s.entries)) ∙ count_none (layout_of m) s.entries s.by.each in
+    let good : AreGood (pages_of m) shapes [] all = good-append (pages_of m) shapes [] s.entries devices goods (devices_good (pages_of m) 0 shapes s.entries m.devices named entries_count few refl sound) in
+    let complete : IsComplete (pages_of m) shapes all 5 = record { items = named_all; devices = λ five. count_all (layout_of m) 0 s.entries m.devices s.by.each ∙ sym (length_shapes m.devices) } in
+    let whole : bytes ≡ header (pages_of m) shapes ++ (texts all ++ (5 ∷ digest)) =
+    s.by.whole ∙ ap (λ (x : List ℕ). before_all ++ x) (commit_text digest) ∙ ap (λ (x : List ℕ). x ++ (5 ∷ digest)) (sym front) ∙ append_assoc (header (pages_of m) shapes) (texts all) (5 ∷ digest) in
     record {
       digest = digest;
       front = record { begins = record { good = b.good; whole = whole }; fits = fits; good = good };
@@ -132,7 +143,7 @@ stream_quiet sizes bytes m s fits =
     let shapes = shapes_in m.devices in
     let all = s.entries ++ device_records 0 m.devices in
     let f = stream_front sizes bytes m s fits in
-    quiet_front sizes bytes s.pages shapes all (5 ∷ f.digest) f.front (λ r y g e. no_other s.pages shapes all f.digest r y g e) (end_quiet s.pages shapes all f.digest f.complete f.digest_is)
+    quiet_front sizes bytes (pages_of m) shapes all (5 ∷ f.digest) f.front (λ r y g e. no_other (pages_of m) shapes all f.digest r y g e) (end_quiet (pages_of m) shapes all f.digest f.complete f.digest_is)
 
 rounds_entries : (es : List Record) (ds : List DeviceState) → rounds (es ++ device_records 0 ds) ≡ rounds es
 unfolding rounds
@@ -148,4 +159,4 @@ stream_rounds sizes bytes m n s fits h =
     let shapes = shapes_in m.devices in
     let all = s.entries ++ device_records 0 m.devices in
     let f = stream_front sizes bytes m s fits in
-    sym (h.some s.pages shapes all (5 ∷ f.digest) f.front (λ r y g e. no_other s.pages shapes all f.digest r y g e) ∙ rounds_entries s.entries m.devices)
+    sym (h.some (pages_of m) shapes all (5 ∷ f.digest) f.front (λ r y g e. no_other (pages_of m) shapes all f.digest r y g e) ∙ rounds_entries s.entries m.devices)

@@ -8,9 +8,12 @@ use Rattle.wire.specs.Header.{header, spelled_shapes, IsHeader, Begins}
 use Rattle.wire.specs.Numbers.{digits}
 use Rattle.wire.specs.Records.{Record, device, spelled_record, HasSpelling}
 use Rattle.wire.specs.Stream.{rounds, texts}
+use Rattle.guestmem.specs.Item as items
+use Rattle.machine.specs.Layout.{IsItemIn, layout_by}
+use Rattle.machine.specs.Shapes.{disk_sizes}
 use Rattle.machine.specs.State.{DeviceState}
 use Rattle.machine.specs.declared.shape.Shape.{Shape}
-use Rattle.receiver.specs.Good.{AreGood, AreNamed, devices_in, disk_sizes, sectors_at}
+use Rattle.receiver.specs.Good.{AreGood, AreNamed, devices_in}
 use Rattle.receiver.specs.declared.recv_error.RecvError.{RecvError}
 use Rattle.receiver.specs.declared.recv_error.RecvError.TheVariants.{BadMagic, BadVersion, BadShape, ShapeMismatch, BadTag, BadPage, BadSector, BadRound, BadDevice, BadDigest, Missing, Trailing}
 
@@ -23,15 +26,15 @@ pub record MayTag (count devices tag : ℕ) : Type 0 where
   pub missing : tag ≡ 4 → devices < count
 
 -- What has to be there before a device (tag 4) or the digest (tag 5): each item, and before the digest each device.
-pub record IsComplete (pages count : ℕ) (before : List Record) (tag : ℕ) : Type 0 where
-  pub items : AreNamed pages before
-  pub devices : tag ≡ 5 → devices_in before ≡ count
+pub record IsComplete (pages : ℕ) (shapes : List Shape) (before : List Record) (tag : ℕ) : Type 0 where
+  pub items : AreNamed (layout_by pages shapes) before
+  pub devices : tag ≡ 5 → devices_in before ≡ length shapes
 
 -- The bytes begin with a tag, and a record of this tag may stand here.
 pub record Opens (pages : ℕ) (shapes : List Shape) (before : List Record) (tail : List ℕ) (tag : ℕ) (more : List ℕ) : Type 0 where
   pub whole : tail ≡ tag ∷ more
   pub may : MayTag (length shapes) (devices_in before) tag
-  pub complete : 4 ≤ tag → IsComplete pages (length shapes) before tag
+  pub complete : 4 ≤ tag → IsComplete pages shapes before tag
 
 -- 5, told at the tag.
 pub record IsBadTag (shapes : List Shape) (before : List Record) (tail : List ℕ) (place : ℕ) : Type 0 where
@@ -48,7 +51,7 @@ pub record IsMissing (pages : ℕ) (shapes : List Shape) (before : List Record) 
   pub whole : tail ≡ tag ∷ more
   pub may : MayTag (length shapes) (devices_in before) tag
   pub late : 4 ≤ tag
-  pub never : ¬ (IsComplete pages (length shapes) before tag)
+  pub never : ¬ (IsComplete pages shapes before tag)
   pub there : place ≡ 1
 
 -- 6, told at the number's end.
@@ -68,7 +71,7 @@ pub record IsBadSector (pages : ℕ) (shapes : List Shape) (before : List Record
   pub more : List ℕ
   pub opens : Opens pages shapes before tail 2 (disk ∷ (digits 4 number ++ (mark ∷ more)))
   pub fits : number < 2 ^ 32
-  pub never : ¬ ((number < sectors_at shapes disk) × (mark ≤ 1))
+  pub never : ¬ (IsItemIn (layout_by pages shapes) (items.sector disk number) × (mark ≤ 1))
   pub there : place ≡ 7
 
 -- 8, told at the number's end.

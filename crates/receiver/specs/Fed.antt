@@ -6,11 +6,14 @@ use Rattle.wire.specs.DeviceBody.{body}
 use Rattle.wire.specs.Header.{header, IsHeader}
 use Rattle.wire.specs.Records.{Record, device, commit, spelled_record, BeginsNoRecord}
 use Rattle.wire.specs.Stream.{IsEntry, AreNumbered, rounds, shapes_in, texts}
-use Rattle.wire.specs.Taken.{AreTaken}
+use Rattle.machine.specs.First.{dealt_sectors}
+use Rattle.machine.specs.Layout.{layout_by}
+use Rattle.machine.specs.Shapes.{disk_sizes}
 use Rattle.machine.specs.Sound.{IsSoundDevice}
 use Rattle.machine.specs.State.{DeviceState}
 use Rattle.machine.specs.declared.shape.Shape.{Shape}
-use Rattle.receiver.specs.Good.{AreGood, disk_sizes}
+use Rattle.receiver.specs.Good.{AreGood}
+use Rattle.receiver.specs.Taken.{AreTaken}
 use Rattle.receiver.specs.Faults.{MayTag, IsComplete, Opens, IsFault, IsFront, Fault}
 use Rattle.receiver.specs.declared.intake.Intake.{Intake}
 use Rattle.receiver.specs.declared.part.Part.{Part}
@@ -32,10 +35,10 @@ pub record HasRead (sizes : List ℕ) (pages : ℕ) (shapes : List Shape) (befor
   pub shapes_are : i.shapes.items ≡ shapes
   pub entries : List Record
   pub split : before ≡ entries ++ device_records 0 i.devices.items
-  pub each : AllByRecursion (IsEntry pages) entries
+  pub each : AllByRecursion (IsEntry (layout_by pages shapes)) entries
   pub numbered : AreNumbered 1 entries
   pub rounds_are : i.rounds ≡ rounds before
-  pub taken : AreTaken i.ram.bytes i.named.items pages before
+  pub taken : AreTaken i.ram.bytes (dealt_sectors shapes []) i.named.items (layout_by pages shapes) before
   pub devices_are : shapes_in i.devices.items ≡ take (length i.devices.items) shapes
   pub sound : AllByRecursion (IsSoundDevice (4096 * pages)) i.devices.items
 
@@ -87,7 +90,7 @@ pub record IsEnded (sizes : List ℕ) (pages : ℕ) (shapes : List Shape) (i : I
   pub before : List Record
   pub front : List ℕ
   pub read : HasRead sizes pages shapes before i front
-  pub complete : IsComplete pages (length shapes) before 5
+  pub complete : IsComplete pages shapes before 5
   pub whole : bytes ≡ front ++ spelled_record (commit (sha256 front))
 
 abbrev pub Worked : List ℕ → ℕ → List Shape → Intake → List ℕ → Result (ℕ × Bool) RecvError → Type 0

@@ -2,7 +2,7 @@
 use Rattle.std.specs.Prelude.{◌≡◌, ◌≤◌, ℕ, List, ◌++◌, length}
 use Rattle.wire.specs.Stream.{IsStream, rounds, shapes_in}
 use Rattle.machine.specs.State.{MachineState}
-use Rattle.receiver.specs.Good.{disk_sizes}
+use Rattle.machine.specs.Shapes.{disk_sizes}
 use Rattle.receiver.specs.Receiving.{NoFault, HasRounds}
 use Rattle.receiver.specs.Faults.{Fault}
 use Rattle.receiver.specs.declared.recv_error.RecvError.{RecvError}

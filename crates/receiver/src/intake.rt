@@ -2,8 +2,7 @@
 
 ghost use Rattle.std.specs.Prelude.{◌≡◌, ◌++◌, ◌+◌, ◌≤◌, ◌<◌, ◌*◌, ◌∷◌, ◌↔◌, [], ℕ, List, All, IsTrue, IfOk, take, drop, length, slice_index_or, true};
 ghost use Rattle.wire.specs.Records as records;
-ghost use Rattle.wire.specs.Records.{page};
-ghost use Rattle.wire.specs.Stream.{IsEntry};
+ghost use Rattle.wire.specs.Records.{page, HasSpelling};
 ghost use Rattle.machine.specs.declared.shape.Shape as shapes;
 ghost use Rattle.receiver.specs.Faults.{MayTag, Opens};
 ghost use Rattle.receiver.specs.Fed.{HasRead, Checked, After, Worked, size_of, IsLong};
@@ -71,7 +70,7 @@ fn check_tag(intake: &Intake, tag: u8) -> Result<(), RecvError>
 fn take_page(intake: &mut Intake, number: u32, bytes: &[u8])
     requires within { 4096 * number + 4096 ≤ length intake.old.ram.bytes }
     requires marked { number < length intake.old.named.items }
-    requires entry { IsEntry (length intake.old.named.items) (page number bytes.now) }
+    requires spells { HasSpelling (page number bytes.now) }
     ensures { (sizes front : List ℕ) (pages : ℕ) (shapes : List shapes.Shape) (before : List records.Record) → HasRead sizes pages shapes before intake.old front → devices_in before ≡ 0 → HasRead sizes pages shapes (before ++ page number bytes.now ∷ []) intake.new (front ++ spelled_record (page number bytes.now)) }
 {
     intake

@@ -1,13 +1,13 @@
 //! A receiver that is fed a stream in pieces.
 
 ghost use Rattle.std.specs.Prelude.{◌≡◌};
-ghost use Rattle.guestmem.specs.Number.{IsBytes};
 ghost use Rattle.receiver.specs.Receiving.{has_failed, rounds_in};
 
 use crate::intake::Intake;
 use crate::recv_error::RecvError;
 use crate::stage::Stage;
 use crate::stepping::step;
+use guestmem::recall_bytes;
 use machine::{Disk, Machine};
 use std::alloc::Global;
 use std::marker::Model;
@@ -102,7 +102,7 @@ impl<D: Disk + Drop> Receiver<D> {
             at: _,
             stage,
         } = self;
-        let _len = bytes_in(&held);
+        recall_bytes(&held);
         match stage {
             Stage::Ended(intake) => {
                 let Intake {
@@ -112,7 +112,7 @@ impl<D: Disk + Drop> Receiver<D> {
                     rounds: _,
                     devices,
                 } = intake;
-                let _len = ram.len();
+                ram.recall();
                 match Machine::restore(alloc, ram, shapes, devices, disks) {
                     Ok(machine) => Ok(machine),
                     Err(_) => Err(RecvError::NoMemory),
@@ -144,11 +144,4 @@ fn is_failed(stage: &Stage) -> bool
         Stage::Failed => true,
         _ => false,
     }
-}
-
-/// How many bytes there are, each below 256.
-fn bytes_in(held: &[u8]) -> usize
-    ensures { IsBytes held.now }
-{
-    held.len()
 }

@@ -4,7 +4,7 @@ ghost use Rattle.std.specs.Prelude.{◌≡◌, ◌≤◌, ◌++◌, [], ℕ, Lis
 ghost use Rattle.wire.specs.Header.{header, Begins};
 ghost use Rattle.wire.specs.Records as records;
 ghost use Rattle.machine.specs.declared.shape.Shape as shapes;
-ghost use Rattle.receiver.specs.Good.{disk_sizes};
+ghost use Rattle.machine.specs.Shapes.{disk_sizes};
 ghost use Rattle.receiver.specs.Fed.{HasRead};
 ghost use Rattle.receiver.specs.Receiving.{IsKnown, GoesOn, Stepped, sizes_of};
 

@@ -1,8 +1,10 @@
 -- Numbers of given widths and their bytes, in both directions.
 use Rattle.std.proofs.Common.{◌≡◌, ℕ, zero, suc, ◌+◌, ◌^◌, ◌<◌, ◌≤◌, Bool, true, false, nat_eq, List, [], ◌∷◌, ◌++◌, length, take, drop, refl, sym, ap, ◌∙◌, append_assoc, drop-drop, arith}
-use Rattle.std.proofs.lemmas.List.{append-nil, length-append, length-take, length-drop, drop_at}
+use Rattle.std.proofs.lemmas.List.{append-nil, length-append, length-take, length-drop, drop_at, drop-append-le}
+use Rattle.std.proofs.Math.ListN.{get_or-append}
 use Rattle.std.proofs.Math.Seq.{take-add}
-use Rattle.byteorder.specs.Endian.{little_from}
+use Rattle.std.specs.Prelude.{slice_index}
+use Rattle.byteorder.specs.Endian.{little_from, little_number}
 use Rattle.byteorder.specs.Numbers.{little_from-cons, little_from-take, little_number-reads_back, little_from-lt, length-bytes_low_first}
 use Rattle.guestmem.specs.ByteLaws.{IsBytes-drop, IsBytes-take, IsBytes-low_first}
 use Rattle.guestmem.specs.Number.{number_at, IsBytes}
@@ -120,3 +122,16 @@ pub IsBytes-spelled : (ws ns : List ℕ) → Fit ws ns → IsBytes (spelled ws n
 IsBytes-spelled [] ns fits i = omega arith
 IsBytes-spelled (w ∷ ws) [] fits i = absurd fits
 IsBytes-spelled (w ∷ ws) (n ∷ ns) fits i = IsBytes-append (digits w n) (spelled ws ns) (IsBytes-digits w n fits.0) (IsBytes-spelled ws ns fits.1) i
+
+-- A number in a beginning of bytes is the same in all of them.
+little_from-append : (i n : ℕ) (b c : List ℕ) → i + n ≤ length b → little_from i n (b ++ c) ≡ little_from i n b
+little_from-append i zero b c le = refl
+little_from-append i (suc n) b c le =
+    let first : slice_index (b ++ c) i ≡ slice_index b i = get_or-append b c 0 i (omega (arith, le)) in
+    let others : little_from (suc i) n (b ++ c) ≡ little_from (suc i) n b = little_from-append (suc i) n b c (omega (arith, le)) in
+    rw (first, others) refl
+
+pub number_at-append : (at w : ℕ) (b c : List ℕ) → at + w ≤ length b → number_at (b ++ c) at w ≡ number_at b at w
+unfolding number_at
+number_at-append at w b c le =
+    ap (little_number w) (drop-append-le at b c (omega (arith, le))) ∙ little_from-append 0 w (drop at b) c (omega (arith, le, length-drop at b))

@@ -31,7 +31,7 @@ each-snoc l [] r h k = (k, tt)
 each-snoc l (q ∷ rs) r h k = (h.0, each-snoc l rs r h.1 k)
 
 -- The record of an item changes no number of a round.
-numbered_page : (k : ℕ) (rs : List Record) (n : ℕ) (b : List ℕ) → AreNumbered k rs → AreNumbered k (rs ++ page n b ∷ [])
+pub numbered_page : (k : ℕ) (rs : List Record) (n : ℕ) (b : List ℕ) → AreNumbered k rs → AreNumbered k (rs ++ page n b ∷ [])
 numbered_page k [] n b h = tt
 numbered_page k (page i c ∷ rs) n b h = numbered_page k rs n b h
 numbered_page k (sector d i o ∷ rs) n b h = numbered_page k rs n b h

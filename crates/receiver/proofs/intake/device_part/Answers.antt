@@ -1,7 +1,7 @@
 use Rattle.std.proofs.Common.{arith, rules, refl, ◌≡◌, ◌≤◌, ◌∷◌, ◌++◌, ◌+◌, ◌*◌, [], take, drop, get_or, length, sym, ◌∙◌, ap, inl}
 use Rattle.wire.specs.Records.{device}
 use Rattle.wire.proofs.Decoding.{device_begins}
-use Rattle.wire.proofs.Devices.{later_shapes}
+use Rattle.receiver.proofs.Lists.{later_shapes}
 use Rattle.receiver.proofs.Quiet.{device_waits_short, device_waits, bad_head, bad_body, taken_bytes}
 use Rattle.receiver.proofs.Steps.{devices_are, more_device}
 use Rattle.receiver.proofs.intake.device_part.Goals as goal
@@ -36,7 +36,7 @@ returns-in-Ok-push-clause-after c = λ sizes front pages shapes before h o.
     let begins = device_begins c.args.rest.now c.split_at-2.result.0.now n c.u32_at-len.result (λ i. omega (arith, c.type_inv.rest i)) (omega arith) c.u8_at-number.ensures c.u32_at-len.ensures room body in
     let found : shape ≡ get_or c.args.intake.now.shapes.items n shape = rw c.deref.ensures.value at c.nth-shape.ensures in
     let here : drop n shapes ≡ shape ∷ drop (n + 1) shapes = rw h.shapes_are at (later_shapes c.args.intake.now.shapes.items n shape (omega arith) found) in
-    let size : c.len-ram_len.result ≡ 4096 * pages = c.len-ram_len.ensures.len ∙ h.taken.ram_size in
+    let size : c.len-ram_len.result ≡ 4096 * pages = c.len-ram_len.ensures ∙ h.taken.ram_size in
     let is = rw size at c.in-Ok.ensures.read in
     let more : c.push.new.self.items ≡ c.args.intake.now.devices.items ++ c.in-Ok.state ∷ [] = search rules in (
       device n c.split_at-2.result.0.now,
@@ -53,7 +53,7 @@ returns-in-Err-BadBody-clause-after c = λ sizes front pages shapes before h o.
     let room : c.u32_at-len.result ≤ length (drop 5 c.args.rest.now) = rw (← after) (omega arith) in
     let found : shape ≡ get_or c.args.intake.now.shapes.items n shape = rw c.deref.ensures.value at c.nth-shape.ensures in
     let here : drop n shapes ≡ shape ∷ drop (n + 1) shapes = rw h.shapes_are at (later_shapes c.args.intake.now.shapes.items n shape (omega arith) found) in
-    let size : c.len-ram_len.result ≡ 4096 * pages = c.len-ram_len.ensures.len ∙ h.taken.ram_size in
+    let size : c.len-ram_len.result ≡ 4096 * pages = c.len-ram_len.ensures ∙ h.taken.ram_size in
     let never = rw size at (rw c.in-Err-BadBody.field-0-is at c.in-Err-BadBody.ensures.refused) in
     bad_body pages shapes (drop (n + 1) shapes) shape before c.args.rest.now c.split_at-2.result.0.now n c.u32_at-len.result (λ i. omega (arith, c.type_inv.rest i)) (omega arith) c.u8_at-number.ensures c.u32_at-len.ensures room body
     (omega (arith, devices_are h)) (omega arith) here never o

@@ -2,6 +2,7 @@ use Rattle.std.proofs.Common.{arith, rules, ◌≡◌, take, drop}
 use Rattle.wire.specs.Records.{page}
 use Rattle.wire.proofs.Decoding.{page_begins}
 use Rattle.receiver.proofs.Quiet.{page_waits_short, page_waits, bad_page, taken_bytes}
+use Rattle.receiver.proofs.Stages.{only_pages}
 use Rattle.receiver.proofs.intake.page_part.Goals as goal
 
 pub returns-then-rest-lt4-clause-after : goal.returns-then-rest-lt4-clause-after
@@ -9,11 +10,15 @@ returns-then-rest-lt4-clause-after c = λ sizes front pages shapes before h o. (
 
 pub returns-then-number-len-clause-after : goal.returns-then-number-len-clause-after
 returns-then-number-len-clause-after c = λ sizes front pages shapes before h o.
-    bad_page pages shapes before c.args.rest.now c.u32_at-number.result (λ i. omega (arith, c.type_inv.rest i)) (omega arith) c.u32_at-number.ensures (omega (arith, h.taken.ram_size, c.len.ensures.len)) o
+    bad_page pages shapes before c.args.rest.now c.u32_at-number.result (λ i. omega (arith, c.type_inv.rest i)) (omega arith) c.u32_at-number.ensures (omega (arith, h.taken.ram_size, c.len.ensures)) o
+
+pub returns-then-number-len-2-clause-after : goal.returns-then-number-len-2-clause-after
+returns-then-number-len-2-clause-after c = λ sizes front pages shapes before h o.
+    bad_page pages shapes before c.args.rest.now c.u32_at-number.result (λ i. omega (arith, c.type_inv.rest i)) (omega arith) c.u32_at-number.ensures (omega (arith, h.taken.named_size, only_pages pages shapes)) o
 
 pub returns-then-rest-clause-after : goal.returns-then-rest-clause-after
 returns-then-rest-clause-after c = λ sizes front pages shapes before h o.
-    (h, page_waits pages shapes before c.args.rest.now c.u32_at-number.result (omega arith) c.u32_at-number.ensures (omega (arith, h.taken.named_size)) o)
+    (h, page_waits pages shapes before c.args.rest.now c.u32_at-number.result (omega arith) c.u32_at-number.ensures (omega (arith, h.taken.named_size, only_pages pages shapes)) o)
 
 pub returns-clause-after : goal.returns-clause-after
 returns-clause-after c = λ sizes front pages shapes before h o.

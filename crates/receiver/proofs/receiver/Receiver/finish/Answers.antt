@@ -11,7 +11,7 @@ pub restore-requires-clause-sound : goal.restore-requires-clause-sound
 restore-requires-clause-sound g c =
     let known : IsKnown (sizes_of g.D.Disk.state c.self.inside.disks.items) c.self.inside.held.items c.self.inside.at c.self.inside.stage = c.self.invariant in
     let h : HasCome (sizes_of g.D.Disk.state c.self.inside.disks.items) c.self.inside.held.items c.self.inside.at c.in-Ended.intake = rw c.in-Ended.is at known in
-    read_sound h.ended.read (h.ended.complete.devices refl) c.len-len.ensures.bytes
+    rw (no_disks_left g.D.Disk.state c.self.inside.disks.items h.shapes h.ended.read.fits) (read_sound h.ended.read (h.ended.complete.devices refl) c.recall.ensures.bytes)
 
 pub restore-requires-clause-shapes : goal.restore-requires-clause-shapes
 restore-requires-clause-shapes g c =
@@ -19,23 +19,18 @@ restore-requires-clause-shapes g c =
     let h : HasCome (sizes_of g.D.Disk.state c.self.inside.disks.items) c.self.inside.held.items c.self.inside.at c.in-Ended.intake = rw c.in-Ended.is at known in
     h.ended.read.shapes_are ∙ sym (whole_shapes h.ended.read (h.ended.complete.devices refl))
 
-pub restore-requires-clause-no_disks : goal.restore-requires-clause-no_disks
-restore-requires-clause-no_disks g c =
-    let known : IsKnown (sizes_of g.D.Disk.state c.self.inside.disks.items) c.self.inside.held.items c.self.inside.at c.self.inside.stage = c.self.invariant in
-    let h : HasCome (sizes_of g.D.Disk.state c.self.inside.disks.items) c.self.inside.held.items c.self.inside.at c.in-Ended.intake = rw c.in-Ended.is at known in
-    no_disks_left g.D.Disk.state c.self.inside.disks.items h.shapes h.ended.read.fits
-
 pub returns-in-Ok-clause-received : goal.returns-in-Ok-clause-received
 returns-in-Ok-clause-received g c = λ b f.
     let known : IsKnown (sizes_of g.D.Disk.state c.self.inside.disks.items) c.self.inside.held.items c.self.inside.at c.self.inside.stage = c.self.invariant in
     let h : HasCome (sizes_of g.D.Disk.state c.self.inside.disks.items) c.self.inside.held.items c.self.inside.at c.in-Ended.intake = rw c.in-Ended.is at known in
     let bytes : c.self.inside.held.items ≡ b = ap (λ (v : Received). v.bytes) c.self.view_is ∙ f.fed in
-    rw (c.in-Ok.ensures, ← bytes) (whole_stream _ c.self.inside.held.items h.pages h.shapes c.in-Ended.intake h.ended c.len-len.ensures.bytes)
+    rw (c.in-Ok.ensures.restored, no_disks_left g.D.Disk.state c.self.inside.disks.items h.shapes h.ended.read.fits, ← bytes)
+    (whole_stream _ c.self.inside.held.items h.pages h.shapes c.in-Ended.intake h.ended c.recall.ensures.bytes)
 
 pub returns-in-Records-clause-refused : goal.returns-in-Records-clause-refused
 returns-in-Records-clause-refused g c = λ b f m s.
     let known : IsKnown (sizes_of g.D.Disk.state c.self.inside.disks.items) c.self.inside.held.items c.self.inside.at c.self.inside.stage = c.self.invariant in
     let h : IsReading (sizes_of g.D.Disk.state c.self.inside.disks.items) c.self.inside.held.items c.self.inside.at c.in-Records.field-0 = rw c.in-Records.is at known in
     let bytes : c.self.inside.held.items ≡ b = ap (λ (v : Received). v.bytes) c.self.view_is ∙ f.fed in
-    let are = rw c.deref.ensures.value at c.bytes_in-len.ensures in
+    let are = rw c.deref.ensures.value at c.recall_bytes.ensures in
     no_stream_reading _ c.self.inside.held.items c.self.inside.at c.in-Records.field-0 m are h (rw bytes s)
