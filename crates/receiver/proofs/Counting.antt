@@ -1,17 +1,15 @@
 -- The rounds that ended in what was read, and what a slice is refused for.
-use Rattle.std.proofs.Common.{◌≡◌, ◌≢◌, ℕ, ◌+◌, ◌<◌, ◌≤◌, ◌⊎◌, inl, inr, Bool, true, false, List, [], ◌∷◌, ◌++◌, length, take, drop, refl, sym, ap, subst, ◌∙◌, append_assoc, append-nil, arith}
+use Rattle.std.proofs.Common.{◌≡◌, ℕ, ◌<◌, ◌⊎◌, inl, inr, true, false, List, [], ◌∷◌, ◌++◌, drop, refl, sym, ap, ◌∙◌, append_assoc, append-nil}
 use Rattle.std.proofs.lemmas.List.{take-append-drop}
 use Rattle.sha2.specs.Sha256.{sha256}
-use Rattle.wire.specs.Header.{header, Begins}
 use Rattle.wire.specs.Records.{Record, spelled_record}
-use Rattle.wire.specs.Stream.{IsStream, texts, rounds}
-use Rattle.machine.specs.State.{MachineState}
+use Rattle.wire.specs.Stream.{texts, rounds}
 use Rattle.machine.specs.declared.shape.Shape.{Shape}
 use Rattle.wire.proofs.HeaderLemmas.{header_of-spelled}
 use Rattle.wire.proofs.Unique.{alike}
-use Rattle.receiver.specs.Good.{AreGood, Follows}
+use Rattle.receiver.specs.Good.{AreGood}
 use Rattle.receiver.specs.Faults.{IsFront, Fault}
-use Rattle.receiver.specs.Receiving.{IsKnown, GoesOn, IsFinish, HasRounds, NoNext, NoFault, RefusesSlice, TellsFault, TellsNow, rounds_in, has_failed}
+use Rattle.receiver.specs.Receiving.{IsKnown, IsFinish, HasRounds, NoNext, NoFault, RefusesSlice, TellsFault, TellsNow, rounds_in, has_failed}
 use Rattle.receiver.specs.declared.stage.Stage.{Stage}
 use Rattle.receiver.specs.declared.stage.Stage.TheVariants as stages
 use Rattle.receiver.specs.declared.recv_error.RecvError.{RecvError}

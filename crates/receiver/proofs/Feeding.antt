@@ -1,24 +1,19 @@
 -- A piece more, and the end.
-use Rattle.std.proofs.Common.{◌≡◌, ◌≢◌, ℕ, ◌+◌, ◌<◌, ◌≤◌, ◌⊎◌, inl, inr, Bool, true, false, List, [], ◌∷◌, ◌++◌, length, map, refl, sym, ap, subst, ◌∙◌, arith}
+use Rattle.std.proofs.Common.{◌≡◌, ℕ, ◌<◌, ◌≤◌, ◌⊎◌, inl, inr, Bool, true, false, List, [], ◌++◌, length, refl, sym, ap, ◌∙◌, arith}
 use Rattle.std.proofs.lemmas.Bool.{cases_lt}
 use Rattle.std.proofs.lemmas.List.{length-append, length-map}
-use Rattle.guestmem.specs.Number.{IsBytes}
-use Rattle.wire.specs.Stream.{IsStream}
 use Rattle.machine.specs.Disk.{DiskState}
-use Rattle.machine.specs.State.{MachineState}
 use Rattle.machine.specs.declared.shape.Shape.{Shape}
 use Rattle.receiver.proofs.Lists.{empty}
 use Rattle.machine.specs.Shapes.{disk_sizes}
 use Rattle.receiver.specs.Faults.{Fault}
-use Rattle.receiver.specs.Fed.{Tells}
-use Rattle.receiver.specs.Receiving.{sizes_of, IsKnown, GoesOn, HasCome, IsReading, NoFault, TellsFault, TellsNow, Received, HasBeenFed, has_failed}
+use Rattle.receiver.specs.Receiving.{sizes_of, IsKnown, GoesOn, NoFault, TellsFault, TellsNow, has_failed}
 use Rattle.receiver.specs.declared.stage.Stage.{Stage}
 use Rattle.receiver.specs.declared.stage.Stage.TheVariants as stages
 use Rattle.receiver.specs.declared.recv_error.RecvError.{RecvError}
-use Rattle.receiver.proofs.Knowing.{place_within, no_fault_known, whole_stream}
+use Rattle.receiver.proofs.Knowing.{place_within, no_fault_known}
 use Rattle.receiver.proofs.Prefixes.{holds}
 use Rattle.receiver.proofs.Stages.{no_disk}
-use Rattle.receiver.proofs.Streams.{no_stream_head, no_stream_reading}
 use Rattle.receiver.proofs.Working.{tells_more}
 
 pub goes_on_of : (stage : Stage) → has_failed stage ≡ false → GoesOn stage

@@ -1,19 +1,19 @@
 -- Headers as far as they came.
-use Rattle.std.proofs.Common.{◌≡◌, ◌≢◌, ℕ, ◌+◌, ◌-◌, ◌<◌, ◌≤◌, ◌⊎◌, inl, inr, List, [], ◌∷◌, ◌++◌, length, take, drop, get_or, Option, Some, None, refl, sym, ap, subst, ◌∙◌, append_assoc, append-nil, arith}
-use Rattle.std.proofs.lemmas.List.{take-append-drop, length-append, length-drop, drop_at}
-use Rattle.guestmem.specs.Number.{number_at, IsBytes}
-use Rattle.wire.specs.Header.{front, header, spelled_shape, spelled_shapes, IsHeader, Begins}
+use Rattle.std.proofs.Common.{◌≡◌, ◌≢◌, ℕ, ◌+◌, ◌<◌, ◌≤◌, ◌⊎◌, inl, inr, List, [], ◌∷◌, ◌++◌, length, drop, get_or, Option, Some, refl, sym, ap, subst, ◌∙◌, append_assoc, append-nil, arith}
+use Rattle.std.proofs.lemmas.List.{take-append-drop, length-append, drop_at}
+use Rattle.guestmem.specs.Number.{IsBytes}
+use Rattle.wire.specs.Header.{front, spelled_shape, spelled_shapes, Begins}
 use Rattle.wire.specs.Numbers.{spelled, Fit}
 use Rattle.machine.specs.declared.shape.Shape.{Shape}
 use Rattle.machine.specs.declared.shape.Shape.TheVariants.{Entropy}
 use Rattle.wire.specs.ShapeReading.{shape_of}
 use Rattle.wire.proofs.Choices.{same_found}
 use Rattle.wire.proofs.Digits.{spelled-numbers, numbers-spelled, length-spelled}
-use Rattle.wire.proofs.HeaderLemmas.{shape_of-spelled, header_of-spelled}
-use Rattle.wire.proofs.Spelling.{head_same, tail_same}
+use Rattle.wire.proofs.HeaderLemmas.{shape_of-spelled}
+use Rattle.wire.proofs.Spelling.{head_same}
 use Rattle.wire.proofs.Unique.{cons_same}
 use Rattle.machine.specs.Shapes.{disk_sizes}
-use Rattle.receiver.specs.Faults.{MayCount, IsBadMagic, IsBadVersion, Says, IsBadCount, IsNoShape, IsBadShape, IsMismatch, IsHeaderFault}
+use Rattle.receiver.specs.Faults.{MayCount, IsBadMagic, IsBadVersion, Says, IsBadCount, IsNoShape, IsBadShape, IsHeaderFault}
 use Rattle.receiver.specs.Heading.{ShapeWaits, BadFirst, FewShapes, ShapesWait, ShapesBad, ShapesRead, WaitsHead, OnBad}
 use Rattle.receiver.specs.Fed.{Tells}
 use Rattle.receiver.specs.declared.recv_error.RecvError.{RecvError}

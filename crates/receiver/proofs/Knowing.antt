@@ -1,39 +1,36 @@
 -- What a receiver knows of its bytes.
-use Rattle.std.proofs.Common.{◌≡◌, ◌≢◌, ℕ, ◌+◌, ◌-◌, ◌*◌, ◌/◌, ◌<◌, ◌≤◌, ◌⊎◌, inl, inr, Some, None, Option, Bool, true, false, List, [], ◌∷◌, ◌++◌, length, take, drop, map, get_or, refl, sym, ap, subst, ◌∙◌, append_assoc, append-nil, arith}
-use Rattle.std.specs.Prelude.{is_some, All}
-use Rattle.std.proofs.lemmas.List.{length-append, length-drop, length-map, length-take, take-append-drop}
-use Rattle.std.proofs.lemmas.List.Elements.{All-from_recursion, All-map}
-use Rattle.std.specs.List.{AllByRecursion}
+use Rattle.std.proofs.Common.{◌≡◌, ℕ, ◌+◌, ◌/◌, ◌≤◌, ◌⊎◌, inl, inr, Some, None, Option, Bool, true, false, List, [], ◌∷◌, ◌++◌, length, drop, get_or, refl, sym, ap, ◌∙◌, append_assoc, append-nil, arith}
+use Rattle.std.specs.Prelude.{is_some}
+use Rattle.std.proofs.lemmas.List.{length-append, take-append-drop}
+use Rattle.std.proofs.lemmas.List.Elements.{All-from_recursion}
 use Rattle.sha2.specs.Sha256.{sha256}
 use Rattle.sha2.proofs.Facts256.{length-sha256}
 use Rattle.guestmem.specs.Number.{IsBytes}
 use Rattle.wire.specs.DeviceBody.{body}
-use Rattle.wire.specs.Header.{header, Begins}
-use Rattle.wire.specs.Records.{Record, page, sector, round_end, device, commit, spelled_record, HasSpelling}
-use Rattle.wire.specs.Stream.{IsStream, IsStreamBy, IsEntry, texts, rounds, shapes_in, device_texts, before_commit, last_named, record_in}
+use Rattle.wire.specs.Header.{header}
+use Rattle.wire.specs.Records.{Record, page, sector, round_end, device, commit, spelled_record}
+use Rattle.wire.specs.Stream.{IsStream, texts, rounds, shapes_in, device_texts, before_commit, last_named, record_in}
 use Rattle.receiver.specs.Taken.{shown}
 use Rattle.guestmem.specs.Item.{Item}
 use Rattle.machine.specs.First.{dealt_sectors, saved_machine}
 use Rattle.machine.specs.Layout.{IsItemIn, layout_by, layout_of, number_of, pages_of}
 use Rattle.machine.specs.Sound.{IsSound, IsSoundDevice}
-use Rattle.machine.specs.State.{DeviceState, MachineState, Sector}
+use Rattle.machine.specs.State.{DeviceState, MachineState}
 use Rattle.machine.specs.declared.shape.Shape.{Shape}
 use Rattle.machine.proofs.Fresh.{dealt_sizes, dealt_whole}
 use Rattle.machine.proofs.Numbering.{sound_layout}
 use Rattle.receiver.proofs.Lists.{take_all}
-use Rattle.wire.proofs.Spelling.{head_same, tail_same, split_same}
-use Rattle.wire.proofs.Unique.{after_header, body_spells, length_shapes, stream_begins, alike}
-use Rattle.wire.proofs.HeaderLemmas.{header_of-spelled}
-use Rattle.receiver.specs.Good.{AreGood, AreNamed, Follows, devices_in}
-use Rattle.receiver.specs.Faults.{MayTag, IsComplete, Opens, IsBadDigest, IsTrailing, IsFault, IsFront, IsRecordFault, Fault}
-use Rattle.receiver.specs.Fed.{HasRead, IsOpen, IsEnded, device_records, Waits}
+use Rattle.wire.proofs.Spelling.{tail_same, split_same}
+use Rattle.receiver.specs.Good.{Follows, devices_in}
+use Rattle.receiver.specs.Faults.{IsComplete, IsBadDigest, IsTrailing, IsFault, IsFront}
+use Rattle.receiver.specs.Fed.{HasRead, IsEnded, device_records}
 use Rattle.receiver.specs.Heading.{WaitsHead}
 use Rattle.receiver.specs.Receiving.{IsKnown, IsReading, HasCome, GoesOn, NoFault}
 use Rattle.receiver.specs.declared.intake.Intake.{Intake}
 use Rattle.receiver.specs.declared.stage.Stage.{Stage}
 use Rattle.receiver.specs.declared.stage.Stage.TheVariants as stages
 use Rattle.receiver.specs.declared.recv_error.RecvError.{RecvError}
-use Rattle.receiver.proofs.Aligned.{records_led, LongerRecords, good_spell, no_record_fault}
+use Rattle.receiver.proofs.Aligned.{no_record_fault}
 use Rattle.receiver.proofs.Heads.{head_short, no_header_fault}
 use Rattle.receiver.proofs.Quiet.{quiet}
 use Rattle.receiver.proofs.Steps.{devices_are}

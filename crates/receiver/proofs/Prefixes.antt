@@ -1,21 +1,18 @@
 -- Faults stand in longer bytes too, and in shorter ones up to their places.
-use Rattle.std.proofs.Common.{◌≡◌, ◌≢◌, ℕ, zero, suc, ◌+◌, ◌*◌, ◌^◌, ◌<◌, ◌≤◌, ◌⊎◌, inl, inr, List, [], ◌∷◌, ◌++◌, length, take, drop, refl, sym, ap, subst, ◌∙◌, append_assoc, append-nil, arith}
-use Rattle.std.specs.Prelude.{slice_index}
+use Rattle.std.proofs.Common.{◌≡◌, ℕ, ◌≤◌, inl, inr, List, [], ◌∷◌, ◌++◌, length, drop, refl, sym, ap, ◌∙◌, append_assoc, arith}
 use Rattle.std.proofs.lemmas.List.{length-append, length-drop, drop-append-le}
-use Rattle.std.proofs.Math.ListN.{get_or-append}
 use Rattle.sha2.specs.Sha256.{sha256}
 use Rattle.sha2.proofs.Facts256.{length-sha256}
-use Rattle.guestmem.specs.Number.{number_at}
-use Rattle.wire.specs.Header.{header, Begins, spelled_shapes}
+use Rattle.wire.specs.Header.{header, spelled_shapes}
 use Rattle.wire.specs.Numbers.{digits}
-use Rattle.wire.specs.Records.{Record, spelled_record}
+use Rattle.wire.specs.Records.{Record}
 use Rattle.wire.specs.Stream.{texts}
 use Rattle.machine.specs.declared.shape.Shape.{Shape}
 use Rattle.wire.proofs.Digits.{length-digits, number_at-append}
 use Rattle.wire.proofs.Spelling.{head_same, tail_same}
 use Rattle.wire.proofs.Unique.{cons_same}
-use Rattle.receiver.specs.Good.{AreGood, devices_in}
-use Rattle.receiver.specs.Faults.{Opens, Says, IsBadTag, IsMissing, IsBadPage, IsBadSector, IsBadRound, IsBadHead, IsBadBody, IsBadDigest, IsTrailing, IsFault, IsFront, IsRecordFault, IsBadMagic, IsBadVersion, IsBadCount, IsBadShape, IsMismatch, IsHeaderFault, Fault}
+use Rattle.receiver.specs.Good.{devices_in}
+use Rattle.receiver.specs.Faults.{Opens, Says, IsFault, IsRecordFault, IsHeaderFault, Fault}
 use Rattle.receiver.specs.declared.recv_error.RecvError.{RecvError}
 use Rattle.receiver.specs.declared.recv_error.RecvError.TheVariants as errors
 

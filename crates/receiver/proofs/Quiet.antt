@@ -1,5 +1,5 @@
 -- Faults at the front of the bytes, and bytes that wait.
-use Rattle.std.proofs.Common.{◌≡◌, ◌≢◌, ℕ, zero, suc, ◌+◌, ◌*◌, ◌^◌, ◌<◌, ◌≤◌, ◌⊎◌, List, [], ◌∷◌, ◌++◌, length, map, take, drop, get_or, inl, inr, refl, sym, ap, subst, ◌∙◌, append_assoc, arith}
+use Rattle.std.proofs.Common.{◌≡◌, ◌≢◌, ℕ, zero, suc, ◌+◌, ◌*◌, ◌^◌, ◌<◌, ◌≤◌, ◌⊎◌, List, [], ◌∷◌, ◌++◌, length, map, take, drop, get_or, inl, inr, refl, sym, ap, subst, ◌∙◌, arith}
 use Rattle.std.proofs.lemmas.List.{take-append-drop, take_at, length-append, length-take, length-drop}
 use Rattle.sha2.specs.Sha256.{sha256}
 use Rattle.sha2.proofs.Facts256.{length-sha256}
@@ -7,18 +7,17 @@ use Rattle.guestmem.specs.Number.{number_at, IsBytes}
 use Rattle.wire.specs.DeviceBody.{IsBodyOf}
 use Rattle.wire.specs.Header.{header}
 use Rattle.wire.specs.Numbers.{digits}
-use Rattle.wire.specs.Records.{Record, page, sector, round_end, device, commit, spelled_record, BeginsRecord, BeginsNoRecord}
+use Rattle.wire.specs.Records.{Record, spelled_record, BeginsRecord}
 use Rattle.wire.specs.Stream.{rounds, texts}
 use Rattle.machine.specs.Shapes.{sector_count}
 use Rattle.machine.specs.State.{DeviceState}
 use Rattle.machine.specs.declared.shape.Shape.{Shape}
 use Rattle.machine.specs.declared.shape.Shape.TheVariants.{Entropy}
 use Rattle.wire.proofs.Decoding.{page_short, sector_short, round_short, device_short, device_cut, commit_short, no_bytes}
-use Rattle.guestmem.specs.ByteLaws.{IsBytes-drop}
 use Rattle.wire.proofs.Digits.{digits-number_at, number_at-digits, number_at-fits, length-digits, spelled-numbers}
-use Rattle.wire.proofs.Spelling.{head_same, tail_same, split_same}
-use Rattle.receiver.specs.Good.{AreNamed, devices_in}
-use Rattle.receiver.specs.Faults.{MayTag, IsComplete, Opens, IsBadTag, IsMissing, IsBadPage, IsBadSector, IsBadRound, IsNextHead, IsBadHead, IsBadBody, IsBadDigest, IsTrailing, IsFault}
+use Rattle.wire.proofs.Spelling.{head_same, tail_same}
+use Rattle.receiver.specs.Good.{devices_in}
+use Rattle.receiver.specs.Faults.{MayTag, IsComplete, Opens, IsBadPage, IsBadSector, IsBadRound, IsNextHead, IsBadHead, IsBadBody, IsBadDigest, IsTrailing, IsFault}
 use Rattle.receiver.specs.Fed.{Waits, Ends}
 use Rattle.receiver.specs.declared.recv_error.RecvError.{RecvError}
 use Rattle.receiver.specs.declared.recv_error.RecvError.TheVariants as errors

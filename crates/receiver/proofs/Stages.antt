@@ -1,10 +1,9 @@
 -- From one stage to the next.
-use Rattle.std.proofs.Common.{◌≡◌, ◌≢◌, ℕ, ◌+◌, ◌-◌, ◌*◌, ◌<◌, ◌≤◌, ◌⊎◌, Bool, true, false, inl, inr, List, [], ◌∷◌, ◌++◌, length, take, drop, map, replicate, Ok, Err, refl, sym, ap, subst, ◌∙◌, append_assoc, append-nil, arith}
-use Rattle.std.proofs.lemmas.List.{take-append-drop, take_at, length-append, length-drop, length-take, length-map, take-append-le}
+use Rattle.std.proofs.Common.{◌≡◌, ℕ, ◌+◌, ◌*◌, ◌<◌, ◌≤◌, false, inl, List, [], ◌∷◌, ◌++◌, length, take, drop, map, replicate, refl, sym, ap, subst, ◌∙◌, append_assoc, append-nil, arith}
+use Rattle.std.proofs.lemmas.List.{take_at, length-append, length-drop, length-map, take-append-le}
 use Rattle.sha2.specs.Sha256.{sha256}
-use Rattle.sha2.proofs.Facts256.{length-sha256}
 use Rattle.wire.specs.Header.{header, Begins}
-use Rattle.wire.specs.Records.{Record, commit, spelled_record}
+use Rattle.wire.specs.Records.{Record}
 use Rattle.wire.specs.Stream.{texts, rounds}
 use Rattle.machine.specs.Disk.{DiskState}
 use Rattle.machine.specs.First.{dealt_sectors}
@@ -13,13 +12,12 @@ use Rattle.machine.specs.declared.shape.Shape.{Shape}
 use Rattle.machine.specs.declared.shape.Shape.TheVariants.{Entropy}
 use Rattle.receiver.proofs.Lists.{empty}
 use Rattle.receiver.proofs.Takings.{new_taken}
-use Rattle.receiver.specs.Good.{AreGood, devices_in}
+use Rattle.receiver.specs.Good.{AreGood}
 use Rattle.machine.specs.Shapes.{disk_sizes, sector_count}
-use Rattle.receiver.specs.Faults.{MayTag, IsComplete, Opens, IsTrailing, IsHeaderFault, Fault}
+use Rattle.receiver.specs.Faults.{IsComplete, IsTrailing, IsHeaderFault, Fault}
 use Rattle.receiver.specs.Fed.{HasRead, Tells, IsOpen, IsEnded, device_records}
-use Rattle.receiver.specs.Receiving.{sizes_of, IsReading, HasCome, IsKnown, GoesOn, Stepped}
+use Rattle.receiver.specs.Receiving.{sizes_of, IsReading, HasCome}
 use Rattle.receiver.specs.declared.intake.Intake.{Intake}
-use Rattle.receiver.specs.declared.stage.Stage.TheVariants as stages
 use Rattle.receiver.specs.declared.recv_error.RecvError.{RecvError}
 use Rattle.receiver.specs.declared.recv_error.RecvError.TheVariants as errors
 use Rattle.receiver.proofs.Working.{tells_more, fault_here, commit_text}

@@ -1,29 +1,24 @@
 -- One record more.
-use Rattle.std.proofs.Common.{◌≡◌, ◌≢◌, ℕ, zero, suc, ◌+◌, ◌*◌, ◌^◌, ◌<◌, ◌≤◌, Bool, true, false, List, [], ◌∷◌, ◌++◌, length, take, drop, get_or, Option, Some, None, refl, sym, ap, subst, ◌∙◌, append_assoc, append-nil, arith}
+use Rattle.std.proofs.Common.{◌≡◌, ℕ, zero, suc, ◌+◌, ◌*◌, ◌^◌, ◌<◌, ◌≤◌, Bool, true, false, List, [], ◌∷◌, ◌++◌, length, take, drop, get_or, refl, sym, ap, ◌∙◌, append_assoc, append-nil, arith}
 use Rattle.std.specs.Prelude.{set, is_some, All}
 use Rattle.std.proofs.lemmas.List.Elements.{All-get_or, All-from_get_or}
 use Rattle.std.specs.List.{AllByRecursion}
-use Rattle.std.proofs.lemmas.List.{take-append-drop, take_at, drop_at, length-append, length-take, length-drop}
-use Rattle.sha2.specs.Sha256.{sha256}
-use Rattle.guestmem.specs.Number.{number_at, IsBytes}
+use Rattle.std.proofs.lemmas.List.{length-append}
 use Rattle.wire.specs.DeviceBody.{body, IsBodyOf}
 use Rattle.wire.specs.Header.{header}
-use Rattle.wire.specs.Records.{Record, page, sector, round_end, device, commit, spelled_record, HasSpelling, BeginsRecord}
+use Rattle.wire.specs.Records.{Record, page, sector, round_end, device, commit, spelled_record, HasSpelling}
 use Rattle.wire.specs.Stream.{IsEntry, AreNumbered, rounds, texts, shapes_in, record_in}
 use Rattle.receiver.specs.Taken.{AreTaken, shown}
-use Rattle.guestmem.specs.Item as items
 use Rattle.machine.specs.First.{dealt_sectors}
 use Rattle.machine.specs.Layout.{Layout, layout_by, item_at, number_of, size_of}
 use Rattle.machine.proofs.Numbering.{item_there, number_back, number_below}
 use Rattle.machine.specs.Sound.{IsSoundDevice}
 use Rattle.machine.specs.State.{DeviceState}
 use Rattle.machine.specs.declared.shape.Shape.{Shape}
-use Rattle.receiver.proofs.Lists.{empty}
 use Rattle.receiver.proofs.Takings.{put_page, taken_device, taken_page, taken_round, rounds_page, rounds_round, numbered_round}
-use Rattle.wire.proofs.Unique.{length_shapes, body_spells}
 use Rattle.wire.proofs.Whole.{texts-snoc, each-snoc, numbered_page}
-use Rattle.receiver.specs.Good.{AreGood, AreNamed, Follows, MayFollow, IsNextDevice, devices_in}
-use Rattle.receiver.specs.Faults.{MayTag, IsComplete, Opens}
+use Rattle.receiver.specs.Good.{AreGood, AreNamed, Follows, devices_in}
+use Rattle.receiver.specs.Faults.{MayTag}
 use Rattle.receiver.specs.Fed.{HasRead, device_records}
 use Rattle.receiver.specs.declared.intake.Intake.{Intake}
 

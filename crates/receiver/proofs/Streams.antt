@@ -1,27 +1,24 @@
 -- A stream that is not whole.
-use Rattle.std.proofs.Common.{◌≡◌, ◌≢◌, ℕ, suc, ◌+◌, ◌-◌, ◌*◌, ◌<◌, ◌≤◌, ◌⊎◌, inl, inr, Some, None, Option, Bool, true, false, List, [], ◌∷◌, ◌++◌, length, take, drop, map, get_or, refl, sym, ap, subst, ◌∙◌, append_assoc, append-nil, arith}
-use Rattle.std.proofs.lemmas.List.{length-append, length-drop, take-append-drop, drop_at}
+use Rattle.std.proofs.Common.{◌≡◌, ℕ, suc, ◌+◌, ◌≤◌, ◌⊎◌, inl, inr, List, [], ◌∷◌, ◌++◌, length, drop, refl, sym, ap, subst, ◌∙◌, append_assoc, append-nil, arith}
+use Rattle.std.proofs.lemmas.List.{take-append-drop, drop_at}
 use Rattle.std.proofs.lemmas.List.Elements.{recursion_from_All}
 use Rattle.std.specs.List.{AllByRecursion}
 use Rattle.sha2.specs.Sha256.{sha256}
 use Rattle.sha2.proofs.Facts256.{length-sha256}
 use Rattle.guestmem.specs.Number.{IsBytes}
-use Rattle.wire.specs.DeviceBody.{body}
-use Rattle.wire.specs.Header.{header, Begins}
-use Rattle.wire.specs.Records.{Record, page, sector, round_end, device, commit, spelled_record, HasSpelling, BeginsNoRecord}
-use Rattle.wire.specs.Stream.{IsStream, IsStreamBy, IsEntry, texts, rounds, shapes_in, device_texts, before_commit}
+use Rattle.wire.specs.Records.{Record, commit, spelled_record, HasSpelling, BeginsNoRecord}
+use Rattle.wire.specs.Stream.{IsStream, IsEntry, texts, shapes_in, device_texts, before_commit}
 use Rattle.machine.specs.Layout.{Layout, layout_of, pages_of}
-use Rattle.machine.specs.Sound.{IsSound, IsSoundDevice}
+use Rattle.machine.specs.Sound.{IsSoundDevice}
 use Rattle.machine.specs.State.{DeviceState, MachineState}
 use Rattle.machine.specs.declared.shape.Shape.{Shape}
 use Rattle.guestmem.specs.ByteLaws.{IsBytes-drop}
 use Rattle.wire.proofs.Unique.{body_spells, stream_begins, alike}
 use Rattle.wire.proofs.HeaderLemmas.{header_of-spelled}
-use Rattle.receiver.specs.Good.{AreGood, Follows}
-use Rattle.receiver.specs.Faults.{IsFront}
+use Rattle.receiver.specs.Good.{AreGood}
 use Rattle.receiver.specs.Fed.{device_records}
 use Rattle.receiver.specs.Heading.{WaitsHead}
-use Rattle.receiver.specs.Receiving.{IsKnown, IsReading, HasCome, GoesOn}
+use Rattle.receiver.specs.Receiving.{IsReading}
 use Rattle.receiver.specs.declared.intake.Intake.{Intake}
 use Rattle.receiver.proofs.Aligned.{records_led, LongerRecords, good_spell, next_good}
 use Rattle.receiver.proofs.Knowing.{texts-append, texts_devices, no_other}

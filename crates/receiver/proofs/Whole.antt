@@ -1,25 +1,24 @@
 -- No fault stands in a stream.
-use Rattle.std.proofs.Common.{◌≡◌, ◌≢◌, ℕ, suc, ◌+◌, ◌-◌, ◌*◌, ◌<◌, ◌≤◌, ◌⊎◌, inl, inr, Some, None, List, [], ◌∷◌, ◌++◌, length, take, drop, refl, sym, ap, subst, ◌∙◌, append_assoc, append-nil, drop-drop, arith}
+use Rattle.std.proofs.Common.{◌≡◌, ℕ, ◌+◌, ◌*◌, ◌≤◌, List, [], ◌∷◌, ◌++◌, length, drop, refl, sym, ap, ◌∙◌, append_assoc, append-nil, drop-drop, arith}
 use Rattle.std.specs.Prelude.{is_some}
-use Rattle.std.proofs.lemmas.List.{length-append, length-drop}
 use Rattle.std.proofs.lemmas.List.Elements.{recursion_from_All}
 use Rattle.std.specs.List.{AllByRecursion}
 use Rattle.sha2.specs.Sha256.{sha256}
 use Rattle.wire.specs.DeviceBody.{body}
-use Rattle.wire.specs.Header.{header, Begins}
-use Rattle.wire.specs.Records.{Record, page, sector, round_end, device, commit, spelled_record, HasSpelling}
-use Rattle.wire.specs.Stream.{IsStream, IsStreamBy, IsEntry, AreNumbered, texts, rounds, shapes_in, device_texts, before_commit}
+use Rattle.wire.specs.Header.{header}
+use Rattle.wire.specs.Records.{Record, page, sector, round_end, device, commit}
+use Rattle.wire.specs.Stream.{IsStream, IsEntry, AreNumbered, texts, rounds, shapes_in, device_texts, before_commit}
 use Rattle.machine.specs.Layout.{Layout, layout_by, layout_of, pages_of}
-use Rattle.machine.specs.Sound.{IsSound, IsSoundDevice}
+use Rattle.machine.specs.Sound.{IsSoundDevice}
 use Rattle.machine.specs.State.{DeviceState, MachineState, Sector}
 use Rattle.machine.specs.declared.shape.Shape.{Shape}
 use Rattle.machine.proofs.Numbering.{sound_layout}
 use Rattle.receiver.proofs.Takings.{rounds_page, rounds_round, rounds_sector}
 use Rattle.wire.proofs.Unique.{body_spells, length_shapes, stream_begins}
 use Rattle.wire.proofs.ItemRecords.{named-snoc}
-use Rattle.receiver.specs.Good.{AreGood, AreNamed, Follows, devices_in}
+use Rattle.receiver.specs.Good.{AreGood, AreNamed, devices_in}
 use Rattle.machine.specs.Shapes.{disk_sizes}
-use Rattle.receiver.specs.Faults.{IsComplete, IsFront, Fault}
+use Rattle.receiver.specs.Faults.{IsComplete, IsFront}
 use Rattle.receiver.specs.Fed.{device_records}
 use Rattle.receiver.specs.Receiving.{NoFault, HasRounds}
 use Rattle.receiver.proofs.Knowing.{texts-append, texts_devices, no_other, end_quiet, quiet_front, last_entries, rounds_none}

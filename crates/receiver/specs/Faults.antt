@@ -1,12 +1,12 @@
 -- The faults of a stream, each with its place: the number of bytes up to the one that tells it. Behind the header and
 -- whole good records stand bytes that begin with the fault.
-use Rattle.std.specs.Prelude.{◌≡◌, ◌≢◌, ◌<◌, ◌≤◌, ◌^◌, ◌⊎◌, ℕ, ◌+◌, ◌*◌, codes, List, [], ◌∷◌, ◌++◌, length, take, drop}
+use Rattle.std.specs.Prelude.{◌≡◌, ◌≢◌, ◌<◌, ◌≤◌, ◌^◌, ◌⊎◌, ℕ, ◌+◌, ◌*◌, List, [], ◌∷◌, ◌++◌, length, drop}
 use Rattle.sha2.specs.Sha256.{sha256}
 use Rattle.guestmem.specs.Number.{number_at}
 use Rattle.wire.specs.DeviceBody.{IsBodyOf}
-use Rattle.wire.specs.Header.{header, spelled_shapes, IsHeader, Begins}
+use Rattle.wire.specs.Header.{header, spelled_shapes, Begins}
 use Rattle.wire.specs.Numbers.{digits}
-use Rattle.wire.specs.Records.{Record, device, spelled_record, HasSpelling}
+use Rattle.wire.specs.Records.{Record}
 use Rattle.wire.specs.Stream.{rounds, texts}
 use Rattle.guestmem.specs.Item as items
 use Rattle.machine.specs.Layout.{IsItemIn, layout_by}

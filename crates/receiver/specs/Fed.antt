@@ -1,5 +1,5 @@
 -- What a receiver has read of the bytes that it was fed.
-use Rattle.std.specs.Prelude.{◌≡◌, ◌<◌, ◌≤◌, ℕ, ◌+◌, ◌*◌, Bool, true, false, List, [], ◌∷◌, ◌++◌, length, take, drop, Result, Ok, Err}
+use Rattle.std.specs.Prelude.{◌≡◌, ◌<◌, ℕ, ◌+◌, ◌*◌, Bool, true, false, List, [], ◌∷◌, ◌++◌, length, take, drop, Result, Ok, Err}
 use Rattle.std.specs.List.{AllByRecursion}
 use Rattle.sha2.specs.Sha256.{sha256}
 use Rattle.wire.specs.DeviceBody.{body}
@@ -14,7 +14,7 @@ use Rattle.machine.specs.State.{DeviceState}
 use Rattle.machine.specs.declared.shape.Shape.{Shape}
 use Rattle.receiver.specs.Good.{AreGood}
 use Rattle.receiver.specs.Taken.{AreTaken}
-use Rattle.receiver.specs.Faults.{MayTag, IsComplete, Opens, IsFault, IsFront, Fault}
+use Rattle.receiver.specs.Faults.{IsComplete, Opens, IsFault, Fault}
 use Rattle.receiver.specs.declared.intake.Intake.{Intake}
 use Rattle.receiver.specs.declared.part.Part.{Part}
 use Rattle.receiver.specs.declared.part.Part.TheVariants as parts

@@ -1,5 +1,5 @@
 -- Whole good records: which record may stand behind which.
-use Rattle.std.specs.Prelude.{◌≡◌, ℕ, ◌+◌, ◌*◌, List, [], ◌∷◌, ◌++◌, length, drop, IsSome}
+use Rattle.std.specs.Prelude.{◌≡◌, ℕ, ◌+◌, ◌*◌, List, [], ◌∷◌, ◌++◌, drop, IsSome}
 use Rattle.wire.specs.DeviceBody.{IsBodyOf}
 use Rattle.wire.specs.Records.{Record, page, sector, round_end, device, commit, HasSpelling}
 use Rattle.wire.specs.Stream.{last_named, rounds}

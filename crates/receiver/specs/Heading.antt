@@ -1,9 +1,8 @@
 -- What stands at the front of a stream, as far as it came.
-use Rattle.std.specs.Prelude.{◌≡◌, ◌<◌, ◌≤◌, ℕ, List, [], ◌∷◌, ◌++◌, length, Option, Some, None, Result, Ok, Err}
+use Rattle.std.specs.Prelude.{◌≡◌, ◌<◌, ℕ, List, ◌++◌, length, Option, Some, None, Result, Ok, Err}
 use Rattle.wire.specs.Header.{Begins, spelled_shape, spelled_shapes}
 use Rattle.machine.specs.declared.shape.Shape.{Shape}
 use Rattle.receiver.specs.Faults.{IsNoShape, IsHeaderFault}
-use Rattle.receiver.specs.Fed.{Tells}
 use Rattle.receiver.specs.declared.recv_error.RecvError.{RecvError}
 use Rattle.receiver.specs.declared.recv_error.RecvError.TheVariants.{BadShape, NoMemory}
 

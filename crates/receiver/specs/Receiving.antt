@@ -1,5 +1,5 @@
 -- What a receiver knows of the bytes that it was fed.
-use Rattle.std.specs.Prelude.{◌≡◌, ◌<◌, ◌≤◌, ℕ, List, [], ◌∷◌, ◌++◌, length, take, drop, map, Result, Ok, Err, Bool, true, false}
+use Rattle.std.specs.Prelude.{◌≡◌, ◌<◌, ◌≤◌, ℕ, List, ◌++◌, length, take, drop, map, Result, Ok, Err, Bool, true, false}
 use Rattle.wire.specs.Header.{Begins}
 use Rattle.wire.specs.Records.{Record, spelled_record}
 use Rattle.wire.specs.Stream.{IsStream, rounds}
@@ -8,7 +8,7 @@ use Rattle.machine.specs.State.{MachineState}
 use Rattle.machine.specs.declared.shape.Shape.{Shape}
 use Rattle.receiver.specs.Good.{Follows}
 use Rattle.receiver.specs.Faults.{Fault, IsFront}
-use Rattle.receiver.specs.Fed.{IsOpen, IsEnded, HasRead, Tells}
+use Rattle.receiver.specs.Fed.{IsOpen, IsEnded, Tells}
 use Rattle.receiver.specs.Heading.{WaitsHead}
 use Rattle.receiver.specs.declared.intake.Intake.{Intake}
 use Rattle.receiver.specs.declared.stage.Stage.{Stage}

@@ -6,10 +6,10 @@ ghost use Rattle.receiver.specs.Faults.{MayCount, IsHeaderFault};
 ghost use Rattle.receiver.specs.Fed.{Tells};
 ghost use Rattle.receiver.specs.Heading.{FirstShape, WaitsHead, ReadShapes};
 
-use wire::u32_at;
 use crate::recv_error::RecvError;
 use machine::Shape;
 use std::alloc::Global;
+use wire::u32_at;
 
 /// "VMIG" as a little-endian number.
 const MAGIC: u32 = 0x4749_4d56;

@@ -2,19 +2,20 @@
 
 ghost use Rattle.std.specs.Prelude.{◌≡◌, ◌++◌, ◌+◌, ◌≤◌, ◌<◌, ◌*◌, ◌∷◌, ◌↔◌, [], ℕ, List, All, IsTrue, IfOk, take, drop, length, slice_index_or, true};
 ghost use Rattle.wire.specs.Records as records;
-ghost use Rattle.wire.specs.Records.{page, HasSpelling};
+ghost use Rattle.sha2.specs.Sha256.{sha256};
+ghost use Rattle.wire.specs.Records.{page, spelled_record, HasSpelling};
 ghost use Rattle.machine.specs.declared.shape.Shape as shapes;
 ghost use Rattle.receiver.specs.Faults.{MayTag, Opens};
+ghost use Rattle.receiver.specs.Good.{devices_in};
 ghost use Rattle.receiver.specs.Fed.{HasRead, Checked, After, Worked, size_of, IsLong};
 
-use wire::{u8_at, u32_at};
 use crate::part::Part;
 use crate::recv_error::RecvError;
-use machine::{DeviceState, Shape};
 use guestmem::{NoLog, NoMemory, PAGE_SIZE, Ram};
-use wire::{DecodeError, decode_device};
+use machine::{DeviceState, Shape};
 use sha2::{Digest, Sha256};
 use std::alloc::Global;
+use wire::{DecodeError, decode_device, u8_at, u32_at};
 
 /// The most bytes that a body may have.
 const BODY_MAX: usize = 131_072;
@@ -78,9 +79,6 @@ fn take_page(intake: &mut Intake, number: u32, bytes: &[u8])
         .put(number as u64 * PAGE_SIZE as u64, bytes, &mut NoLog);
     intake.named[number as usize] = true;
 }
-
-ghost use Rattle.receiver.specs.Good.{devices_in};
-ghost use Rattle.wire.specs.Records.{spelled_record};
 
 /// Takes a page's record, whose tag was seen.
 fn page_part(intake: &mut Intake, rest: &[u8]) -> Result<Part, RecvError>
@@ -192,8 +190,6 @@ fn is_digest(front: &[u8], digest: &[u8]) -> bool
     let sum = Sha256::digest(front);
     sum.as_slice() == digest
 }
-
-ghost use Rattle.sha2.specs.Sha256.{sha256};
 
 /// Compares the digest, whose tag was seen.
 fn commit_part(intake: &mut Intake, front: &[u8], rest: &[u8]) -> Result<Part, RecvError>

@@ -10,7 +10,8 @@ use crate::recv_error::RecvError;
 use machine::{Disk, Machine};
 use std::alloc::Global;
 
-/// The machine whose stream the bytes are, with these disks, and how many rounds ended in it.
+/// The machine whose stream the bytes are, with these disks, and how many rounds ended in it: one feed, `rounds` and
+/// `finish`. A refusal drops the disks.
 pub fn receive<D: Disk + Drop>(
     alloc: Global,
     bytes: &[u8],

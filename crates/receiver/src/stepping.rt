@@ -12,8 +12,8 @@ use crate::heading::read_heading;
 use crate::intake::{Intake, work_off};
 use crate::recv_error::RecvError;
 use crate::stage::Stage;
-use machine::{Disk, Shape};
 use guestmem::{NoMemory, Ram};
+use machine::{Disk, Shape};
 use std::alloc::Global;
 
 /// An intake that has taken a header.

@@ -1,4 +1,4 @@
-use Rattle.std.proofs.Common.{arith, rules, refl, ◌≡◌, ◌∷◌, drop, length, true}
+use Rattle.std.proofs.Common.{arith, rules, ◌≡◌, drop, true}
 use Rattle.guestmem.specs.Number.{number_at}
 use Rattle.receiver.specs.Faults.{Says}
 use Rattle.receiver.proofs.Heads.{head_short, head_part, bad_count, told_shapes, begins_so}

@@ -1,4 +1,4 @@
-use Rattle.std.proofs.Common.{arith, rules, refl, ◌≡◌, ◌≤◌, ◌∷◌, ◌++◌, ◌+◌, ◌*◌, [], take, drop, get_or, length, sym, ◌∙◌, ap, inl}
+use Rattle.std.proofs.Common.{arith, rules, refl, ◌≡◌, ◌≤◌, ◌∷◌, ◌++◌, ◌+◌, ◌*◌, [], take, drop, get_or, length, ◌∙◌, ap}
 use Rattle.wire.specs.Records.{device}
 use Rattle.wire.proofs.Decoding.{device_begins}
 use Rattle.receiver.proofs.Lists.{later_shapes}

@@ -1,7 +1,6 @@
-use Rattle.std.proofs.Common.{arith, refl, ◌≡◌, ◌∙◌, ◌++◌, take, ap, sym, List, ℕ}
-use Rattle.wire.specs.Records.{round_end, spelled_record, BeginsRecord}
+use Rattle.std.proofs.Common.{arith, refl}
+use Rattle.wire.specs.Records.{round_end}
 use Rattle.wire.proofs.Decoding.{round_begins}
-use Rattle.receiver.specs.Fed.{HasRead}
 use Rattle.receiver.proofs.Quiet.{round_waits, bad_round, taken_bytes}
 use Rattle.receiver.proofs.Steps.{more_round}
 use Rattle.receiver.proofs.intake.round_part.Goals as goal

@@ -1,6 +1,5 @@
-use Rattle.std.proofs.Common.{rules, arith, ◌≡◌, ◌<◌, length, take, drop, []}
+use Rattle.std.proofs.Common.{rules, ◌≡◌, ◌<◌, length, drop, []}
 use Rattle.receiver.specs.Receiving.{sizes_of}
-use Rattle.wire.specs.Header.{header}
 use Rattle.receiver.proofs.Stages.{header_refused, mismatch, head_taken, sizes_none}
 use Rattle.receiver.proofs.stepping.begin.Goals as goal
 

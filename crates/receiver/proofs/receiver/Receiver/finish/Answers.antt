@@ -1,10 +1,8 @@
-use Rattle.std.proofs.Common.{rules, arith, refl, ◌≡◌, [], ap, sym, ◌∙◌}
-use Rattle.wire.specs.Stream.{IsStream}
+use Rattle.std.proofs.Common.{refl, ◌≡◌, ap, sym, ◌∙◌}
 use Rattle.receiver.specs.Receiving.{IsKnown, IsReading, HasCome, Received, sizes_of}
-use Rattle.receiver.specs.Heading.{WaitsHead}
 use Rattle.receiver.proofs.Feeding.{no_disks_left}
 use Rattle.receiver.proofs.Knowing.{read_sound, whole_shapes, whole_stream}
-use Rattle.receiver.proofs.Streams.{no_stream_head, no_stream_reading}
+use Rattle.receiver.proofs.Streams.{no_stream_reading}
 use Rattle.receiver.proofs.receiver.Receiver.finish.Goals as goal
 
 pub restore-requires-clause-sound : goal.restore-requires-clause-sound
