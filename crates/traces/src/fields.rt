@@ -5,8 +5,8 @@ ghost use Rattle.traces.specs.Numbers.{bytes_of};
 ghost use Rattle.traces.specs.Line.{u8_field, u32_field, u64_field};
 
 use crate::numbers::number;
-use machine::Bytes;
 use hex::FromHexError;
+use machine::Bytes;
 use std::alloc::{AllocError, Global};
 
 pub fn number8(word: &[u8]) -> Option<u8>
