@@ -1,6 +1,7 @@
 -- What the program does for its words: what it writes to standard output, and why it may fail.
 use Rattle.std.specs.Prelude.{◌≡◌, ◌⊎◌, ◌/◌, ℕ, List, length, map, flat_map, codes, Option, MatchBool, MatchOption}
 use Rattle.std.specs.Io.KnownBytes.{Appends, Keeps}
+use Rattle.guestmem.specs.declared.limits.TheConstants.{PAGE_SIZE}
 use Rattle.machine.specs.State.{MachineState}
 use Rattle.machine.specs.First.{first_machine, new_refusal}
 use Rattle.machine.specs.Step.{outcome_of}
@@ -34,7 +35,7 @@ pub record IsStreamLine (bytes line : List ℕ) : Type 0 where
   pub machine : MachineState
   pub rounds : ℕ
   pub received : IsReceived bytes machine rounds
-  pub spelled : line ≡ checked_line (length machine.ram / 4096) (length machine.devices) rounds
+  pub spelled : line ≡ checked_line (length machine.ram / PAGE_SIZE) (length machine.devices) rounds
 
 -- An output of this kind was written.
 pub record HasWritten (IsOutput : List ℕ → Type 0) (old new : Option (List ℕ)) : Type 0 where
