@@ -26,7 +26,7 @@ pub mod laws;
 mod program;
 mod words;
 
-pub use guestmem::{ACCESS_MAX, NoMemory, PAGE_SIZE, PAGES_MAX, Ram, RamError};
+pub use guestmem::{ACCESS_MAX, NoMemory, PAGE_SIZE, PAGES_MAX, Ram, RamError, Touched};
 pub use machine::{
     Bytes, DEVICES_MAX, DeviceState, Disk, DiskFault, Event, Machine, MemDisk, NewError, Refusal,
     Reply, SECTOR_SIZE, Shape,
