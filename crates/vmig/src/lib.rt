@@ -18,7 +18,7 @@
 //! and its line, and `Run` what is written and what a fault says. `Commands` is for the private parts of `words` alone.
 //!
 //! It stands on the crates that it hands on, and on `clap` for the words, of which this crate first finds that they are a line of
-//! its own; that clap then refuses them only for want of memory is proved.
+//! its own; that clap then refuses them only for want of memory, and finds the name that stands in them, is proved.
 #![tactic(auto)]
 
 mod fault;
