@@ -1,6 +1,7 @@
 //! A writer that fails at any byte.
 
 use anyhow::{Result, ensure};
+use books::spelled;
 use std::alloc::Global;
 use std::io::{ErrorKind, Write};
 use std::{fs, io};
@@ -91,34 +92,57 @@ fn writes_a_beginning(alloc: Global, reply: &Reply, line: &[u8], room: usize) ->
     Ok(())
 }
 
-/// What the trace below answers.
-const REPLIES: &[u8] = b"bytes -\nrefused 2\nbytes 00\n";
+/// A call of the program that goes through, and what it writes to standard output.
+#[derive(Clone, Copy)]
+struct Call<'a> {
+    words: [&'a str; 2],
+    output: &'a [u8],
+}
 
-/// Standard output that fails is told as the file `-`, and what was written before is a beginning of the replies.
+/// Standard output that fails is told as the file `-`, and what was written before is a beginning of the output.
 fn standard_output_fails(rt: &HostRuntime) -> Result<()> {
     fs::write(
         rt,
         "narrow.trace",
         "ram 1\nentropy\nmr 0 0\nmr 0x1001 0\nmr 0 1\n",
     )?;
-    for room in 0..=REPLIES.len() {
-        is_told(
-            rt,
-            narrow_writer(rt.alloc(), room, false),
-            (3, b"vmig: file -\n"),
-        )?;
-    }
-    is_told(rt, narrow_writer(rt.alloc(), REPLIES.len(), true), (0, b""))
+    let run = Call {
+        words: ["run", "narrow.trace"],
+        output: b"bytes -\nrefused 2\nbytes 00\n",
+    };
+    output_fails(rt, &run)?;
+    let stream = spelled(rt.alloc(), "FRESH")?;
+    fs::write(rt, "narrow.stream", stream.as_slice())?;
+    let check = Call {
+        words: ["check", "narrow.stream"],
+        output: b"ok 1 1 0\n",
+    };
+    output_fails(rt, &check)
 }
 
-fn is_told(rt: &HostRuntime, mut out: Narrow, expected: (u8, &[u8])) -> Result<()> {
+/// It fails at each byte, and where there is room for all of them it fails as it is flushed. Then it does not fail.
+fn output_fails(rt: &HostRuntime, call: &Call<'_>) -> Result<()> {
+    for room in 0..=call.output.len() {
+        let out = narrow_writer(rt.alloc(), room, false);
+        is_told(rt, call, out, (3, b"vmig: file -\n"))?;
+    }
+    let out = narrow_writer(rt.alloc(), call.output.len(), true);
+    is_told(rt, call, out, (0, b""))
+}
+
+fn is_told(
+    rt: &HostRuntime,
+    call: &Call<'_>,
+    mut out: Narrow,
+    expected: (u8, &[u8]),
+) -> Result<()> {
     let room = out.room;
     let mut err: Vec<u8> = Vec::new(rt.alloc());
-    let status = execute(rt, &["run", "narrow.trace"], &mut out, &mut err);
+    let status = execute(rt, call.words.as_slice(), &mut out, &mut err);
     ensure!(
         status == expected.0
             && err.as_slice() == expected.1
-            && Some(out.held.as_slice()) == REPLIES.get(..room),
+            && Some(out.held.as_slice()) == call.output.get(..room),
         "room for {room}"
     );
     Ok(())

@@ -25,7 +25,7 @@ cut_at text at h =
     let count : length text - (at + 1) ≡ length (drop (at + 1) text) = sym (length-drop (at + 1) text) in
     rw (count, take-length, add-one) (at_place text at facts.0 facts.1 facts.2)
 
-no_place : (b : Bool) (n : ℕ) → cond b (Some n) None ≡ None → b ≡ false
+pub no_place : (b : Bool) (n : ℕ) → cond b (Some n) None ≡ None → b ≡ false
 no_place true n h = cc
 no_place false n h = refl
 

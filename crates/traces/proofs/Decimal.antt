@@ -29,9 +29,9 @@ first_digit number rest at room small some within so_far =
     rw (set_there, here) (sym (so_far ∙ rw (decimal_digit rest small) refl))
 
 -- the digits and the LF behind them
-pub digits_and_end : (word room text : List ℕ) (at : ℕ) → length room ≡ 10 → at ≤ 10 → drop at room ≡ text
-    → word ++ take (11 - at) (drop at (room ++ 10 ∷ [])) ≡ word ++ text ++ 10 ∷ []
+pub digits_and_end : (word room text : List ℕ) (at : ℕ) → length room ≡ 20 → at ≤ 20 → drop at room ≡ text
+    → word ++ take (21 - at) (drop at (room ++ 10 ∷ [])) ≡ word ++ text ++ 10 ∷ []
 digits_and_end word room text at size within is =
     let cut : drop at (room ++ 10 ∷ []) ≡ drop at room ++ 10 ∷ [] = drop-append-le at room (10 ∷ []) (omega arith) in
-    let count : 11 - at ≡ length (drop at room ++ 10 ∷ []) = omega (arith, length-append (drop at room) (10 ∷ []), length-drop at room) in
+    let count : 21 - at ≡ length (drop at room ++ 10 ∷ []) = omega (arith, length-append (drop at room) (10 ∷ []), length-drop at room) in
     rw (cut, count, take-length, is) (sym (append_assoc word text (10 ∷ [])))

@@ -3,7 +3,7 @@ use Rattle.std.proofs.Common.{◌≡◌, ℕ, ◌+◌, ◌-◌, List, [], ◌++�
 use Rattle.std.proofs.lemmas.List.{append-nil, length-drop, take-append-le, take_min}
 use Rattle.std.proofs.Math.Seq.{take-length, take-add, take-append-add}
 use Rattle.std.specs.Prelude.{min}
-use Rattle.traces.specs.declared.put.WriteFault.{WriteFault}
+use Rattle.traces.specs.declared.parts.WriteFault.{WriteFault}
 use Rattle.traces.specs.Replies.{AppendsBeginning}
 use Rattle.std.specs.Io.KnownBytes.{Appends, Keeps}
 

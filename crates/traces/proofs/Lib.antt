@@ -1,7 +1,9 @@
 pub mod Numerals
 pub mod Cut
+pub mod FirstWord
 pub mod Progress
 pub mod Known
+pub mod CheckedLine
 pub mod Whole
 pub mod Decimal
 pub mod HexText

@@ -1,5 +1,6 @@
 -- What a trace that is being read holds so far. Only the private parts of `parse` name these: its own contract does not.
 use Rattle.std.specs.Prelude.{◌<◌, IsTrue, ℕ, ◌==◌, nat_lt, ◌&&◌, if◌then◌else◌, List, [], ◌∷◌, ◌++◌, length, Option, Some, None, Bool, true, false}
+use Rattle.machine.specs.declared.machine.TheConstants.{DEVICES_MAX}
 use Rattle.machine.specs.declared.event.Event.{Event}
 use Rattle.machine.specs.declared.shape.Shape.{Shape}
 use Rattle.traces.specs.declared.line.Line.{Line}
@@ -36,7 +37,7 @@ abbrev pub with_line : Said → Line → Option Said
 with_line said Skip = Some said
 with_line said (Ram pages) = with_ram said pages said.pages
 with_line said (Device shape) =
-    if has_pages said.pages && (length said.events == 0) && nat_lt (length said.shapes) 16
+    if has_pages said.pages && (length said.events == 0) && nat_lt (length said.shapes) DEVICES_MAX
     then Some (record said { shapes = said.shapes ++ shape ∷ [] }) else None
 with_line said (Act event) =
     if nat_lt 0 (length said.shapes) then Some (record said { events = said.events ++ event ∷ [] }) else None

@@ -1,4 +1,4 @@
--- The line of each reply.
+-- The line of each reply, and that of a checked stream.
 use Rattle.std.specs.Prelude.{ℕ, List, [], ◌∷◌, ◌++◌, codes, decimal, take, Option}
 use Rattle.std.specs.Int.{w32, to_be_bytes}
 use Rattle.std.specs.Io.KnownBytes.{Appends}
@@ -31,6 +31,10 @@ reply_line (Accepted count) = codes "accepted " ++ decimal count ++ newline
 reply_line NeedsReset = codes "needsreset" ++ newline
 reply_line NoMemory = codes "nomemory" ++ newline
 reply_line (Refused refusal) = codes "refused " ++ decimal (code_of refusal) ++ newline
+
+-- The line of a stream that was checked: the pages and the devices of its machine, and how many rounds ended in it.
+abbrev pub checked_line : ℕ → ℕ → ℕ → List ℕ
+checked_line pages devices rounds = codes "ok " ++ decimal pages ++ codes " " ++ decimal devices ++ codes " " ++ decimal rounds ++ newline
 
 -- a beginning of the bytes was appended
 abbrev pub AppendsBeginning : Option (List ℕ) → Option (List ℕ) → List ℕ → Type 0

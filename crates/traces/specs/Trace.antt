@@ -1,5 +1,6 @@
 -- A whole trace, and the first bad line of a text that is none.
 use Rattle.std.specs.Prelude.{◌≡◌, ◌<◌, ◌≤◌, ◌⊎◌, take, map, ℕ, ◌+◌, List, [], ◌∷◌, ◌++◌, length, Option, Some}
+use Rattle.machine.specs.declared.machine.TheConstants.{DEVICES_MAX}
 use Rattle.machine.specs.declared.event.Event.{Event}
 use Rattle.machine.specs.declared.shape.Shape.{Shape}
 use Rattle.traces.specs.declared.line.Line.{Line}
@@ -39,7 +40,7 @@ lines_say (line ∷ lines) = do
 pub record AreTrace (lines : List (List ℕ)) (c : Contents) : Type 0 where
   pub said : lines_say lines ≡ Some (Ram c.pages ∷ map Device c.shapes ++ map Act c.events)
   pub some_device : 0 < length c.shapes
-  pub few_devices : length c.shapes ≤ 16
+  pub few_devices : length c.shapes ≤ DEVICES_MAX
 
 -- Lines with which some trace begins: each may stand where it stands.
 pub record AreBeginning (lines : List (List ℕ)) : Type 0 where

@@ -2,11 +2,8 @@
 
 use crate::line::{Line, line_in};
 use crate::trace::Trace;
-use machine::{Event, Shape};
+use machine::{DEVICES_MAX, Event, Shape};
 use std::alloc::{AllocError, Global};
-
-/// The most devices that a machine has.
-const MOST_DEVICES: usize = 16;
 
 /// What the lines so far say.
 #[derive(Drop)]
@@ -46,7 +43,7 @@ impl Building {
             Line::Device(shape) => {
                 if self.pages.is_none()
                     || !self.events.is_empty()
-                    || self.shapes.len() >= MOST_DEVICES
+                    || self.shapes.len() >= DEVICES_MAX
                 {
                     return Ok(false);
                 }

@@ -2,13 +2,13 @@
 
 ghost use Rattle.std.specs.Prelude.{◌≡◌, ◌≤◌, drop, decimal, length};
 
-/// How many digits the greatest u32 has.
-pub const MOST_DIGITS: usize = 10;
+/// How many digits the greatest u64 has.
+pub const MOST_DIGITS: usize = 20;
 
 /// Writes the digits of a number into the end of the room, and answers where they begin.
-pub fn write_decimal(room: &mut [u8], number: u32) -> usize
-    requires { length room.old ≡ 10 }
-    ensures within { result ≤ 10 }
+pub fn write_decimal(room: &mut [u8], number: u64) -> usize
+    requires { length room.old ≡ MOST_DIGITS }
+    ensures within { result ≤ MOST_DIGITS }
     ensures digits { drop result room.new ≡ decimal number }
 {
     let mut at = MOST_DIGITS;

@@ -5,9 +5,11 @@
 //!
 //! What the layer above may rely on:
 //! - `parse` answers `Ok` with what the text says by the grammar, or the number of the first line that may not stand
-//!   where it stands, or of the line that is missing behind the last. `laws` says that a text has one such answer.
-//! - `write_reply` writes exactly the reply's line and LF, and after a fault a beginning of it. It takes no memory.
-//! - `write_checked` writes exactly the line of a checked stream, where it does not fail.
+//!   where it stands, or of the line that is missing behind the last. `laws` says that a text has one such answer. A line
+//!   takes no memory beside what its event holds.
+//! - `write_reply` and `write_checked` write exactly the line of a reply or of a checked stream and its LF, and after a
+//!   fault a beginning of it. So do `put`, `put_line` and `put_number` with the bytes that they are given: they are for
+//!   lines of the layer above. None of them takes memory.
 //!
 //! The definitions stand in `specs/`: `Lines` and `Numbers` how a text is spelled, `Line` the table of a trace's lines,
 //! `Trace` a whole trace and its first bad line, `Replies` the line of each reply, and `Laws`. `Reading` is for the private
@@ -26,12 +28,13 @@ pub mod laws;
 mod line;
 mod lines;
 mod numbers;
-mod put;
+mod parts;
 mod reading;
 mod trace;
+mod words;
 mod writing;
 
-pub use put::WriteFault;
+pub use parts::{WriteFault, put, put_line, put_number};
 pub use reading::parse;
 pub use trace::{Trace, TraceError};
 pub use writing::{write_checked, write_reply};

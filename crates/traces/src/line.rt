@@ -1,10 +1,11 @@
 //! One line of a trace: each function reads the lines of one number of words.
 
-ghost use Rattle.std.specs.Prelude.{◌≡◌, IfOk, map};
+ghost use Rattle.std.specs.Prelude.{◌≡◌, IfOk};
 ghost use Rattle.std.specs.List.{slice_split};
 ghost use Rattle.traces.specs.Line.{one_word, two_words, three_words, four_words, five_words, memory_read_line, memory_write_line, step_line, input_line, words_say, line_says, is_space};
 
 use crate::fields::{bytes, number8, number32, number64};
+use crate::words::split_word;
 use machine::{Event, Shape};
 use std::alloc::{AllocError, Global};
 
@@ -131,24 +132,27 @@ fn five(verb: &[u8], a: &[u8], b: &[u8], c: &[u8], d: &[u8]) -> Option<Line>
     }))
 }
 
-fn of_words(alloc: Global, words: &[&[u8]]) -> Result<Option<Line>, AllocError>
-    ensures { IfOk result (λ line. line ≡ words_say (map (λ word. word.now) words.now)) }
+/// What a line says that is not skipped. A line has at most five words.
+#[tactic(auto, using(crate::proofs::FirstWord::too_many))]
+fn of_words(alloc: Global, line: &[u8]) -> Result<Option<Line>, AllocError>
+    ensures { IfOk result (λ said. said ≡ words_say (slice_split is_space line.now)) }
 {
-    match words {
-        [verb] => Ok(one(verb)),
-        [verb, a] => Ok(two(verb, a)),
-        [verb, a, b] => three(alloc, verb, a, b),
-        [verb, a, b, c] => Ok(four(verb, a, b, c)),
-        [verb, a, b, c, d] => Ok(five(verb, a, b, c, d)),
-        _ => Ok(None),
+    let Some((verb, rest)) = split_word(line) else {
+        return Ok(one(line));
+    };
+    let Some((a, rest)) = split_word(rest) else {
+        return Ok(two(verb, rest));
+    };
+    let Some((b, rest)) = split_word(rest) else {
+        return three(alloc, verb, a, rest);
+    };
+    let Some((c, rest)) = split_word(rest) else {
+        return Ok(four(verb, a, b, rest));
+    };
+    match split_word(rest) {
+        Some(_) => Ok(None),
+        None => Ok(five(verb, a, b, c, rest)),
     }
-}
-
-/// The words of a line, which one space parts.
-fn words_of(alloc: Global, line: &[u8]) -> Result<Vec<&[u8]>, AllocError>
-    ensures { IfOk result (λ words. map (λ word. word.now) words.items ≡ slice_split is_space line.now) }
-{
-    line.split(|c| *c == b' ').collect(alloc)
 }
 
 /// What a line says, or `None` where it is no line of a trace.
@@ -158,9 +162,6 @@ pub fn line_in(alloc: Global, line: &[u8]) -> Result<Option<Line>, AllocError>
 {
     match line {
         [] | [b'#', ..] => Ok(Some(Line::Skip)),
-        _ => {
-            let words = words_of(alloc, line)?;
-            of_words(alloc, words.as_slice())
-        }
+        _ => of_words(alloc, line),
     }
 }

@@ -35,7 +35,7 @@ fn hexadecimal_digit(c: u8) -> Option<u8>
 /// The number that decimal digits spell. Twenty of them may go past a u64, so it is a u128.
 #[tactic(auto, using(crate::proofs::Numerals::goes_on, crate::proofs::Numerals::fails, crate::proofs::Numerals::ends, crate::proofs::Numerals::grows))]
 fn decimal(word: &[u8]) -> Option<u128>
-    requires { length word.now ≤ 20 }
+    requires { length word.now ≤ DECIMAL_DIGITS }
     ensures { result ≡ digits_after decimal_digit_value 10 0 word.now }
 {
     let mut value = 0u128;
@@ -48,7 +48,7 @@ fn decimal(word: &[u8]) -> Option<u128>
 /// The number that hexadecimal digits of either case spell.
 #[tactic(auto, using(crate::proofs::Numerals::goes_on, crate::proofs::Numerals::fails, crate::proofs::Numerals::ends, crate::proofs::Numerals::grows))]
 fn hexadecimal(word: &[u8]) -> Option<u128>
-    requires { length word.now ≤ 16 }
+    requires { length word.now ≤ HEXADECIMAL_DIGITS }
     ensures { result ≡ digits_after hex_digit_value 16 0 word.now }
 {
     let mut value = 0u128;

@@ -1,11 +1,10 @@
 //! The lines of replies.
 
-ghost use Rattle.std.specs.Prelude.{◌++◌, OnOk, OnErr, decimal, codes};
+ghost use Rattle.std.specs.Prelude.{◌++◌, OnOk, OnErr, codes};
 ghost use Rattle.std.specs.Io.KnownBytes.{Appends};
-ghost use Rattle.traces.specs.Replies.{reply_line, value_text, bytes_text, newline, AppendsBeginning};
+ghost use Rattle.traces.specs.Replies.{reply_line, checked_line, value_text, bytes_text, newline, AppendsBeginning};
 
-use crate::digits::{MOST_DIGITS, write_decimal};
-use crate::put::{WriteFault, put, put_both, put_with_digits};
+use crate::parts::{WriteFault, put, put_both, put_number, put_plain, put_with_digits};
 use machine::Reply;
 use std::io::Write;
 
@@ -22,27 +21,8 @@ fn put_value<W: Write>(out: &mut W, value: u32) -> Result<(), WriteFault>
     }
 }
 
-/// Writes a word and a decimal number, without leading zeros.
-fn put_number<W: Write>(out: &mut W, word: &[u8], number: u32) -> Result<(), WriteFault>
-    ensures ok { OnOk result (Appends (W.contents out.old) (W.contents out.new) (word.now ++ decimal number ++ newline)) }
-    ensures err { OnErr result (AppendsBeginning (W.contents out.old) (W.contents out.new) (word.now ++ decimal number ++ newline)) }
-{
-    let mut digits = [b'\n'; MOST_DIGITS + 1];
-    let start = write_decimal(&mut digits[..MOST_DIGITS], number);
-    put_both(out, word, &digits[start..])
-}
-
-/// Writes a word and a decimal number, and ends no line.
-fn put_plain<W: Write>(out: &mut W, word: &[u8], number: u32) -> Result<(), WriteFault>
-    ensures { OnOk result (Appends (W.contents out.old) (W.contents out.new) (word.now ++ decimal number)) }
-{
-    let mut digits = [b'0'; MOST_DIGITS];
-    let start = write_decimal(&mut digits, number);
-    put_both(out, word, &digits[start..])
-}
-
 /// Writes the line of a stream that was checked, and LF: `ok P D R`, with the pages and the devices of its machine and how
-/// many rounds ended in it, in decimal.
+/// many rounds ended in it, in decimal. After a fault a beginning of that line is written. It takes no memory.
 #[tactic(auto, using(crate::proofs::Known::appends_on))]
 pub fn write_checked<W: Write>(
     out: &mut W,
@@ -50,11 +30,12 @@ pub fn write_checked<W: Write>(
     devices: u32,
     rounds: u32,
 ) -> Result<(), WriteFault>
-    ensures { OnOk result (Appends (W.contents out.old) (W.contents out.new) (codes "ok " ++ decimal pages ++ codes " " ++ decimal devices ++ codes " " ++ decimal rounds ++ newline)) }
+    ensures ok { OnOk result (Appends (W.contents out.old) (W.contents out.new) (checked_line pages devices rounds)) }
+    ensures err { OnErr result (AppendsBeginning (W.contents out.old) (W.contents out.new) (checked_line pages devices rounds)) }
 {
-    put_plain(out, b"ok ", pages)?;
-    put_plain(out, b" ", devices)?;
-    put_number(out, b" ", rounds)
+    put_plain(out, b"ok ", pages as u64)?;
+    put_plain(out, b" ", devices as u64)?;
+    put_number(out, b" ", rounds as u64)
 }
 
 /// Writes a word and bytes, or `-` for none.
@@ -80,10 +61,10 @@ pub fn write_reply<W: Write>(reply: &Reply, out: &mut W) -> Result<(), WriteFaul
         Reply::Done => put(out, b"done\n"),
         Reply::Bytes(bytes) => put_bytes(out, b"bytes ", bytes.as_slice()),
         Reply::Idle => put(out, b"idle\n"),
-        Reply::Completed(count) => put_number(out, b"completed ", *count),
-        Reply::Accepted(count) => put_number(out, b"accepted ", *count),
+        Reply::Completed(count) => put_number(out, b"completed ", *count as u64),
+        Reply::Accepted(count) => put_number(out, b"accepted ", *count as u64),
         Reply::NeedsReset => put(out, b"needsreset\n"),
         Reply::NoMemory => put(out, b"nomemory\n"),
-        Reply::Refused(refusal) => put_number(out, b"refused ", refusal.code() as u32),
+        Reply::Refused(refusal) => put_number(out, b"refused ", refusal.code() as u64),
     }
 }

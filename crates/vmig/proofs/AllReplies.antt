@@ -5,7 +5,7 @@ use Rattle.std.proofs.lemmas.Grind.{flat_map-append}
 use Rattle.std.proofs.Math.Seq.{drop-cons}
 use Rattle.std.specs.Io.KnownBytes.{Appends}
 use Rattle.traces.specs.Replies.{AppendsBeginning}
-use Rattle.vmig.proofs.Known.{begins_first, begins_later}
+use Rattle.traces.proofs.Known.{begins_first, begins_later}
 
 parted : {X : Type 0} (line : X → List ℕ) (replies : List X) (i : ℕ) (reply : X) → i < length replies → get_or replies i reply ≡ reply
     → flat_map line (take i replies) ++ line reply ++ flat_map line (drop (suc i) replies) ≡ flat_map line replies

@@ -1,4 +1,3 @@
-pub mod Known
 pub mod AllReplies
 pub mod TakenWords
-pub mod Refused
+pub mod Written

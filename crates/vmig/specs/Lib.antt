@@ -1,4 +1,4 @@
 pub mod Words
 pub mod Commands
-pub mod Status
+pub mod Faults
 pub mod Run

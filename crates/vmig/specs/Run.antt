@@ -1,82 +1,104 @@
--- What the program does with the text of a trace.
-use Rattle.std.specs.Prelude.{◌≡◌, ◌⊎◌, ◌/◌, ◌++◌, ℕ, true, List, length, map, flat_map, codes, decimal, Option, Some}
-use Rattle.std.specs.Io.KnownBytes.{Appends}
+-- What the program does for its words: what it writes to standard output, and why it may fail.
+use Rattle.std.specs.Prelude.{◌≡◌, ◌⊎◌, ◌/◌, ℕ, List, length, map, flat_map, codes, Option, MatchBool, MatchOption}
+use Rattle.std.specs.Io.KnownBytes.{Appends, Keeps}
+use Rattle.guestmem.specs.declared.limits.TheConstants.{PAGE_SIZE}
 use Rattle.machine.specs.State.{MachineState}
 use Rattle.machine.specs.First.{first_machine, new_refusal}
 use Rattle.machine.specs.Step.{outcome_of}
 use Rattle.machine.specs.Run.{IsRun}
-use Rattle.receiver.specs.Receiving.{IsReceived, IsNoStream}
-use Rattle.machine.specs.Refusal.{new_code_of}
-use Rattle.machine.specs.declared.new_error.NewError.{NewError}
 use Rattle.machine.specs.declared.reply.Reply.{Reply}
-use Rattle.vmig.specs.declared.program.Fault.{Fault}
-use Rattle.vmig.specs.declared.program.Fault.TheVariants.{NoMemory, File, Line, Shape, Stream}
-use Rattle.traces.specs.declared.trace.TraceError.TheVariants as error
-use Rattle.traces.specs.Trace.{Contents, IsTrace, Refuses}
-use Rattle.traces.specs.Replies.{reply_line, newline}
-use Rattle.vmig.specs.Words.{is_run_line, is_check_line}
+use Rattle.receiver.specs.Receiving.{IsReceived, IsNoStream, Refuses as RefusesStream}
+use Rattle.receiver.specs.declared.recv_error.RecvError.{RecvError}
+use Rattle.traces.specs.Trace.{Contents, IsTrace, Refuses as RefusesText}
+use Rattle.traces.specs.Replies.{reply_line, checked_line, AppendsBeginning}
+use Rattle.traces.specs.declared.trace.TraceError.{TraceError}
+use Rattle.vmig.specs.Faults.{trace_fault, shape_fault, stream_fault, fault_line, status_of}
+use Rattle.vmig.specs.Words.{is_run_line, is_check_line, named_file}
+use Rattle.vmig.specs.declared.fault.Fault.{Fault}
+use Rattle.vmig.specs.declared.fault.Fault.TheVariants.{NoMemory, Usage, File}
 
 -- These are replies of a fresh machine of the trace's shape to its events, each event with the outcome of its reply.
 pub record AreReplies (c : Contents) (replies : List Reply) : Type 0 where
   pub last : MachineState
   pub run : IsRun (first_machine c.pages c.shapes) c.events (map outcome_of replies) replies last
 
--- The text is a trace, and the lines of such replies were written, in order.
-pub record IsPlayed (text : List ℕ) (old new : Option (List ℕ)) : Type 0 where
+-- The text is a trace, and these are the lines of such replies to it, in order.
+pub record AreReplyLines (text lines : List ℕ) : Type 0 where
   pub contents : Contents
   pub trace : IsTrace text contents
   pub replies : List Reply
   pub answered : AreReplies contents replies
-  pub written : Appends old new (flat_map reply_line replies)
+  pub spelled : lines ≡ flat_map reply_line replies
 
--- The lines of the replies to some trace were written.
-pub record HasPlayed (old new : Option (List ℕ)) : Type 0 where
-  pub text : List ℕ
-  pub played : IsPlayed text old new
-
--- There is no machine of this shape, for the reason of this number.
-pub record IsRefusedShape (c : Contents) (code : ℕ) : Type 0 where
-  pub refusal : NewError
-  pub refused : new_refusal c.pages c.shapes 0 ≡ Some refusal
-  pub number : code ≡ new_code_of refusal
-
--- What a fault without replies says of the trace. Memory may be refused for any.
-abbrev pub TellsOfTrace : Contents → Fault → Type 0
-TellsOfTrace c NoMemory = Unit {0}
-TellsOfTrace c (Shape code) = IsRefusedShape c code
-TellsOfTrace c _ = ⊥
-
--- What a fault says of the text. Memory and standard output may fail at any.
-abbrev pub TellsOfText : List ℕ → Fault → Type 0
-TellsOfText text NoMemory = Unit {0}
-TellsOfText text (File name) = Unit {0}
-TellsOfText text (Line number) = Refuses text (error.Line number)
-TellsOfText text (Shape code) = (c : Contents) × IsTrace text c × IsRefusedShape c code
-TellsOfText text _ = ⊥
-
--- The line of a stream that was checked: the pages and the devices of its machine, and how many rounds ended in it.
-abbrev pub checked_line : MachineState → ℕ → List ℕ
-checked_line m rounds = codes "ok " ++ decimal (length m.ram / 4096) ++ codes " " ++ decimal (length m.devices) ++ codes " " ++ decimal rounds ++ newline
-
--- The bytes are the stream of a machine, and its line was written.
-pub record IsChecked (bytes : List ℕ) (old new : Option (List ℕ)) : Type 0 where
+-- The bytes are the stream of a machine, and this is its line.
+pub record IsStreamLine (bytes line : List ℕ) : Type 0 where
   pub machine : MachineState
   pub rounds : ℕ
   pub received : IsReceived bytes machine rounds
-  pub written : Appends old new (checked_line machine rounds)
+  pub spelled : line ≡ checked_line (length machine.ram / PAGE_SIZE) (length machine.devices) rounds
 
--- The line of some stream was written.
-pub record HasChecked (old new : Option (List ℕ)) : Type 0 where
-  pub bytes : List ℕ
-  pub checked : IsChecked bytes old new
+-- An output of this kind was written.
+pub record HasWritten (IsOutput : List ℕ → Type 0) (old new : Option (List ℕ)) : Type 0 where
+  pub output : List ℕ
+  pub asked : IsOutput output
+  pub written : Appends old new output
 
--- What was asked for was done.
-abbrev pub HasDone : List (List ℕ) → Option (List ℕ) → Option (List ℕ) → Type 0
-HasDone words old new = ((is_run_line words ≡ true) × HasPlayed old new) ⊎ ((is_check_line words ≡ true) × HasChecked old new)
+-- A beginning of an output of this kind was written.
+pub record HasBegun (IsOutput : List ℕ → Type 0) (old new : Option (List ℕ)) : Type 0 where
+  pub output : List ℕ
+  pub asked : IsOutput output
+  pub begun : AppendsBeginning old new output
 
--- What a fault says of the bytes of a stream. Memory and standard output may fail at any.
+-- What a fault says of a trace: there is no machine of its shape, or else memory was refused.
+abbrev pub TellsOfTrace : Contents → Fault → Type 0
+TellsOfTrace c fault = MatchOption (new_refusal c.pages c.shapes 0) (fault ≡ NoMemory) (λ refusal. fault ≡ shape_fault refusal)
+
+-- What a fault says of a text: it is no trace, or one that could not be played.
+abbrev pub TellsOfText : List ℕ → Fault → Type 0
+TellsOfText text fault = ((refusal : TraceError) × RefusesText text refusal × (fault ≡ trace_fault refusal)) ⊎ ((c : Contents) × IsTrace text c × TellsOfTrace c fault)
+
+-- What a fault says of bytes: they are no stream of a machine without disks, or memory was refused.
 abbrev pub TellsOfStream : List ℕ → Fault → Type 0
-TellsOfStream bytes NoMemory = Unit {0}
-TellsOfStream bytes (File name) = Unit {0}
-TellsOfStream bytes (Stream code) = IsNoStream bytes 0
-TellsOfStream bytes _ = ⊥
+TellsOfStream bytes fault = (refusal : RecvError) × RefusesStream refusal (IsNoStream bytes 0) × (fault ≡ stream_fault refusal)
+
+-- standard output failed, which is told as a file of the name `-`
+abbrev pub TellsOfOutput : Fault → Type 0
+TellsOfOutput (File name) = name.now ≡ codes "-"
+TellsOfOutput _ = ⊥
+
+-- a file of this name could not be opened or read
+abbrev pub TellsOfFile : List ℕ → Fault → Type 0
+TellsOfFile named NoMemory = Unit {0}
+TellsOfFile named (File name) = name.now ≡ named
+TellsOfFile named _ = ⊥
+
+-- It failed: before anything was written, or where standard output did.
+abbrev pub Fails : (Fault → Type 0) → (List ℕ → Type 0) → Option (List ℕ) → Option (List ℕ) → Fault → Type 0
+Fails Tells IsOutput old new fault = (Tells fault × Keeps old new) ⊎ (TellsOfOutput fault × HasBegun IsOutput old new)
+
+-- The same of the file of this name. No contract says what a file holds, so it is said of some text.
+abbrev pub HasDoneFile : (List ℕ → List ℕ → Type 0) → Option (List ℕ) → Option (List ℕ) → Type 0
+HasDoneFile IsOutput old new = (text : List ℕ) × HasWritten (IsOutput text) old new
+
+abbrev pub FailsOnFile : List ℕ → (List ℕ → Fault → Type 0) → (List ℕ → List ℕ → Type 0) → Option (List ℕ) → Option (List ℕ) → Fault → Type 0
+FailsOnFile named Tells IsOutput old new fault = (TellsOfFile named fault × Keeps old new) ⊎ ((text : List ℕ) × Fails (Tells text) (IsOutput text) old new fault)
+
+-- What the words ask for was done.
+abbrev pub HasDone : List (List ℕ) → Option (List ℕ) → Option (List ℕ) → Type 0
+HasDone words old new =
+    MatchBool (is_run_line words) (HasDoneFile AreReplyLines old new)
+    (MatchBool (is_check_line words) (HasDoneFile IsStreamLine old new) ⊥)
+
+-- It failed, and this fault says why.
+abbrev pub HasFailed : List (List ℕ) → Option (List ℕ) → Option (List ℕ) → Fault → Type 0
+HasFailed words old new fault =
+    MatchBool (is_run_line words) (FailsOnFile (named_file words) TellsOfText AreReplyLines old new fault)
+    (MatchBool (is_check_line words) (FailsOnFile (named_file words) TellsOfStream IsStreamLine old new fault)
+    ((fault ≡ Usage) × Keeps old new))
+
+-- A fault of this exit status says why, and its line was written to standard error, or a beginning of it.
+pub record HasTold (status : ℕ) (Told : Fault → Type 0) (old new : Option (List ℕ)) : Type 0 where
+  pub fault : Fault
+  pub status_is : status ≡ status_of fault
+  pub told : Told fault
+  pub written : AppendsBeginning old new (fault_line fault)

@@ -8,21 +8,25 @@
 //! `vmig_program` is `main` alone.
 //!
 //! What the layer above may rely on: `execute` answers 2 exactly where the words are no line of the program, and 0 only
-//! where it wrote the lines of the replies of a fresh machine to a trace, or the line of a stream. That the trace or the
-//! stream is the one in the file is not in its contract, since the contracts of files say nothing of what a file holds: the
-//! crate `calls` shows it.
+//! where it wrote the lines of the replies of a fresh machine to a trace, or the line of a stream, and nothing to standard
+//! error. With every other status a fault says why, and its line was written to standard error, or a beginning of it where
+//! that failed. Each refusal of a layer below has its fault, and before a fault of anything but standard output nothing was
+//! written to that. That the trace or the stream is the one in the file is not in its contract, since the contracts of
+//! files say nothing of what a file holds: the crate `calls` shows it.
 //!
-//! The definitions stand in `specs/`: `Words` the program's words, `Run` and `Status` what a run writes and answers.
+//! The definitions stand in `specs/`: `Words` the program's words, `Faults` which refusal each fault stands for, its status
+//! and its line, and `Run` what is written and what a fault says. `Commands` is for the private parts of `words` alone.
 //!
 //! It stands on the crates that it hands on, and on `clap` for the words, of which this crate first finds that they are a line of
-//! its own; that clap then refuses them only for want of memory is proved.
+//! its own; that clap then refuses them only for want of memory, and finds the name that stands in them, is proved.
 #![tactic(auto)]
 
+mod fault;
 pub mod laws;
 mod program;
 mod words;
 
-pub use guestmem::{NoMemory, PAGE_SIZE, PAGES_MAX, Ram};
+pub use guestmem::{ACCESS_MAX, NoMemory, PAGE_SIZE, PAGES_MAX, Ram, RamError, Touched};
 pub use machine::{
     Bytes, DEVICES_MAX, DeviceState, Disk, DiskFault, Event, Machine, MemDisk, NewError, Refusal,
     Reply, SECTOR_SIZE, Shape,
@@ -30,7 +34,7 @@ pub use machine::{
 pub use program::execute;
 pub use receiver::{RecvError, receive};
 pub use sender::{MigError, save};
-pub use traces::{Trace, TraceError, WriteFault, parse, write_reply};
+pub use traces::{Trace, TraceError, WriteFault, parse, write_checked, write_reply};
 pub use wire::{
     DecodeError, Header, Record, Sink, SinkFault, WriteSink, decode_device, decode_header,
     decode_record, encode_commit, encode_device, encode_header, encode_page,

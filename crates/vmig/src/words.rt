@@ -1,9 +1,7 @@
 //! The program's words.
 
 ghost use Rattle.std.specs.Prelude.{◌≡◌, map, true, false, IfOk, IfErr};
-ghost use Rattle.vmig.specs.Words.{is_name, is_run_line, is_check_line, is_program_line, Asks};
-ghost use Rattle.vmig.specs.Commands.{command_of};
-ghost use Rattle.clap.specs.Words.{takes};
+ghost use Rattle.vmig.specs.Words.{is_name, is_line, is_program_line, named_file, Asks};
 ghost use Rattle.vmig.specs.declared.words.WordsError.TheVariants.{Usage, NoMemory};
 ghost use Rattle.clap.specs.Words.{kind_of};
 ghost use Rattle.clap.specs.declared.error.kind.ErrorKind.TheVariants.{OutOfMemory};
@@ -58,22 +56,12 @@ fn is_file_name(word: &str) -> bool
     !word.starts_with('-')
 }
 
-/// Whether the words are `run TRACE`.
-fn is_run_line(words: &[&str]) -> bool
-    ensures { result ≡ is_run_line (map (λ word. word.now) words.now) }
+/// Whether the words are this verb and the name of a file.
+fn is_line(verb: &str, words: &[&str]) -> bool
+    ensures { result ≡ is_line verb.now (map (λ word. word.now) words.now) }
 {
     match words {
-        [verb, trace] => *verb == "run" && is_file_name(trace),
-        _ => false,
-    }
-}
-
-/// Whether the words are `check STREAM`.
-fn is_check_line(words: &[&str]) -> bool
-    ensures { result ≡ is_check_line (map (λ word. word.now) words.now) }
-{
-    match words {
-        [verb, stream] => *verb == "check" && is_file_name(stream),
+        [word, name] => *word == verb && is_file_name(name),
         _ => false,
     }
 }
@@ -85,25 +73,26 @@ pub fn read_words<'a>(alloc: Global, words: &'a [&'a str]) -> Result<Request<'a>
     ensures known { is_program_line (map (λ word. word.now) words.entry.now) ≡ true → IfErr result (λ refusal. refusal ≡ NoMemory) }
     ensures asks { IfOk result (Asks (map (λ word. word.now) words.entry.now)) }
 {
-    if is_run_line(words) {
+    if is_line("run", words) {
         let trace = read_name(alloc, "run", words)?;
         return Ok(Request::Run { trace });
     }
-    if is_check_line(words) {
+    if is_line("check", words) {
         let stream = read_name(alloc, "check", words)?;
         return Ok(Request::Check { stream });
     }
     Err(WordsError::Usage)
 }
 
-/// Reads the words of a line of this verb and one name.
+/// Reads the words of a line of this verb.
 fn read_name<'a>(
     alloc: Global,
     verb: &'static str,
     words: &'a [&'a str],
 ) -> Result<&'a str, WordsError>
-    requires { takes (command_of verb.now) (map (λ word. word.now) words.now) ≡ true }
-    ensures { IfErr result (λ refusal. refusal ≡ NoMemory) }
+    requires { is_line verb.now (map (λ word. word.now) words.now) ≡ true }
+    ensures memory { IfErr result (λ refusal. refusal ≡ NoMemory) }
+    ensures name { IfOk result (λ name. name.now ≡ named_file (map (λ word. word.now) words.entry.now)) }
 {
     let input = Arg::new(alloc, "input")
         .required(true)

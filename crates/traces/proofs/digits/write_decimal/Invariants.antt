@@ -5,7 +5,7 @@ abbrev pub invariant-loop-rest : goal.invariant-loop-rest
 invariant-loop-rest l = record {
   written : decimal l.number ≡ decimal l.rest ++ drop l.at l.room;
   some : 1 ≤ l.at;
-  within : l.at ≤ 10;
+  within : l.at ≤ 20;
   bounded : l.rest < 10 ^ l.at;
 }
 

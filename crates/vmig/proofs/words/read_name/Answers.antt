@@ -1,26 +1,29 @@
-use Rattle.std.proofs.Common.{rules, sym, ap, ap₂, inl, inr, is_some, true, codes, List, ℕ, map, ◌≡◌, ◌∙◌}
-use Rattle.clap.specs.Words.{app_of, rule_of, takes, with_rule, first_value, found_of}
-use Rattle.clap.proofs.CallerLemmas.{one_required_value, some_of_text}
+use Rattle.std.proofs.Common.{rules, ap, ap₂, true, List, ℕ, map, ◌≡◌, ◌∙◌}
+use Rattle.clap.specs.Words.{app_of, rule_of, takes, with_rule}
 use Rattle.vmig.specs.Commands.{input_argument, command_of}
-use Rattle.vmig.proofs.TakenWords.{not_missing, not_empty, not_help, not_version}
+use Rattle.vmig.proofs.TakenWords.{takes_line, reads_name, text_is, some_text}
 use Rattle.vmig.proofs.words.read_name.Goals as goal
 
-pub returns-in-Err : goal.returns-in-Err
-returns-in-Err c =
+pub returns-in-Err-clause-memory : goal.returns-in-Err-clause-memory
+returns-in-Err-clause-memory c =
     let words : List (List ℕ) = map (λ w. w.now) c.args.words.now in
     let rule_is : rule_of c.action-input.result ≡ input_argument = search rules in
-    let command_is : app_of c.in_ok-command.command ≡ (command_of c.args.verb.now) = c.in_ok-command.ensures.shape (search rules) ∙ ap₂ with_rule c.new-2.ensures.app rule_is in
-    let takes_words : takes (app_of c.in_ok-command.command) words ≡ true = ap (λ a. takes a words) command_is ∙ c.requires in
-    c.from.ensures (c.in-Err.ensures.passes takes_words)
+    let command_is : app_of c.in_ok-command.command ≡ command_of c.args.verb.now = c.in_ok-command.ensures.shape (search rules) ∙ ap₂ with_rule c.new-2.ensures.app rule_is in
+    let taken : takes (app_of c.in_ok-command.command) words ≡ true = ap (λ a. takes a words) command_is ∙ takes_line c.args.verb.now words c.requires in
+    c.from.ensures (c.in-Err.ensures.passes taken)
 
-pub returns : goal.returns
-returns c =
-    let id_is : c.action-input.result.id.now ≡ codes "input" = search rules in
-    let value : is_some (first_value (found_of c.in-Ok.matches) c.action-input.result.id.now) ≡ true =
-    one_required_value c.new-2.result c.in_ok-command.command c.action-input.result c.in-Ok.matches c.in_ok-command.ensures
-    (search rules) (search rules) (search rules) (search rules) (search rules) (search rules) (search rules) (search rules) (search rules) (search rules)
-    (λ e. not_empty (sym id_is ∙ e))
-    (λ auto. elim auto [ inl h ↦ not_help (sym id_is ∙ h) | inr h ↦ not_version (sym id_is ∙ h) ])
-    c.in-Ok.ensures.parsed in
-    let named : is_some c.get_str.result ≡ true = some_of_text (λ s. s.now) c.get_str.result _ c.get_str.ensures (search rules) in
-    absurd (not_missing c.get_str.result named c.in-None.is)
+pub returns-in-Some-clause-name : goal.returns-in-Some-clause-name
+returns-in-Some-clause-name c =
+    let words : List (List ℕ) = map (λ w. w.now) c.args.words.now in
+    let rule_is : rule_of c.action-input.result ≡ input_argument = search rules in
+    let command_is : app_of c.in_ok-command.command ≡ command_of c.args.verb.now = c.in_ok-command.ensures.shape (search rules) ∙ ap₂ with_rule c.new-2.ensures.app rule_is in
+    let found = reads_name c.in-Ok.matches (app_of c.in_ok-command.command) c.args.verb.now words command_is c.requires c.in-Ok.ensures.matches in
+    text_is c.get_str.result c.in-Some.name _ c.in-Some.is (c.get_str.ensures ∙ found)
+
+pub returns-clause-memory : goal.returns-clause-memory
+returns-clause-memory c =
+    let words : List (List ℕ) = map (λ w. w.now) c.args.words.now in
+    let rule_is : rule_of c.action-input.result ≡ input_argument = search rules in
+    let command_is : app_of c.in_ok-command.command ≡ command_of c.args.verb.now = c.in_ok-command.ensures.shape (search rules) ∙ ap₂ with_rule c.new-2.ensures.app rule_is in
+    let found = reads_name c.in-Ok.matches (app_of c.in_ok-command.command) c.args.verb.now words command_is c.requires c.in-Ok.ensures.matches in
+    absurd (some_text c.get_str.result _ c.in-None.is (c.get_str.ensures ∙ found))

@@ -1,7 +1,7 @@
 use Rattle.std.proofs.Common.{arith}
 use Rattle.traces.proofs.Known.{on_err}
 use Rattle.traces.proofs.HexText.{no_digits, more_digits, some_digits}
-use Rattle.traces.proofs.put.put_digits.Goals as goal
+use Rattle.traces.proofs.parts.put_digits.Goals as goal
 
 pub loop-at-init : goal.loop-at-init
 loop-at-init g c = record { within = omega arith; done = no_digits _ }

@@ -1,8 +1,8 @@
 use Rattle.std.proofs.Common.{sym, arith}
 use Rattle.traces.specs.Replies.{reply_line}
-use Rattle.vmig.proofs.Known.{on_err}
+use Rattle.traces.proofs.Known.{on_err}
 use Rattle.vmig.proofs.AllReplies.{begun_at}
-use Rattle.vmig.proofs.program.write_replies.Goals as goal
+use Rattle.vmig.proofs.program.write_each.Goals as goal
 
 pub returns-in_err-write_reply-clause-err : goal.returns-in_err-write_reply-clause-err
 returns-in_err-write_reply-clause-err g c =

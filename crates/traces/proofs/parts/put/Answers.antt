@@ -1,8 +1,8 @@
 use Rattle.std.proofs.Common.{◌≡◌, ◌+◌, sym, arith}
 use Rattle.std.proofs.lemmas.List.{length-take, length-drop}
 use Rattle.traces.proofs.Known.{appends_on, keeps_on, rest_of}
-use Rattle.traces.proofs.put.put.Goals as goal
-use Rattle.traces.proofs.put.put.Goals.{in-Ok, in-Err+else-ne}
+use Rattle.traces.proofs.parts.put.Goals as goal
+use Rattle.traces.proofs.parts.put.Goals.{in-Ok, in-Err+else-ne}
 
 pub loop-preserved : goal.loop-preserved
 loop-preserved g c = elim c.match-write.branch [

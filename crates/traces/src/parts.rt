@@ -1,10 +1,11 @@
-//! Bytes to a writer, of which a fault leaves a beginning written.
+//! The parts of a line to a writer, of which a fault leaves a beginning written.
 
 ghost use Rattle.std.specs.Prelude.{◌≡◌, ◌≤◌, ◌++◌, OnOk, OnErr, take, decimal, length};
 ghost use Rattle.std.specs.Io.KnownBytes.{Appends};
 ghost use Rattle.hex.specs.Hex.{encode_lower};
-ghost use Rattle.traces.specs.Replies.{AppendsBeginning};
+ghost use Rattle.traces.specs.Replies.{AppendsBeginning, newline};
 
+use crate::digits::{MOST_DIGITS, write_decimal};
 use std::io::{ErrorKind, Write};
 use thiserror::Error;
 
@@ -49,9 +50,39 @@ pub fn put_both<W: Write>(out: &mut W, first: &[u8], second: &[u8]) -> Result<()
     put(out, second)
 }
 
+/// Writes a word, a text and LF, or a beginning of the three.
+#[tactic(auto, using(crate::proofs::Known::appends_on, crate::proofs::Known::begins_first, crate::proofs::Known::begins_on))]
+pub fn put_line<W: Write>(out: &mut W, word: &[u8], text: &[u8]) -> Result<(), WriteFault>
+    ensures ok { OnOk result (Appends (W.contents out.old) (W.contents out.new) (word.now ++ text.now ++ newline)) }
+    ensures err { OnErr result (AppendsBeginning (W.contents out.old) (W.contents out.new) (word.now ++ text.now ++ newline)) }
+{
+    put_both(out, word, text)?;
+    put(out, b"\n")
+}
+
+/// Writes a word, a decimal number without leading zeros, and LF, or a beginning of the three.
+pub fn put_number<W: Write>(out: &mut W, word: &[u8], number: u64) -> Result<(), WriteFault>
+    ensures ok { OnOk result (Appends (W.contents out.old) (W.contents out.new) (word.now ++ decimal number ++ newline)) }
+    ensures err { OnErr result (AppendsBeginning (W.contents out.old) (W.contents out.new) (word.now ++ decimal number ++ newline)) }
+{
+    let mut digits = [b'\n'; MOST_DIGITS + 1];
+    let start = write_decimal(&mut digits[..MOST_DIGITS], number);
+    put_both(out, word, &digits[start..])
+}
+
+/// Writes a word and a decimal number, or a beginning of the two.
+pub fn put_plain<W: Write>(out: &mut W, word: &[u8], number: u64) -> Result<(), WriteFault>
+    ensures ok { OnOk result (Appends (W.contents out.old) (W.contents out.new) (word.now ++ decimal number)) }
+    ensures err { OnErr result (AppendsBeginning (W.contents out.old) (W.contents out.new) (word.now ++ decimal number)) }
+{
+    let mut digits = [b'0'; MOST_DIGITS];
+    let start = write_decimal(&mut digits, number);
+    put_both(out, word, &digits[start..])
+}
+
 /// Writes two digits for each of a few bytes.
 fn put_few_digits<W: Write>(out: &mut W, bytes: &[u8]) -> Result<(), WriteFault>
-    requires { length bytes.now ≤ 32 }
+    requires { length bytes.now ≤ BYTES_AT_ONCE }
     ensures ok { OnOk result (Appends (W.contents out.old) (W.contents out.new) (encode_lower bytes.now)) }
     ensures err { OnErr result (AppendsBeginning (W.contents out.old) (W.contents out.new) (encode_lower bytes.now)) }
 {

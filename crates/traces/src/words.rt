@@ -1,0 +1,20 @@
+//! The words of a line, split off one after another.
+
+ghost use Rattle.std.specs.Prelude.{◌≡◌, ◌∷◌, [], MatchOption, position};
+ghost use Rattle.std.specs.List.{slice_split};
+ghost use Rattle.traces.specs.Line.{is_space};
+
+fn word_end(line: &[u8]) -> Option<usize>
+    ensures { result ≡ position is_space line.now }
+{
+    line.iter().position(|c| *c == b' ')
+}
+
+/// The first word of a line and the words behind its space, or `None` where the line is one word.
+#[tactic(auto, using(crate::proofs::FirstWord::split_at, crate::proofs::FirstWord::not_split))]
+pub fn split_word(line: &[u8]) -> Option<(&[u8], &[u8])>
+    ensures { MatchOption result (slice_split is_space line.now ≡ line.now ∷ []) (λ parts. slice_split is_space line.now ≡ parts.0.now ∷ slice_split is_space parts.1.now) }
+{
+    let at = word_end(line)?;
+    Some((&line[..at], &line[at + 1..]))
+}

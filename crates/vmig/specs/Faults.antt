@@ -1,0 +1,57 @@
+-- The faults of the program: which refusal each stands for, its exit status, and its line on standard error.
+use Rattle.std.specs.Prelude.{ℕ, List, ◌++◌, codes, decimal}
+use Rattle.std.specs.Borrow.{Bor}
+use Rattle.std.specs.declared.io.ErrorKind.{ErrorKind}
+use Rattle.std.specs.declared.io.ErrorKind.TheVariants.{OutOfMemory}
+use Rattle.machine.specs.Refusal.{new_code_of}
+use Rattle.machine.specs.declared.new_error.NewError.{NewError}
+use Rattle.machine.specs.declared.new_error.NewError.TheVariants as new_error
+use Rattle.receiver.specs.Receiving.{recv_code_of}
+use Rattle.receiver.specs.declared.recv_error.RecvError.{RecvError}
+use Rattle.receiver.specs.declared.recv_error.RecvError.TheVariants as recv_error
+use Rattle.traces.specs.Replies.{newline}
+use Rattle.traces.specs.declared.trace.TraceError.{TraceError}
+use Rattle.traces.specs.declared.trace.TraceError.TheVariants as trace_error
+use Rattle.vmig.specs.declared.fault.Fault.{Fault}
+use Rattle.vmig.specs.declared.fault.Fault.TheVariants.{NoMemory, Usage, File, Line, Shape, Stream}
+use Rattle.vmig.specs.declared.words.WordsError.{WordsError}
+use Rattle.vmig.specs.declared.words.WordsError.TheVariants as words_error
+
+-- Each refusal has its fault. Want of memory is one fault, whoever met it.
+abbrev pub words_fault : WordsError → Fault
+words_fault words_error.Usage = Usage
+words_fault words_error.NoMemory = NoMemory
+
+abbrev pub read_fault : Bor (List ℕ) → ErrorKind → Fault
+read_fault name OutOfMemory = NoMemory
+read_fault name _ = File name
+
+abbrev pub trace_fault : TraceError → Fault
+trace_fault trace_error.NoMemory = NoMemory
+trace_fault (trace_error.Line number) = Line number
+
+abbrev pub shape_fault : NewError → Fault
+shape_fault new_error.NoMemory = NoMemory
+shape_fault refusal = Shape (new_code_of refusal)
+
+abbrev pub stream_fault : RecvError → Fault
+stream_fault recv_error.NoMemory = NoMemory
+stream_fault refusal = Stream (recv_code_of refusal)
+
+-- The exit status where the program did not go through; else it is 0.
+abbrev pub status_of : Fault → ℕ
+status_of NoMemory = 1
+status_of Usage = 2
+status_of (File name) = 3
+status_of (Line number) = 4
+status_of (Shape refusal) = 4
+status_of (Stream refusal) = 5
+
+-- The line on standard error. Numbers are decimal, without leading zeros.
+abbrev pub fault_line : Fault → List ℕ
+fault_line NoMemory = codes "vmig: memory" ++ newline
+fault_line Usage = codes "vmig: usage" ++ newline
+fault_line (File name) = codes "vmig: file " ++ name.now ++ newline
+fault_line (Line number) = codes "vmig: trace line " ++ decimal number ++ newline
+fault_line (Shape refusal) = codes "vmig: shape " ++ decimal refusal ++ newline
+fault_line (Stream refusal) = codes "vmig: stream " ++ decimal refusal ++ newline
