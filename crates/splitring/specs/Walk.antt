@@ -1,8 +1,10 @@
 use Rattle.std.specs.Prelude.{◌≡◌, ℕ, ◌+◌, ◌-◌, ◌/◌, ◌<◌, ◌≤◌, [], ◌∷◌, List, length, ◌++◌, Bool, true}
 use Rattle.chains.specs.declared.descriptor.Descriptor.{Descriptor}
+use Rattle.chains.specs.declared.descriptor.TheConstants.{DESCRIPTOR_SIZE}
 use Rattle.chains.specs.declared.limits.TheConstants.{SHORT_CHAIN_MAX}
+use Rattle.chains.specs.State.{RingState}
 use Rattle.chains.specs.Whole.{IsTable}
-use Rattle.chains.specs.SplitChain.{AreLinked, IsReplaced}
+use Rattle.chains.specs.SplitChain.{AreLinked, IsReplaced, head}
 use Rattle.chains.specs.LongQueue.{AreInRow}
 
 -- The list from an index on begins with these, and goes on from another index: what completes the rest completes the
@@ -44,12 +46,12 @@ pub record IsLongReplacement (ram : List ℕ) (has_indirect : Bool) (direct : Li
   pub feature : has_indirect ≡ true
   pub named : last.is_indirect ≡ true
   pub table : IsTable ram last
-  pub behind : IsLongBehind ram last.addr (last.len / 16) 0 (most - length front) front
+  pub behind : IsLongBehind ram last.addr (last.len / DESCRIPTOR_SIZE) 0 (most - length front) front
 
--- The descriptors of the list that begins at an entry, with a table in the place of the descriptor that names it, are
--- these, and no more than the table has entries.
-pub record AreFound (ram : List ℕ) (has_indirect : Bool) (table entries first : ℕ) (all : List Descriptor) : Type 0 where
+-- The descriptors of the list that begins at the head of a queue, with a table in the place of the descriptor that
+-- names it, are these, and no more than there are slots.
+pub record AreFound (ram : List ℕ) (q : RingState) (all : List Descriptor) : Type 0 where
   pub direct : List Descriptor
-  pub linked : AreLinked ram table entries first direct
-  pub replaced : IsReplaced ram has_indirect direct all
-  pub few : length all ≤ entries
+  pub linked : AreLinked ram q.descriptors q.size (head ram q) direct
+  pub replaced : IsReplaced ram q.has_indirect direct all
+  pub few : length all ≤ q.size
