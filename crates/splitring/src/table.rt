@@ -49,7 +49,7 @@ fn replace(
     ensures memory { OnErr result (IsLongReplacement ram.now.bytes core.now.has_indirect direct core.now.size) }
 {
     let Some((last, front)) = direct.as_slice().split_last() else {
-        return Ok(None);
+        unreachable!()
     };
     // A descriptor with INDIRECT and NEXT.
     if !are_plain(front) {
