@@ -10,8 +10,8 @@ use Rattle.chains.specs.PackedChain.{AreConsecutive, IsPackedTable, IsPackedList
 use Rattle.chains.specs.PackedLaws.{packed_list_same}
 use Rattle.chains.specs.ChainLaws.{length_entries}
 use Rattle.chains.proofs.Cases.{where_true}
-use Rattle.packedring.specs.Walk.{Leads, AreFound, IsNoneFound}
-use Rattle.packedring.proofs.Leading.{consecutive_first}
+use Rattle.packedring.specs.Walk.{AreFound, IsNoneFound}
+use Rattle.packedring.proofs.Leading.{Leads, consecutive_first}
 
 -- The descriptor at the taking position.
 abbrev first_of : List ℕ → RingState → Descriptor

@@ -1,15 +1,7 @@
-use Rattle.std.specs.Prelude.{◌≡◌, ℕ, ◌+◌, ◌≤◌, List, ◌++◌, length}
+use Rattle.std.specs.Prelude.{◌≡◌, ℕ, ◌+◌, ◌≤◌, List, length}
 use Rattle.chains.specs.declared.descriptor.Descriptor.{Descriptor}
 use Rattle.chains.specs.State.{RingState}
-use Rattle.chains.specs.PackedChain.{AreConsecutive, IsPackedList}
-use Rattle.chains.specs.LongQueue.{AreInSlots}
-
--- The descriptors from a slot on begin with these, and go on from another slot: what completes the rest completes the
--- whole, and nothing else does. A row from there on goes on from these, too.
-pub record Leads (ram : List ℕ) (table size slot : ℕ) (front : List Descriptor) (next : ℕ) : Type 0 where
-  pub completes : (rest : List Descriptor) → AreConsecutive ram table size next rest → AreConsecutive ram table size slot (front ++ rest)
-  pub only : (whole : List Descriptor) → AreConsecutive ram table size slot whole → (rest : List Descriptor) × (whole ≡ front ++ rest) × AreConsecutive ram table size next rest
-  pub rows : (rest : List Descriptor) → AreInSlots ram table size next rest → AreInSlots ram table size slot (front ++ rest)
+use Rattle.chains.specs.PackedChain.{IsPackedList}
 
 -- The descriptors at the taking position, with a table in the place of the one that names it, are these, and no more
 -- than there are slots. They take so many slots, and the last of these holds this id.

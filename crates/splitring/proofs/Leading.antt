@@ -9,9 +9,16 @@ use Rattle.chains.specs.SplitChain.{AreLinked, IsFromTable, IsReplaced}
 use Rattle.chains.specs.SplitLaws.{linked_same, linked_some}
 use Rattle.chains.specs.LongQueue.{AreInRow}
 use Rattle.chains.proofs.Cases.{where_true}
-use Rattle.splitring.specs.Walk.{Leads, IsNoList, AreListed, IsNoReplacement}
+use Rattle.splitring.specs.Walk.{IsNoList, AreListed, IsNoReplacement}
 
-pub leads_start : (ram : List ℕ) (table entries index : ℕ) → Leads ram table entries index [] index
+-- The list from an index on begins with these, and goes on from another index: what completes the rest completes the
+-- whole, and nothing else does. A row from there on goes on from these, too.
+pub record Leads (ram : List ℕ) (table entries index : ℕ) (front : List Descriptor) (next : ℕ) : Type 0 where
+  pub completes : (rest : List Descriptor) → AreLinked ram table entries next rest → AreLinked ram table entries index (front ++ rest)
+  pub only : (whole : List Descriptor) → AreLinked ram table entries index whole → (rest : List Descriptor) × (whole ≡ front ++ rest) × AreLinked ram table entries next rest
+  pub rows : (rest : List Descriptor) → AreInRow ram table entries next rest → AreInRow ram table entries index (front ++ rest)
+
+leads_start : (ram : List ℕ) (table entries index : ℕ) → Leads ram table entries index [] index
 leads_start ram table entries index = record { completes = λ rest h. h; only = λ whole h. (whole, refl, h); rows = λ rest h. h }
 
 behind : (ram : List ℕ) (table entries index : ℕ) (d : Descriptor) → index < entries → d ≡ descriptor_at false ram table index → d.has_next ≡ true
@@ -35,7 +42,7 @@ first_is ram table entries index d is next (x ∷ e ∷ es) h =
     let same : x ≡ d = h.1 ∙ sym is in
     (e ∷ es, ap (λ (y : Descriptor). y ∷ e ∷ es) same, rw same at h.3)
 
-pub leads_more : (ram : List ℕ) (table entries index next : ℕ) (front : List Descriptor) (d : Descriptor) → Leads ram table entries index front next
+leads_more : (ram : List ℕ) (table entries index next : ℕ) (front : List Descriptor) (d : Descriptor) → Leads ram table entries index front next
     → next < entries → d ≡ descriptor_at false ram table next → d.has_next ≡ true → Leads ram table entries index (front ++ d ∷ []) d.next
 leads_more ram table entries index next front d leads below is more = record {
   completes = λ rest h. rw append_assoc (leads.completes (d ∷ rest) (behind ram table entries next d below is more rest h));

@@ -6,7 +6,7 @@ use Rattle.chains.specs.declared.limits.TheConstants.{SHORT_CHAIN_MAX}
 use Rattle.chains.specs.State.{RingState}
 use Rattle.chains.specs.SplitChain.{AreLinked, IsFromTable, head}
 use Rattle.chains.specs.LongQueue.{AreInRow, IsSplitRow, IsLongSplit}
-use Rattle.splitring.specs.Walk.{AreFound, IsLongBehind, IsLongReplacement}
+use Rattle.splitring.specs.Walk.{AreFound, IsLongReplacement}
 
 -- A list is a row.
 linked_in_row : (ram : List ℕ) (table entries index : ℕ) (ds : List Descriptor) → AreLinked ram table entries index ds → AreInRow ram table entries index ds
@@ -35,11 +35,7 @@ long_found ram q all f long =
     let r = f.replaced in
     record { row = all; is_row = row_by ram q r.last.is_indirect f.direct all r.front r.last refl r.parts f.linked r.whole; long = long; few = f.few }
 
--- So do many descriptors from the head on.
-pub long_first : (ram : List ℕ) (q : RingState) (first : ℕ) → first ≡ head ram q → IsLongBehind ram q.descriptors q.size first q.size [] → IsLongSplit ram q
-long_first ram q first is b = record { row = b.row; is_row = inl (rw is at b.in_row); long = omega (arith, b.long); few = b.few }
-
--- So do those before the one that names a table, with many in its table.
+-- So do the descriptors before the one that names a table, with many in its table.
 pub long_replaced : (ram : List ℕ) (q : RingState) (first : ℕ) (direct : List Descriptor) → first ≡ head ram q → AreLinked ram q.descriptors q.size first direct → length direct ≤ q.size
     → IsLongReplacement ram q.has_indirect direct q.size → IsLongSplit ram q
 long_replaced ram q first direct is linked few r =

@@ -7,13 +7,6 @@ use Rattle.chains.specs.Whole.{IsTable}
 use Rattle.chains.specs.SplitChain.{AreLinked, IsReplaced, head}
 use Rattle.chains.specs.LongQueue.{AreInRow}
 
--- The list from an index on begins with these, and goes on from another index: what completes the rest completes the
--- whole, and nothing else does. A row from there on goes on from these, too.
-pub record Leads (ram : List ℕ) (table entries index : ℕ) (front : List Descriptor) (next : ℕ) : Type 0 where
-  pub completes : (rest : List Descriptor) → AreLinked ram table entries next rest → AreLinked ram table entries index (front ++ rest)
-  pub only : (whole : List Descriptor) → AreLinked ram table entries index whole → (rest : List Descriptor) × (whole ≡ front ++ rest) × AreLinked ram table entries next rest
-  pub rows : (rest : List Descriptor) → AreInRow ram table entries next rest → AreInRow ram table entries index (front ++ rest)
-
 -- No list of at most so many descriptors begins at this entry.
 abbrev pub IsNoList : List ℕ → ℕ → ℕ → ℕ → ℕ → Type 0
 IsNoList ram table entries index room = (ds : List Descriptor) → AreLinked ram table entries index ds → length ds ≤ room → ⊥

@@ -1,7 +1,7 @@
 use Rattle.std.proofs.Common.{◌≡◌, ◌<◌, length, true, false}
 use Rattle.chains.specs.Descriptor.{descriptor_at}
 use Rattle.chains.specs.Whole.{ArePlain}
-use Rattle.packedring.specs.Walk.{Leads}
+use Rattle.packedring.proofs.Leading.{Leads}
 use Rattle.packedring.proofs.walk.walk.Given as goal
 
 abbrev pub invariant-loop-step : goal.invariant-loop-step
