@@ -5,7 +5,7 @@ use Rattle.chains.specs.declared.descriptor.TheConstants.{DESCRIPTOR_SIZE}
 use Rattle.chains.specs.declared.limits.TheConstants.{SHORT_CHAIN_MAX}
 use Rattle.chains.specs.State.{RingState}
 use Rattle.chains.specs.Descriptor.{descriptor_at}
-use Rattle.chains.specs.Whole.{IsTable}
+use Rattle.chains.specs.Whole.{IsTable, ArePlain}
 use Rattle.chains.specs.SplitChain.{AreLinked, head}
 use Rattle.chains.specs.PackedChain.{entries_from}
 use Rattle.chains.specs.Ring.{IsEmptyQueue}
@@ -19,12 +19,13 @@ AreInRow ram table entries index (d ∷ e ∷ ds) =
     (index < entries) × (d ≡ descriptor_at false ram table index) × (d.has_next ≡ true) × AreInRow ram table entries d.next (e ∷ ds)
 
 -- A row that goes on in a table: the list from the head on ends with a descriptor that names the table, and the row is
--- those before it, and then descriptors in a row from entry 0 of the table (VIRTIO 1.2, 2.7.5.3).
+-- those before it, which name none, and then descriptors in a row from entry 0 of the table (VIRTIO 1.2, 2.7.5.3).
 pub record IsRowIntoTable (ram : List ℕ) (q : RingState) (row : List Descriptor) : Type 0 where
   pub front : List Descriptor
   pub last : Descriptor
   pub inner : List Descriptor
   pub linked : AreLinked ram q.descriptors q.size (head ram q) (front ++ last ∷ [])
+  pub plain : ArePlain front
   pub feature : q.has_indirect ≡ true
   pub named : last.is_indirect ≡ true
   pub table : IsTable ram last

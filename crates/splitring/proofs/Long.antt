@@ -4,6 +4,7 @@ use Rattle.std.specs.Bool.{MatchBool}
 use Rattle.chains.specs.declared.descriptor.Descriptor.{Descriptor}
 use Rattle.chains.specs.declared.limits.TheConstants.{SHORT_CHAIN_MAX}
 use Rattle.chains.specs.State.{RingState}
+use Rattle.chains.specs.Whole.{ArePlain}
 use Rattle.chains.specs.SplitChain.{AreLinked, IsFromTable, head}
 use Rattle.chains.specs.LongQueue.{AreInRow, IsSplitRow, IsLongSplit}
 use Rattle.splitring.specs.Walk.{AreFound, IsLongReplacement}
@@ -14,26 +15,27 @@ linked_in_row ram table entries index [] h = h
 linked_in_row ram table entries index (d ∷ []) h = (h.0, h.1)
 linked_in_row ram table entries index (d ∷ e ∷ ds) h = (h.0, h.1, h.2, linked_in_row ram table entries d.next (e ∷ ds) h.3)
 
-row_by : (ram : List ℕ) (q : RingState) (named : Bool) (direct all front : List Descriptor) (last : Descriptor) → last.is_indirect ≡ named → direct ≡ front ++ last ∷ []
+row_by : (ram : List ℕ) (q : RingState) (named : Bool) (direct all front : List Descriptor) (last : Descriptor) → last.is_indirect ≡ named → direct ≡ front ++ last ∷ [] → ArePlain front
     → AreLinked ram q.descriptors q.size (head ram q) direct → MatchBool named ((q.has_indirect ≡ true) × IsFromTable ram front last all) (all ≡ direct) → IsSplitRow ram q all
-row_by ram q true direct all front last named parts linked (feature, t) = inr (record {
+row_by ram q true direct all front last named parts plain linked (feature, t) = inr (record {
   front = front;
   last = last;
   inner = t.inner;
   linked = rw parts at linked;
+  plain = plain;
   feature = feature;
   named = named;
   table = t.table;
   in_row = linked_in_row ram last.addr (last.len / 16) 0 t.inner t.linked;
   parts = t.parts;
 })
-row_by ram q false direct all front last named parts linked same = inl (rw same (linked_in_row ram q.descriptors q.size (head ram q) direct linked))
+row_by ram q false direct all front last named parts plain linked same = inl (rw same (linked_in_row ram q.descriptors q.size (head ram q) direct linked))
 
 -- Descriptors that are found, and that are many, stand in a long row.
 pub long_found : (ram : List ℕ) (q : RingState) (all : List Descriptor) → AreFound ram q all → SHORT_CHAIN_MAX < length all → IsLongSplit ram q
 long_found ram q all f long =
     let r = f.replaced in
-    record { row = all; is_row = row_by ram q r.last.is_indirect f.direct all r.front r.last refl r.parts f.linked r.whole; long = long; few = f.few }
+    record { row = all; is_row = row_by ram q r.last.is_indirect f.direct all r.front r.last refl r.parts r.plain f.linked r.whole; long = long; few = f.few }
 
 -- So do the descriptors before the one that names a table, with many in its table.
 pub long_replaced : (ram : List ℕ) (q : RingState) (first : ℕ) (direct : List Descriptor) → first ≡ head ram q → AreLinked ram q.descriptors q.size first direct → length direct ≤ q.size
@@ -48,6 +50,7 @@ long_replaced ram q first direct is linked few r =
         last = r.last;
         inner = r.behind.row;
         linked = rw (r.parts, is) at linked;
+        plain = r.plain;
         feature = r.feature;
         named = r.named;
         table = r.table;

@@ -3,7 +3,7 @@ use Rattle.chains.specs.declared.descriptor.Descriptor.{Descriptor}
 use Rattle.chains.specs.declared.descriptor.TheConstants.{DESCRIPTOR_SIZE}
 use Rattle.chains.specs.declared.limits.TheConstants.{SHORT_CHAIN_MAX}
 use Rattle.chains.specs.State.{RingState}
-use Rattle.chains.specs.Whole.{IsTable}
+use Rattle.chains.specs.Whole.{IsTable, ArePlain}
 use Rattle.chains.specs.SplitChain.{AreLinked, IsReplaced, head}
 use Rattle.chains.specs.LongQueue.{AreInRow}
 
@@ -30,12 +30,13 @@ pub record IsLongBehind (ram : List ℕ) (table entries index room : ℕ) (befor
 abbrev pub IsNoReplacement : List ℕ → Bool → List Descriptor → ℕ → Type 0
 IsNoReplacement ram has_indirect direct most = (all : List Descriptor) → IsReplaced ram has_indirect direct all → length all ≤ most → ⊥
 
--- The last of these descriptors names a table, and behind the others stand descriptors of it in a row, at most so many
--- with them, and all of them are too many to be handled without memory.
+-- The last of these descriptors alone names a table, and behind the others stand descriptors of it in a row, at most so
+-- many with them, and all of them are too many to be handled without memory.
 pub record IsLongReplacement (ram : List ℕ) (has_indirect : Bool) (direct : List Descriptor) (most : ℕ) : Type 0 where
   pub front : List Descriptor
   pub last : Descriptor
   pub parts : direct ≡ front ++ last ∷ []
+  pub plain : ArePlain front
   pub feature : has_indirect ≡ true
   pub named : last.is_indirect ≡ true
   pub table : IsTable ram last
