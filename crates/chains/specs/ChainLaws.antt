@@ -61,7 +61,8 @@ head_below ram table entries index [] h = absurd h
 head_below ram table entries index (d ∷ []) h = h.0
 head_below ram table entries index (d ∷ e ∷ ds) h = h.0
 
-length_entries : (ram : List ℕ) (table index count : ℕ) → length (entries_from ram table index count) ≡ count
+-- So many entries of a table are so many.
+pub length_entries : (ram : List ℕ) (table index count : ℕ) → length (entries_from ram table index count) ≡ count
 length_entries ram table index zero = refl
 length_entries ram table index (suc count) = ap suc (length_entries ram table (index + 1) count)
 
@@ -118,7 +119,7 @@ slots_by ram size has_indirect false front last all e few = omega (arith, ap len
 pub packed_bounded : (ram : List ℕ) (q : RingState) (c : Chain) → q.is_packed ≡ true → IsPackedChain ram q c → IsBounded (length ram) q c
 packed_bounded ram q c layout s =
     let b = bounded_of ram q.size s.all s.whole in
-    let slots = slots_by ram q.size q.has_indirect s.last.is_indirect s.front s.last s.all s.replaced s.whole.few in
+    let slots = slots_by ram q.size q.has_indirect s.last.is_indirect s.front s.last s.all s.list.replaced s.whole.few in
     rw s.is (record {
       some = omega arith;
       slots = slots;

@@ -1,4 +1,5 @@
 pub mod State
+pub mod RingCore
 pub mod Places
 pub mod Descriptor
 pub mod Whole

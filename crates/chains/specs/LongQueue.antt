@@ -1,10 +1,11 @@
-use Rattle.std.specs.Prelude.{◌≡◌, ℕ, ◌+◌, ◌/◌, ◌%◌, ◌<◌, ◌≤◌, ◌++◌, [], ◌∷◌, List, length, Bool, true, false, ◌⊎◌}
+use Rattle.std.specs.Prelude.{◌≡◌, ℕ, ◌+◌, ◌/◌, ◌%◌, ◌<◌, ◌≤◌, ◌++◌, [], ◌∷◌, List, length, true, false, ◌⊎◌}
 use Rattle.std.specs.Bool.{MatchBool}
 use Rattle.chains.specs.declared.descriptor.Descriptor.{Descriptor}
+use Rattle.chains.specs.declared.descriptor.TheConstants.{DESCRIPTOR_SIZE}
 use Rattle.chains.specs.declared.limits.TheConstants.{SHORT_CHAIN_MAX}
 use Rattle.chains.specs.State.{RingState}
 use Rattle.chains.specs.Descriptor.{descriptor_at}
-use Rattle.chains.specs.Whole.{IsTable}
+use Rattle.chains.specs.Whole.{IsTable, ArePlain}
 use Rattle.chains.specs.SplitChain.{AreLinked, head}
 use Rattle.chains.specs.PackedChain.{entries_from}
 use Rattle.chains.specs.Ring.{IsEmptyQueue}
@@ -15,24 +16,25 @@ abbrev pub AreInRow : List ℕ → ℕ → ℕ → ℕ → List Descriptor → T
 AreInRow ram table entries index [] = ⊥
 AreInRow ram table entries index (d ∷ []) = (index < entries) × (d ≡ descriptor_at false ram table index)
 AreInRow ram table entries index (d ∷ e ∷ ds) =
-    (index < entries) × (d ≡ descriptor_at false ram table index) × (d.has_next ≡ true) × AreInRow ram table entries d.link (e ∷ ds)
+    (index < entries) × (d ≡ descriptor_at false ram table index) × (d.has_next ≡ true) × AreInRow ram table entries d.next (e ∷ ds)
 
--- A row that goes on in a table: the list from an entry on ends with a descriptor that names the table, and the row is
--- those before it, and then descriptors in a row from entry 0 of the table (VIRTIO 1.2, 2.7.5.3).
-pub record IsRowIntoTable (ram : List ℕ) (has_indirect : Bool) (table size first : ℕ) (row : List Descriptor) : Type 0 where
+-- A row that goes on in a table: the list from the head on ends with a descriptor that names the table, and the row is
+-- those before it, which name none, and then descriptors in a row from entry 0 of the table (VIRTIO 1.2, 2.7.5.3).
+pub record IsRowIntoTable (ram : List ℕ) (q : RingState) (row : List Descriptor) : Type 0 where
   pub front : List Descriptor
   pub last : Descriptor
   pub inner : List Descriptor
-  pub linked : AreLinked ram table size first (front ++ last ∷ [])
-  pub feature : has_indirect ≡ true
+  pub linked : AreLinked ram q.descriptors q.size (head ram q) (front ++ last ∷ [])
+  pub plain : ArePlain front
+  pub feature : q.has_indirect ≡ true
   pub named : last.is_indirect ≡ true
-  pub table_inside : IsTable ram last
-  pub in_row : AreInRow ram last.addr (last.len / 16) 0 inner
+  pub table : IsTable ram last
+  pub in_row : AreInRow ram last.addr (last.len / DESCRIPTOR_SIZE) 0 inner
   pub parts : row ≡ front ++ inner
 
--- A row of descriptors from an entry of a split queue's table on.
-abbrev pub IsSplitRow : List ℕ → Bool → ℕ → ℕ → ℕ → List Descriptor → Type 0
-IsSplitRow ram has_indirect table size first row = AreInRow ram table size first row ⊎ IsRowIntoTable ram has_indirect table size first row
+-- A row at the taking position of a split queue.
+abbrev pub IsSplitRow : List ℕ → RingState → List Descriptor → Type 0
+IsSplitRow ram q row = AreInRow ram q.descriptors q.size (head ram q) row ⊎ IsRowIntoTable ram q row
 
 -- These are descriptors of consecutive slots of a ring of so many, from a slot on and going round: each but the last has
 -- NEXT (VIRTIO 1.2, 2.8.6), and the last may have it too.
@@ -43,16 +45,16 @@ AreInSlots ram table size slot (d ∷ e ∷ ds) =
     (d ≡ descriptor_at true ram table slot) × (d.has_next ≡ true) × AreInSlots ram table size ((slot + 1) % size) (e ∷ ds)
 
 -- All entries of the table that this descriptor, standing alone, names (VIRTIO 1.2, 2.8.7).
-pub record IsRowOfTable (ram : List ℕ) (has_indirect : Bool) (d : Descriptor) (row : List Descriptor) : Type 0 where
-  pub feature : has_indirect ≡ true
+pub record IsRowOfTable (ram : List ℕ) (q : RingState) (d : Descriptor) (row : List Descriptor) : Type 0 where
+  pub feature : q.has_indirect ≡ true
   pub named : d.is_indirect ≡ true
   pub alone : d.has_next ≡ false
-  pub table_inside : IsTable ram d
-  pub entries : row ≡ entries_from ram d.addr 0 (d.len / 16)
+  pub table : IsTable ram d
+  pub entries : row ≡ entries_from ram d.addr 0 (d.len / DESCRIPTOR_SIZE)
 
--- A row of descriptors from a slot of a packed queue on.
-abbrev pub IsPackedRow : List ℕ → Bool → ℕ → ℕ → ℕ → List Descriptor → Type 0
-IsPackedRow ram has_indirect table size slot row = AreInSlots ram table size slot row ⊎ IsRowOfTable ram has_indirect (descriptor_at true ram table slot) row
+-- A row at the taking position of a packed queue.
+abbrev pub IsPackedRow : List ℕ → RingState → List Descriptor → Type 0
+IsPackedRow ram q row = AreInSlots ram q.descriptors q.size q.taking.place row ⊎ IsRowOfTable ram q (descriptor_at true ram q.descriptors q.taking.place) row
 
 -- A long row is among these: more descriptors than are handled without memory, and no more than there are slots.
 pub record HasLongRow (IsRow : List Descriptor → Type 0) (size : ℕ) : Type 0 where
@@ -61,16 +63,16 @@ pub record HasLongRow (IsRow : List Descriptor → Type 0) (size : ℕ) : Type 0
   pub long : SHORT_CHAIN_MAX < length row
   pub few : length row ≤ size
 
--- A long row of descriptors stands at an entry of a split queue's table.
-abbrev pub IsLongSplit : List ℕ → Bool → ℕ → ℕ → ℕ → Type 0
-IsLongSplit ram has_indirect table size first = HasLongRow (IsSplitRow ram has_indirect table size first) size
+-- A long row stands at the taking position of a split queue.
+abbrev pub IsLongSplit : List ℕ → RingState → Type 0
+IsLongSplit ram q = HasLongRow (IsSplitRow ram q) q.size
 
--- A long row of descriptors stands at a slot of a packed queue.
-abbrev pub IsLongPacked : List ℕ → Bool → ℕ → ℕ → ℕ → Type 0
-IsLongPacked ram has_indirect table size slot = HasLongRow (IsPackedRow ram has_indirect table size slot) size
+-- A long row stands at the taking position of a packed queue.
+abbrev pub IsLongPacked : List ℕ → RingState → Type 0
+IsLongPacked ram q = HasLongRow (IsPackedRow ram q) q.size
 
 -- A queue is long: it is not empty, and a long row of descriptors stands at its taking position, whether they make a
 -- chain or not.
 pub record IsLongQueue (ram : List ℕ) (q : RingState) : Type 0 where
   pub waiting : ¬ (IsEmptyQueue ram q)
-  pub long : MatchBool q.is_packed (IsLongPacked ram q.has_indirect q.descriptors q.size q.taking.place) (IsLongSplit ram q.has_indirect q.descriptors q.size (head ram q))
+  pub long : MatchBool q.is_packed (IsLongPacked ram q) (IsLongSplit ram q)

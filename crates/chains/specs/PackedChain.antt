@@ -1,6 +1,7 @@
 use Rattle.std.specs.Prelude.{◌≡◌, ◌≢◌, ℕ, zero, suc, ◌+◌, ◌/◌, ◌%◌, ◌++◌, [], ◌∷◌, List, length, Bool, true, false}
 use Rattle.std.specs.Bool.{MatchBool}
 use Rattle.chains.specs.declared.descriptor.Descriptor.{Descriptor}
+use Rattle.chains.specs.declared.descriptor.TheConstants.{DESCRIPTOR_SIZE}
 use Rattle.chains.specs.declared.chain.Chain.{Chain}
 use Rattle.chains.specs.State.{RingState}
 use Rattle.chains.specs.Descriptor.{descriptor_at}
@@ -11,7 +12,7 @@ use Rattle.chains.specs.Whole.{IsTable, ArePlain, IsWhole, readable_of, writable
 abbrev pub IsAvailable : Bool → Descriptor → Type 0
 IsAvailable wrap d = (d.avail_flag ≡ wrap) × (d.used_flag ≢ wrap)
 
--- A packed queue is empty where the descriptor at the taking position is not available.
+-- A packed queue is empty where the descriptor at the taking position is not available (VIRTIO 1.2, 2.8.2).
 abbrev pub IsPackedEmpty : List ℕ → RingState → Type 0
 IsPackedEmpty ram q = ¬ (IsAvailable q.taking.wrap (descriptor_at true ram q.descriptors q.taking.place))
 
@@ -33,17 +34,21 @@ entries_from ram table index (suc count) = descriptor_at true ram table index �
 pub record IsPackedTable (ram : List ℕ) (front : List Descriptor) (last : Descriptor) (all : List Descriptor) : Type 0 where
   pub alone : front ≡ []
   pub table : IsTable ram last
-  pub entries : all ≡ entries_from ram last.addr 0 (last.len / 16)
+  pub entries : all ≡ entries_from ram last.addr 0 (last.len / DESCRIPTOR_SIZE)
 
--- The chain at the taking position of a packed queue (VIRTIO 1.2, 2.8): front and last are the descriptors of its slots,
--- and all is that list, or where the last one is indirect, which needs the feature INDIRECT_DESC, the table that it
--- names. The id is that of the last descriptor of the slots.
+-- Front and last are the descriptors of the slots at the taking position (VIRTIO 1.2, 2.8.5), and all is that list, or
+-- where the last one is indirect, which needs the feature INDIRECT_DESC, the table that it names.
+pub record IsPackedList (ram : List ℕ) (q : RingState) (front : List Descriptor) (last : Descriptor) (all : List Descriptor) : Type 0 where
+  pub consecutive : AreConsecutive ram q.descriptors q.size q.taking.place (front ++ last ∷ [])
+  pub plain : ArePlain front
+  pub replaced : MatchBool last.is_indirect ((q.has_indirect ≡ true) × IsPackedTable ram front last all) (all ≡ front ++ last ∷ [])
+
+-- The chain at the taking position of a packed queue (VIRTIO 1.2, 2.8). The id is that of the last descriptor of its
+-- slots.
 pub record IsPackedChain (ram : List ℕ) (q : RingState) (c : Chain) : Type 0 where
   pub front : List Descriptor
   pub last : Descriptor
   pub all : List Descriptor
-  pub consecutive : AreConsecutive ram q.descriptors q.size q.taking.place (front ++ last ∷ [])
-  pub plain : ArePlain front
-  pub replaced : MatchBool last.is_indirect ((q.has_indirect ≡ true) × IsPackedTable ram front last all) (all ≡ front ++ last ∷ [])
+  pub list : IsPackedList ram q front last all
   pub whole : IsWhole ram q.size all
-  pub is : c ≡ record { id = last.link; slots = length front + 1; readable = readable_of all; writable = writable_of all }
+  pub is : c ≡ record { id = last.id; slots = length front + 1; readable = readable_of all; writable = writable_of all }

@@ -1,12 +1,12 @@
 use Rattle.std.specs.Prelude.{◌≡◌, ℕ, ◌+◌, ◌%◌, List, [], ◌∷◌, ◌++◌, length, Bool, true, false, refl}
 use Rattle.std.proofs.Common.{ap, sym, ◌∙◌}
 use Rattle.std.specs.Bool.{MatchBool}
+use Rattle.std.proofs.lemmas.List.{same_from_push}
 use Rattle.chains.specs.declared.descriptor.Descriptor.{Descriptor}
 use Rattle.chains.specs.declared.chain.Chain.{Chain}
 use Rattle.chains.specs.State.{RingState}
 use Rattle.chains.specs.Whole.{readable_of, writable_of}
-use Rattle.chains.specs.PackedChain.{AreConsecutive, IsPackedTable, IsPackedChain}
-use Rattle.chains.specs.SplitLaws.{last_same, front_same}
+use Rattle.chains.specs.PackedChain.{AreConsecutive, IsPackedTable, IsPackedList, IsPackedChain}
 
 -- There is one list of descriptors from a slot on.
 pub consecutive_same : (ram : List ℕ) (table size slot : ℕ) (ds es : List Descriptor) → AreConsecutive ram table size slot ds → AreConsecutive ram table size slot es → ds ≡ es
@@ -32,18 +32,23 @@ replaced_by : (ram : List ℕ) (has_indirect named : Bool) (front : List Descrip
 replaced_by ram has_indirect true front last all more (p, t) (p', u) = t.entries ∙ sym u.entries
 replaced_by ram has_indirect false front last all more t u = t ∙ sym u
 
+-- One list of descriptors stands at the taking position.
+pub packed_list_same : (ram : List ℕ) (q : RingState) (front front' : List Descriptor) (last last' : Descriptor) (all all' : List Descriptor)
+    → IsPackedList ram q front last all → IsPackedList ram q front' last' all' → (front ≡ front') × (last ≡ last') × (all ≡ all')
+packed_list_same ram q front front' last last' all all' l k =
+    let joined : front ++ last ∷ [] ≡ front' ++ last' ∷ [] =
+    consecutive_same ram q.descriptors q.size q.taking.place (front ++ last ∷ []) (front' ++ last' ∷ []) l.consecutive k.consecutive in
+    let (fronts, lasts) = same_from_push front front' last last' joined in
+    (fronts, lasts, replaced_by ram q.has_indirect last'.is_indirect front' last' all all' (rw (lasts, fronts) at l.replaced) k.replaced)
+
 chain_of : List Descriptor → Descriptor → List Descriptor → Chain
-chain_of front last all = record { id = last.link; slots = length front + 1; readable = readable_of all; writable = writable_of all }
+chain_of front last all = record { id = last.id; slots = length front + 1; readable = readable_of all; writable = writable_of all }
 
 -- A packed queue has at most one chain at its taking position.
 pub packed_chain_same : (ram : List ℕ) (q : RingState) (c d : Chain) → IsPackedChain ram q c → IsPackedChain ram q d → c ≡ d
 unfolding chain_of
 packed_chain_same ram q c d s t =
-    let joined : t.front ++ t.last ∷ [] ≡ s.front ++ s.last ∷ [] =
-    consecutive_same ram q.descriptors q.size q.taking.place (t.front ++ t.last ∷ []) (s.front ++ s.last ∷ []) t.consecutive s.consecutive in
-    let last : t.last ≡ s.last = last_same t.front s.front t.last s.last joined in
-    let front : t.front ≡ s.front = front_same t.front s.front t.last s.last joined in
-    let e : s.all ≡ t.all = replaced_by ram q.has_indirect s.last.is_indirect s.front s.last s.all t.all s.replaced (rw (last, front) at t.replaced) in
+    let same = packed_list_same ram q s.front t.front s.last t.last s.all t.all s.list t.list in
     let is : c ≡ chain_of s.front s.last s.all = s.is in
     let also : d ≡ chain_of t.front t.last t.all = t.is in
-    is ∙ ap (chain_of s.front s.last) e ∙ sym (also ∙ rw (last, front) refl)
+    is ∙ rw (same.0, same.1, same.2) (sym also)

@@ -7,7 +7,8 @@ abbrev pub addresses : ℕ → ℕ → List ℕ
 addresses address zero = []
 addresses address (suc count) = address ∷ addresses (address + 1) count
 
--- The places of segments: the address of each of their bytes, in order.
+-- The places of segments: the address of each of their bytes, in order. How a message is cut into segments makes no
+-- difference (VIRTIO 1.2, 2.7.4).
 abbrev pub places : List Seg → List ℕ
 places [] = []
 places (seg ∷ segs) = addresses seg.addr seg.len ++ places segs

@@ -3,9 +3,11 @@ use Rattle.byteorder.specs.Endian.{little_bytes}
 use Rattle.guestmem.specs.Number.{number_at}
 use Rattle.guestmem.specs.Writes.{Write, byte_writes}
 use Rattle.chains.specs.declared.position.Position.{Position}
+use Rattle.chains.specs.declared.descriptor.TheConstants.{DESCRIPTOR_SIZE}
+use Rattle.chains.specs.declared.flags.TheConstants.{WRITE, AVAIL, USED}
 use Rattle.chains.specs.State.{RingState, has_bit}
 
--- A position of a split ring that goes on by one chain.
+-- A position of a split ring that goes on by one chain: both indexes run modulo 65,536 (VIRTIO 1.2, 2.7.6 and 2.7.8).
 abbrev pub next_index : Position → Position
 next_index p = record p { place = (p.place + 1) % 65536 }
 
@@ -39,12 +41,13 @@ split_published q id len =
     byte_writes (q.device + 4 + 8 * (q.used.place % q.size)) (little_bytes 4 id ++ little_bytes 4 len)
     ++ byte_writes (q.device + 2) (little_bytes 2 ((q.used.place + 1) % 65536))
 
--- Publishing in a packed ring (VIRTIO 1.2, 2.8.8 and 2.8.9): length, id and flags of the descriptor at the used position.
--- AVAIL and USED are both the wrap counter, and WRITE says whether the device wrote into the buffer. The address stays.
+-- Publishing in a packed ring: length, id and flags of the descriptor at the used position (VIRTIO 1.2, 2.8.13). AVAIL and
+-- USED are both the wrap counter (2.8.1), and WRITE says whether the device wrote into the buffer (2.8.3). Its address
+-- stays (2.8.4).
 unfoldable pub packed_published : RingState → ℕ → ℕ → Bool → List Write
 packed_published q id len wrote =
-    byte_writes (q.descriptors + 16 * q.used.place + 8)
-    (little_bytes 4 len ++ little_bytes 2 id ++ little_bytes 2 (bit_if wrote 2 + bit_if q.used.wrap 128 + bit_if q.used.wrap 32768))
+    byte_writes (q.descriptors + DESCRIPTOR_SIZE * q.used.place + 8)
+    (little_bytes 4 len ++ little_bytes 2 id ++ little_bytes 2 (bit_if wrote WRITE + bit_if q.used.wrap AVAIL + bit_if q.used.wrap USED))
 
 -- What publishing a chain writes: its id, its slots, the bytes written into its buffers, and whether there are any.
 abbrev pub published : RingState → ℕ → ℕ → ℕ → Bool → List Write
@@ -69,9 +72,9 @@ is_among offset wrap [] = false
 is_among offset wrap (p ∷ ps) = (p.place == offset && (if p.wrap then wrap else not wrap)) || is_among offset wrap ps
 
 -- Whether publishing a chain of so many slots at the used position of a packed ring calls for an interrupt, by RAM after
--- it (VIRTIO 1.2, 2.8.14). The low two bits of the driver's flags are 0 to have one, 1 to have none, and with the feature
--- EVENT_IDX 2 to have one at a descriptor: where its offset (15 bits) and wrap counter (bit 15) are among the positions
--- that this chain covers. Other flags are as 0.
+-- it (VIRTIO 1.2, 2.8.10 and 2.8.14). The low two bits of the driver's flags are 0 to have one, 1 to have none, and with
+-- the feature EVENT_IDX 2 to have one at a descriptor: where its offset (15 bits) and wrap counter (bit 15) are among the
+-- positions that this chain covers. Other flags are as 0.
 unfoldable pub is_packed_due : RingState → ℕ → List ℕ → Bool
 is_packed_due q slots ram =
     let event = number_at ram q.driver 2 in
@@ -90,7 +93,7 @@ unfoldable pub split_note : RingState → List Write
 split_note q = byte_writes (q.device + 4 + 8 * q.size) (little_bytes 2 q.taking.place)
 
 -- The event note of a packed ring: the taking position as offset and wrap counter, and the flags 2, which ask for a
--- notification there (VIRTIO 1.2, 2.8.14).
+-- notification there (VIRTIO 1.2, 2.8.10 and 2.8.14).
 unfoldable pub packed_note : RingState → List Write
 packed_note q = byte_writes q.device (little_bytes 2 (q.taking.place + bit_if q.taking.wrap 32768) ++ little_bytes 2 2)
 

@@ -8,11 +8,11 @@ use Rattle.chains.specs.Places.{places, AreSegmentsInside}
 use Rattle.chains.specs.SplitChain.{IsSplitChain, IsSplitEmpty}
 use Rattle.chains.specs.PackedChain.{IsPackedChain, IsPackedEmpty}
 
--- The driver has made nothing available at the taking position.
+-- The driver has made nothing available at the taking position (VIRTIO 1.2, 2.7.6 and 2.8.2).
 abbrev pub IsEmptyQueue : List ℕ → RingState → Type 0
 IsEmptyQueue ram q = MatchBool q.is_packed (IsPackedEmpty ram q) (IsSplitEmpty ram q)
 
--- This is the chain at the taking position of a queue that is not empty.
+-- This is the chain at the taking position of a queue that is not empty (VIRTIO 1.2, 2.7.5 and 2.8.5).
 abbrev pub IsChain : List ℕ → RingState → Chain → Type 0
 IsChain ram q c = MatchBool q.is_packed (IsPackedChain ram q c) (IsSplitChain ram q c)
 

@@ -2,6 +2,7 @@ use Rattle.std.specs.Prelude.{◌≡◌, ℕ, ◌+◌, ◌-◌, ◌*◌, ◌/◌
 use Rattle.std.specs.Bool.{MatchBool}
 use Rattle.guestmem.specs.Number.{number_at}
 use Rattle.chains.specs.declared.descriptor.Descriptor.{Descriptor}
+use Rattle.chains.specs.declared.descriptor.TheConstants.{DESCRIPTOR_SIZE}
 use Rattle.chains.specs.declared.chain.Chain.{Chain}
 use Rattle.chains.specs.State.{RingState}
 use Rattle.chains.specs.Descriptor.{descriptor_at}
@@ -11,7 +12,7 @@ use Rattle.chains.specs.Whole.{IsTable, ArePlain, IsWhole, readable_of, writable
 abbrev pub available_index : List ℕ → RingState → ℕ
 available_index ram q = number_at ram (q.driver + 2) 2
 
--- A split queue is empty where the driver's index is the taking position.
+-- A split queue is empty where the driver's index is the taking position (VIRTIO 1.2, 2.7.6).
 abbrev pub IsSplitEmpty : List ℕ → RingState → Type 0
 IsSplitEmpty ram q = available_index ram q ≡ q.taking.place
 
@@ -29,14 +30,14 @@ abbrev pub AreLinked : List ℕ → ℕ → ℕ → ℕ → List Descriptor → 
 AreLinked ram table entries index [] = ⊥
 AreLinked ram table entries index (d ∷ []) = (index < entries) × (d ≡ descriptor_at false ram table index) × (d.has_next ≡ false)
 AreLinked ram table entries index (d ∷ e ∷ ds) =
-    (index < entries) × (d ≡ descriptor_at false ram table index) × (d.has_next ≡ true) × AreLinked ram table entries d.link (e ∷ ds)
+    (index < entries) × (d ≡ descriptor_at false ram table index) × (d.has_next ≡ true) × AreLinked ram table entries d.next (e ∷ ds)
 
 -- The descriptors are those before the last one, and then the list that begins at entry 0 of the table that the last
 -- one names. No entry of it names a table. Whether the naming one is writable makes no difference.
 pub record IsFromTable (ram : List ℕ) (front : List Descriptor) (last : Descriptor) (all : List Descriptor) : Type 0 where
   pub table : IsTable ram last
   pub inner : List Descriptor
-  pub linked : AreLinked ram last.addr (last.len / 16) 0 inner
+  pub linked : AreLinked ram last.addr (last.len / DESCRIPTOR_SIZE) 0 inner
   pub plain : ArePlain inner
   pub parts : all ≡ front ++ inner
 

@@ -1,6 +1,7 @@
-use Rattle.std.specs.Prelude.{◌≡◌, ℕ, ◌≤◌, ◌/◌, List, [], ◌∷◌, ◌++◌, length, Bool, true, false, drop, refl}
-use Rattle.std.proofs.Common.{ap, sym, ◌∙◌, arith, length-append}
+use Rattle.std.specs.Prelude.{◌≡◌, ℕ, ◌≤◌, ◌/◌, List, [], ◌∷◌, ◌++◌, length, Bool, true, false, refl}
+use Rattle.std.proofs.Common.{ap, sym, ◌∙◌, arith}
 use Rattle.std.specs.Bool.{MatchBool}
+use Rattle.std.proofs.lemmas.List.{same_from_push}
 use Rattle.chains.specs.declared.descriptor.Descriptor.{Descriptor}
 use Rattle.chains.specs.declared.chain.Chain.{Chain}
 use Rattle.chains.specs.State.{RingState}
@@ -22,30 +23,14 @@ linked_same ram table entries index (d ∷ d' ∷ ds) (e ∷ []) h k =
     absurd (cc)
 linked_same ram table entries index (d ∷ d' ∷ ds) (e ∷ e' ∷ es) h k =
     let x : d ≡ e = h.1 ∙ sym k.1 in
-    let next : d.link ≡ e.link = ap (λ (y : Descriptor). y.link) x in
-    let rest : d' ∷ ds ≡ e' ∷ es = linked_same ram table entries e.link (d' ∷ ds) (e' ∷ es) (rw next at h.3) k.3 in
+    let next : d.next ≡ e.next = ap (λ (y : Descriptor). y.next) x in
+    let rest : d' ∷ ds ≡ e' ∷ es = linked_same ram table entries e.next (d' ∷ ds) (e' ∷ es) (rw next at h.3) k.3 in
     rw (x, rest) refl
 
 -- A list of descriptors has one at least.
 pub linked_some : (ram : List ℕ) (table entries index : ℕ) (ds : List Descriptor) → AreLinked ram table entries index ds → 1 ≤ length ds
 linked_some ram table entries index [] h = absurd h
 linked_some ram table entries index (d ∷ ds) h = omega arith
-
--- Two lists that are the same, each with one more at its end, are the same without it, and so are the last ones.
-pub last_same : (xs ys : List Descriptor) (x y : Descriptor) → xs ++ x ∷ [] ≡ ys ++ y ∷ [] → x ≡ y
-last_same [] [] x y e = cc
-last_same [] (b ∷ ys) x y e = absurd (omega (arith, ap length e, length-append ys (y ∷ [])))
-last_same (a ∷ xs) [] x y e = absurd (omega (arith, ap length e, length-append xs (x ∷ [])))
-last_same (a ∷ xs) (b ∷ ys) x y e = last_same xs ys x y (ap (drop 1) e)
-
-pub front_same : (xs ys : List Descriptor) (x y : Descriptor) → xs ++ x ∷ [] ≡ ys ++ y ∷ [] → xs ≡ ys
-front_same [] [] x y e = refl
-front_same [] (b ∷ ys) x y e = absurd (omega (arith, ap length e, length-append ys (y ∷ [])))
-front_same (a ∷ xs) [] x y e = absurd (omega (arith, ap length e, length-append xs (x ∷ [])))
-front_same (a ∷ xs) (b ∷ ys) x y e =
-    let rest : xs ≡ ys = front_same xs ys x y (ap (drop 1) e) in
-    let head : a ≡ b = cc in
-    rw (head, rest) refl
 
 replaced_by : (ram : List ℕ) (has_indirect named : Bool) (direct all more front : List Descriptor) (last : Descriptor)
     → MatchBool named ((has_indirect ≡ true) × IsFromTable ram front last all) (all ≡ direct)
@@ -58,9 +43,8 @@ replaced_by ram has_indirect false direct all more front last t u = t ∙ sym u
 -- A table comes into a list in one way.
 pub replaced_same : (ram : List ℕ) (has_indirect : Bool) (direct all more : List Descriptor) → IsReplaced ram has_indirect direct all → IsReplaced ram has_indirect direct more → all ≡ more
 replaced_same ram has_indirect direct all more r s =
-    let joined : r.front ++ r.last ∷ [] ≡ s.front ++ s.last ∷ [] = sym r.parts ∙ s.parts in
-    let last : s.last ≡ r.last = sym (last_same r.front s.front r.last s.last joined) in
-    let front : s.front ≡ r.front = sym (front_same r.front s.front r.last s.last joined) in
+    let joined : s.front ++ s.last ∷ [] ≡ r.front ++ r.last ∷ [] = sym s.parts ∙ r.parts in
+    let (front, last) = same_from_push s.front r.front s.last r.last joined in
     replaced_by ram has_indirect r.last.is_indirect direct all more r.front r.last r.whole (rw (last, front) at s.whole)
 
 -- A split queue has at most one chain at its taking position.

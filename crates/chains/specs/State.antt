@@ -1,6 +1,8 @@
-use Rattle.std.specs.Prelude.{ℕ, ◌+◌, ◌*◌, ◌^◌, ◌<◌, ◌≤◌, ◌==◌, Bool, not, bit_and, if◌then◌else◌}
+use Rattle.std.specs.Prelude.{ℕ, ◌+◌, ◌*◌, ◌<◌, ◌≤◌, ◌==◌, Bool, not, bit_and, if◌then◌else◌}
 use Rattle.std.specs.Bool.{MatchBool}
 use Rattle.mmio.specs.declared.queue.Queue.{Queue}
+use Rattle.mmio.specs.declared.constants.TheConstants.{QUEUE_SIZE_MAX, INDIRECT_DESC, EVENT_IDX, RING_PACKED}
+use Rattle.chains.specs.declared.descriptor.TheConstants.{DESCRIPTOR_SIZE}
 use Rattle.mmio.specs.QueueReady.{IsInside}
 use Rattle.chains.specs.declared.position.Position.{Position}
 use Rattle.chains.specs.declared.position.Positions.{Positions}
@@ -21,13 +23,12 @@ pub record RingState : Type 0 where
 abbrev pub has_bit : ℕ → ℕ → Bool
 has_bit number bit = not (bit_and number bit == 0)
 
--- The ring of a queue under these feature bits (VIRTIO 1.2, 6: INDIRECT_DESC 28, EVENT_IDX 29, RING_PACKED 34), which
--- has come this far.
+-- The ring of a queue under these feature bits (VIRTIO 1.2, 6), which has come this far.
 abbrev pub state_of : Queue → ℕ → Positions → RingState
 state_of queue features positions = record {
-  is_packed = has_bit features (2 ^ 34);
-  has_indirect = has_bit features (2 ^ 28);
-  has_event_index = has_bit features (2 ^ 29);
+  is_packed = has_bit features RING_PACKED;
+  has_indirect = has_bit features INDIRECT_DESC;
+  has_event_index = has_bit features EVENT_IDX;
   size = queue.size;
   descriptors = queue.descriptors;
   driver = queue.driver;
@@ -36,10 +37,10 @@ state_of queue features positions = record {
   used = positions.used;
 }
 
--- A ring may have this state: 1 to 256 slots, and the positions of a packed ring are slots of it.
+-- A ring may have this state: some slots, and not too many, and the positions of a packed ring are slots of it.
 pub record MayRing (q : RingState) : Type 0 where
   pub some : 1 ≤ q.size
-  pub few : q.size ≤ 256
+  pub few : q.size ≤ QUEUE_SIZE_MAX
   pub slots : MatchBool q.is_packed ((q.taking.place < q.size) × (q.used.place < q.size)) (Unit {0})
 
 -- The bytes of the driver area: flags, index, ring and event index of a split queue (VIRTIO 1.2, 2.7.6), the event
@@ -52,12 +53,12 @@ driver_bytes q = if q.is_packed then 4 else 6 + 2 * q.size
 abbrev pub device_bytes : RingState → ℕ
 device_bytes q = if q.is_packed then 4 else 6 + 8 * q.size
 
--- The alignment of the driver area (VIRTIO 1.2, 2.7 and 2.8).
+-- The alignment of the driver area (VIRTIO 1.2, 2.7 and 2.8.10.1).
 abbrev pub driver_alignment : RingState → ℕ
 driver_alignment q = if q.is_packed then 4 else 2
 
--- The three areas of a queue are aligned (VIRTIO 1.2, 2.7 and 2.8), and lie inside a RAM of so many bytes.
+-- The three areas of a queue are aligned (VIRTIO 1.2, 2.7 and 2.8.10.1), and lie inside a RAM of so many bytes.
 pub record HasAreas (len : ℕ) (q : RingState) : Type 0 where
-  pub descriptors : IsInside len q.descriptors 16 (16 * q.size)
+  pub descriptors : IsInside len q.descriptors 16 (DESCRIPTOR_SIZE * q.size)
   pub driver : IsInside len q.driver (driver_alignment q) (driver_bytes q)
   pub device : IsInside len q.device 4 (device_bytes q)

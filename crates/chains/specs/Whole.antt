@@ -1,11 +1,12 @@
 use Rattle.std.specs.Prelude.{◌≡◌, ℕ, ◌+◌, ◌%◌, ◌<◌, ◌≤◌, ◌^◌, List, length, true, false, not, filter, map, sum, All, slice_index_or}
 use Rattle.chains.specs.declared.descriptor.Descriptor.{Descriptor}
+use Rattle.chains.specs.declared.descriptor.TheConstants.{DESCRIPTOR_SIZE}
 use Rattle.chains.specs.declared.segs.Seg.{Seg}
 
--- A table that an indirect descriptor names (VIRTIO 1.2, 2.7.5.3): some whole entries, inside RAM.
+-- A table that an indirect descriptor names (VIRTIO 1.2, 2.7.5.3 and 2.8.7): some whole entries, inside RAM.
 pub record IsTable (ram : List ℕ) (d : Descriptor) : Type 0 where
   pub some : 0 < d.len
-  pub whole : d.len % 16 ≡ 0
+  pub whole : d.len % DESCRIPTOR_SIZE ≡ 0
   pub inside : d.addr + d.len ≤ length ram
 
 -- None of the descriptors names a table.

@@ -3,27 +3,13 @@
 ghost use Rattle.std.specs.Prelude.{◌≡◌, ◌+◌, ◌*◌, ◌≤◌, length, IsTrue, ◌↔◌};
 ghost use Rattle.chains.specs.Descriptor.{descriptor_at};
 
+use crate::flags::{AVAIL, INDIRECT, NEXT, USED, WRITE};
 use guestmem::Ram;
 
 /// The bytes of a descriptor in guest memory, in a table of either layout.
 pub const DESCRIPTOR_SIZE: u64 = 16;
 
-/// The flag that says that another descriptor follows (VIRTIO 1.2, 2.7.5).
-const NEXT: u16 = 1;
-
-/// The flag of what the device writes, and does not read (VIRTIO 1.2, 2.7.5).
-const WRITE: u16 = 1 << 1;
-
-/// The flag of a descriptor that names a table of descriptors (VIRTIO 1.2, 2.7.5.3).
-const INDIRECT: u16 = 1 << 2;
-
-/// The flag of a packed ring that the driver sets to its wrap counter (VIRTIO 1.2, 2.8.1).
-const AVAIL: u16 = 1 << 7;
-
-/// The flag of a packed ring that the device sets to its wrap counter (VIRTIO 1.2, 2.8.1).
-const USED: u16 = 1 << 15;
-
-/// One entry of a table of descriptors, decoded. Other flags than those named here are ignored.
+/// One entry of a table of descriptors, decoded.
 #[derive(Clone, Copy, Debug, Default, PartialEq, Eq)]
 pub struct Descriptor {
     /// The address of the buffer, or of the table that an indirect descriptor names.
@@ -32,8 +18,11 @@ pub struct Descriptor {
     /// The bytes of the buffer or of the table.
     pub len: u32,
 
-    /// In a split ring the index of the descriptor that follows, if one does. In a packed ring the buffer's id.
-    pub link: u16,
+    /// In a split ring the index of the descriptor that follows, if one does. 0 in a packed ring.
+    pub next: u16,
+
+    /// In a packed ring the buffer's id. 0 in a split ring.
+    pub id: u16,
 
     /// Whether another descriptor of the same chain follows.
     pub has_next: bool,
@@ -54,7 +43,7 @@ pub struct Descriptor {
 /// Reads the descriptor at an index of a table of the layout. This is the one call that decodes a descriptor.
 #[tactic(auto, unfolding(crate::specs::Descriptor::descriptor_at))]
 pub fn read_descriptor(ram: &Ram, is_packed: bool, table: u64, index: u16) -> Descriptor
-    requires inside { table + 16 * index + 16 ≤ length ram.now.bytes }
+    requires inside { table + DESCRIPTOR_SIZE * index + DESCRIPTOR_SIZE ≤ length ram.now.bytes }
     ensures { result ≡ descriptor_at is_packed ram.now.bytes table index }
 {
     ram.recall();
@@ -64,7 +53,8 @@ pub fn read_descriptor(ram: &Ram, is_packed: bool, table: u64, index: u16) -> De
     Descriptor {
         addr: ram.u64_at(entry),
         len: ram.u32_at(entry + 8),
-        link: if is_packed { low } else { high },
+        next: if is_packed { 0 } else { high },
+        id: if is_packed { low } else { 0 },
         has_next: flags & NEXT != 0,
         is_writable: flags & WRITE != 0,
         is_indirect: flags & INDIRECT != 0,

@@ -4,10 +4,11 @@
 //! (VIRTIO 1.2, 2.7) and packed rings (VIRTIO 1.2, 2.8). A device sees neither layout. It asks a `Ring` for the next
 //! `Chain`, reads and writes the bytes of the chain's segments by `copy_out` and `copy_in`, and publishes the chain.
 //!
-//! This crate has what both layouts share, and what each of them means. The contract of the trait `Ring` stands on
-//! the definitions alone, for both layouts:
+//! This crate has what both layouts share, and what each of them means. A ring of either layout is a `RingCore`, read in
+//! its way. The contract of the trait `Ring` stands on the definitions alone, for both layouts:
 //!
 //! - `specs/State`: what a ring means (`RingState`) and where its three areas lie (`HasAreas`);
+//! - `specs/RingCore`: what a ring means by what it keeps;
 //! - `specs/Places`: the addresses of the bytes of segments, in order;
 //! - `specs/Descriptor`: the descriptor at an index of a table;
 //! - `specs/Whole`: the rules that the descriptors of a chain keep in either layout, and their segments;
@@ -28,11 +29,13 @@ mod chain;
 mod copy;
 mod descriptor;
 mod descriptors;
+pub mod flags;
 pub mod laws;
 mod limits;
 mod next;
 mod position;
 mod ring;
+mod ring_core;
 mod segs;
 mod whole;
 
@@ -44,5 +47,6 @@ pub use limits::SHORT_CHAIN_MAX;
 pub use next::Next;
 pub use position::{Position, Positions};
 pub use ring::Ring;
+pub use ring_core::RingCore;
 pub use segs::{Seg, Segs};
 pub use whole::{is_whole, segments};

@@ -1,6 +1,6 @@
 -- The step of a queue through which a device gives bytes to the guest: the receive queue of a console (VIRTIO 1.2, 5.3.6)
 -- and the queue of an entropy device (VIRTIO 1.2, 5.4.6).
-use Rattle.std.specs.Prelude.{◌≡◌, ℕ, ◌==◌, ◌&&◌, not, min, Bool, true, List, [], ◌++◌, length, take, drop, if◌then◌else◌}
+use Rattle.std.specs.Prelude.{◌≡◌, ℕ, nat_lt, ◌==◌, ◌&&◌, not, min, Bool, List, [], ◌++◌, length, take, drop, if◌then◌else◌}
 use Rattle.guestmem.specs.Item.{Item, after_all}
 use Rattle.guestmem.specs.Writes.{Write, set_all, touched}
 use Rattle.chains.specs.State.{RingState}
@@ -13,7 +13,8 @@ use Rattle.chains.specs.declared.next.Next.TheVariants as next
 use Rattle.console.specs.declared.receiving.Received.{Received}
 use Rattle.console.specs.declared.receiving.Received.TheVariants.{Empty, Malformed, Completed}
 
--- What a step answers and changes: writes of RAM, the ring's positions, and the bytes that are left.
+-- What a step answers and changes (VIRTIO 1.2, 5.3.6 and 5.4.6): writes of RAM, the ring's positions, and the bytes that
+-- are left.
 pub record Step : Type 0 where
   pub answer : Received
   pub writes : List Write
@@ -28,11 +29,12 @@ takes_bytes c = length (places c.readable) == 0 && not (length (places c.writabl
 abbrev pub count_into : List ℕ → Chain → ℕ
 count_into held c = min (length (places c.writable)) (length held)
 
--- The first bytes held go to the writable places, and the chain is published with their number.
+-- The first bytes held go to the writable places, and the chain is published with their number, as written where there
+-- are any.
 abbrev pub writes_into : RingState → List ℕ → Chain → List Write
 writes_into q held c =
     place_writes (take (count_into held c) (places c.writable)) (take (count_into held c) held)
-    ++ published (after_take q c.slots) c.id c.slots (count_into held c) true
+    ++ published (after_take q c.slots) c.id c.slots (count_into held c) (nat_lt 0 (count_into held c))
 
 unfoldable pub give : List ℕ → RingState → List ℕ → Chain → Step
 give ram q held c = record {

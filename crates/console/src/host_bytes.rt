@@ -1,10 +1,7 @@
 //! What the host has put in for the guest to take.
 
-ghost use Rattle.std.specs.Prelude.{◌≡◌, ◌++◌};
-ghost use Rattle.guestmem.specs.Number.{IsBytes};
-
 use circular_buffer::HeapCircularBuffer;
-use guestmem::NoMemory;
+use guestmem::{NoMemory, recall_bytes};
 use std::alloc::Global;
 use std::marker::Model;
 
@@ -20,12 +17,13 @@ pub struct HostBytes {
 
 impl Model for HostBytes {
     ghost use Rattle.std.specs.Prelude.{ℕ, List, ◌≡◌};
+    ghost use Rattle.console.specs.declared.host_bytes.TheConstants.{HOST_BYTES_MAX};
 
     ghost Value = { List ℕ };
 
     ghost view = { λ b. b.held.items };
 
-    ghost invariant = { λ b. b.held.capacity ≡ 4096 };
+    ghost invariant = { λ b. b.held.capacity ≡ HOST_BYTES_MAX };
 }
 
 impl HostBytes {
@@ -50,10 +48,21 @@ impl HostBytes {
         Ok(HostBytes { held })
     }
 
-    /// How many bytes there are.
+    /// Tells a proof what all bytes held keep (see the page of `guestmem`).
+    pub fn recall(&self)
+        ensures within { length self.now ≤ HOST_BYTES_MAX }
+        ensures bytes { IsBytes self.now }
+    {
+        prove!(self.held.len() <= HOST_BYTES_MAX);
+        let (front, back) = self.held.as_slices();
+        recall_bytes(front);
+        recall_bytes(back);
+    }
+
+    /// How many bytes there are: at most `HOST_BYTES_MAX`.
     pub fn len(&self) -> usize
         ensures len { result ≡ length self.now }
-        ensures within { length self.now ≤ HOST_BYTES_MAX }
+        ensures within { result ≤ HOST_BYTES_MAX }
     {
         self.held.len()
     }
@@ -67,7 +76,7 @@ impl HostBytes {
 
     /// Puts in the first of the bytes, as many as there is room for, and answers how many these are.
     pub fn put_in(&mut self, bytes: &[u8]) -> usize
-        ensures count { result ≡ min (length bytes.now) (4096 - length self.old) }
+        ensures count { result ≡ min (length bytes.now) (HOST_BYTES_MAX - length self.old) }
         ensures held { self.new ≡ self.old ++ take result bytes.now }
     {
         self.held.fill_from_slice(bytes)
@@ -75,11 +84,9 @@ impl HostBytes {
 
     /// The bytes, as two slices one after the other.
     pub fn as_slices(&self) -> (&[u8], &[u8])
-        ensures joined { result.0.now ++ result.1.now ≡ self.now }
-        ensures bytes { IsBytes self.now }
+        ensures { result.0.now ++ result.1.now ≡ self.now }
     {
-        let (front, back) = self.held.as_slices();
-        with_bytes(front, back)
+        self.held.as_slices()
     }
 
     /// Takes out the first of the bytes.
@@ -90,13 +97,4 @@ impl HostBytes {
         let left = self.len() - count;
         self.held.truncate_front(left);
     }
-}
-
-/// The same slices, of which each number is a byte.
-fn with_bytes<'a>(front: &'a [u8], back: &'a [u8]) -> (&'a [u8], &'a [u8])
-    ensures front { result.0.now ≡ front.now }
-    ensures back { result.1.now ≡ back.now }
-    ensures bytes { IsBytes (front.now ++ back.now) }
-{
-    (front, back)
 }

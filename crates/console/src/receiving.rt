@@ -12,6 +12,7 @@ ghost use Rattle.console.specs.Receive.{takes_bytes, give, IsAfter, IsReceived};
 use crate::host_bytes::HostBytes;
 use chains::{Chain, Next, Ring, copy_in, total_len};
 use guestmem::{NoMemory, Ram, TouchLog};
+use mmio::QUEUE_SIZE_MAX;
 
 /// How a step on a queue of receive buffers went.
 #[derive(Clone, Copy, Debug, PartialEq, Eq)]
@@ -22,8 +23,14 @@ pub enum Received {
     /// The chain is malformed, or not one to write into: it has a readable byte, or no writable one. It stays.
     Malformed,
 
-    /// The chain was published with this used length. The flag says whether an interrupt is due.
-    Completed(u32, bool),
+    /// The chain was published.
+    Completed {
+        /// The used length: how many bytes were written into it.
+        len: u32,
+
+        /// Whether an interrupt is due.
+        is_due: bool,
+    },
 }
 
 /// Gives the first of the bytes held to the next chain, as many as it takes, and publishes it. Its only error is want of
@@ -36,7 +43,7 @@ pub fn receive<R: Ring, L: TouchLog>(
 ) -> Result<Received, NoMemory>
     requires areas { HasAreas (length ram.old.bytes) (R.state ring.old) }
     requires may { MayPages L.may log.old (length ram.old.bytes) }
-    requires few { (R.state ring.old).size ≤ 256 }
+    requires few { (R.state ring.old).size ≤ QUEUE_SIZE_MAX }
     ensures received { IfOk result (λ answer. IsReceived L.after ram.old.bytes (R.state ring.old) held.old log.old answer ram.new.bytes (R.state ring.new) held.new log.new) }
     ensures memory { OnErr result (IsLongQueue ram.old.bytes (R.state ring.old)) }
     ensures ram_stays { OnErr result (ram.new ≡ ram.old) }
@@ -87,7 +94,7 @@ fn give<R: Ring, L: TouchLog>(
     requires areas { HasAreas (length ram.old.bytes) (R.state ring.old) }
     requires may { MayPages L.may log.old (length ram.old.bytes) }
     requires bounded { IsBounded (length ram.old.bytes) (R.state ring.old) chain.now }
-    requires size_small { (R.state ring.old).size ≤ 256 }
+    requires few { (R.state ring.old).size ≤ QUEUE_SIZE_MAX }
     ensures answer { result ≡ (give ram.old.bytes (R.state ring.old) held.old chain.now).answer }
     ensures changes { IsAfter L.after ram.old.bytes log.old (give ram.old.bytes (R.state ring.old) held.old chain.now) ram.new.bytes (R.state ring.new) held.new log.new }
     ensures size { length ram.new.bytes ≡ length ram.old.bytes }
@@ -102,6 +109,7 @@ fn give<R: Ring, L: TouchLog>(
     copy_in(ram, segs, first as u64, &back[..count - first], log);
     held.take_out(count);
     ring.take(chain);
-    let due = ring.publish(chain.id, chain.slots, count as u32, true, ram, log);
-    Received::Completed(count as u32, due)
+    let len = count as u32;
+    let is_due = ring.publish(chain.id, chain.slots, len, len > 0, ram, log);
+    Received::Completed { len, is_due }
 }

@@ -3,7 +3,13 @@ use Rattle.chains.specs.declared.descriptor.Descriptor.{Descriptor}
 use Rattle.chains.specs.Descriptor.{descriptor_at}
 use Rattle.chains.specs.PackedChain.{AreConsecutive}
 use Rattle.chains.specs.LongQueue.{AreInSlots}
-use Rattle.packedring.specs.Walk.{Leads}
+
+-- The descriptors from a slot on begin with these, and go on from another slot: what completes the rest completes the
+-- whole, and nothing else does. A row from there on goes on from these, too.
+pub record Leads (ram : List ℕ) (table size slot : ℕ) (front : List Descriptor) (next : ℕ) : Type 0 where
+  pub completes : (rest : List Descriptor) → AreConsecutive ram table size next rest → AreConsecutive ram table size slot (front ++ rest)
+  pub only : (whole : List Descriptor) → AreConsecutive ram table size slot whole → (rest : List Descriptor) × (whole ≡ front ++ rest) × AreConsecutive ram table size next rest
+  pub rows : (rest : List Descriptor) → AreInSlots ram table size next rest → AreInSlots ram table size slot (front ++ rest)
 
 behind : (ram : List ℕ) (table size slot : ℕ) (d : Descriptor) → d ≡ descriptor_at true ram table slot → d.has_next ≡ true
     → (rest : List Descriptor) → AreConsecutive ram table size ((slot + 1) % size) rest → AreConsecutive ram table size slot (d ∷ rest)

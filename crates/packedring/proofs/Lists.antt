@@ -1,4 +1,4 @@
-use Rattle.std.proofs.Common.{Bool, true, false, length, ◌≡◌, ℕ, zero, suc, ◌+◌, ◌-◌, ◌<◌, List, [], ◌∷◌, ◌++◌, refl, ap, sym, arith, add-zero}
+use Rattle.std.proofs.Common.{Bool, true, false, ◌≡◌, ℕ, zero, suc, ◌+◌, ◌-◌, ◌<◌, List, [], ◌∷◌, ◌++◌, refl, ap, sym, arith, add-zero}
 use Rattle.std.specs.Prelude.{◌==◌, ◌&&◌, ◌||◌, not, if◌then◌else◌}
 use Rattle.chains.specs.declared.descriptor.Descriptor.{Descriptor}
 use Rattle.chains.specs.declared.position.Position.{Position}
@@ -14,11 +14,6 @@ entries_more ram table index (suc count) =
     let f : index + 1 + count ≡ index + suc count = omega arith in
     let more = entries_more ram table (index + 1) count in
     rw (e, ← f) (ap (λ (ds : List Descriptor). descriptor_at true ram table index ∷ ds) more)
-
--- So many entries of a table are so many.
-pub length_entries : (ram : List ℕ) (table index count : ℕ) → length (entries_from ram table index count) ≡ count
-length_entries ram table index zero = refl
-length_entries ram table index (suc count) = ap suc (length_entries ram table (index + 1) count)
 
 -- A position is among those of some slots where it is the first of them, or among the others.
 pub among_step : (offset : ℕ) (wrap : Bool) (size : ℕ) (p : Position) (count : ℕ) → 0 < count

@@ -1,29 +1,18 @@
-use Rattle.std.specs.Prelude.{◌≡◌, ℕ, ◌+◌, ◌≤◌, List, [], ◌∷◌, ◌++◌, length, Bool, true}
-use Rattle.std.specs.Bool.{MatchBool}
+use Rattle.std.specs.Prelude.{◌≡◌, ℕ, ◌+◌, ◌≤◌, List, length}
 use Rattle.chains.specs.declared.descriptor.Descriptor.{Descriptor}
-use Rattle.chains.specs.Whole.{ArePlain}
-use Rattle.chains.specs.PackedChain.{AreConsecutive, IsPackedTable}
-use Rattle.chains.specs.LongQueue.{AreInSlots}
+use Rattle.chains.specs.State.{RingState}
+use Rattle.chains.specs.PackedChain.{IsPackedList}
 
--- The descriptors from a slot on begin with these, and go on from another slot: what completes the rest completes the
--- whole, and nothing else does. A row from there on goes on from these, too.
-pub record Leads (ram : List ℕ) (table size slot : ℕ) (front : List Descriptor) (next : ℕ) : Type 0 where
-  pub completes : (rest : List Descriptor) → AreConsecutive ram table size next rest → AreConsecutive ram table size slot (front ++ rest)
-  pub only : (whole : List Descriptor) → AreConsecutive ram table size slot whole → (rest : List Descriptor) × (whole ≡ front ++ rest) × AreConsecutive ram table size next rest
-  pub rows : (rest : List Descriptor) → AreInSlots ram table size next rest → AreInSlots ram table size slot (front ++ rest)
-
--- The descriptors from a slot on, with a table in the place of the one that names it, are these, and no more than there
--- are slots. They take so many slots, and the last of these holds this id.
-pub record AreFound (ram : List ℕ) (has_indirect : Bool) (table size slot id slots : ℕ) (all : List Descriptor) : Type 0 where
+-- The descriptors at the taking position, with a table in the place of the one that names it, are these, and no more
+-- than there are slots. They take so many slots, and the last of these holds this id.
+pub record AreFound (ram : List ℕ) (q : RingState) (id slots : ℕ) (all : List Descriptor) : Type 0 where
   pub front : List Descriptor
   pub last : Descriptor
-  pub consecutive : AreConsecutive ram table size slot (front ++ last ∷ [])
-  pub plain : ArePlain front
-  pub replaced : MatchBool last.is_indirect ((has_indirect ≡ true) × IsPackedTable ram front last all) (all ≡ front ++ last ∷ [])
-  pub few : length all ≤ size
-  pub id_is : id ≡ last.link
+  pub list : IsPackedList ram q front last all
+  pub few : length all ≤ q.size
+  pub id_is : id ≡ last.id
   pub slots_is : slots ≡ length front + 1
 
 -- There are no such descriptors.
-abbrev pub IsNoneFound : List ℕ → Bool → ℕ → ℕ → ℕ → Type 0
-IsNoneFound ram has_indirect table size slot = (id slots : ℕ) (all : List Descriptor) → AreFound ram has_indirect table size slot id slots all → ⊥
+abbrev pub IsNoneFound : List ℕ → RingState → Type 0
+IsNoneFound ram q = (id slots : ℕ) (all : List Descriptor) → AreFound ram q id slots all → ⊥

@@ -9,6 +9,7 @@ ghost use Rattle.byteorder.specs.Endian.{little_bytes};
 use crate::going_on::going_on;
 use byteorder::{ByteOrder, LittleEndian};
 use chains::Position;
+use mmio::QUEUE_SIZE_MAX;
 
 /// The bytes of an area.
 pub(crate) const AREA_SIZE: usize = 4;
@@ -31,7 +32,7 @@ const WRAP: u16 = 1 << 15;
 /// Whether the position that two bytes of an area name is among those that so many slots from one on cover.
 pub(crate) fn is_covered(event: u16, from: Position, slots: u16, size: u16) -> bool
     requires place { from.place < size }
-    requires few { size ≤ 256 }
+    requires few { size ≤ QUEUE_SIZE_MAX }
     ensures { result ≡ is_among (event % 32768) (has_bit event 32768) (positions_from size from slots) }
 {
     let offset = event % WRAP;

@@ -4,13 +4,14 @@ ghost use Rattle.std.specs.Prelude.{◌≡◌, ◌<◌, ◌≤◌};
 ghost use Rattle.chains.specs.Publish.{gone_on};
 
 use chains::Position;
+use mmio::QUEUE_SIZE_MAX;
 
 /// The position so many slots further on. At the end of the ring it begins anew, and the wrap counter toggles (VIRTIO
 /// 1.2, 2.8.1).
 pub(crate) fn going_on(position: Position, slots: u16, size: u16) -> Position
     requires place { position.place < size }
     requires slots { slots ≤ size }
-    requires few { size ≤ 256 }
+    requires few { size ≤ QUEUE_SIZE_MAX }
     ensures { result ≡ gone_on size position slots }
 {
     let place = position.place + slots;

@@ -1,6 +1,6 @@
 //! A packed ring.
 
-ghost use Rattle.std.specs.Prelude.{◌≡◌, ◌≤◌, ◌<◌, ◌+◌, ◌*◌, ◌++◌, true, IfOk, OnErr, MatchOption, length, IsTrue, ◌↔◌};
+ghost use Rattle.std.specs.Prelude.{◌≡◌, ◌≤◌, ◌<◌, ◌+◌, ◌++◌, true, IfOk, OnErr, MatchOption, length, IsTrue, ◌↔◌};
 ghost use Rattle.chains.specs.State.{state_of, MayRing, HasAreas};
 ghost use Rattle.chains.specs.Descriptor.{descriptor_at};
 ghost use Rattle.chains.specs.PackedChain.{IsAvailable};
@@ -11,57 +11,35 @@ use crate::events::{DESC, DISABLE, FLAG_VALUES, FLAGS, asking_at, is_covered};
 use crate::going_on::going_on;
 use crate::table::find;
 use byteorder::{ByteOrder, LittleEndian};
+use chains::flags::{AVAIL, USED, WRITE};
 use chains::{
-    Chain, DESCRIPTOR_SIZE, Descriptor, Next, Position, Positions, Ring, is_whole, read_descriptor,
+    Chain, DESCRIPTOR_SIZE, Descriptor, Next, Positions, Ring, RingCore, is_whole, read_descriptor,
     segments,
 };
 use guestmem::{NoMemory, Ram, TouchLog};
-use mmio::{EVENT_IDX, INDIRECT_DESC, Queue};
+use mmio::Queue;
 use std::alloc::Global;
 use std::marker::Model;
 
 /// Where length, id and flags begin in a descriptor, behind the address.
 const LENGTH: u64 = 8;
 
-/// The flag of a used descriptor into whose buffer the device wrote (VIRTIO 1.2, 2.8.3).
-const WRITE: u16 = 1 << 1;
-
-/// The two flags of a descriptor that the device sets to its wrap counter (VIRTIO 1.2, 2.8.1).
-const AVAIL_AND_USED: u16 = 1 << 7 | 1 << 15;
-
-/// A ring in the packed layout: where its areas lie, and how far it has come.
+/// A ring in the packed layout. Both positions are slots of it.
 #[derive(Drop)]
 pub struct PackedRing {
-    alloc: Global,
-    has_indirect: bool,
-    has_event_index: bool,
-    size: u16,
-    descriptors: u64,
-    driver: u64,
-    device: u64,
-    taking: Position,
-    used: Position,
+    core: RingCore,
 }
 
 impl Model for PackedRing {
-    ghost use Rattle.std.specs.Prelude.{◌≤◌, ◌<◌, true};
+    ghost use Rattle.std.specs.Prelude.{◌<◌, true};
     ghost use Rattle.chains.specs.State.{RingState};
+    ghost use Rattle.chains.specs.RingCore.{core_state};
 
     ghost Value = { RingState };
 
-    ghost view = { λ r. record {
-      is_packed = true;
-      has_indirect = r.has_indirect;
-      has_event_index = r.has_event_index;
-      size = r.size;
-      descriptors = r.descriptors;
-      driver = r.driver;
-      device = r.device;
-      taking = r.taking;
-      used = r.used;
-    } };
+    ghost view = { λ r. core_state true r.core };
 
-    ghost invariant = { λ r. (r.size ≤ 256) × (r.taking.place < r.size) × (r.used.place < r.size) };
+    ghost invariant = { λ r. (r.core.taking.place < r.core.size) × (r.core.used.place < r.core.size) };
 }
 
 impl PackedRing {
@@ -77,15 +55,7 @@ impl PackedRing {
         ensures { result ≡ state_of queue.now features positions }
     {
         PackedRing {
-            alloc,
-            has_indirect: features & INDIRECT_DESC != 0,
-            has_event_index: features & EVENT_IDX != 0,
-            size: queue.size as u16,
-            descriptors: queue.descriptors,
-            driver: queue.driver,
-            device: queue.device,
-            taking: positions.taking,
-            used: positions.used,
+            core: RingCore::new(alloc, queue, features, positions),
         }
     }
 
@@ -96,29 +66,19 @@ impl PackedRing {
         ensures chain { IfOk result (λ found. MatchOption found
             ((c : C) → ¬ (IsPackedChain ram.now.bytes self.now c))
             (IsPackedChain ram.now.bytes self.now)) }
-        ensures memory { OnErr result
-            (IsLongPacked ram.now.bytes self.now.has_indirect self.now.descriptors self.now.size self.now.taking.place) }
+        ensures memory { OnErr result (IsLongPacked ram.now.bytes self.now) }
     {
         ram.recall();
-        let (table, slot) = (self.descriptors, self.taking.place);
-        let found = find(
-            self.alloc,
-            ram,
-            self.has_indirect,
-            table,
-            self.size,
-            slot,
-            first,
-        )?;
-        let Some(found) = found else {
+        let core = &self.core;
+        let Some(found) = find(core, ram, first)? else {
             return Ok(None);
         };
         let all = found.all.as_slice();
         // A rule of both layouts.
-        if !is_whole(all, ram, self.size) {
+        if !is_whole(all, ram, core.size) {
             return Ok(None);
         }
-        let (readable, writable) = segments(self.alloc, all)?;
+        let (readable, writable) = segments(core.alloc, all)?;
         Ok(Some(Chain {
             id: found.id,
             slots: found.slots,
@@ -135,12 +95,13 @@ impl PackedRing {
         ensures { result ≡ is_packed_due self.now slots ram.now.bytes }
     {
         ram.recall();
-        let flags = ram.u16_at(self.driver + FLAGS) % FLAG_VALUES;
+        let core = &self.core;
+        let flags = ram.u16_at(core.driver + FLAGS) % FLAG_VALUES;
         if flags == DISABLE {
             return false;
         }
-        if self.has_event_index && flags == DESC {
-            return is_covered(ram.u16_at(self.driver), self.used, slots, self.size);
+        if core.has_event_index && flags == DESC {
+            return is_covered(ram.u16_at(core.driver), core.used, slots, core.size);
         }
         true
     }
@@ -151,8 +112,9 @@ impl Ring for PackedRing {
 
     fn next(&mut self, ram: &Ram) -> Result<Next, NoMemory> {
         ram.recall();
-        let first = read_descriptor(ram, true, self.descriptors, self.taking.place);
-        if !is_available(&first, self.taking.wrap) {
+        let taking = self.core.taking;
+        let first = read_descriptor(ram, true, self.core.descriptors, taking.place);
+        if !is_available(&first, taking.wrap) {
             return Ok(Next::Empty);
         }
         match self.chain(ram, first)? {
@@ -162,7 +124,7 @@ impl Ring for PackedRing {
     }
 
     fn take(&mut self, chain: &Chain) {
-        self.taking = going_on(self.taking, chain.slots, self.size);
+        self.core.taking = going_on(self.core.taking, chain.slots, self.core.size);
     }
 
     fn publish<L: TouchLog>(
@@ -175,27 +137,25 @@ impl Ring for PackedRing {
         log: &mut L,
     ) -> bool {
         ram.recall();
-        let entry = self.descriptors + DESCRIPTOR_SIZE * self.used.place as u64;
-        let bytes = used_bytes(len, id, used_flags(wrote, self.used.wrap));
+        let used = self.core.used;
+        let entry = self.core.descriptors + DESCRIPTOR_SIZE * used.place as u64;
+        let bytes = used_bytes(len, id, used_flags(wrote, used.wrap));
         ram.put(entry + LENGTH, &bytes, log);
         let is_due = self.is_due(slots, ram);
-        self.used = going_on(self.used, slots, self.size);
+        self.core.used = going_on(used, slots, self.core.size);
         is_due
     }
 
     #[tactic(auto, unfolding(chains::specs::Publish::packed_note))]
     fn note_empty<L: TouchLog>(&mut self, ram: &mut Ram, log: &mut L) {
         ram.recall();
-        if self.has_event_index {
-            ram.put(self.device, &asking_at(self.taking), log);
+        if self.core.has_event_index {
+            ram.put(self.core.device, &asking_at(self.core.taking), log);
         }
     }
 
     fn positions(&self) -> Positions {
-        Positions {
-            taking: self.taking,
-            used: self.used,
-        }
+        self.core.positions()
     }
 }
 
@@ -208,10 +168,10 @@ fn is_available(descriptor: &Descriptor, wrap: bool) -> bool
 
 /// The flags of a used descriptor.
 fn used_flags(wrote: bool, wrap: bool) -> u16
-    ensures { result ≡ bit_if wrote 2 + bit_if wrap 128 + bit_if wrap 32768 }
+    ensures { result ≡ bit_if wrote WRITE + bit_if wrap AVAIL + bit_if wrap USED }
 {
     let write = if wrote { WRITE } else { 0 };
-    let both = if wrap { AVAIL_AND_USED } else { 0 };
+    let both = if wrap { AVAIL | USED } else { 0 };
     write + both
 }
 

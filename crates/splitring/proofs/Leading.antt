@@ -1,31 +1,38 @@
 use Rattle.std.proofs.Common.{Bool, true, false, ◌/◌, ◌≡◌, ℕ, ◌+◌, ◌-◌, ◌<◌, ◌≤◌, List, [], ◌∷◌, ◌++◌, length, take, refl, ap, sym, ◌∙◌, arith, append_assoc, append-nil, length-append}
-use Rattle.std.specs.Bool.{MatchBool}
-use Rattle.std.proofs.lemmas.List.{take_at}
+use Rattle.std.proofs.lemmas.List.{take_at, same_from_push}
 use Rattle.std.proofs.lemmas.List.Elements.{All-append, All-drop}
 use Rattle.std.proofs.Math.Seq.{drop-append_seam}
 use Rattle.chains.specs.declared.descriptor.Descriptor.{Descriptor}
 use Rattle.chains.specs.Descriptor.{descriptor_at}
 use Rattle.chains.specs.Whole.{ArePlain, IsTable}
 use Rattle.chains.specs.SplitChain.{AreLinked, IsFromTable, IsReplaced}
-use Rattle.chains.specs.SplitLaws.{linked_same, linked_some, last_same}
+use Rattle.chains.specs.SplitLaws.{linked_same, linked_some}
 use Rattle.chains.specs.LongQueue.{AreInRow}
-use Rattle.splitring.specs.Walk.{Leads, IsNoList, AreListed, IsNoReplacement}
+use Rattle.chains.proofs.Cases.{where_true}
+use Rattle.splitring.specs.Walk.{IsNoList, AreListed, IsNoReplacement}
 
-pub leads_start : (ram : List ℕ) (table entries index : ℕ) → Leads ram table entries index [] index
+-- The list from an index on begins with these, and goes on from another index: what completes the rest completes the
+-- whole, and nothing else does. A row from there on goes on from these, too.
+pub record Leads (ram : List ℕ) (table entries index : ℕ) (front : List Descriptor) (next : ℕ) : Type 0 where
+  pub completes : (rest : List Descriptor) → AreLinked ram table entries next rest → AreLinked ram table entries index (front ++ rest)
+  pub only : (whole : List Descriptor) → AreLinked ram table entries index whole → (rest : List Descriptor) × (whole ≡ front ++ rest) × AreLinked ram table entries next rest
+  pub rows : (rest : List Descriptor) → AreInRow ram table entries next rest → AreInRow ram table entries index (front ++ rest)
+
+leads_start : (ram : List ℕ) (table entries index : ℕ) → Leads ram table entries index [] index
 leads_start ram table entries index = record { completes = λ rest h. h; only = λ whole h. (whole, refl, h); rows = λ rest h. h }
 
 behind : (ram : List ℕ) (table entries index : ℕ) (d : Descriptor) → index < entries → d ≡ descriptor_at false ram table index → d.has_next ≡ true
-    → (rest : List Descriptor) → AreLinked ram table entries d.link rest → AreLinked ram table entries index (d ∷ rest)
+    → (rest : List Descriptor) → AreLinked ram table entries d.next rest → AreLinked ram table entries index (d ∷ rest)
 behind ram table entries index d below is next [] h = absurd h
 behind ram table entries index d below is next (e ∷ es) h = (below, is, next, h)
 
 row_behind : (ram : List ℕ) (table entries index : ℕ) (d : Descriptor) → index < entries → d ≡ descriptor_at false ram table index → d.has_next ≡ true
-    → (rest : List Descriptor) → AreInRow ram table entries d.link rest → AreInRow ram table entries index (d ∷ rest)
+    → (rest : List Descriptor) → AreInRow ram table entries d.next rest → AreInRow ram table entries index (d ∷ rest)
 row_behind ram table entries index d below is next [] h = absurd h
 row_behind ram table entries index d below is next (e ∷ es) h = (below, is, next, h)
 
 first_is : (ram : List ℕ) (table entries index : ℕ) (d : Descriptor) → d ≡ descriptor_at false ram table index → d.has_next ≡ true
-    → (whole : List Descriptor) → AreLinked ram table entries index whole → (rest : List Descriptor) × (whole ≡ d ∷ rest) × AreLinked ram table entries d.link rest
+    → (whole : List Descriptor) → AreLinked ram table entries index whole → (rest : List Descriptor) × (whole ≡ d ∷ rest) × AreLinked ram table entries d.next rest
 first_is ram table entries index d is next [] h = absurd h
 first_is ram table entries index d is next (x ∷ []) h =
     let same : x ≡ d = h.1 ∙ sym is in
@@ -35,8 +42,8 @@ first_is ram table entries index d is next (x ∷ e ∷ es) h =
     let same : x ≡ d = h.1 ∙ sym is in
     (e ∷ es, ap (λ (y : Descriptor). y ∷ e ∷ es) same, rw same at h.3)
 
-pub leads_more : (ram : List ℕ) (table entries index next : ℕ) (front : List Descriptor) (d : Descriptor) → Leads ram table entries index front next
-    → next < entries → d ≡ descriptor_at false ram table next → d.has_next ≡ true → Leads ram table entries index (front ++ d ∷ []) d.link
+leads_more : (ram : List ℕ) (table entries index next : ℕ) (front : List Descriptor) (d : Descriptor) → Leads ram table entries index front next
+    → next < entries → d ≡ descriptor_at false ram table next → d.has_next ≡ true → Leads ram table entries index (front ++ d ∷ []) d.next
 leads_more ram table entries index next front d leads below is more = record {
   completes = λ rest h. rw append_assoc (leads.completes (d ∷ rest) (behind ram table entries next d below is more rest h));
   only = λ whole h.
@@ -65,7 +72,7 @@ walked_none ram table entries first before = record { walked = []; parts = sym (
 
 -- One more, that has a next one.
 pub walked_more : (ram : List ℕ) (table entries first : ℕ) (before list : List Descriptor) (count next : ℕ) (d : Descriptor) → IsWalked ram table entries first before list count next
-    → next < entries → d ≡ descriptor_at false ram table next → d.has_next ≡ true → IsWalked ram table entries first before (list ++ d ∷ []) (count + 1) d.link
+    → next < entries → d ≡ descriptor_at false ram table next → d.has_next ≡ true → IsWalked ram table entries first before (list ++ d ∷ []) (count + 1) d.next
 walked_more ram table entries first before list count next d w below is more = record {
   walked = w.walked ++ d ∷ [];
   parts = ap (λ (ds : List Descriptor). ds ++ d ∷ []) w.parts ∙ append_assoc before w.walked (d ∷ []);
@@ -97,7 +104,7 @@ front_is direct front last parts = rw parts (take_at front (last ∷ []) (length
 none_plain : (ram : List ℕ) (has_indirect : Bool) (direct : List Descriptor) (most : ℕ) (front : List Descriptor) (last : Descriptor) (inner : List Descriptor)
     → direct ≡ front ++ last ∷ [] → last.is_indirect ≡ true → AreLinked ram last.addr (last.len / 16) 0 inner → (ArePlain inner → ⊥) → IsNoReplacement ram has_indirect direct most
 none_plain ram has_indirect direct most front last inner parts named linked bad all r few =
-    let same : r.last ≡ last = last_same r.front front r.last last (sym r.parts ∙ parts) in
+    let same : r.last ≡ last = (same_from_push r.front front r.last last (sym r.parts ∙ parts)).1 in
     let t = rw (same, named) at r.whole in
     let one : t.1.inner ≡ inner = linked_same ram last.addr (last.len / 16) 0 t.1.inner inner t.1.linked linked in
     bad (rw one at t.1.plain)
@@ -109,10 +116,6 @@ listed_not_plain ram has_indirect direct most room front last before all parts b
     let first : before ≡ front = before_is ∙ front_is direct front last parts in
     none_plain ram has_indirect direct most front last t.list parts named t.linked
     (λ inner. bad (rw (t.parts, first) (All-append (λ (d : Descriptor). d.is_indirect ≡ false) front t.list plain inner)))
-
-where_true : (b : Bool) (P Q : Type 0) → b ≡ true → P → MatchBool b P Q
-where_true true P Q is p = p
-where_true false P Q is p = absurd (cc)
 
 -- The list of the table stands in the place of the descriptor that names it.
 pub listed_is_replaced : (ram : List ℕ) (has_indirect : Bool) (direct : List Descriptor) (most : ℕ) (front : List Descriptor) (last : Descriptor) (before all : List Descriptor)

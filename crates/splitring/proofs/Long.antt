@@ -3,50 +3,44 @@ use Rattle.std.proofs.Common.{Bool, true, false, ◌≡◌, ℕ, ◌+◌, ◌/�
 use Rattle.std.specs.Bool.{MatchBool}
 use Rattle.chains.specs.declared.descriptor.Descriptor.{Descriptor}
 use Rattle.chains.specs.declared.limits.TheConstants.{SHORT_CHAIN_MAX}
-use Rattle.chains.specs.SplitChain.{AreLinked, IsFromTable}
+use Rattle.chains.specs.State.{RingState}
+use Rattle.chains.specs.Whole.{ArePlain}
+use Rattle.chains.specs.SplitChain.{AreLinked, IsFromTable, head}
 use Rattle.chains.specs.LongQueue.{AreInRow, IsSplitRow, IsLongSplit}
-use Rattle.splitring.specs.Walk.{AreFound, IsLongBehind, IsLongReplacement}
+use Rattle.splitring.specs.Walk.{AreFound, IsLongReplacement}
 
 -- A list is a row.
 linked_in_row : (ram : List ℕ) (table entries index : ℕ) (ds : List Descriptor) → AreLinked ram table entries index ds → AreInRow ram table entries index ds
 linked_in_row ram table entries index [] h = h
 linked_in_row ram table entries index (d ∷ []) h = (h.0, h.1)
-linked_in_row ram table entries index (d ∷ e ∷ ds) h = (h.0, h.1, h.2, linked_in_row ram table entries d.link (e ∷ ds) h.3)
+linked_in_row ram table entries index (d ∷ e ∷ ds) h = (h.0, h.1, h.2, linked_in_row ram table entries d.next (e ∷ ds) h.3)
 
-row_by : (ram : List ℕ) (has_indirect named : Bool) (table size first : ℕ) (direct all front : List Descriptor) (last : Descriptor) → last.is_indirect ≡ named → direct ≡ front ++ last ∷ []
-    → AreLinked ram table size first direct → MatchBool named ((has_indirect ≡ true) × IsFromTable ram front last all) (all ≡ direct) → IsSplitRow ram has_indirect table size first all
-row_by ram has_indirect true table size first direct all front last named parts linked (feature, t) = inr (record {
+row_by : (ram : List ℕ) (q : RingState) (named : Bool) (direct all front : List Descriptor) (last : Descriptor) → last.is_indirect ≡ named → direct ≡ front ++ last ∷ [] → ArePlain front
+    → AreLinked ram q.descriptors q.size (head ram q) direct → MatchBool named ((q.has_indirect ≡ true) × IsFromTable ram front last all) (all ≡ direct) → IsSplitRow ram q all
+row_by ram q true direct all front last named parts plain linked (feature, t) = inr (record {
   front = front;
   last = last;
   inner = t.inner;
   linked = rw parts at linked;
+  plain = plain;
   feature = feature;
   named = named;
-  table_inside = t.table;
+  table = t.table;
   in_row = linked_in_row ram last.addr (last.len / 16) 0 t.inner t.linked;
   parts = t.parts;
 })
-row_by ram has_indirect false table size first direct all front last named parts linked same = inl (rw same (linked_in_row ram table size first direct linked))
+row_by ram q false direct all front last named parts plain linked same = inl (rw same (linked_in_row ram q.descriptors q.size (head ram q) direct linked))
 
 -- Descriptors that are found, and that are many, stand in a long row.
-pub long_found : (ram : List ℕ) (has_indirect : Bool) (table size first : ℕ) (all : List Descriptor) → AreFound ram has_indirect table size first all → SHORT_CHAIN_MAX < length all → IsLongSplit ram has_indirect table size first
-long_found ram has_indirect table size first all f long =
+pub long_found : (ram : List ℕ) (q : RingState) (all : List Descriptor) → AreFound ram q all → SHORT_CHAIN_MAX < length all → IsLongSplit ram q
+long_found ram q all f long =
     let r = f.replaced in
-    record {
-      row = all;
-      is_row = row_by ram has_indirect r.last.is_indirect table size first f.direct all r.front r.last refl r.parts f.linked r.whole;
-      long = long;
-      few = f.few;
-    }
+    record { row = all; is_row = row_by ram q r.last.is_indirect f.direct all r.front r.last refl r.parts r.plain f.linked r.whole; long = long; few = f.few }
 
--- Many descriptors from the first one on stand in a long row.
-pub long_first : (ram : List ℕ) (has_indirect : Bool) (table size first : ℕ) → IsLongBehind ram table size first size [] → IsLongSplit ram has_indirect table size first
-long_first ram has_indirect table size first b = record { row = b.row; is_row = inl b.in_row; long = omega (arith, b.long); few = b.few }
-
--- So do those before the one that names a table, with many in its table.
-pub long_replaced : (ram : List ℕ) (has_indirect : Bool) (table size first : ℕ) (direct : List Descriptor) → AreLinked ram table size first direct → length direct ≤ size
-    → IsLongReplacement ram has_indirect direct size → IsLongSplit ram has_indirect table size first
-long_replaced ram has_indirect table size first direct linked few r =
+-- So do the descriptors before the one that names a table, with many in its table.
+pub long_replaced : (ram : List ℕ) (q : RingState) (first : ℕ) (direct : List Descriptor) → first ≡ head ram q → AreLinked ram q.descriptors q.size first direct → length direct ≤ q.size
+    → IsLongReplacement ram q.has_indirect direct q.size → IsLongSplit ram q
+long_replaced ram q first direct is linked few r =
     let shorter : length direct ≡ length r.front + 1 = omega (arith, ap length r.parts, length-append r.front (r.last ∷ [])) in
     let both : length (r.front ++ r.behind.row) ≡ length r.front + length r.behind.row = length-append r.front r.behind.row in
     record {
@@ -55,10 +49,11 @@ long_replaced ram has_indirect table size first direct linked few r =
         front = r.front;
         last = r.last;
         inner = r.behind.row;
-        linked = rw r.parts at linked;
+        linked = rw (r.parts, is) at linked;
+        plain = r.plain;
         feature = r.feature;
         named = r.named;
-        table_inside = r.table;
+        table = r.table;
         in_row = r.behind.in_row;
         parts = refl;
       });

@@ -1,16 +1,11 @@
 use Rattle.std.specs.Prelude.{◌≡◌, ℕ, ◌+◌, ◌-◌, ◌/◌, ◌<◌, ◌≤◌, [], ◌∷◌, List, length, ◌++◌, Bool, true}
 use Rattle.chains.specs.declared.descriptor.Descriptor.{Descriptor}
+use Rattle.chains.specs.declared.descriptor.TheConstants.{DESCRIPTOR_SIZE}
 use Rattle.chains.specs.declared.limits.TheConstants.{SHORT_CHAIN_MAX}
-use Rattle.chains.specs.Whole.{IsTable}
-use Rattle.chains.specs.SplitChain.{AreLinked, IsReplaced}
+use Rattle.chains.specs.State.{RingState}
+use Rattle.chains.specs.Whole.{IsTable, ArePlain}
+use Rattle.chains.specs.SplitChain.{AreLinked, IsReplaced, head}
 use Rattle.chains.specs.LongQueue.{AreInRow}
-
--- The list from an index on begins with these, and goes on from another index: what completes the rest completes the
--- whole, and nothing else does. A row from there on goes on from these, too.
-pub record Leads (ram : List ℕ) (table entries index : ℕ) (front : List Descriptor) (next : ℕ) : Type 0 where
-  pub completes : (rest : List Descriptor) → AreLinked ram table entries next rest → AreLinked ram table entries index (front ++ rest)
-  pub only : (whole : List Descriptor) → AreLinked ram table entries index whole → (rest : List Descriptor) × (whole ≡ front ++ rest) × AreLinked ram table entries next rest
-  pub rows : (rest : List Descriptor) → AreInRow ram table entries next rest → AreInRow ram table entries index (front ++ rest)
 
 -- No list of at most so many descriptors begins at this entry.
 abbrev pub IsNoList : List ℕ → ℕ → ℕ → ℕ → ℕ → Type 0
@@ -35,21 +30,22 @@ pub record IsLongBehind (ram : List ℕ) (table entries index room : ℕ) (befor
 abbrev pub IsNoReplacement : List ℕ → Bool → List Descriptor → ℕ → Type 0
 IsNoReplacement ram has_indirect direct most = (all : List Descriptor) → IsReplaced ram has_indirect direct all → length all ≤ most → ⊥
 
--- The last of these descriptors names a table, and behind the others stand descriptors of it in a row, at most so many
--- with them, and all of them are too many to be handled without memory.
+-- The last of these descriptors alone names a table, and behind the others stand descriptors of it in a row, at most so
+-- many with them, and all of them are too many to be handled without memory.
 pub record IsLongReplacement (ram : List ℕ) (has_indirect : Bool) (direct : List Descriptor) (most : ℕ) : Type 0 where
   pub front : List Descriptor
   pub last : Descriptor
   pub parts : direct ≡ front ++ last ∷ []
+  pub plain : ArePlain front
   pub feature : has_indirect ≡ true
   pub named : last.is_indirect ≡ true
   pub table : IsTable ram last
-  pub behind : IsLongBehind ram last.addr (last.len / 16) 0 (most - length front) front
+  pub behind : IsLongBehind ram last.addr (last.len / DESCRIPTOR_SIZE) 0 (most - length front) front
 
--- The descriptors of the list that begins at an entry, with a table in the place of the descriptor that names it, are
--- these, and no more than the table has entries.
-pub record AreFound (ram : List ℕ) (has_indirect : Bool) (table entries first : ℕ) (all : List Descriptor) : Type 0 where
+-- The descriptors of the list that begins at the head of a queue, with a table in the place of the descriptor that
+-- names it, are these, and no more than there are slots.
+pub record AreFound (ram : List ℕ) (q : RingState) (all : List Descriptor) : Type 0 where
   pub direct : List Descriptor
-  pub linked : AreLinked ram table entries first direct
-  pub replaced : IsReplaced ram has_indirect direct all
-  pub few : length all ≤ entries
+  pub linked : AreLinked ram q.descriptors q.size (head ram q) direct
+  pub replaced : IsReplaced ram q.has_indirect direct all
+  pub few : length all ≤ q.size

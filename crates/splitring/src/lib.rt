@@ -5,8 +5,8 @@
 //! keeps nothing of what guest memory holds: it reads the chain anew at each call, and a hostile driver can make it
 //! answer nothing but what stands there.
 //!
-//! Looking for a chain costs no more than its descriptors, of which there are at most one for each slot, whatever RAM
-//! claims: a walk stops after so many, and a table gets what the descriptors before it left.
+//! Looking for a chain decodes at most one descriptor more than there are slots, whatever RAM claims: a walk stops after
+//! so many, and a table gets the room that the descriptors before the one that names it left.
 //!
 //! The contracts are those of the trait, over the definitions of `chains` (`SplitChain` and `Publish` among its
 //! specs). `specs/Walk` has the words of the functions inside. Nothing is trusted here beside the crates below.

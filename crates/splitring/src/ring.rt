@@ -1,16 +1,16 @@
 //! A split ring.
 
-ghost use Rattle.std.specs.Prelude.{◌≡◌, ◌≤◌, ◌+◌, ◌*◌, ◌++◌, false, IfOk, OnErr, MatchOption, length};
+ghost use Rattle.std.specs.Prelude.{◌≡◌, ◌++◌, false, IfOk, OnErr, MatchOption, length};
 ghost use Rattle.chains.specs.State.{state_of, MayRing, HasAreas};
-ghost use Rattle.chains.specs.SplitChain.{available_index, head};
+ghost use Rattle.chains.specs.SplitChain.{available_index};
 ghost use Rattle.chains.specs.Publish.{is_split_due, next_index};
 ghost use Rattle.byteorder.specs.Endian.{little_bytes};
 
 use crate::table::find;
 use byteorder::{ByteOrder, LittleEndian};
-use chains::{Chain, Next, Position, Positions, Ring, is_whole, segments};
+use chains::{Chain, Next, Position, Positions, Ring, RingCore, is_whole, segments};
 use guestmem::{NoMemory, Ram, TouchLog};
-use mmio::{EVENT_IDX, INDIRECT_DESC, Queue};
+use mmio::Queue;
 use std::alloc::Global;
 use std::marker::Model;
 
@@ -29,39 +29,20 @@ const ELEMENT_SIZE: u64 = 8;
 /// The flag by which a driver asks for no interrupts (VIRTIO 1.2, 2.7.7).
 const NO_INTERRUPT: u16 = 1;
 
-/// A ring in the split layout: where its areas lie, and how far it has come.
+/// A ring in the split layout.
 #[derive(Drop)]
 pub struct SplitRing {
-    alloc: Global,
-    has_indirect: bool,
-    has_event_index: bool,
-    size: u16,
-    descriptors: u64,
-    driver: u64,
-    device: u64,
-    taking: Position,
-    used: Position,
+    core: RingCore,
 }
 
 impl Model for SplitRing {
-    ghost use Rattle.std.specs.Prelude.{◌≤◌, false};
+    ghost use Rattle.std.specs.Prelude.{false};
     ghost use Rattle.chains.specs.State.{RingState};
+    ghost use Rattle.chains.specs.RingCore.{core_state};
 
     ghost Value = { RingState };
 
-    ghost view = { λ r. record {
-      is_packed = false;
-      has_indirect = r.has_indirect;
-      has_event_index = r.has_event_index;
-      size = r.size;
-      descriptors = r.descriptors;
-      driver = r.driver;
-      device = r.device;
-      taking = r.taking;
-      used = r.used;
-    } };
-
-    ghost invariant = { λ r. (1 ≤ r.size) × (r.size ≤ 256) };
+    ghost view = { λ r. core_state false r.core };
 }
 
 impl SplitRing {
@@ -77,15 +58,7 @@ impl SplitRing {
         ensures { result ≡ state_of queue.now features positions }
     {
         SplitRing {
-            alloc,
-            has_indirect: features & INDIRECT_DESC != 0,
-            has_event_index: features & EVENT_IDX != 0,
-            size: queue.size as u16,
-            descriptors: queue.descriptors,
-            driver: queue.driver,
-            device: queue.device,
-            taking: positions.taking,
-            used: positions.used,
+            core: RingCore::new(alloc, queue, features, positions),
         }
     }
 
@@ -96,26 +69,24 @@ impl SplitRing {
         ensures chain { IfOk result (λ found. MatchOption found
             ((c : C) → ¬ (IsSplitChain ram.now.bytes self.now c))
             (IsSplitChain ram.now.bytes self.now)) }
-        ensures memory { OnErr result
-            (IsLongSplit ram.now.bytes self.now.has_indirect self.now.descriptors self.now.size (head ram.now.bytes self.now)) }
+        ensures memory { OnErr result (IsLongSplit ram.now.bytes self.now) }
     {
         ram.recall();
+        let core = &self.core;
         // More chains than there are slots.
-        if available.wrapping_sub(self.taking.place) > self.size {
+        if available.wrapping_sub(core.taking.place) > core.size {
             return Ok(None);
         }
-        let slot = self.taking.place % self.size;
-        let head = ram.u16_at(self.driver + RING + HEAD_SIZE * slot as u64);
-        let table = self.descriptors;
-        let found = find(self.alloc, ram, self.has_indirect, table, self.size, head)?;
-        let Some(all) = found else {
+        let slot = core.taking.place % core.size;
+        let head = ram.u16_at(core.driver + RING + HEAD_SIZE * slot as u64);
+        let Some(all) = find(core, ram, head)? else {
             return Ok(None);
         };
         // A rule of both layouts.
-        if !is_whole(all.as_slice(), ram, self.size) {
+        if !is_whole(all.as_slice(), ram, core.size) {
             return Ok(None);
         }
-        let (readable, writable) = segments(self.alloc, all.as_slice())?;
+        let (readable, writable) = segments(core.alloc, all.as_slice())?;
         Ok(Some(Chain {
             id: head,
             slots: 1,
@@ -131,11 +102,12 @@ impl SplitRing {
         ensures { result ≡ is_split_due self.now ram.now.bytes }
     {
         ram.recall();
-        if self.has_event_index {
-            let event = ram.u16_at(self.driver + RING + HEAD_SIZE * self.size as u64);
-            return event == self.used.place;
+        let core = &self.core;
+        if core.has_event_index {
+            let event = ram.u16_at(core.driver + RING + HEAD_SIZE * core.size as u64);
+            return event == core.used.place;
         }
-        ram.u16_at(self.driver) & NO_INTERRUPT == 0
+        ram.u16_at(core.driver) & NO_INTERRUPT == 0
     }
 }
 
@@ -144,8 +116,8 @@ impl Ring for SplitRing {
 
     fn next(&mut self, ram: &Ram) -> Result<Next, NoMemory> {
         ram.recall();
-        let available = ram.u16_at(self.driver + INDEX);
-        if available == self.taking.place {
+        let available = ram.u16_at(self.core.driver + INDEX);
+        if available == self.core.taking.place {
             return Ok(Next::Empty);
         }
         match self.chain(ram, available)? {
@@ -155,7 +127,7 @@ impl Ring for SplitRing {
     }
 
     fn take(&mut self, _chain: &Chain) {
-        self.taking = going_on(self.taking);
+        self.core.taking = going_on(self.core.taking);
     }
 
     fn publish<L: TouchLog>(
@@ -168,30 +140,27 @@ impl Ring for SplitRing {
         log: &mut L,
     ) -> bool {
         ram.recall();
-        let slot = self.used.place % self.size;
-        let element = self.device + RING + ELEMENT_SIZE * slot as u64;
+        let slot = self.core.used.place % self.core.size;
+        let element = self.core.device + RING + ELEMENT_SIZE * slot as u64;
         ram.put(element, &element_bytes(id, len), log);
-        let used = going_on(self.used);
-        ram.put(self.device + INDEX, &index_bytes(used.place), log);
+        let used = going_on(self.core.used);
+        ram.put(self.core.device + INDEX, &index_bytes(used.place), log);
         let is_due = self.is_due(ram);
-        self.used = used;
+        self.core.used = used;
         is_due
     }
 
     #[tactic(auto, unfolding(chains::specs::Publish::split_note))]
     fn note_empty<L: TouchLog>(&mut self, ram: &mut Ram, log: &mut L) {
         ram.recall();
-        if self.has_event_index {
-            let event = self.device + RING + ELEMENT_SIZE * self.size as u64;
-            ram.put(event, &index_bytes(self.taking.place), log);
+        if self.core.has_event_index {
+            let event = self.core.device + RING + ELEMENT_SIZE * self.core.size as u64;
+            ram.put(event, &index_bytes(self.core.taking.place), log);
         }
     }
 
     fn positions(&self) -> Positions {
-        Positions {
-            taking: self.taking,
-            used: self.used,
-        }
+        self.core.positions()
     }
 }
 

@@ -1,61 +1,55 @@
 //! Tables that stand in the place of the descriptor that names them.
 
-ghost use Rattle.std.specs.Prelude.{◌≡◌, ◌+◌, ◌*◌, ◌<◌, ◌≤◌, length, IfOk, OnErr, MatchOption, IsTrue, ◌↔◌, false};
-ghost use Rattle.chains.specs.SplitChain.{IsReplaced};
+ghost use Rattle.std.specs.Prelude.{◌≡◌, ◌<◌, ◌≤◌, length, List, IfOk, OnErr, MatchOption, IsTrue, ◌↔◌, false};
+ghost use Rattle.chains.specs.State.{HasAreas};
+ghost use Rattle.chains.specs.RingCore.{core_state};
+ghost use Rattle.chains.specs.SplitChain.{IsReplaced, head};
 ghost use Rattle.chains.specs.Whole.{ArePlain};
 ghost use Rattle.chains.specs.LongQueue.{IsLongSplit};
 ghost use Rattle.splitring.specs.Walk.{IsNoReplacement, IsLongReplacement, AreFound};
 
 use crate::walk::walk;
-use chains::{DESCRIPTOR_SIZE, Descriptor, Descriptors, is_table};
+use chains::{DESCRIPTOR_SIZE, Descriptor, Descriptors, RingCore, is_table};
 use guestmem::{NoMemory, Ram};
-use std::alloc::Global;
 
-/// The descriptors of the list that begins at an entry of a queue's table, with the table that the last one may name in
-/// its place: none where there is no such list, or it has more descriptors than the queue has slots. The only error is
-/// want of memory.
+/// The descriptors of the list that begins at the head, with the table that the last one may name in its place: none
+/// where there is no such list, or it has more descriptors than the queue has slots. The only error is want of memory.
 #[tactic(auto, using(crate::proofs::Found::none_found))]
-pub(crate) fn find(
-    alloc: Global,
-    ram: &Ram,
-    has_indirect: bool,
-    table: u64,
-    size: u16,
-    first: u16,
-) -> Result<Option<Descriptors>, NoMemory>
-    requires inside { table + 16 * size ≤ length ram.now.bytes }
+pub(crate) fn find(core: &RingCore, ram: &Ram, first: u16) -> Result<Option<Descriptors>, NoMemory>
+    requires areas { HasAreas (length ram.now.bytes) (core_state false core.now) }
+    requires head { first ≡ head ram.now.bytes (core_state false core.now) }
     ensures found { IfOk result (λ found. MatchOption found
-        ((all : _) → AreFound ram.now.bytes has_indirect table size first all → ⊥)
-        (AreFound ram.now.bytes has_indirect table size first)) }
-    ensures memory { OnErr result (IsLongSplit ram.now.bytes has_indirect table size first) }
+        ((all : _) → AreFound ram.now.bytes (core_state false core.now) all → ⊥)
+        (AreFound ram.now.bytes (core_state false core.now))) }
+    ensures memory { OnErr result (IsLongSplit ram.now.bytes (core_state false core.now)) }
 {
-    let none = Descriptors::new(alloc);
-    let Some(direct) = walk(ram, table, size as u32, first, size, none)? else {
+    let none = Descriptors::new(core.alloc);
+    let size = core.size;
+    let Some(direct) = walk(ram, core.descriptors, size as u32, first, size, none)? else {
         return Ok(None);
     };
-    let Some(all) = replace(ram, has_indirect, size, direct)? else {
+    let Some(all) = replace(core, ram, direct)? else {
         return Ok(None);
     };
     Ok(Some(all))
 }
 
 /// The descriptors with the list of its table in the place of the last one, where that is indirect: none where a rule
-/// is broken, or there are more than so many. The only error is want of memory.
+/// is broken, or there are more than slots. The only error is want of memory.
 fn replace(
+    core: &RingCore,
     ram: &Ram,
-    has_indirect: bool,
-    most: u16,
     mut direct: Descriptors,
 ) -> Result<Option<Descriptors>, NoMemory>
     requires some { 0 < length direct }
-    requires few { length direct ≤ most }
+    requires few { length direct ≤ core.now.size }
     ensures found { IfOk result (λ found. MatchOption found
-        (IsNoReplacement ram.now.bytes has_indirect direct most)
-        (λ all. IsReplaced ram.now.bytes has_indirect direct all × (length all ≤ most))) }
-    ensures memory { OnErr result (IsLongReplacement ram.now.bytes has_indirect direct most) }
+        (IsNoReplacement ram.now.bytes core.now.has_indirect direct core.now.size)
+        (λ all. IsReplaced ram.now.bytes core.now.has_indirect direct all × (length all ≤ core.now.size))) }
+    ensures memory { OnErr result (IsLongReplacement ram.now.bytes core.now.has_indirect direct core.now.size) }
 {
     let Some((last, front)) = direct.as_slice().split_last() else {
-        return Ok(None);
+        unreachable!()
     };
     // A descriptor with INDIRECT and NEXT.
     if !are_plain(front) {
@@ -65,10 +59,10 @@ fn replace(
         return Ok(Some(direct));
     }
     // INDIRECT without the feature, or a table that is none.
-    if !has_indirect || !is_table(last, ram) {
+    if !core.has_indirect || !is_table(last, ram) {
         return Ok(None);
     }
-    let room = most - front.len() as u16;
+    let room = core.size - front.len() as u16;
     let (table, entries) = (last.addr, last.len / DESCRIPTOR_SIZE as u32);
     direct.remove_last();
     let Some(all) = walk(ram, table, entries, 0, room, direct)? else {

@@ -3,7 +3,7 @@
 ghost use Rattle.std.specs.Prelude.{◌≡◌, ◌+◌, ◌*◌, ◌≤◌, length, IfOk, OnErr, MatchOption};
 ghost use Rattle.splitring.specs.Walk.{IsNoList, AreListed, IsLongBehind};
 
-use chains::{Descriptors, read_descriptor};
+use chains::{DESCRIPTOR_SIZE, Descriptors, read_descriptor};
 use guestmem::{NoMemory, Ram};
 
 /// The descriptors at hand, and behind them those of the list that begins at an entry of a table: none where there is no
@@ -16,7 +16,7 @@ pub(crate) fn walk(
     room: u16,
     before: Descriptors,
 ) -> Result<Option<Descriptors>, NoMemory>
-    requires inside { table + 16 * entries ≤ length ram.now.bytes }
+    requires inside { table + DESCRIPTOR_SIZE * entries ≤ length ram.now.bytes }
     ensures list { IfOk result (λ found. MatchOption found
         (IsNoList ram.now.bytes table entries first room)
         (AreListed ram.now.bytes table entries first room before)) }
@@ -34,7 +34,7 @@ pub(crate) fn walk(
         if !descriptor.has_next {
             return Ok(Some(list));
         }
-        index = descriptor.link;
+        index = descriptor.next;
     }
     // More descriptors than there is room for, or no end.
     Ok(None)

@@ -7,7 +7,7 @@ use Rattle.packedring.proofs.walk.walk.Goals as goal
 
 pub returns-then-descriptor-clause-found : goal.returns-then-descriptor-clause-found
 returns-then-descriptor-clause-found c =
-    none_named _ _ _ _ _ _ _ c.args.first _ c.requires.first c.requires.plain
+    none_named _ _ _ _ c.args.first _ c.requires.first c.requires.plain
     (leads_more _ _ _ _ c.loop-step.place _ c.loop-step.descriptor c.loop-step.invariant.leads c.loop-step.invariant.here (search rules))
     c.read_descriptor-descriptor.ensures c.if-descriptor.true
 

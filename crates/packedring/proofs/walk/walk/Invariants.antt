@@ -1,15 +1,15 @@
 use Rattle.std.proofs.Common.{◌≡◌, ◌<◌, length, true, false}
 use Rattle.chains.specs.Descriptor.{descriptor_at}
 use Rattle.chains.specs.Whole.{ArePlain}
-use Rattle.packedring.specs.Walk.{Leads}
+use Rattle.packedring.proofs.Leading.{Leads}
 use Rattle.packedring.proofs.walk.walk.Given as goal
 
 abbrev pub invariant-loop-step : goal.invariant-loop-step
 invariant-loop-step l = record {
   count : length l.all ≡ l.step;
-  inside : l.place < l.size;
-  leads : Leads l.ram.bytes l.table l.size l.slot l.all l.place;
+  inside : l.place < l.core.size;
+  leads : Leads l.ram.bytes l.core.descriptors l.core.size l.core.taking.place l.all l.place;
   plain : ArePlain l.all;
-  here : l.descriptor ≡ descriptor_at true l.ram.bytes l.table l.place;
+  here : l.descriptor ≡ descriptor_at true l.ram.bytes l.core.descriptors l.place;
   last_plain : l.descriptor.is_indirect ≡ false;
 }

@@ -1,5 +1,5 @@
 use Rattle.std.proofs.Common.{rules}
-use Rattle.chains.proofs.Errors.{on_err}
+use Rattle.chains.proofs.Cases.{on_err}
 use Rattle.packedring.proofs.Long.{long_found}
 use Rattle.packedring.proofs.Finding.{no_chain_found, no_chain_whole}
 use Rattle.packedring.proofs.ring.PackedRing.chain.Goals as goal
@@ -12,4 +12,4 @@ returns-then-not-is_whole-clause-chain c = rw (← c.self.view_is) (no_chain_who
 
 pub returns-in_err-readable-clause-memory : goal.returns-in_err-readable-clause-memory
 returns-in_err-readable-clause-memory c =
-    rw (← c.self.view_is) (on_err c.from_residual-in_err-readable.result (long_found _ _ _ _ _ _ _ c.in-Some.found.all (rw c.in-Some.is at c.in_ok-found.ensures.found) (rw c.as_slice-all.ensures at c.in_err-readable.ensures.memory)))
+    rw (← c.self.view_is) (on_err c.from_residual-in_err-readable.result (long_found _ _ _ _ c.in-Some.found.all (rw c.in-Some.is at c.in_ok-found.ensures.found) (rw c.as_slice-all.ensures at c.in_err-readable.ensures.memory)))

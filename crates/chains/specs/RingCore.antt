@@ -1,0 +1,17 @@
+use Rattle.std.specs.Prelude.{Bool}
+use Rattle.chains.specs.declared.ring_core.RingCore.{RingCore}
+use Rattle.chains.specs.State.{RingState}
+
+-- What a ring of a layout means, by what it keeps.
+abbrev pub core_state : Bool → RingCore → RingState
+core_state is_packed core = record {
+  is_packed = is_packed;
+  has_indirect = core.has_indirect;
+  has_event_index = core.has_event_index;
+  size = core.size;
+  descriptors = core.descriptors;
+  driver = core.driver;
+  device = core.device;
+  taking = core.taking;
+  used = core.used;
+}

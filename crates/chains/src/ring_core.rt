@@ -1,0 +1,75 @@
+//! What a ring of either layout keeps.
+
+ghost use Rattle.std.specs.Prelude.{◌≡◌, ◌≤◌};
+ghost use Rattle.mmio.specs.declared.constants.TheConstants.{QUEUE_SIZE_MAX};
+ghost use Rattle.chains.specs.State.{state_of, has_bit, MayRing};
+
+use crate::position::{Position, Positions};
+use mmio::{EVENT_IDX, INDIRECT_DESC, Queue, RING_PACKED};
+use std::alloc::Global;
+
+/// What a ring of either layout keeps: its features, where its areas lie, and how far it has come.
+#[derive(Drop)]
+pub struct RingCore {
+    /// For the chains that the ring finds.
+    pub alloc: Global,
+
+    /// The feature INDIRECT_DESC.
+    pub has_indirect: bool,
+
+    /// The feature EVENT_IDX.
+    pub has_event_index: bool,
+
+    /// The number of slots.
+    pub size: u16,
+
+    /// The address of the descriptor area.
+    pub descriptors: u64,
+
+    /// The address of the driver area.
+    pub driver: u64,
+
+    /// The address of the device area.
+    pub device: u64,
+
+    /// Where the next chain is taken.
+    pub taking: Position,
+
+    /// Where the next used chain is published.
+    pub used: Position,
+
+    ghost some: { 1 ≤ size },
+    ghost few: { size ≤ QUEUE_SIZE_MAX },
+}
+
+impl RingCore {
+    ghost use Rattle.chains.specs.RingCore.{core_state};
+
+    /// Of a queue that has come this far, under the features that the driver accepted. It takes no memory.
+    pub fn new(alloc: Global, queue: &Queue, features: u64, positions: Positions) -> RingCore
+        requires { MayRing (state_of queue.now features positions) }
+        ensures { core_state (has_bit features RING_PACKED) result ≡ state_of queue.now features positions }
+    {
+        RingCore {
+            alloc,
+            has_indirect: features & INDIRECT_DESC != 0,
+            has_event_index: features & EVENT_IDX != 0,
+            size: queue.size as u16,
+            descriptors: queue.descriptors,
+            driver: queue.driver,
+            device: queue.device,
+            taking: positions.taking,
+            used: positions.used,
+        }
+    }
+
+    /// Both positions.
+    pub fn positions(&self) -> Positions
+        ensures { result ≡ record { taking = self.now.taking; used = self.now.used } }
+    {
+        Positions {
+            taking: self.taking,
+            used: self.used,
+        }
+    }
+}
