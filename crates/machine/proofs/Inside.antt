@@ -1,5 +1,5 @@
 -- Where steps write: inside RAM, and bytes.
-use Rattle.std.proofs.Common.{◌≡◌, ℕ, zero, suc, ◌+◌, ◌*◌, ◌%◌, ◌<◌, ◌≤◌, Bool, true, false, cond, List, [], ◌∷◌, ◌++◌, length, take, set, refl, arith, length-append}
+use Rattle.std.proofs.Common.{◌≡◌, ℕ, zero, suc, ◌+◌, ◌*◌, ◌%◌, ◌<◌, ◌≤◌, Bool, true, false, cond, ltb, List, [], ◌∷◌, ◌++◌, length, take, set, refl, arith, length-append}
 use Rattle.std.specs.List.{All}
 use Rattle.std.proofs.lemmas.List.{length-set}
 use Rattle.std.proofs.lemmas.Nat.{mod_below}
@@ -157,9 +157,9 @@ given_by : (ram : List ℕ) (q : RingState) (held : List ℕ) (c : Chain) (takes
 unfolding give
 given_by ram q held c false looked inside are = tt
 given_by ram q held c true looked inside are =
-    inside_append (length ram) (place_writes (take (count_into held c) (places c.writable)) (take (count_into held c) held)) (published (after_take q c.slots) c.id c.slots (count_into held c) true)
+    inside_append (length ram) (place_writes (take (count_into held c) (places c.writable)) (take (count_into held c) held)) (published (after_take q c.slots) c.id c.slots (count_into held c) (ltb 0 (count_into held c)))
     (copied_inside (length ram) (count_into held c) c.writable (take (count_into held c) held) inside (IsBytes-take (count_into held c) held are.are))
-    (published_inside (length ram) (after_take q c.slots) c.id c.slots (count_into held c) true (may_publish_taken (length ram) q c.slots looked))
+    (published_inside (length ram) (after_take q c.slots) c.id c.slots (count_into held c) (ltb 0 (count_into held c)) (may_publish_taken (length ram) q c.slots looked))
 
 given_inside : (ram : List ℕ) (q : RingState) (held : List ℕ) (seen : Next) → IsLookedRing (length ram) q → IsBoundedNext (length ram) q seen → AreHostBytes held → AreInsideRam (length ram) (receive_step ram q held seen).writes
 given_inside ram q held next.Empty looked bounded are = note_inside (length ram) q looked.areas

@@ -92,7 +92,7 @@ fn served(received: Received) -> Served
     match received {
         Received::Empty => Served::Empty,
         Received::Malformed => Served::Malformed,
-        Received::Completed(len, is_due) => Served::Published {
+        Received::Completed { len, is_due } => Served::Published {
             reply: Reply::Completed(len),
             is_due,
         },
