@@ -106,3 +106,8 @@ NoNext pages shapes before tail = (r : Record) (y : List ℕ) → Follows pages 
 pub record HasRounds (sizes b : List ℕ) (n : ℕ) : Type 0 where
   pub none : ((pages : ℕ) (shapes : List Shape) (rest : List ℕ) → ¬ (Begins b pages shapes rest)) → n ≡ 0
   pub some : (pages : ℕ) (shapes : List Shape) (before : List Record) (tail : List ℕ) → IsFront sizes b pages shapes before tail → NoNext pages shapes before tail → n ≡ rounds before
+
+-- The bytes are a stream of this machine, in which so many rounds ended.
+pub record IsReceived (bytes : List ℕ) (m : MachineState) (n : ℕ) : Type 0 where
+  pub stream : IsStream bytes m
+  pub rounds_are : rounds stream.entries ≡ n

@@ -36,7 +36,8 @@ impl<D: Disk> Model for Receiver<D> {
 impl<D: Disk + Drop> Receiver<D> {
     ghost use Rattle.std.specs.Prelude.{◌≡◌, ◌++◌, [], ℕ, List, IfOk, IfErr, OnOk, OnErr, Err, true, false};
     ghost use Rattle.machine.specs.Seen.{state_of};
-    ghost use Rattle.wire.specs.Stream.{IsStream};
+    ghost use Rattle.machine.specs.Shapes.{disk_sizes};
+    ghost use Rattle.wire.specs.Stream.{IsStream, shapes_in};
     ghost use Rattle.receiver.specs.declared.recv_error.RecvError.TheVariants as errors;
     ghost use Rattle.receiver.specs.Receiving.{HasBeenFed, NoFault, IsFinish, HasRounds, TellsNow, sizes_of};
 
@@ -92,6 +93,7 @@ impl<D: Disk + Drop> Receiver<D> {
     /// The machine whose stream was fed.
     pub fn finish(self) -> Result<Machine<D>, RecvError>
         ensures received { IfOk result (λ m. (b : List ℕ) → HasBeenFed self b → IsStream b (state_of m)) }
+        ensures fits { IfOk result (λ m. self.sizes ≡ disk_sizes (shapes_in (state_of m).devices)) }
         ensures refused { IfErr result (λ e. (b : List ℕ) → HasBeenFed self b → IsFinish b e) }
         ensures already { self.failed ≡ true → result ≡ Err errors.AlreadyFailed }
     {

@@ -2,8 +2,9 @@
 
 ghost use Rattle.std.specs.Prelude.{◌≡◌, IfOk, IfErr};
 ghost use Rattle.machine.specs.Seen.{state_of};
-ghost use Rattle.wire.specs.Stream.{IsStream};
-ghost use Rattle.receiver.specs.Receiving.{HasRounds, RefusesSlice, sizes_of};
+ghost use Rattle.machine.specs.Shapes.{disk_sizes};
+ghost use Rattle.wire.specs.Stream.{shapes_in};
+ghost use Rattle.receiver.specs.Receiving.{IsReceived, RefusesSlice, sizes_of};
 
 use crate::receiver::Receiver;
 use crate::recv_error::RecvError;
@@ -17,8 +18,8 @@ pub fn receive<D: Disk + Drop>(
     bytes: &[u8],
     disks: Vec<D>,
 ) -> Result<(Machine<D>, u32), RecvError>
-    ensures received { IfOk result (λ x. IsStream bytes.now (state_of x.0)) }
-    ensures rounds { IfOk result (λ x. HasRounds (sizes_of D.state disks.items) bytes.now x.1) }
+    ensures received { IfOk result (λ x. IsReceived bytes.now (state_of x.0) x.1) }
+    ensures fits { IfOk result (λ x. sizes_of D.state disks.items ≡ disk_sizes (shapes_in (state_of x.0).devices)) }
     ensures refused { IfErr result (λ e. RefusesSlice (sizes_of D.state disks.items) bytes.now e) }
 {
     let mut receiver = Receiver::new(alloc, disks);

@@ -6,7 +6,7 @@ use Rattle.std.specs.declared.io.ErrorKind.TheVariants.{OutOfMemory}
 use Rattle.machine.specs.Refusal.{new_code_of}
 use Rattle.machine.specs.declared.new_error.NewError.{NewError}
 use Rattle.machine.specs.declared.new_error.NewError.TheVariants as new_error
-use Rattle.receiver.specs.Receiving.{recv_code_of}
+use Rattle.receiver.specs.Codes.{recv_code_of}
 use Rattle.receiver.specs.declared.recv_error.RecvError.{RecvError}
 use Rattle.receiver.specs.declared.recv_error.RecvError.TheVariants as recv_error
 use Rattle.traces.specs.Replies.{newline}

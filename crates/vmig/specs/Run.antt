@@ -1,13 +1,13 @@
 -- What the program does for its words: what it writes to standard output, and why it may fail.
-use Rattle.std.specs.Prelude.{◌≡◌, ◌⊎◌, ◌/◌, ℕ, List, length, map, flat_map, codes, Option, MatchBool, MatchOption}
+use Rattle.std.specs.Prelude.{◌≡◌, ◌⊎◌, ◌/◌, ℕ, List, [], length, map, flat_map, codes, Option, MatchBool, MatchOption}
 use Rattle.std.specs.Io.KnownBytes.{Appends, Keeps}
 use Rattle.guestmem.specs.declared.limits.TheConstants.{PAGE_SIZE}
 use Rattle.machine.specs.State.{MachineState}
 use Rattle.machine.specs.First.{first_machine, new_refusal}
-use Rattle.machine.specs.Step.{outcome_of}
+use Rattle.machine.specs.Outcome.{outcome_of}
 use Rattle.machine.specs.Run.{IsRun}
 use Rattle.machine.specs.declared.reply.Reply.{Reply}
-use Rattle.receiver.specs.Receiving.{IsReceived, IsNoStream, Refuses as RefusesStream}
+use Rattle.receiver.specs.Receiving.{IsReceived, RefusesSlice}
 use Rattle.receiver.specs.declared.recv_error.RecvError.{RecvError}
 use Rattle.traces.specs.Trace.{Contents, IsTrace, Refuses as RefusesText}
 use Rattle.traces.specs.Replies.{reply_line, checked_line, AppendsBeginning}
@@ -20,7 +20,7 @@ use Rattle.vmig.specs.declared.fault.Fault.TheVariants.{NoMemory, Usage, File}
 -- These are replies of a fresh machine of the trace's shape to its events, each event with the outcome of its reply.
 pub record AreReplies (c : Contents) (replies : List Reply) : Type 0 where
   pub last : MachineState
-  pub run : IsRun (first_machine c.pages c.shapes) c.events (map outcome_of replies) replies last
+  pub run : IsRun (first_machine c.pages c.shapes []) c.events (map outcome_of replies) replies last
 
 -- The text is a trace, and these are the lines of such replies to it, in order.
 pub record AreReplyLines (text lines : List ℕ) : Type 0 where
@@ -51,15 +51,16 @@ pub record HasBegun (IsOutput : List ℕ → Type 0) (old new : Option (List ℕ
 
 -- What a fault says of a trace: there is no machine of its shape, or else memory was refused.
 abbrev pub TellsOfTrace : Contents → Fault → Type 0
-TellsOfTrace c fault = MatchOption (new_refusal c.pages c.shapes 0) (fault ≡ NoMemory) (λ refusal. fault ≡ shape_fault refusal)
+TellsOfTrace c fault = MatchOption (new_refusal c.pages c.shapes []) (fault ≡ NoMemory) (λ refusal. fault ≡ shape_fault refusal)
 
 -- What a fault says of a text: it is no trace, or one that could not be played.
 abbrev pub TellsOfText : List ℕ → Fault → Type 0
 TellsOfText text fault = ((refusal : TraceError) × RefusesText text refusal × (fault ≡ trace_fault refusal)) ⊎ ((c : Contents) × IsTrace text c × TellsOfTrace c fault)
 
--- What a fault says of bytes: they are no stream of a machine without disks, or memory was refused.
+-- What a fault says of bytes: for a machine without disks the first fault stands in them that its number tells, or they are a
+-- stream that is not whole, or memory was refused.
 abbrev pub TellsOfStream : List ℕ → Fault → Type 0
-TellsOfStream bytes fault = (refusal : RecvError) × RefusesStream refusal (IsNoStream bytes 0) × (fault ≡ stream_fault refusal)
+TellsOfStream bytes fault = (refusal : RecvError) × RefusesSlice [] bytes refusal × (fault ≡ stream_fault refusal)
 
 -- standard output failed, which is told as a file of the name `-`
 abbrev pub TellsOfOutput : Fault → Type 0
