@@ -1,7 +1,16 @@
 //! The laws of machines, streams and traces: functions that do nothing, whose contracts are the laws.
 
 pub use machine::laws::{
-    malformed_is_contained, runs_agree, shape_stays, steps_agree, touched_exists, untouched_stays,
+    effects_agree, malformed_asks_for_reset, malformed_is_contained, refusals_change_nothing,
+    runs_agree, shape_stays, step_keeps_shape, step_stays_sound, step_stays_within, steps_agree,
+    touched_exists, untouched_stays,
+};
+pub use receiver::laws::{
+    faults_stand_early, faults_stay, no_fault_in_a_stream, one_fault, rounds_of_a_stream,
+    saved_is_received,
 };
 pub use traces::laws::texts_are_read_in_one_way;
-pub use wire::laws::{a_stream_has_one_machine, no_record_begins_another, whole_is_a_stream};
+pub use wire::laws::{
+    a_stream_has_one_count_of_rounds, a_stream_has_one_machine, no_record_begins_another,
+    whole_is_a_stream,
+};

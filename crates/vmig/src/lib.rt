@@ -28,11 +28,11 @@ mod words;
 
 pub use guestmem::{ACCESS_MAX, NoMemory, PAGE_SIZE, PAGES_MAX, Ram, RamError, Touched};
 pub use machine::{
-    Bytes, DEVICES_MAX, DeviceState, Disk, DiskFault, Event, Machine, MemDisk, NewError, Refusal,
-    Reply, SECTOR_SIZE, Shape,
+    Bytes, DEVICES_MAX, DeviceState, Disk, DiskFault, Event, Machine, MemDisk, NewError, Own,
+    Refusal, Reply, SECTOR_SIZE, Shape,
 };
 pub use program::execute;
-pub use receiver::{RecvError, receive};
+pub use receiver::{Receiver, RecvError, receive};
 pub use sender::{MigError, save};
 pub use traces::{Trace, TraceError, WriteFault, parse, write_checked, write_reply};
 pub use wire::{
