@@ -1,21 +1,31 @@
 //! Bytes, and what is told of them when they are received.
 
-use crate::stream::refusal_of;
+use crate::stream::{refusal_in_pieces, refusal_of};
 use anyhow::{Context, Result, ensure};
 use books::spelled;
 use machine::MemDisk;
 use std::alloc::Global;
 
-/// Receives the stream of a line, which stands before ` -> ` and the number of its refusal, or 0 where it is received.
+/// The sizes of the pieces in which each stream is fed too.
+const PIECES: [usize; 6] = [1, 2, 3, 511, 4101, 65_536];
+
+/// Receives the stream of a line, which stands before ` -> ` and the number of its refusal, or 0 where it is received. It
+/// is told alike in pieces of any size. Behind the number may stand ` AT ` and a place: so many bytes tell the refusal,
+/// and no fewer.
 ///
 /// Before the stream may stand `A DISK, AND`: then a disk is handed in that no device has. `EACH BEGINNING OF` and `EACH
 /// BYTE TURNED IN` stand for many streams: for each place in this one, what is before it, or the same stream with the
 /// complement of the byte there. Then the numbers are spelled like a stream.
 pub fn tells(alloc: Global, line: &str) -> Result<()> {
-    let (streams, numbers) = line.split_once(" -> ").context("no number")?;
+    let (streams, told) = line.split_once(" -> ").context("no number")?;
+    let (numbers, place) = told.split_once(" AT ").unwrap_or((told, ""));
     let expected = spelled(alloc, numbers)?;
     let told = told_of(alloc, streams)?;
     ensure!(told.as_slice() == expected.as_slice(), "{line}");
+    if !place.is_empty() {
+        let place = place.parse::<usize>()?;
+        ensure!(told_at(alloc, streams)? == place, "{line}");
+    }
     Ok(())
 }
 
@@ -24,20 +34,42 @@ fn told_of(alloc: Global, streams: &str) -> Result<Vec<u8>> {
         told_of_beginnings(alloc, stream)
     } else if let Some(stream) = streams.strip_prefix("EACH BYTE TURNED IN ") {
         told_of_turned(alloc, stream)
-    } else if let Some(stream) = streams.strip_prefix("A DISK, AND ") {
-        let mut disks = Vec::new(alloc);
-        disks.push(MemDisk::new(alloc, 1)?)?;
-        told_beside(alloc, stream, disks)
     } else {
-        told_beside(alloc, streams, Vec::new(alloc))
+        told_of_one(alloc, streams)
     }
 }
 
-fn told_beside(alloc: Global, stream: &str, disks: Vec<MemDisk>) -> Result<Vec<u8>> {
-    let stream = spelled(alloc, stream)?;
+/// The stream of a line, and the disks that are handed in.
+fn one_of(alloc: Global, streams: &str) -> Result<(Vec<u8>, Vec<MemDisk>)> {
+    let mut disks = Vec::new(alloc);
+    let stream = match streams.strip_prefix("A DISK, AND ") {
+        Some(stream) => {
+            disks.push(MemDisk::new(alloc, 1)?)?;
+            stream
+        }
+        None => streams,
+    };
+    Ok((spelled(alloc, stream)?, disks))
+}
+
+fn told_of_one(alloc: Global, streams: &str) -> Result<Vec<u8>> {
+    let (stream, disks) = one_of(alloc, streams)?;
+    let number = refusal_of(alloc, stream.as_slice(), disks);
+    for size in PIECES {
+        let (stream, disks) = one_of(alloc, streams)?;
+        let (in_pieces, _) = refusal_in_pieces(alloc, stream.as_slice(), disks, size);
+        ensure!(in_pieces == number, "pieces of {size}");
+    }
     let mut told = Vec::new(alloc);
-    told.push(refusal_of(alloc, stream.as_slice(), disks))?;
+    told.push(number)?;
     Ok(told)
+}
+
+/// How many bytes tell the refusal of this stream.
+fn told_at(alloc: Global, streams: &str) -> Result<usize> {
+    let (stream, disks) = one_of(alloc, streams)?;
+    let (_, place) = refusal_in_pieces(alloc, stream.as_slice(), disks, 1);
+    Ok(place)
 }
 
 fn told_of_beginnings(alloc: Global, stream: &str) -> Result<Vec<u8>> {

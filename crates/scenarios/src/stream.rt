@@ -4,7 +4,7 @@ use crate::journey::Journey;
 use crate::refusal::tells;
 use anyhow::{Result, ensure};
 use machine::{Machine, MemDisk};
-use receiver::{RecvError, receive};
+use receiver::{Receiver, RecvError, receive};
 use sender::save;
 use std::alloc::Global;
 use wire::WriteSink;
@@ -39,4 +39,24 @@ pub fn refusal_of(alloc: Global, stream: &[u8], disks: Vec<MemDisk>) -> u8 {
     receive(alloc, stream, disks)
         .err()
         .map_or(0, RecvError::code)
+}
+
+/// The number of the refusal of a stream that is fed in pieces of so many bytes, or 0 where it is received; and how many
+/// bytes were fed then.
+pub fn refusal_in_pieces(
+    alloc: Global,
+    stream: &[u8],
+    disks: Vec<MemDisk>,
+    size: usize,
+) -> (u8, usize) {
+    let mut receiver = Receiver::new(alloc, disks);
+    let mut fed = 0;
+    for piece in stream.chunks(size) {
+        fed += piece.len();
+        if let Err(error) = receiver.feed(piece) {
+            return (error.code(), fed);
+        }
+    }
+    let refusal = receiver.finish().err();
+    (refusal.map_or(0, RecvError::code), fed)
 }
