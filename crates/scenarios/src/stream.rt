@@ -51,7 +51,7 @@ pub fn refusal_in_pieces(
 ) -> (u8, usize) {
     let mut receiver = Receiver::new(alloc, disks);
     let mut fed = 0;
-    for piece in stream.chunks(size) {
+    for piece in stream.chunks(size.max(1)) {
         fed += piece.len();
         if let Err(error) = receiver.feed(piece) {
             return (error.code(), fed);
