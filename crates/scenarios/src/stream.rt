@@ -50,9 +50,9 @@ pub fn refusal_in_pieces(
     size: usize,
 ) -> (u8, usize) {
     let mut receiver = Receiver::new(alloc, disks);
-    let mut fed = 0;
+    let mut fed = 0usize;
     for piece in stream.chunks(size.max(1)) {
-        fed += piece.len();
+        fed = fed.saturating_add(piece.len());
         if let Err(error) = receiver.feed(piece) {
             return (error.code(), fed);
         }
