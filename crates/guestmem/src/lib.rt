@@ -11,12 +11,12 @@
 //! What the layers above may rely on is in the contracts alone. They speak of the record `Memory` (`specs/Memory`:
 //! the bytes in order of their addresses, and the versions) and of the bytes of a page (`specs/Page`), of the
 //! little-endian number at an address (`specs/Number`), of writes and lists of writes (`specs/Write`, `specs/Writes`), of
-//! one RAM that is another one later (`specs/Later`) and of the items that a log takes in (`specs/Item`, `specs/Laws`).
-//! Nothing is trusted here beside the toolchain and `byteorder`.
+//! one RAM that is another one later (`specs/Later`, and the module `laws`) and of the items that a log takes in
+//! (`specs/Item`, `specs/Laws`). Nothing is trusted here beside the toolchain and `byteorder`.
 //!
-//! A habit of these crates: a method `recall` does nothing and returns nothing. Its contract is what every value of its
-//! type keeps, of which a proof outside of the type knows nothing until the method is called. So a call of `recall` is a
-//! note to the checker, which the lines after it stand on.
+//! A habit of these crates: a method `recall` changes nothing and returns nothing. Its contract is what every value of
+//! its type keeps, of which a proof outside of the type knows nothing until the method is called. So a call of `recall`
+//! is a note to the checker, and the lines after it stand on what it says.
 #![tactic(auto)]
 
 mod error;
