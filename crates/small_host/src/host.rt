@@ -5,11 +5,13 @@ use anyhow::{Result, bail};
 use std::io::Write;
 use vmig::{Machine, MemDisk, Refusal, Reply, Shape, WriteSink, receive, save};
 
-/// The one device, the one queue that it has, and the register whose writes are kicks (VIRTIO 1.2, 4.2.2).
+/// The one device.
 const DEVICE: u8 = 0;
 
-const QUEUE: u8 = 0;
+/// The pick that serves the one queue that it has.
+const PICK: u8 = 0;
 
+/// The register whose writes are kicks (VIRTIO 1.2, 4.2.2).
 const QUEUE_NOTIFY: u32 = 0x050;
 
 /// More steps than there is work for: each that completes takes a byte of the host's, of which 4,096 fit.
@@ -23,6 +25,7 @@ pub struct Host {
 }
 
 impl Host {
+    /// A host of a new machine: one page of RAM, and an entropy device.
     pub fn new(rt: &HostRuntime) -> Result<Host> {
         let machine = Machine::new(rt.alloc(), 1, &[Shape::Entropy], Vec::new(rt.alloc()))?;
         Ok(Host { machine, lines: 0 })
@@ -60,7 +63,7 @@ impl Host {
     /// Steps the device until it has nothing to do, and reads the lines after each step.
     fn work(&mut self, rt: &HostRuntime) -> Result<()> {
         for _ in 0..STEPS {
-            let reply = self.machine.step(DEVICE, QUEUE);
+            let reply = self.machine.step(DEVICE, PICK);
             self.set_lines(rt)?;
             match reply {
                 Reply::Completed(count) => println!(rt; "device: gave {count} bytes")?,
