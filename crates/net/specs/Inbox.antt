@@ -1,11 +1,13 @@
 -- Frames that the host puts in for the guest.
 use Rattle.std.specs.Prelude.{ℕ, nat_lt, ◌≤◌, ◌&&◌, Bool, not, List, [], ◌∷◌, ◌++◌, length, if◌then◌else◌}
+use Rattle.guestmem.specs.Number.{IsBytes}
 use Rattle.net.specs.declared.limits.TheConstants.{FRAME_MIN, FRAME_MAX, INBOX_MAX}
 
--- These bytes are a frame: neither too few nor too many.
+-- A frame: bytes, neither too few nor too many.
 pub record IsFrame (bytes : List ℕ) : Type 0 where
   pub long : FRAME_MIN ≤ length bytes
   pub short : length bytes ≤ FRAME_MAX
+  pub are : IsBytes bytes
 
 -- Whether a frame can have so many bytes.
 abbrev pub is_frame_len : ℕ → Bool

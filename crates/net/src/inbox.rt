@@ -1,9 +1,9 @@
 //! What the host has put in for the guest to take.
 
 use crate::frame::Frame;
-use crate::limits::INBOX_MAX;
+use crate::limits::{FRAME_MAX, FRAME_MIN, INBOX_MAX};
 use circular_buffer::HeapCircularBuffer;
-use guestmem::NoMemory;
+use guestmem::{NoMemory, recall_bytes};
 use std::alloc::Global;
 use std::marker::Model;
 
@@ -70,13 +70,15 @@ impl Inbox {
 
     /// Puts a frame in behind the others, and answers its length. A full inbox keeps none of it, and the answer is 0.
     pub fn push(&mut self, frame: &[u8]) -> usize
-        requires { IsFrame frame.now }
+        requires long { FRAME_MIN ≤ length frame.now }
+        requires short { length frame.now ≤ FRAME_MAX }
         ensures count { result ≡ kept_of self.old frame.now }
         ensures frames { self.new ≡ frames_with self.old frame.now }
     {
         if self.is_full() {
             return 0;
         }
+        recall_bytes(frame);
         self.frames.push_back(Frame::new(frame));
         frame.len()
     }
