@@ -1,5 +1,5 @@
 use Rattle.std.specs.Prelude.{◌≡◌, ℕ, zero, suc, ◌+◌, ◌/◌, ◌<◌, ◌≤◌, ◌^◌, List, [], ◌∷◌, ◌++◌, length, Bool, true, false, not, filter, map, sum_by, All, refl}
-use Rattle.std.proofs.Common.{ap, sym, ◌∙◌, arith, length-append}
+use Rattle.std.proofs.Common.{ap, sym, ◌∙◌, arith, length-append, inl, inr}
 use Rattle.std.specs.Bool.{MatchBool}
 use Rattle.std.proofs.lemmas.List.Elements.{All-filter, All-map}
 use Rattle.std.proofs.lemmas.List.Filters.{length-filter_both}
@@ -18,7 +18,9 @@ use Rattle.chains.specs.SplitChain.{AreLinked, IsSplitChain, head}
 use Rattle.chains.specs.SplitLaws.{split_chain_same}
 use Rattle.chains.specs.PackedChain.{IsPackedChain, IsPackedTable, entries_from}
 use Rattle.chains.specs.PackedLaws.{packed_chain_same}
-use Rattle.chains.specs.Ring.{IsChain, Answers, IsBounded, IsBoundedNext}
+use Rattle.chains.specs.Ring.{IsEmptyQueue, IsChain, Answers, IsBounded, IsBoundedNext}
+use Rattle.chains.specs.Transmit.{MayWantMemory}
+use Rattle.chains.specs.declared.transmitting.MessageForm.{MessageForm}
 
 by_layout : {A : Type 0} (packed : Bool) (P S P' S' : Type 0) → (P → P' → A) → (S → S' → A) → MatchBool packed P S → MatchBool packed P' S' → A
 by_layout true P S P' S' f g x y = f x y
@@ -137,6 +139,11 @@ bounded_by ram q c false layout s = split_bounded ram q c layout s
 -- Every chain of a queue keeps the bounds.
 pub chain_bounded : (ram : List ℕ) (q : RingState) (c : Chain) → IsChain ram q c → IsBounded (length ram) q c
 chain_bounded ram q c s = bounded_by ram q c q.is_packed refl s
+
+-- What waits for memory is no empty queue.
+pub wanting_waits : (ram : List ℕ) (q : RingState) (form : MessageForm) → MayWantMemory ram q form → ¬ (IsEmptyQueue ram q)
+wanting_waits ram q form (inl long) = long.waiting
+wanting_waits ram q form (inr message) = message.answers.0
 
 pub next_bounded : (ram : List ℕ) (q : RingState) (next : Next) → Answers ram q next → IsBoundedNext (length ram) q next
 next_bounded ram q Empty h = tt

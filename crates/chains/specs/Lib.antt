@@ -13,3 +13,5 @@ pub mod EffectLaws
 pub mod PlaceLaws
 pub mod PackedLaws
 pub mod ChainLaws
+pub mod ReceiveBuffer
+pub mod Transmit

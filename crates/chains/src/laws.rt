@@ -2,9 +2,12 @@
 
 ghost use Rattle.std.specs.Prelude.{◌≡◌, ℕ, List, length};
 ghost use Rattle.chains.specs.State.{RingState};
-ghost use Rattle.chains.specs.Ring.{IsChain, Answers, IsBounded};
+ghost use Rattle.chains.specs.Ring.{IsEmptyQueue, IsChain, Answers, IsBounded};
+ghost use Rattle.chains.specs.LongQueue.{IsLongQueue};
+ghost use Rattle.chains.specs.Transmit.{MayWantMemory};
 ghost use Rattle.chains.specs.declared.chain.Chain.{Chain};
 ghost use Rattle.chains.specs.declared.next.Next.{Next};
+ghost use Rattle.chains.specs.declared.transmitting.MessageForm.{MessageForm};
 
 /// A queue, of either layout, has at most one chain at its taking position.
 pub fn one_chain()
@@ -19,4 +22,10 @@ pub fn one_answer()
 /// Every chain of a queue keeps the bounds, whatever the driver wrote.
 pub fn chains_are_bounded()
     ensures { (ram : List ℕ) (q : RingState) (c : Chain) → IsChain ram q c → IsBounded (length ram) q c }
+{}
+
+/// Memory is wanted only at a queue that is not empty: for its next chain, and for a message in it.
+pub fn memory_is_wanted_for_a_chain()
+    ensures chain { (ram : List ℕ) (q : RingState) → IsLongQueue ram q → ¬ (IsEmptyQueue ram q) }
+    ensures message { (ram : List ℕ) (q : RingState) (form : MessageForm) → MayWantMemory ram q form → ¬ (IsEmptyQueue ram q) }
 {}

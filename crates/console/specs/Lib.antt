@@ -1,1 +1,4 @@
 pub mod Receive
+pub mod Transmit
+pub mod Size
+pub mod Emergency

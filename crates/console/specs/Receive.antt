@@ -1,11 +1,13 @@
 -- The step of a queue through which a device gives bytes to the guest: the receive queue of a console (VIRTIO 1.2, 5.3.6)
 -- and the queue of an entropy device (VIRTIO 1.2, 5.4.6).
-use Rattle.std.specs.Prelude.{◌≡◌, ℕ, nat_lt, ◌==◌, ◌&&◌, not, min, Bool, List, [], ◌++◌, length, take, drop, if◌then◌else◌}
+use Rattle.std.specs.Prelude.{◌≡◌, ℕ, min, List, [], length, take, drop, if◌then◌else◌}
 use Rattle.guestmem.specs.Item.{Item, after_all}
 use Rattle.guestmem.specs.Writes.{Write, set_all, touched}
 use Rattle.chains.specs.State.{RingState}
-use Rattle.chains.specs.Places.{places, place_writes}
-use Rattle.chains.specs.Publish.{published, event_note, is_interrupt_due, after_take, after_publish}
+use Rattle.chains.specs.Places.{places}
+use Rattle.chains.specs.Publish.{event_note, is_interrupt_due, after_take, after_publish}
+use Rattle.chains.specs.ReceiveBuffer.{filled}
+pub use Rattle.chains.specs.ReceiveBuffer.{takes_bytes}
 use Rattle.chains.specs.Ring.{Answers}
 use Rattle.chains.specs.declared.chain.Chain.{Chain}
 use Rattle.chains.specs.declared.next.Next.{Next}
@@ -21,20 +23,13 @@ pub record Step : Type 0 where
   pub ring : RingState
   pub left : List ℕ
 
--- A chain into which the device may write: it has no readable byte, and a writable one.
-abbrev pub takes_bytes : Chain → Bool
-takes_bytes c = length (places c.readable) == 0 && not (length (places c.writable) == 0)
-
 -- How many of the bytes held go into the chain.
 abbrev pub count_into : List ℕ → Chain → ℕ
 count_into held c = min (length (places c.writable)) (length held)
 
--- The first bytes held go to the writable places, and the chain is published with their number, as written where there
--- are any.
+-- The first bytes held go into the chain.
 abbrev pub writes_into : RingState → List ℕ → Chain → List Write
-writes_into q held c =
-    place_writes (take (count_into held c) (places c.writable)) (take (count_into held c) held)
-    ++ published (after_take q c.slots) c.id c.slots (count_into held c) (nat_lt 0 (count_into held c))
+writes_into q held c = filled q c (take (count_into held c) held)
 
 unfoldable pub give : List ℕ → RingState → List ℕ → Chain → Step
 give ram q held c = record {

@@ -4,13 +4,12 @@ ghost use Rattle.std.specs.Prelude.{◌≡◌, ◌≤◌, ◌<◌, ◌+◌, ◌^
 ghost use Rattle.guestmem.specs.Item.{MayPages};
 ghost use Rattle.guestmem.specs.Later.{IsLater};
 ghost use Rattle.chains.specs.State.{HasAreas};
-ghost use Rattle.chains.specs.Places.{places};
 ghost use Rattle.chains.specs.Ring.{IsBounded};
 ghost use Rattle.chains.specs.LongQueue.{IsLongQueue};
-ghost use Rattle.console.specs.Receive.{takes_bytes, give, IsAfter, IsReceived};
+ghost use Rattle.console.specs.Receive.{give, IsAfter, IsReceived};
 
 use crate::host_bytes::HostBytes;
-use chains::{Chain, Next, Ring, copy_in, total_len};
+use chains::{Chain, Next, Ring, fill, takes_bytes, total_len};
 use guestmem::{NoMemory, Ram, TouchLog};
 use mmio::QUEUE_SIZE_MAX;
 
@@ -73,15 +72,6 @@ pub fn receive<R: Ring, L: TouchLog>(
     }
 }
 
-/// Whether a chain is one to write into: it has no readable byte, and a writable one.
-fn takes_bytes(chain: &Chain) -> bool
-    requires readable { length chain.now.readable < 2 ^ 32 }
-    requires writable { length chain.now.writable < 2 ^ 32 }
-    ensures { result ≡ takes_bytes chain.now }
-{
-    total_len(chain.readable.as_slice()) == 0 && total_len(chain.writable.as_slice()) != 0
-}
-
 /// Writes the first of the bytes held into a chain, and publishes it.
 #[tactic(auto, unfolding(crate::specs::Receive::give))]
 fn give<R: Ring, L: TouchLog>(
@@ -101,15 +91,13 @@ fn give<R: Ring, L: TouchLog>(
     ensures later { IsLater ram.old ram.new }
     ensures may { MayPages L.may log.new (length ram.new.bytes) }
 {
-    let segs = chain.writable.as_slice();
-    let count = total_len(segs).min(held.len() as u64) as usize;
+    let room = total_len(chain.writable.as_slice());
+    let count = room.min(held.len() as u64) as usize;
     let (front, back) = held.as_slices();
     let first = front.len().min(count);
-    copy_in(ram, segs, 0, &front[..first], log);
-    copy_in(ram, segs, first as u64, &back[..count - first], log);
+    let (front, back) = (&front[..first], &back[..count - first]);
+    let is_due = fill(ring, chain, front, back, ram, log);
     held.take_out(count);
-    ring.take(chain);
     let len = count as u32;
-    let is_due = ring.publish(chain.id, chain.slots, len, len > 0, ram, log);
     Received::Completed { len, is_due }
 }

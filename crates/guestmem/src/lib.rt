@@ -14,11 +14,14 @@
 //! one RAM that is another one later (`specs/Later`, and the module `laws`) and of the items that a log takes in
 //! (`specs/Item`, `specs/Laws`). Nothing is trusted here beside the toolchain and `byteorder`.
 //!
+//! `Bytes` are bytes of any number that are handed on as one value: what was read, or what is to be written.
+//!
 //! A habit of these crates: a method `recall` changes nothing and returns nothing. Its contract is what every value of
 //! its type keeps, of which a proof outside of the type knows nothing until the method is called. So a call of `recall`
 //! is a note to the checker, and the lines after it stand on what it says.
 #![tactic(auto)]
 
+mod bytes;
 mod error;
 pub mod laws;
 mod limits;
@@ -26,6 +29,7 @@ mod log;
 mod ram;
 mod touched;
 
+pub use bytes::Bytes;
 pub use error::RamError;
 pub use limits::{ACCESS_MAX, PAGE_SIZE, PAGES_MAX};
 pub use log::{NoLog, TouchLog};

@@ -7,6 +7,7 @@ use Rattle.guestmem.specs.ByteLaws.{little_bytes, IsBytes-append, IsBytes-take, 
 use Rattle.guestmem.specs.Number.{IsBytes}
 use Rattle.guestmem.specs.Writes.{Write, byte_writes, set_all}
 use Rattle.chains.specs.Places.{addresses, places, place_writes, AreSegmentsInside}
+use Rattle.chains.specs.ReceiveBuffer.{filled}
 use Rattle.chains.specs.Publish.{published, split_published, packed_published, event_note, split_note, packed_note, after_take, bit_if}
 use Rattle.chains.specs.Ring.{Answers, IsBoundedNext}
 use Rattle.chains.specs.ChainLaws.{next_bounded}
@@ -67,19 +68,10 @@ places_inside len (seg ∷ segs) h =
     addresses_append len (addresses seg.addr seg.len) (places segs) (addresses_inside len seg.addr seg.len (h 0 seg (omega arith)))
     (places_inside len segs (λ k d below. h (suc k) d (omega (arith, below))))
 
-first_inside : (len n : ℕ) (at : List ℕ) → AreAddresses len at → AreAddresses len (take n at)
-first_inside len zero at h = tt
-first_inside len (suc n) [] h = tt
-first_inside len (suc n) (a ∷ at) h = (h.0, first_inside len n at h.1)
-
 placed_inside : (len : ℕ) (at bytes : List ℕ) → AreAddresses len at → IsBytes bytes → AreInsideRam len (place_writes at bytes)
 placed_inside len [] bytes h are = tt
 placed_inside len (a ∷ at) [] h are = tt
 placed_inside len (a ∷ at) (b ∷ bytes) h are = (h.0, are 0, placed_inside len at bytes h.1 (λ i. are (suc i)))
-
--- The first bytes of a list, at the first places of segments.
-pub copied_inside : (len n : ℕ) (segs : List Seg) (bytes : List ℕ) → AreSegmentsInside len segs → IsBytes bytes → AreInsideRam len (place_writes (take n (places segs)) bytes)
-copied_inside len n segs bytes h are = placed_inside len (take n (places segs)) bytes (first_inside len n (places segs) (places_inside len segs h)) are
 
 -- What publishing writes.
 slot_below : (place size : ℕ) → 1 ≤ size → place % size < size
@@ -151,15 +143,20 @@ noted_if len ws false h = tt
 pub note_inside : (len : ℕ) (q : RingState) → HasAreas len q → AreInsideRam len (event_note q)
 note_inside len q areas = noted_if len (cond q.is_packed (packed_note q) (split_note q)) q.has_event_index (note_by len q q.is_packed refl areas)
 
+-- What giving bytes to a chain writes.
+pub filled_inside : (len : ℕ) (q : RingState) (c : Chain) (bytes : List ℕ) → IsLookedRing len q → AreSegmentsInside len c.writable → IsBytes bytes → AreInsideRam len (filled q c bytes)
+filled_inside len q c bytes looked inside are =
+    inside_append len (place_writes (places c.writable) bytes) (published (after_take q c.slots) c.id c.slots (length bytes) (ltb 0 (length bytes)))
+    (placed_inside len (places c.writable) bytes (places_inside len c.writable inside) are)
+    (published_inside len (after_take q c.slots) c.id c.slots (length bytes) (ltb 0 (length bytes)) (may_publish_taken len q c.slots looked))
+
 -- What the step that gives bytes writes.
 given_by : (ram : List ℕ) (q : RingState) (held : List ℕ) (c : Chain) (takes : Bool) → IsLookedRing (length ram) q → AreSegmentsInside (length ram) c.writable → AreHostBytes held
     → AreInsideRam (length ram) (cond takes (give ram q held c) (refuse q held)).writes
 unfolding give
 given_by ram q held c false looked inside are = tt
 given_by ram q held c true looked inside are =
-    inside_append (length ram) (place_writes (take (count_into held c) (places c.writable)) (take (count_into held c) held)) (published (after_take q c.slots) c.id c.slots (count_into held c) (ltb 0 (count_into held c)))
-    (copied_inside (length ram) (count_into held c) c.writable (take (count_into held c) held) inside (IsBytes-take (count_into held c) held are.are))
-    (published_inside (length ram) (after_take q c.slots) c.id c.slots (count_into held c) (ltb 0 (count_into held c)) (may_publish_taken (length ram) q c.slots looked))
+    filled_inside (length ram) q c (take (count_into held c) held) looked inside (IsBytes-take (count_into held c) held are.are)
 
 given_inside : (ram : List ℕ) (q : RingState) (held : List ℕ) (seen : Next) → IsLookedRing (length ram) q → IsBoundedNext (length ram) q seen → AreHostBytes held → AreInsideRam (length ram) (receive_step ram q held seen).writes
 given_inside ram q held next.Empty looked bounded are = note_inside (length ram) q looked.areas

@@ -1,6 +1,6 @@
 //! What happens to a machine.
 
-use crate::bytes::Bytes;
+use guestmem::Bytes;
 
 /// One thing that the guest or the host does to a machine: one atomic step.
 #[derive(Debug, Drop, PartialEq, Eq)]

@@ -20,7 +20,6 @@
 #![tactic(auto)]
 
 mod any_ring;
-mod bytes;
 mod device;
 mod disk;
 mod event;
@@ -34,9 +33,9 @@ mod served;
 mod shape;
 mod state;
 
-pub use bytes::Bytes;
 pub use disk::{Disk, DiskFault, SECTOR_SIZE};
 pub use event::Event;
+pub use guestmem::Bytes;
 pub use machine::{DEVICES_MAX, Machine};
 pub use mem_disk::MemDisk;
 pub use new_error::NewError;

@@ -4,8 +4,7 @@ ghost use Rattle.std.specs.Prelude.{◌≡◌};
 ghost use Rattle.machine.specs.Refusal.{code_of};
 ghost use Rattle.machine.specs.Step.{ram_refusal};
 
-use crate::bytes::Bytes;
-use guestmem::RamError;
+use guestmem::{Bytes, RamError};
 
 /// Why an event was refused. A refused event changes nothing.
 #[derive(Clone, Copy, Debug, PartialEq, Eq)]

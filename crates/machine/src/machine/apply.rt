@@ -10,12 +10,11 @@ ghost use Rattle.machine.specs.Seen.{state_of, all_marks};
 ghost use Rattle.machine.specs.Sound.{IsSound};
 ghost use Rattle.machine.specs.declared.event.Event.TheVariants as events;
 
-use crate::bytes::Bytes;
 use crate::disk::Disk;
 use crate::event::Event;
 use crate::machine::Machine;
 use crate::reply::{Refusal, Reply};
-use guestmem::{NoLog, NoMemory, TouchLog};
+use guestmem::{Bytes, NoLog, NoMemory, TouchLog};
 
 impl<D: Disk> Machine<D> {
     /// Applies one event, and answers. After `NoMemory` and `Refused` nothing has changed.

@@ -1,0 +1,30 @@
+-- Bytes that are written in two parts and then published, and what is told of them.
+use Rattle.std.proofs.Common.{◌≡◌, ℕ, ◌≤◌, List, [], ◌∷◌, ◌++◌, length, take, drop, refl, ap, ◌∙◌, arith}
+use Rattle.guestmem.specs.Item.{Item, after_all}
+use Rattle.guestmem.specs.Writes.{Write, set_all, touched}
+use Rattle.guestmem.specs.WriteLaws.{set_all-append}
+use Rattle.chains.specs.EffectLaws.{after_touched}
+use Rattle.chains.specs.PlaceLaws.{place_writes_take}
+use Rattle.chains.specs.Places.{place_writes}
+
+-- Bytes in two parts go to the first places and to those behind.
+in_parts : (at front back : List ℕ) → length front ≤ length at → place_writes at (front ++ back) ≡ place_writes at front ++ place_writes (drop (length front) at) back
+in_parts [] [] back room = refl
+in_parts [] (b ∷ front) back room = absurd (omega arith)
+in_parts (p ∷ at) [] back room = refl
+in_parts (p ∷ at) (b ∷ front) back room =
+    ap (λ (ws : List Write). record { address = p; byte = b } ∷ ws) (in_parts at front back (omega arith))
+
+-- The writes of two parts, as each part is written, and then others.
+pub parts_then : (at front back : List ℕ) (last : List Write) → length front ≤ length at
+    → place_writes at (front ++ back) ++ last ≡ (place_writes (take (length front) (drop 0 at)) front ++ place_writes (take (length back) (drop (length front) at)) back) ++ last
+parts_then at front back last room =
+    ap (λ (ws : List Write). ws ++ last) (in_parts at front back room ∙ rw (place_writes_take at front, place_writes_take (drop (length front) at) back) refl)
+
+-- RAM after three lists of writes in turn.
+pub set_three : (ram : List ℕ) (us vs ws : List Write) → set_all (set_all (set_all ram us) vs) ws ≡ set_all ram ((us ++ vs) ++ ws)
+set_three ram us vs ws = rw (set_all-append ram (us ++ vs) ws, set_all-append ram us vs) refl
+
+-- A log that took in the pages of three lists of writes in turn.
+pub told_three : {L : Type 0} (after : L → Item → L) (log : L) (us vs ws : List Write) → after_all after (after_all after (after_all after log (touched us)) (touched vs)) (touched ws) ≡ after_all after log (touched ((us ++ vs) ++ ws))
+told_three after log us vs ws = rw (after_touched after log (us ++ vs) ws, after_touched after log us vs) refl

@@ -1,0 +1,71 @@
+-- The step of a queue through which the guest sends: the transmit queue of a network device (VIRTIO 1.2, 5.1.6.2) and of
+-- a console (VIRTIO 1.2, 5.3.6).
+use Rattle.std.specs.Prelude.{◌≡◌, ℕ, nat_lt, ◌&&◌, not, Bool, true, false, List, [], length, drop, if◌then◌else◌, ◌⊎◌}
+use Rattle.guestmem.specs.Item.{Item, after_all}
+use Rattle.guestmem.specs.Writes.{Write, set_all, touched}
+use Rattle.chains.specs.State.{RingState}
+use Rattle.chains.specs.Places.{places, read_places}
+use Rattle.chains.specs.Publish.{published, event_note, is_interrupt_due, after_take, after_publish}
+use Rattle.chains.specs.Ring.{Answers}
+use Rattle.chains.specs.LongQueue.{IsLongQueue}
+use Rattle.chains.specs.declared.chain.Chain.{Chain}
+use Rattle.chains.specs.declared.next.Next.{Next}
+use Rattle.chains.specs.declared.next.Next.TheVariants as next
+use Rattle.chains.specs.declared.transmitting.MessageForm.{MessageForm}
+use Rattle.chains.specs.declared.transmitting.Transmitted.{Transmitted}
+use Rattle.chains.specs.declared.transmitting.Transmitted.TheVariants.{Empty, Malformed, Sent}
+
+-- What a step answers and changes: writes of RAM, and the ring's positions.
+pub record Transmission : Type 0 where
+  pub answer : Transmitted
+  pub writes : List Write
+  pub ring : RingState
+
+-- A chain that holds a message: its readable bytes are neither too few nor too many. Its writable bytes do not count.
+abbrev pub is_message : MessageForm → Chain → Bool
+is_message form c = not (nat_lt (length (places c.readable)) form.least) && not (nat_lt form.most (length (places c.readable)))
+
+-- The message: the readable bytes behind the header.
+abbrev pub message_of : List ℕ → ℕ → Chain → List ℕ
+message_of ram header c = drop header (read_places ram (places c.readable))
+
+-- The chain is published with no byte written into it.
+abbrev pub handed_back : RingState → Chain → List Write
+handed_back q c = published (after_take q c.slots) c.id c.slots 0 false
+
+abbrev pub send : List ℕ → RingState → ℕ → Chain → Transmission
+send ram q header c = record {
+  answer = Sent (message_of ram header c) (is_interrupt_due (after_take q c.slots) c.slots (set_all ram (handed_back q c)));
+  writes = handed_back q c;
+  ring = after_publish (after_take q c.slots) c.slots;
+}
+
+-- The chain stays, and nothing is written.
+abbrev pub refuse_message : RingState → Transmission
+refuse_message q = record { answer = Malformed; writes = []; ring = q }
+
+-- The step, by what the queue answers about its next chain. Where the queue is empty the event note is written. A chain
+-- that holds no message is malformed too.
+abbrev pub transmit_step : List ℕ → RingState → MessageForm → Next → Transmission
+transmit_step ram q form next.Empty = record { answer = Empty; writes = event_note q; ring = q }
+transmit_step ram q form next.Malformed = refuse_message q
+transmit_step ram q form (next.Chain c) = if is_message form c then send ram q form.header c else refuse_message q
+
+-- Such a step was made, by what the queue answers: RAM, the ring and a log after it.
+pub record IsTransmitted {L : Type 0} (after : L → Item → L) (ram : List ℕ) (q : RingState) (form : MessageForm) (log : L) (answer : Transmitted) (new_ram : List ℕ) (new_ring : RingState) (new_log : L) : Type 0 where
+  pub seen : Next
+  pub answers : Answers ram q seen
+  pub answer_is : answer ≡ (transmit_step ram q form seen).answer
+  pub ram_is : new_ram ≡ set_all ram (transmit_step ram q form seen).writes
+  pub ring_is : new_ring ≡ (transmit_step ram q form seen).ring
+  pub log_is : new_log ≡ after_all after log (touched (transmit_step ram q form seen).writes)
+
+-- A message waits in a queue.
+pub record HasMessage (ram : List ℕ) (q : RingState) (form : MessageForm) : Type 0 where
+  pub chain : Chain
+  pub answers : Answers ram q (next.Chain chain)
+  pub is : is_message form chain ≡ true
+
+-- The queues at which such a step may want memory: for a long chain, or for a message.
+abbrev pub MayWantMemory : List ℕ → RingState → MessageForm → Type 0
+MayWantMemory ram q form = IsLongQueue ram q ⊎ HasMessage ram q form

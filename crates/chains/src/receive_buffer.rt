@@ -1,0 +1,55 @@
+//! Chains into which a device writes.
+
+ghost use Rattle.std.specs.Prelude.{◌≡◌, ◌≤◌, ◌<◌, ◌+◌, ◌^◌, ◌++◌, length};
+ghost use Rattle.guestmem.specs.Item.{after_all, MayPages};
+ghost use Rattle.guestmem.specs.Later.{IsLater};
+ghost use Rattle.guestmem.specs.Writes.{set_all, touched};
+ghost use Rattle.chains.specs.State.{HasAreas};
+ghost use Rattle.chains.specs.Places.{places};
+ghost use Rattle.chains.specs.Publish.{is_interrupt_due, after_take, after_publish};
+ghost use Rattle.chains.specs.Ring.{IsBounded};
+ghost use Rattle.chains.specs.ReceiveBuffer.{takes_bytes, filled};
+
+use crate::chain::Chain;
+use crate::copy::{copy_in, total_len};
+use crate::ring::Ring;
+use guestmem::{Ram, TouchLog};
+
+/// Whether a chain is one to write into: it has no readable byte, and a writable one.
+pub fn takes_bytes(chain: &Chain) -> bool
+    requires readable { length chain.now.readable < 2 ^ 32 }
+    requires writable { length chain.now.writable < 2 ^ 32 }
+    ensures { result ≡ takes_bytes chain.now }
+{
+    total_len(chain.readable.as_slice()) == 0 && total_len(chain.writable.as_slice()) != 0
+}
+
+/// Gives bytes to the chain that `Ring::next` found: two slices, one after the other, go to its first writable places.
+/// The chain is taken, and published with their number. The answer is whether an interrupt is due.
+pub fn fill<R: Ring, L: TouchLog>(
+    ring: &mut R,
+    chain: &Chain,
+    front: &[u8],
+    back: &[u8],
+    ram: &mut Ram,
+    log: &mut L,
+) -> bool
+    requires areas { HasAreas (length ram.old.bytes) (R.state ring.old) }
+    requires may { MayPages L.may log.old (length ram.old.bytes) }
+    requires bounded { IsBounded (length ram.old.bytes) (R.state ring.old) chain.now }
+    requires room { length front.now + length back.now ≤ length (places chain.now.writable) }
+    ensures bytes { ram.new.bytes ≡ set_all ram.old.bytes (filled (R.state ring.old) chain.now (front.now ++ back.now)) }
+    ensures size { length ram.new.bytes ≡ length ram.old.bytes }
+    ensures later { IsLater ram.old ram.new }
+    ensures log { log.new ≡ after_all L.after log.old (touched (filled (R.state ring.old) chain.now (front.now ++ back.now))) }
+    ensures may { MayPages L.may log.new (length ram.new.bytes) }
+    ensures state { R.state ring.new ≡ after_publish (after_take (R.state ring.old) chain.now.slots) chain.now.slots }
+    ensures due { result ≡ is_interrupt_due (after_take (R.state ring.old) chain.now.slots) chain.now.slots ram.new.bytes }
+{
+    let segs = chain.writable.as_slice();
+    copy_in(ram, segs, 0, front, log);
+    copy_in(ram, segs, front.len() as u64, back, log);
+    ring.take(chain);
+    let len = (front.len() + back.len()) as u32;
+    ring.publish(chain.id, chain.slots, len, len > 0, ram, log)
+}

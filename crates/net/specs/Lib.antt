@@ -1,0 +1,4 @@
+pub mod Inbox
+pub mod Header
+pub mod Receive
+pub mod Transmit

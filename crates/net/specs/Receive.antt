@@ -1,0 +1,70 @@
+-- The step of the receive queue of a network device (VIRTIO 1.2, 5.1.6.3 and 5.1.6.4).
+use Rattle.std.specs.Prelude.{◌≡◌, ℕ, nat_lt, ◌+◌, List, [], ◌∷◌, ◌++◌, length, if◌then◌else◌}
+use Rattle.guestmem.specs.Item.{Item, after_all}
+use Rattle.guestmem.specs.Writes.{Write, set_all, touched}
+use Rattle.chains.specs.State.{RingState}
+use Rattle.chains.specs.Places.{places}
+use Rattle.chains.specs.Publish.{event_note, is_interrupt_due, after_take, after_publish}
+use Rattle.chains.specs.ReceiveBuffer.{takes_bytes, filled}
+use Rattle.chains.specs.Ring.{Answers}
+use Rattle.chains.specs.declared.chain.Chain.{Chain}
+use Rattle.chains.specs.declared.next.Next.{Next}
+use Rattle.chains.specs.declared.next.Next.TheVariants as next
+use Rattle.net.specs.Header.{header}
+use Rattle.net.specs.declared.header.TheConstants.{HEADER_SIZE}
+use Rattle.net.specs.declared.receiving.Received.{Received}
+use Rattle.net.specs.declared.receiving.Received.TheVariants.{Empty, Malformed, Dropped, Completed}
+
+-- What a step answers and changes: writes of RAM, the ring's positions, and the frames that are left.
+pub record Step : Type 0 where
+  pub answer : Received
+  pub writes : List Write
+  pub ring : RingState
+  pub left : List (List ℕ)
+
+-- The header and the frame go into the chain.
+abbrev pub writes_into : RingState → List ℕ → Chain → List Write
+writes_into q frame c = filled q c (header ++ frame)
+
+unfoldable pub give : List ℕ → RingState → List ℕ → List (List ℕ) → Chain → Step
+give ram q frame rest c = record {
+  answer = Completed (HEADER_SIZE + length frame) (is_interrupt_due (after_take q c.slots) c.slots (set_all ram (writes_into q frame c)));
+  writes = writes_into q frame c;
+  ring = after_publish (after_take q c.slots) c.slots;
+  left = rest;
+}
+
+-- The frame goes. The chain stays, and nothing is written.
+abbrev pub drop_frame : RingState → List (List ℕ) → Step
+drop_frame q rest = record { answer = Dropped; writes = []; ring = q; left = rest }
+
+-- The chain and all frames stay, and nothing is written.
+abbrev pub refuse : RingState → List (List ℕ) → Step
+refuse q frames = record { answer = Malformed; writes = []; ring = q; left = frames }
+
+-- A chain that takes bytes gets the first frame, where that fits with its header. Where there is no frame no step is made.
+abbrev pub give_first : List ℕ → RingState → List (List ℕ) → Chain → Step
+give_first ram q [] c = drop_frame q []
+give_first ram q (frame ∷ rest) c =
+    if nat_lt (length (places c.writable)) (HEADER_SIZE + length frame) then drop_frame q rest else give ram q frame rest c
+
+-- The step, by what the queue answers about its next chain. Where the queue is empty the event note is written. A chain that
+-- the device may not write into is malformed too, and that is asked before whether the frame fits.
+abbrev pub receive_step : List ℕ → RingState → List (List ℕ) → Next → Step
+receive_step ram q frames next.Empty = record { answer = Empty; writes = event_note q; ring = q; left = frames }
+receive_step ram q frames next.Malformed = refuse q frames
+receive_step ram q frames (next.Chain c) = if takes_bytes c then give_first ram q frames c else refuse q frames
+
+-- RAM, the ring, the frames and a log after such a step.
+pub record IsAfter {L : Type 0} (after : L → Item → L) (ram : List ℕ) (log : L) (s : Step) (new_ram : List ℕ) (new_ring : RingState) (new_frames : List (List ℕ)) (new_log : L) : Type 0 where
+  pub ram_is : new_ram ≡ set_all ram s.writes
+  pub ring_is : new_ring ≡ s.ring
+  pub frames_are : new_frames ≡ s.left
+  pub log_is : new_log ≡ after_all after log (touched s.writes)
+
+-- Such a step was made, by what the queue answers.
+pub record IsReceived {L : Type 0} (after : L → Item → L) (ram : List ℕ) (q : RingState) (frames : List (List ℕ)) (log : L) (answer : Received) (new_ram : List ℕ) (new_ring : RingState) (new_frames : List (List ℕ)) (new_log : L) : Type 0 where
+  pub seen : Next
+  pub answers : Answers ram q seen
+  pub answer_is : answer ≡ (receive_step ram q frames seen).answer
+  pub changes : IsAfter after ram log (receive_step ram q frames seen) new_ram new_ring new_frames new_log

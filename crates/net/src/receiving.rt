@@ -1,0 +1,114 @@
+//! The step that gives frames to the guest.
+
+ghost use Rattle.std.specs.Prelude.{◌≡◌, ◌≤◌, ◌<◌, ◌+◌, ◌∷◌, length, drop, IfOk, OnErr, slice_get, Some};
+ghost use Rattle.guestmem.specs.Item.{MayPages};
+ghost use Rattle.guestmem.specs.Later.{IsLater};
+ghost use Rattle.chains.specs.State.{HasAreas};
+ghost use Rattle.chains.specs.Places.{places};
+ghost use Rattle.chains.specs.Ring.{IsBounded};
+ghost use Rattle.chains.specs.LongQueue.{IsLongQueue};
+ghost use Rattle.net.specs.Receive.{give_first, IsAfter, IsReceived};
+
+use crate::header::{HEADER, HEADER_SIZE};
+use crate::inbox::Inbox;
+use chains::{Chain, Next, Ring, fill, takes_bytes, total_len};
+use guestmem::{NoMemory, Ram, TouchLog};
+use mmio::QUEUE_SIZE_MAX;
+
+/// How a step on the receive queue went.
+#[derive(Clone, Copy, Debug, PartialEq, Eq)]
+pub enum Received {
+    /// The queue was empty, and the event note is written.
+    Empty,
+
+    /// The chain is malformed, or not one to write into: it has a readable byte, or no writable one. It stays, and so does
+    /// the frame.
+    Malformed,
+
+    /// The frame did not fit into the chain with its header, and is gone. The chain stays.
+    Dropped,
+
+    /// The frame was given, and the chain published.
+    Completed {
+        /// The used length: how many bytes were written into it.
+        len: u32,
+
+        /// Whether an interrupt is due.
+        is_due: bool,
+    },
+}
+
+/// Gives the oldest frame, behind a header, to the next chain, and publishes it. Its only error is want of memory for the
+/// chain, and then nothing has changed.
+pub fn receive<R: Ring, L: TouchLog>(
+    ring: &mut R,
+    inbox: &mut Inbox,
+    ram: &mut Ram,
+    log: &mut L,
+) -> Result<Received, NoMemory>
+    requires areas { HasAreas (length ram.old.bytes) (R.state ring.old) }
+    requires may { MayPages L.may log.old (length ram.old.bytes) }
+    requires few { (R.state ring.old).size ≤ QUEUE_SIZE_MAX }
+    requires waiting { 0 < length inbox.old }
+    ensures received { IfOk result (λ answer. IsReceived L.after ram.old.bytes (R.state ring.old) inbox.old log.old answer ram.new.bytes (R.state ring.new) inbox.new log.new) }
+    ensures memory { OnErr result (IsLongQueue ram.old.bytes (R.state ring.old)) }
+    ensures ram_stays { OnErr result (ram.new ≡ ram.old) }
+    ensures ring_stays { OnErr result (R.state ring.new ≡ R.state ring.old) }
+    ensures frames_stay { OnErr result (inbox.new ≡ inbox.old) }
+    ensures log_stays { OnErr result (log.new ≡ log.old) }
+    ensures size { length ram.new.bytes ≡ length ram.old.bytes }
+    ensures later { IsLater ram.old ram.new }
+    ensures may { MayPages L.may log.new (length ram.new.bytes) }
+{
+    let next = match ring.next(ram) {
+        Ok(next) => next,
+        Err(error) => return Err(error),
+    };
+    match next {
+        Next::Empty => {
+            ring.note_empty(ram, log);
+            Ok(Received::Empty)
+        }
+        Next::Malformed => Ok(Received::Malformed),
+        Next::Chain(chain) => {
+            if !takes_bytes(&chain) {
+                return Ok(Received::Malformed);
+            }
+            Ok(give_first(ring, inbox, &chain, ram, log))
+        }
+    }
+}
+
+/// Writes the oldest frame behind a header into a chain, and publishes it. Where it does not fit, it is dropped.
+#[tactic(auto, unfolding(crate::specs::Receive::give, crate::specs::Header::header))]
+fn give_first<R: Ring, L: TouchLog>(
+    ring: &mut R,
+    inbox: &mut Inbox,
+    chain: &Chain,
+    ram: &mut Ram,
+    log: &mut L,
+) -> Received
+    requires areas { HasAreas (length ram.old.bytes) (R.state ring.old) }
+    requires may { MayPages L.may log.old (length ram.old.bytes) }
+    requires bounded { IsBounded (length ram.old.bytes) (R.state ring.old) chain.now }
+    requires few { (R.state ring.old).size ≤ QUEUE_SIZE_MAX }
+    requires waiting { 0 < length inbox.old }
+    ensures answer { result ≡ (give_first ram.old.bytes (R.state ring.old) inbox.old chain.now).answer }
+    ensures changes { IsAfter L.after ram.old.bytes log.old (give_first ram.old.bytes (R.state ring.old) inbox.old chain.now) ram.new.bytes (R.state ring.new) inbox.new log.new }
+    ensures size { length ram.new.bytes ≡ length ram.old.bytes }
+    ensures later { IsLater ram.old ram.new }
+    ensures may { MayPages L.may log.new (length ram.new.bytes) }
+{
+    let frame = inbox.frame(0);
+    let len = HEADER_SIZE + frame.len();
+    if total_len(chain.writable.as_slice()) < len as u64 {
+        inbox.remove_first();
+        return Received::Dropped;
+    }
+    let is_due = fill(ring, chain, &HEADER, frame, ram, log);
+    inbox.remove_first();
+    Received::Completed {
+        len: len as u32,
+        is_due,
+    }
+}
