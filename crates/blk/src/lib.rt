@@ -1,0 +1,12 @@
+//! The block device (VIRTIO 1.2, 5.2): its disk, its requests, and the steps that serve them.
+#![tactic(auto)]
+
+mod disk;
+mod fault_disk;
+mod mem_disk;
+mod sectors;
+
+pub use disk::{Disk, DiskFault, SECTOR_SIZE};
+pub use fault_disk::FaultDisk;
+pub use mem_disk::MemDisk;
+pub use sectors::{Fetched, Sectors};
