@@ -4,9 +4,18 @@
 mod disk;
 mod fault_disk;
 mod mem_disk;
+mod request;
+mod requests;
 mod sectors;
+mod shape;
+mod taking;
+mod task;
 
 pub use disk::{Disk, DiskFault, SECTOR_SIZE};
 pub use fault_disk::FaultDisk;
 pub use mem_disk::MemDisk;
+pub use request::{HEADER_SIZE, Kind, Request, Verdict};
+pub use requests::{REQUESTS_MAX, Requests};
 pub use sectors::{Fetched, Sectors};
+pub use shape::BlockShape;
+pub use taking::Taken;

@@ -1,0 +1,93 @@
+//! What a request asks for.
+
+ghost use Rattle.std.specs.Prelude.{◌≡◌, ◌≤◌, ◌<◌, ◌+◌, ◌^◌, length};
+ghost use Rattle.blk.specs.Task.{refused, transfer, task_of};
+ghost use Rattle.blk.specs.declared.request.Verdict.TheVariants.{Good};
+
+use crate::request::{HEADER_SIZE, Kind, Verdict};
+use byteorder::{ByteOrder, LittleEndian};
+
+/// What a request asks for.
+#[derive(Clone, Copy, Debug, PartialEq, Eq)]
+pub struct Task {
+    /// What it does.
+    pub kind: Kind,
+
+    /// How it went so far.
+    pub verdict: Verdict,
+
+    /// The first sector that it moves.
+    pub first: u64,
+
+    /// How many units it has.
+    pub units: u32,
+}
+
+fn refused(verdict: Verdict) -> Task
+    ensures { result ≡ refused verdict }
+{
+    Task {
+        kind: Kind::Refused,
+        verdict,
+        first: 0,
+        units: 0,
+    }
+}
+
+fn transfer(kind: Kind, first: u64, bytes: u64, capacity: u64) -> Task
+    requires { bytes < 2 ^ 32 }
+    ensures { result ≡ transfer kind first bytes capacity }
+{
+    let units = bytes / 512;
+    if bytes % 512 != 0 {
+        return refused(Verdict::IoError);
+    }
+    if first > capacity || units > capacity - first {
+        return refused(Verdict::IoError);
+    }
+    Task {
+        kind,
+        verdict: Verdict::Good,
+        first,
+        units: units as u32,
+    }
+}
+
+/// What a request asks for, by its header, the numbers of its readable and writable bytes, the number of sectors, and
+/// whether the device is read-only.
+#[tactic(auto, unfolding(crate::specs::Task::task_of, guestmem::specs::Number::number_at))]
+pub fn task_of(
+    header: &[u8; HEADER_SIZE],
+    readable: u64,
+    writable: u64,
+    capacity: u64,
+    read_only: bool,
+) -> Task
+    requires readable { 16 ≤ readable }
+    requires writable { 1 ≤ writable }
+    requires total { readable + writable < 2 ^ 32 }
+    ensures { result ≡ task_of header.now readable writable capacity read_only }
+{
+    let kind = LittleEndian::read_u32(&header[..]);
+    let sector = LittleEndian::read_u64(&header[8..]);
+    match kind {
+        0 => transfer(Kind::In, sector, writable - 1, capacity),
+        1 if read_only => refused(Verdict::IoError),
+        1 => transfer(Kind::Out, sector, readable - 16, capacity),
+        4 => at_once(Kind::Flush),
+        8 if writable - 1 < 20 => refused(Verdict::IoError),
+        8 => at_once(Kind::GetId),
+        _ => refused(Verdict::Unsupported),
+    }
+}
+
+fn at_once(kind: Kind) -> Task
+    ensures { result ≡ record { kind = kind; verdict = Good; first = 0; units = 1 } }
+{
+    Task {
+        kind,
+        verdict: Verdict::Good,
+        first: 0,
+        units: 1,
+    }
+}
