@@ -5,3 +5,5 @@ pub mod Request
 pub mod Task
 pub mod Take
 pub mod Sound
+pub mod Move
+pub mod Advance

@@ -1,9 +1,11 @@
 //! The block device (VIRTIO 1.2, 5.2): its disk, its requests, and the steps that serve them.
 #![tactic(auto)]
 
+mod advancing;
 mod disk;
 mod fault_disk;
 mod mem_disk;
+mod moving;
 mod request;
 mod requests;
 mod sectors;
@@ -11,6 +13,7 @@ mod shape;
 mod taking;
 mod task;
 
+pub use advancing::Advanced;
 pub use disk::{Disk, DiskFault, SECTOR_SIZE};
 pub use fault_disk::FaultDisk;
 pub use mem_disk::MemDisk;

@@ -1,6 +1,6 @@
 //! The sectors of a block device: a disk, and which of its sectors are bad.
 
-ghost use Rattle.std.specs.Prelude.{◌≡◌, ◌<◌, length, IfOk, IsTrue, OnOk, OnErr, Some, None, false, replicate, slice_set, is_ok, not};
+ghost use Rattle.std.specs.Prelude.{◌≡◌, ◌<◌, ◌^◌, length, IfOk, IsTrue, OnOk, OnErr, Some, None, false, replicate, slice_set, is_ok, not};
 ghost use Rattle.blk.specs.Disk.{AreSectors};
 ghost use Rattle.blk.specs.Sectors.{seen_of, sector_in, is_bad, set_sector, AreWhole, IsKept, IsFetched, is_failed};
 
@@ -69,9 +69,11 @@ impl<D: Disk> Sectors<D> {
         (self.disk, self.bad)
     }
 
-    /// Tells a proof that the sectors that are not bad have 512 bytes each (see the page of `guestmem`).
+    /// Tells a proof that the sectors that are not bad have 512 bytes each, and that their number is one of 64 bits (see
+    /// the page of `guestmem`).
     pub fn recall(&self)
-        ensures { AreWhole self.now.content }
+        ensures whole { AreWhole self.now.content }
+        ensures few { length self.now.content < 2 ^ 64 }
     {
         let _count = self.disk.sectors();
     }
