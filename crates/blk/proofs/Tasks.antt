@@ -37,9 +37,9 @@ whole_units bytes e =
 in_sound : (sector readable writable capacity : ℕ) (read_only : Bool) → 1 ≤ writable → IsSoundTask readable writable capacity read_only (transfer In sector (writable - 1) capacity)
 in_sound sector readable writable capacity read_only some =
     either (not ((writable - 1) % 512 == 0)) (λ b. IsSoundTask readable writable capacity read_only (if b then refused IoError else if nat_lt capacity (sector + (writable - 1) / 512) then refused IoError else record { kind = In; verdict = Good; first = sector; units = (writable - 1) / 512 }))
-    (λ e. (tt, refl, refl, refl))
+    (λ e. (refl, refl, refl, refl))
     (λ e. either (nat_lt capacity (sector + (writable - 1) / 512)) (λ b. IsSoundTask readable writable capacity read_only (if b then refused IoError else record { kind = In; verdict = Good; first = sector; units = (writable - 1) / 512 }))
-    (λ f. (tt, refl, refl, refl))
+    (λ f. (refl, refl, refl, refl))
     (λ f.
     let whole = whole_units (writable - 1) e in
     (omega arith, omega (arith, whole), ltb-false capacity (sector + (writable - 1) / 512) f)))
@@ -47,24 +47,24 @@ in_sound sector readable writable capacity read_only some =
 out_sound : (sector readable writable capacity : ℕ) → 16 ≤ readable → IsSoundTask readable writable capacity false (transfer Out sector (readable - 16) capacity)
 out_sound sector readable writable capacity some =
     either (not ((readable - 16) % 512 == 0)) (λ b. IsSoundTask readable writable capacity false (if b then refused IoError else if nat_lt capacity (sector + (readable - 16) / 512) then refused IoError else record { kind = Out; verdict = Good; first = sector; units = (readable - 16) / 512 }))
-    (λ e. (tt, refl, refl, refl))
+    (λ e. (refl, refl, refl, refl))
     (λ e. either (nat_lt capacity (sector + (readable - 16) / 512)) (λ b. IsSoundTask readable writable capacity false (if b then refused IoError else record { kind = Out; verdict = Good; first = sector; units = (readable - 16) / 512 }))
-    (λ f. (tt, refl, refl, refl))
+    (λ f. (refl, refl, refl, refl))
     (λ f.
     let whole = whole_units (readable - 16) e in
     (omega arith, omega (arith, whole), ltb-false capacity (sector + (readable - 16) / 512) f, refl)))
 
 outs_sound : (sector readable writable capacity : ℕ) (read_only : Bool) → 16 ≤ readable → IsSoundTask readable writable capacity read_only (if read_only then refused IoError else transfer Out sector (readable - 16) capacity)
-outs_sound sector readable writable capacity true some = (tt, refl, refl, refl)
+outs_sound sector readable writable capacity true some = (refl, refl, refl, refl)
 outs_sound sector readable writable capacity false some = out_sound sector readable writable capacity some
 
 id_sound : (readable writable capacity : ℕ) (read_only : Bool) → IsSoundTask readable writable capacity read_only (if nat_lt (writable - 1) 20 then refused IoError else record { kind = GetId; verdict = Good; first = 0; units = 1 })
 id_sound readable writable capacity read_only =
     either (nat_lt (writable - 1) 20) (λ b. IsSoundTask readable writable capacity read_only (if b then refused IoError else record { kind = GetId; verdict = Good; first = 0; units = 1 }))
-    (λ e. (tt, refl, refl, refl))
+    (λ e. (refl, refl, refl, refl))
     (λ e.
     let h = ltb-false (writable - 1) 20 e in
-    (tt, omega arith, refl, refl, omega (arith, h)))
+    (refl, omega arith, refl, refl, omega (arith, h)))
 
 pub task_sound : (header : List ℕ) (readable writable capacity : ℕ) (read_only : Bool) → 16 ≤ readable → 1 ≤ writable → IsSoundTask readable writable capacity read_only (task_of header readable writable capacity read_only)
 unfolding task_of
@@ -84,7 +84,7 @@ task_sound header readable writable capacity read_only enough some =
     (λ h. (omega arith, refl, refl))
     (λ h. either (type == 8) (λ b. P (if b then an_id else unknown))
     (λ i. id_sound readable writable capacity read_only)
-    (λ i. (tt, refl, refl, refl)))))
+    (λ i. (refl, refl, refl, refl)))))
 
 neither : (a b : Bool) → (a || b) ≡ false → (a ≡ false) × (b ≡ false)
 neither true b e = absurd (true≢false e)

@@ -1,5 +1,6 @@
 pub mod Disk
 pub mod FaultDisk
+pub mod FileDisk
 pub mod Sectors
 pub mod Request
 pub mod Task

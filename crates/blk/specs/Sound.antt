@@ -1,8 +1,9 @@
 -- What every outstanding request keeps.
-use Rattle.std.specs.Prelude.{◌≡◌, ℕ, ◌+◌, ◌*◌, ◌<◌, ◌≤◌, ◌^◌, List, length, All, Bool, false}
+use Rattle.std.specs.Prelude.{◌≡◌, ℕ, ◌+◌, ◌*◌, ◌<◌, ◌≤◌, ◌^◌, List, length, All, Bool, true, false}
 use Rattle.std.specs.Bool.{MatchBool}
 use Rattle.chains.specs.Places.{places, AreSegmentsInside}
 use Rattle.chains.specs.State.{RingState}
+use Rattle.blk.specs.Request.{is_good}
 use Rattle.blk.specs.declared.request.Kind.{Kind}
 use Rattle.blk.specs.declared.request.Kind.TheVariants.{Refused, In, Out, Flush, GetId}
 use Rattle.blk.specs.declared.request.Verdict.{Verdict}
@@ -16,23 +17,13 @@ MayEnd Good done units = done ≤ units
 MayEnd IoError done units = done < units
 MayEnd Unsupported done units = ⊥
 
-abbrev pub IsRefusal : Verdict → Type 0
-IsRefusal Good = ⊥
-IsRefusal IoError = Unit {0}
-IsRefusal Unsupported = Unit {0}
-
-abbrev pub IsGood : Verdict → Type 0
-IsGood Good = Unit {0}
-IsGood IoError = ⊥
-IsGood Unsupported = ⊥
-
 -- What a request keeps by its kind: for so many readable and writable bytes, sectors, and a device that may be read-only.
 abbrev pub IsSoundWork : Kind → ℕ → ℕ → ℕ → Bool → Verdict → ℕ → ℕ → ℕ → Type 0
-IsSoundWork Refused readable writable capacity read_only verdict first units done = IsRefusal verdict × (first ≡ 0) × (units ≡ 0) × (done ≡ 0)
+IsSoundWork Refused readable writable capacity read_only verdict first units done = (is_good verdict ≡ false) × (first ≡ 0) × (units ≡ 0) × (done ≡ 0)
 IsSoundWork In readable writable capacity read_only verdict first units done = MayEnd verdict done units × (512 * units + 1 ≡ writable) × (first + units ≤ capacity)
 IsSoundWork Out readable writable capacity read_only verdict first units done = MayEnd verdict done units × (512 * units + 16 ≡ readable) × (first + units ≤ capacity) × (read_only ≡ false)
 IsSoundWork Flush readable writable capacity read_only verdict first units done = MayEnd verdict done units × (units ≡ 1) × (first ≡ 0)
-IsSoundWork GetId readable writable capacity read_only verdict first units done = IsGood verdict × (done ≤ units) × (units ≡ 1) × (first ≡ 0) × (21 ≤ writable)
+IsSoundWork GetId readable writable capacity read_only verdict first units done = (is_good verdict ≡ true) × (done ≤ units) × (units ≡ 1) × (first ≡ 0) × (21 ≤ writable)
 
 -- A request that may be outstanding, in a RAM of so many bytes, on a ring of a layout and of so many slots: its chain is one
 -- that such a ring can have (in a split ring it takes one slot, and its id is one), it has no more segments than there are
