@@ -4,6 +4,7 @@ use Rattle.guestmem.specs.Item.{Item, sector, after_all}
 use Rattle.guestmem.specs.Writes.{Write, set_all, touched}
 use Rattle.chains.specs.Places.{places, read_places, place_writes}
 use Rattle.blk.specs.Sectors.{Sector, sector_in, is_bad, bytes_of}
+use Rattle.blk.specs.Request.{next_sector}
 use Rattle.blk.specs.declared.request.Kind.{Kind}
 use Rattle.blk.specs.declared.request.Kind.TheVariants as kind
 use Rattle.blk.specs.declared.request.Verdict.TheVariants.{IoError}
@@ -47,10 +48,6 @@ disk_failed r sets = record { answer = DiskFailed; request = failed r; writes = 
 -- The sector is bad: the disk is not asked, and the request ends with an error.
 abbrev pub bad_sector : Request → Move
 bad_sector r = record { answer = BadSector; request = failed r; writes = []; sets = [] }
-
--- The sector of the next unit.
-abbrev pub next_sector : Request → ℕ
-next_sector r = r.first + r.done
 
 -- A sector goes to the writable places of its unit. A bad one is not read.
 abbrev pub move_in : List Sector → Request → Bool → Move

@@ -1,5 +1,5 @@
 -- Requests (VIRTIO 1.2, 5.2.6).
-use Rattle.std.specs.Prelude.{ℕ, nat_lt, ◌&&◌, Bool, true, false}
+use Rattle.std.specs.Prelude.{ℕ, ◌+◌, nat_lt, ◌&&◌, Bool, true, false}
 use Rattle.blk.specs.declared.request.Verdict.{Verdict}
 use Rattle.blk.specs.declared.request.Verdict.TheVariants.{Good, IoError, Unsupported}
 use Rattle.blk.specs.declared.request.Request.{Request}
@@ -18,3 +18,7 @@ is_good Unsupported = false
 -- A request with no error yet and units to do.
 abbrev pub is_open : Request → Bool
 is_open r = is_good r.verdict && nat_lt r.done r.units
+
+-- The sector of the next unit of a request.
+abbrev pub next_sector : Request → ℕ
+next_sector r = r.first + r.done

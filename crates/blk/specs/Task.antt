@@ -5,6 +5,8 @@ use Rattle.blk.specs.declared.request.Kind.{Kind}
 use Rattle.blk.specs.declared.request.Kind.TheVariants.{Refused, In, Out, Flush, GetId}
 use Rattle.blk.specs.declared.request.Verdict.{Verdict}
 use Rattle.blk.specs.declared.request.Verdict.TheVariants.{Good, IoError, Unsupported}
+use Rattle.blk.specs.declared.request.TheConstants.{TYPE_IN, TYPE_OUT, TYPE_FLUSH, TYPE_GET_ID}
+use Rattle.blk.specs.declared.shape.TheConstants.{ID_SIZE}
 use Rattle.blk.specs.declared.task.Task.{Task}
 
 -- A request that is refused as it is taken has nothing to do but to tell its verdict.
@@ -19,14 +21,14 @@ transfer kind first bytes capacity =
     else record { kind = kind; verdict = Good; first = first; units = bytes / 512 }
 
 -- What a request asks for, by the 16 bytes of its header (type, 4 bytes that are reserved, sector), the numbers of its
--- readable and writable bytes, the number of sectors, and whether the device is read-only (VIRTIO 1.2, 5.2.6). Types are IN
--- 0, OUT 1, FLUSH 4 and GET_ID 8.
+-- readable and writable bytes, the number of sectors, and whether the device is read-only (VIRTIO 1.2, 5.2.6). What is moved
+-- are all bytes but the header and the verdict.
 unfoldable pub task_of : List ℕ → ℕ → ℕ → ℕ → Bool → Task
 task_of header readable writable capacity read_only =
     let type = number_at header 0 4 in
     let sector = number_at header 8 8 in
-    if type == 0 then transfer In sector (writable - 1) capacity
-    else if type == 1 then (if read_only then refused IoError else transfer Out sector (readable - 16) capacity)
-    else if type == 4 then record { kind = Flush; verdict = Good; first = 0; units = 1 }
-    else if type == 8 then (if nat_lt (writable - 1) 20 then refused IoError else record { kind = GetId; verdict = Good; first = 0; units = 1 })
+    if type == TYPE_IN then transfer In sector (writable - 1) capacity
+    else if type == TYPE_OUT then (if read_only then refused IoError else transfer Out sector (readable - 16) capacity)
+    else if type == TYPE_FLUSH then record { kind = Flush; verdict = Good; first = 0; units = 1 }
+    else if type == TYPE_GET_ID then (if nat_lt (writable - 1) ID_SIZE then refused IoError else record { kind = GetId; verdict = Good; first = 0; units = 1 })
     else refused Unsupported

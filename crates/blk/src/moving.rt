@@ -41,7 +41,7 @@ fn move_in<D: Disk, L: TouchLog>(
     ensures later { IsLater ram.old ram.new }
     ensures may { MayPages L.may log.new (length ram.new.bytes) }
 {
-    let n = request.first + request.done as u64;
+    let n = request.next_sector();
     let mut buffer = [0; SECTOR_SIZE];
     match sectors.read(n, &mut buffer) {
         Fetched::Bad => {
@@ -88,7 +88,7 @@ fn move_out<D: Disk, L: TouchLog>(
     ensures later { IsLater ram.old ram.new }
     ensures may { MayPages L.may log.new (length ram.new.bytes) }
 {
-    let n = request.first + request.done as u64;
+    let n = request.next_sector();
     let mut buffer = [0; SECTOR_SIZE];
     copy_out(
         ram,

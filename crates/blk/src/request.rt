@@ -1,12 +1,24 @@
 //! Requests of a driver (VIRTIO 1.2, 5.2.6).
 
-ghost use Rattle.std.specs.Prelude.{◌≡◌};
-ghost use Rattle.blk.specs.Request.{verdict_byte, is_open};
+ghost use Rattle.std.specs.Prelude.{◌≡◌, ◌+◌, ◌<◌, ◌^◌};
+ghost use Rattle.blk.specs.Request.{verdict_byte, is_open, next_sector};
 
 use chains::Segs;
 
 /// Bytes in the header of a request: its type, 4 bytes that are reserved, and its sector (VIRTIO 1.2, 5.2.6).
 pub const HEADER_SIZE: usize = 16;
+
+/// The type of a request that reads sectors.
+pub const TYPE_IN: u32 = 0;
+
+/// The type of a request that writes sectors.
+pub const TYPE_OUT: u32 = 1;
+
+/// The type of a request that flushes the disk.
+pub const TYPE_FLUSH: u32 = 4;
+
+/// The type of a request that reads the id of the device.
+pub const TYPE_GET_ID: u32 = 8;
 
 /// What a request does.
 #[derive(Clone, Copy, Debug, PartialEq, Eq)]
@@ -85,6 +97,14 @@ pub struct Request {
 }
 
 impl Request {
+    /// The sector of its next unit.
+    pub(crate) fn next_sector(&self) -> u64
+        requires { self.now.first + self.now.done < 2 ^ 64 }
+        ensures { result ≡ next_sector self.now }
+    {
+        self.first + self.done as u64
+    }
+
     /// Whether it has units to do, and no error yet.
     pub fn is_open(&self) -> bool
         ensures { result ≡ is_open self.now }

@@ -1,5 +1,8 @@
 //! What a block device was made as.
 
+/// Bytes in the id of a device (VIRTIO 1.2, 5.2.6).
+pub const ID_SIZE: usize = 20;
+
 /// What a block device was made as.
 #[derive(Clone, Copy, Debug, PartialEq, Eq)]
 pub struct BlockShape {
@@ -9,6 +12,6 @@ pub struct BlockShape {
     /// Whether the driver may only read it (VIRTIO 1.2, 5.2.3: the feature RO).
     pub read_only: bool,
 
-    /// The id that it tells (VIRTIO 1.2, 5.2.6).
-    pub id: [u8; 20],
+    /// The id that it tells.
+    pub id: [u8; ID_SIZE],
 }

@@ -4,7 +4,9 @@ ghost use Rattle.std.specs.Prelude.{◌≡◌, ◌≤◌, ◌<◌, ◌+◌, ◌^
 ghost use Rattle.blk.specs.Task.{refused, transfer, task_of};
 ghost use Rattle.blk.specs.declared.request.Verdict.TheVariants.{Good};
 
-use crate::request::{HEADER_SIZE, Kind, Verdict};
+use crate::disk::SECTOR_SIZE;
+use crate::request::{HEADER_SIZE, Kind, TYPE_FLUSH, TYPE_GET_ID, TYPE_IN, TYPE_OUT, Verdict};
+use crate::shape::ID_SIZE;
 use byteorder::{ByteOrder, LittleEndian};
 
 /// What a request asks for.
@@ -23,6 +25,7 @@ pub struct Task {
     pub units: u32,
 }
 
+/// A request that only tells its verdict.
 fn refused(verdict: Verdict) -> Task
     ensures { result ≡ refused verdict }
 {
@@ -34,14 +37,15 @@ fn refused(verdict: Verdict) -> Task
     }
 }
 
+/// Moves so many bytes from or to the sectors from a first one on.
 fn transfer(kind: Kind, first: u64, bytes: u64, capacity: u64) -> Task
     requires { bytes < 2 ^ 32 }
     ensures { result ≡ transfer kind first bytes capacity }
 {
-    let units = bytes / 512;
-    if bytes % 512 != 0 {
+    if bytes % SECTOR_SIZE as u64 != 0 {
         return refused(Verdict::IoError);
     }
+    let units = bytes / SECTOR_SIZE as u64;
     if first > capacity || units > capacity - first {
         return refused(Verdict::IoError);
     }
@@ -68,19 +72,20 @@ pub fn task_of(
     requires total { readable + writable < 2 ^ 32 }
     ensures { result ≡ task_of header.now readable writable capacity read_only }
 {
-    let kind = LittleEndian::read_u32(&header[..]);
+    let request_type = LittleEndian::read_u32(&header[..]);
     let sector = LittleEndian::read_u64(&header[8..]);
-    match kind {
-        0 => transfer(Kind::In, sector, writable - 1, capacity),
-        1 if read_only => refused(Verdict::IoError),
-        1 => transfer(Kind::Out, sector, readable - 16, capacity),
-        4 => at_once(Kind::Flush),
-        8 if writable - 1 < 20 => refused(Verdict::IoError),
-        8 => at_once(Kind::GetId),
+    match request_type {
+        TYPE_IN => transfer(Kind::In, sector, writable - 1, capacity),
+        TYPE_OUT if read_only => refused(Verdict::IoError),
+        TYPE_OUT => transfer(Kind::Out, sector, readable - 16, capacity),
+        TYPE_FLUSH => at_once(Kind::Flush),
+        TYPE_GET_ID if writable - 1 < ID_SIZE as u64 => refused(Verdict::IoError),
+        TYPE_GET_ID => at_once(Kind::GetId),
         _ => refused(Verdict::Unsupported),
     }
 }
 
+/// Is done in one unit.
 fn at_once(kind: Kind) -> Task
     ensures { result ≡ record { kind = kind; verdict = Good; first = 0; units = 1 } }
 {

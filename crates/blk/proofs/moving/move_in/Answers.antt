@@ -1,7 +1,7 @@
 use Rattle.std.proofs.Common.{◌*◌, ◌≡◌, length, take, drop, refl, sym, ◌∙◌}
 use Rattle.chains.specs.Places.{places}
 use Rattle.blk.specs.Sectors.{sector_in, bytes_of}
-use Rattle.blk.specs.Move.{next_sector}
+use Rattle.blk.specs.Request.{next_sector}
 use Rattle.blk.proofs.Units.{told_same, whole_length}
 use Rattle.blk.proofs.moving.move_in.Goals as goal
 
@@ -9,7 +9,7 @@ pub returns-in-Read-clause-moved : goal.returns-in-Read-clause-moved
 returns-in-Read-clause-moved g c =
     let r = c.args.request.now in
     let s = sector_in c.args.sectors.now.content (next_sector r) in
-    let got = c.in-Read.ensures.fetched in
+    let got = rw c.next_sector-n.ensures at c.in-Read.ensures.fetched in
     let long : length (bytes_of s) ≡ 512 = whole_length s got.0 (c.requires.whole (next_sector r) _ c.requires.sector) in
     let full : length c.read.new.buf ≡ 512 = c.read.array_long in
     let at = take 512 (drop (512 * r.done) (places r.writable)) in
