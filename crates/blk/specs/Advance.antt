@@ -9,6 +9,8 @@ use Rattle.chains.specs.Publish.{published, is_interrupt_due, after_publish}
 use Rattle.blk.specs.Sectors.{Sector}
 use Rattle.blk.specs.Request.{verdict_byte, is_open}
 use Rattle.blk.specs.Move.{Move, SectorSet, sectors_set, sectors_touched, move_of}
+use Rattle.blk.specs.declared.disk.TheConstants.{SECTOR_SIZE}
+use Rattle.blk.specs.declared.shape.TheConstants.{ID_SIZE}
 use Rattle.blk.specs.declared.request.Kind.{Kind}
 use Rattle.blk.specs.declared.request.Kind.TheVariants as kind
 use Rattle.blk.specs.declared.request.Request.{Request}
@@ -18,8 +20,8 @@ use Rattle.blk.specs.declared.advancing.Advanced.TheVariants.{Idle, Completed}
 
 -- The bytes of data that were written into a request of which so many units are done.
 abbrev pub data_written : Kind → ℕ → ℕ
-data_written kind.In done = 512 * done
-data_written kind.GetId done = 20 * done
+data_written kind.In done = SECTOR_SIZE * done
+data_written kind.GetId done = ID_SIZE * done
 data_written kind.Out done = 0
 data_written kind.Flush done = 0
 data_written kind.Refused done = 0

@@ -5,6 +5,9 @@ use Rattle.guestmem.specs.Writes.{Write, set_all, touched}
 use Rattle.chains.specs.Places.{places, read_places, place_writes}
 use Rattle.blk.specs.Sectors.{Sector, sector_in, is_bad, bytes_of}
 use Rattle.blk.specs.Request.{next_sector}
+use Rattle.blk.specs.declared.disk.TheConstants.{SECTOR_SIZE}
+use Rattle.blk.specs.declared.request.TheConstants.{HEADER_SIZE}
+use Rattle.blk.specs.declared.shape.TheConstants.{ID_SIZE}
 use Rattle.blk.specs.declared.request.Kind.{Kind}
 use Rattle.blk.specs.declared.request.Kind.TheVariants as kind
 use Rattle.blk.specs.declared.request.Verdict.TheVariants.{IoError}
@@ -53,12 +56,12 @@ bad_sector r = record { answer = BadSector; request = failed r; writes = []; set
 abbrev pub move_in : List Sector → Request → Bool → Move
 move_in content r is_fine =
     if is_bad (sector_in content (next_sector r)) then bad_sector r
-    else if is_fine then moved r (place_writes (take 512 (drop (512 * r.done) (places r.writable))) (bytes_of (sector_in content (next_sector r)))) []
+    else if is_fine then moved r (place_writes (take SECTOR_SIZE (drop (SECTOR_SIZE * r.done) (places r.writable))) (bytes_of (sector_in content (next_sector r)))) []
     else disk_failed r []
 
 -- The bytes at the readable places of a unit, which come after the header.
 abbrev pub unit_bytes : List ℕ → Request → List ℕ
-unit_bytes ram r = take 512 (drop (16 + 512 * r.done) (read_places ram (places r.readable)))
+unit_bytes ram r = take SECTOR_SIZE (drop (HEADER_SIZE + SECTOR_SIZE * r.done) (read_places ram (places r.readable)))
 
 -- The bytes of a unit go into its sector. A write that fails makes it bad.
 abbrev pub move_out : List ℕ → Request → Bool → Move
@@ -71,7 +74,7 @@ move_flush r is_fine = if is_fine then moved r [] [] else disk_failed r []
 
 -- The id of the device goes to the first writable places.
 abbrev pub move_id : List ℕ → Request → Move
-move_id id r = moved r (place_writes (take 20 (places r.writable)) id) []
+move_id id r = moved r (place_writes (take ID_SIZE (places r.writable)) id) []
 
 -- One unit of a request, by its kind.
 abbrev pub move_of : Kind → List ℕ → List ℕ → List Sector → Request → Bool → Move

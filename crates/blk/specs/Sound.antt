@@ -4,6 +4,9 @@ use Rattle.std.specs.Bool.{MatchBool}
 use Rattle.chains.specs.Places.{places, AreSegmentsInside}
 use Rattle.chains.specs.State.{RingState}
 use Rattle.blk.specs.Request.{is_good}
+use Rattle.blk.specs.declared.disk.TheConstants.{SECTOR_SIZE}
+use Rattle.blk.specs.declared.request.TheConstants.{HEADER_SIZE}
+use Rattle.blk.specs.declared.shape.TheConstants.{ID_SIZE}
 use Rattle.blk.specs.declared.request.Kind.{Kind}
 use Rattle.blk.specs.declared.request.Kind.TheVariants.{Refused, In, Out, Flush, GetId}
 use Rattle.blk.specs.declared.request.Verdict.{Verdict}
@@ -20,10 +23,10 @@ MayEnd Unsupported done units = ⊥
 -- What a request keeps by its kind: for so many readable and writable bytes, sectors, and a device that may be read-only.
 abbrev pub IsSoundWork : Kind → ℕ → ℕ → ℕ → Bool → Verdict → ℕ → ℕ → ℕ → Type 0
 IsSoundWork Refused readable writable capacity read_only verdict first units done = (is_good verdict ≡ false) × (first ≡ 0) × (units ≡ 0) × (done ≡ 0)
-IsSoundWork In readable writable capacity read_only verdict first units done = MayEnd verdict done units × (512 * units + 1 ≡ writable) × (first + units ≤ capacity)
-IsSoundWork Out readable writable capacity read_only verdict first units done = MayEnd verdict done units × (512 * units + 16 ≡ readable) × (first + units ≤ capacity) × (read_only ≡ false)
+IsSoundWork In readable writable capacity read_only verdict first units done = MayEnd verdict done units × (SECTOR_SIZE * units + 1 ≡ writable) × (first + units ≤ capacity)
+IsSoundWork Out readable writable capacity read_only verdict first units done = MayEnd verdict done units × (SECTOR_SIZE * units + HEADER_SIZE ≡ readable) × (first + units ≤ capacity) × (read_only ≡ false)
 IsSoundWork Flush readable writable capacity read_only verdict first units done = MayEnd verdict done units × (units ≡ 1) × (first ≡ 0)
-IsSoundWork GetId readable writable capacity read_only verdict first units done = (is_good verdict ≡ true) × (done ≤ units) × (units ≡ 1) × (first ≡ 0) × (21 ≤ writable)
+IsSoundWork GetId readable writable capacity read_only verdict first units done = (is_good verdict ≡ true) × (done ≤ units) × (units ≡ 1) × (first ≡ 0) × (ID_SIZE + 1 ≤ writable)
 
 -- A request that may be outstanding, in a RAM of so many bytes, on a ring of a layout and of so many slots: its chain is one
 -- that such a ring can have (in a split ring it takes one slot, and its id is one), it has no more segments than there are
@@ -36,7 +39,7 @@ pub record IsSoundRequest (len : ℕ) (is_packed : Bool) (size : ℕ) (shape : B
   pub readable : AreSegmentsInside len r.readable
   pub writable : AreSegmentsInside len r.writable
   pub total : length (places r.readable) + length (places r.writable) < 2 ^ 32
-  pub header : 16 ≤ length (places r.readable)
+  pub header : HEADER_SIZE ≤ length (places r.readable)
   pub status : 1 ≤ length (places r.writable)
   pub work : IsSoundWork r.kind (length (places r.readable)) (length (places r.writable)) shape.sectors shape.read_only r.verdict r.first r.units r.done
 

@@ -9,6 +9,7 @@ use Rattle.chains.specs.Ring.{Answers}
 use Rattle.chains.specs.declared.chain.Chain.{Chain}
 use Rattle.chains.specs.declared.next.Next.{Next}
 use Rattle.chains.specs.declared.next.Next.TheVariants as next
+use Rattle.blk.specs.declared.request.TheConstants.{HEADER_SIZE}
 use Rattle.blk.specs.declared.request.Request.{Request}
 use Rattle.blk.specs.declared.shape.BlockShape.{BlockShape}
 use Rattle.blk.specs.declared.task.Task.{Task}
@@ -23,13 +24,13 @@ pub record TakeStep : Type 0 where
   pub ring : RingState
   pub requests : List Request
 
--- A chain that a request cannot be: fewer than 16 readable bytes, or no writable one.
+-- A chain that a request cannot be: fewer readable bytes than a header, or no writable one.
 abbrev pub is_no_request : Chain → Bool
-is_no_request c = nat_lt (length (places c.readable)) 16 || length (places c.writable) == 0
+is_no_request c = nat_lt (length (places c.readable)) HEADER_SIZE || length (places c.writable) == 0
 
--- The header is the bytes at the first 16 readable places.
+-- The header is the bytes at the first readable places.
 abbrev pub header_of : List ℕ → Chain → List ℕ
-header_of ram c = take 16 (read_places ram (places c.readable))
+header_of ram c = take HEADER_SIZE (read_places ram (places c.readable))
 
 -- A request of which nothing is done yet. It keeps the segments of its chain.
 abbrev pub request_for : Chain → Task → Request

@@ -13,12 +13,12 @@ ghost use Rattle.blk.specs.Move.{MaySectors, is_disk_failed};
 ghost use Rattle.blk.specs.Sound.{AreSound};
 ghost use Rattle.blk.specs.declared.advancing.Advanced.TheVariants.{Completed};
 
-use crate::disk::Disk;
+use crate::disk::{Disk, SECTOR_SIZE};
 use crate::moving::move_unit;
 use crate::request::{Kind, Request};
 use crate::requests::Requests;
 use crate::sectors::Sectors;
-use crate::shape::BlockShape;
+use crate::shape::{BlockShape, ID_SIZE};
 use chains::{Ring, copy_in, total_len};
 use guestmem::{Ram, TouchLog};
 use mmio::QUEUE_SIZE_MAX;
@@ -142,8 +142,8 @@ fn data_written(kind: Kind, done: u32) -> u64
     ensures { result ≡ data_written kind done }
 {
     match kind {
-        Kind::In => 512 * done as u64,
-        Kind::GetId => 20 * done as u64,
+        Kind::In => SECTOR_SIZE as u64 * done as u64,
+        Kind::GetId => ID_SIZE as u64 * done as u64,
         Kind::Out | Kind::Flush | Kind::Refused => 0,
     }
 }

@@ -13,9 +13,9 @@ ghost use Rattle.blk.specs.declared.advancing.Advanced.TheVariants.{Moved};
 
 use crate::advancing::Advanced;
 use crate::disk::{Disk, SECTOR_SIZE};
-use crate::request::{Kind, Request, Verdict};
+use crate::request::{HEADER_SIZE, Kind, Request, Verdict};
 use crate::sectors::{Fetched, Sectors};
-use crate::shape::BlockShape;
+use crate::shape::{BlockShape, ID_SIZE};
 use chains::{copy_in, copy_out};
 use guestmem::{Ram, TouchLog};
 
@@ -28,7 +28,7 @@ fn move_in<D: Disk, L: TouchLog>(
     log: &mut L,
 ) -> Advanced
     requires inside { AreSegmentsInside (length ram.old.bytes) request.old.writable }
-    requires places { 512 * request.old.done + 512 ≤ length (places request.old.writable) }
+    requires places { SECTOR_SIZE * request.old.done + SECTOR_SIZE ≤ length (places request.old.writable) }
     requires sector { request.old.first + request.old.done < length sectors.old.content }
     requires open { request.old.done < request.old.units }
     requires small { length sectors.old.content < 2 ^ 64 }
@@ -56,7 +56,7 @@ fn move_in<D: Disk, L: TouchLog>(
             copy_in(
                 ram,
                 request.writable.as_slice(),
-                512 * request.done as u64,
+                SECTOR_SIZE as u64 * request.done as u64,
                 &buffer,
                 log,
             );
@@ -75,7 +75,7 @@ fn move_out<D: Disk, L: TouchLog>(
     log: &mut L,
 ) -> Advanced
     requires inside { AreSegmentsInside (length ram.old.bytes) request.old.readable }
-    requires places { 16 + 512 * request.old.done + 512 ≤ length (places request.old.readable) }
+    requires places { HEADER_SIZE + SECTOR_SIZE * request.old.done + SECTOR_SIZE ≤ length (places request.old.readable) }
     requires sector { request.old.first + request.old.done < length sectors.old.content }
     requires open { request.old.done < request.old.units }
     requires small { length sectors.old.content < 2 ^ 64 }
@@ -93,7 +93,7 @@ fn move_out<D: Disk, L: TouchLog>(
     copy_out(
         ram,
         request.readable.as_slice(),
-        16 + 512 * request.done as u64,
+        HEADER_SIZE as u64 + SECTOR_SIZE as u64 * request.done as u64,
         &mut buffer,
     );
     let written = sectors.write(n, &buffer);
@@ -126,12 +126,12 @@ fn move_flush<D: Disk>(request: &mut Request, sectors: &mut Sectors<D>) -> Advan
 /// Writes the id of the device into the first writable places of a request.
 fn move_id<L: TouchLog>(
     request: &mut Request,
-    id: &[u8; 20],
+    id: &[u8; ID_SIZE],
     ram: &mut Ram,
     log: &mut L,
 ) -> Advanced
     requires inside { AreSegmentsInside (length ram.old.bytes) request.old.writable }
-    requires places { 20 ≤ length (places request.old.writable) }
+    requires places { ID_SIZE ≤ length (places request.old.writable) }
     requires open { request.old.done < request.old.units }
     requires may { MayPages L.may log.old (length ram.old.bytes) }
     ensures answer { result ≡ Moved }

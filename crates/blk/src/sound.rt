@@ -6,9 +6,10 @@ ghost use Rattle.chains.specs.Places.{places, AreSegmentsInside};
 ghost use Rattle.blk.specs.Request.{is_good};
 ghost use Rattle.blk.specs.Sound.{IsSoundRequest, IsSoundWork, MayEnd};
 
+use crate::disk::SECTOR_SIZE;
 use crate::request::{HEADER_SIZE, Kind, Request, Verdict};
 use crate::requests::Requests;
-use crate::shape::BlockShape;
+use crate::shape::{BlockShape, ID_SIZE};
 use chains::{Seg, total_len};
 
 impl Requests {
@@ -56,7 +57,7 @@ impl Request {
     fn has_sound_bytes(&self, shape: &BlockShape) -> bool
         requires readable { length self.now.readable < 2 ^ 32 }
         requires writable { length self.now.writable < 2 ^ 32 }
-        ensures { IsTrue result ↔ ((length (places self.now.readable) + length (places self.now.writable) < 2 ^ 32) × (16 ≤ length (places self.now.readable)) × (1 ≤ length (places self.now.writable)) × IsSoundWork self.now.kind (length (places self.now.readable)) (length (places self.now.writable)) shape.now.sectors shape.now.read_only self.now.verdict self.now.first self.now.units self.now.done) }
+        ensures { IsTrue result ↔ ((length (places self.now.readable) + length (places self.now.writable) < 2 ^ 32) × (HEADER_SIZE ≤ length (places self.now.readable)) × (1 ≤ length (places self.now.writable)) × IsSoundWork self.now.kind (length (places self.now.readable)) (length (places self.now.writable)) shape.now.sectors shape.now.read_only self.now.verdict self.now.first self.now.units self.now.done) }
     {
         let readable = total_len(self.readable.as_slice());
         let writable = total_len(self.writable.as_slice());
@@ -77,10 +78,12 @@ impl Request {
             Kind::Refused => {
                 !self.is_good() && self.first == 0 && self.units == 0 && self.done == 0
             }
-            Kind::In => may_end && 512 * units + 1 == writable && self.is_within(shape.sectors),
+            Kind::In => may_end
+                && SECTOR_SIZE as u64 * units + 1 == writable
+                && self.is_within(shape.sectors),
             Kind::Out => {
                 may_end
-                    && 512 * units + 16 == readable
+                    && SECTOR_SIZE as u64 * units + HEADER_SIZE as u64 == readable
                     && self.is_within(shape.sectors)
                     && !shape.read_only
             }
@@ -90,7 +93,7 @@ impl Request {
                     && self.done <= self.units
                     && self.units == 1
                     && self.first == 0
-                    && writable >= 21
+                    && writable > ID_SIZE as u64
             }
         }
     }

@@ -23,7 +23,7 @@ pub enum Taken {
     /// The queue was empty, and the event note is written.
     Empty,
 
-    /// The chain is malformed, or not one of a request: it has fewer than 16 readable bytes, or no writable one. It stays.
+    /// The chain is malformed, or not one of a request: it has fewer readable bytes than a header, or no writable one. It stays.
     Malformed,
 
     /// The request was taken.
@@ -93,7 +93,7 @@ fn is_no_request(chain: &Chain) -> bool
 fn task_for(ram: &Ram, shape: &BlockShape, chain: &Chain) -> Task
     requires few { length chain.now.readable + length chain.now.writable ≤ QUEUE_SIZE_MAX }
     requires inside { AreSegmentsInside (length ram.now.bytes) chain.now.readable }
-    requires header { 16 ≤ length (places chain.now.readable) }
+    requires header { HEADER_SIZE ≤ length (places chain.now.readable) }
     requires status { 1 ≤ length (places chain.now.writable) }
     requires total { length (places chain.now.readable) + length (places chain.now.writable) < 2 ^ 32 }
     ensures { result ≡ task_for ram.now.bytes shape.now chain.now }

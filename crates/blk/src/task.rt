@@ -67,7 +67,7 @@ pub fn task_of(
     capacity: u64,
     read_only: bool,
 ) -> Task
-    requires readable { 16 ≤ readable }
+    requires readable { HEADER_SIZE ≤ readable }
     requires writable { 1 ≤ writable }
     requires total { readable + writable < 2 ^ 32 }
     ensures { result ≡ task_of header.now readable writable capacity read_only }
@@ -77,7 +77,7 @@ pub fn task_of(
     match request_type {
         TYPE_IN => transfer(Kind::In, sector, writable - 1, capacity),
         TYPE_OUT if read_only => refused(Verdict::IoError),
-        TYPE_OUT => transfer(Kind::Out, sector, readable - 16, capacity),
+        TYPE_OUT => transfer(Kind::Out, sector, readable - HEADER_SIZE as u64, capacity),
         TYPE_FLUSH => at_once(Kind::Flush),
         TYPE_GET_ID if writable - 1 < ID_SIZE as u64 => refused(Verdict::IoError),
         TYPE_GET_ID => at_once(Kind::GetId),
