@@ -72,7 +72,7 @@ advance_step shape ram q content requests k is_fine = advance_one shape ram q co
 
 -- RAM, the ring, the sectors, the requests and a log after such a step. What it moves is what it is to move where the disk
 -- is honest; where it goes is so with any disk.
-pub record IsAfter {L : Type 0} (after : L → Item → L) (honest : Bool) (device : ℕ) (ram : List ℕ) (content : List Sector) (log : L) (s : AdvanceStep) (new_ram : List ℕ) (new_ring : RingState) (new_content : List Sector) (new_requests : List Request) (new_log : L) : Type 0 where
+pub record IsAfterAdvancing {L : Type 0} (after : L → Item → L) (honest : Bool) (device : ℕ) (ram : List ℕ) (content : List Sector) (log : L) (s : AdvanceStep) (new_ram : List ℕ) (new_ring : RingState) (new_content : List Sector) (new_requests : List Request) (new_log : L) : Type 0 where
   pub ram_is : IsTrue honest → new_ram ≡ set_all ram s.writes
   pub ring_is : new_ring ≡ s.ring
   pub content_is : IsTrue honest → new_content ≡ sectors_set content s.sets

@@ -69,7 +69,7 @@ take_step ram q shape requests next.Malformed = refuse q requests
 take_step ram q shape requests (next.Chain c) = if is_no_request c then refuse q requests else take_chain ram q shape requests c
 
 -- RAM, the ring, the requests and a log after such a step.
-pub record IsAfter {L : Type 0} (after : L → Item → L) (ram : List ℕ) (log : L) (s : TakeStep) (new_ram : List ℕ) (new_ring : RingState) (new_requests : List Request) (new_log : L) : Type 0 where
+pub record IsAfterTaking {L : Type 0} (after : L → Item → L) (ram : List ℕ) (log : L) (s : TakeStep) (new_ram : List ℕ) (new_ring : RingState) (new_requests : List Request) (new_log : L) : Type 0 where
   pub ram_is : new_ram ≡ set_all ram s.writes
   pub ring_is : new_ring ≡ s.ring
   pub requests_are : new_requests ≡ s.requests
@@ -80,4 +80,4 @@ pub record IsTaken {L : Type 0} (after : L → Item → L) (ram : List ℕ) (q :
   pub seen : Next
   pub answers : Answers ram q seen
   pub answer_is : answer ≡ (take_step ram q shape requests seen).answer
-  pub changes : IsAfter after ram log (take_step ram q shape requests seen) new_ram new_ring new_requests new_log
+  pub changes : IsAfterTaking after ram log (take_step ram q shape requests seen) new_ram new_ring new_requests new_log

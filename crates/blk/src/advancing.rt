@@ -7,7 +7,7 @@ ghost use Rattle.guestmem.specs.Writes.{set_all, touched};
 ghost use Rattle.chains.specs.State.{HasAreas};
 ghost use Rattle.chains.specs.Places.{places, AreSegmentsInside};
 ghost use Rattle.chains.specs.Publish.{after_publish, is_interrupt_due};
-ghost use Rattle.blk.specs.Advance.{end_writes, used_len, data_written, IsAfter, advance_step};
+ghost use Rattle.blk.specs.Advance.{end_writes, used_len, data_written, IsAfterAdvancing, advance_step};
 ghost use Rattle.blk.specs.Sectors.{IsKept, AreWhole};
 ghost use Rattle.blk.specs.Move.{MaySectors, is_disk_failed};
 ghost use Rattle.blk.specs.Sound.{AreSound};
@@ -68,7 +68,7 @@ impl Requests {
         requires may { MayPages L.may log.old (length ram.old.bytes) }
         requires may_sectors { MaySectors L.may log.old device (length sectors.old.content) }
         ensures answer { result ≡ (advance_step shape.now ram.old.bytes (R.state ring.old) sectors.old.content self.old k (not (is_disk_failed result))).answer }
-        ensures changes { IsAfter L.after sectors.old.honest device ram.old.bytes sectors.old.content log.old (advance_step shape.now ram.old.bytes (R.state ring.old) sectors.old.content self.old k (not (is_disk_failed result))) ram.new.bytes (R.state ring.new) sectors.new.content self.new log.new }
+        ensures changes { IsAfterAdvancing L.after sectors.old.honest device ram.old.bytes sectors.old.content log.old (advance_step shape.now ram.old.bytes (R.state ring.old) sectors.old.content self.old k (not (is_disk_failed result))) ram.new.bytes (R.state ring.new) sectors.new.content self.new log.new }
         ensures kept { IsKept sectors.old (is_disk_failed result) sectors.new }
         ensures whole { AreWhole sectors.new.content }
         ensures sound { AreSound (length ram.new.bytes) (R.state ring.new) shape.now self.new }
