@@ -27,7 +27,7 @@ data_written kind.Flush done = 0
 data_written kind.Refused done = 0
 
 -- The used length: the bytes of data, and with them the verdict's where they reach up to it, since only bytes in a row from
--- the first one on may be told as written (VIRTIO 1.2, 2.7.8.2 and 2.8.5).
+-- the first one on may be told as written (VIRTIO 1.2, 2.7.8.2 and 2.8.4).
 abbrev pub used_len : Request → ℕ
 used_len r =
     if data_written r.kind r.done + 1 == length (places r.writable) then length (places r.writable) else data_written r.kind r.done

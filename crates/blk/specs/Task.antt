@@ -22,8 +22,8 @@ transfer kind first bytes capacity =
     else record { kind = kind; verdict = Good; first = first; units = bytes / SECTOR_SIZE }
 
 -- What a request asks for, by the bytes of its header (type, 4 bytes that are reserved, sector), the numbers of its
--- readable and writable bytes, the number of sectors, and whether the device is read-only (VIRTIO 1.2, 5.2.6). What is moved
--- are all bytes but the header and the verdict.
+-- readable and writable bytes, the number of sectors, and whether the device is read-only (VIRTIO 1.2, 5.2.6). All bytes but
+-- the header and the verdict are moved. A write to a read-only device is an error (VIRTIO 1.2, 5.2.6.2).
 unfoldable pub task_of : List ℕ → ℕ → ℕ → ℕ → Bool → Task
 task_of header readable writable capacity read_only =
     let type = number_at header 0 4 in
