@@ -5,7 +5,7 @@ ghost use Rattle.blk.specs.Disk.{Flushes};
 
 use crate::disk::{Disk, DiskFault, SECTOR_SIZE};
 use std::fs::{OpenFile, OpenOptions};
-use std::io::{Error, ErrorKind, Read, Result as IoResult, Seek, SeekFrom, Write};
+use std::io::{self, ErrorKind, Read, Seek, SeekFrom, Write};
 use std::marker::Model;
 use std::rt::Files;
 
@@ -33,14 +33,15 @@ impl<F: Drop> Model for FileDisk<F> {
 }
 
 impl<F: Read + Write + Seek + OpenFile + Drop> FileDisk<F> {
-    /// Opens a file for reading and writing. One whose length is no multiple of 512 is refused as invalid data.
-    pub fn open<R: Files<File = F>>(rt: &R, path: &str) -> IoResult<FileDisk<F>>
+    /// Opens a file for reading and writing. One whose length is no multiple of 512 is refused as invalid data. The length
+    /// is asked by a seek to the end, which a block device of the host answers too.
+    pub fn open<R: Files<File = F>>(rt: &R, path: &str) -> io::Result<FileDisk<F>>
         ensures { IfOk result (λ disk. disk.failures ≡ 0) }
     {
         let mut file = OpenOptions::new().read(true).write(true).open(rt, path)?;
         let len = file.seek(SeekFrom::End(0))?;
         if len % SECTOR_SIZE as u64 != 0 {
-            return Err(Error::from(ErrorKind::InvalidData));
+            return Err(io::Error::from(ErrorKind::InvalidData));
         }
         Ok(FileDisk {
             file,
@@ -50,7 +51,7 @@ impl<F: Read + Write + Seek + OpenFile + Drop> FileDisk<F> {
     }
 
     /// Counts how a call of the file went.
-    fn told(&mut self, outcome: IoResult<()>) -> Result<(), DiskFault>
+    fn told(&mut self, outcome: io::Result<()>) -> Result<(), DiskFault>
         ensures { Flushes self.old result self.new }
     {
         if outcome.is_ok() {
@@ -62,24 +63,24 @@ impl<F: Read + Write + Seek + OpenFile + Drop> FileDisk<F> {
 }
 
 /// Moves to a sector of the file.
-fn seek_to<F: Seek>(file: &mut F, n: u64) -> IoResult<()>
+fn seek_to<F: Seek>(file: &mut F, n: u64) -> io::Result<()>
     requires { 512 * n < 2 ^ 64 }
 {
     let at = n * SECTOR_SIZE as u64;
     if file.seek(SeekFrom::Start(at))? == at {
         return Ok(());
     }
-    Err(Error::from(ErrorKind::Other))
+    Err(io::Error::from(ErrorKind::Other))
 }
 
-fn read_sector<F: Read + Seek>(file: &mut F, n: u64, buf: &mut [u8; SECTOR_SIZE]) -> IoResult<()>
+fn read_sector<F: Read + Seek>(file: &mut F, n: u64, buf: &mut [u8; SECTOR_SIZE]) -> io::Result<()>
     requires { 512 * n < 2 ^ 64 }
 {
     seek_to(file, n)?;
     file.read_exact(buf)
 }
 
-fn write_sector<F: Write + Seek>(file: &mut F, n: u64, bytes: &[u8; SECTOR_SIZE]) -> IoResult<()>
+fn write_sector<F: Write + Seek>(file: &mut F, n: u64, bytes: &[u8; SECTOR_SIZE]) -> io::Result<()>
     requires { 512 * n < 2 ^ 64 }
 {
     seek_to(file, n)?;
