@@ -1,6 +1,6 @@
 //! A disk in a file.
 
-ghost use Rattle.std.specs.Prelude.{◌≡◌, ◌<◌, ◌*◌, ◌^◌, IfOk};
+ghost use Rattle.std.specs.Prelude.{◌≡◌, ◌<◌, ◌*◌, ◌^◌, IfOk, is_ok};
 ghost use Rattle.blk.specs.Disk.{Flushes};
 
 use crate::disk::{Disk, DiskFault, SECTOR_SIZE};
@@ -52,7 +52,8 @@ impl<F: Read + Write + Seek + OpenFile + Drop> FileDisk<F> {
 
     /// Counts how a call of the file went.
     fn told(&mut self, outcome: io::Result<()>) -> Result<(), DiskFault>
-        ensures { Flushes self.old result self.new }
+        ensures told { is_ok result ≡ is_ok outcome }
+        ensures counted { Flushes self.old result self.new }
     {
         if outcome.is_ok() {
             return Ok(());
