@@ -1,0 +1,5 @@
+pub mod Zeros
+pub mod Marks
+pub mod Tasks
+pub mod Ending
+pub mod Units

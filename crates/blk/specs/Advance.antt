@@ -1,0 +1,80 @@
+-- The step that advances a request, or ends it (VIRTIO 1.2, 5.2.6).
+use Rattle.std.specs.Prelude.{IsTrue, ◌≡◌, ℕ, ◌+◌, ◌-◌, ◌*◌, ◌==◌, Bool, true, List, [], ◌∷◌, ◌++◌, take, drop, length, slice_set, slice_get, Option, Some, None, if◌then◌else◌}
+use Rattle.std.specs.List.{remove}
+use Rattle.guestmem.specs.Item.{Item, after_all}
+use Rattle.guestmem.specs.Writes.{Write, set_all, touched}
+use Rattle.chains.specs.State.{RingState}
+use Rattle.chains.specs.Places.{places, place_writes}
+use Rattle.chains.specs.Publish.{published, is_interrupt_due, after_publish}
+use Rattle.blk.specs.Sectors.{Sector}
+use Rattle.blk.specs.Request.{verdict_byte, is_open}
+use Rattle.blk.specs.Move.{Move, SectorSet, sectors_set, sectors_touched, move_of}
+use Rattle.blk.specs.declared.disk.TheConstants.{SECTOR_SIZE}
+use Rattle.blk.specs.declared.shape.TheConstants.{ID_SIZE}
+use Rattle.blk.specs.declared.request.Kind.{Kind}
+use Rattle.blk.specs.declared.request.Kind.TheVariants as kind
+use Rattle.blk.specs.declared.request.Request.{Request}
+use Rattle.blk.specs.declared.shape.BlockShape.{BlockShape}
+use Rattle.blk.specs.declared.advancing.Advanced.{Advanced}
+use Rattle.blk.specs.declared.advancing.Advanced.TheVariants.{Idle, Completed}
+
+-- The bytes of data that were written into a request of which so many units are done.
+abbrev pub data_written : Kind → ℕ → ℕ
+data_written kind.In done = SECTOR_SIZE * done
+data_written kind.GetId done = ID_SIZE * done
+data_written kind.Out done = 0
+data_written kind.Flush done = 0
+data_written kind.Refused done = 0
+
+-- The used length: the bytes of data, and with them the verdict's where they reach up to it, since only bytes in a row from
+-- the first one on may be told as written (VIRTIO 1.2, 2.7.8.2 and 2.8.4).
+abbrev pub used_len : Request → ℕ
+used_len r =
+    if data_written r.kind r.done + 1 == length (places r.writable) then length (places r.writable) else data_written r.kind r.done
+
+-- The verdict goes to the last writable place.
+abbrev pub verdict_writes : Request → List Write
+verdict_writes r = place_writes (take 1 (drop (length (places r.writable) - 1) (places r.writable))) (verdict_byte r.verdict ∷ [])
+
+-- The verdict, and then the used chain. The device wrote into it: its verdict at least.
+unfoldable pub end_writes : RingState → Request → List Write
+end_writes q r = verdict_writes r ++ published q r.id r.slots (used_len r) true
+
+-- What advancing answers and changes: writes of RAM, sectors that are set, the ring's positions, and the requests.
+pub record AdvanceStep : Type 0 where
+  pub answer : Advanced
+  pub writes : List Write
+  pub sets : List SectorSet
+  pub ring : RingState
+  pub requests : List Request
+
+abbrev pub after_move : RingState → List Request → ℕ → Move → AdvanceStep
+after_move q requests k m = record { answer = m.answer; writes = m.writes; sets = m.sets; ring = q; requests = slice_set requests k m.request }
+
+-- The request ends. Whether an interrupt is due is read after all is written.
+abbrev pub completed : List ℕ → RingState → List Request → ℕ → Request → AdvanceStep
+completed ram q requests k r = record {
+  answer = Completed (used_len r) (is_interrupt_due q r.slots (set_all ram (end_writes q r)));
+  writes = end_writes q r;
+  sets = [];
+  ring = after_publish q r.slots;
+  requests = remove requests k;
+}
+
+abbrev pub advance_one : BlockShape → List ℕ → RingState → List Sector → List Request → ℕ → Bool → Option Request → AdvanceStep
+advance_one shape ram q content requests k is_fine None = record { answer = Idle; writes = []; sets = []; ring = q; requests = requests }
+advance_one shape ram q content requests k is_fine (Some r) =
+    if is_open r then after_move q requests k (move_of r.kind shape.id ram content r is_fine) else completed ram q requests k r
+
+-- The k-th outstanding request, from 0, goes on by one unit, or ends. A call of the disk, if it makes one, is fine or fails.
+abbrev pub advance_step : BlockShape → List ℕ → RingState → List Sector → List Request → ℕ → Bool → AdvanceStep
+advance_step shape ram q content requests k is_fine = advance_one shape ram q content requests k is_fine (slice_get requests k)
+
+-- RAM, the ring, the sectors, the requests and a log after such a step. What it moves is what it is to move where the disk
+-- is honest; where it goes is so with any disk.
+pub record IsAfterAdvancing {L : Type 0} (after : L → Item → L) (honest : Bool) (device : ℕ) (ram : List ℕ) (content : List Sector) (log : L) (s : AdvanceStep) (new_ram : List ℕ) (new_ring : RingState) (new_content : List Sector) (new_requests : List Request) (new_log : L) : Type 0 where
+  pub ram_is : IsTrue honest → new_ram ≡ set_all ram s.writes
+  pub ring_is : new_ring ≡ s.ring
+  pub content_is : IsTrue honest → new_content ≡ sectors_set content s.sets
+  pub requests_are : new_requests ≡ s.requests
+  pub log_is : new_log ≡ after_all after log (touched s.writes ++ sectors_touched device s.sets)

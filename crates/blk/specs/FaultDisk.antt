@@ -1,0 +1,33 @@
+-- A disk that fails by a plan.
+use Rattle.std.specs.Prelude.{◌≡◌, ℕ, ◌+◌, ◌-◌, ◌^◌, ◌==◌, nat_lt, List, Bool, true, false, Result, IsErr, if◌then◌else◌}
+use Rattle.std.specs.List.{list_any}
+use Rattle.guestmem.specs.Failures.{counted}
+use Rattle.blk.specs.Disk.{DiskState}
+
+-- What such a disk means: the disk below, the numbers of the calls that are to fail, how many calls there were, and how
+-- many of them failed (modulo 2^64).
+pub record FaultState : Type 0 where
+  pub disk : DiskState
+  pub plan : List ℕ
+  pub calls : ℕ
+  pub failures : ℕ
+
+-- As a disk: it holds what the disk below holds, and is as honest.
+abbrev pub disk_of : FaultState → DiskState
+disk_of f = record { sectors = f.disk.sectors; failures = f.failures; honest = f.disk.honest; steady = false }
+
+-- The number of the next call: they are counted from 1, and the count stays at the greatest number of 64 bits.
+abbrev pub next_call : FaultState → ℕ
+next_call f = if nat_lt f.calls (2 ^ 64 - 1) then f.calls + 1 else f.calls
+
+-- Whether the next call is to fail.
+abbrev pub is_planned : FaultState → Bool
+is_planned f = list_any (λ n. n == next_call f) f.plan
+
+-- A call was made. One that was to fail failed, and the disk below was not asked. Any other failed where the disk below
+-- failed.
+pub record IsCalled {T E : Type 0} (old : FaultState) (result : Result T E) (new : FaultState) : Type 0 where
+  pub plan : new.plan ≡ old.plan
+  pub calls : new.calls ≡ next_call old
+  pub planned : is_planned old ≡ true → IsErr result × (new.disk ≡ old.disk)
+  pub others : is_planned old ≡ false → new.disk.failures ≡ counted old.disk.failures result

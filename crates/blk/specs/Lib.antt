@@ -1,0 +1,10 @@
+pub mod Disk
+pub mod FaultDisk
+pub mod FileDisk
+pub mod Sectors
+pub mod Request
+pub mod Task
+pub mod Take
+pub mod Sound
+pub mod Move
+pub mod Advance

@@ -1,0 +1,113 @@
+-- One unit of a request (VIRTIO 1.2, 5.2.6).
+use Rattle.std.specs.Prelude.{◌≡◌, ℕ, ◌+◌, ◌*◌, ◌<◌, Bool, true, false, List, [], ◌∷◌, ◌++◌, take, drop, map, slice_set, Some, None, IsTrue, if◌then◌else◌}
+use Rattle.guestmem.specs.Item.{Item, sector, after_all}
+use Rattle.guestmem.specs.Writes.{Write, set_all, touched}
+use Rattle.chains.specs.Places.{places, read_places, place_writes}
+use Rattle.blk.specs.Sectors.{Sector, sector_in, is_bad, bytes_of}
+use Rattle.blk.specs.Request.{next_sector}
+use Rattle.blk.specs.declared.disk.TheConstants.{SECTOR_SIZE}
+use Rattle.blk.specs.declared.request.TheConstants.{HEADER_SIZE}
+use Rattle.blk.specs.declared.shape.TheConstants.{ID_SIZE}
+use Rattle.blk.specs.declared.request.Kind.{Kind}
+use Rattle.blk.specs.declared.request.Kind.TheVariants as kind
+use Rattle.blk.specs.declared.request.Verdict.TheVariants.{IoError}
+use Rattle.blk.specs.declared.request.Request.{Request}
+use Rattle.blk.specs.declared.advancing.Advanced.{Advanced}
+use Rattle.blk.specs.declared.advancing.Advanced.TheVariants.{Idle, Moved, BadSector, DiskFailed, Completed}
+
+-- A sector that is set: its bytes, or none where it becomes bad.
+pub record SectorSet : Type 0 where
+  pub number : ℕ
+  pub content : Sector
+
+abbrev pub sectors_set : List Sector → List SectorSet → List Sector
+sectors_set content [] = content
+sectors_set content (s ∷ ss) = sectors_set (slice_set content s.number s.content) ss
+
+-- The items of sectors that are set, on the disk of the device of this number.
+abbrev pub sectors_touched : ℕ → List SectorSet → List Item
+sectors_touched device sets = map (λ s. sector device s.number) sets
+
+-- What one unit of a request answers and changes: the request, writes of RAM, and sectors that are set.
+pub record Move : Type 0 where
+  pub answer : Advanced
+  pub request : Request
+  pub writes : List Write
+  pub sets : List SectorSet
+
+abbrev pub one_done : Request → Request
+one_done r = record r { done = r.done + 1 }
+
+abbrev pub failed : Request → Request
+failed r = record r { verdict = IoError }
+
+abbrev pub moved : Request → List Write → List SectorSet → Move
+moved r writes sets = record { answer = Moved; request = one_done r; writes = writes; sets = sets }
+
+-- A call of the disk failed: nothing is moved, and the request ends with an error.
+abbrev pub disk_failed : Request → List SectorSet → Move
+disk_failed r sets = record { answer = DiskFailed; request = failed r; writes = []; sets = sets }
+
+-- The sector is bad: the disk is not asked, and the request ends with an error.
+abbrev pub bad_sector : Request → Move
+bad_sector r = record { answer = BadSector; request = failed r; writes = []; sets = [] }
+
+-- A sector goes to the writable places of its unit. A bad one is not read.
+abbrev pub move_in : List Sector → Request → Bool → Move
+move_in content r is_fine =
+    if is_bad (sector_in content (next_sector r)) then bad_sector r
+    else if is_fine then moved r (place_writes (take SECTOR_SIZE (drop (SECTOR_SIZE * r.done) (places r.writable))) (bytes_of (sector_in content (next_sector r)))) []
+    else disk_failed r []
+
+-- The bytes at the readable places of a unit, which come after the header.
+abbrev pub unit_bytes : List ℕ → Request → List ℕ
+unit_bytes ram r = take SECTOR_SIZE (drop (HEADER_SIZE + SECTOR_SIZE * r.done) (read_places ram (places r.readable)))
+
+-- The bytes of a unit go into its sector. A write that fails makes it bad.
+abbrev pub move_out : List ℕ → Request → Bool → Move
+move_out ram r is_fine =
+    if is_fine then moved r [] (record { number = next_sector r; content = Some (unit_bytes ram r) } ∷ [])
+    else disk_failed r (record { number = next_sector r; content = None } ∷ [])
+
+abbrev pub move_flush : Request → Bool → Move
+move_flush r is_fine = if is_fine then moved r [] [] else disk_failed r []
+
+-- The id of the device goes to the first writable places.
+abbrev pub move_id : List ℕ → Request → Move
+move_id id r = moved r (place_writes (take ID_SIZE (places r.writable)) id) []
+
+-- One unit of a request, by its kind.
+abbrev pub move_of : Kind → List ℕ → List ℕ → List Sector → Request → Bool → Move
+move_of kind.In id ram content r is_fine = move_in content r is_fine
+move_of kind.Out id ram content r is_fine = move_out ram r is_fine
+move_of kind.Flush id ram content r is_fine = move_flush r is_fine
+move_of kind.GetId id ram content r is_fine = move_id id r
+move_of kind.Refused id ram content r is_fine = moved r [] []
+
+-- Whether the disk failed, by the answer.
+abbrev pub is_disk_failed : Advanced → Bool
+is_disk_failed Idle = false
+is_disk_failed Moved = false
+is_disk_failed BadSector = false
+is_disk_failed DiskFailed = true
+is_disk_failed (Completed len is_due) = false
+
+-- The request after one unit, by the answer.
+abbrev pub after_unit : Request → Advanced → Request
+after_unit r Idle = r
+after_unit r Moved = one_done r
+after_unit r BadSector = failed r
+after_unit r DiskFailed = failed r
+after_unit r (Completed len is_due) = r
+
+-- Such a move was made. What it moves is what it is to move where the disk is honest; where it goes is so with any disk.
+pub record IsMoved {L : Type 0} (after : L → Item → L) (honest : Bool) (device : ℕ) (ram : List ℕ) (content : List Sector) (log : L) (m : Move) (answer : Advanced) (new_request : Request) (new_ram : List ℕ) (new_content : List Sector) (new_log : L) : Type 0 where
+  pub answer_is : answer ≡ m.answer
+  pub request_is : new_request ≡ m.request
+  pub ram_is : IsTrue honest → new_ram ≡ set_all ram m.writes
+  pub content_is : IsTrue honest → new_content ≡ sectors_set content m.sets
+  pub log_is : new_log ≡ after_all after log (touched m.writes ++ sectors_touched device m.sets)
+
+-- Every sector of a disk of so many, under the device of this number, may be named to the log.
+abbrev pub MaySectors : {L : Type 0} → (L → Item → Type 0) → L → ℕ → ℕ → Type 0
+MaySectors may log device count = (n : ℕ) → n < count → may log (sector device n)

@@ -1,0 +1,48 @@
+-- What every outstanding request keeps.
+use Rattle.std.specs.Prelude.{◌≡◌, ℕ, ◌+◌, ◌*◌, ◌<◌, ◌≤◌, ◌^◌, List, length, All, Bool, true, false}
+use Rattle.std.specs.Bool.{MatchBool}
+use Rattle.chains.specs.Places.{places, AreSegmentsInside}
+use Rattle.chains.specs.State.{RingState}
+use Rattle.blk.specs.Request.{is_good}
+use Rattle.blk.specs.declared.disk.TheConstants.{SECTOR_SIZE}
+use Rattle.blk.specs.declared.request.TheConstants.{HEADER_SIZE}
+use Rattle.blk.specs.declared.shape.TheConstants.{ID_SIZE}
+use Rattle.blk.specs.declared.request.Kind.{Kind}
+use Rattle.blk.specs.declared.request.Kind.TheVariants.{Refused, In, Out, Flush, GetId}
+use Rattle.blk.specs.declared.request.Verdict.{Verdict}
+use Rattle.blk.specs.declared.request.Verdict.TheVariants.{Good, IoError, Unsupported}
+use Rattle.blk.specs.declared.request.Request.{Request}
+use Rattle.blk.specs.declared.shape.BlockShape.{BlockShape}
+
+-- A verdict that is told once all units are done, or an error that left some undone.
+abbrev pub MayEnd : Verdict → ℕ → ℕ → Type 0
+MayEnd Good done units = done ≤ units
+MayEnd IoError done units = done < units
+MayEnd Unsupported done units = ⊥
+
+-- What a request keeps by its kind: for so many readable and writable bytes, sectors, and a device that may be read-only.
+abbrev pub IsSoundWork : Kind → ℕ → ℕ → ℕ → Bool → Verdict → ℕ → ℕ → ℕ → Type 0
+IsSoundWork Refused readable writable capacity read_only verdict first units done = (is_good verdict ≡ false) × (first ≡ 0) × (units ≡ 0) × (done ≡ 0)
+IsSoundWork In readable writable capacity read_only verdict first units done = MayEnd verdict done units × (SECTOR_SIZE * units + 1 ≡ writable) × (first + units ≤ capacity)
+IsSoundWork Out readable writable capacity read_only verdict first units done = MayEnd verdict done units × (SECTOR_SIZE * units + HEADER_SIZE ≡ readable) × (first + units ≤ capacity) × (read_only ≡ false)
+IsSoundWork Flush readable writable capacity read_only verdict first units done = MayEnd verdict done units × (units ≡ 1) × (first ≡ 0)
+IsSoundWork GetId readable writable capacity read_only verdict first units done = (is_good verdict ≡ true) × (done ≤ units) × (units ≡ 1) × (first ≡ 0) × (ID_SIZE + 1 ≤ writable)
+
+-- A request that may be outstanding, in a RAM of so many bytes, on a ring of a layout and of so many slots: its chain is one
+-- that such a ring can have (in a split ring it takes one slot, and its id is one), it has no more segments than there are
+-- slots, all inside RAM and together of fewer than 2^32 bytes, and room for the header and the verdict.
+pub record IsSoundRequest (len : ℕ) (is_packed : Bool) (size : ℕ) (shape : BlockShape) (r : Request) : Type 0 where
+  pub some : 1 ≤ r.slots
+  pub slots : r.slots ≤ size
+  pub id : MatchBool is_packed (Unit {0}) ((r.slots ≡ 1) × (r.id < size))
+  pub few : length r.readable + length r.writable ≤ size
+  pub readable : AreSegmentsInside len r.readable
+  pub writable : AreSegmentsInside len r.writable
+  pub total : length (places r.readable) + length (places r.writable) < 2 ^ 32
+  pub header : HEADER_SIZE ≤ length (places r.readable)
+  pub status : 1 ≤ length (places r.writable)
+  pub work : IsSoundWork r.kind (length (places r.readable)) (length (places r.writable)) shape.sectors shape.read_only r.verdict r.first r.units r.done
+
+-- The requests that may be outstanding.
+abbrev pub AreSound : ℕ → RingState → BlockShape → List Request → Type 0
+AreSound len q shape requests = All (IsSoundRequest len q.is_packed q.size shape) requests

@@ -1,0 +1,83 @@
+-- The step that takes a request (VIRTIO 1.2, 5.2.6).
+use Rattle.std.specs.Prelude.{◌≡◌, ℕ, ◌==◌, ◌||◌, nat_lt, Bool, List, [], ◌∷◌, ◌++◌, length, take, if◌then◌else◌}
+use Rattle.guestmem.specs.Item.{Item, after_all}
+use Rattle.guestmem.specs.Writes.{Write, set_all, touched}
+use Rattle.chains.specs.State.{RingState}
+use Rattle.chains.specs.Places.{places, read_places}
+use Rattle.chains.specs.Publish.{event_note, after_take}
+use Rattle.chains.specs.Ring.{Answers}
+use Rattle.chains.specs.declared.chain.Chain.{Chain}
+use Rattle.chains.specs.declared.next.Next.{Next}
+use Rattle.chains.specs.declared.next.Next.TheVariants as next
+use Rattle.blk.specs.declared.request.TheConstants.{HEADER_SIZE}
+use Rattle.blk.specs.declared.request.Request.{Request}
+use Rattle.blk.specs.declared.shape.BlockShape.{BlockShape}
+use Rattle.blk.specs.declared.task.Task.{Task}
+use Rattle.blk.specs.declared.taking.Taken.{Taken}
+use Rattle.blk.specs.declared.taking.Taken.TheVariants as taken
+use Rattle.blk.specs.Task.{task_of}
+
+-- What taking answers and changes: writes of RAM, the ring's positions, and the requests after it.
+pub record TakeStep : Type 0 where
+  pub answer : Taken
+  pub writes : List Write
+  pub ring : RingState
+  pub requests : List Request
+
+-- A chain that a request cannot be: fewer readable bytes than a header, or no writable one.
+abbrev pub is_no_request : Chain → Bool
+is_no_request c = nat_lt (length (places c.readable)) HEADER_SIZE || length (places c.writable) == 0
+
+-- The header is the bytes at the first readable places.
+abbrev pub header_of : List ℕ → Chain → List ℕ
+header_of ram c = take HEADER_SIZE (read_places ram (places c.readable))
+
+-- A request of which nothing is done yet. It keeps the segments of its chain.
+abbrev pub request_for : Chain → Task → Request
+request_for c t = record {
+  id = c.id;
+  slots = c.slots;
+  kind = t.kind;
+  verdict = t.verdict;
+  first = t.first;
+  units = t.units;
+  done = 0;
+  readable = c.readable;
+  writable = c.writable;
+}
+
+abbrev pub task_for : List ℕ → BlockShape → Chain → Task
+task_for ram shape c = task_of (header_of ram c) (length (places c.readable)) (length (places c.writable)) shape.sectors shape.read_only
+
+-- The chain stays, and nothing is written.
+abbrev pub refuse : RingState → List Request → TakeStep
+refuse q requests = record { answer = taken.Malformed; writes = []; ring = q; requests = requests }
+
+abbrev pub take_chain : List ℕ → RingState → BlockShape → List Request → Chain → TakeStep
+take_chain ram q shape requests c = record {
+  answer = taken.Taken;
+  writes = [];
+  ring = after_take q c.slots;
+  requests = requests ++ request_for c (task_for ram shape c) ∷ [];
+}
+
+-- Taking with room for a request, by what the queue answers about its next chain. Where the queue is empty the event note
+-- is written. A chain that a request cannot be is malformed too.
+abbrev pub take_step : List ℕ → RingState → BlockShape → List Request → Next → TakeStep
+take_step ram q shape requests next.Empty = record { answer = taken.Empty; writes = event_note q; ring = q; requests = requests }
+take_step ram q shape requests next.Malformed = refuse q requests
+take_step ram q shape requests (next.Chain c) = if is_no_request c then refuse q requests else take_chain ram q shape requests c
+
+-- RAM, the ring, the requests and a log after such a step.
+pub record IsAfterTaking {L : Type 0} (after : L → Item → L) (ram : List ℕ) (log : L) (s : TakeStep) (new_ram : List ℕ) (new_ring : RingState) (new_requests : List Request) (new_log : L) : Type 0 where
+  pub ram_is : new_ram ≡ set_all ram s.writes
+  pub ring_is : new_ring ≡ s.ring
+  pub requests_are : new_requests ≡ s.requests
+  pub log_is : new_log ≡ after_all after log (touched s.writes)
+
+-- Such a step was made, by what the queue answers.
+pub record IsTaken {L : Type 0} (after : L → Item → L) (ram : List ℕ) (q : RingState) (shape : BlockShape) (requests : List Request) (log : L) (answer : Taken) (new_ram : List ℕ) (new_ring : RingState) (new_requests : List Request) (new_log : L) : Type 0 where
+  pub seen : Next
+  pub answers : Answers ram q seen
+  pub answer_is : answer ≡ (take_step ram q shape requests seen).answer
+  pub changes : IsAfterTaking after ram log (take_step ram q shape requests seen) new_ram new_ring new_requests new_log

@@ -1,0 +1,149 @@
+//! The step that advances a request.
+
+ghost use Rattle.std.specs.Prelude.{◌≡◌, ◌≤◌, ◌<◌, ◌^◌, length, not};
+ghost use Rattle.guestmem.specs.Item.{MayPages, after_all};
+ghost use Rattle.guestmem.specs.Later.{IsLater};
+ghost use Rattle.guestmem.specs.Writes.{set_all, touched};
+ghost use Rattle.chains.specs.State.{HasAreas};
+ghost use Rattle.chains.specs.Places.{places, AreSegmentsInside};
+ghost use Rattle.chains.specs.Publish.{after_publish, is_interrupt_due};
+ghost use Rattle.blk.specs.Advance.{end_writes, used_len, data_written, IsAfterAdvancing, advance_step};
+ghost use Rattle.blk.specs.Sectors.{IsKept, AreWhole};
+ghost use Rattle.blk.specs.Move.{MaySectors, is_disk_failed};
+ghost use Rattle.blk.specs.Sound.{AreSound};
+ghost use Rattle.blk.specs.declared.advancing.Advanced.TheVariants.{Completed};
+
+use crate::disk::{Disk, SECTOR_SIZE};
+use crate::moving::move_unit;
+use crate::request::{Kind, Request};
+use crate::requests::Requests;
+use crate::sectors::Sectors;
+use crate::shape::{BlockShape, ID_SIZE};
+use chains::{Ring, copy_in, total_len};
+use guestmem::{Ram, TouchLog};
+use mmio::QUEUE_SIZE_MAX;
+
+/// How advancing a request went.
+#[derive(Clone, Copy, Debug, PartialEq, Eq)]
+pub enum Advanced {
+    /// There is no such request.
+    Idle,
+
+    /// One unit is done.
+    Moved,
+
+    /// The sector is bad, and the request ends with an error. The disk was not asked.
+    BadSector,
+
+    /// The disk failed, and the request ends with an error.
+    DiskFailed,
+
+    /// The request was published.
+    Completed {
+        /// The used length.
+        len: u32,
+
+        /// Whether an interrupt is due.
+        is_due: bool,
+    },
+}
+
+impl Requests {
+    /// The k-th outstanding request, from 0, goes on by one unit, or ends. It takes no memory. The log is told of sectors
+    /// as those of the device of this number.
+    pub fn advance<R: Ring, D: Disk, L: TouchLog>(
+        &mut self,
+        k: usize,
+        ring: &mut R,
+        shape: &BlockShape,
+        sectors: &mut Sectors<D>,
+        device: u8,
+        ram: &mut Ram,
+        log: &mut L,
+    ) -> Advanced
+        requires areas { HasAreas (length ram.old.bytes) (R.state ring.old) }
+        requires few { (R.state ring.old).size ≤ QUEUE_SIZE_MAX }
+        requires capacity { length sectors.old.content ≡ shape.now.sectors }
+        requires sound { AreSound (length ram.old.bytes) (R.state ring.old) shape.now self.old }
+        requires may { MayPages L.may log.old (length ram.old.bytes) }
+        requires may_sectors { MaySectors L.may log.old device (length sectors.old.content) }
+        ensures answer { result ≡ (advance_step shape.now ram.old.bytes (R.state ring.old) sectors.old.content self.old k (not (is_disk_failed result))).answer }
+        ensures changes { IsAfterAdvancing L.after sectors.old.honest device ram.old.bytes sectors.old.content log.old (advance_step shape.now ram.old.bytes (R.state ring.old) sectors.old.content self.old k (not (is_disk_failed result))) ram.new.bytes (R.state ring.new) sectors.new.content self.new log.new }
+        ensures kept { IsKept sectors.old (is_disk_failed result) sectors.new }
+        ensures whole { AreWhole sectors.new.content }
+        ensures sound { AreSound (length ram.new.bytes) (R.state ring.new) shape.now self.new }
+        ensures size { length ram.new.bytes ≡ length ram.old.bytes }
+        ensures later { IsLater ram.old ram.new }
+        ensures may { MayPages L.may log.new (length ram.new.bytes) }
+    {
+        if k >= self.list.len() {
+            sectors.recall();
+            return Advanced::Idle;
+        }
+        if self.list[k].is_open() {
+            let moved = move_unit(&mut self.list[k], shape, sectors, device, ram, log);
+            sectors.recall();
+            return moved;
+        }
+        sectors.recall();
+        let request = self.list.remove(k);
+        complete(ring, &request, ram, log)
+    }
+}
+
+/// Tells the driver the verdict of a request and publishes its chain.
+#[tactic(auto, unfolding(crate::specs::Advance::end_writes))]
+fn complete<R: Ring, L: TouchLog>(
+    ring: &mut R,
+    request: &Request,
+    ram: &mut Ram,
+    log: &mut L,
+) -> Advanced
+    requires areas { HasAreas (length ram.old.bytes) (R.state ring.old) }
+    requires slots { request.now.slots ≤ (R.state ring.old).size }
+    requires segments { AreSegmentsInside (length ram.old.bytes) request.now.writable }
+    requires few { length request.now.writable ≤ QUEUE_SIZE_MAX }
+    requires status { 1 ≤ length (places request.now.writable) }
+    requires total { length (places request.now.writable) < 2 ^ 32 }
+    requires data { data_written request.now.kind request.now.done < length (places request.now.writable) }
+    requires may { MayPages L.may log.old (length ram.old.bytes) }
+    ensures answer { result ≡ Completed (used_len request.now) (is_interrupt_due (R.state ring.old) request.now.slots (set_all ram.old.bytes (end_writes (R.state ring.old) request.now))) }
+    ensures bytes { ram.new.bytes ≡ set_all ram.old.bytes (end_writes (R.state ring.old) request.now) }
+    ensures ring { R.state ring.new ≡ after_publish (R.state ring.old) request.now.slots }
+    ensures log { log.new ≡ after_all L.after log.old (touched (end_writes (R.state ring.old) request.now)) }
+    ensures size { length ram.new.bytes ≡ length ram.old.bytes }
+    ensures later { IsLater ram.old ram.new }
+    ensures may { MayPages L.may log.new (length ram.new.bytes) }
+{
+    let segs = request.writable.as_slice();
+    let count = total_len(segs);
+    copy_in(ram, segs, count - 1, &[request.verdict.byte()], log);
+    let len = used_len(request, count);
+    let is_due = ring.publish(request.id, request.slots, len, true, ram, log);
+    Advanced::Completed { len, is_due }
+}
+
+/// The used length of a request that has so many writable bytes.
+fn used_len(request: &Request, writable: u64) -> u32
+    requires writable { writable ≡ length (places request.now.writable) }
+    requires small { length (places request.now.writable) < 2 ^ 32 }
+    requires data { data_written request.now.kind request.now.done < length (places request.now.writable) }
+    ensures { result ≡ used_len request.now }
+{
+    let data = data_written(request.kind, request.done);
+    if data + 1 == writable {
+        return writable as u32;
+    }
+    data as u32
+}
+
+/// The bytes of data that were written into a request of which so many units are done.
+fn data_written(kind: Kind, done: u32) -> u64
+    ensures { result ≡ data_written kind done }
+{
+    match kind {
+        Kind::In => SECTOR_SIZE as u64 * done as u64,
+        Kind::GetId => ID_SIZE as u64 * done as u64,
+        Kind::Out | Kind::Flush | Kind::Refused => 0,
+    }
+}

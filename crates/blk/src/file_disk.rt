@@ -1,0 +1,112 @@
+//! A disk in a file.
+
+ghost use Rattle.std.specs.Prelude.{◌≡◌, ◌<◌, ◌*◌, ◌^◌, IfOk, is_ok};
+ghost use Rattle.blk.specs.Disk.{Flushes};
+
+use crate::disk::{Disk, DiskFault, SECTOR_SIZE};
+use std::fs::{OpenFile, OpenOptions};
+use std::io::{self, ErrorKind, Read, Seek, SeekFrom, Write};
+use std::marker::Model;
+use std::rt::Files;
+
+/// A disk in a file: sector n is its bytes from `512 * n` on. It keeps no copy of them.
+///
+/// What a file holds between two calls is not known to a proof, so it is said to be neither honest nor steady. A call of
+/// the file that fails is a failure of the disk.
+#[derive(Drop)]
+pub struct FileDisk<F: Drop> {
+    file: F,
+    count: u64,
+    failures: u64,
+}
+
+impl<F: Drop> Model for FileDisk<F> {
+    ghost use Rattle.std.specs.Prelude.{◌*◌, ◌<◌, ◌^◌};
+    ghost use Rattle.blk.specs.Disk.{DiskState};
+    ghost use Rattle.blk.specs.FileDisk.{file_state};
+
+    ghost Value = { DiskState };
+
+    ghost view = { λ d. file_state d.count d.failures };
+
+    ghost invariant = { λ d. 512 * d.count < 2 ^ 64 };
+}
+
+impl<F: Read + Write + Seek + OpenFile + Drop> FileDisk<F> {
+    /// Opens a file for reading and writing. One whose length is no multiple of 512 is refused as invalid data. The length
+    /// is asked by a seek to the end, which a block device of the host answers too.
+    pub fn open<R: Files<File = F>>(rt: &R, path: &str) -> io::Result<FileDisk<F>>
+        ensures { IfOk result (λ disk. disk.failures ≡ 0) }
+    {
+        let mut file = OpenOptions::new().read(true).write(true).open(rt, path)?;
+        let len = file.seek(SeekFrom::End(0))?;
+        if len % SECTOR_SIZE as u64 != 0 {
+            return Err(io::Error::from(ErrorKind::InvalidData));
+        }
+        Ok(FileDisk {
+            file,
+            count: len / SECTOR_SIZE as u64,
+            failures: 0,
+        })
+    }
+
+    /// Counts how a call of the file went.
+    fn told(&mut self, outcome: io::Result<()>) -> Result<(), DiskFault>
+        ensures told { is_ok result ≡ is_ok outcome }
+        ensures counted { Flushes self.old result self.new }
+    {
+        if outcome.is_ok() {
+            return Ok(());
+        }
+        self.failures = self.failures.wrapping_add(1);
+        Err(DiskFault)
+    }
+}
+
+/// Moves to a sector of the file.
+fn seek_to<F: Seek>(file: &mut F, n: u64) -> io::Result<()>
+    requires { 512 * n < 2 ^ 64 }
+{
+    let at = n * SECTOR_SIZE as u64;
+    if file.seek(SeekFrom::Start(at))? == at {
+        return Ok(());
+    }
+    Err(io::Error::from(ErrorKind::Other))
+}
+
+fn read_sector<F: Read + Seek>(file: &mut F, n: u64, buf: &mut [u8; SECTOR_SIZE]) -> io::Result<()>
+    requires { 512 * n < 2 ^ 64 }
+{
+    seek_to(file, n)?;
+    file.read_exact(buf)
+}
+
+fn write_sector<F: Write + Seek>(file: &mut F, n: u64, bytes: &[u8; SECTOR_SIZE]) -> io::Result<()>
+    requires { 512 * n < 2 ^ 64 }
+{
+    seek_to(file, n)?;
+    file.write_all(bytes)
+}
+
+impl<F: Read + Write + Seek + OpenFile + Drop> Disk for FileDisk<F> {
+    ghost state = { λ d. d };
+
+    fn sectors(&self) -> u64 {
+        self.count
+    }
+
+    fn read(&mut self, n: u64, buf: &mut [u8; 512]) -> Result<(), DiskFault> {
+        let outcome = read_sector(&mut self.file, n, buf);
+        self.told(outcome)
+    }
+
+    fn write(&mut self, n: u64, bytes: &[u8; 512]) -> Result<(), DiskFault> {
+        let outcome = write_sector(&mut self.file, n, bytes);
+        self.told(outcome)
+    }
+
+    fn flush(&mut self) -> Result<(), DiskFault> {
+        let outcome = self.file.sync_data();
+        self.told(outcome)
+    }
+}

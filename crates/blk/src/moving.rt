@@ -1,0 +1,182 @@
+//! One unit of a request.
+
+ghost use Rattle.std.specs.Prelude.{◌≡◌, ◌≤◌, ◌<◌, ◌+◌, ◌^◌, ◌*◌, length, not, true};
+ghost use Rattle.guestmem.specs.Item.{MayPages, after_all};
+ghost use Rattle.guestmem.specs.Later.{IsLater};
+ghost use Rattle.guestmem.specs.Writes.{set_all, touched};
+ghost use Rattle.chains.specs.Places.{places, AreSegmentsInside};
+ghost use Rattle.blk.specs.Request.{is_open};
+ghost use Rattle.blk.specs.Sectors.{IsKept, AreWhole};
+ghost use Rattle.blk.specs.Move.{IsMoved, MaySectors, move_in, move_out, move_flush, move_id, move_of, after_unit, is_disk_failed};
+ghost use Rattle.blk.specs.Sound.{IsSoundWork};
+ghost use Rattle.blk.specs.declared.advancing.Advanced.TheVariants.{Moved};
+
+use crate::advancing::Advanced;
+use crate::disk::{Disk, SECTOR_SIZE};
+use crate::request::{HEADER_SIZE, Kind, Request, Verdict};
+use crate::sectors::{Fetched, Sectors};
+use crate::shape::{BlockShape, ID_SIZE};
+use chains::{copy_in, copy_out};
+use guestmem::{Ram, TouchLog};
+
+/// Reads one sector into the writable places of a request.
+fn move_in<D: Disk, L: TouchLog>(
+    request: &mut Request,
+    sectors: &mut Sectors<D>,
+    device: u8,
+    ram: &mut Ram,
+    log: &mut L,
+) -> Advanced
+    requires inside { AreSegmentsInside (length ram.old.bytes) request.old.writable }
+    requires places { SECTOR_SIZE * request.old.done + SECTOR_SIZE ≤ length (places request.old.writable) }
+    requires sector { request.old.first + request.old.done < length sectors.old.content }
+    requires open { request.old.done < request.old.units }
+    requires small { length sectors.old.content < 2 ^ 64 }
+    requires whole { AreWhole sectors.old.content }
+    requires may { MayPages L.may log.old (length ram.old.bytes) }
+    ensures moved { IsMoved L.after sectors.old.honest device ram.old.bytes sectors.old.content log.old (move_in sectors.old.content request.old (not (is_disk_failed result))) result request.new ram.new.bytes sectors.new.content log.new }
+    ensures request { request.new ≡ after_unit request.old result }
+    ensures kept { IsKept sectors.old (is_disk_failed result) sectors.new }
+    ensures size { length ram.new.bytes ≡ length ram.old.bytes }
+    ensures later { IsLater ram.old ram.new }
+    ensures may { MayPages L.may log.new (length ram.new.bytes) }
+{
+    let n = request.next_sector();
+    let mut buffer = [0; SECTOR_SIZE];
+    match sectors.read(n, &mut buffer) {
+        Fetched::Bad => {
+            request.verdict = Verdict::IoError;
+            Advanced::BadSector
+        }
+        Fetched::Failed => {
+            request.verdict = Verdict::IoError;
+            Advanced::DiskFailed
+        }
+        Fetched::Read => {
+            copy_in(
+                ram,
+                request.writable.as_slice(),
+                SECTOR_SIZE as u64 * request.done as u64,
+                &buffer,
+                log,
+            );
+            request.done += 1;
+            Advanced::Moved
+        }
+    }
+}
+
+/// Writes the readable places of one unit into a sector.
+fn move_out<D: Disk, L: TouchLog>(
+    request: &mut Request,
+    sectors: &mut Sectors<D>,
+    device: u8,
+    ram: &mut Ram,
+    log: &mut L,
+) -> Advanced
+    requires inside { AreSegmentsInside (length ram.old.bytes) request.old.readable }
+    requires places { HEADER_SIZE + SECTOR_SIZE * request.old.done + SECTOR_SIZE ≤ length (places request.old.readable) }
+    requires sector { request.old.first + request.old.done < length sectors.old.content }
+    requires open { request.old.done < request.old.units }
+    requires small { length sectors.old.content < 2 ^ 64 }
+    requires may { MayPages L.may log.old (length ram.old.bytes) }
+    requires may_sectors { MaySectors L.may log.old device (length sectors.old.content) }
+    ensures moved { IsMoved L.after sectors.old.honest device ram.old.bytes sectors.old.content log.old (move_out ram.old.bytes request.old (not (is_disk_failed result))) result request.new ram.new.bytes sectors.new.content log.new }
+    ensures request { request.new ≡ after_unit request.old result }
+    ensures kept { IsKept sectors.old (is_disk_failed result) sectors.new }
+    ensures size { length ram.new.bytes ≡ length ram.old.bytes }
+    ensures later { IsLater ram.old ram.new }
+    ensures may { MayPages L.may log.new (length ram.new.bytes) }
+{
+    let n = request.next_sector();
+    let mut buffer = [0; SECTOR_SIZE];
+    copy_out(
+        ram,
+        request.readable.as_slice(),
+        HEADER_SIZE as u64 + SECTOR_SIZE as u64 * request.done as u64,
+        &mut buffer,
+    );
+    let written = sectors.write(n, &buffer);
+    log.sector(device, n);
+    if written.is_err() {
+        request.verdict = Verdict::IoError;
+        return Advanced::DiskFailed;
+    }
+    request.done += 1;
+    Advanced::Moved
+}
+
+/// Flushes the disk.
+fn move_flush<D: Disk>(request: &mut Request, sectors: &mut Sectors<D>) -> Advanced
+    requires open { request.old.done < request.old.units }
+    ensures answer { result ≡ (move_flush request.old (not (is_disk_failed result))).answer }
+    ensures moved { request.new ≡ (move_flush request.old (not (is_disk_failed result))).request }
+    ensures request { request.new ≡ after_unit request.old result }
+    ensures kept { IsKept sectors.old (is_disk_failed result) sectors.new }
+    ensures same { sectors.new.content ≡ sectors.old.content }
+{
+    if sectors.flush().is_err() {
+        request.verdict = Verdict::IoError;
+        return Advanced::DiskFailed;
+    }
+    request.done += 1;
+    Advanced::Moved
+}
+
+/// Writes the id of the device into the first writable places of a request.
+fn move_id<L: TouchLog>(
+    request: &mut Request,
+    id: &[u8; ID_SIZE],
+    ram: &mut Ram,
+    log: &mut L,
+) -> Advanced
+    requires inside { AreSegmentsInside (length ram.old.bytes) request.old.writable }
+    requires places { ID_SIZE ≤ length (places request.old.writable) }
+    requires open { request.old.done < request.old.units }
+    requires may { MayPages L.may log.old (length ram.old.bytes) }
+    ensures answer { result ≡ Moved }
+    ensures request { request.new ≡ (move_id id.now request.old).request }
+    ensures bytes { ram.new.bytes ≡ set_all ram.old.bytes (move_id id.now request.old).writes }
+    ensures log { log.new ≡ after_all L.after log.old (touched (move_id id.now request.old).writes) }
+    ensures size { length ram.new.bytes ≡ length ram.old.bytes }
+    ensures later { IsLater ram.old ram.new }
+    ensures may { MayPages L.may log.new (length ram.new.bytes) }
+{
+    copy_in(ram, request.writable.as_slice(), 0, id, log);
+    request.done += 1;
+    Advanced::Moved
+}
+
+/// Does one unit of a request.
+pub(crate) fn move_unit<D: Disk, L: TouchLog>(
+    request: &mut Request,
+    shape: &BlockShape,
+    sectors: &mut Sectors<D>,
+    device: u8,
+    ram: &mut Ram,
+    log: &mut L,
+) -> Advanced
+    requires open { is_open request.old ≡ true }
+    requires capacity { length sectors.old.content ≡ shape.now.sectors }
+    requires sound { IsSoundWork request.old.kind (length (places request.old.readable)) (length (places request.old.writable)) shape.now.sectors shape.now.read_only request.old.verdict request.old.first request.old.units request.old.done }
+    requires readable { AreSegmentsInside (length ram.old.bytes) request.old.readable }
+    requires writable { AreSegmentsInside (length ram.old.bytes) request.old.writable }
+    requires may { MayPages L.may log.old (length ram.old.bytes) }
+    requires may_sectors { MaySectors L.may log.old device (length sectors.old.content) }
+    ensures moved { IsMoved L.after sectors.old.honest device ram.old.bytes sectors.old.content log.old (move_of request.old.kind shape.now.id ram.old.bytes sectors.old.content request.old (not (is_disk_failed result))) result request.new ram.new.bytes sectors.new.content log.new }
+    ensures request { request.new ≡ after_unit request.old result }
+    ensures sound { IsSoundWork request.new.kind (length (places request.new.readable)) (length (places request.new.writable)) shape.now.sectors shape.now.read_only request.new.verdict request.new.first request.new.units request.new.done }
+    ensures kept { IsKept sectors.old (is_disk_failed result) sectors.new }
+    ensures size { length ram.new.bytes ≡ length ram.old.bytes }
+    ensures later { IsLater ram.old ram.new }
+    ensures may { MayPages L.may log.new (length ram.new.bytes) }
+{
+    sectors.recall();
+    match request.kind {
+        Kind::In => move_in(request, sectors, device, ram, log),
+        Kind::Out => move_out(request, sectors, device, ram, log),
+        Kind::Flush => move_flush(request, sectors),
+        Kind::GetId => move_id(request, &shape.id, ram, log),
+        Kind::Refused => Advanced::Idle,
+    }
+}

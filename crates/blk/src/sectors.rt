@@ -1,0 +1,142 @@
+//! The sectors of a block device: a disk, and which of its sectors are bad.
+
+ghost use Rattle.std.specs.Prelude.{◌≡◌, ◌<◌, ◌^◌, length, IfOk, IsTrue, OnOk, OnErr, Some, None, false, replicate, slice_set, is_ok, not};
+ghost use Rattle.blk.specs.Disk.{AreSectors};
+ghost use Rattle.blk.specs.Sectors.{seen_of, sector_in, is_bad, set_sector, AreWhole, IsKept, IsFetched, is_failed};
+
+use crate::disk::{Disk, DiskFault, SECTOR_SIZE};
+use dirtylog::BitSet;
+use guestmem::NoMemory;
+use std::alloc::Global;
+use std::marker::Model;
+
+/// How a read of a sector went.
+#[derive(Clone, Copy, Debug, PartialEq, Eq)]
+pub enum Fetched {
+    /// The sector is bad, and the disk was not asked.
+    Bad,
+
+    /// The disk failed.
+    Failed,
+
+    /// The buffer holds the sector.
+    Read,
+}
+
+/// A disk, and which of its sectors are bad: those that a failed write left with any bytes. Contracts see one list of
+/// sectors. The room of the marks is made with it.
+#[derive(Drop)]
+pub struct Sectors<D: Disk> {
+    disk: D,
+    bad: BitSet,
+}
+
+impl<D: Disk> Model for Sectors<D> {
+    ghost use Rattle.std.specs.Prelude.{length, ◌≡◌};
+    ghost use Rattle.blk.specs.Sectors.{SectorsState, seen_of};
+
+    ghost Value = { SectorsState };
+
+    ghost view = { λ s. seen_of (D.state s.disk) s.bad };
+
+    ghost invariant = { λ s. length s.bad ≡ length (D.state s.disk).sectors };
+}
+
+impl<D: Disk> Sectors<D> {
+    /// The sectors of a disk, all of them good. Its only error is want of memory, and then the disk is dropped.
+    pub fn new(alloc: Global, disk: D) -> Result<Sectors<D>, NoMemory>
+    where
+        D: Drop,
+        ensures { IfOk result (λ sectors. sectors ≡ seen_of (D.state disk) (replicate (length (D.state disk).sectors) false)) }
+    {
+        let bad = BitSet::new(alloc, disk.sectors())?;
+        Ok(Sectors { disk, bad })
+    }
+
+    /// The sectors of a disk, of which these are bad. It takes no memory.
+    pub fn with_marks(disk: D, bad: BitSet) -> Sectors<D>
+        requires { length bad ≡ length (D.state disk).sectors }
+        ensures { result ≡ seen_of (D.state disk) bad }
+    {
+        Sectors { disk, bad }
+    }
+
+    /// The disk, and which of its sectors are bad.
+    pub fn into_parts(self) -> (D, BitSet)
+        ensures parts { self ≡ seen_of (D.state result.0) result.1 }
+        ensures length { length result.1 ≡ length (D.state result.0).sectors }
+    {
+        (self.disk, self.bad)
+    }
+
+    /// Tells a proof that the sectors that are not bad have 512 bytes each, and that their number is one of 64 bits (see
+    /// the page of `guestmem`).
+    pub fn recall(&self)
+        ensures whole { AreWhole self.now.content }
+        ensures few { length self.now.content < 2 ^ 64 }
+    {
+        let _count = self.disk.sectors();
+    }
+
+    /// How many there are.
+    pub fn count(&self) -> u64
+        ensures { result ≡ length self.now.content }
+    {
+        self.disk.sectors()
+    }
+
+    /// Whether a sector is bad. The disk is not asked.
+    pub fn is_bad(&self, n: u64) -> bool
+        requires { n < length self.now.content }
+        ensures { result ≡ is_bad (sector_in self.now.content n) }
+    {
+        self.bad.contains(n)
+    }
+
+    /// Makes a sector bad. The disk is not asked.
+    pub fn mark_bad(&mut self, n: u64)
+        requires { n < length self.old.content }
+        ensures { self.new ≡ set_sector self.old n None }
+    {
+        self.bad.insert(n);
+    }
+
+    /// Reads a sector. The disk is not asked for a bad one. Where the sector is not read, the buffer may hold anything.
+    pub fn read(&mut self, n: u64, buf: &mut [u8; SECTOR_SIZE]) -> Fetched
+        requires { n < length self.old.content }
+        ensures kept { IsKept self.old (is_failed result) self.new }
+        ensures same { self.new.content ≡ self.old.content }
+        ensures fetched { IsFetched self.old.honest (sector_in self.old.content n) buf.new result }
+    {
+        if self.bad.contains(n) {
+            return Fetched::Bad;
+        }
+        if let Err(_) = self.disk.read(n, buf) {
+            return Fetched::Failed;
+        }
+        Fetched::Read
+    }
+
+    /// Writes a sector. One that is written is good, and one whose write fails is bad.
+    pub fn write(&mut self, n: u64, bytes: &[u8; SECTOR_SIZE]) -> Result<(), DiskFault>
+        requires { n < length self.old.content }
+        ensures kept { IsKept self.old (not (is_ok result)) self.new }
+        ensures ok { OnOk result (IsTrue self.old.honest → self.new.content ≡ slice_set self.old.content n (Some bytes.now)) }
+        ensures err { OnErr result (self.new.content ≡ slice_set self.old.content n None) }
+    {
+        if let Err(fault) = self.disk.write(n, bytes) {
+            self.bad.insert(n);
+            return Err(fault);
+        }
+        self.bad.remove(n);
+        Ok(())
+    }
+
+    /// Brings what was written to where it lasts.
+    pub fn flush(&mut self) -> Result<(), DiskFault>
+        ensures kept { IsKept self.old (not (is_ok result)) self.new }
+        ensures same { self.new.content ≡ self.old.content }
+    {
+        self.disk.flush()
+    }
+}

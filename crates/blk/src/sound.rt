@@ -1,0 +1,135 @@
+//! Whether requests that are told to a device may be outstanding.
+
+ghost use Rattle.std.specs.Prelude.{◌≡◌, ◌≤◌, ◌<◌, ◌+◌, ◌^◌, ◌↔◌, IsTrue, All, length};
+ghost use Rattle.std.specs.Bool.{MatchBool};
+ghost use Rattle.chains.specs.Places.{places, AreSegmentsInside};
+ghost use Rattle.blk.specs.Request.{is_good};
+ghost use Rattle.blk.specs.Sound.{IsSoundRequest, IsSoundWork, MayEnd};
+
+use crate::disk::SECTOR_SIZE;
+use crate::request::{HEADER_SIZE, Kind, Request, Verdict};
+use crate::requests::Requests;
+use crate::shape::{BlockShape, ID_SIZE};
+use chains::{Seg, total_len};
+
+impl Requests {
+    /// Whether each of them may be outstanding (see `Request::is_sound`).
+    pub fn are_sound(&self, ram_len: u64, is_packed: bool, size: u32, shape: &BlockShape) -> bool
+        ensures { IsTrue result ↔ All (IsSoundRequest ram_len is_packed size shape.now) self.now }
+    {
+        self.list.iter().all(|request| request.is_sound(ram_len, is_packed, size, shape))
+    }
+}
+
+impl Request {
+    /// Whether it may be outstanding, in a RAM of so many bytes, on a ring of this layout and of so many slots, in a device
+    /// of this shape.
+    pub fn is_sound(&self, ram_len: u64, is_packed: bool, size: u32, shape: &BlockShape) -> bool
+        ensures { IsTrue result ↔ IsSoundRequest ram_len is_packed size shape.now self.now }
+    {
+        self.is_of_ring(is_packed, size)
+            && self.has_segments(ram_len, size)
+            && self.has_sound_bytes(shape)
+    }
+
+    /// Whether a ring can have its chain.
+    fn is_of_ring(&self, is_packed: bool, size: u32) -> bool
+        ensures { IsTrue result ↔ ((1 ≤ self.now.slots) × (self.now.slots ≤ size) × MatchBool is_packed (Unit {0}) ((self.now.slots ≡ 1) × (self.now.id < size))) }
+    {
+        1 <= self.slots
+            && self.slots as u32 <= size
+            && (is_packed || (self.slots == 1 && (self.id as u32) < size))
+    }
+
+    /// Whether its segments are not too many, and lie inside RAM.
+    fn has_segments(&self, ram_len: u64, size: u32) -> bool
+        ensures { IsTrue result ↔ ((length self.now.readable + length self.now.writable ≤ size) × AreSegmentsInside ram_len self.now.readable × AreSegmentsInside ram_len self.now.writable) }
+    {
+        let (readable, writable) = (self.readable.as_slice(), self.writable.as_slice());
+        let size = size as usize;
+        readable.len() <= size
+            && writable.len() <= size - readable.len()
+            && are_inside(readable, ram_len)
+            && are_inside(writable, ram_len)
+    }
+
+    /// Whether its bytes are not too many, have room for its header and its verdict, and fit its kind.
+    fn has_sound_bytes(&self, shape: &BlockShape) -> bool
+        requires readable { length self.now.readable < 2 ^ 32 }
+        requires writable { length self.now.writable < 2 ^ 32 }
+        ensures { IsTrue result ↔ ((length (places self.now.readable) + length (places self.now.writable) < 2 ^ 32) × (HEADER_SIZE ≤ length (places self.now.readable)) × (1 ≤ length (places self.now.writable)) × IsSoundWork self.now.kind (length (places self.now.readable)) (length (places self.now.writable)) shape.now.sectors shape.now.read_only self.now.verdict self.now.first self.now.units self.now.done) }
+    {
+        let readable = total_len(self.readable.as_slice());
+        let writable = total_len(self.writable.as_slice());
+        let most = 1 << 32;
+        readable < most
+            && writable < most - readable
+            && readable >= HEADER_SIZE as u64
+            && writable >= 1
+            && self.is_sound_work(readable, writable, shape)
+    }
+
+    /// Whether what it keeps fits its kind, for so many readable and writable bytes.
+    fn is_sound_work(&self, readable: u64, writable: u64, shape: &BlockShape) -> bool
+        ensures { IsTrue result ↔ IsSoundWork self.now.kind readable writable shape.now.sectors shape.now.read_only self.now.verdict self.now.first self.now.units self.now.done }
+    {
+        let (units, may_end) = (self.units as u64, self.may_end());
+        match self.kind {
+            Kind::Refused => {
+                !self.is_good() && self.first == 0 && self.units == 0 && self.done == 0
+            }
+            Kind::In => may_end
+                && SECTOR_SIZE as u64 * units + 1 == writable
+                && self.is_within(shape.sectors),
+            Kind::Out => {
+                may_end
+                    && SECTOR_SIZE as u64 * units + HEADER_SIZE as u64 == readable
+                    && self.is_within(shape.sectors)
+                    && !shape.read_only
+            }
+            Kind::Flush => may_end && self.units == 1 && self.first == 0,
+            Kind::GetId => {
+                self.is_good()
+                    && self.done <= self.units
+                    && self.units == 1
+                    && self.first == 0
+                    && writable > ID_SIZE as u64
+            }
+        }
+    }
+
+    /// Whether its verdict fits what is done of it.
+    fn may_end(&self) -> bool
+        ensures { IsTrue result ↔ MayEnd self.now.verdict self.now.done self.now.units }
+    {
+        match self.verdict {
+            Verdict::Good => self.done <= self.units,
+            Verdict::IoError => self.done < self.units,
+            Verdict::Unsupported => false,
+        }
+    }
+
+    /// Whether it met no error so far.
+    fn is_good(&self) -> bool
+        ensures { result ≡ is_good self.now.verdict }
+    {
+        match self.verdict {
+            Verdict::Good => true,
+            Verdict::IoError | Verdict::Unsupported => false,
+        }
+    }
+
+    /// Whether its sectors are sectors of a disk of so many.
+    fn is_within(&self, capacity: u64) -> bool
+        ensures { IsTrue result ↔ (self.now.first + self.now.units ≤ capacity) }
+    {
+        let units = self.units as u64;
+        units <= capacity && self.first <= capacity - units
+    }
+}
+
+fn are_inside(segs: &[Seg], ram_len: u64) -> bool
+    ensures { IsTrue result ↔ AreSegmentsInside ram_len segs.now }
+{
+    segs.iter().all(|seg| seg.addr <= ram_len && seg.len as u64 <= ram_len - seg.addr)
+}

@@ -1,0 +1,25 @@
+-- Sets of numbers below a length. A set is the list that says of each of these numbers whether it is a member.
+use Rattle.std.specs.Prelude.{◌≡◌, ℕ, ◌≤◌, ◌<◌, List, Bool, true, false, Option, Some, None, slice_index_or, count_by}
+
+-- Whether a number is a member. One that is not below the length is none.
+abbrev pub has : List Bool → ℕ → Bool
+has set n = slice_index_or set n false
+
+-- There is no member.
+abbrev pub HasNone : List Bool → Type 0
+HasNone set = (n : ℕ) → has set n ≡ false
+
+-- The number is the least member that is at least so much.
+pub record IsLeast (set : List Bool) (from n : ℕ) : Type 0 where
+  pub reached : from ≤ n
+  pub member : has set n ≡ true
+  pub least : (k : ℕ) → from ≤ k → k < n → has set k ≡ false
+
+-- The least member that is at least so much, or that there is none.
+abbrev pub IsLeastFrom : List Bool → ℕ → Option ℕ → Type 0
+IsLeastFrom set from (Some n) = IsLeast set from n
+IsLeastFrom set from None = (k : ℕ) → from ≤ k → has set k ≡ false
+
+-- How many members there are.
+abbrev pub member_count : List Bool → ℕ
+member_count set = count_by (λ b. b) set
