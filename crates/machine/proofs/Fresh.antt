@@ -18,7 +18,7 @@ use Rattle.machine.specs.declared.new_error.NewError.TheVariants.{BadShape, Disk
 use Rattle.machine.specs.declared.shape.Shape.{Shape}
 use Rattle.machine.specs.declared.shape.Shape.TheVariants.{Entropy}
 use Rattle.machine.proofs.Numbering.{shape_counts}
-use Rattle.machine.proofs.Zeros.{zero_bytes}
+use Rattle.blk.proofs.Zeros.{zero_bytes}
 
 record HasLimits (pages : ℕ) (shapes : List Shape) : Type 0 where
   some_pages : 1 ≤ pages

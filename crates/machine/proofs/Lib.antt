@@ -12,6 +12,5 @@ pub mod At
 pub mod Raised
 pub mod Running
 pub mod Disks
-pub mod Zeros
 pub mod Numbering
 pub mod Fresh

@@ -3,7 +3,6 @@ pub mod Applied
 pub mod DeviceStep
 pub mod DeviceWork
 pub mod Direct
-pub mod Disk
 pub mod Effect
 pub mod EffectLaws
 pub mod First

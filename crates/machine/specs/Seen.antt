@@ -1,7 +1,7 @@
 -- What contracts see of a machine.
 use Rattle.std.specs.Prelude.{ℕ, List, [], map, Option, Some, None, Bool, true}
 use Rattle.guestmem.specs.Memory.{Memory}
-use Rattle.machine.specs.Disk.{DiskState}
+use Rattle.blk.specs.Disk.{DiskState}
 use Rattle.machine.specs.State.{DeviceState, Sector, MachineState}
 
 -- What is known of a device's disk beside its sectors: it is no part of the machine's state.

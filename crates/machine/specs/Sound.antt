@@ -4,7 +4,7 @@ use Rattle.guestmem.specs.Number.{IsBytes}
 use Rattle.guestmem.specs.declared.limits.TheConstants.{PAGES_MAX}
 use Rattle.mmio.specs.Sound.{IsSoundRegisters}
 use Rattle.console.specs.declared.host_bytes.TheConstants.{HOST_BYTES_MAX}
-use Rattle.machine.specs.Disk.{IsSector}
+use Rattle.blk.specs.Disk.{IsSector}
 use Rattle.machine.specs.State.{DeviceState, MachineState, Sector}
 use Rattle.machine.specs.QueuePositions.{HavePositions, is_packed_by}
 use Rattle.machine.specs.Shapes.{device_id_of, offered_of, queues_of, sector_count}

@@ -3,7 +3,7 @@
 ghost use Rattle.std.specs.Prelude.{◌≡◌, ℕ, IfOk, length};
 ghost use Rattle.machine.specs.Seen.{DeviceSeen, sectors_of, marks_of};
 
-use crate::disk::Disk;
+use blk::Disk;
 use crate::reply::Reply;
 use crate::shape::Shape;
 use crate::state::DeviceState;

@@ -21,11 +21,9 @@
 
 mod any_ring;
 mod device;
-mod disk;
 mod event;
 pub mod laws;
 mod machine;
-mod mem_disk;
 mod new_error;
 mod own;
 mod reply;
@@ -33,11 +31,10 @@ mod served;
 mod shape;
 mod state;
 
-pub use disk::{Disk, DiskFault, SECTOR_SIZE};
+pub use blk::{Disk, DiskFault, MemDisk, SECTOR_SIZE};
 pub use event::Event;
 pub use guestmem::Bytes;
 pub use machine::{DEVICES_MAX, Machine};
-pub use mem_disk::MemDisk;
 pub use new_error::NewError;
 pub use own::Own;
 pub use reply::{Refusal, Reply};

@@ -6,7 +6,7 @@ mod getters;
 mod making;
 
 use crate::device::Device;
-use crate::disk::Disk;
+use blk::Disk;
 use crate::shape::Shape;
 use guestmem::Ram;
 use std::alloc::Global;

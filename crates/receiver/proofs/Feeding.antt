@@ -2,7 +2,7 @@
 use Rattle.std.proofs.Common.{◌≡◌, ℕ, ◌<◌, ◌≤◌, ◌⊎◌, inl, inr, Bool, true, false, List, [], ◌++◌, length, refl, sym, ap, ◌∙◌, arith}
 use Rattle.std.proofs.lemmas.Bool.{cases_lt}
 use Rattle.std.proofs.lemmas.List.{length-append, length-map}
-use Rattle.machine.specs.Disk.{DiskState}
+use Rattle.blk.specs.Disk.{DiskState}
 use Rattle.machine.specs.declared.shape.Shape.{Shape}
 use Rattle.receiver.proofs.Lists.{empty}
 use Rattle.machine.specs.Shapes.{disk_sizes}

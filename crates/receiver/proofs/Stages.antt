@@ -5,7 +5,7 @@ use Rattle.sha2.specs.Sha256.{sha256}
 use Rattle.wire.specs.Header.{header, Begins}
 use Rattle.wire.specs.Records.{Record}
 use Rattle.wire.specs.Stream.{texts, rounds}
-use Rattle.machine.specs.Disk.{DiskState}
+use Rattle.blk.specs.Disk.{DiskState}
 use Rattle.machine.specs.First.{dealt_sectors}
 use Rattle.machine.specs.Layout.{layout_by, size_from, size_of}
 use Rattle.machine.specs.declared.shape.Shape.{Shape}

@@ -3,7 +3,7 @@ use Rattle.std.specs.Prelude.{◌≡◌, ◌<◌, ◌≤◌, ℕ, List, ◌++◌
 use Rattle.wire.specs.Header.{Begins}
 use Rattle.wire.specs.Records.{Record, spelled_record}
 use Rattle.wire.specs.Stream.{IsStream, rounds}
-use Rattle.machine.specs.Disk.{DiskState}
+use Rattle.blk.specs.Disk.{DiskState}
 use Rattle.machine.specs.State.{MachineState}
 use Rattle.machine.specs.declared.shape.Shape.{Shape}
 use Rattle.receiver.specs.Good.{Follows}

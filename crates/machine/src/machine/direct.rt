@@ -8,7 +8,7 @@ ghost use Rattle.machine.specs.Direct.{value_reply, done_reply, bytes_reply, acc
 ghost use Rattle.machine.specs.Seen.{state_of};
 ghost use Rattle.machine.specs.declared.event.Event.TheVariants as events;
 
-use crate::disk::Disk;
+use blk::Disk;
 use crate::machine::Machine;
 use crate::reply::{Refusal, Reply};
 use guestmem::{NoLog, TouchLog, recall_bytes};

@@ -5,7 +5,7 @@ ghost use Rattle.machine.specs.Seen.{state_of};
 ghost use Rattle.machine.specs.Lines.{lines_of};
 ghost use Rattle.machine.specs.Sound.{IsSound};
 
-use crate::disk::Disk;
+use blk::Disk;
 use crate::machine::Machine;
 use crate::shape::Shape;
 use crate::state::DeviceState;

@@ -8,7 +8,7 @@ ghost use Rattle.machine.specs.Sound.{IsSound};
 ghost use Rattle.machine.specs.declared.new_error.NewError.TheVariants as new_error;
 
 use crate::device::Device;
-use crate::disk::Disk;
+use blk::Disk;
 use crate::machine::{DEVICES_MAX, Machine};
 use crate::new_error::NewError;
 use crate::shape::Shape;
