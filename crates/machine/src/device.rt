@@ -3,10 +3,10 @@
 ghost use Rattle.std.specs.Prelude.{◌≡◌, ℕ, IfOk, length};
 ghost use Rattle.machine.specs.Seen.{DeviceSeen, sectors_of, marks_of};
 
-use blk::Disk;
 use crate::reply::Reply;
 use crate::shape::Shape;
 use crate::state::DeviceState;
+use blk::Disk;
 use guestmem::{NoMemory, Ram, TouchLog};
 use std::alloc::Global;
 use std::marker::Model;

@@ -6,8 +6,8 @@ mod getters;
 mod making;
 
 use crate::device::Device;
-use blk::Disk;
 use crate::shape::Shape;
+use blk::Disk;
 use guestmem::Ram;
 use std::alloc::Global;
 use std::marker::Model;

@@ -10,10 +10,10 @@ ghost use Rattle.machine.specs.Seen.{state_of, all_marks};
 ghost use Rattle.machine.specs.Sound.{IsSound};
 ghost use Rattle.machine.specs.declared.event.Event.TheVariants as events;
 
-use blk::Disk;
 use crate::event::Event;
 use crate::machine::Machine;
 use crate::reply::{Refusal, Reply};
+use blk::Disk;
 use guestmem::{Bytes, NoLog, NoMemory, TouchLog};
 
 impl<D: Disk> Machine<D> {

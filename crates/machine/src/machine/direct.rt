@@ -8,9 +8,9 @@ ghost use Rattle.machine.specs.Direct.{value_reply, done_reply, bytes_reply, acc
 ghost use Rattle.machine.specs.Seen.{state_of};
 ghost use Rattle.machine.specs.declared.event.Event.TheVariants as events;
 
-use blk::Disk;
 use crate::machine::Machine;
 use crate::reply::{Refusal, Reply};
+use blk::Disk;
 use guestmem::{NoLog, TouchLog, recall_bytes};
 
 impl<D: Disk> Machine<D> {

@@ -5,10 +5,10 @@ ghost use Rattle.machine.specs.Seen.{state_of};
 ghost use Rattle.machine.specs.Lines.{lines_of};
 ghost use Rattle.machine.specs.Sound.{IsSound};
 
-use blk::Disk;
 use crate::machine::Machine;
 use crate::shape::Shape;
 use crate::state::DeviceState;
+use blk::Disk;
 use guestmem::Ram;
 
 impl<D: Disk> Machine<D> {

@@ -8,11 +8,11 @@ ghost use Rattle.machine.specs.Sound.{IsSound};
 ghost use Rattle.machine.specs.declared.new_error.NewError.TheVariants as new_error;
 
 use crate::device::Device;
-use blk::Disk;
 use crate::machine::{DEVICES_MAX, Machine};
 use crate::new_error::NewError;
 use crate::shape::Shape;
 use crate::state::DeviceState;
+use blk::Disk;
 use guestmem::{NoMemory, PAGES_MAX, Ram};
 use std::alloc::Global;
 
