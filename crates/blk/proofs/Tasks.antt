@@ -1,5 +1,5 @@
 -- What is taken is sound.
-use Rattle.std.proofs.Common.{◌≡◌, ◌≢◌, sym, ◌∙◌, ℕ, zero, suc, ◌+◌, ◌-◌, ◌*◌, ◌/◌, ◌%◌, ◌≤◌, ◌==◌, nat_lt, not, ◌||◌, List, [], ◌∷◌, ◌++◌, Bool, true, false, refl, inl, inr, arith, length}
+use Rattle.std.proofs.Common.{◌≡◌, ◌≢◌, sym, ◌∙◌, ℕ, zero, suc, ◌+◌, ◌-◌, ◌*◌, ◌/◌, ◌%◌, ◌^◌, ◌<◌, ◌≤◌, ◌==◌, nat_lt, not, ◌||◌, List, [], ◌∷◌, ◌++◌, Bool, true, false, refl, inl, inr, arith, length}
 use Rattle.std.specs.Bool.{if◌then◌else◌}
 use Rattle.std.specs.List.{All}
 use Rattle.std.proofs.lemmas.Bool.{cases_Bool, ltb-false, eqb-true, eq-eqb, true≢false}
@@ -101,14 +101,15 @@ all_one P x p zero d h = p
 all_one P x p (suc k) d h = absurd (omega (arith, h))
 
 -- A request that was just taken is sound.
-pub taken_sound : (len : ℕ) (q : RingState) (shape : BlockShape) (requests : List Request) (header : List ℕ) (c : Chain) → IsBounded len q c → is_no_request c ≡ false → AreSound len q shape requests
+pub taken_sound : (len : ℕ) (q : RingState) (shape : BlockShape) (requests : List Request) (header : List ℕ) (c : Chain) → c.id < 2 ^ 16 → IsBounded len q c → is_no_request c ≡ false → AreSound len q shape requests
     → AreSound len q shape (requests ++ request_for c (task_of header (length (places c.readable)) (length (places c.writable)) shape.sectors shape.read_only) ∷ [])
-taken_sound len q shape requests header c b test sound =
+taken_sound len q shape requests header c fits b test sound =
     let enough = enough_bytes (length (places c.readable)) (length (places c.writable)) test in
     let R : Request = request_for c (task_of header (length (places c.readable)) (length (places c.writable)) shape.sectors shape.read_only) in
     let one : IsSoundRequest len q.is_packed q.size shape R = record {
       some = b.some;
       slots = b.slots;
+      id_fits = fits;
       id = b.id;
       few = b.few;
       readable = b.readable;

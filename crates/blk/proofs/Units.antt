@@ -37,9 +37,9 @@ still_sound : (len : ℕ) (is_packed : Bool) (size : ℕ) (shape : BlockShape) (
     → (let new = after_unit r a in IsSoundWork new.kind (length (places new.readable)) (length (places new.writable)) shape.sectors shape.read_only new.verdict new.first new.units new.done)
     → IsSoundRequest len is_packed size shape (after_unit r a)
 still_sound len is_packed size shape r Idle h work = h
-still_sound len is_packed size shape r Moved h work = record { some = h.some; slots = h.slots; id = h.id; few = h.few; readable = h.readable; writable = h.writable; total = h.total; header = h.header; status = h.status; work = work }
-still_sound len is_packed size shape r BadSector h work = record { some = h.some; slots = h.slots; id = h.id; few = h.few; readable = h.readable; writable = h.writable; total = h.total; header = h.header; status = h.status; work = work }
-still_sound len is_packed size shape r DiskFailed h work = record { some = h.some; slots = h.slots; id = h.id; few = h.few; readable = h.readable; writable = h.writable; total = h.total; header = h.header; status = h.status; work = work }
+still_sound len is_packed size shape r Moved h work = record { some = h.some; slots = h.slots; id_fits = h.id_fits; id = h.id; few = h.few; readable = h.readable; writable = h.writable; total = h.total; header = h.header; status = h.status; work = work }
+still_sound len is_packed size shape r BadSector h work = record { some = h.some; slots = h.slots; id_fits = h.id_fits; id = h.id; few = h.few; readable = h.readable; writable = h.writable; total = h.total; header = h.header; status = h.status; work = work }
+still_sound len is_packed size shape r DiskFailed h work = record { some = h.some; slots = h.slots; id_fits = h.id_fits; id = h.id; few = h.few; readable = h.readable; writable = h.writable; total = h.total; header = h.header; status = h.status; work = work }
 still_sound len is_packed size shape r (Completed used due) h work = h
 
 -- Requests of which one went on by a unit are sound.

@@ -29,11 +29,13 @@ IsSoundWork Flush readable writable capacity read_only verdict first units done 
 IsSoundWork GetId readable writable capacity read_only verdict first units done = (is_good verdict ≡ true) × (done ≤ units) × (units ≡ 1) × (first ≡ 0) × (ID_SIZE + 1 ≤ writable)
 
 -- A request that may be outstanding, in a RAM of so many bytes, on a ring of a layout and of so many slots: its chain is one
--- that such a ring can have (in a split ring it takes one slot, and its id is one), it has no more segments than there are
+-- that such a ring can have (its id fits 16 bits; in a split ring it takes one slot, and its id is one), it has no more
+-- segments than there are
 -- slots, all inside RAM and together of fewer than 2^32 bytes, and room for the header and the verdict.
 pub record IsSoundRequest (len : ℕ) (is_packed : Bool) (size : ℕ) (shape : BlockShape) (r : Request) : Type 0 where
   pub some : 1 ≤ r.slots
   pub slots : r.slots ≤ size
+  pub id_fits : r.id < 2 ^ 16
   pub id : MatchBool is_packed (Unit {0}) ((r.slots ≡ 1) × (r.id < size))
   pub few : length r.readable + length r.writable ≤ size
   pub readable : AreSegmentsInside len r.readable

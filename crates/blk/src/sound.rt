@@ -34,11 +34,13 @@ impl Request {
 
     /// Whether a ring can have its chain.
     fn is_of_ring(&self, is_packed: bool, size: u32) -> bool
-        ensures { IsTrue result ↔ ((1 ≤ self.now.slots) × (self.now.slots ≤ size) × MatchBool is_packed (Unit {0}) ((self.now.slots ≡ 1) × (self.now.id < size))) }
+        ensures { IsTrue result ↔ ((1 ≤ self.now.slots) × (self.now.slots ≤ size) × (self.now.id < 2 ^ 16) × MatchBool is_packed (Unit {0}) ((self.now.slots ≡ 1) × (self.now.id < size))) }
     {
+        // The id is read in any case, since with that it is known to fit its 16 bits.
+        let id = self.id;
         1 <= self.slots
             && self.slots as u32 <= size
-            && (is_packed || (self.slots == 1 && (self.id as u32) < size))
+            && (is_packed || (self.slots == 1 && (id as u32) < size))
     }
 
     /// Whether its segments are not too many, and lie inside RAM.

@@ -112,7 +112,8 @@ fn task_for(ram: &Ram, shape: &BlockShape, chain: &Chain) -> Task
 
 /// The request of a chain, which keeps its segments.
 fn request_for(chain: Chain, task: Task) -> Request
-    ensures { result ≡ request_for chain task }
+    ensures request { result ≡ request_for chain task }
+    ensures fits { result.id < 2 ^ 16 }
 {
     Request {
         id: chain.id,

@@ -1,7 +1,9 @@
 //! One script, and the trace that it stands for.
 
+use crate::question::Question;
 use std::alloc::Global;
 use std::io::{self, ErrorKind, Write};
+use std::str::FromStr;
 
 /// A trace, and the lines that its replies must have.
 ///
@@ -19,13 +21,22 @@ use std::io::{self, ErrorKind, Write};
 ///   2^32, and QueueReady;
 /// - `GO DEV`: DRIVER_OK;
 /// - `KICK DEV QUEUE`: the driver notifies the device of a queue.
+///
+/// The disk of a block device is in memory, and of zeros. Four lines are about disks:
+///
+/// - `FILL DEV`: from the beginning on sector n of the disk is filled with the byte n modulo 256;
+/// - `PLAN DEV CALL CALL ..`: these calls of the disk fail, the first of all being 1;
+/// - `SECTOR DEV N BYTES`: the sector holds these bytes now. That it is read is a call of the disk as well;
+/// - `BAD DEV N`: the sector is bad now.
 #[derive(Drop)]
 pub struct Script {
     alloc: Global,
     trace: Vec<u8>,
     replies: Vec<u8>,
     events: usize,
-    asked: Vec<usize>,
+    asked: Vec<(usize, Question)>,
+    filled: Vec<usize>,
+    plans: Vec<(usize, u64)>,
 }
 
 impl Script {
@@ -37,6 +48,8 @@ impl Script {
             replies: Vec::new(alloc),
             events: 0,
             asked: Vec::new(alloc),
+            filled: Vec::new(alloc),
+            plans: Vec::new(alloc),
         }
     }
 
@@ -50,9 +63,19 @@ impl Script {
         self.replies.as_slice()
     }
 
-    /// Whether the interrupt lines are asked for once so many events are done.
-    pub fn asks_after(&self, events: usize) -> bool {
-        self.asked.contains(&events)
+    /// What is asked, and once how many events are done.
+    pub fn questions(&self) -> &[(usize, Question)] {
+        self.asked.as_slice()
+    }
+
+    /// Whether the disk of a device begins filled.
+    pub fn fills(&self, dev: usize) -> bool {
+        self.filled.contains(&dev)
+    }
+
+    /// The calls of disks that fail, each behind the number of its device.
+    pub fn plans(&self) -> &[(usize, u64)] {
+        self.plans.as_slice()
     }
 
     /// Adds the lines of a text. `InvalidData` where a count is no number; else its only error is want of memory.
@@ -66,9 +89,13 @@ impl Script {
     fn add_line(&mut self, line: &str) -> io::Result<()> {
         let (first, words) = cut(line);
         match first {
-            "ram" | "entropy" => writeln!(self.trace, "{line}"),
+            "ram" | "net" | "block" | "console" | "entropy" => write_line(&mut self.trace, line),
             "EACH" => self.add_turns(words),
-            "LINES" => self.add_question(words),
+            "LINES" => self.add_lines(words),
+            "FILL" => self.add_filled(words),
+            "PLAN" => self.add_plan(words),
+            "SECTOR" => self.add_sector(words),
+            "BAD" => self.add_bad(words),
             "UP" => self.add_start(words),
             "QUEUE" => self.add_queue(words),
             "GO" => self.add_write(words, "0x070", "15"),
@@ -84,14 +111,51 @@ impl Script {
         write_line(&mut self.replies, reply)
     }
 
-    fn add_question(&mut self, bits: &str) -> io::Result<()> {
-        self.asked.push(self.events)?;
+    fn add_lines(&mut self, bits: &str) -> io::Result<()> {
+        self.asked.push((self.events, Question::Lines))?;
         writeln!(self.replies, "lines {bits}")
+    }
+
+    fn add_filled(&mut self, dev: &str) -> io::Result<()> {
+        self.filled.push(number(dev)?)?;
+        Ok(())
+    }
+
+    fn add_plan(&mut self, words: &str) -> io::Result<()> {
+        let (dev, calls) = cut(words);
+        let dev = number(dev)?;
+        for call in calls.split(' ') {
+            self.plans.push((dev, number(call)?))?;
+        }
+        Ok(())
+    }
+
+    fn add_sector(&mut self, words: &str) -> io::Result<()> {
+        let (dev, rest) = cut(words);
+        let (n, bytes) = cut(rest);
+        self.ask_sector(dev, n)?;
+        write_line(&mut self.replies, bytes)
+    }
+
+    fn add_bad(&mut self, words: &str) -> io::Result<()> {
+        let (dev, n) = cut(words);
+        self.ask_sector(dev, n)?;
+        writeln!(self.replies, "bad")
+    }
+
+    /// Asks what a sector holds. The line of the answer goes on with it.
+    fn ask_sector(&mut self, dev: &str, n: &str) -> io::Result<()> {
+        let question = Question::Sector {
+            dev: number(dev)?,
+            n: number(n)?,
+        };
+        self.asked.push((self.events, question))?;
+        write!(self.replies, "sector {dev} {n} ")
     }
 
     fn add_turns(&mut self, words: &str) -> io::Result<()> {
         let (count, events) = cut(words);
-        for turn in 1..=number(count)? {
+        for turn in 1..=number::<u16>(count)? {
             self.add_turn(turn, events)?;
         }
         Ok(())
@@ -174,15 +238,18 @@ fn write_piece(out: &mut Vec<u8>, piece: &str) -> io::Result<()> {
     let Some((text, count)) = piece.split_once('*') else {
         return out.write_all(piece.as_bytes());
     };
-    for _ in 0..number(count)? {
+    for _ in 0..number::<u16>(count)? {
         out.write_all(text.as_bytes())?;
     }
     Ok(())
 }
 
 /// The number of these digits. `InvalidData` where there is none.
-fn number(digits: &str) -> io::Result<u16> {
-    match digits.parse::<u16>() {
+fn number<N: FromStr>(digits: &str) -> io::Result<N>
+where
+    N::Err: Drop,
+{
+    match digits.parse::<N>() {
         Ok(number) => Ok(number),
         Err(_) => Err(io::Error::from(ErrorKind::InvalidData)),
     }

@@ -6,11 +6,12 @@ use books::spelled;
 use std::fs;
 use vmig::execute;
 
-/// Goes through the lines of a scenario. `FILE NAME TEXT` writes a file, `STREAM NAME WORDS` one of the bytes that these
-/// words spell, and `FOLDER NAME` makes a folder. `CALL WORDS -> STATUS; OUT; ERR` calls the program on these words; it
-/// must end so, and write these texts to standard output and standard error. `PLAY NAME` runs the trace NAME.trace, whose
-/// replies must be NAME.replies. `TRACE TEXT -> NUMBER` reads a text as a trace, whose first bad line has this number, or
-/// which is one for 0. How a text is written, `text` says.
+/// Goes through the lines of a scenario. `FILE NAME TEXT` writes a file, `STREAM NAME WORDS` and `IMAGE NAME WORDS` one of
+/// the bytes that these words spell, `FOLDER NAME` makes a folder, and `LOCK NAME` a file that may only be read. `CALL WORDS
+/// -> STATUS; OUT; ERR` calls the program on these words; it must end so, and write these texts to standard output and
+/// standard error. `PLAY NAME` runs the trace NAME.trace, whose replies must be NAME.replies, and `PLAY NAME IMAGE` does so
+/// over an image. `HOLDS NAME WORDS` finds the bytes that these words spell in a file, and no others. `TRACE TEXT -> NUMBER`
+/// reads a text as a trace, whose first bad line has this number, or which is one for 0. How a text is written, `text` says.
 pub fn make_calls(rt: &HostRuntime, lines: &str) -> Result<()> {
     for line in lines.lines() {
         make_call(rt, line).context(line)?;
@@ -22,8 +23,10 @@ fn make_call(rt: &HostRuntime, line: &str) -> Result<()> {
     let (first, words) = line.split_once(' ').context("one word")?;
     match first {
         "FILE" => write_text(rt, words),
-        "STREAM" => write_stream(rt, words),
+        "STREAM" | "IMAGE" => write_bytes(rt, words),
         "FOLDER" => make_folder(rt, words),
+        "LOCK" => lock(rt, words),
+        "HOLDS" => holds(rt, words),
         "CALL" => call(rt, words),
         "PLAY" => play(rt, words),
         "TRACE" => read_trace(rt.alloc(), words),
@@ -38,15 +41,32 @@ fn write_text(rt: &HostRuntime, words: &str) -> Result<()> {
     Ok(())
 }
 
-fn write_stream(rt: &HostRuntime, words: &str) -> Result<()> {
+fn write_bytes(rt: &HostRuntime, words: &str) -> Result<()> {
     let (name, text) = words.split_once(' ').unwrap_or((words, ""));
-    let stream = spelled(rt.alloc(), text)?;
-    fs::write(rt, name, stream.as_slice())?;
+    let bytes = spelled(rt.alloc(), text)?;
+    fs::write(rt, name, bytes.as_slice())?;
     Ok(())
 }
 
 fn make_folder(rt: &HostRuntime, name: &str) -> Result<()> {
     fs::create_dir(rt, name)?;
+    Ok(())
+}
+
+fn lock(rt: &HostRuntime, name: &str) -> Result<()> {
+    let mut permissions = fs::metadata(rt, name)?.permissions();
+    permissions.set_readonly(true);
+    fs::set_permissions(rt, name, permissions)?;
+    Ok(())
+}
+
+fn holds(rt: &HostRuntime, words: &str) -> Result<()> {
+    let (name, text) = words.split_once(' ').unwrap_or((words, ""));
+    let bytes = spelled(rt.alloc(), text)?;
+    ensure!(
+        fs::read(rt, name)?.as_slice() == bytes.as_slice(),
+        "other bytes"
+    );
     Ok(())
 }
 
@@ -60,10 +80,15 @@ fn call(rt: &HostRuntime, line: &str) -> Result<()> {
     ends(rt, words, status, (out.as_str(), err.as_str()))
 }
 
-fn play(rt: &HostRuntime, name: &str) -> Result<()> {
+fn play(rt: &HostRuntime, line: &str) -> Result<()> {
+    let (name, image) = line.split_once(' ').unwrap_or((line, ""));
     let replies = format!(in rt.alloc(); "{name}.replies")?;
     let out = fs::read_to_string(rt, replies.as_str())?;
-    let words = format!(in rt.alloc(); "run {name}.trace")?;
+    let words = if image.is_empty() {
+        format!(in rt.alloc(); "run {name}.trace")?
+    } else {
+        format!(in rt.alloc(); "run {name}.trace --disk {image}")?
+    };
     ends(rt, words.as_str(), 0, (out.as_str(), ""))
 }
 

@@ -1,32 +1,47 @@
 -- One device of a machine changes, or its RAM does.
-use Rattle.std.proofs.Common.{◌≡◌, ℕ, zero, suc, ◌<◌, ◌≤◌, List, [], ◌∷◌, length, map, set, get_or, Some, None, refl, ap, sym, ◌∙◌, arith, append-nil}
-use Rattle.std.specs.Prelude.{slice_get}
+use Rattle.std.proofs.Common.{◌≡◌, ℕ, zero, suc, ◌<◌, ◌≤◌, Bool, true, false, cond, List, [], ◌∷◌, length, map, set, get_or, Some, None, refl, ap, sym, ◌∙◌, arith, append-nil}
+use Rattle.std.specs.Prelude.{slice_get, IsTrue, Result, Ok, Err}
+use Rattle.std.proofs.lemmas.List.{length-set}
+use Rattle.std.proofs.lemmas.List.Elements.{All-set}
+use Rattle.console.specs.Size.{resized}
+use Rattle.console.specs.declared.size.ConsoleSize.{ConsoleSize}
+use Rattle.net.specs.Inbox.{frames_with, is_frame_len, kept_of}
+use Rattle.blk.specs.Move as blk
+use Rattle.blk.specs.Sectors.{Sector, AreWhole}
+use Rattle.guestmem.specs.Number.{IsBytes}
 use Rattle.std.proofs.lemmas.List.{map-set, length-map}
-use Rattle.std.proofs.lemmas.Option.{slice_get_past}
-use Rattle.guestmem.specs.Item.{Item, after_all}
+use Rattle.std.proofs.lemmas.Option.{slice_get-get_or, slice_get_past}
+use Rattle.guestmem.specs.Item.{Item, after_all, sector}
 use Rattle.guestmem.specs.Later.{IsLater}
 use Rattle.guestmem.specs.Memory.{Memory}
 use Rattle.guestmem.specs.Write.{refusal_of}
 use Rattle.guestmem.specs.Writes.{Write, byte_writes, set_all, touched}
 use Rattle.chains.specs.declared.next.Next.TheVariants.{Empty}
-use Rattle.machine.specs.Applied.{IsApplied, IsAppliedLogged}
-use Rattle.machine.specs.DeviceStep.{device_step}
+use Rattle.machine.specs.Applied.{FailsOnlyUnsteady, IsApplied, IsAppliedLogged, marks_after}
+use Rattle.machine.specs.DeviceStep.{device_step, looked_at}
 use Rattle.machine.specs.DeviceWork.{IsDeviceStep}
-use Rattle.machine.specs.Effect.{Effect, applied, no_effect}
+use Rattle.machine.specs.Direct.{accepted_reply, done_reply}
+use Rattle.machine.specs.Effect as effects
+use Rattle.machine.specs.Effect.{Effect, applied, no_effect, sets_on}
+use Rattle.machine.specs.EffectLaws.{HasItem, IsSameShape}
 use Rattle.machine.specs.Held.{IsHeld}
-use Rattle.machine.specs.Outcome.{Outcome, fine, outcome_of}
-use Rattle.machine.specs.Seen.{DeviceSeen, Seen, state_of, all_marks}
+use Rattle.machine.specs.Outcome.{Outcome, is_failure, outcome_of}
+use Rattle.machine.specs.Seen.{DeviceSeen, Seen, state_of, all_marks, failed_at, failed_if, marks_at}
 use Rattle.machine.specs.Sound.{IsSound, IsSoundDevice}
 use Rattle.machine.specs.State.{DeviceState, MachineState}
-use Rattle.machine.specs.Step.{IsStep, IsLoggedStep, register_set, with_input, kept_of}
+use Rattle.machine.specs.Step.{IsStep, IsLoggedStep, IsResized, ResizesDevice, input_of, out_reply, own_with_input, refused, size_by, written_out, register_set, with_input}
 use Rattle.machine.specs.StepLaws.{Fits}
 use Rattle.machine.specs.declared.event.Event.{Event}
-use Rattle.machine.specs.declared.event.Event.TheVariants.{RegWrite, MemWrite, Step, Input}
-use Rattle.machine.specs.declared.reply.Refusal.TheVariants.{NoDevice}
+use Rattle.machine.specs.declared.event.Event.TheVariants.{RegWrite, MemWrite, Step, Input, Resize}
+use Rattle.machine.specs.declared.reply.Refusal.{Refusal}
+use Rattle.machine.specs.declared.reply.Refusal.TheVariants.{NoDevice, WrongKind, BadFrame}
+use Rattle.machine.specs.declared.own.Own.{Own}
+use Rattle.machine.specs.declared.own.Own.TheVariants.{Network, Block, Console, Entropy}
 use Rattle.machine.specs.declared.reply.Reply.{Reply}
-use Rattle.machine.specs.declared.reply.Reply.TheVariants.{Done, Accepted, Refused}
+use Rattle.machine.specs.declared.reply.Reply.TheVariants.{Done, Refused}
 use Rattle.machine.specs.declared.shape.Shape.{Shape}
-use Rattle.machine.proofs.Within.{sound_at, step_shape, step_sound}
+use Rattle.machine.proofs.Staying.{HasSectors, sound_stepped}
+use Rattle.machine.proofs.Within.{has_sectors, shape_at, sound_at, sound_by, step_shape, step_sound}
 
 -- A device at its place, and what it is there.
 pub record IsAt (ds : List DeviceSeen) (dev : ℕ) (d : DeviceSeen) : Type 0 where
@@ -37,6 +52,11 @@ pub found : (ds : List DeviceSeen) (dev : ℕ) (d : DeviceSeen) → IsAt ds dev 
 found [] dev d at = absurd (omega (arith, at.below))
 found (x ∷ ds) zero d at = ap (λ (y : DeviceSeen). Some y.state) (sym at.is)
 found (x ∷ ds) (suc dev) d at = found ds dev d (record { below = omega (arith, at.below); is = at.is })
+
+pub set_found : (ds : List DeviceSeen) (dev : ℕ) (d : DeviceSeen) → IsAt ds dev d → set ds dev d ≡ ds
+set_found [] dev d at = refl
+set_found (x ∷ ds) zero d at = ap (λ y. y ∷ ds) at.is
+set_found (x ∷ ds) (suc dev) d at = ap (λ ys. x ∷ ys) (set_found ds dev d (record { below = omega (arith, at.below); is = at.is }))
 
 -- What stays of a device that changes stays of them all.
 pub map-set_same : {A : Type 0} (f : DeviceSeen → A) (ds : List DeviceSeen) (dev : ℕ) (d new : DeviceSeen) → IsAt ds dev d → f new ≡ f d → map f (set ds dev new) ≡ map f ds
@@ -56,33 +76,130 @@ changed_at m new_m ds dev d new ws at same bytes =
 
 -- Its device took a write to a register.
 pub register_step : (m : Memory) (ds : List DeviceSeen) (dev offset width value : ℕ) (d new : DeviceSeen) → IsAt ds dev d → new ≡ record d { state = register_set d.state offset width value }
-    → IsStep (state_of (record { memory = m; devices = ds })) (RegWrite dev offset width value) fine Done (state_of (record { memory = m; devices = set ds dev new }))
+    → IsStep (state_of (record { memory = m; devices = ds })) (RegWrite dev offset width value) (outcome_of (out_reply (written_out d.state.own offset width value))) (out_reply (written_out d.state.own offset width value)) (state_of (record { memory = m; devices = set ds dev new }))
 register_step m ds dev offset width value d new at is = record {
   effect = changing dev [] new.state;
   has = record { seen = Empty; may_see = tt; reply_is = rw (found ds dev d at) refl; effect_is = rw (found ds dev d at, is) refl; outcome_is = refl };
   changed = changed_at m m ds dev d new [] at (ap (λ (x : DeviceSeen). x.sectors) is) refl;
 }
 
--- Its device kept bytes of the host.
-pub input_step : (m : Memory) (ds : List DeviceSeen) (dev : ℕ) (bytes : List ℕ) (d new : DeviceSeen) → IsAt ds dev d → new ≡ record d { state = with_input d.state bytes }
-    → IsStep (state_of (record { memory = m; devices = ds })) (Input dev bytes) fine (Accepted (kept_of d.state.own bytes)) (state_of (record { memory = m; devices = set ds dev new }))
-input_step m ds dev bytes d new at is = record {
+-- Its device took another size, or none.
+size_refused : (m : Memory) (ds : List DeviceSeen) (dev cols rows : ℕ) (d new : DeviceSeen) (own : Own) (result : Result (Unit {0}) Refusal) → d.state.own ≡ own → IsAt ds dev d → new ≡ record d { state = new.state }
+    → new.state ≡ record d.state { registers = new.state.registers; own = new.state.own } → result ≡ Err WrongKind → new.state.own ≡ own → new.state.registers ≡ d.state.registers → size_by dev d.state own (record { columns = cols; rows = rows }) ≡ refused WrongKind
+    → IsStep (state_of (record { memory = m; devices = ds })) (Resize dev cols rows) (outcome_of (done_reply result)) (done_reply result) (state_of (record { memory = m; devices = set ds dev new }))
+size_refused m ds dev cols rows d new own result own_is at same state_is refused_is own_stays registers_stay none =
+    let state : new.state ≡ d.state = state_is ∙ rw (own_stays ∙ sym own_is, registers_stay) refl in
+    let device : new ≡ d = same ∙ ap (λ s. record d { state = s }) state in
+    let all : set ds dev new ≡ ds = rw device (set_found ds dev d at) in
+    rw refused_is (record {
+      effect = no_effect;
+      has = record { seen = Empty; may_see = tt; reply_is = rw (found ds dev d at, own_is, none) refl; effect_is = rw (found ds dev d at, own_is, none) refl; outcome_is = refl };
+      changed = rw all refl;
+    })
+
+size_answer : (m : Memory) (ds : List DeviceSeen) (dev cols rows : ℕ) (d new : DeviceSeen) (own : Own) (result : Result (Unit {0}) Refusal) → d.state.own ≡ own → IsAt ds dev d → new ≡ record d { state = new.state }
+    → new.state ≡ record d.state { registers = new.state.registers; own = new.state.own } → IsResized own (record { columns = cols; rows = rows }) d.state.registers result new.state.own new.state.registers
+    → IsStep (state_of (record { memory = m; devices = ds })) (Resize dev cols rows) (outcome_of (done_reply result)) (done_reply result) (state_of (record { memory = m; devices = set ds dev new }))
+size_answer m ds dev cols rows d new (Console old held) result own_is at same state_is h =
+    let size : ConsoleSize = record { columns = cols; rows = rows } in
+    let state : new.state ≡ record d.state { registers = resized old size d.state.registers; own = Console size held } = state_is ∙ rw (h.1, h.2) refl in
+    rw h.0 (record {
+      effect = changing dev [] new.state;
+      has = record { seen = Empty; may_see = tt; reply_is = rw (found ds dev d at, own_is) refl; effect_is = rw (found ds dev d at, own_is, state) refl; outcome_is = refl };
+      changed = changed_at m m ds dev d new [] at (ap (λ (x : DeviceSeen). x.sectors) same) refl;
+    })
+size_answer m ds dev cols rows d new (Network frames) result own_is at same state_is h = size_refused m ds dev cols rows d new (Network frames) result own_is at same state_is h.0 h.1 h.2 refl
+size_answer m ds dev cols rows d new (Block requests) result own_is at same state_is h = size_refused m ds dev cols rows d new (Block requests) result own_is at same state_is h.0 h.1 h.2 refl
+size_answer m ds dev cols rows d new (Entropy pool) result own_is at same state_is h = size_refused m ds dev cols rows d new (Entropy pool) result own_is at same state_is h.0 h.1 h.2 refl
+
+pub size_step : (m : Memory) (ds : List DeviceSeen) (dev cols rows : ℕ) (d new : DeviceSeen) (result : Result (Unit {0}) Refusal) → IsAt ds dev d → new ≡ record d { state = new.state }
+    → ResizesDevice d.state (record { columns = cols; rows = rows }) result new.state
+    → IsStep (state_of (record { memory = m; devices = ds })) (Resize dev cols rows) (outcome_of (done_reply result)) (done_reply result) (state_of (record { memory = m; devices = set ds dev new }))
+size_step m ds dev cols rows d new result at same h = size_answer m ds dev cols rows d new d.state.own result refl at same h.0 h.1
+
+-- Its device kept bytes of the host, or took none.
+same_frames : (frames : List (List ℕ)) (bytes : List ℕ) (good : Bool) (refusal : Refusal) → cond good (Ok (kept_of frames bytes)) (Err BadFrame) ≡ Err refusal → cond good (Network (frames_with frames bytes)) (Network frames) ≡ Network frames
+same_frames frames bytes true refusal h = cc
+same_frames frames bytes false refusal h = refl
+
+same_own : (own : Own) (bytes : List ℕ) (refusal : Refusal) → input_of own bytes ≡ Err refusal → own_with_input own bytes ≡ own
+same_own (Network frames) bytes refusal h = same_frames frames bytes (is_frame_len (length bytes)) refusal h
+same_own (Block requests) bytes refusal h = refl
+same_own (Console size held) bytes refusal h = cc
+same_own (Entropy pool) bytes refusal h = cc
+
+pub input_step : (m : Memory) (ds : List DeviceSeen) (dev : ℕ) (bytes : List ℕ) (d new : DeviceSeen) (answer : Result ℕ Refusal) → input_of d.state.own bytes ≡ answer → IsAt ds dev d → new ≡ record d { state = with_input d.state bytes }
+    → IsStep (state_of (record { memory = m; devices = ds })) (Input dev bytes) (outcome_of (accepted_reply answer)) (accepted_reply answer) (state_of (record { memory = m; devices = set ds dev new }))
+input_step m ds dev bytes d new (Ok count) kept at is = record {
   effect = changing dev [] new.state;
-  has = record { seen = Empty; may_see = tt; reply_is = rw (found ds dev d at) refl; effect_is = rw (found ds dev d at, is) refl; outcome_is = refl };
+  has = record { seen = Empty; may_see = tt; reply_is = rw (found ds dev d at, kept) refl; effect_is = rw (found ds dev d at, kept, is) refl; outcome_is = refl };
   changed = changed_at m m ds dev d new [] at (ap (λ (x : DeviceSeen). x.sectors) is) refl;
 }
+input_step m ds dev bytes d new (Err refusal) kept at is =
+    let same : new ≡ d = is ∙ ap (λ own. record d { state = record d.state { own = own } }) (same_own d.state.own bytes refusal kept) in
+    let none : set ds dev new ≡ ds = rw same (set_found ds dev d at) in
+    record {
+      effect = no_effect;
+      has = record { seen = Empty; may_see = tt; reply_is = rw (found ds dev d at, kept) refl; effect_is = rw (found ds dev d at, kept) refl; outcome_is = refl };
+      changed = rw none refl;
+    }
+
+-- Sectors were set on the disk of one device.
+set_there : {A : Type 0} (xs : List A) (n : ℕ) (x y : A) → slice_get xs n ≡ Some x → slice_get (set xs n y) n ≡ Some y
+set_there [] n x y at = cc
+set_there (z ∷ xs) zero x y at = refl
+set_there (z ∷ xs) (suc n) x y at = set_there xs n x y at
+
+set_twice : {A : Type 0} (xs : List A) (n : ℕ) (x y : A) → set (set xs n x) n y ≡ set xs n y
+set_twice [] n x y = refl
+set_twice (z ∷ xs) zero x y = refl
+set_twice (z ∷ xs) (suc n) x y = ap (λ zs. z ∷ zs) (set_twice xs n x y)
+
+set_itself : {A : Type 0} (xs : List A) (n : ℕ) (x : A) → slice_get xs n ≡ Some x → set xs n x ≡ xs
+set_itself [] n x h = refl
+set_itself (y ∷ ys) zero x h = cc
+set_itself (y ∷ ys) (suc n) x h = ap (λ zs. y ∷ zs) (set_itself ys n x h)
+
+disk_set : (disks : List (List Sector)) (dev : ℕ) (content : List Sector) (sets : List blk.SectorSet) → slice_get disks dev ≡ Some content → effects.sectors_set disks (sets_on dev sets) ≡ set disks dev (blk.sectors_set content sets)
+disk_set disks dev content [] at = sym (set_itself disks dev content at)
+disk_set disks dev content (s ∷ ss) at =
+    let one : effects.SectorSet = record { device = dev; number = s.number; content = s.content } in
+    let new : List Sector = set content s.number s.content in
+    ap (λ disk. effects.sectors_set (effects.set_on disks one disk) (sets_on dev ss)) at
+    ∙ disk_set (set disks dev new) dev new ss (set_there disks dev content new at)
+    ∙ set_twice disks dev new (blk.sectors_set new ss)
+
+touched_on : (dev : ℕ) (sets : List blk.SectorSet) → map (λ (s : effects.SectorSet). sector s.device s.number) (sets_on dev sets) ≡ blk.sectors_touched dev sets
+touched_on dev [] = refl
+touched_on dev (s ∷ ss) = ap (λ (is : List Item). sector dev s.number ∷ is) (touched_on dev ss)
+
+pub found_disk : (ds : List DeviceSeen) (dev : ℕ) (d : DeviceSeen) → IsAt ds dev d → slice_get (map (λ (x : DeviceSeen). x.sectors) ds) dev ≡ Some d.sectors
+found_disk [] dev d at = absurd (omega (arith, at.below))
+found_disk (x ∷ ds) zero d at = ap (λ (y : DeviceSeen). Some y.sectors) (sym at.is)
+found_disk (x ∷ ds) (suc dev) d at = found_disk ds dev d (record { below = omega (arith, at.below); is = at.is })
+
+pub has_sector : (m : Memory) (ds : List DeviceSeen) (dev n : ℕ) (d : DeviceSeen) → IsAt ds dev d → n < length d.sectors → HasItem (state_of (record { memory = m; devices = ds })) (sector dev n)
+has_sector m ds dev n d at below = rw (found_disk ds dev d at) (get_or d.sectors n None, slice_get-get_or d.sectors n None below)
+
+pub found_marks : (ds : List DeviceSeen) (dev : ℕ) (d : DeviceSeen) → IsAt ds dev d → marks_at (map (λ (x : DeviceSeen). x.marks) ds) dev ≡ d.marks
+found_marks [] dev d at = absurd (omega (arith, at.below))
+found_marks (x ∷ ds) zero d at = ap (λ (y : DeviceSeen). y.marks) (sym at.is)
+found_marks (x ∷ ds) (suc dev) d at = found_marks ds dev d (record { below = omega (arith, at.below); is = at.is })
 
 -- Its device did a piece of its work.
 pub work_step : {L : Type 0} (taking : L → Item → L) (m new_m : Memory) (log new_log : L) (ds : List DeviceSeen) (dev pick : ℕ) (d new : DeviceSeen) (reply : Reply) → IsAt ds dev d
-    → IsDeviceStep taking m.bytes log d.state pick reply new_m.bytes new_log new.state → new.sectors ≡ d.sectors
+    → IsDeviceStep taking dev d.marks.honest m.bytes d.sectors log d.state pick reply new_m.bytes new.sectors new_log new.state → IsTrue d.marks.honest
     → IsLoggedStep taking (state_of (record { memory = m; devices = ds })) log (Step dev pick) reply (state_of (record { memory = new_m; devices = set ds dev new })) new_log
-work_step taking m new_m log new_log ds dev pick d new reply at h same =
-    let ws = (device_step d.state m.bytes pick (outcome_of reply) h.seen).writes in
+work_step taking m new_m log new_log ds dev pick d new reply at h honest =
+    let s = device_step d.state m.bytes d.sectors pick (outcome_of reply) h.seen in
+    let disk = found_disk ds dev d at in
+    let sectors : map (λ (x : DeviceSeen). x.sectors) (set ds dev new) ≡ effects.sectors_set (map (λ (x : DeviceSeen). x.sectors) ds) (sets_on dev s.sets) =
+    map-set (λ (x : DeviceSeen). x.sectors) ds dev new ∙ ap (λ content. set (map (λ (x : DeviceSeen). x.sectors) ds) dev content) (h.content_is honest) ∙ sym (disk_set (map (λ (x : DeviceSeen). x.sectors) ds) dev d.sectors s.sets disk) in
     record {
-      effect = changing dev ws new.state;
-      has = record { seen = h.seen; may_see = rw (found ds dev d at) h.may_look; reply_is = rw (found ds dev d at) h.reply_is; effect_is = rw (found ds dev d at, h.device_is) refl; outcome_is = refl };
-      changed = changed_at m new_m ds dev d new ws at same h.ram_is;
-      logged = h.log_is ∙ ap (after_all taking log) (sym (append-nil (touched ws)));
+      effect = record { writes = s.writes; sectors = sets_on dev s.sets; replaced = Some (record { number = dev; device = new.state }) };
+      has = record { seen = h.seen; may_see = rw (found ds dev d at) h.may_look; reply_is = rw (found ds dev d at, disk) h.reply_is; effect_is = rw (found ds dev d at, disk, h.device_is) refl; outcome_is = refl };
+      changed = rw (map-set (λ (x : DeviceSeen). x.state) ds dev new, sectors, h.ram_is honest) refl;
+      logged = rw (touched_on dev s.sets) h.log_is;
     }
 
 -- The guest wrote RAM.
@@ -131,14 +248,70 @@ pub plain_step : {L : Type 0} (taking : L → Item → L) (m next : MachineState
 plain_step taking m next log new_log e reply h = record { effect = h.effect; has = h.has; changed = h.changed }
 
 -- Such a step of a machine that is held is one that was applied.
-pub applied_step : (shapes : List Shape) (old new : Seen) (e : Event) (reply : Reply) → IsHeld shapes old → Fits e → IsStep (state_of old) e (outcome_of reply) reply (state_of new) → IsLater old.memory new.memory → all_marks new ≡ all_marks old → IsApplied old e reply new
-applied_step shapes old new e reply held fits h later marks = record { step = h; sound = (held_step shapes old new e (outcome_of reply) reply held fits h).sound; later = later; marks = marks }
+pub applied_step : (shapes : List Shape) (old new : Seen) (e : Event) (reply : Reply) → IsHeld shapes old → Fits e → IsStep (state_of old) e (outcome_of reply) reply (state_of new) → IsLater old.memory new.memory → all_marks new ≡ marks_after (all_marks old) e reply → FailsOnlyUnsteady (all_marks old) e reply → IsApplied old e reply new
+applied_step shapes old new e reply held fits h later marks unsteady = record { step = λ _. h; sound = (held_step shapes old new e (outcome_of reply) reply held fits h).sound; later = later; marks = marks; unsteady = unsteady }
 
-pub applied_logged : {L : Type 0} (taking : L → Item → L) (shapes : List Shape) (old new : Seen) (log new_log : L) (e : Event) (reply : Reply) → IsHeld shapes old → Fits e → IsLoggedStep taking (state_of old) log e reply (state_of new) new_log → IsLater old.memory new.memory → all_marks new ≡ all_marks old
+pub applied_logged : {L : Type 0} (taking : L → Item → L) (shapes : List Shape) (old new : Seen) (log new_log : L) (e : Event) (reply : Reply) → IsHeld shapes old → Fits e → IsLoggedStep taking (state_of old) log e reply (state_of new) new_log → IsLater old.memory new.memory → all_marks new ≡ marks_after (all_marks old) e reply → FailsOnlyUnsteady (all_marks old) e reply
     → IsAppliedLogged taking old log e reply new new_log
-applied_logged taking shapes old new log new_log e reply held fits h later marks = record {
-  step = h;
+applied_logged taking shapes old new log new_log e reply held fits h later marks unsteady = record {
+  step = λ _. h;
   sound = (held_step shapes old new e (outcome_of reply) reply held fits (plain_step taking (state_of old) (state_of new) log new_log e reply h)).sound;
   later = later;
   marks = marks;
+  unsteady = unsteady;
+}
+
+lengths_of : (ds : List DeviceSeen) → map length (map (λ (x : DeviceSeen). x.sectors) ds) ≡ map (λ (x : DeviceSeen). length x.sectors) ds
+lengths_of [] = refl
+lengths_of (x ∷ ds) = ap (λ ns. length x.sectors ∷ ns) (lengths_of ds)
+
+lengths_same : (ds es : List DeviceSeen) → map (λ (x : DeviceSeen). length x.sectors) es ≡ map (λ (x : DeviceSeen). length x.sectors) ds → map length (map (λ (x : DeviceSeen). x.sectors) es) ≡ map length (map (λ (x : DeviceSeen). x.sectors) ds)
+lengths_same ds es h = lengths_of es ∙ h ∙ sym (lengths_of ds)
+
+-- Whatever its disk does, a machine is held after a device did a piece of its work.
+pub has_disk : (m : Memory) (ds : List DeviceSeen) (dev : ℕ) (d : DeviceSeen) → IsAt ds dev d → IsSound (state_of (record { memory = m; devices = ds })) → HasSectors d.state d.sectors
+has_disk m ds dev d at sound = rw (found_disk ds dev d at) at (has_sectors (state_of (record { memory = m; devices = ds })) dev d.state (found ds dev d at) sound)
+
+worked_shape : {L : Type 0} (taking : L → Item → L) (m new_m : Memory) (log new_log : L) (dev pick : ℕ) (d new : DeviceSeen) (reply : Reply)
+    → IsDeviceStep taking dev d.marks.honest m.bytes d.sectors log d.state pick reply new_m.bytes new.sectors new_log new.state → new.state.shape ≡ d.state.shape
+unfolding device_step
+worked_shape taking m new_m log new_log dev pick d new reply h = ap (λ (x : DeviceState). x.shape) h.device_is ∙ shape_at d.state m.bytes d.sectors pick (looked_at d.state pick) (outcome_of reply) h.seen
+
+pub held_worked : {L : Type 0} (taking : L → Item → L) (shapes : List Shape) (m new_m : Memory) (log new_log : L) (ds : List DeviceSeen) (dev pick : ℕ) (d new : DeviceSeen) (reply : Reply) → IsHeld shapes (record { memory = m; devices = ds }) → IsAt ds dev d
+    → IsDeviceStep taking dev d.marks.honest m.bytes d.sectors log d.state pick reply new_m.bytes new.sectors new_log new.state
+    → length new_m.bytes ≡ length m.bytes → IsBytes new_m.bytes → AreWhole new.sectors → length new.sectors ≡ length d.sectors → IsHeld shapes (record { memory = new_m; devices = set ds dev new })
+held_worked taking shapes m new_m log new_log ds dev pick d new reply held at h size bytes whole count =
+    let old : MachineState = state_of (record { memory = m; devices = ds }) in
+    let shape = worked_shape taking m new_m log new_log dev pick d new reply h in
+    let sound_new : IsSoundDevice (length m.bytes) new.state = rw h.device_is (sound_stepped d.state m.bytes d.sectors pick (outcome_of reply) h.seen h.may_look held.sound.bytes (sound_device m ds dev d at held.sound) (has_disk m ds dev d at held.sound)) in
+    let states : map (λ (x : DeviceSeen). x.state) (set ds dev new) ≡ set (map (λ (x : DeviceSeen). x.state) ds) dev new.state = map-set (λ (x : DeviceSeen). x.state) ds dev new in
+    let disks : map (λ (x : DeviceSeen). x.sectors) (set ds dev new) ≡ set (map (λ (x : DeviceSeen). x.sectors) ds) dev new.sectors = map-set (λ (x : DeviceSeen). x.sectors) ds dev new in
+    let seen_shapes : map (λ (x : DeviceSeen). x.state.shape) (set ds dev new) ≡ map (λ (x : DeviceSeen). x.state.shape) ds = map-set_same (λ (x : DeviceSeen). x.state.shape) ds dev d new at shape in
+    let same : IsSameShape old (state_of (record { memory = new_m; devices = set ds dev new })) = record {
+      ram = size;
+      devices = sym (shapes_seen (set ds dev new)) ∙ seen_shapes ∙ shapes_seen ds;
+      disks = lengths_same ds (set ds dev new) (map-set_same (λ (x : DeviceSeen). length x.sectors) ds dev d new at count);
+    } in
+    record {
+      sound = sound_by old (state_of (record { memory = new_m; devices = set ds dev new })) same (rw (states, length-set) refl) (rw states (All-set (IsSoundDevice (length m.bytes)) (map (λ (x : DeviceSeen). x.state) ds) dev new.state sound_new held.sound.devices)) bytes
+          (rw disks (All-set AreWhole (map (λ (x : DeviceSeen). x.sectors) ds) dev new.sectors whole held.sound.sectors)) held.sound;
+      shapes_are = held.shapes_are ∙ sym seen_shapes;
+    }
+
+-- The marks of the disks after it.
+failed_marks : (ds : List DeviceSeen) (dev : ℕ) (d new : DeviceSeen) (failed : Bool) → IsAt ds dev d → new.marks ≡ failed_if failed d.marks
+    → map (λ (x : DeviceSeen). x.marks) (set ds dev new) ≡ cond failed (failed_at (map (λ (x : DeviceSeen). x.marks) ds) dev) (map (λ (x : DeviceSeen). x.marks) ds)
+failed_marks ds dev d new true at is = map-set (λ (x : DeviceSeen). x.marks) ds dev new ∙ rw (is, found_marks ds dev d at) refl
+failed_marks ds dev d new false at is = map-set_same (λ (x : DeviceSeen). x.marks) ds dev d new at is
+
+pub worked : {L : Type 0} (taking : L → Item → L) (shapes : List Shape) (m new_m : Memory) (log new_log : L) (ds : List DeviceSeen) (dev pick : ℕ) (d new : DeviceSeen) (reply : Reply) → IsHeld shapes (record { memory = m; devices = ds }) → IsAt ds dev d
+    → IsDeviceStep taking dev d.marks.honest m.bytes d.sectors log d.state pick reply new_m.bytes new.sectors new_log new.state
+    → length new_m.bytes ≡ length m.bytes → IsBytes new_m.bytes → AreWhole new.sectors → length new.sectors ≡ length d.sectors → IsLater m new_m → new.marks ≡ failed_if (is_failure reply) d.marks → (is_failure reply ≡ true → d.marks.steady ≡ false)
+    → IsAppliedLogged taking (record { memory = m; devices = ds }) log (Step dev pick) reply (record { memory = new_m; devices = set ds dev new }) new_log
+worked taking shapes m new_m log new_log ds dev pick d new reply held at h size bytes whole count later marks unsteady = record {
+  step = λ honest. work_step taking m new_m log new_log ds dev pick d new reply at h (rw (found_marks ds dev d at) at honest);
+  sound = (held_worked taking shapes m new_m log new_log ds dev pick d new reply held at h size bytes whole count).sound;
+  later = later;
+  marks = failed_marks ds dev d new (is_failure reply) at marks;
+  unsteady = λ failed. rw (found_marks ds dev d at) (unsteady failed);
 }

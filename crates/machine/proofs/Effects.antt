@@ -8,7 +8,8 @@ use Rattle.guestmem.specs.Laws.{Among}
 use Rattle.guestmem.specs.Page.{page_of}
 use Rattle.guestmem.specs.Writes.{Write, set_all, touched}
 use Rattle.guestmem.specs.WriteLaws.{length-set_all}
-use Rattle.machine.specs.State.{MachineState, DeviceState, Sector}
+use Rattle.blk.specs.Sectors.{Sector}
+use Rattle.machine.specs.State.{MachineState, DeviceState}
 use Rattle.machine.specs.Effect.{SectorSet, Replacement, set_on, sectors_set, replaced_in}
 use Rattle.machine.specs.EffectLaws.{UntouchedStays, TouchedExists, ShapeStays, HasItem, MayReplace, sector_on}
 

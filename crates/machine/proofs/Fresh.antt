@@ -1,50 +1,100 @@
--- Machines as they begin, and as they were saved.
-use Rattle.std.proofs.Common.{◌≡◌, ℕ, ◌+◌, ◌*◌, ◌^◌, ◌<◌, ◌≤◌, List, [], ◌∷◌, length, map, replicate, get_or, Bool, true, false, cond, Some, None, refl, ap, sym, ◌∙◌, arith, eqb, ltb}
-use Rattle.std.specs.Prelude.{◌||◌, not}
+-- A machine as it begins is sound.
+use Rattle.std.proofs.Common.{◌≡◌, ℕ, zero, suc, ◌+◌, ◌*◌, ◌^◌, ◌<◌, ◌≤◌, List, [], ◌∷◌, length, map, replicate, get_or, Bool, true, false, cond, Some, None, refl, ap, sym, ◌∙◌, arith, eqb, ltb}
+use Rattle.std.specs.Prelude.{◌||◌, ◌&&◌, not}
 use Rattle.std.specs.List.{All}
 use Rattle.std.proofs.lemmas.List.{length-map, length-replicate}
 use Rattle.std.proofs.lemmas.List.Elements.{All-map, All-nil}
-use Rattle.std.proofs.lemmas.Bool.{eqb-false}
+use Rattle.std.proofs.lemmas.Bool.{eqb-false, eqb-true}
 use borrow.Author.Tests.{ltb-false}
+use Rattle.blk.proofs.Zeros.{zero_bytes}
+use Rattle.blk.specs.Disk.{DiskState}
+use Rattle.blk.specs.Sectors.{Sector, SectorsState, AreWhole, IsWhole}
 use Rattle.guestmem.specs.Memory.{Memory}
 use Rattle.mmio.proofs.StayingSound.{first_sound}
-use Rattle.machine.specs.First.{are_same, dealt, dealt_sectors, dealt_marks, seen_without_disk, saved_machine, first_machine, new_refusal}
+use Rattle.machine.specs.First.{HasBytes, are_beyond, are_same, dealt_marks, dealt_sectors, first_machine, good_sectors, marks_in, new_refusal, saved_machine, seen_devices}
 use Rattle.machine.specs.Held.{IsHeld}
-use Rattle.machine.specs.Seen.{DeviceSeen, Marks, state_of, no_marks}
-use Rattle.machine.specs.Shapes.{first_device, disk_sizes, sector_count}
-use Rattle.machine.specs.Sound.{IsSound, IsSoundDevice, IsWhole}
-use Rattle.machine.specs.State.{DeviceState, Sector}
+use Rattle.machine.specs.Seen.{DeviceSeen, disk_marks, state_of}
+use Rattle.machine.specs.Shapes.{disk_sizes, first_device, is_beyond, sector_count}
+use Rattle.machine.specs.Sound.{IsSound, IsSoundDevice}
+use Rattle.machine.specs.State.{DeviceState}
 use Rattle.machine.specs.declared.new_error.NewError.TheVariants.{BadShape, DiskMismatch}
 use Rattle.machine.specs.declared.shape.Shape.{Shape}
-use Rattle.machine.specs.declared.shape.Shape.TheVariants.{Entropy}
+use Rattle.machine.specs.declared.shape.Shape.TheVariants.{Net, Block, Console, Entropy}
+use Rattle.machine.proofs.Dealt.{are_marks, good_content, good_marks, is_held, is_made}
 use Rattle.machine.proofs.Numbering.{shape_counts}
-use Rattle.blk.proofs.Zeros.{zero_bytes}
 
-record HasLimits (pages : ℕ) (shapes : List Shape) : Type 0 where
+-- What holds where no machine is refused.
+record HasLimits (pages : ℕ) (shapes : List Shape) (sizes : List ℕ) : Type 0 where
   some_pages : 1 ≤ pages
   few_pages : pages ≤ 16384
   some_devices : 1 ≤ length shapes
   few_devices : length shapes ≤ 16
+  none_beyond : are_beyond shapes ≡ false
+  same : are_same (disk_sizes shapes) sizes ≡ true
 
-limits_by : (pages : ℕ) (shapes : List Shape) (a b c d e : Bool) → eqb pages 0 ≡ a → ltb 16384 pages ≡ b → eqb (length shapes) 0 ≡ c → ltb 16 (length shapes) ≡ d
-    → cond (a || b || c || d) (Some BadShape) (cond e (Some DiskMismatch) None) ≡ None → HasLimits pages shapes
-limits_by pages shapes true b c d e p q r s is = cc
-limits_by pages shapes false true c d e p q r s is = cc
-limits_by pages shapes false false true d e p q r s is = cc
-limits_by pages shapes false false false true e p q r s is = cc
-limits_by pages shapes false false false false e p q r s is = record {
+limits_by : (pages : ℕ) (shapes : List Shape) (sizes : List ℕ) (a b c d e f : Bool) → eqb pages 0 ≡ a → ltb 16384 pages ≡ b → eqb (length shapes) 0 ≡ c → ltb 16 (length shapes) ≡ d
+    → are_beyond shapes ≡ e → are_same (disk_sizes shapes) sizes ≡ f → cond (a || b || c || d || e) (Some BadShape) (cond (not f) (Some DiskMismatch) None) ≡ None → HasLimits pages shapes sizes
+limits_by pages shapes sizes true b c d e f p q r s t u is = cc
+limits_by pages shapes sizes false true c d e f p q r s t u is = cc
+limits_by pages shapes sizes false false true d e f p q r s t u is = cc
+limits_by pages shapes sizes false false false true e f p q r s t u is = cc
+limits_by pages shapes sizes false false false false true f p q r s t u is = cc
+limits_by pages shapes sizes false false false false false false p q r s t u is = cc
+limits_by pages shapes sizes false false false false false true p q r s t u is = record {
   some_pages = omega (arith, eqb-false pages 0 p);
   few_pages = ltb-false 16384 pages q;
   some_devices = omega (arith, eqb-false (length shapes) 0 r);
   few_devices = ltb-false 16 (length shapes) s;
+  none_beyond = t;
+  same = u;
 }
 
-limits : (pages : ℕ) (shapes : List Shape) (sizes : List ℕ) → new_refusal pages shapes sizes ≡ None → HasLimits pages shapes
-limits pages shapes sizes is = limits_by pages shapes (eqb pages 0) (ltb 16384 pages) (eqb (length shapes) 0) (ltb 16 (length shapes)) (not (are_same (disk_sizes shapes) sizes)) refl refl refl refl is
+limits : (pages : ℕ) (shapes : List Shape) (sizes : List ℕ) → new_refusal pages shapes sizes ≡ None → HasLimits pages shapes sizes
+limits pages shapes sizes is =
+    limits_by pages shapes sizes (eqb pages 0) (ltb 16384 pages) (eqb (length shapes) 0) (ltb 16 (length shapes)) (are_beyond shapes) (are_same (disk_sizes shapes) sizes) refl refl refl refl refl refl is
+
+-- A device that is not beyond its limits.
+sectors_by : (sectors : ℕ) (a b : Bool) → eqb sectors 0 ≡ a → ltb 2097152 sectors ≡ b → (a || b) ≡ false → (1 ≤ sectors) × (sectors ≤ 2097152)
+sectors_by sectors true b p q is = cc
+sectors_by sectors false true p q is = cc
+sectors_by sectors false false p q is = (omega (arith, eqb-false sectors 0 p), ltb-false 2097152 sectors q)
+
+sectors_within : (sectors : ℕ) (read_only : Bool) (id : List ℕ) → is_beyond (Block sectors read_only id) ≡ false → (1 ≤ sectors) × (sectors ≤ 2097152)
+sectors_within sectors read_only id is = sectors_by sectors (eqb sectors 0) (ltb 2097152 sectors) refl refl is
+
+both_false : (a b : Bool) → (a || b) ≡ false → (a ≡ false) × (b ≡ false)
+both_false true b is = cc
+both_false false b is = (refl, is)
+
+each_within : (shapes : List Shape) → are_beyond shapes ≡ false → All (λ shape. is_beyond shape ≡ false) shapes
+each_within [] is k d below = absurd (omega (arith, below))
+each_within (shape ∷ shapes) is zero d below = (both_false (is_beyond shape) (are_beyond shapes) is).0
+each_within (shape ∷ shapes) is (suc k) d below = each_within shapes (both_false (is_beyond shape) (are_beyond shapes) is).1 k d (omega (arith, below))
 
 -- A new device is sound.
-first_device_sound : (bytes : ℕ) (shape : Shape) → bytes < 2 ^ 64 → IsSoundDevice bytes (first_device bytes shape)
-first_device_sound bytes Entropy fits = record {
+first_device_sound : (bytes : ℕ) (shape : Shape) → bytes < 2 ^ 64 → is_beyond shape ≡ false → HasBytes shape → IsSoundDevice bytes (first_device bytes shape)
+first_device_sound bytes (Net mac) fits within id_is = record {
+  shape = record { size = id_is.size; bytes = id_is.bytes };
+  device_id = refl;
+  offered = refl;
+  queues = refl;
+  ram_len = refl;
+  registers = first_sound 1 (2 ^ 28 + 2 ^ 29 + 2 ^ 32 + 2 ^ 34 + 2 ^ 5) 2 bytes (omega arith) (omega arith) (omega arith) fits;
+  positions = (record { taking_fits = omega arith; used_fits = omega arith; where_ready = refl }, (record { taking_fits = omega arith; used_fits = omega arith; where_ready = refl }, tt));
+  own = record { few = omega arith; are = All-nil _ };
+}
+first_device_sound bytes Console fits within id_is = record {
+  shape = tt;
+  device_id = refl;
+  offered = refl;
+  queues = refl;
+  ram_len = refl;
+  registers = first_sound 3 (2 ^ 28 + 2 ^ 29 + 2 ^ 32 + 2 ^ 34 + (2 ^ 0 + 2 ^ 2)) 2 bytes (omega arith) (omega arith) (omega arith) fits;
+  positions = (record { taking_fits = omega arith; used_fits = omega arith; where_ready = refl }, (record { taking_fits = omega arith; used_fits = omega arith; where_ready = refl }, tt));
+  own = record { columns = omega arith; rows = omega arith; text = record { few = omega arith; are = λ i. omega arith } };
+}
+first_device_sound bytes Entropy fits within id_is = record {
+  shape = tt;
   device_id = refl;
   offered = refl;
   queues = refl;
@@ -53,119 +103,139 @@ first_device_sound bytes Entropy fits = record {
   positions = (record { taking_fits = omega arith; used_fits = omega arith; where_ready = refl }, tt);
   own = record { few = omega arith; are = λ i. omega arith };
 }
+first_device_sound bytes (Block sectors true id) fits within id_is =
+    let count = sectors_within sectors true id within in
+    record {
+      shape = record { some = count.0; few = count.1; id_size = id_is.size; id_bytes = id_is.bytes };
+      device_id = refl;
+      offered = refl;
+      queues = refl;
+      ram_len = refl;
+      registers = first_sound 2 (2 ^ 28 + 2 ^ 29 + 2 ^ 32 + 2 ^ 34 + (2 ^ 9 + 2 ^ 5)) 1 bytes (omega arith) (omega arith) (omega arith) fits;
+      positions = (record { taking_fits = omega arith; used_fits = omega arith; where_ready = refl }, tt);
+      own = record { few = omega arith; sound = All-nil _; where_ready = refl };
+    }
+first_device_sound bytes (Block sectors false id) fits within id_is =
+    let count = sectors_within sectors false id within in
+    record {
+      shape = record { some = count.0; few = count.1; id_size = id_is.size; id_bytes = id_is.bytes };
+      device_id = refl;
+      offered = refl;
+      queues = refl;
+      ram_len = refl;
+      registers = first_sound 2 (2 ^ 28 + 2 ^ 29 + 2 ^ 32 + 2 ^ 34 + 2 ^ 9) 1 bytes (omega arith) (omega arith) (omega arith) fits;
+      positions = (record { taking_fits = omega arith; used_fits = omega arith; where_ready = refl }, tt);
+      own = record { few = omega arith; sound = All-nil _; where_ready = refl };
+    }
 
--- No device has a disk.
-abbrev pub no_disk : Shape → List Sector
-no_disk shape = []
+-- Disks of the right sizes, dealt to devices: each device has as many sectors as it is to have.
+sizes_by : (a b : ℕ) (as_ bs : List ℕ) (t : Bool) → eqb a b ≡ t → (t && are_same as_ bs) ≡ true → (a ≡ b) × (are_same as_ bs ≡ true)
+sizes_by a b as_ bs true e is = (eqb-true a b e, is)
+sizes_by a b as_ bs false e is = cc
 
-none_given : {A : Type 0} (none : A) (shapes : List Shape) (disks : List A) → dealt none shapes disks ≡ map (λ _. none) shapes
-none_given none [] disks = refl
-none_given none (Entropy ∷ shapes) disks = ap (λ xs. none ∷ xs) (none_given none shapes disks)
+pub same_sizes : (as_ bs : List ℕ) → are_same as_ bs ≡ true → as_ ≡ bs
+same_sizes [] [] is = refl
+same_sizes [] (b ∷ bs) is = cc
+same_sizes (a ∷ as_) [] is = cc
+same_sizes (a ∷ as_) (b ∷ bs) is =
+    let both = sizes_by a b as_ bs (eqb a b) refl is in
+    rw (both.0, same_sizes as_ bs both.1) refl
 
-none_dealt : (shapes : List Shape) (disks : List (List Sector)) → dealt_sectors shapes disks ≡ map no_disk shapes
-none_dealt shapes disks = none_given [] shapes disks
+dealt_counts : (shapes : List Shape) (disks : List (List Sector)) → disk_sizes shapes ≡ map length disks → map length (dealt_sectors shapes disks) ≡ map sector_count shapes
+dealt_counts [] disks is = refl
+dealt_counts (Net mac ∷ shapes) disks is = ap (λ xs. 0 ∷ xs) (dealt_counts shapes disks is)
+dealt_counts (Console ∷ shapes) disks is = ap (λ xs. 0 ∷ xs) (dealt_counts shapes disks is)
+dealt_counts (Entropy ∷ shapes) disks is = ap (λ xs. 0 ∷ xs) (dealt_counts shapes disks is)
+dealt_counts (Block sectors read_only id ∷ shapes) [] is = cc
+dealt_counts (Block sectors read_only id ∷ shapes) (disk ∷ disks) is =
+    let here : length disk ≡ sectors = cc in
+    let rest : disk_sizes shapes ≡ map length disks = cc in
+    rw (here, dealt_counts shapes disks rest) refl
 
-no_sizes : (shapes : List Shape) → map length (map no_disk shapes) ≡ map sector_count shapes
-no_sizes [] = refl
-no_sizes (Entropy ∷ shapes) = ap (λ xs. 0 ∷ xs) (no_sizes shapes)
+pub dealt_sizes : (states : List DeviceState) (disks : List (List Sector)) → disk_sizes (map (λ (d : DeviceState). d.shape) states) ≡ map length disks
+    → map length (dealt_sectors (map (λ (d : DeviceState). d.shape) states) disks) ≡ map (λ (d : DeviceState). sector_count d.shape) states
+dealt_sizes states disks is = dealt_counts (map (λ (d : DeviceState). d.shape) states) disks is ∙ sym (shape_counts states)
 
-nothing_bad : (shapes : List Shape) → All (All IsWhole) (map no_disk shapes)
-nothing_bad shapes = All-map (All IsWhole) no_disk shapes (λ k d below. All-nil IsWhole)
-
-pub dealt_whole : (shapes : List Shape) (disks : List (List Sector)) → All (All IsWhole) (dealt_sectors shapes disks)
-dealt_whole shapes disks = rw (none_dealt shapes disks) (nothing_bad shapes)
-
-pub dealt_sizes : (states : List DeviceState) (disks : List (List Sector)) → map length (dealt_sectors (map (λ (d : DeviceState). d.shape) states) disks) ≡ map (λ (d : DeviceState). sector_count d.shape) states
-dealt_sizes states disks = ap (map length) (none_dealt (map (λ (d : DeviceState). d.shape) states) disks) ∙ no_sizes (map (λ (d : DeviceState). d.shape) states) ∙ sym (shape_counts states)
+pub dealt_whole : (shapes : List Shape) (disks : List (List Sector)) → All AreWhole disks → All AreWhole (dealt_sectors shapes disks)
+dealt_whole [] disks whole k d below = absurd (omega (arith, below))
+dealt_whole (Net mac ∷ shapes) disks whole zero d below = All-nil IsWhole
+dealt_whole (Console ∷ shapes) disks whole zero d below = All-nil IsWhole
+dealt_whole (Entropy ∷ shapes) disks whole zero d below = All-nil IsWhole
+dealt_whole (Net mac ∷ shapes) disks whole (suc k) d below = dealt_whole shapes disks whole k d (omega (arith, below))
+dealt_whole (Console ∷ shapes) disks whole (suc k) d below = dealt_whole shapes disks whole k d (omega (arith, below))
+dealt_whole (Entropy ∷ shapes) disks whole (suc k) d below = dealt_whole shapes disks whole k d (omega (arith, below))
+dealt_whole (Block sectors read_only id ∷ shapes) [] whole zero d below = All-nil IsWhole
+dealt_whole (Block sectors read_only id ∷ shapes) [] whole (suc k) d below = dealt_whole shapes [] whole k d (omega (arith, below))
+dealt_whole (Block sectors read_only id ∷ shapes) (disk ∷ disks) whole zero d below = whole 0 disk (omega arith)
+dealt_whole (Block sectors read_only id ∷ shapes) (disk ∷ disks) whole (suc k) d below =
+    dealt_whole shapes disks (λ j e lt. whole (suc j) e (omega (arith, lt))) k d (omega (arith, below))
 
 first_counts : (bytes : ℕ) (shapes : List Shape) → map (λ (d : DeviceState). sector_count d.shape) (map (first_device bytes) shapes) ≡ map sector_count shapes
 first_counts bytes [] = refl
 first_counts bytes (shape ∷ shapes) = ap (λ xs. sector_count shape ∷ xs) (first_counts bytes shapes)
 
+pub first_shapes : (bytes : ℕ) (shapes : List Shape) → map (λ (d : DeviceState). d.shape) (map (first_device bytes) shapes) ≡ shapes
+first_shapes bytes [] = refl
+first_shapes bytes (shape ∷ shapes) = ap (λ xs. shape ∷ xs) (first_shapes bytes shapes)
+
 -- A new machine is sound.
-pub first_machine_sound : (pages : ℕ) (shapes : List Shape) (sizes : List ℕ) (disks : List (List Sector)) → new_refusal pages shapes sizes ≡ None → IsSound (first_machine pages shapes disks)
-first_machine_sound pages shapes sizes disks none =
+pub first_machine_sound : (pages : ℕ) (shapes : List Shape) (sizes : List ℕ) (disks : List (List Sector)) → new_refusal pages shapes sizes ≡ None → All HasBytes shapes
+    → map length disks ≡ sizes → All AreWhole disks → IsSound (first_machine pages shapes disks)
+first_machine_sound pages shapes sizes disks none ids sizes_are whole =
     let within = limits pages shapes sizes none in
     let zeros : List ℕ = replicate (4096 * pages) 0 in
     let long : length zeros ≡ 4096 * pages = length-replicate (4096 * pages) 0 in
     let many : length (map (first_device (4096 * pages)) shapes) ≡ length shapes = rw length-map refl in
+    let counts : disk_sizes shapes ≡ map length disks = same_sizes (disk_sizes shapes) sizes within.same ∙ sym sizes_are in
+    let fits : 4096 * pages < 2 ^ 64 = omega (arith, within.few_pages) in
+    let each = each_within shapes within.none_beyond in
     record {
       whole_pages = rw long (omega arith);
       some_pages = rw long (omega (arith, within.some_pages));
       few_pages = rw long (omega (arith, within.few_pages));
       some_devices = rw many within.some_devices;
       few_devices = rw many within.few_devices;
-      devices = rw long (All-map (IsSoundDevice (4096 * pages)) (first_device (4096 * pages)) shapes (λ k d below. first_device_sound (4096 * pages) (get_or shapes k d) (omega (arith, within.few_pages))));
+      devices = rw long (All-map (IsSoundDevice (4096 * pages)) (first_device (4096 * pages)) shapes (λ k d below. first_device_sound (4096 * pages) (get_or shapes k d) fits (each k d below) (ids k d below)));
       bytes = zero_bytes (4096 * pages);
-      disks = ap (map length) (none_dealt shapes disks) ∙ no_sizes shapes ∙ sym (first_counts (4096 * pages) shapes);
-      sectors = dealt_whole shapes disks;
+      disks = dealt_counts shapes disks counts ∙ sym (first_counts (4096 * pages) shapes);
+      sectors = dealt_whole shapes disks whole;
     }
 
--- New devices, as they are seen.
-abbrev pub first_seen : ℕ → Shape → DeviceSeen
-first_seen bytes shape = seen_without_disk (first_device bytes shape)
+-- The same machine, as it is put together.
+pub first_is_saved : (pages : ℕ) (shapes : List Shape) (disks : List (List Sector)) (bytes : List ℕ) (states : List DeviceState) → bytes ≡ replicate (4096 * pages) 0 → states ≡ map (first_device (length bytes)) shapes
+    → saved_machine bytes states disks ≡ first_machine pages shapes disks
+first_is_saved pages shapes disks bytes states zeros are =
+    let long : length bytes ≡ 4096 * pages = ap length zeros ∙ length-replicate (4096 * pages) 0 in
+    rw (are, first_shapes (length bytes) shapes, long, zeros) refl
 
-first_states : (bytes : ℕ) (shapes : List Shape) → map (λ (x : DeviceSeen). x.state) (map (first_seen bytes) shapes) ≡ map (first_device bytes) shapes
-first_states bytes [] = refl
-first_states bytes (s ∷ shapes) = ap (λ xs. first_device bytes s ∷ xs) (first_states bytes shapes)
+-- The sectors of good disks.
+pub good_sizes : {A : Type 0} (state : A → DiskState) (xs : List A) → map length (map (λ x. map Some (state x).sectors) xs) ≡ map (λ x. length (state x).sectors) xs
+good_sizes state [] = refl
+good_sizes state (x ∷ xs) = rw (length-map, good_sizes state xs) refl
 
-first_sectors : (bytes : ℕ) (shapes : List Shape) → map (λ (x : DeviceSeen). x.sectors) (map (first_seen bytes) shapes) ≡ map no_disk shapes
-first_sectors bytes [] = refl
-first_sectors bytes (s ∷ shapes) = ap (λ (xs : List (List Sector)). [] ∷ xs) (first_sectors bytes shapes)
+pub good_whole : {A : Type 0} (state : A → DiskState) (xs : List A) (all : List SectorsState) → all ≡ map (λ x. good_sectors (state x)) xs → All (λ (s : SectorsState). AreWhole s.content) all
+    → All AreWhole (map (λ x. map Some (state x).sectors) xs)
+good_whole state xs all are whole =
+    let one : All AreWhole (map (λ (s : SectorsState). s.content) all) = All-map AreWhole (λ (s : SectorsState). s.content) all whole in
+    rw (are, good_content state xs) at one
 
-first_shapes : (bytes : ℕ) (shapes : List Shape) → map (λ (x : DeviceSeen). x.state.shape) (map (first_seen bytes) shapes) ≡ shapes
-first_shapes bytes [] = refl
-first_shapes bytes (s ∷ shapes) = ap (λ xs. s ∷ xs) (first_shapes bytes shapes)
+-- What a machine that was made is, and that it is held.
+pub record IsFresh {A : Type 0} (state : A → DiskState) (pages : ℕ) (shapes kept : List Shape) (xs : List A) (m : Memory) (ds : List DeviceSeen) : Type 0 where
+  pub made : state_of (record { memory = m; devices = ds }) ≡ first_machine pages shapes (map (λ x. map Some (state x).sectors) xs)
+  pub marks : map (λ (x : DeviceSeen). x.marks) ds ≡ dealt_marks shapes (map (λ x. marks_in (state x)) xs)
+  pub held : IsHeld kept (record { memory = m; devices = ds })
 
--- A machine that was made is the new machine, and is held.
-pub is_first : (pages : ℕ) (shapes : List Shape) (disks : List (List Sector)) (m : Memory) (ds : List DeviceSeen) → m.bytes ≡ replicate (4096 * pages) 0 → ds ≡ map (first_seen (length m.bytes)) shapes
-    → state_of (record { memory = m; devices = ds }) ≡ first_machine pages shapes disks
-is_first pages shapes disks m ds bytes devices =
-    let long : length m.bytes ≡ 4096 * pages = ap length bytes ∙ length-replicate (4096 * pages) 0 in
-    rw (devices, first_states (length m.bytes) shapes, first_sectors (length m.bytes) shapes, none_dealt shapes disks, long, bytes) refl
-
-pub first_held : (pages : ℕ) (shapes held : List Shape) (sizes : List ℕ) (m : Memory) (ds : List DeviceSeen) → new_refusal pages shapes sizes ≡ None → held ≡ shapes → m.bytes ≡ replicate (4096 * pages) 0 → ds ≡ map (first_seen (length m.bytes)) shapes
-    → IsHeld held (record { memory = m; devices = ds })
-first_held pages shapes held sizes m ds none same bytes devices = record {
-  sound = rw (is_first pages shapes [] m ds bytes devices) (first_machine_sound pages shapes sizes [] none);
-  shapes_are = same ∙ sym (ap (map (λ (x : DeviceSeen). x.state.shape)) devices ∙ first_shapes (length m.bytes) shapes);
-}
-
-saved_states : (states : List DeviceState) → map (λ (x : DeviceSeen). x.state) (map seen_without_disk states) ≡ states
-saved_states [] = refl
-saved_states (s ∷ states) = ap (λ xs. s ∷ xs) (saved_states states)
-
-saved_sectors : (states : List DeviceState) → map (λ (x : DeviceSeen). x.sectors) (map seen_without_disk states) ≡ map no_disk (map (λ (d : DeviceState). d.shape) states)
-saved_sectors [] = refl
-saved_sectors (s ∷ states) = ap (λ (xs : List (List Sector)). [] ∷ xs) (saved_sectors states)
-
-saved_shapes : (states : List DeviceState) → map (λ (x : DeviceSeen). x.state.shape) (map seen_without_disk states) ≡ map (λ (d : DeviceState). d.shape) states
-saved_shapes [] = refl
-saved_shapes (s ∷ states) = ap (λ xs. s.shape ∷ xs) (saved_shapes states)
-
--- A machine that was restored is the saved machine, and is held.
-pub is_saved : (ram : Memory) (states : List DeviceState) (disks : List (List Sector)) (ds : List DeviceSeen) → ds ≡ map seen_without_disk states → state_of (record { memory = ram; devices = ds }) ≡ saved_machine ram.bytes states disks
-is_saved ram states disks ds is = rw (is, saved_states states, saved_sectors states, none_dealt (map (λ (d : DeviceState). d.shape) states) disks) refl
-
-pub saved_held : (shapes : List Shape) (ram : Memory) (states : List DeviceState) (disks : List (List Sector)) (ds : List DeviceSeen) → ds ≡ map seen_without_disk states → IsSound (saved_machine ram.bytes states disks)
-    → shapes ≡ map (λ (d : DeviceState). d.shape) states → IsHeld shapes (record { memory = ram; devices = ds })
-saved_held shapes ram states disks ds is sound same = record {
-  sound = rw (is_saved ram states disks ds is) sound;
-  shapes_are = same ∙ sym (ap (map (λ (x : DeviceSeen). x.state.shape)) is ∙ saved_shapes states);
-}
-
--- No device has a disk that is marked.
-first_marks : (bytes : ℕ) (shapes : List Shape) → map (λ (x : DeviceSeen). x.marks) (map (first_seen bytes) shapes) ≡ map (λ (_ : Shape). no_marks) shapes
-first_marks bytes [] = refl
-first_marks bytes (s ∷ shapes) = ap (λ xs. no_marks ∷ xs) (first_marks bytes shapes)
-
-pub are_first_marks : (bytes : ℕ) (shapes : List Shape) (marks : List Marks) (ds : List DeviceSeen) → ds ≡ map (first_seen bytes) shapes → map (λ (x : DeviceSeen). x.marks) ds ≡ dealt_marks shapes marks
-are_first_marks bytes shapes marks ds is = ap (map (λ (x : DeviceSeen). x.marks)) is ∙ first_marks bytes shapes ∙ sym (none_given no_marks shapes marks)
-
-saved_marks : (states : List DeviceState) → map (λ (x : DeviceSeen). x.marks) (map seen_without_disk states) ≡ map (λ (_ : Shape). no_marks) (map (λ (d : DeviceState). d.shape) states)
-saved_marks [] = refl
-saved_marks (s ∷ states) = ap (λ xs. no_marks ∷ xs) (saved_marks states)
-
-pub are_saved_marks : (shapes : List Shape) (states : List DeviceState) (marks : List Marks) (ds : List DeviceSeen) → ds ≡ map seen_without_disk states → shapes ≡ map (λ (d : DeviceState). d.shape) states
-    → map (λ (x : DeviceSeen). x.marks) ds ≡ dealt_marks shapes marks
-are_saved_marks shapes states marks ds is same = ap (map (λ (x : DeviceSeen). x.marks)) is ∙ saved_marks states ∙ ap (map (λ (_ : Shape). no_marks)) (sym same) ∙ sym (none_given no_marks shapes marks)
+pub is_fresh : {A : Type 0} (state : A → DiskState) (pages : ℕ) (shapes held : List Shape) (xs : List A) (m : Memory) (states : List DeviceState) (sectors : List SectorsState) (ds : List DeviceSeen)
+    → new_refusal pages shapes (map (λ x. length (state x).sectors) xs) ≡ None → All HasBytes shapes → m.bytes ≡ replicate (4096 * pages) 0 → states ≡ map (first_device (length m.bytes)) shapes
+    → sectors ≡ map (λ x. good_sectors (state x)) xs → All (λ (s : SectorsState). AreWhole s.content) sectors → ds ≡ seen_devices states sectors → held ≡ shapes → IsFresh state pages shapes held xs m ds
+is_fresh state pages shapes held xs m states sectors ds none ids zeros states_are good whole ds_are same =
+    let disks : List (List Sector) = map (λ x. map Some (state x).sectors) xs in
+    let content : map (λ (s : SectorsState). s.content) sectors ≡ disks = ap (map (λ (s : SectorsState). s.content)) good ∙ good_content state xs in
+    let first : saved_machine m.bytes states disks ≡ first_machine pages shapes disks = first_is_saved pages shapes disks m.bytes states zeros states_are in
+    let sound : IsSound (first_machine pages shapes disks) = first_machine_sound pages shapes (map (λ x. length (state x).sectors) xs) disks none ids (good_sizes state xs) (good_whole state xs sectors good whole) in
+    let shapes_are : map (λ (d : DeviceState). d.shape) states ≡ shapes = ap (map (λ (d : DeviceState). d.shape)) states_are ∙ first_shapes (length m.bytes) shapes in
+    record {
+      made = is_made m states sectors ds ds_are ∙ ap (saved_machine m.bytes states) content ∙ first;
+      marks = are_marks shapes states sectors (map (λ x. marks_in (state x)) xs) ds ds_are (sym shapes_are) (ap (map disk_marks) good ∙ good_marks state xs);
+      held = is_held held m states sectors ds ds_are (rw (content, first) sound) (same ∙ sym shapes_are);
+    }

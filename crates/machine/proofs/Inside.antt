@@ -16,11 +16,24 @@ use Rattle.chains.specs.declared.chain.Chain.{Chain}
 use Rattle.chains.specs.declared.next.Next.{Next}
 use Rattle.chains.specs.declared.next.Next.TheVariants as next
 use Rattle.chains.specs.declared.segs.Seg.{Seg}
+use Rattle.chains.specs.Transmit.{is_message, refuse_message, send, transmit_step}
+use Rattle.chains.specs.declared.transmitting.MessageForm.{MessageForm}
+use Rattle.console.specs.Transmit.{text_form}
+use Rattle.net.specs.Header.{header}
+use Rattle.net.specs.Receive as net
+use Rattle.net.specs.Transmit.{frame_form}
+use Rattle.net.specs.declared.header.TheConstants.{HEADER_SIZE}
 use Rattle.console.specs.Receive.{receive_step, takes_bytes, give, refuse, count_into}
+use Rattle.blk.specs.Take as take
+use Rattle.blk.specs.Take.{take_step, take_chain, is_no_request}
+use Rattle.blk.specs.declared.request.Request.{Request}
+use Rattle.blk.specs.declared.shape.BlockShape.{BlockShape}
+use Rattle.mmio.specs.State.{Registers}
 use Rattle.machine.specs.DeviceStep.{serve}
-use Rattle.machine.specs.Sound.{AreHostBytes, IsSoundOwn}
+use Rattle.machine.specs.Shapes.{block_of}
+use Rattle.machine.specs.Sound.{AreFrames, AreHostBytes, IsSoundOwn}
 use Rattle.machine.specs.declared.own.Own.{Own}
-use Rattle.machine.specs.declared.own.Own.TheVariants.{Entropy}
+use Rattle.machine.specs.declared.own.Own.TheVariants.{Network, Block, Console, Entropy}
 use Rattle.machine.specs.declared.shape.Shape.{Shape}
 use Rattle.machine.specs.declared.shape.Shape.TheVariants as shapes
 use Rattle.machine.proofs.Rings.{IsLookedRing}
@@ -50,11 +63,11 @@ run_inside len at [] inside are = tt
 run_inside len at (b ∷ bytes) inside are = (omega (arith, inside), are 0, run_inside len (at + 1) bytes (omega (arith, inside)) (λ i. are (suc i)))
 
 -- Bytes at places.
-abbrev AreAddresses : ℕ → List ℕ → Type 0
+abbrev pub AreAddresses : ℕ → List ℕ → Type 0
 AreAddresses len [] = Unit {0}
 AreAddresses len (a ∷ at) = (a < len) × AreAddresses len at
 
-addresses_append : (len : ℕ) (xs ys : List ℕ) → AreAddresses len xs → AreAddresses len ys → AreAddresses len (xs ++ ys)
+pub addresses_append : (len : ℕ) (xs ys : List ℕ) → AreAddresses len xs → AreAddresses len ys → AreAddresses len (xs ++ ys)
 addresses_append len [] ys h k = k
 addresses_append len (x ∷ xs) ys h k = (h.0, addresses_append len xs ys h.1 k)
 
@@ -62,13 +75,18 @@ addresses_inside : (len address count : ℕ) → address + count ≤ len → Are
 addresses_inside len address zero inside = tt
 addresses_inside len address (suc count) inside = (omega (arith, inside), addresses_inside len (address + 1) count (omega (arith, inside)))
 
-places_inside : (len : ℕ) (segs : List Seg) → AreSegmentsInside len segs → AreAddresses len (places segs)
+pub places_inside : (len : ℕ) (segs : List Seg) → AreSegmentsInside len segs → AreAddresses len (places segs)
 places_inside len [] h = tt
 places_inside len (seg ∷ segs) h =
     addresses_append len (addresses seg.addr seg.len) (places segs) (addresses_inside len seg.addr seg.len (h 0 seg (omega arith)))
     (places_inside len segs (λ k d below. h (suc k) d (omega (arith, below))))
 
-placed_inside : (len : ℕ) (at bytes : List ℕ) → AreAddresses len at → IsBytes bytes → AreInsideRam len (place_writes at bytes)
+pub first_inside : (len n : ℕ) (at : List ℕ) → AreAddresses len at → AreAddresses len (take n at)
+first_inside len zero at h = tt
+first_inside len (suc n) [] h = tt
+first_inside len (suc n) (a ∷ at) h = (h.0, first_inside len n at h.1)
+
+pub placed_inside : (len : ℕ) (at bytes : List ℕ) → AreAddresses len at → IsBytes bytes → AreInsideRam len (place_writes at bytes)
 placed_inside len [] bytes h are = tt
 placed_inside len (a ∷ at) [] h are = tt
 placed_inside len (a ∷ at) (b ∷ bytes) h are = (h.0, are 0, placed_inside len at bytes h.1 (λ i. are (suc i)))
@@ -163,6 +181,74 @@ given_inside ram q held next.Empty looked bounded are = note_inside (length ram)
 given_inside ram q held next.Malformed looked bounded are = tt
 given_inside ram q held (next.Chain c) looked bounded are = given_by ram q held c (takes_bytes c) looked bounded.writable are
 
+-- What the step that takes a request writes.
+taken_by : (ram : List ℕ) (q : RingState) (shape : BlockShape) (requests : List Request) (c : Chain) (none : Bool) → AreInsideRam (length ram) (cond none (take.refuse q requests) (take_chain ram q shape requests c)).writes
+taken_by ram q shape requests c true = tt
+taken_by ram q shape requests c false = tt
+
+taken_inside : (ram : List ℕ) (q : RingState) (shape : BlockShape) (requests : List Request) (seen : Next) → IsLookedRing (length ram) q → AreInsideRam (length ram) (take_step ram q shape requests seen).writes
+taken_inside ram q shape requests next.Empty looked = note_inside (length ram) q looked.areas
+taken_inside ram q shape requests next.Malformed looked = tt
+taken_inside ram q shape requests (next.Chain c) looked = taken_by ram q shape requests c (is_no_request c)
+
+-- What the step that gives a frame writes.
+header_bytes : IsBytes header
+unfolding header
+header_bytes zero = omega arith
+header_bytes (suc zero) = omega arith
+header_bytes (suc (suc zero)) = omega arith
+header_bytes (suc (suc (suc zero))) = omega arith
+header_bytes (suc (suc (suc (suc zero)))) = omega arith
+header_bytes (suc (suc (suc (suc (suc zero))))) = omega arith
+header_bytes (suc (suc (suc (suc (suc (suc zero)))))) = omega arith
+header_bytes (suc (suc (suc (suc (suc (suc (suc zero))))))) = omega arith
+header_bytes (suc (suc (suc (suc (suc (suc (suc (suc zero)))))))) = omega arith
+header_bytes (suc (suc (suc (suc (suc (suc (suc (suc (suc zero))))))))) = omega arith
+header_bytes (suc (suc (suc (suc (suc (suc (suc (suc (suc (suc zero)))))))))) = omega arith
+header_bytes (suc (suc (suc (suc (suc (suc (suc (suc (suc (suc (suc zero))))))))))) = omega arith
+header_bytes (suc (suc (suc (suc (suc (suc (suc (suc (suc (suc (suc (suc i)))))))))))) = omega arith
+
+one_framed : (ram : List ℕ) (q : RingState) (frame : List ℕ) (rest : List (List ℕ)) (c : Chain) (short : Bool) → IsLookedRing (length ram) q → AreSegmentsInside (length ram) c.writable → IsBytes frame
+    → AreInsideRam (length ram) (cond short (net.drop_frame q rest) (net.give ram q frame rest c)).writes
+unfolding net.give
+one_framed ram q frame rest c true looked inside are = tt
+one_framed ram q frame rest c false looked inside are = filled_inside (length ram) q c (header ++ frame) looked inside (IsBytes-append header frame header_bytes are)
+
+frames_inside : (ram : List ℕ) (q : RingState) (frames : List (List ℕ)) (c : Chain) (takes : Bool) → IsLookedRing (length ram) q → AreSegmentsInside (length ram) c.writable → AreFrames frames
+    → AreInsideRam (length ram) (cond takes (net.give_first ram q frames c) (net.refuse q frames)).writes
+frames_inside ram q frames c false looked inside are = tt
+frames_inside ram q [] c true looked inside are = tt
+frames_inside ram q (frame ∷ rest) c true looked inside are = one_framed ram q frame rest c (ltb (length (places c.writable)) (HEADER_SIZE + length frame)) looked inside (are.are 0 frame (omega arith)).are
+
+framed_inside : (ram : List ℕ) (q : RingState) (frames : List (List ℕ)) (seen : Next) → IsLookedRing (length ram) q → IsBoundedNext (length ram) q seen → AreFrames frames → AreInsideRam (length ram) (net.receive_step ram q frames seen).writes
+framed_inside ram q frames next.Empty looked bounded are = note_inside (length ram) q looked.areas
+framed_inside ram q frames next.Malformed looked bounded are = tt
+framed_inside ram q frames (next.Chain c) looked bounded are = frames_inside ram q frames c (takes_bytes c) looked bounded.writable are
+
+-- What the step that takes a message writes.
+message_inside : (ram : List ℕ) (q : RingState) (form : MessageForm) (c : Chain) (is : Bool) → IsLookedRing (length ram) q → AreInsideRam (length ram) (cond is (send ram q form.header c) (refuse_message q)).writes
+message_inside ram q form c true looked = published_inside (length ram) (after_take q c.slots) c.id c.slots 0 false (may_publish_taken (length ram) q c.slots looked)
+message_inside ram q form c false looked = tt
+
+sent_inside : (ram : List ℕ) (q : RingState) (form : MessageForm) (seen : Next) → IsLookedRing (length ram) q → AreInsideRam (length ram) (transmit_step ram q form seen).writes
+sent_inside ram q form next.Empty looked = note_inside (length ram) q looked.areas
+sent_inside ram q form next.Malformed looked = tt
+sent_inside ram q form (next.Chain c) looked = message_inside ram q form c (is_message form c) looked
+
 -- What serving a queue writes.
-pub served_inside : (shape : Shape) (own : Own) (number : ℕ) (ram : List ℕ) (q : RingState) (seen : Next) → IsLookedRing (length ram) q → Answers ram q seen → IsSoundOwn shape own → AreInsideRam (length ram) (serve own number ram q seen).writes
-served_inside shapes.Entropy (Entropy pool) number ram q seen looked answers sound = given_inside ram q pool seen looked (next_bounded ram q seen answers) sound
+pub served_inside : (len : ℕ) (r : Registers) (shape : Shape) (own : Own) (number : ℕ) (ram : List ℕ) (q : RingState) (seen : Next) → IsLookedRing (length ram) q → Answers ram q seen → IsSoundOwn len r shape own → AreInsideRam (length ram) (serve shape own number ram q seen).writes
+served_inside len r shape (Block requests) number ram q seen looked answers sound = taken_inside ram q (block_of shape) requests seen looked
+served_inside len r (shapes.Net mac) (Network frames) zero ram q seen looked answers sound = framed_inside ram q frames seen looked (next_bounded ram q seen answers) sound
+served_inside len r (shapes.Net mac) (Network frames) (suc number) ram q seen looked answers sound = sent_inside ram q frame_form seen looked
+served_inside len r shapes.Console (Console size held) zero ram q seen looked answers sound = given_inside ram q held seen looked (next_bounded ram q seen answers) sound.text
+served_inside len r shapes.Console (Console size held) (suc number) ram q seen looked answers sound = sent_inside ram q text_form seen looked
+served_inside len r shapes.Entropy (Entropy pool) number ram q seen looked answers sound = given_inside ram q pool seen looked (next_bounded ram q seen answers) sound
+served_inside len r (shapes.Net mac) (Console size held) number ram q seen looked answers sound = absurd sound
+served_inside len r (shapes.Net mac) (Entropy pool) number ram q seen looked answers sound = absurd sound
+served_inside len r (shapes.Block sectors read_only id) (Network frames) number ram q seen looked answers sound = absurd sound
+served_inside len r (shapes.Block sectors read_only id) (Console size held) number ram q seen looked answers sound = absurd sound
+served_inside len r (shapes.Block sectors read_only id) (Entropy pool) number ram q seen looked answers sound = absurd sound
+served_inside len r shapes.Console (Network frames) number ram q seen looked answers sound = absurd sound
+served_inside len r shapes.Console (Entropy pool) number ram q seen looked answers sound = absurd sound
+served_inside len r shapes.Entropy (Network frames) number ram q seen looked answers sound = absurd sound
+served_inside len r shapes.Entropy (Console size held) number ram q seen looked answers sound = absurd sound

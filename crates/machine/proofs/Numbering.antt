@@ -7,7 +7,8 @@ use Rattle.machine.specs.EffectLaws.{HasItem, IsSameShape, sector_on}
 use Rattle.machine.specs.Layout.{Layout, IsItemIn, layout_by, layout_of, pages_of, firsts_from, size_from, size_of, number_of, sector_from, item_at}
 use Rattle.machine.specs.Shapes.{sector_count}
 use Rattle.machine.specs.Sound.{IsSound}
-use Rattle.machine.specs.State.{DeviceState, MachineState, Sector}
+use Rattle.blk.specs.Sectors.{Sector}
+use Rattle.machine.specs.State.{DeviceState, MachineState}
 
 pub either_way : (b : Bool) → (b ≡ true) ⊎ (b ≡ false)
 either_way true = inl refl

@@ -138,3 +138,24 @@ placed_by s slots false is may at few =
     let taking = one_on s s.taking slots false is few may.few (record { fits = at.taking_fits; placed = both.0 }) in
     let used = one_on s s.used slots false is few may.few (record { fits = at.used_fits; placed = both.1 }) in
     record { taking_fits = taking.fits; used_fits = used.fits; placed = rw is (both_of (rw is at taking.placed) (rw is at used.placed)) }
+
+-- The same where it was only taken, or only published.
+pub placed_taken : (s : RingState) (slots : ℕ) (packed : Bool) → s.is_packed ≡ packed → MayRing s → IsPlacedRing s → slots ≤ s.size → IsPlacedRing (after_take s slots)
+placed_taken s slots true is may at few =
+    let both : ArePlaced true s.size (record { taking = s.taking; used = s.used }) = rw is at at.placed in
+    let taking = one_on s s.taking slots true is few may.few (record { fits = at.taking_fits; placed = both.0 }) in
+    record { taking_fits = taking.fits; used_fits = at.used_fits; placed = rw is (both_of (rw is at taking.placed) both.1) }
+placed_taken s slots false is may at few =
+    let both : ArePlaced false s.size (record { taking = s.taking; used = s.used }) = rw is at at.placed in
+    let taking = one_on s s.taking slots false is few may.few (record { fits = at.taking_fits; placed = both.0 }) in
+    record { taking_fits = taking.fits; used_fits = at.used_fits; placed = rw is (both_of (rw is at taking.placed) both.1) }
+
+pub placed_published : (s : RingState) (slots : ℕ) (packed : Bool) → s.is_packed ≡ packed → MayRing s → IsPlacedRing s → slots ≤ s.size → IsPlacedRing (after_publish s slots)
+placed_published s slots true is may at few =
+    let both : ArePlaced true s.size (record { taking = s.taking; used = s.used }) = rw is at at.placed in
+    let used = one_on s s.used slots true is few may.few (record { fits = at.used_fits; placed = both.1 }) in
+    record { taking_fits = at.taking_fits; used_fits = used.fits; placed = rw is (both_of both.0 (rw is at used.placed)) }
+placed_published s slots false is may at few =
+    let both : ArePlaced false s.size (record { taking = s.taking; used = s.used }) = rw is at at.placed in
+    let used = one_on s s.used slots false is few may.few (record { fits = at.used_fits; placed = both.1 }) in
+    record { taking_fits = at.taking_fits; used_fits = used.fits; placed = rw is (both_of both.0 (rw is at used.placed)) }

@@ -1,10 +1,21 @@
 -- A sound device stays sound.
-use Rattle.std.proofs.Common.{◌≡◌, ℕ, ◌+◌, ◌^◌, ◌<◌, ◌≤◌, ◌⊎◌, inl, inr, Bool, true, false, cond, eqb, List, [], ◌∷◌, ◌++◌, length, take, set, Option, Some, None, refl, sym, ap, ◌∙◌, subst, arith, length-append}
-use Rattle.std.specs.Prelude.{◌-◌, min, bit_and, bit_or}
+use Rattle.std.proofs.Common.{◌≡◌, ℕ, zero, suc, ◌+◌, ◌%◌, ◌^◌, ◌<◌, ◌≤◌, ◌⊎◌, inl, inr, Bool, true, false, cond, eqb, ltb, List, [], ◌∷◌, ◌++◌, length, take, set, get_or, Option, Some, None, refl, sym, ap, ◌∙◌, subst, arith, length-append}
+use Rattle.std.proofs.lemmas.List.Elements.{All-append}
+use borrow.Author.Tests.{ltb-true, ltb-false}
+use Rattle.chains.specs.declared.transmitting.MessageForm.{MessageForm}
+use Rattle.net.specs.Inbox.{IsFrame, is_frame_len}
+use Rattle.std.specs.Prelude.{◌-◌, ◌&&◌, not, bit_and, bit_or, slice_get, IsSomeAnd}
+use Rattle.std.proofs.lemmas.Option.{slice_get_within}
+use Rattle.std.proofs.lemmas.Nat.{mod_below}
 use Rattle.std.specs.Bool.{MatchBool}
 use Rattle.std.proofs.lemmas.List.{length-take}
 use Rattle.guestmem.specs.ByteLaws.{IsBytes-append, IsBytes-take}
 use Rattle.guestmem.specs.Number.{IsBytes}
+use Rattle.blk.specs.Advance.{AdvanceStep, advance_step}
+use Rattle.blk.specs.Sectors.{Sector, AreWhole}
+use Rattle.blk.specs.Sound.{AreSound}
+use Rattle.blk.specs.declared.request.Request.{Request}
+use Rattle.blk.specs.declared.shape.BlockShape.{BlockShape}
 use Rattle.chains.specs.Ring.{Answers}
 use Rattle.chains.specs.State.{RingState}
 use Rattle.chains.specs.declared.next.Next.{Next}
@@ -13,26 +24,35 @@ use Rattle.mmio.specs.Effects.{StaysReady, EachStaysReady}
 use Rattle.mmio.specs.QueueRegisters.{notified_cleared}
 use Rattle.mmio.specs.RegisterWrite.{register_write}
 use Rattle.mmio.specs.Sound.{IsSoundRegisters}
-use Rattle.mmio.specs.State.{Registers, queue_at}
+use Rattle.console.specs.Size.{differ, resized}
+use Rattle.console.specs.declared.size.ConsoleSize.{ConsoleSize}
+use Rattle.mmio.proofs.Keeping.{change_kept, registers_stay}
+use Rattle.mmio.specs.Bits.{has}
+use Rattle.mmio.specs.Interrupts.{configuration_changed, used_raised}
+use Rattle.mmio.specs.State.{Registers, queue_at, with_common}
 use Rattle.mmio.specs.declared.queue.Queue.{Queue}
 use Rattle.mmio.proofs.StayingReady.{write_stays}
 use Rattle.mmio.proofs.StayingSound.{StaysSound, write_sound, used_sound, asked_sound, cleared_sound}
-use Rattle.machine.specs.DeviceStep.{serve, registers_after, after_service, step_at, looked_at, device_step, MayLook}
+use Rattle.machine.specs.DeviceStep.{serve, registers_after, after_service, after_advance, is_advance_due, requests_of, with_requests, advance_at, advanced_at, step_at, looked_at, device_step, message_form, MayLook}
 use Rattle.machine.specs.Looked.{IsLookedAt}
-use Rattle.machine.specs.Outcome.{Outcome, fine, no_memory}
+use Rattle.machine.specs.Outcome.{Outcome, fine, disk_failed, no_memory, disk_does}
 use Rattle.machine.specs.QueuePositions.{HavePositions, HasPositions, ArePlaced, first_positions, kept_positions, is_packed_by}
-use Rattle.machine.specs.Sound.{AreHostBytes, IsSoundDevice, IsSoundOwn}
+use Rattle.machine.specs.Shapes.{block_of, queues_of, sector_count}
+use Rattle.machine.specs.Sound.{AreFrames, AreHostBytes, AreRequestsOf, IsSoundDevice, IsSoundOwn, IsSoundShape}
 use Rattle.machine.specs.State.{DeviceState}
-use Rattle.machine.specs.Step.{register_set, kept_of, own_with, with_input}
+use Rattle.machine.specs.Step.{register_set, kept_in, kept_own, kept_requests, own_with_input, with_input}
 use Rattle.machine.specs.declared.own.Own.{Own}
-use Rattle.machine.specs.declared.own.Own.TheVariants.{Entropy}
+use Rattle.machine.specs.declared.own.Own.TheVariants.{Network, Block, Console, Entropy}
 use Rattle.machine.specs.declared.served.Served.{Served}
 use Rattle.machine.specs.declared.served.Served.TheVariants as served
 use Rattle.machine.specs.declared.shape.Shape.{Shape}
 use Rattle.machine.specs.declared.shape.Shape.TheVariants as shapes
+use Rattle.machine.proofs.Advancing.{IsAdvancedAt, advanced_is}
 use Rattle.machine.proofs.Looking.{looked_is}
-use Rattle.machine.proofs.Rings.{have_set, have_cleared, looked_ring, packed_same}
-use Rattle.machine.proofs.Serving.{served_on}
+use Rattle.machine.proofs.Outstanding.{GoesOn, goes_on_by}
+use Rattle.machine.proofs.Rings.{have_set, have_cleared, looked_ring, packed_same, ready_ring}
+use Rattle.machine.proofs.Serving.{SoundBeside, served_on}
+use Rattle.blk.proofs.Zeros.{zero_bytes}
 
 first_placed : (packed : Bool) (size : ℕ) → 0 < size → ArePlaced packed size first_positions
 first_placed true size some = (some, some)
@@ -76,40 +96,244 @@ all_kept was is (o ∷ os) [] ps stay have = absurd stay
 all_kept was is (o ∷ os) (n ∷ ns) [] stay have = absurd have
 all_kept was is (o ∷ os) (n ∷ ns) (p ∷ ps) stay have = (one_kept was is o n p n.is_ready refl stay.0 have.0, all_kept was is os ns ps stay.1 have.1)
 
+-- Requests outlive a write only where their queue stays ready.
+abbrev NoRequests : List Request
+NoRequests = []
+
+none_where : (b : Bool) → MatchBool b (Unit {0}) (NoRequests ≡ [])
+none_where true = tt
+none_where false = refl
+
+no_requests : (len : ℕ) (packed : Bool) (q : Queue) (shape : BlockShape) → AreRequestsOf len packed q shape []
+no_requests len packed q shape = record { few = omega arith; sound = λ k d below. absurd (omega (arith, below)); where_ready = none_where q.is_ready }
+
+any_where : (b : Bool) (requests : List Request) → b ≡ true → MatchBool b (Unit {0}) (requests ≡ [])
+any_where true requests is = tt
+any_where false requests is = cc
+
+kept_by : (len : ℕ) (was is : Bool) (old new : Queue) (shape : BlockShape) (requests : List Request) (ready : Bool) → new.is_ready ≡ ready → StaysReady was is old new → AreRequestsOf len was old shape requests
+    → AreRequestsOf len is new shape (cond ready requests [])
+kept_by len was is old new shape requests false at stays are = no_requests len is new shape
+kept_by len was is old new shape requests true at stays are = elim (stays at) as (λ _. AreRequestsOf len is new shape requests) [
+  | inl made ↦
+      (let none : requests ≡ [] = of_idle old.is_ready (Unit {0}) (requests ≡ []) are.where_ready made.0 in
+      rw none (no_requests len is new shape))
+  | inr stayed ↦ record { few = are.few; sound = rw (stayed.1, stayed.2) are.sound; where_ready = any_where new.is_ready requests at }
+]
+
+kept_requests_sound : (len : ℕ) (was is : Bool) (os ns : List Queue) (shape : BlockShape) (requests : List Request) → EachStaysReady was is os ns
+    → IsSomeAnd (slice_get os 0) (λ q. AreRequestsOf len was q shape requests) → IsSomeAnd (slice_get ns 0) (λ q. AreRequestsOf len is q shape (kept_requests ns requests))
+kept_requests_sound len was is [] ns shape requests stay are = absurd are
+kept_requests_sound len was is (o ∷ os) [] shape requests stay are = absurd stay
+kept_requests_sound len was is (o ∷ os) (n ∷ ns) shape requests stay are = kept_by len was is o n shape requests n.is_ready refl stay.0 are
+
+own_kept : (len : ℕ) (r new : Registers) (shape : Shape) (own : Own) → EachStaysReady (is_packed_by r.common) (is_packed_by new.common) r.queues new.queues → IsSoundOwn len r shape own → IsSoundOwn len new shape (kept_own new.queues own)
+own_kept len r new (shapes.Net mac) (Network frames) stay sound = sound
+own_kept len r new (shapes.Block sectors read_only id) (Block requests) stay sound = kept_requests_sound len (is_packed_by r.common) (is_packed_by new.common) r.queues new.queues (block_of (shapes.Block sectors read_only id)) requests stay sound
+own_kept len r new shapes.Console (Console size held) stay sound = sound
+own_kept len r new shapes.Entropy (Entropy pool) stay sound = sound
+own_kept len r new (shapes.Net mac) (Block requests) stay sound = absurd sound
+own_kept len r new (shapes.Net mac) (Console size held) stay sound = absurd sound
+own_kept len r new (shapes.Net mac) (Entropy pool) stay sound = absurd sound
+own_kept len r new (shapes.Block sectors read_only id) (Network frames) stay sound = absurd sound
+own_kept len r new (shapes.Block sectors read_only id) (Console size held) stay sound = absurd sound
+own_kept len r new (shapes.Block sectors read_only id) (Entropy pool) stay sound = absurd sound
+own_kept len r new shapes.Console (Network frames) stay sound = absurd sound
+own_kept len r new shapes.Console (Block requests) stay sound = absurd sound
+own_kept len r new shapes.Console (Entropy pool) stay sound = absurd sound
+own_kept len r new shapes.Entropy (Network frames) stay sound = absurd sound
+own_kept len r new shapes.Entropy (Block requests) stay sound = absurd sound
+own_kept len r new shapes.Entropy (Console size held) stay sound = absurd sound
+
 -- The driver writes a register.
 pub sound_written : (len : ℕ) (d : DeviceState) (offset width value : ℕ) → value < 2 ^ 32 → IsSoundDevice len d → IsSoundDevice len (register_set d offset width value)
 sound_written len d offset width value small sound =
     let new = (register_write d.registers offset width value).1 in
     let stays : StaysSound d.registers new = write_sound d.registers offset width value small sound.registers in
+    let ready = write_stays d.registers offset width value sound.registers in
     record {
+      shape = sound.shape;
       device_id = stays.same.device_id ∙ sound.device_id;
       offered = stays.same.offered ∙ sound.offered;
       queues = stays.same.queue_count ∙ sound.queues;
       ram_len = stays.same.ram_len ∙ sound.ram_len;
       registers = stays.sound;
-      positions = all_kept (is_packed_by d.registers.common) (is_packed_by new.common) d.registers.queues new.queues d.positions (write_stays d.registers offset width value sound.registers) sound.positions;
-      own = sound.own;
+      positions = all_kept (is_packed_by d.registers.common) (is_packed_by new.common) d.registers.queues new.queues d.positions ready sound.positions;
+      own = own_kept len d.registers new d.shape d.own ready sound.own;
     }
 
 -- The host puts bytes in.
 host_bytes_more : (pool bytes : List ℕ) → AreHostBytes pool → IsBytes bytes → length pool + length bytes ≤ 4096 → AreHostBytes (pool ++ bytes)
 host_bytes_more pool bytes h are room = record { few = omega (arith, length-append pool bytes, room); are = IsBytes-append pool bytes h.are are }
 
-sound_put : (shape : Shape) (own : Own) (bytes : List ℕ) → IsSoundOwn shape own → IsBytes bytes → IsSoundOwn shape (own_with own (take (kept_of own bytes) bytes))
-sound_put shapes.Entropy (Entropy pool) bytes sound are =
-    let n = min (length bytes) (4096 - length pool) in
+bytes_put : (pool bytes : List ℕ) → AreHostBytes pool → IsBytes bytes → AreHostBytes (pool ++ take (kept_in pool bytes) bytes)
+bytes_put pool bytes sound are =
+    let n = kept_in pool bytes in
     host_bytes_more pool (take n bytes) sound (IsBytes-take n bytes are) (omega (arith, length-take n bytes, sound.few))
+
+both_sides : (len : ℕ) (a b : Bool) → ltb len 14 ≡ a → ltb 1514 len ≡ b → (not a && not b) ≡ true → (14 ≤ len) × (len ≤ 1514)
+both_sides len true b p q h = cc
+both_sides len false true p q h = cc
+both_sides len false false p q h = (ltb-false len 14 p, ltb-false 1514 len q)
+
+frame_is : (len : ℕ) → is_frame_len len ≡ true → (14 ≤ len) × (len ≤ 1514)
+frame_is len h = both_sides len (ltb len 14) (ltb 1514 len) refl refl h
+
+one_frame : (frame : List ℕ) (d : List ℕ) (k : ℕ) → k < 1 → IsFrame frame → IsFrame (get_or (frame ∷ []) k d)
+one_frame frame d zero below h = h
+one_frame frame d (suc k) below h = absurd (omega (arith, below))
+
+abbrev IsSoundFrames : Own → Type 0
+IsSoundFrames (Network frames) = AreFrames frames
+IsSoundFrames _ = ⊥
+
+frames_put : (frames : List (List ℕ)) (bytes : List ℕ) (good room : Bool) → is_frame_len (length bytes) ≡ good → ltb (length frames) 64 ≡ room → AreFrames frames → IsBytes bytes
+    → IsSoundFrames (cond good (Network (cond room (frames ++ bytes ∷ []) frames)) (Network frames))
+frames_put frames bytes false room is less sound are = sound
+frames_put frames bytes true false is less sound are = sound
+frames_put frames bytes true true is less sound are =
+    let long = frame_is (length bytes) is in
+    let frame : IsFrame bytes = record { long = long.0; short = long.1; are = are } in
+    record {
+      few = omega (arith, ltb-true (length frames) 64 less, length-append frames (bytes ∷ []));
+      are = All-append IsFrame frames (bytes ∷ []) sound.are (λ k d below. one_frame bytes d k below frame);
+    }
+
+sound_put : (len : ℕ) (r : Registers) (shape : Shape) (own : Own) (bytes : List ℕ) → IsSoundOwn len r shape own → IsBytes bytes → IsSoundOwn len r shape (own_with_input own bytes)
+sound_put len r (shapes.Net mac) (Network frames) bytes sound are = frames_put frames bytes (is_frame_len (length bytes)) (ltb (length frames) 64) refl refl sound are
+sound_put len r (shapes.Block sectors read_only id) (Block requests) bytes sound are = sound
+sound_put len r shapes.Console (Console size held) bytes sound are = record { columns = sound.columns; rows = sound.rows; text = bytes_put held bytes sound.text are }
+sound_put len r shapes.Entropy (Entropy pool) bytes sound are = bytes_put pool bytes sound are
+sound_put len r (shapes.Net mac) (Block requests) bytes sound are = absurd sound
+sound_put len r (shapes.Net mac) (Console size held) bytes sound are = absurd sound
+sound_put len r (shapes.Net mac) (Entropy pool) bytes sound are = absurd sound
+sound_put len r (shapes.Block sectors read_only id) (Network frames) bytes sound are = absurd sound
+sound_put len r (shapes.Block sectors read_only id) (Console size held) bytes sound are = absurd sound
+sound_put len r (shapes.Block sectors read_only id) (Entropy pool) bytes sound are = absurd sound
+sound_put len r shapes.Console (Network frames) bytes sound are = absurd sound
+sound_put len r shapes.Console (Block requests) bytes sound are = absurd sound
+sound_put len r shapes.Console (Entropy pool) bytes sound are = absurd sound
+sound_put len r shapes.Entropy (Network frames) bytes sound are = absurd sound
+sound_put len r shapes.Entropy (Block requests) bytes sound are = absurd sound
+sound_put len r shapes.Entropy (Console size held) bytes sound are = absurd sound
 
 pub sound_input : (len : ℕ) (d : DeviceState) (bytes : List ℕ) → IsBytes bytes → IsSoundDevice len d → IsSoundDevice len (with_input d bytes)
 sound_input len d bytes are sound = record {
+  shape = sound.shape;
   device_id = sound.device_id;
   offered = sound.offered;
   queues = sound.queues;
   ram_len = sound.ram_len;
   registers = sound.registers;
   positions = sound.positions;
-  own = sound_put d.shape d.own bytes sound.own are;
+  own = sound_put len d.registers d.shape d.own bytes sound.own are;
 }
+
+-- The host sets the size of a console.
+same_registers : (r : Registers) → IsSoundRegisters r → StaysSound r r
+same_registers r sound = record { same = record { device_id = refl; offered = refl; ram_len = refl; queue_count = refl }; sound = sound }
+
+counted_small : (n : ℕ) → (n + 1) % 2 ^ 32 < 2 ^ 32
+counted_small n = mod_below (n + 1) (2 ^ 32) (omega arith)
+
+changed_by : (r : Registers) (heard : Bool) → IsSoundRegisters r
+    → IsSoundRegisters (with_common r (record r.common { generation = (r.common.generation + 1) % 2 ^ 32; interrupts = cond heard (bit_or r.common.interrupts 2) r.common.interrupts }))
+changed_by r true sound = change_kept r r.common refl sound
+changed_by r false sound = registers_stay r (record r.common { generation = (r.common.generation + 1) % 2 ^ 32 }) (λ k. k) refl (record {
+  fits = record {
+    device_select = sound.common.fits.device_select;
+    driver_select = sound.common.fits.driver_select;
+    features = sound.common.fits.features;
+    queue_select = sound.common.fits.queue_select;
+    generation = counted_small r.common.generation;
+  };
+  status = sound.common.status;
+  interrupts = sound.common.interrupts;
+  offered_only = sound.common.offered_only;
+  version = sound.common.version;
+}) sound
+
+changed_sound : (r : Registers) (feature : ℕ) → IsSoundRegisters r → StaysSound r (with_common r (configuration_changed r.common feature))
+changed_sound r feature sound = record {
+  same = record { device_id = refl; offered = refl; ram_len = refl; queue_count = refl };
+  sound = changed_by r (has r.common.status 4 && has r.common.features feature) sound;
+}
+
+resized_by : (r : Registers) (other : Bool) → IsSoundRegisters r → StaysSound r (cond other (with_common r (configuration_changed r.common 1)) r)
+resized_by r true sound = changed_sound r 1 sound
+resized_by r false sound = same_registers r sound
+
+resized_positions : (r : Registers) (other : Bool) (ps : List Positions) → HavePositions (is_packed_by r.common) r.queues ps
+    → HavePositions (is_packed_by (cond other (with_common r (configuration_changed r.common 1)) r).common) (cond other (with_common r (configuration_changed r.common 1)) r).queues ps
+resized_positions r true ps have = have
+resized_positions r false ps have = have
+
+console_own : (len : ℕ) (r new : Registers) (shape : Shape) (old size : ConsoleSize) (held : List ℕ) → size.columns < 2 ^ 16 → size.rows < 2 ^ 16 → IsSoundOwn len r shape (Console old held) → IsSoundOwn len new shape (Console size held)
+console_own len r new (shapes.Net mac) old size held columns rows sound = absurd sound
+console_own len r new (shapes.Block sectors read_only id) old size held columns rows sound = absurd sound
+console_own len r new shapes.Console old size held columns rows sound = record { columns = columns; rows = rows; text = sound.text }
+console_own len r new shapes.Entropy old size held columns rows sound = absurd sound
+
+pub sound_resized : (len : ℕ) (d : DeviceState) (old size : ConsoleSize) (held : List ℕ) → d.own ≡ Console old held → size.columns < 2 ^ 16 → size.rows < 2 ^ 16 → IsSoundDevice len d → IsSoundDevice len (record d { registers = resized old size d.registers; own = Console size held })
+sound_resized len d old size held is columns rows sound =
+    let stays = resized_by d.registers (differ old size) sound.registers in
+    record {
+      shape = sound.shape;
+      device_id = stays.same.device_id ∙ sound.device_id;
+      offered = stays.same.offered ∙ sound.offered;
+      queues = stays.same.queue_count ∙ sound.queues;
+      ram_len = stays.same.ram_len ∙ sound.ram_len;
+      registers = stays.sound;
+      positions = resized_positions d.registers (differ old size) d.positions sound.positions;
+      own = console_own len d.registers (resized old size d.registers) d.shape old size held columns rows (rw is at sound.own);
+    }
+
+-- What only a kind has, beside a queue that is ready, and back.
+pub beside : (len : ℕ) (r : Registers) (shape : Shape) (own : Own) (pick : ℕ) (queue : Queue) (s : RingState) → length r.queues ≡ queues_of shape → queue_at r pick ≡ Some queue → s.is_packed ≡ is_packed_by r.common → s.size ≡ queue.size → IsSoundOwn len r shape own → SoundBeside len s shape own
+beside len r (shapes.Net mac) (Network frames) pick queue s count there layout size sound = sound
+beside len r (shapes.Block sectors read_only id) (Block requests) zero queue s count there layout size sound =
+    let are : AreRequestsOf len (is_packed_by r.common) queue (block_of (shapes.Block sectors read_only id)) requests = rw there at sound in
+    record { few = are.few; sound = rw (layout, size) are.sound }
+beside len r (shapes.Block sectors read_only id) (Block requests) (suc pick) queue s count there layout size sound =
+    let below : suc pick < length r.queues = slice_get_within r.queues (suc pick) queue there in
+    absurd (omega (arith, below, count))
+beside len r shapes.Console (Console columns held) pick queue s count there layout size sound = sound
+beside len r shapes.Entropy (Entropy pool) pick queue s count there layout size sound = sound
+beside len r (shapes.Net mac) (Block requests) pick queue s count there layout size sound = absurd sound
+beside len r (shapes.Net mac) (Console columns held) pick queue s count there layout size sound = absurd sound
+beside len r (shapes.Net mac) (Entropy pool) pick queue s count there layout size sound = absurd sound
+beside len r (shapes.Block sectors read_only id) (Network frames) pick queue s count there layout size sound = absurd sound
+beside len r (shapes.Block sectors read_only id) (Console columns held) pick queue s count there layout size sound = absurd sound
+beside len r (shapes.Block sectors read_only id) (Entropy pool) pick queue s count there layout size sound = absurd sound
+beside len r shapes.Console (Network frames) pick queue s count there layout size sound = absurd sound
+beside len r shapes.Console (Block requests) pick queue s count there layout size sound = absurd sound
+beside len r shapes.Console (Entropy pool) pick queue s count there layout size sound = absurd sound
+beside len r shapes.Entropy (Network frames) pick queue s count there layout size sound = absurd sound
+beside len r shapes.Entropy (Block requests) pick queue s count there layout size sound = absurd sound
+beside len r shapes.Entropy (Console columns held) pick queue s count there layout size sound = absurd sound
+
+pub back : (len : ℕ) (r : Registers) (shape : Shape) (own : Own) (pick : ℕ) (queue : Queue) (s : RingState) → length r.queues ≡ queues_of shape → queue_at r pick ≡ Some queue → queue.is_ready ≡ true → s.is_packed ≡ is_packed_by r.common → s.size ≡ queue.size → SoundBeside len s shape own → IsSoundOwn len r shape own
+back len r (shapes.Net mac) (Network frames) pick queue s count there ready layout size sound = sound
+back len r (shapes.Block sectors read_only id) (Block requests) zero queue s count there ready layout size sound =
+    let are : AreRequestsOf len (is_packed_by r.common) queue (block_of (shapes.Block sectors read_only id)) requests = record { few = sound.few; sound = rw (← layout, ← size) sound.sound; where_ready = any_where queue.is_ready requests ready } in
+    rw there are
+back len r (shapes.Block sectors read_only id) (Block requests) (suc pick) queue s count there ready layout size sound =
+    let below : suc pick < length r.queues = slice_get_within r.queues (suc pick) queue there in
+    absurd (omega (arith, below, count))
+back len r shapes.Console (Console columns held) pick queue s count there ready layout size sound = sound
+back len r shapes.Entropy (Entropy pool) pick queue s count there ready layout size sound = sound
+back len r (shapes.Net mac) (Block requests) pick queue s count there ready layout size sound = absurd sound
+back len r (shapes.Net mac) (Console columns held) pick queue s count there ready layout size sound = absurd sound
+back len r (shapes.Net mac) (Entropy pool) pick queue s count there ready layout size sound = absurd sound
+back len r (shapes.Block sectors read_only id) (Network frames) pick queue s count there ready layout size sound = absurd sound
+back len r (shapes.Block sectors read_only id) (Console columns held) pick queue s count there ready layout size sound = absurd sound
+back len r (shapes.Block sectors read_only id) (Entropy pool) pick queue s count there ready layout size sound = absurd sound
+back len r shapes.Console (Network frames) pick queue s count there ready layout size sound = absurd sound
+back len r shapes.Console (Block requests) pick queue s count there ready layout size sound = absurd sound
+back len r shapes.Console (Entropy pool) pick queue s count there ready layout size sound = absurd sound
+back len r shapes.Entropy (Network frames) pick queue s count there ready layout size sound = absurd sound
+back len r shapes.Entropy (Block requests) pick queue s count there ready layout size sound = absurd sound
+back len r shapes.Entropy (Console columns held) pick queue s count there ready layout size sound = absurd sound
 
 -- A queue was served.
 pub served_registers : (r : Registers) (pick : ℕ) (s : Served) → IsSoundRegisters r → StaysSound r (registers_after r pick s)
@@ -135,17 +359,50 @@ have_after r pick served.Malformed ps have = have_asked r (eqb (bit_and r.common
 have_after r pick (served.Published reply true) ps have = have
 have_after r pick (served.Published reply false) ps have = have
 
-sound_served : (len : ℕ) (d : DeviceState) (ram : List ℕ) (pick : ℕ) (q : RingState) (seen : Next) → IsLookedAt d pick q → Answers ram q seen → IsSoundDevice len d → IsSoundDevice len (after_service d pick (serve d.own pick ram q seen))
-sound_served len d ram pick q seen look answers sound =
-    let s = serve d.own pick ram q seen in
-    let ring = looked_ring len d pick q sound look in
-    let on = served_on len d.shape d.own pick ram q seen ring answers sound.own in
+-- A queue that is ready, with such a size, under features of such a layout.
+record IsReadyAt (r : Registers) (pick : ℕ) (packed : Bool) (size : ℕ) : Type 0 where
+  queue : Queue
+  there : queue_at r pick ≡ Some queue
+  ready : queue.is_ready ≡ true
+  size_is : queue.size ≡ size
+  layout : is_packed_by r.common ≡ packed
+
+set_there : (qs : List Queue) (pick : ℕ) (q new : Queue) → slice_get qs pick ≡ Some q → slice_get (set qs pick new) pick ≡ Some new
+set_there [] pick q new at = cc
+set_there (x ∷ qs) zero q new at = refl
+set_there (x ∷ qs) (suc pick) q new at = set_there qs pick q new at
+
+asked_layout : (r : Registers) (driven : Bool) → is_packed_by (cond driven (record r.common { status = bit_or r.common.status 64; interrupts = bit_or r.common.interrupts 2 }) r.common) ≡ is_packed_by r.common
+asked_layout r true = refl
+asked_layout r false = refl
+
+after_ready : (r : Registers) (pick : ℕ) (s : Served) (packed : Bool) (size : ℕ) → IsReadyAt r pick packed size → IsReadyAt (registers_after r pick s) pick packed size
+after_ready r pick served.Empty packed size h = rw h.there (record {
+  queue = record h.queue { is_notified = false };
+  there = set_there r.queues pick h.queue (record h.queue { is_notified = false }) h.there;
+  ready = h.ready;
+  size_is = h.size_is;
+  layout = h.layout;
+})
+after_ready r pick served.Malformed packed size h = record { queue = h.queue; there = h.there; ready = h.ready; size_is = h.size_is; layout = asked_layout r (eqb (bit_and r.common.status 4) 4) ∙ h.layout }
+after_ready r pick (served.Published reply true) packed size h = record { queue = h.queue; there = h.there; ready = h.ready; size_is = h.size_is; layout = h.layout }
+after_ready r pick (served.Published reply false) packed size h = h
+
+sound_served : (d : DeviceState) (ram : List ℕ) (pick : ℕ) (q : RingState) (seen : Next) → IsBytes ram → IsLookedAt d pick q → Answers ram q seen → IsSoundDevice (length ram) d → IsSoundDevice (length ram) (after_service d pick (serve d.shape d.own pick ram q seen))
+sound_served d ram pick q seen bytes look answers sound =
+    let s = serve d.shape d.own pick ram q seen in
+    let ring = looked_ring (length ram) d pick q sound look in
+    let q_layout : q.is_packed ≡ is_packed_by d.registers.common = ap (λ (r : RingState). r.is_packed) look.is ∙ packed_same d.registers.common.features in
+    let q_size : q.size ≡ look.queue.size = ap (λ (r : RingState). r.size) look.is in
+    let on = served_on d.shape d.own pick ram q seen look.work bytes ring answers (beside (length ram) d.registers d.shape d.own pick look.queue q sound.queues look.there q_layout q_size sound.own) in
     let stays = served_registers d.registers pick s.served sound.registers in
     let new : Positions = record { taking = s.ring.taking; used = s.ring.used } in
-    let layout : s.ring.is_packed ≡ is_packed_by d.registers.common = on.ring.layout ∙ ap (λ (r : RingState). r.is_packed) look.is ∙ packed_same d.registers.common.features in
-    let size : s.ring.size ≡ look.queue.size = on.ring.size ∙ ap (λ (r : RingState). r.size) look.is in
+    let layout : s.ring.is_packed ≡ is_packed_by d.registers.common = on.ring.layout ∙ q_layout in
+    let size : s.ring.size ≡ look.queue.size = on.ring.size ∙ q_size in
     let placed : ArePlaced (is_packed_by d.registers.common) look.queue.size new = rw (layout, size) at on.ring.placed.placed in
+    let after = after_ready d.registers pick s.served (is_packed_by d.registers.common) look.queue.size (record { queue = look.queue; there = look.there; ready = look.ready; size_is = refl; layout = refl }) in
     record {
+      shape = sound.shape;
       device_id = stays.same.device_id ∙ sound.device_id;
       offered = stays.same.offered ∙ sound.offered;
       queues = stays.same.queue_count ∙ sound.queues;
@@ -156,15 +413,126 @@ sound_served len d ram pick q seen look answers sound =
         used_fits = on.ring.placed.used_fits;
         where_ready = subst (λ b. MatchBool b (ArePlaced (is_packed_by d.registers.common) look.queue.size new) (new ≡ first_positions)) (sym look.ready) placed;
       }));
-      own = on.own_is;
+      own = back (length ram) (registers_after d.registers pick s.served) d.shape s.own pick after.queue s.ring (stays.same.queue_count ∙ sound.queues) after.there after.ready (layout ∙ sym after.layout) (size ∙ sym after.size_is) on.own_is;
     }
 
-sound_stepped_at : (len : ℕ) (d : DeviceState) (ram : List ℕ) (pick : ℕ) (ring : Option RingState) (o : Outcome) (seen : Next) → looked_at d pick ≡ ring → MayLook ring ram o seen → IsSoundDevice len d → IsSoundDevice len (step_at d ram pick ring o seen).device
-sound_stepped_at len d ram pick None o seen is may sound = sound
-sound_stepped_at len d ram pick (Some q) fine seen is may sound = sound_served len d ram pick q seen (looked_is d pick q is) may sound
-sound_stepped_at len d ram pick (Some q) no_memory seen is may sound = sound
+-- A request went on.
+pub due_registers : (r : Registers) (is_due : Bool) → IsSoundRegisters r → StaysSound r (cond is_due (with_common r (used_raised r.common)) r)
+due_registers r true sound = used_sound r sound
+due_registers r false sound = record { same = record { device_id = refl; offered = refl; ram_len = refl; queue_count = refl }; sound = sound }
+
+due_ready : (r : Registers) (is_due : Bool) (pick : ℕ) (packed : Bool) (size : ℕ) → IsReadyAt r pick packed size → IsReadyAt (cond is_due (with_common r (used_raised r.common)) r) pick packed size
+due_ready r true pick packed size h = record { queue = h.queue; there = h.there; ready = h.ready; size_is = h.size_is; layout = h.layout }
+due_ready r false pick packed size h = h
+
+have_due : (r : Registers) (is_due : Bool) (ps : List Positions) → HavePositions (is_packed_by r.common) r.queues ps
+    → HavePositions (is_packed_by (cond is_due (with_common r (used_raised r.common)) r).common) (cond is_due (with_common r (used_raised r.common)) r).queues ps
+have_due r true ps have = have
+have_due r false ps have = have
+
+own_goes_on : (len : ℕ) (q : RingState) (shape : Shape) (own : Own) (s : AdvanceStep) → GoesOn len q (block_of shape) (requests_of own) s → SoundBeside len q shape own → SoundBeside len s.ring shape (with_requests own s.requests)
+own_goes_on len q (shapes.Net mac) (Network frames) s on sound = sound
+own_goes_on len q (shapes.Block sectors read_only id) (Block requests) s on sound = record { few = omega (arith, on.few, sound.few); sound = rw (on.ring.layout, on.ring.size) on.sound }
+own_goes_on len q shapes.Console (Console size held) s on sound = sound
+own_goes_on len q shapes.Entropy (Entropy pool) s on sound = sound
+own_goes_on len q (shapes.Net mac) (Block requests) s on sound = absurd sound
+own_goes_on len q (shapes.Net mac) (Console size held) s on sound = absurd sound
+own_goes_on len q (shapes.Net mac) (Entropy pool) s on sound = absurd sound
+own_goes_on len q (shapes.Block sectors read_only id) (Network frames) s on sound = absurd sound
+own_goes_on len q (shapes.Block sectors read_only id) (Console size held) s on sound = absurd sound
+own_goes_on len q (shapes.Block sectors read_only id) (Entropy pool) s on sound = absurd sound
+own_goes_on len q shapes.Console (Network frames) s on sound = absurd sound
+own_goes_on len q shapes.Console (Block requests) s on sound = absurd sound
+own_goes_on len q shapes.Console (Entropy pool) s on sound = absurd sound
+own_goes_on len q shapes.Entropy (Network frames) s on sound = absurd sound
+own_goes_on len q shapes.Entropy (Block requests) s on sound = absurd sound
+own_goes_on len q shapes.Entropy (Console size held) s on sound = absurd sound
+
+sound_advanced : (len : ℕ) (d : DeviceState) (pick : ℕ) (q : RingState) (s : AdvanceStep) → (look : IsAdvancedAt d pick q) → IsSoundDevice len d → GoesOn len q (block_of d.shape) (requests_of d.own) s → IsSoundDevice len (after_advance d s)
+sound_advanced len d pick q s look sound on =
+    let due = is_advance_due s.answer in
+    let q_layout : q.is_packed ≡ is_packed_by d.registers.common = ap (λ (r : RingState). r.is_packed) look.is ∙ packed_same d.registers.common.features in
+    let q_size : q.size ≡ look.queue.size = ap (λ (r : RingState). r.size) look.is in
+    let old = beside len d.registers d.shape d.own 0 look.queue q sound.queues look.there q_layout q_size sound.own in
+    let stays = due_registers d.registers due sound.registers in
+    let new : Positions = record { taking = s.ring.taking; used = s.ring.used } in
+    let layout : s.ring.is_packed ≡ is_packed_by d.registers.common = on.ring.layout ∙ q_layout in
+    let size : s.ring.size ≡ look.queue.size = on.ring.size ∙ q_size in
+    let placed : ArePlaced (is_packed_by d.registers.common) look.queue.size new = rw (layout, size) at on.ring.placed.placed in
+    let after = due_ready d.registers due 0 (is_packed_by d.registers.common) look.queue.size (record { queue = look.queue; there = look.there; ready = look.ready; size_is = refl; layout = refl }) in
+    record {
+      shape = sound.shape;
+      device_id = stays.same.device_id ∙ sound.device_id;
+      offered = stays.same.offered ∙ sound.offered;
+      queues = stays.same.queue_count ∙ sound.queues;
+      ram_len = stays.same.ram_len ∙ sound.ram_len;
+      registers = stays.sound;
+      positions = have_due d.registers due (set d.positions 0 new) (have_set (is_packed_by d.registers.common) d.registers.queues d.positions 0 look.queue new sound.positions look.there (record {
+        taking_fits = on.ring.placed.taking_fits;
+        used_fits = on.ring.placed.used_fits;
+        where_ready = subst (λ b. MatchBool b (ArePlaced (is_packed_by d.registers.common) look.queue.size new) (new ≡ first_positions)) (sym look.ready) placed;
+      }));
+      own = back len (after_advance d s).registers d.shape (with_requests d.own s.requests) 0 after.queue s.ring (stays.same.queue_count ∙ sound.queues) after.there after.ready (layout ∙ sym after.layout) (size ∙ sym after.size_is) (own_goes_on len q d.shape d.own s on old);
+    }
+
+-- What a step of a device has to do with: sectors of its disk, whole and as many as its shape says.
+pub record HasSectors (d : DeviceState) (content : List Sector) : Type 0 where
+  pub count : length content ≡ sector_count d.shape
+  pub whole : AreWhole content
+
+pub block_count : (shape : Shape) → (block_of shape).sectors ≡ sector_count shape
+block_count (shapes.Net mac) = refl
+block_count (shapes.Block sectors read_only id) = refl
+block_count shapes.Console = refl
+block_count shapes.Entropy = refl
+
+block_id : (shape : Shape) → IsSoundShape shape → IsBytes (block_of shape).id
+block_id (shapes.Net mac) h = zero_bytes 20
+block_id (shapes.Block sectors read_only id) h = h.id_bytes
+block_id shapes.Console h = zero_bytes 20
+block_id shapes.Entropy h = zero_bytes 20
+
+pub outstanding : (len : ℕ) (q : RingState) (shape : Shape) (own : Own) → SoundBeside len q shape own → AreSound len q (block_of shape) (requests_of own)
+outstanding len q (shapes.Net mac) (Network frames) h = λ k d below. absurd (omega (arith, below))
+outstanding len q (shapes.Block sectors read_only id) (Block requests) h = h.sound
+outstanding len q shapes.Console (Console size held) h = λ k d below. absurd (omega (arith, below))
+outstanding len q shapes.Entropy (Entropy pool) h = λ k d below. absurd (omega (arith, below))
+outstanding len q (shapes.Net mac) (Block requests) h = absurd h
+outstanding len q (shapes.Net mac) (Console size held) h = absurd h
+outstanding len q (shapes.Net mac) (Entropy pool) h = absurd h
+outstanding len q (shapes.Block sectors read_only id) (Network frames) h = absurd h
+outstanding len q (shapes.Block sectors read_only id) (Console size held) h = absurd h
+outstanding len q (shapes.Block sectors read_only id) (Entropy pool) h = absurd h
+outstanding len q shapes.Console (Network frames) h = absurd h
+outstanding len q shapes.Console (Block requests) h = absurd h
+outstanding len q shapes.Console (Entropy pool) h = absurd h
+outstanding len q shapes.Entropy (Network frames) h = absurd h
+outstanding len q shapes.Entropy (Block requests) h = absurd h
+outstanding len q shapes.Entropy (Console size held) h = absurd h
+
+pub advanced_goes_on : (d : DeviceState) (ram : List ℕ) (content : List Sector) (pick : ℕ) (q : RingState) (is_fine : Bool) → (look : IsAdvancedAt d pick q) → IsBytes ram → IsSoundDevice (length ram) d → HasSectors d content
+    → GoesOn (length ram) q (block_of d.shape) (requests_of d.own) (advance_step (block_of d.shape) ram q content (requests_of d.own) (pick - 1) is_fine)
+advanced_goes_on d ram content pick q is_fine look are sound has =
+    let ring = ready_ring (length ram) d 0 look.queue look.positions sound look.there look.placed look.ready in
+    let q_layout : q.is_packed ≡ is_packed_by d.registers.common = ap (λ (r : RingState). r.is_packed) look.is ∙ packed_same d.registers.common.features in
+    let q_size : q.size ≡ look.queue.size = ap (λ (r : RingState). r.size) look.is in
+    let old = beside (length ram) d.registers d.shape d.own 0 look.queue q sound.queues look.there q_layout q_size sound.own in
+    goes_on_by (length ram) (block_of d.shape) ram q content (requests_of d.own) (pick - 1) is_fine (rw look.is ring) are (block_id d.shape sound.shape) (has.count ∙ sym (block_count d.shape)) has.whole (outstanding (length ram) q d.shape d.own old)
+
+sound_advance_at : (d : DeviceState) (ram : List ℕ) (content : List Sector) (pick : ℕ) (ring : Option RingState) (o : Outcome) → advanced_at d pick ≡ ring → IsBytes ram → IsSoundDevice (length ram) d → HasSectors d content → IsSoundDevice (length ram) (advance_at d ram content pick ring o).device
+sound_advance_at d ram content pick None o is are sound has = sound
+sound_advance_at d ram content pick (Some q) o is are sound has =
+    let look = advanced_is (length ram) d pick q sound is in
+    sound_advanced (length ram) d pick q _ look sound (advanced_goes_on d ram content pick q (disk_does o) look are sound has)
+
+sound_stepped_at : (form : Option MessageForm) (d : DeviceState) (ram : List ℕ) (content : List Sector) (pick : ℕ) (ring : Option RingState) (o : Outcome) (seen : Next) → looked_at d pick ≡ ring → MayLook form ring ram o seen → IsBytes ram → IsSoundDevice (length ram) d → HasSectors d content
+    → IsSoundDevice (length ram) (step_at d ram content pick ring o seen).device
+sound_stepped_at form d ram content pick None o seen is may are sound has = sound_advance_at d ram content pick (advanced_at d pick) o refl are sound has
+sound_stepped_at form d ram content pick (Some q) fine seen is may are sound has = sound_served d ram pick q seen are (looked_is d pick q is) may sound
+sound_stepped_at form d ram content pick (Some q) disk_failed seen is may are sound has = sound
+sound_stepped_at form d ram content pick (Some q) no_memory seen is may are sound has = sound
 
 -- A device does a piece of its work.
-pub sound_stepped : (len : ℕ) (d : DeviceState) (ram : List ℕ) (pick : ℕ) (o : Outcome) (seen : Next) → MayLook (looked_at d pick) ram o seen → IsSoundDevice len d → IsSoundDevice len (device_step d ram pick o seen).device
+pub sound_stepped : (d : DeviceState) (ram : List ℕ) (content : List Sector) (pick : ℕ) (o : Outcome) (seen : Next) → MayLook (message_form d.own pick) (looked_at d pick) ram o seen → IsBytes ram → IsSoundDevice (length ram) d → HasSectors d content → IsSoundDevice (length ram) (device_step d ram content pick o seen).device
 unfolding device_step
-sound_stepped len d ram pick o seen may sound = sound_stepped_at len d ram pick (looked_at d pick) o seen refl may sound
+sound_stepped d ram content pick o seen may are sound has = sound_stepped_at (message_form d.own pick) d ram content pick (looked_at d pick) o seen refl may are sound has

@@ -1,10 +1,31 @@
 -- Steps of a device as they are made: its positions are held in an array with room to spare.
-use Rattle.std.proofs.Common.{◌≡◌, ℕ, ◌<◌, true, false, List, length, take, set, get_or, Some, None, refl, ap, ◌∙◌, arith}
+use Rattle.std.proofs.Common.{◌≡◌, ℕ, zero, suc, ◌-◌, ◌<◌, ◌≤◌, Bool, true, false, cond, List, [], ◌∷◌, length, take, set, get_or, Option, Some, None, refl, sym, ap, ◌∙◌, arith, append-nil}
+use Rattle.std.specs.Prelude.{not, slice_get}
+use Rattle.std.proofs.lemmas.Option.{slice_get-get_or, slice_get_past, slice_get_within}
 use Rattle.std.proofs.Math.Seq.{take-set-lt}
-use Rattle.guestmem.specs.Item.{Item}
-use Rattle.mmio.specs.State.{Registers, first_queue}
+use Rattle.guestmem.specs.Item.{Item, after_all}
+use Rattle.guestmem.specs.Writes.{touched}
+use Rattle.blk.specs.Advance.{advance_step, IsAfterAdvancing}
+use Rattle.blk.specs.Move.{is_disk_failed}
+use Rattle.blk.specs.Sectors.{Sector}
+use Rattle.blk.specs.Sound.{AreSound}
+use Rattle.blk.specs.Take.{take_step}
+use Rattle.blk.specs.declared.advancing.Advanced.{Advanced}
+use Rattle.blk.specs.declared.advancing.Advanced.TheVariants as advanced
+use Rattle.blk.specs.declared.taking.Taken.{Taken}
+use Rattle.blk.specs.declared.taking.Taken.TheVariants as taken
+use Rattle.mmio.specs.Interrupts.{used_raised}
+use Rattle.mmio.specs.State.{Registers, first_queue, queue_at, with_common}
 use Rattle.mmio.specs.declared.queue.Queue.{Queue}
-use Rattle.chains.specs.LongQueue.{IsLongQueue}
+use Rattle.chains.specs.Transmit.{transmit_step}
+use Rattle.chains.specs.declared.transmitting.MessageForm.{MessageForm}
+use Rattle.chains.specs.declared.transmitting.Transmitted.{Transmitted}
+use Rattle.chains.specs.declared.transmitting.Transmitted.TheVariants as messages
+use Rattle.console.specs.Transmit.{text_form}
+use Rattle.net.specs.Receive as receiving
+use Rattle.net.specs.Transmit.{frame_form}
+use Rattle.net.specs.declared.receiving.Received as net
+use Rattle.net.specs.declared.receiving.Received.TheVariants as frames
 use Rattle.chains.specs.State.{RingState, state_of}
 use Rattle.chains.specs.declared.next.Next.{Next}
 use Rattle.chains.specs.declared.next.Next.TheVariants as next
@@ -12,18 +33,25 @@ use Rattle.chains.specs.declared.position.Positions.{Positions}
 use Rattle.console.specs.Receive.{receive_step}
 use Rattle.console.specs.declared.receiving.Received.{Received}
 use Rattle.console.specs.declared.receiving.Received.TheVariants as received
-use Rattle.machine.specs.DeviceStep.{device_step, looks, looked_at, serve, served_of, reply_of, registers_after}
-use Rattle.machine.specs.DeviceWork.{IsServed, IsDeviceStep}
-use Rattle.machine.specs.Outcome.{fine, outcome_of}
-use Rattle.machine.specs.Sound.{IsSoundDevice}
+use Rattle.machine.specs.DeviceStep.{advances, advanced_at, advanced_by, device_step, is_advance_due, looks, looked_at, looked_step, MayLookAt, requests_of, reply_to_advance, serve, message_form, MayRefuse, served_frame, served_message, served_of, served_taking, reply_of, registers_after, with_requests}
+use Rattle.machine.specs.DeviceWork.{IsServed, IsAdvancedStep, IsDeviceStep, IsLookedStep}
+use Rattle.machine.specs.Outcome.{Outcome, fine, disk_failed, no_memory, disk_does, is_failure, outcome_of}
+use Rattle.machine.specs.Shapes.{block_of, sector_count}
+use Rattle.machine.specs.QueuePositions.{is_packed_by}
+use Rattle.machine.specs.Sound.{IsSoundDevice, IsSoundOwn, IsSoundShape}
 use Rattle.machine.specs.State.{DeviceState}
 use Rattle.machine.specs.declared.own.Own.{Own}
-use Rattle.machine.specs.declared.own.Own.TheVariants.{Entropy}
-use Rattle.machine.specs.declared.reply.Reply.TheVariants.{Idle, NoMemory}
+use Rattle.machine.specs.declared.own.Own.TheVariants.{Network, Block, Console, Entropy}
+use Rattle.machine.specs.declared.reply.Reply.{Reply}
+use Rattle.machine.specs.declared.reply.Reply.TheVariants.{DiskFailed, Idle, NoMemory}
+use Rattle.machine.specs.declared.reply.Reply.TheVariants as replies
 use Rattle.machine.specs.declared.served.Served.{Served}
 use Rattle.machine.specs.declared.shape.Shape.{Shape}
+use Rattle.machine.specs.declared.shape.Shape.TheVariants as shapes
+use Rattle.machine.proofs.Advancing.{advanced_is}
 use Rattle.machine.proofs.Looking.{looked_is, some_looked}
-use Rattle.machine.proofs.Rings.{IsLookedRing, looked_ring, positions_long}
+use Rattle.machine.proofs.Rings.{IsLookedRing, looked_ring, packed_same, positions_long, ready_ring}
+use Rattle.machine.proofs.Staying.{beside, outstanding}
 
 -- A device as it is held.
 abbrev pub held_device : Shape → Registers → List Positions → Own → DeviceState
@@ -44,14 +72,109 @@ made_ring len shape r held own pick qs features sound same below looking feature
     let is = some_looked d pick first_queue no_positions held there refl long looking_here in
     rw (same, feature) (looked_ring len d pick (state_of (get_or r.queues pick first_queue) r.common.features (get_or held pick no_positions)) sound (looked_is d pick _ is))
 
--- A step that looks at no queue, one that is refused memory, and one that serves a queue.
-pub idle_step : {L : Type 0} (after : L → Item → L) (ram : List ℕ) (log : L) (d : DeviceState) (pick : ℕ) → looked_at d pick ≡ None → IsDeviceStep after ram log d pick Idle ram log d
-unfolding device_step
-idle_step after ram log d pick none = record { seen = next.Empty; may_look = rw none tt; reply_is = rw none refl; ram_is = rw none refl; log_is = rw none refl; device_is = rw none refl }
+pub made_look : (len : ℕ) (shape : Shape) (r : Registers) (held : List Positions) (own : Own) (pick : ℕ) (qs : List Queue) (features : ℕ) → IsSoundDevice len (held_device shape r held own) → qs ≡ r.queues → pick < length qs
+    → true ≡ looks (held_device shape r held own) pick (get_or qs pick first_queue) → features ≡ r.common.features
+    → looked_at (held_device shape r held own) pick ≡ Some (state_of (get_or qs pick first_queue) features (get_or held pick no_positions))
+made_look len shape r held own pick qs features sound same below looking feature =
+    let d = held_device shape r held own in
+    let there : pick < length r.queues = omega (arith, below, ap length same) in
+    let looking_here = rw same at looking in
+    let long : length d.positions ≡ length r.queues = positions_long _ r.queues d.positions sound.positions in
+    rw (same, feature) (some_looked d pick first_queue no_positions held there refl long looking_here)
 
-pub refused_step : {L : Type 0} (after : L → Item → L) (ram : List ℕ) (log : L) (d : DeviceState) (pick : ℕ) (q : RingState) → looked_at d pick ≡ Some q → IsLongQueue ram q → IsDeviceStep after ram log d pick NoMemory ram log d
+-- The ring of a request that goes on, as it is made.
+none_by : (d : DeviceState) (pick : ℕ) (q : Option Queue) (p : Option Positions) → advances d pick ≡ false → advanced_by d pick q p ≡ None
+none_by d pick None p h = refl
+none_by d pick (Some q) None h = refl
+none_by d pick (Some q) (Some p) h = rw h refl
+
+pub none_advanced : (d : DeviceState) (pick : ℕ) → advances d pick ≡ false → advanced_at d pick ≡ None
+none_advanced d pick h = none_by d pick (queue_at d.registers 0) (slice_get d.positions 0) h
+
+none_there : (d : DeviceState) (pick : ℕ) → queue_at d.registers 0 ≡ None → advanced_at d pick ≡ None
+none_there d pick h = rw h refl
+
+pub advanced_ring : (len : ℕ) (d : DeviceState) (pick : ℕ) (q : RingState) → IsSoundDevice len d → advanced_at d pick ≡ Some q → IsLookedRing len q
+advanced_ring len d pick q sound is =
+    let look = advanced_is len d pick q sound is in
+    rw look.is (ready_ring len d 0 look.queue look.positions sound look.there look.placed look.ready)
+
+pub advanced_sound : (len : ℕ) (d : DeviceState) (pick : ℕ) (q : RingState) → IsSoundDevice len d → advanced_at d pick ≡ Some q → AreSound len q (block_of d.shape) (requests_of d.own)
+advanced_sound len d pick q sound is =
+    let look = advanced_is len d pick q sound is in
+    let layout : q.is_packed ≡ is_packed_by d.registers.common = ap (λ (r : RingState). r.is_packed) look.is ∙ packed_same d.registers.common.features in
+    let size : q.size ≡ look.queue.size = ap (λ (r : RingState). r.size) look.is in
+    outstanding len q d.shape d.own (beside len d.registers d.shape d.own 0 look.queue q sound.queues look.there layout size sound.own)
+
+pub looked_sound : (len : ℕ) (d : DeviceState) (pick : ℕ) (q : RingState) → IsSoundDevice len d → looked_at d pick ≡ Some q → AreSound len q (block_of d.shape) (requests_of d.own)
+looked_sound len d pick q sound is =
+    let look = looked_is d pick q is in
+    let layout : q.is_packed ≡ is_packed_by d.registers.common = ap (λ (r : RingState). r.is_packed) look.is ∙ packed_same d.registers.common.features in
+    let size : q.size ≡ look.queue.size = ap (λ (r : RingState). r.size) look.is in
+    outstanding len q d.shape d.own (beside len d.registers d.shape d.own pick look.queue q sound.queues look.there layout size sound.own)
+
+pub has_queue : (d : DeviceState) (pick : ℕ) (q : RingState) (len : ℕ) → IsSoundDevice len d → advanced_at d pick ≡ Some q → 0 < length d.registers.queues
+has_queue d pick q len sound is = let look = advanced_is len d pick q sound is in slice_get_within d.registers.queues 0 look.queue look.there
+
+-- A device without a disk has no requests.
+empty_handed : (len : ℕ) (r : Registers) (shape : Shape) (own : Own) → IsSoundShape shape → IsSoundOwn len r shape own → sector_count shape ≡ 0 → length (requests_of own) ≡ 0
+empty_handed len r (shapes.Net mac) (Network frames) limits sound none = refl
+empty_handed len r (shapes.Block sectors read_only id) own limits sound none = absurd (omega (arith, limits.some, none))
+empty_handed len r shapes.Console (Console size held) limits sound none = refl
+empty_handed len r shapes.Entropy (Entropy pool) limits sound none = refl
+empty_handed len r (shapes.Net mac) (Block requests) limits sound none = absurd sound
+empty_handed len r (shapes.Net mac) (Console size held) limits sound none = absurd sound
+empty_handed len r (shapes.Net mac) (Entropy pool) limits sound none = absurd sound
+empty_handed len r shapes.Console (Network frames) limits sound none = absurd sound
+empty_handed len r shapes.Console (Block requests) limits sound none = absurd sound
+empty_handed len r shapes.Console (Entropy pool) limits sound none = absurd sound
+empty_handed len r shapes.Entropy (Network frames) limits sound none = absurd sound
+empty_handed len r shapes.Entropy (Block requests) limits sound none = absurd sound
+empty_handed len r shapes.Entropy (Console size held) limits sound none = absurd sound
+
+none_or : (len : ℕ) (d : DeviceState) (pick : ℕ) (ring : Option RingState) → IsSoundDevice len d → length (requests_of d.own) ≡ 0 → advanced_at d pick ≡ ring → advanced_at d pick ≡ None
+none_or len d pick None sound none is = is
+none_or len d pick (Some q) sound none is = let look = advanced_is len d pick q sound is in absurd (omega (arith, look.below, none))
+
+pub none_without : (len : ℕ) (d : DeviceState) (pick : ℕ) → IsSoundDevice len d → sector_count d.shape ≡ 0 → advanced_at d pick ≡ None
+none_without len d pick sound none = none_or len d pick (advanced_at d pick) sound (empty_handed len d.registers d.shape d.own sound.shape sound.own none) refl
+
+pub none_queued : (d : DeviceState) (pick : ℕ) (qs : List Queue) → qs ≡ d.registers.queues → length qs ≡ 0 → advanced_at d pick ≡ None
+none_queued d pick qs is none = none_there d pick (slice_get_past d.registers.queues 0 (omega (arith, ap length is, none)))
+
+first_held : (n : ℕ) (held : List Positions) → 0 < n → 0 < length (take n held) → slice_get (take n held) 0 ≡ Some (get_or held 0 no_positions)
+first_held zero held some long = absurd (omega (arith, some))
+first_held (suc n) [] some long = absurd (omega (arith, long))
+first_held (suc n) (p ∷ held) some long = refl
+
+pub some_advanced : (len : ℕ) (shape : Shape) (r : Registers) (held : List Positions) (own : Own) (pick : ℕ) (qs : List Queue) (features : ℕ) → IsSoundDevice len (held_device shape r held own) → qs ≡ r.queues → 1 ≤ length qs → true ≡ advances (held_device shape r held own) pick → features ≡ r.common.features
+    → advanced_at (held_device shape r held own) pick ≡ Some (state_of (get_or qs 0 first_queue) features (get_or held 0 no_positions))
+some_advanced len shape r held own pick qs features sound is some all feature =
+    let below : 0 < length r.queues = omega (arith, ap length is, some) in
+    let long : length (take (length r.queues) held) ≡ length r.queues = positions_long _ r.queues (take (length r.queues) held) sound.positions in
+    rw (slice_get-get_or r.queues 0 first_queue below, first_held (length r.queues) held below (omega (arith, long, below)), ← all, is, feature) refl
+
+pub made_advanced : (len : ℕ) (shape : Shape) (r : Registers) (held : List Positions) (own : Own) (pick : ℕ) (qs : List Queue) (features : ℕ) → IsSoundDevice len (held_device shape r held own) → qs ≡ r.queues → 1 ≤ length qs → true ≡ advances (held_device shape r held own) pick → features ≡ r.common.features
+    → IsLookedRing len (state_of (get_or qs 0 first_queue) features (get_or held 0 no_positions))
+made_advanced len shape r held own pick qs features sound is some all feature =
+    advanced_ring len (held_device shape r held own) pick _ sound (some_advanced len shape r held own pick qs features sound is some all feature)
+
+-- A step that looks at no queue and advances no request.
+pub idle_step : {L : Type 0} (after : L → Item → L) (number : ℕ) (honest : Bool) (ram : List ℕ) (content : List Sector) (log : L) (d : DeviceState) (pick : ℕ) → looked_at d pick ≡ None → advanced_at d pick ≡ None → IsDeviceStep after number honest ram content log d pick Idle ram content log d
 unfolding device_step
-refused_step after ram log d pick q some full = record { seen = next.Empty; may_look = rw some full; reply_is = rw some refl; ram_is = rw some refl; log_is = rw some refl; device_is = rw some refl }
+idle_step after number honest ram content log d pick none no_request = record {
+  seen = next.Empty;
+  may_look = rw none tt;
+  reply_is = rw (none, no_request) refl;
+  device_is = rw (none, no_request) refl;
+  ram_is = λ h. rw (none, no_request) refl;
+  content_is = λ h. rw (none, no_request) refl;
+  log_is = rw (none, no_request) refl;
+}
+
+-- A look that is refused memory, and one that serves a queue.
+pub refused_look : {L : Type 0} (after : L → Item → L) (ram : List ℕ) (log : L) (d : DeviceState) (pick : ℕ) (q : RingState) → MayRefuse (message_form d.own pick) ram q → IsLookedStep after ram log d pick q NoMemory ram log d
+refused_look after ram log d pick q full = record { seen = next.Empty; may_look = full; reply_is = refl; device_is = refl; ram_is = refl; log_is = refl }
 
 -- A queue that was served is answered by no refusal.
 fine_bytes : (answer : Received) → outcome_of (reply_of (served_of answer)) ≡ fine
@@ -59,22 +182,135 @@ fine_bytes received.Empty = refl
 fine_bytes received.Malformed = refl
 fine_bytes (received.Completed len due) = refl
 
-fine_service : (own : Own) (number : ℕ) (ram : List ℕ) (q : RingState) (seen : Next) → outcome_of (reply_of (serve own number ram q seen).served) ≡ fine
-fine_service (Entropy pool) number ram q seen = fine_bytes (receive_step ram q pool seen).answer
+fine_taking : (answer : Taken) → outcome_of (reply_of (served_taking answer)) ≡ fine
+fine_taking taken.Empty = refl
+fine_taking taken.Malformed = refl
+fine_taking taken.Taken = refl
 
-pub served_step : {L : Type 0} (after : L → Item → L) (ram : List ℕ) (log : L) (shape : Shape) (r : Registers) (held : List Positions) (own : Own) (pick : ℕ) (q : RingState) (s : Served) (new_ram : List ℕ) (new_ring : RingState) (new_own : Own) (new_log : L) (new_r : Registers)
-    → looked_at (held_device shape r held own) pick ≡ Some q → pick < length r.queues → IsServed after ram q own pick log s new_ram new_ring new_own new_log → new_r ≡ registers_after r pick s → length new_r.queues ≡ length r.queues
-    → IsDeviceStep after ram log (held_device shape r held own) pick (reply_of s) new_ram new_log (held_device shape new_r (set held pick (record { taking = new_ring.taking; used = new_ring.used })) new_own)
-unfolding device_step
-served_step after ram log shape r held own pick q s new_ram new_ring new_own new_log new_r some there h registers count =
+fine_frame : (answer : net.Received) → outcome_of (reply_of (served_frame answer)) ≡ fine
+fine_frame frames.Empty = refl
+fine_frame frames.Malformed = refl
+fine_frame frames.Dropped = refl
+fine_frame (frames.Completed len due) = refl
+
+fine_message : (answer : Transmitted) → outcome_of (reply_of (served_message answer)) ≡ fine
+fine_message messages.Empty = refl
+fine_message messages.Malformed = refl
+fine_message (messages.Sent bytes due) = refl
+
+fine_service : (shape : Shape) (own : Own) (number : ℕ) (ram : List ℕ) (q : RingState) (seen : Next) → outcome_of (reply_of (serve shape own number ram q seen).served) ≡ fine
+fine_service shape (Network frames) zero ram q seen = fine_frame (receiving.receive_step ram q frames seen).answer
+fine_service shape (Network frames) (suc number) ram q seen = fine_message (transmit_step ram q frame_form seen).answer
+fine_service shape (Console size held) zero ram q seen = fine_bytes (receive_step ram q held seen).answer
+fine_service shape (Console size held) (suc number) ram q seen = fine_message (transmit_step ram q text_form seen).answer
+fine_service shape (Block requests) number ram q seen = fine_taking (take_step ram q (block_of shape) requests seen).answer
+fine_service shape (Entropy pool) number ram q seen = fine_bytes (receive_step ram q pool seen).answer
+
+pub served_look : {L : Type 0} (after : L → Item → L) (ram : List ℕ) (log : L) (shape : Shape) (r : Registers) (held : List Positions) (own : Own) (pick : ℕ) (q : RingState) (s : Served) (new_ram : List ℕ) (new_ring : RingState) (new_own : Own) (new_log : L) (new_r : Registers)
+    → pick < length r.queues → IsServed after ram q shape own pick log s new_ram new_ring new_own new_log → new_r ≡ registers_after r pick s → length new_r.queues ≡ length r.queues
+    → IsLookedStep after ram log (held_device shape r held own) pick q (reply_of s) new_ram new_log (held_device shape new_r (set held pick (record { taking = new_ring.taking; used = new_ring.used })) new_own)
+served_look after ram log shape r held own pick q s new_ram new_ring new_own new_log new_r there h registers count =
     let new : Positions = record { taking = new_ring.taking; used = new_ring.used } in
-    let was_fine : outcome_of (reply_of s) ≡ fine = rw h.served_is (fine_service own pick ram q h.seen) in
+    let was_fine : outcome_of (reply_of s) ≡ fine = rw h.served_is (fine_service shape own pick ram q h.seen) in
     let place : take (length new_r.queues) (set held pick new) ≡ set (take (length r.queues) held) pick new = ap (λ n. take n (set held pick new)) count ∙ take-set-lt (length r.queues) held pick new there in
     record {
       seen = h.seen;
-      may_look = rw (some, was_fine) h.answers;
-      reply_is = rw (some, was_fine) (ap reply_of h.served_is);
-      ram_is = rw (some, was_fine) h.ram_is;
-      log_is = rw (some, was_fine) h.log_is;
-      device_is = rw (some, was_fine, place, registers, h.ring_is, h.own_is, h.served_is) refl;
+      may_look = rw was_fine h.answers;
+      reply_is = rw was_fine (ap reply_of h.served_is);
+      device_is = rw (was_fine, place, registers, h.ring_is, h.own_is, h.served_is) refl;
+      ram_is = rw was_fine h.ram_is;
+      log_is = rw was_fine h.log_is;
     }
+
+no_sets : (d : DeviceState) (ram : List ℕ) (pick : ℕ) (q : RingState) (o : Outcome) (seen : Next) → (looked_step d ram pick q o seen).sets ≡ []
+no_sets d ram pick q fine seen = refl
+no_sets d ram pick q disk_failed seen = refl
+no_sets d ram pick q no_memory seen = refl
+
+pub looked_device : {L : Type 0} (after : L → Item → L) (number : ℕ) (honest : Bool) (ram : List ℕ) (content : List Sector) (log : L) (d : DeviceState) (pick : ℕ) (q : RingState) (reply : Reply) (new_ram : List ℕ) (new_log : L) (new : DeviceState) → looked_at d pick ≡ Some q
+    → IsLookedStep after ram log d pick q reply new_ram new_log new → IsDeviceStep after number honest ram content log d pick reply new_ram content new_log new
+unfolding device_step
+looked_device after number honest ram content log d pick q reply new_ram new_log new some h =
+    let none = no_sets d ram pick q (outcome_of reply) h.seen in
+    record {
+      seen = h.seen;
+      may_look = rw some h.may_look;
+      reply_is = rw some h.reply_is;
+      device_is = rw some h.device_is;
+      ram_is = λ x. rw some h.ram_is;
+      content_is = λ x. rw (some, none) refl;
+      log_is = rw (some, none) (h.log_is ∙ ap (after_all after log) (sym (append-nil (touched (looked_step d ram pick q (outcome_of reply) h.seen).writes))));
+    }
+
+no_failure : (reply : Reply) → (reply ≡ DiskFailed → ⊥) → is_failure reply ≡ false
+no_failure (replies.Value x) h = refl
+no_failure replies.Done h = refl
+no_failure (replies.OutByte x) h = refl
+no_failure (replies.Bytes x) h = refl
+no_failure (replies.Sent x) h = refl
+no_failure replies.Dropped h = refl
+no_failure replies.Idle h = refl
+no_failure replies.Taken h = refl
+no_failure replies.Moved h = refl
+no_failure replies.BadSector h = refl
+no_failure replies.DiskFailed h = absurd (h refl)
+no_failure (replies.Completed x) h = refl
+no_failure (replies.Accepted x) h = refl
+no_failure replies.NeedsReset h = refl
+no_failure replies.NoMemory h = refl
+no_failure (replies.Refused x) h = refl
+
+-- A look never tells that the disk failed.
+not_failed : (form : Option MessageForm) (ram : List ℕ) (q : RingState) (seen : Next) (o : Outcome) → o ≡ disk_failed → MayLookAt form q ram o seen → ⊥
+not_failed form ram q seen fine is h = cc
+not_failed form ram q seen disk_failed is h = h
+not_failed form ram q seen no_memory is h = cc
+
+pub fine_look : {L : Type 0} (after : L → Item → L) (ram : List ℕ) (log : L) (d : DeviceState) (pick : ℕ) (q : RingState) (reply : Reply) (new_ram : List ℕ) (new_log : L) (new : DeviceState) → IsLookedStep after ram log d pick q reply new_ram new_log new → is_failure reply ≡ false
+fine_look after ram log d pick q reply new_ram new_log new h = no_failure reply (λ is. not_failed (message_form d.own pick) ram q h.seen (outcome_of reply) (rw is refl) h.may_look)
+
+-- A request that went on.
+does_by : (a : Advanced) → disk_does (outcome_of (reply_to_advance a)) ≡ not (is_disk_failed a)
+does_by advanced.Idle = refl
+does_by advanced.Moved = refl
+does_by advanced.BadSector = refl
+does_by advanced.DiskFailed = refl
+does_by (advanced.Completed len due) = refl
+
+pub failure_by : (a : Advanced) → is_failure (reply_to_advance a) ≡ is_disk_failed a
+failure_by advanced.Idle = refl
+failure_by advanced.Moved = refl
+failure_by advanced.BadSector = refl
+failure_by advanced.DiskFailed = refl
+failure_by (advanced.Completed len due) = refl
+
+pub advanced_step : {L : Type 0} (after : L → Item → L) (number : ℕ) (honest : Bool) (ram : List ℕ) (content : List Sector) (log : L) (shape : Shape) (r : Registers) (held : List Positions) (own : Own) (pick : ℕ) (q : RingState) (a : Advanced) (new_ram : List ℕ) (new_ring : RingState) (new_content : List Sector) (new_own : Own) (new_log : L) (new_r : Registers)
+    → 0 < length r.queues → a ≡ (advance_step (block_of shape) ram q content (requests_of own) (pick - 1) (not (is_disk_failed a))).answer
+    → IsAfterAdvancing after honest number ram content log (advance_step (block_of shape) ram q content (requests_of own) (pick - 1) (not (is_disk_failed a))) new_ram new_ring new_content (requests_of new_own) new_log
+    → new_own ≡ with_requests own (requests_of new_own) → new_r ≡ cond (is_advance_due a) (with_common r (used_raised r.common)) r → length new_r.queues ≡ length r.queues
+    → IsAdvancedStep after number honest ram content log (held_device shape r held own) pick q (reply_to_advance a) new_ram new_content new_log (held_device shape new_r (set held 0 (record { taking = new_ring.taking; used = new_ring.used })) new_own)
+advanced_step after number honest ram content log shape r held own pick q a new_ram new_ring new_content new_own new_log new_r there answer h own_is registers count =
+    let new : Positions = record { taking = new_ring.taking; used = new_ring.used } in
+    let s = advance_step (block_of shape) ram q content (requests_of own) (pick - 1) (not (is_disk_failed a)) in
+    let place : take (length new_r.queues) (set held 0 new) ≡ set (take (length r.queues) held) 0 new = ap (λ n. take n (set held 0 new)) count ∙ take-set-lt (length r.queues) held 0 new there in
+    let requests : with_requests own (requests_of new_own) ≡ with_requests own s.requests = ap (with_requests own) h.requests_are in
+    record {
+      reply_is = rw (does_by a) (ap reply_to_advance answer);
+      device_is = rw (does_by a, place, registers, h.ring_is, own_is, requests, ← answer) refl;
+      ram_is = λ x. rw (does_by a) (h.ram_is x);
+      content_is = λ x. rw (does_by a) (h.content_is x);
+      log_is = rw (does_by a) h.log_is;
+    }
+
+pub advanced_device : {L : Type 0} (after : L → Item → L) (number : ℕ) (honest : Bool) (ram : List ℕ) (content : List Sector) (log : L) (d : DeviceState) (pick : ℕ) (q : RingState) (reply : Reply) (new_ram : List ℕ) (new_content : List Sector) (new_log : L) (new : DeviceState) → looked_at d pick ≡ None → advanced_at d pick ≡ Some q
+    → IsAdvancedStep after number honest ram content log d pick q reply new_ram new_content new_log new → IsDeviceStep after number honest ram content log d pick reply new_ram new_content new_log new
+unfolding device_step
+advanced_device after number honest ram content log d pick q reply new_ram new_content new_log new none some h = record {
+  seen = next.Empty;
+  may_look = rw none tt;
+  reply_is = rw (none, some) h.reply_is;
+  device_is = rw (none, some) h.device_is;
+  ram_is = λ x. rw (none, some) (h.ram_is x);
+  content_is = λ x. rw (none, some) (h.content_is x);
+  log_is = rw (none, some) h.log_is;
+}

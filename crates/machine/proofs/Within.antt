@@ -1,10 +1,10 @@
 -- The effect of a step lies within its machine, and keeps it sound.
-use Rattle.std.proofs.Common.{◌≡◌, ℕ, zero, suc, ◌+◌, ◌^◌, ◌<◌, ◌≤◌, Bool, true, false, cond, ltb, List, [], ◌∷◌, length, map, Option, Some, None, refl, sym, ap, ◌∙◌, arith}
-use Rattle.std.specs.Prelude.{slice_get}
+use Rattle.std.proofs.Common.{◌≡◌, ℕ, zero, suc, ◌+◌, ◌^◌, ◌<◌, ◌≤◌, Bool, true, false, cond, ltb, List, [], ◌∷◌, length, map, get_or, set, Option, Some, None, refl, sym, ap, ◌∙◌, arith}
+use Rattle.std.specs.Prelude.{slice_get, Result, Ok, Err}
 use Rattle.std.specs.List.{All}
 use Rattle.std.proofs.lemmas.List.{length-set}
 use Rattle.std.proofs.lemmas.List.Elements.{All-set}
-use Rattle.std.proofs.lemmas.Option.{get_or_from_slice_get, slice_get_within}
+use Rattle.std.proofs.lemmas.Option.{get_or_from_slice_get, slice_get-get_or, slice_get_within}
 use borrow.Author.Tests.{ltb-false}
 use Rattle.guestmem.specs.Number.{IsBytes}
 use Rattle.guestmem.specs.Write.{refusal_of}
@@ -12,24 +12,35 @@ use Rattle.guestmem.specs.WriteLaws.{length-set_all}
 use Rattle.guestmem.specs.Writes.{Write, byte_writes, set_all}
 use Rattle.guestmem.specs.declared.error.RamError.{RamError}
 use Rattle.guestmem.specs.declared.error.RamError.TheVariants as ram_error
+use Rattle.blk.specs.Move as blk
+use Rattle.blk.specs.Sectors.{Sector, AreWhole, IsWhole}
+use Rattle.guestmem.specs.Item.{sector}
 use Rattle.chains.specs.State.{RingState}
+use Rattle.chains.specs.declared.transmitting.MessageForm.{MessageForm}
+use Rattle.console.specs.declared.size.ConsoleSize.{ConsoleSize}
 use Rattle.chains.specs.declared.next.Next.{Next}
-use Rattle.machine.specs.DeviceStep.{device_step, looked_at, MayLook, step_at}
+use Rattle.machine.specs.DeviceStep.{advance_at, advanced_at, device_step, looked_at, message_form, MayLook, step_at}
+use Rattle.machine.specs.Effect as effects
 use Rattle.machine.specs.Effect.{Effect, Replacement, applied, replaced_in}
-use Rattle.machine.specs.EffectLaws.{IsSameShape, MayReplace}
-use Rattle.machine.specs.Outcome.{Outcome, fine, no_memory}
-use Rattle.machine.specs.Shapes.{sector_count}
+use Rattle.machine.specs.EffectLaws.{HasItem, IsSameShape, MayReplace, sector_on}
+use Rattle.machine.specs.Outcome.{Outcome, fine, disk_failed, no_memory, disk_does}
+use Rattle.machine.specs.Shapes.{block_of, sector_count}
 use Rattle.machine.specs.Sound.{IsSound, IsSoundDevice}
 use Rattle.machine.specs.State.{MachineState, DeviceState}
-use Rattle.machine.specs.Step.{answer, MaySee, MaySeeAt, read_register, write_register, read_ram, write_ram, put_in, step_device}
+use Rattle.machine.specs.Step.{answer, disk_of, disk_or_none, input_of, MaySee, MaySeeAt, read_register, write_register, read_ram, write_ram, put_by, put_in, set_size, size_by, step_device}
 use Rattle.machine.specs.StepLaws.{Fits, StepStaysWithin, StepKeepsShape, StepStaysSound}
 use Rattle.machine.specs.declared.event.Event.{Event}
-use Rattle.machine.specs.declared.event.Event.TheVariants.{RegRead, RegWrite, MemRead, MemWrite, Step, Input}
+use Rattle.machine.specs.declared.own.Own.{Own}
+use Rattle.machine.specs.declared.own.Own.TheVariants.{Network, Block, Console, Entropy}
+use Rattle.machine.specs.declared.reply.Refusal.{Refusal}
+use Rattle.machine.specs.declared.event.Event.TheVariants.{RegRead, RegWrite, MemRead, MemWrite, Step, Input, Resize}
 use Rattle.machine.proofs.Effects.{replaced_shapes, all_sizes_stay}
 use Rattle.machine.proofs.Inside.{AreInsideRam, all_inside, bytes_after, run_inside, served_inside}
+use Rattle.machine.proofs.Advancing.{advanced_is}
 use Rattle.machine.proofs.Looking.{looked_is}
+use Rattle.machine.proofs.Outstanding.{AreGoodSets}
 use Rattle.machine.proofs.Rings.{looked_ring}
-use Rattle.machine.proofs.Staying.{sound_written, sound_input, sound_stepped}
+use Rattle.machine.proofs.Staying.{HasSectors, advanced_goes_on, block_count, sound_resized, sound_written, sound_input, sound_stepped}
 
 -- The effect of an answer: writes of bytes inside RAM, no sector, and one device replaced by a sound one of its shape.
 abbrev pub StaysSoundAt : ℕ → Option Replacement → Type 0
@@ -41,19 +52,38 @@ may_write : (devices : List DeviceState) (number : ℕ) (found : Option DeviceSt
 may_write devices number None offset width value is = tt
 may_write devices number (Some d) offset width value is = (d, is, refl)
 
+may_put_by : (devices : List DeviceState) (number : ℕ) (d : DeviceState) (bytes : List ℕ) (answer : Result ℕ Refusal) → slice_get devices number ≡ Some d → MayReplace devices (put_by number d bytes answer).effect.replaced
+may_put_by devices number d bytes (Ok count) is = (d, is, refl)
+may_put_by devices number d bytes (Err refusal) is = tt
+
 may_put : (devices : List DeviceState) (number : ℕ) (found : Option DeviceState) (bytes : List ℕ) → slice_get devices number ≡ found → MayReplace devices (put_in number found bytes).effect.replaced
 may_put devices number None bytes is = tt
-may_put devices number (Some d) bytes is = (d, is, refl)
+may_put devices number (Some d) bytes is = may_put_by devices number d bytes (input_of d.own bytes) is
 
-shape_at : (d : DeviceState) (ram : List ℕ) (pick : ℕ) (ring : Option RingState) (o : Outcome) (seen : Next) → (step_at d ram pick ring o seen).device.shape ≡ d.shape
-shape_at d ram pick None o seen = refl
-shape_at d ram pick (Some q) fine seen = refl
-shape_at d ram pick (Some q) no_memory seen = refl
+may_size_by : (devices : List DeviceState) (number : ℕ) (d : DeviceState) (own : Own) (size : ConsoleSize) → slice_get devices number ≡ Some d → MayReplace devices (size_by number d own size).effect.replaced
+may_size_by devices number d (Network frames) size is = tt
+may_size_by devices number d (Block requests) size is = tt
+may_size_by devices number d (Console old held) size is = (d, is, refl)
+may_size_by devices number d (Entropy pool) size is = tt
 
-may_work : (devices : List DeviceState) (number : ℕ) (found : Option DeviceState) (ram : List ℕ) (pick : ℕ) (o : Outcome) (seen : Next) → slice_get devices number ≡ found → MayReplace devices (step_device number found ram pick o seen).effect.replaced
+may_size : (devices : List DeviceState) (number : ℕ) (found : Option DeviceState) (size : ConsoleSize) → slice_get devices number ≡ found → MayReplace devices (set_size number found size).effect.replaced
+may_size devices number None size is = tt
+may_size devices number (Some d) size is = may_size_by devices number d d.own size is
+
+shape_advanced : (d : DeviceState) (ram : List ℕ) (content : List Sector) (pick : ℕ) (ring : Option RingState) (o : Outcome) → (advance_at d ram content pick ring o).device.shape ≡ d.shape
+shape_advanced d ram content pick None o = refl
+shape_advanced d ram content pick (Some q) o = refl
+
+pub shape_at : (d : DeviceState) (ram : List ℕ) (content : List Sector) (pick : ℕ) (ring : Option RingState) (o : Outcome) (seen : Next) → (step_at d ram content pick ring o seen).device.shape ≡ d.shape
+shape_at d ram content pick None o seen = shape_advanced d ram content pick (advanced_at d pick) o
+shape_at d ram content pick (Some q) fine seen = refl
+shape_at d ram content pick (Some q) disk_failed seen = refl
+shape_at d ram content pick (Some q) no_memory seen = refl
+
+may_work : (devices : List DeviceState) (number : ℕ) (found : Option DeviceState) (ram : List ℕ) (content : List Sector) (pick : ℕ) (o : Outcome) (seen : Next) → slice_get devices number ≡ found → MayReplace devices (step_device number found ram content pick o seen).effect.replaced
 unfolding device_step
-may_work devices number None ram pick o seen is = tt
-may_work devices number (Some d) ram pick o seen is = (d, is, shape_at d ram pick (looked_at d pick) o seen)
+may_work devices number None ram content pick o seen is = tt
+may_work devices number (Some d) ram content pick o seen is = (d, is, shape_at d ram content pick (looked_at d pick) o seen)
 
 may_look : (devices : List DeviceState) (found : Option DeviceState) (offset width : ℕ) → MayReplace devices (read_register found offset width).effect.replaced
 may_look devices None offset width = tt
@@ -62,6 +92,7 @@ may_look devices (Some d) offset width = tt
 may_read : (devices : List DeviceState) (ram : List ℕ) (addr len : ℕ) (error : Option RamError) (o : Outcome) → MayReplace devices (read_ram ram addr len error o).effect.replaced
 may_read devices ram addr len (Some error) o = tt
 may_read devices ram addr len None fine = tt
+may_read devices ram addr len None disk_failed = tt
 may_read devices ram addr len None no_memory = tt
 
 may_store : (devices : List DeviceState) (addr : ℕ) (bytes : List ℕ) (error : Option RamError) → MayReplace devices (write_ram addr bytes error).effect.replaced
@@ -73,8 +104,9 @@ may_replace m (RegRead dev off width) o seen = may_look m.devices (slice_get m.d
 may_replace m (RegWrite dev off width value) o seen = may_write m.devices dev (slice_get m.devices dev) off width value refl
 may_replace m (MemRead addr len) o seen = may_read m.devices m.ram addr len (refusal_of (length m.ram) addr len) o
 may_replace m (MemWrite addr bytes) o seen = may_store m.devices addr bytes (refusal_of (length m.ram) addr (length bytes))
-may_replace m (Step dev pick) o seen = may_work m.devices dev (slice_get m.devices dev) m.ram pick o seen refl
+may_replace m (Step dev pick) o seen = may_work m.devices dev (slice_get m.devices dev) m.ram (disk_of m dev) pick o seen refl
 may_replace m (Input dev bytes) o seen = may_put m.devices dev (slice_get m.devices dev) bytes refl
+may_replace m (Resize dev cols rows) o seen = may_size m.devices dev (slice_get m.devices dev) (record { columns = cols; rows = rows }) refl
 
 pub step_shape : StepKeepsShape
 step_shape m e o r f h = record {
@@ -112,16 +144,36 @@ stored_inside len addr bytes None are is = run_inside len addr bytes (not_refuse
 pub sound_at : (m : MachineState) (dev : ℕ) (d : DeviceState) → slice_get m.devices dev ≡ Some d → IsSound m → IsSoundDevice (length m.ram) d
 sound_at m dev d there sound = rw (get_or_from_slice_get m.devices dev d d there) at (sound.devices dev d (slice_get_within m.devices dev d there))
 
-worked_at : (d : DeviceState) (ram : List ℕ) (pick : ℕ) (ring : Option RingState) (o : Outcome) (seen : Next) → looked_at d pick ≡ ring → MayLook ring ram o seen → IsSoundDevice (length ram) d → AreInsideRam (length ram) (step_at d ram pick ring o seen).writes
-worked_at d ram pick None o seen is may sound = tt
-worked_at d ram pick (Some q) fine seen is may sound = served_inside d.shape d.own pick ram q seen (looked_ring (length ram) d pick q sound (looked_is d pick q is)) may sound.own
-worked_at d ram pick (Some q) no_memory seen is may sound = tt
+-- What a device has of the sectors of a sound machine.
+disk_at : (ds : List DeviceState) (disks : List (List Sector)) (dev : ℕ) (d : DeviceState) → map length disks ≡ map (λ (x : DeviceState). sector_count x.shape) ds → All AreWhole disks → slice_get ds dev ≡ Some d → HasSectors d (disk_or_none (slice_get disks dev))
+disk_at [] disks dev d sizes whole there = cc
+disk_at (x ∷ ds) [] dev d sizes whole there = cc
+disk_at (x ∷ ds) (disk ∷ disks) zero d sizes whole there =
+    let one : x ≡ d = cc in
+    let size : length disk ≡ sector_count x.shape = cc in
+    rw (← one) (record { count = size; whole = whole 0 disk (omega arith) })
+disk_at (x ∷ ds) (disk ∷ disks) (suc dev) d sizes whole there =
+    let others : map length disks ≡ map (λ (y : DeviceState). sector_count y.shape) ds = cc in
+    disk_at ds disks dev d others (λ k e below. whole (suc k) e (omega (arith, below))) there
+
+pub has_sectors : (m : MachineState) (dev : ℕ) (d : DeviceState) → slice_get m.devices dev ≡ Some d → IsSound m → HasSectors d (disk_of m dev)
+has_sectors m dev d there sound = disk_at m.devices m.disks dev d sound.disks sound.sectors there
+
+advance_inside : (d : DeviceState) (ram : List ℕ) (content : List Sector) (pick : ℕ) (ring : Option RingState) (o : Outcome) → advanced_at d pick ≡ ring → IsBytes ram → IsSoundDevice (length ram) d → HasSectors d content → AreInsideRam (length ram) (advance_at d ram content pick ring o).writes
+advance_inside d ram content pick None o is are sound has = tt
+advance_inside d ram content pick (Some q) o is are sound has = (advanced_goes_on d ram content pick q (disk_does o) (advanced_is (length ram) d pick q sound is) are sound has).inside
+
+worked_at : (form : Option MessageForm) (d : DeviceState) (ram : List ℕ) (content : List Sector) (pick : ℕ) (ring : Option RingState) (o : Outcome) (seen : Next) → looked_at d pick ≡ ring → MayLook form ring ram o seen → IsBytes ram → IsSoundDevice (length ram) d → HasSectors d content → AreInsideRam (length ram) (step_at d ram content pick ring o seen).writes
+worked_at form d ram content pick None o seen is may are sound has = advance_inside d ram content pick (advanced_at d pick) o refl are sound has
+worked_at form d ram content pick (Some q) fine seen is may are sound has = served_inside (length ram) d.registers d.shape d.own pick ram q seen (looked_ring (length ram) d pick q sound (looked_is d pick q is)) may sound.own
+worked_at form d ram content pick (Some q) disk_failed seen is may are sound has = tt
+worked_at form d ram content pick (Some q) no_memory seen is may are sound has = tt
 
 worked_inside : (m : MachineState) (dev : ℕ) (found : Option DeviceState) (pick : ℕ) (o : Outcome) (seen : Next) → slice_get m.devices dev ≡ found → MaySeeAt found m.ram pick o seen → IsSound m
-    → AreInsideRam (length m.ram) (step_device dev found m.ram pick o seen).effect.writes
+    → AreInsideRam (length m.ram) (step_device dev found m.ram (disk_of m dev) pick o seen).effect.writes
 unfolding device_step
 worked_inside m dev None pick o seen there may sound = tt
-worked_inside m dev (Some d) pick o seen there may sound = worked_at d m.ram pick (looked_at d pick) o seen refl may (sound_at m dev d there sound)
+worked_inside m dev (Some d) pick o seen there may sound = worked_at (message_form d.own pick) d m.ram (disk_of m dev) pick (looked_at d pick) o seen refl may sound.bytes (sound_at m dev d there sound) (has_sectors m dev d there sound)
 
 no_writes_looked : (found : Option DeviceState) (offset width : ℕ) → (read_register found offset width).effect.writes ≡ []
 no_writes_looked None offset width = refl
@@ -134,11 +186,26 @@ no_writes_set dev (Some d) offset width value = refl
 no_writes_read : (ram : List ℕ) (addr len : ℕ) (error : Option RamError) (o : Outcome) → (read_ram ram addr len error o).effect.writes ≡ []
 no_writes_read ram addr len (Some error) o = refl
 no_writes_read ram addr len None fine = refl
+no_writes_read ram addr len None disk_failed = refl
 no_writes_read ram addr len None no_memory = refl
+
+no_writes_size_by : (dev : ℕ) (d : DeviceState) (own : Own) (size : ConsoleSize) → (size_by dev d own size).effect.writes ≡ []
+no_writes_size_by dev d (Network frames) size = refl
+no_writes_size_by dev d (Block requests) size = refl
+no_writes_size_by dev d (Console old held) size = refl
+no_writes_size_by dev d (Entropy pool) size = refl
+
+no_writes_size : (dev : ℕ) (found : Option DeviceState) (size : ConsoleSize) → (set_size dev found size).effect.writes ≡ []
+no_writes_size dev None size = refl
+no_writes_size dev (Some d) size = no_writes_size_by dev d d.own size
+
+no_writes_put_by : (dev : ℕ) (d : DeviceState) (bytes : List ℕ) (answer : Result ℕ Refusal) → (put_by dev d bytes answer).effect.writes ≡ []
+no_writes_put_by dev d bytes (Ok count) = refl
+no_writes_put_by dev d bytes (Err refusal) = refl
 
 no_writes_put : (dev : ℕ) (found : Option DeviceState) (bytes : List ℕ) → (put_in dev found bytes).effect.writes ≡ []
 no_writes_put dev None bytes = refl
-no_writes_put dev (Some d) bytes = refl
+no_writes_put dev (Some d) bytes = no_writes_put_by dev d bytes (input_of d.own bytes)
 
 below_of : (m : MachineState) (e : Event) (o : Outcome) (seen : Next) → MaySee m e o seen → IsSound m → All (λ (w : Write). w.address < length m.ram) (answer m e o seen).effect.writes
 below_of m (RegRead dev off width) o seen may sound = rw (no_writes_looked (slice_get m.devices dev) off width) (none_below (length m.ram))
@@ -146,7 +213,8 @@ below_of m (RegWrite dev off width value) o seen may sound = rw (no_writes_set d
 below_of m (MemRead addr len) o seen may sound = rw (no_writes_read m.ram addr len (refusal_of (length m.ram) addr len) o) (none_below (length m.ram))
 below_of m (MemWrite addr bytes) o seen may sound = below_stored (length m.ram) addr bytes (refusal_of (length m.ram) addr (length bytes)) refl
 below_of m (Step dev pick) o seen may sound =
-    all_inside (length m.ram) (step_device dev (slice_get m.devices dev) m.ram pick o seen).effect.writes (worked_inside m dev (slice_get m.devices dev) pick o seen refl may sound)
+    all_inside (length m.ram) (step_device dev (slice_get m.devices dev) m.ram (disk_of m dev) pick o seen).effect.writes (worked_inside m dev (slice_get m.devices dev) pick o seen refl may sound)
+below_of m (Resize dev cols rows) o seen may sound = rw (no_writes_size dev (slice_get m.devices dev) (record { columns = cols; rows = rows })) (none_below (length m.ram))
 below_of m (Input dev bytes) o seen may sound = rw (no_writes_put dev (slice_get m.devices dev) bytes) (none_below (length m.ram))
 
 inside_of : (m : MachineState) (e : Event) (o : Outcome) (seen : Next) → MaySee m e o seen → Fits e → IsSound m → AreInsideRam (length m.ram) (answer m e o seen).effect.writes
@@ -155,9 +223,43 @@ inside_of m (RegWrite dev off width value) o seen may fits sound = rw (no_writes
 inside_of m (MemRead addr len) o seen may fits sound = rw (no_writes_read m.ram addr len (refusal_of (length m.ram) addr len) o) tt
 inside_of m (MemWrite addr bytes) o seen may fits sound = stored_inside (length m.ram) addr bytes (refusal_of (length m.ram) addr (length bytes)) fits.1 refl
 inside_of m (Step dev pick) o seen may fits sound = worked_inside m dev (slice_get m.devices dev) pick o seen refl may sound
+inside_of m (Resize dev cols rows) o seen may fits sound = rw (no_writes_size dev (slice_get m.devices dev) (record { columns = cols; rows = rows })) tt
 inside_of m (Input dev bytes) o seen may fits sound = rw (no_writes_put dev (slice_get m.devices dev) bytes) tt
 
--- No step sets a sector yet.
+-- The sectors that a step sets are there, and whole.
+abbrev IsGoodIn : MachineState → effects.SectorSet → Type 0
+IsGoodIn m s = HasItem m (sector s.device s.number) × IsWhole s.content
+
+abbrev AreGoodIn : MachineState → List effects.SectorSet → Type 0
+AreGoodIn m [] = Unit {0}
+AreGoodIn m (s ∷ ss) = IsGoodIn m s × AreGoodIn m ss
+
+good_sector : (disk : Option (List Sector)) (n : ℕ) → n < length (disk_or_none disk) → (content : Sector) × (sector_on disk n ≡ Some content)
+good_sector None n below = absurd (omega (arith, below))
+good_sector (Some disk) n below = (get_or disk n None, slice_get-get_or disk n None below)
+
+good_sets : (m : MachineState) (dev : ℕ) (sets : List blk.SectorSet) → AreGoodSets (length (disk_of m dev)) sets → AreGoodIn m (effects.sets_on dev sets)
+good_sets m dev [] h = tt
+good_sets m dev (s ∷ ss) h = ((good_sector (slice_get m.disks dev) s.number h.0.there, h.0.whole), good_sets m dev ss h.1)
+
+advance_sets : (d : DeviceState) (ram : List ℕ) (content : List Sector) (pick : ℕ) (ring : Option RingState) (o : Outcome) → advanced_at d pick ≡ ring → IsBytes ram → IsSoundDevice (length ram) d → HasSectors d content → AreGoodSets (length content) (advance_at d ram content pick ring o).sets
+advance_sets d ram content pick None o is are sound has = tt
+advance_sets d ram content pick (Some q) o is are sound has =
+    let count : length content ≡ (block_of d.shape).sectors = has.count ∙ sym (block_count d.shape) in
+    rw count (advanced_goes_on d ram content pick q (disk_does o) (advanced_is (length ram) d pick q sound is) are sound has).sets
+
+worked_sets : (d : DeviceState) (ram : List ℕ) (content : List Sector) (pick : ℕ) (ring : Option RingState) (o : Outcome) (seen : Next) → IsBytes ram → IsSoundDevice (length ram) d → HasSectors d content → AreGoodSets (length content) (step_at d ram content pick ring o seen).sets
+worked_sets d ram content pick None o seen are sound has = advance_sets d ram content pick (advanced_at d pick) o refl are sound has
+worked_sets d ram content pick (Some q) fine seen are sound has = tt
+worked_sets d ram content pick (Some q) disk_failed seen are sound has = tt
+worked_sets d ram content pick (Some q) no_memory seen are sound has = tt
+
+sets_worked : (m : MachineState) (dev : ℕ) (found : Option DeviceState) (pick : ℕ) (o : Outcome) (seen : Next) → slice_get m.devices dev ≡ found → IsSound m → AreGoodIn m (step_device dev found m.ram (disk_of m dev) pick o seen).effect.sectors
+unfolding device_step
+sets_worked m dev None pick o seen there sound = tt
+sets_worked m dev (Some d) pick o seen there sound = good_sets m dev _ (worked_sets d m.ram (disk_of m dev) pick (looked_at d pick) o seen sound.bytes (sound_at m dev d there sound) (has_sectors m dev d there sound))
+
+-- Of all events only a step sets sectors.
 no_sectors_looked : (found : Option DeviceState) (offset width : ℕ) → (read_register found offset width).effect.sectors ≡ []
 no_sectors_looked None offset width = refl
 no_sectors_looked (Some d) offset width = refl
@@ -169,32 +271,49 @@ no_sectors_set dev (Some d) offset width value = refl
 no_sectors_read : (ram : List ℕ) (addr len : ℕ) (error : Option RamError) (o : Outcome) → (read_ram ram addr len error o).effect.sectors ≡ []
 no_sectors_read ram addr len (Some error) o = refl
 no_sectors_read ram addr len None fine = refl
+no_sectors_read ram addr len None disk_failed = refl
 no_sectors_read ram addr len None no_memory = refl
 
 no_sectors_stored : (addr : ℕ) (bytes : List ℕ) (error : Option RamError) → (write_ram addr bytes error).effect.sectors ≡ []
 no_sectors_stored addr bytes (Some error) = refl
 no_sectors_stored addr bytes None = refl
 
-no_sectors_worked : (dev : ℕ) (found : Option DeviceState) (ram : List ℕ) (pick : ℕ) (o : Outcome) (seen : Next) → (step_device dev found ram pick o seen).effect.sectors ≡ []
-no_sectors_worked dev None ram pick o seen = refl
-no_sectors_worked dev (Some d) ram pick o seen = refl
+no_sectors_size_by : (dev : ℕ) (d : DeviceState) (own : Own) (size : ConsoleSize) → (size_by dev d own size).effect.sectors ≡ []
+no_sectors_size_by dev d (Network frames) size = refl
+no_sectors_size_by dev d (Block requests) size = refl
+no_sectors_size_by dev d (Console old held) size = refl
+no_sectors_size_by dev d (Entropy pool) size = refl
+
+no_sectors_size : (dev : ℕ) (found : Option DeviceState) (size : ConsoleSize) → (set_size dev found size).effect.sectors ≡ []
+no_sectors_size dev None size = refl
+no_sectors_size dev (Some d) size = no_sectors_size_by dev d d.own size
+
+no_sectors_put_by : (dev : ℕ) (d : DeviceState) (bytes : List ℕ) (answer : Result ℕ Refusal) → (put_by dev d bytes answer).effect.sectors ≡ []
+no_sectors_put_by dev d bytes (Ok count) = refl
+no_sectors_put_by dev d bytes (Err refusal) = refl
 
 no_sectors_put : (dev : ℕ) (found : Option DeviceState) (bytes : List ℕ) → (put_in dev found bytes).effect.sectors ≡ []
 no_sectors_put dev None bytes = refl
-no_sectors_put dev (Some d) bytes = refl
+no_sectors_put dev (Some d) bytes = no_sectors_put_by dev d bytes (input_of d.own bytes)
 
-no_sectors : (m : MachineState) (e : Event) (o : Outcome) (seen : Next) → (answer m e o seen).effect.sectors ≡ []
-no_sectors m (RegRead dev off width) o seen = no_sectors_looked (slice_get m.devices dev) off width
-no_sectors m (RegWrite dev off width value) o seen = no_sectors_set dev (slice_get m.devices dev) off width value
-no_sectors m (MemRead addr len) o seen = no_sectors_read m.ram addr len (refusal_of (length m.ram) addr len) o
-no_sectors m (MemWrite addr bytes) o seen = no_sectors_stored addr bytes (refusal_of (length m.ram) addr (length bytes))
-no_sectors m (Step dev pick) o seen = no_sectors_worked dev (slice_get m.devices dev) m.ram pick o seen
-no_sectors m (Input dev bytes) o seen = no_sectors_put dev (slice_get m.devices dev) bytes
+sets_of : (m : MachineState) (e : Event) (o : Outcome) (seen : Next) → IsSound m → AreGoodIn m (answer m e o seen).effect.sectors
+sets_of m (RegRead dev off width) o seen sound = rw (no_sectors_looked (slice_get m.devices dev) off width) tt
+sets_of m (RegWrite dev off width value) o seen sound = rw (no_sectors_set dev (slice_get m.devices dev) off width value) tt
+sets_of m (MemRead addr len) o seen sound = rw (no_sectors_read m.ram addr len (refusal_of (length m.ram) addr len) o) tt
+sets_of m (MemWrite addr bytes) o seen sound = rw (no_sectors_stored addr bytes (refusal_of (length m.ram) addr (length bytes))) tt
+sets_of m (Step dev pick) o seen sound = sets_worked m dev (slice_get m.devices dev) pick o seen refl sound
+sets_of m (Resize dev cols rows) o seen sound = rw (no_sectors_size dev (slice_get m.devices dev) (record { columns = cols; rows = rows })) tt
+sets_of m (Input dev bytes) o seen sound = rw (no_sectors_put dev (slice_get m.devices dev) bytes) tt
+
+all_there : (m : MachineState) (ss : List effects.SectorSet) → AreGoodIn m ss → All (λ (s : effects.SectorSet). HasItem m (sector s.device s.number)) ss
+all_there m [] h k d below = absurd (omega (arith, below))
+all_there m (s ∷ ss) h zero d below = h.0.0
+all_there m (s ∷ ss) h (suc k) d below = all_there m ss h.1 k d (omega (arith, below))
 
 pub step_within : StepStaysWithin
 step_within m e o r f sound h = rw h.effect_is (record {
   writes = below_of m e o h.seen h.may_see sound;
-  sectors = rw (no_sectors m e o h.seen) (λ k d below. absurd (omega (arith, below)));
+  sectors = all_there m (answer m e o h.seen).effect.sectors (sets_of m e o h.seen sound);
   replaced = may_replace m e o h.seen;
 })
 
@@ -205,17 +324,30 @@ set_sound len dev devices None offset width value there all small = tt
 set_sound len dev devices (Some d) offset width value there all small =
     sound_written len d offset width value small (rw (get_or_from_slice_get devices dev d d there) at (all dev d (slice_get_within devices dev d there)))
 
+size_sound_by : (len dev : ℕ) (d : DeviceState) (own : Own) (size : ConsoleSize) → d.own ≡ own → size.columns < 2 ^ 16 → size.rows < 2 ^ 16 → IsSoundDevice len d → StaysSoundAt len (size_by dev d own size).effect.replaced
+size_sound_by len dev d (Network frames) size is columns rows sound = tt
+size_sound_by len dev d (Block requests) size is columns rows sound = tt
+size_sound_by len dev d (Console old held) size is columns rows sound = sound_resized len d old size held is columns rows sound
+size_sound_by len dev d (Entropy pool) size is columns rows sound = tt
+
+size_sound : (len dev : ℕ) (devices : List DeviceState) (found : Option DeviceState) (size : ConsoleSize) → slice_get devices dev ≡ found → All (IsSoundDevice len) devices → size.columns < 2 ^ 16 → size.rows < 2 ^ 16
+    → StaysSoundAt len (set_size dev found size).effect.replaced
+size_sound len dev devices None size there all columns rows = tt
+size_sound len dev devices (Some d) size there all columns rows = size_sound_by len dev d d.own size refl columns rows (rw (get_or_from_slice_get devices dev d d there) at (all dev d (slice_get_within devices dev d there)))
+
+put_sound_by : (len dev : ℕ) (d : DeviceState) (bytes : List ℕ) (answer : Result ℕ Refusal) → IsBytes bytes → IsSoundDevice len d → StaysSoundAt len (put_by dev d bytes answer).effect.replaced
+put_sound_by len dev d bytes (Ok count) are sound = sound_input len d bytes are sound
+put_sound_by len dev d bytes (Err refusal) are sound = tt
+
 put_sound : (len dev : ℕ) (devices : List DeviceState) (found : Option DeviceState) (bytes : List ℕ) → slice_get devices dev ≡ found → All (IsSoundDevice len) devices → IsBytes bytes
     → StaysSoundAt len (put_in dev found bytes).effect.replaced
 put_sound len dev devices None bytes there all are = tt
-put_sound len dev devices (Some d) bytes there all are =
-    sound_input len d bytes are (rw (get_or_from_slice_get devices dev d d there) at (all dev d (slice_get_within devices dev d there)))
+put_sound len dev devices (Some d) bytes there all are = put_sound_by len dev d bytes (input_of d.own bytes) are (rw (get_or_from_slice_get devices dev d d there) at (all dev d (slice_get_within devices dev d there)))
 
-work_sound : (len dev : ℕ) (devices : List DeviceState) (found : Option DeviceState) (ram : List ℕ) (pick : ℕ) (o : Outcome) (seen : Next) → slice_get devices dev ≡ found → MaySeeAt found ram pick o seen → All (IsSoundDevice len) devices
-    → StaysSoundAt len (step_device dev found ram pick o seen).effect.replaced
-work_sound len dev devices None ram pick o seen there may all = tt
-work_sound len dev devices (Some d) ram pick o seen there may all =
-    sound_stepped len d ram pick o seen may (rw (get_or_from_slice_get devices dev d d there) at (all dev d (slice_get_within devices dev d there)))
+work_sound : (m : MachineState) (dev : ℕ) (found : Option DeviceState) (pick : ℕ) (o : Outcome) (seen : Next) → slice_get m.devices dev ≡ found → MaySeeAt found m.ram pick o seen → IsSound m
+    → StaysSoundAt (length m.ram) (step_device dev found m.ram (disk_of m dev) pick o seen).effect.replaced
+work_sound m dev None pick o seen there may sound = tt
+work_sound m dev (Some d) pick o seen there may sound = sound_stepped d m.ram (disk_of m dev) pick o seen may sound.bytes (sound_at m dev d there sound) (has_sectors m dev d there sound)
 
 look_sound : (len : ℕ) (found : Option DeviceState) (offset width : ℕ) → StaysSoundAt len (read_register found offset width).effect.replaced
 look_sound len None offset width = tt
@@ -224,6 +356,7 @@ look_sound len (Some d) offset width = tt
 read_sound : (len : ℕ) (ram : List ℕ) (addr count : ℕ) (error : Option RamError) (o : Outcome) → StaysSoundAt len (read_ram ram addr count error o).effect.replaced
 read_sound len ram addr count (Some error) o = tt
 read_sound len ram addr count None fine = tt
+read_sound len ram addr count None disk_failed = tt
 read_sound len ram addr count None no_memory = tt
 
 store_sound : (len addr : ℕ) (bytes : List ℕ) (error : Option RamError) → StaysSoundAt len (write_ram addr bytes error).effect.replaced
@@ -235,7 +368,8 @@ replaced_sound m (RegRead dev off width) o seen may fits sound = look_sound (len
 replaced_sound m (RegWrite dev off width value) o seen may fits sound = set_sound (length m.ram) dev m.devices (slice_get m.devices dev) off width value refl sound.devices fits.3
 replaced_sound m (MemRead addr len) o seen may fits sound = read_sound (length m.ram) m.ram addr len (refusal_of (length m.ram) addr len) o
 replaced_sound m (MemWrite addr bytes) o seen may fits sound = store_sound (length m.ram) addr bytes (refusal_of (length m.ram) addr (length bytes))
-replaced_sound m (Step dev pick) o seen may fits sound = work_sound (length m.ram) dev m.devices (slice_get m.devices dev) m.ram pick o seen refl may sound.devices
+replaced_sound m (Step dev pick) o seen may fits sound = work_sound m dev (slice_get m.devices dev) pick o seen refl may sound
+replaced_sound m (Resize dev cols rows) o seen may fits sound = size_sound (length m.ram) dev m.devices (slice_get m.devices dev) (record { columns = cols; rows = rows }) refl sound.devices fits.1 fits.2
 replaced_sound m (Input dev bytes) o seen may fits sound = put_sound (length m.ram) dev m.devices (slice_get m.devices dev) bytes refl sound.devices fits.1
 
 all_replaced : (len : ℕ) (devices : List DeviceState) (r : Option Replacement) → All (IsSoundDevice len) devices → StaysSoundAt len r → All (IsSoundDevice len) (replaced_in devices r)
@@ -246,13 +380,24 @@ count_replaced : (devices : List DeviceState) (r : Option Replacement) → lengt
 count_replaced devices None = refl
 count_replaced devices (Some r) = length-set devices r.number r.device
 
-sizes_by_shape : (ds : List DeviceState) → map (λ (d : DeviceState). sector_count d.shape) ds ≡ map sector_count (map (λ (d : DeviceState). d.shape) ds)
+pub sizes_by_shape : (ds : List DeviceState) → map (λ (d : DeviceState). sector_count d.shape) ds ≡ map sector_count (map (λ (d : DeviceState). d.shape) ds)
 sizes_by_shape [] = refl
 sizes_by_shape (d ∷ ds) = ap (λ (ns : List ℕ). sector_count d.shape ∷ ns) (sizes_by_shape ds)
 
+-- Disks are whole after sectors were set that are whole.
+whole_on : (disks : List (List Sector)) (s : effects.SectorSet) (disk : Option (List Sector)) → slice_get disks s.device ≡ disk → IsWhole s.content → All AreWhole disks → All AreWhole (effects.set_on disks s disk)
+whole_on disks s None at whole all = all
+whole_on disks s (Some disk) at whole all =
+    let old : AreWhole disk = rw (get_or_from_slice_get disks s.device disk disk at) at (all s.device disk (slice_get_within disks s.device disk at)) in
+    All-set AreWhole disks s.device (set disk s.number s.content) (All-set IsWhole disk s.number s.content whole old) all
+
+whole_set : (m : MachineState) (disks : List (List Sector)) (ss : List effects.SectorSet) → AreGoodIn m ss → All AreWhole disks → All AreWhole (effects.sectors_set disks ss)
+whole_set m disks [] h all = all
+whole_set m disks (s ∷ ss) h all = whole_set m (effects.set_on disks s (slice_get disks s.device)) ss h.1 (whole_on disks s (slice_get disks s.device) refl h.0.1 all)
+
 -- Two machines of one shape, where devices, RAM and sectors are sound.
-sound_by : (m k : MachineState) → IsSameShape m k → length k.devices ≡ length m.devices → All (IsSoundDevice (length m.ram)) k.devices → IsBytes k.ram → k.disks ≡ m.disks → IsSound m → IsSound k
-sound_by m k same count devices bytes disks sound = record {
+pub sound_by : (m k : MachineState) → IsSameShape m k → length k.devices ≡ length m.devices → All (IsSoundDevice (length m.ram)) k.devices → IsBytes k.ram → All AreWhole k.disks → IsSound m → IsSound k
+sound_by m k same count devices bytes whole sound = record {
   whole_pages = rw same.ram sound.whole_pages;
   some_pages = rw same.ram sound.some_pages;
   few_pages = rw same.ram sound.few_pages;
@@ -261,13 +406,13 @@ sound_by m k same count devices bytes disks sound = record {
   devices = rw same.ram devices;
   bytes = bytes;
   disks = same.disks ∙ sound.disks ∙ sizes_by_shape m.devices ∙ sym (ap (map sector_count) same.devices) ∙ sym (sizes_by_shape k.devices);
-  sectors = rw disks sound.sectors;
+  sectors = whole;
 }
 
 pub step_sound : StepStaysSound
 step_sound m e o r f sound fits h =
     let effect = (answer m e o h.seen).effect in
-    let none : f.sectors ≡ [] = ap (λ (x : Effect). x.sectors) h.effect_is ∙ no_sectors m e o h.seen in
     let devices : All (IsSoundDevice (length m.ram)) (replaced_in m.devices f.replaced) = rw h.effect_is (all_replaced (length m.ram) m.devices effect.replaced sound.devices (replaced_sound m e o h.seen h.may_see fits sound)) in
     let bytes : IsBytes (set_all m.ram f.writes) = rw h.effect_is (bytes_after m.ram effect.writes sound.bytes (inside_of m e o h.seen h.may_see fits sound)) in
-    sound_by m (applied m f) (step_shape m e o r f h) (count_replaced m.devices f.replaced) devices bytes (rw none refl) sound
+    let whole : All AreWhole (effects.sectors_set m.disks f.sectors) = rw h.effect_is (whole_set m m.disks effect.sectors (sets_of m e o h.seen sound) sound.sectors) in
+    sound_by m (applied m f) (step_shape m e o r f h) (count_replaced m.devices f.replaced) devices bytes whole sound

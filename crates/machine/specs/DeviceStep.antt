@@ -1,5 +1,5 @@
 -- A step of a device: the queue that it looks at, and what it makes of what it sees there.
-use Rattle.std.specs.Prelude.{ℕ, ◌==◌, ◌&&◌, not, Bool, List, [], length, Option, Some, None, slice_get, slice_set, if◌then◌else◌}
+use Rattle.std.specs.Prelude.{ℕ, zero, suc, ◌-◌, ◌==◌, ◌&&◌, nat_lt, not, Bool, true, false, List, [], length, Option, Some, None, slice_get, slice_set, if◌then◌else◌}
 use Rattle.guestmem.specs.Writes.{Write}
 use Rattle.mmio.specs.State.{Registers, with_common, queue_at}
 use Rattle.mmio.specs.Status.{is_running}
@@ -8,23 +8,52 @@ use Rattle.mmio.specs.QueueRegisters.{notified_cleared}
 use Rattle.mmio.specs.declared.queue.Queue.{Queue}
 use Rattle.chains.specs.State.{RingState, state_of}
 use Rattle.chains.specs.LongQueue.{IsLongQueue}
+use Rattle.chains.specs.Transmit.{MayWantMemory, transmit_step}
+use Rattle.chains.specs.declared.transmitting.MessageForm.{MessageForm}
+use Rattle.chains.specs.declared.transmitting.Transmitted.{Transmitted}
+use Rattle.chains.specs.declared.transmitting.Transmitted.TheVariants as messages
 use Rattle.chains.specs.Ring.{Answers}
 use Rattle.chains.specs.declared.next.Next.{Next}
 use Rattle.chains.specs.declared.position.Positions.{Positions}
+use Rattle.blk.specs.Advance.{AdvanceStep, advance_step}
+use Rattle.blk.specs.Move.{SectorSet}
+use Rattle.blk.specs.Sectors.{Sector}
+use Rattle.blk.specs.Take.{take_step}
+use Rattle.blk.specs.declared.advancing.Advanced.{Advanced}
+use Rattle.blk.specs.declared.advancing.Advanced.TheVariants as advanced
+use Rattle.blk.specs.declared.request.Request.{Request}
+use Rattle.blk.specs.declared.requests.TheConstants.{REQUESTS_MAX}
+use Rattle.blk.specs.declared.taking.Taken.{Taken}
+use Rattle.blk.specs.declared.taking.Taken.TheVariants as taken
 use Rattle.console.specs.Receive.{receive_step}
+use Rattle.console.specs.Transmit.{text_form}
+use Rattle.net.specs.Receive as receiving
+use Rattle.net.specs.Transmit.{frame_form}
+use Rattle.net.specs.declared.receiving.Received as net
+use Rattle.net.specs.declared.receiving.Received.TheVariants as frames
 use Rattle.console.specs.declared.receiving.Received.{Received}
 use Rattle.console.specs.declared.receiving.Received.TheVariants as received
-use Rattle.machine.specs.Outcome.{Outcome, fine, no_memory}
+use Rattle.machine.specs.Outcome.{Outcome, fine, disk_failed, no_memory, disk_does}
+use Rattle.machine.specs.Shapes.{block_of}
 use Rattle.machine.specs.State.{DeviceState}
 use Rattle.machine.specs.declared.own.Own.{Own}
-use Rattle.machine.specs.declared.own.Own.TheVariants.{Entropy}
+use Rattle.machine.specs.declared.own.Own.TheVariants.{Network, Block, Console, Entropy}
 use Rattle.machine.specs.declared.reply.Reply.{Reply}
-use Rattle.machine.specs.declared.reply.Reply.TheVariants.{Idle, Completed, NeedsReset, NoMemory}
+use Rattle.machine.specs.declared.reply.Reply.TheVariants.{Idle, Moved, BadSector, DiskFailed, Completed, Sent, Dropped, NeedsReset, NoMemory}
+use Rattle.machine.specs.declared.reply.Reply.TheVariants as replies
 use Rattle.machine.specs.declared.served.Served.{Served}
+use Rattle.machine.specs.declared.shape.Shape.{Shape}
 use Rattle.machine.specs.declared.served.Served.TheVariants as served
 
--- A device has something to do at its queue of this number: an entropy device has bytes to give (VIRTIO 1.2, 5.4.6).
+-- A device has something to do at its queue of this number: at queue 0 a network device has a frame to give, and a console
+-- bytes; at queue 1 both take what there is (VIRTIO 1.2, 5.1.6 and 5.3.6). A block device has room for one more request
+-- (5.2.6), and an entropy device has bytes to give (5.4.6).
 abbrev pub has_work : Own → ℕ → Bool
+has_work (Network frames) zero = not (length frames == 0)
+has_work (Network frames) (suc number) = true
+has_work (Console size held) zero = not (length held == 0)
+has_work (Console size held) (suc number) = true
+has_work (Block requests) number = nat_lt (length requests) REQUESTS_MAX
 has_work (Entropy pool) number = not (length pool == 0)
 
 -- A step looks at a queue only where the driver drives the device and it has not asked for a reset, the queue is ready and
@@ -40,15 +69,48 @@ looked_by d number q p = None
 abbrev pub looked_at : DeviceState → ℕ → Option RingState
 looked_at d pick = looked_by d pick (queue_at d.registers pick) (slice_get d.positions pick)
 
--- What a look may see: what the queue answers about its next chain. Memory is refused only at a queue with more descriptors
--- in a row than are handled without memory.
-abbrev pub MayLookAt : RingState → List ℕ → Outcome → Next → Type 0
-MayLookAt q ram fine seen = Answers ram q seen
-MayLookAt q ram no_memory seen = IsLongQueue ram q
+-- The messages that a device takes from its queue of this number: a network device frames and a console text, from queue 1.
+abbrev pub message_form : Own → ℕ → Option MessageForm
+message_form (Network frames) (suc number) = Some frame_form
+message_form (Console size held) (suc number) = Some text_form
+message_form _ _ = None
 
-abbrev pub MayLook : Option RingState → List ℕ → Outcome → Next → Type 0
-MayLook None ram o seen = Unit {0}
-MayLook (Some q) ram o seen = MayLookAt q ram o seen
+-- Memory is refused only at a queue with more descriptors in a row than are handled without memory, or for a message.
+abbrev pub MayRefuse : Option MessageForm → List ℕ → RingState → Type 0
+MayRefuse None ram q = IsLongQueue ram q
+MayRefuse (Some form) ram q = MayWantMemory ram q form
+
+-- What a look may see: what the queue answers about its next chain.
+abbrev pub MayLookAt : Option MessageForm → RingState → List ℕ → Outcome → Next → Type 0
+MayLookAt form q ram fine seen = Answers ram q seen
+MayLookAt form q ram disk_failed seen = ⊥
+MayLookAt form q ram no_memory seen = MayRefuse form ram q
+
+abbrev pub MayLook : Option MessageForm → Option RingState → List ℕ → Outcome → Next → Type 0
+MayLook form None ram o seen = Unit {0}
+MayLook form (Some q) ram o seen = MayLookAt form q ram o seen
+
+-- The outstanding requests of a device: only a block device has any.
+abbrev pub requests_of : Own → List Request
+requests_of (Block requests) = requests
+requests_of _ = []
+
+abbrev pub with_requests : Own → List Request → Own
+with_requests (Block old) requests = Block requests
+with_requests own requests = own
+
+-- A step of a driven device whose pick is above 0 advances the outstanding request of that place, from 1, in the order of
+-- taking (VIRTIO 1.2, 5.2.6).
+abbrev pub advances : DeviceState → ℕ → Bool
+advances d pick = is_running d.registers.common && nat_lt 0 pick && nat_lt (pick - 1) (length (requests_of d.own))
+
+abbrev pub advanced_by : DeviceState → ℕ → Option Queue → Option Positions → Option RingState
+advanced_by d pick (Some q) (Some p) = if advances d pick then Some (state_of q d.registers.common.features p) else None
+advanced_by d pick q p = None
+
+-- The ring on which the request of a pick is published, if there is such a request: that of queue 0.
+abbrev pub advanced_at : DeviceState → ℕ → Option RingState
+advanced_at d pick = advanced_by d pick (queue_at d.registers 0) (slice_get d.positions 0)
 
 -- What serving a queue brings: how it went, the bytes written, the ring's positions, and what the kind has after it.
 pub record Service : Type 0 where
@@ -62,9 +124,42 @@ served_of received.Empty = served.Empty
 served_of received.Malformed = served.Malformed
 served_of (received.Completed len due) = served.Published (Completed len) due
 
+abbrev pub served_taking : Taken → Served
+served_taking taken.Empty = served.Empty
+served_taking taken.Malformed = served.Malformed
+served_taking taken.Taken = served.Published replies.Taken false
+
+abbrev pub served_frame : net.Received → Served
+served_frame frames.Empty = served.Empty
+served_frame frames.Malformed = served.Malformed
+served_frame frames.Dropped = served.Published Dropped false
+served_frame (frames.Completed len due) = served.Published (Completed len) due
+
+abbrev pub served_message : Transmitted → Served
+served_message messages.Empty = served.Empty
+served_message messages.Malformed = served.Malformed
+served_message (messages.Sent bytes due) = served.Published (Sent bytes) due
+
+-- A message is taken from a queue; what only the kind has stays.
+abbrev pub take_message : MessageForm → Own → List ℕ → RingState → Next → Service
+take_message form own ram q seen =
+    let s = transmit_step ram q form seen in
+    record { served = served_message s.answer; writes = s.writes; ring = s.ring; own = own }
+
 -- Serving the queue of a number, by what it answers about its next chain.
-abbrev pub serve : Own → ℕ → List ℕ → RingState → Next → Service
-serve (Entropy pool) number ram q seen =
+abbrev pub serve : Shape → Own → ℕ → List ℕ → RingState → Next → Service
+serve shape (Network frames) zero ram q seen =
+    let s = receiving.receive_step ram q frames seen in
+    record { served = served_frame s.answer; writes = s.writes; ring = s.ring; own = Network s.left }
+serve shape (Network frames) (suc number) ram q seen = take_message frame_form (Network frames) ram q seen
+serve shape (Console size held) zero ram q seen =
+    let s = receive_step ram q held seen in
+    record { served = served_of s.answer; writes = s.writes; ring = s.ring; own = Console size s.left }
+serve shape (Console size held) (suc number) ram q seen = take_message text_form (Console size held) ram q seen
+serve shape (Block requests) number ram q seen =
+    let s = take_step ram q (block_of shape) requests seen in
+    record { served = served_taking s.answer; writes = s.writes; ring = s.ring; own = Block s.requests }
+serve shape (Entropy pool) number ram q seen =
     let s = receive_step ram q pool seen in
     record { served = served_of s.answer; writes = s.writes; ring = s.ring; own = Entropy s.left }
 
@@ -80,14 +175,15 @@ registers_after r pick served.Empty = notified_cleared r pick (queue_at r pick)
 registers_after r pick served.Malformed = with_common r (reset_asked r.common)
 registers_after r pick (served.Published reply is_due) = if is_due then with_common r (used_raised r.common) else r
 
--- What a step of a device answers, the bytes that it writes, and the device after it.
+-- What a step of a device answers, the bytes that it writes, the sectors of its disk that it sets, and the device after it.
 pub record DeviceAnswer : Type 0 where
   pub reply : Reply
   pub writes : List Write
+  pub sets : List SectorSet
   pub device : DeviceState
 
 abbrev pub unmoved : DeviceState → Reply → DeviceAnswer
-unmoved d reply = record { reply = reply; writes = []; device = d }
+unmoved d reply = record { reply = reply; writes = []; sets = []; device = d }
 
 abbrev pub after_service : DeviceState → ℕ → Service → DeviceState
 after_service d pick s = record d {
@@ -97,13 +193,50 @@ after_service d pick s = record d {
 }
 
 abbrev pub after_serving : DeviceState → ℕ → Service → DeviceAnswer
-after_serving d pick s = record { reply = reply_of s.served; writes = s.writes; device = after_service d pick s }
+after_serving d pick s = record { reply = reply_of s.served; writes = s.writes; sets = []; device = after_service d pick s }
 
--- A step of a device, by the ring that it looks at, the outcome, and what the queue answers.
-abbrev pub step_at : DeviceState → List ℕ → ℕ → Option RingState → Outcome → Next → DeviceAnswer
-step_at d ram pick None o seen = unmoved d Idle
-step_at d ram pick (Some q) no_memory seen = unmoved d NoMemory
-step_at d ram pick (Some q) fine seen = after_serving d pick (serve d.own pick ram q seen)
+abbrev pub reply_to_advance : Advanced → Reply
+reply_to_advance advanced.Idle = Idle
+reply_to_advance advanced.Moved = Moved
+reply_to_advance advanced.BadSector = BadSector
+reply_to_advance advanced.DiskFailed = DiskFailed
+reply_to_advance (advanced.Completed len is_due) = Completed len
 
-unfoldable pub device_step : DeviceState → List ℕ → ℕ → Outcome → Next → DeviceAnswer
-device_step d ram pick o seen = step_at d ram pick (looked_at d pick) o seen
+abbrev pub is_advance_due : Advanced → Bool
+is_advance_due (advanced.Completed len is_due) = is_due
+is_advance_due _ = false
+
+-- A request went on: the ring's positions are those of queue 0, and a chain that was published raises the interrupt where
+-- one is due.
+abbrev pub after_advance : DeviceState → AdvanceStep → DeviceState
+after_advance d s = record d {
+  registers = if is_advance_due s.answer then with_common d.registers (used_raised d.registers.common) else d.registers;
+  positions = slice_set d.positions 0 (record { taking = s.ring.taking; used = s.ring.used });
+  own = with_requests d.own s.requests;
+}
+
+abbrev pub after_advancing : DeviceState → AdvanceStep → DeviceAnswer
+after_advancing d s = record { reply = reply_to_advance s.answer; writes = s.writes; sets = s.sets; device = after_advance d s }
+
+-- The outstanding request of a pick goes on, on this ring.
+abbrev pub advance_on : DeviceState → List ℕ → List Sector → ℕ → RingState → Outcome → DeviceAnswer
+advance_on d ram content pick q o = after_advancing d (advance_step (block_of d.shape) ram q content (requests_of d.own) (pick - 1) (disk_does o))
+
+-- A step that looks at no queue, by the ring of the request that it advances, if there is one.
+abbrev pub advance_at : DeviceState → List ℕ → List Sector → ℕ → Option RingState → Outcome → DeviceAnswer
+advance_at d ram content pick None o = unmoved d Idle
+advance_at d ram content pick (Some q) o = advance_on d ram content pick q o
+
+-- A look at the next chain of a ring, by the outcome and what the queue answers.
+abbrev pub looked_step : DeviceState → List ℕ → ℕ → RingState → Outcome → Next → DeviceAnswer
+looked_step d ram pick q no_memory seen = unmoved d NoMemory
+looked_step d ram pick q disk_failed seen = unmoved d Idle
+looked_step d ram pick q fine seen = after_serving d pick (serve d.shape d.own pick ram q seen)
+
+-- A step of a device with such sectors, by the ring that it looks at, the outcome, and what the queue answers.
+abbrev pub step_at : DeviceState → List ℕ → List Sector → ℕ → Option RingState → Outcome → Next → DeviceAnswer
+step_at d ram content pick None o seen = advance_at d ram content pick (advanced_at d pick) o
+step_at d ram content pick (Some q) o seen = looked_step d ram pick q o seen
+
+unfoldable pub device_step : DeviceState → List ℕ → List Sector → ℕ → Outcome → Next → DeviceAnswer
+device_step d ram content pick o seen = step_at d ram content pick (looked_at d pick) o seen

@@ -1,33 +1,56 @@
 -- Steps of devices that were made.
-use Rattle.std.specs.Prelude.{◌≡◌, ℕ, List}
+use Rattle.std.specs.Prelude.{◌≡◌, ◌++◌, ℕ, List, Bool, IsTrue}
 use Rattle.guestmem.specs.Item.{Item, after_all}
 use Rattle.guestmem.specs.Writes.{set_all, touched}
+use Rattle.blk.specs.Move.{sectors_set, sectors_touched}
+use Rattle.blk.specs.Sectors.{Sector}
 use Rattle.chains.specs.Ring.{Answers}
 use Rattle.chains.specs.State.{RingState}
 use Rattle.chains.specs.declared.next.Next.{Next}
 use Rattle.machine.specs.State.{DeviceState}
-use Rattle.machine.specs.DeviceStep.{device_step, looked_at, serve, MayLook}
+use Rattle.machine.specs.DeviceStep.{device_step, looked_at, looked_step, message_form, advance_on, serve, MayLook, MayLookAt}
 use Rattle.machine.specs.Outcome.{outcome_of}
 use Rattle.machine.specs.declared.own.Own.{Own}
 use Rattle.machine.specs.declared.reply.Reply.{Reply}
 use Rattle.machine.specs.declared.served.Served.{Served}
+use Rattle.machine.specs.declared.shape.Shape.{Shape}
 
 -- The queue of a number was served, by what it answers: how it went, RAM and a log after it, the ring, and what the kind
 -- has.
-pub record IsServed {L : Type 0} (after : L → Item → L) (ram : List ℕ) (q : RingState) (own : Own) (number : ℕ) (log : L) (served : Served) (new_ram : List ℕ) (new_ring : RingState) (new_own : Own) (new_log : L) : Type 0 where
+pub record IsServed {L : Type 0} (after : L → Item → L) (ram : List ℕ) (q : RingState) (shape : Shape) (own : Own) (number : ℕ) (log : L) (served : Served) (new_ram : List ℕ) (new_ring : RingState) (new_own : Own) (new_log : L) : Type 0 where
   pub seen : Next
   pub answers : Answers ram q seen
-  pub served_is : served ≡ (serve own number ram q seen).served
-  pub ram_is : new_ram ≡ set_all ram (serve own number ram q seen).writes
-  pub log_is : new_log ≡ after_all after log (touched (serve own number ram q seen).writes)
-  pub ring_is : new_ring ≡ (serve own number ram q seen).ring
-  pub own_is : new_own ≡ (serve own number ram q seen).own
+  pub served_is : served ≡ (serve shape own number ram q seen).served
+  pub ram_is : new_ram ≡ set_all ram (serve shape own number ram q seen).writes
+  pub log_is : new_log ≡ after_all after log (touched (serve shape own number ram q seen).writes)
+  pub ring_is : new_ring ≡ (serve shape own number ram q seen).ring
+  pub own_is : new_own ≡ (serve shape own number ram q seen).own
 
--- A step of a device that was made: its reply, RAM and a log after it, and the device. The outcome is read off the reply.
-pub record IsDeviceStep {L : Type 0} (after : L → Item → L) (ram : List ℕ) (log : L) (d : DeviceState) (pick : ℕ) (reply : Reply) (new_ram : List ℕ) (new_log : L) (new : DeviceState) : Type 0 where
+-- A step that looks at a ring was made. The outcome is read off the reply.
+pub record IsLookedStep {L : Type 0} (after : L → Item → L) (ram : List ℕ) (log : L) (d : DeviceState) (pick : ℕ) (q : RingState) (reply : Reply) (new_ram : List ℕ) (new_log : L) (new : DeviceState) : Type 0 where
   pub seen : Next
-  pub may_look : MayLook (looked_at d pick) ram (outcome_of reply) seen
-  pub reply_is : reply ≡ (device_step d ram pick (outcome_of reply) seen).reply
-  pub ram_is : new_ram ≡ set_all ram (device_step d ram pick (outcome_of reply) seen).writes
-  pub log_is : new_log ≡ after_all after log (touched (device_step d ram pick (outcome_of reply) seen).writes)
-  pub device_is : new ≡ (device_step d ram pick (outcome_of reply) seen).device
+  pub may_look : MayLookAt (message_form d.own pick) q ram (outcome_of reply) seen
+  pub reply_is : reply ≡ (looked_step d ram pick q (outcome_of reply) seen).reply
+  pub device_is : new ≡ (looked_step d ram pick q (outcome_of reply) seen).device
+  pub ram_is : new_ram ≡ set_all ram (looked_step d ram pick q (outcome_of reply) seen).writes
+  pub log_is : new_log ≡ after_all after log (touched (looked_step d ram pick q (outcome_of reply) seen).writes)
+
+-- A step that advances a request was made. RAM and the sectors are what they are to be where the disk is
+-- honest.
+pub record IsAdvancedStep {L : Type 0} (after : L → Item → L) (number : ℕ) (honest : Bool) (ram : List ℕ) (content : List Sector) (log : L) (d : DeviceState) (pick : ℕ) (q : RingState) (reply : Reply) (new_ram : List ℕ) (new_content : List Sector) (new_log : L) (new : DeviceState) : Type 0 where
+  pub reply_is : reply ≡ (advance_on d ram content pick q (outcome_of reply)).reply
+  pub device_is : new ≡ (advance_on d ram content pick q (outcome_of reply)).device
+  pub ram_is : IsTrue honest → new_ram ≡ set_all ram (advance_on d ram content pick q (outcome_of reply)).writes
+  pub content_is : IsTrue honest → new_content ≡ sectors_set content (advance_on d ram content pick q (outcome_of reply)).sets
+  pub log_is : new_log ≡ after_all after log (touched (advance_on d ram content pick q (outcome_of reply)).writes ++ sectors_touched number (advance_on d ram content pick q (outcome_of reply)).sets)
+
+-- A step of the device of a number that was made: its reply, and what is after it. The outcome is read off the reply. RAM and
+-- the sectors are what they are to be where the disk is honest.
+pub record IsDeviceStep {L : Type 0} (after : L → Item → L) (number : ℕ) (honest : Bool) (ram : List ℕ) (content : List Sector) (log : L) (d : DeviceState) (pick : ℕ) (reply : Reply) (new_ram : List ℕ) (new_content : List Sector) (new_log : L) (new : DeviceState) : Type 0 where
+  pub seen : Next
+  pub may_look : MayLook (message_form d.own pick) (looked_at d pick) ram (outcome_of reply) seen
+  pub reply_is : reply ≡ (device_step d ram content pick (outcome_of reply) seen).reply
+  pub device_is : new ≡ (device_step d ram content pick (outcome_of reply) seen).device
+  pub ram_is : IsTrue honest → new_ram ≡ set_all ram (device_step d ram content pick (outcome_of reply) seen).writes
+  pub content_is : IsTrue honest → new_content ≡ sectors_set content (device_step d ram content pick (outcome_of reply) seen).sets
+  pub log_is : new_log ≡ after_all after log (touched (device_step d ram content pick (outcome_of reply) seen).writes ++ sectors_touched number (device_step d ram content pick (outcome_of reply) seen).sets)

@@ -1,5 +1,6 @@
 -- The answers of direct calls, as the replies to the events that they stand for.
-use Rattle.std.specs.Prelude.{ℕ, List, Result, Ok, Err}
+use Rattle.std.specs.Prelude.{ℕ, List, Option, Result, Ok, Err}
+use Rattle.machine.specs.Step.{out_reply}
 use Rattle.machine.specs.declared.reply.Refusal.{Refusal}
 use Rattle.machine.specs.declared.reply.Reply.{Reply}
 use Rattle.machine.specs.declared.reply.Reply.TheVariants.{Value, Done, Bytes, Accepted, Refused}
@@ -11,6 +12,11 @@ value_reply (Err refusal) = Refused refusal
 abbrev pub done_reply : {A : Type 0} → Result A Refusal → Reply
 done_reply (Ok x) = Done
 done_reply (Err refusal) = Refused refusal
+
+-- A write of a register: what it gives out, if anything.
+abbrev pub written_result : Result (Option ℕ) Refusal → Reply
+written_result (Ok out) = out_reply out
+written_result (Err refusal) = Refused refusal
 
 -- A read into a buffer, which holds these bytes after it.
 abbrev pub bytes_reply : {A : Type 0} → Result A Refusal → List ℕ → Reply

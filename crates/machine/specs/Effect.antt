@@ -1,13 +1,19 @@
 use Rattle.std.specs.Prelude.{ℕ, List, [], ◌∷◌, ◌++◌, map, Option, Some, None, slice_get, slice_set}
 use Rattle.guestmem.specs.Writes.{Write, set_all, touched}
 use Rattle.guestmem.specs.Item.{Item, sector}
-use Rattle.machine.specs.State.{DeviceState, Sector, MachineState}
+use Rattle.blk.specs.Sectors.{Sector}
+use Rattle.blk.specs.Move as blk
+use Rattle.machine.specs.State.{DeviceState, MachineState}
 
 -- A sector that is set: its bytes, or none where it becomes bad.
 pub record SectorSet : Type 0 where
   pub device : ℕ
   pub number : ℕ
   pub content : Sector
+
+-- The sectors that are set on the disk of the device of this number.
+abbrev pub sets_on : ℕ → List blk.SectorSet → List SectorSet
+sets_on device sets = map (λ s. record { device = device; number = s.number; content = s.content }) sets
 
 -- A device that takes the place of the one that has its number.
 pub record Replacement : Type 0 where

@@ -3,7 +3,8 @@ use Rattle.std.specs.Prelude.{◌≡◌, ℕ, ◌*◌, ◌<◌, List, length, ma
 use Rattle.guestmem.specs.Item.{Item, page, sector}
 use Rattle.guestmem.specs.Laws.{Among}
 use Rattle.guestmem.specs.Page.{page_of}
-use Rattle.machine.specs.State.{MachineState, DeviceState, Sector}
+use Rattle.blk.specs.Sectors.{Sector}
+use Rattle.machine.specs.State.{MachineState, DeviceState}
 use Rattle.machine.specs.Effect.{Effect, Replacement, applied, items_of}
 
 -- The sectors of a device's disk.

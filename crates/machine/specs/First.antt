@@ -1,11 +1,15 @@
 -- Machines as they begin, and as they were saved.
-use Rattle.std.specs.Prelude.{ℕ, ◌*◌, ◌||◌, ◌&&◌, ◌==◌, not, nat_lt, if◌then◌else◌, Bool, true, false, List, [], ◌∷◌, length, map, replicate, Option, Some, None}
+use Rattle.std.specs.Prelude.{◌≡◌, ℕ, ◌*◌, ◌||◌, ◌&&◌, ◌==◌, not, nat_lt, if◌then◌else◌, Bool, true, false, List, [], ◌∷◌, length, map, replicate, Option, Some, None}
 use Rattle.guestmem.specs.declared.limits.TheConstants.{PAGE_SIZE, PAGES_MAX}
-use Rattle.machine.specs.Shapes.{first_device, disk_size_of, disk_sizes}
-use Rattle.machine.specs.State.{MachineState, DeviceState, Sector}
-use Rattle.machine.specs.Seen.{DeviceSeen, Marks, no_marks}
+use Rattle.guestmem.specs.Number.{IsBytes}
+use Rattle.blk.specs.Disk.{DiskState}
+use Rattle.blk.specs.Sectors.{Sector, SectorsState, seen_of}
+use Rattle.machine.specs.Shapes.{first_device, disk_size_of, disk_sizes, is_beyond}
+use Rattle.machine.specs.State.{MachineState, DeviceState}
+use Rattle.machine.specs.Seen.{DeviceSeen, Marks, no_marks, sectors_of, marks_of}
 use Rattle.machine.specs.declared.machine.TheConstants.{DEVICES_MAX}
 use Rattle.machine.specs.declared.shape.Shape.{Shape}
+use Rattle.machine.specs.declared.shape.Shape.TheVariants.{Net, Block}
 use Rattle.machine.specs.declared.new_error.NewError.{NewError}
 use Rattle.machine.specs.declared.new_error.NewError.TheVariants.{BadShape, DiskMismatch}
 
@@ -40,6 +44,11 @@ first_machine pages shapes disks = record {
   disks = dealt_sectors shapes disks;
 }
 
+-- A device beyond its limits.
+abbrev pub are_beyond : List Shape → Bool
+are_beyond [] = false
+are_beyond (shape ∷ shapes) = is_beyond shape || are_beyond shapes
+
 abbrev pub are_same : List ℕ → List ℕ → Bool
 are_same [] [] = true
 are_same (a ∷ as_) (b ∷ bs) = a == b && are_same as_ bs
@@ -49,14 +58,53 @@ are_same _ _ = false
 -- must be those of the devices that have one, in their order.
 abbrev pub new_refusal : ℕ → List Shape → List ℕ → Option NewError
 new_refusal pages shapes sizes =
-    if (pages == 0 || nat_lt PAGES_MAX pages || length shapes == 0 || nat_lt DEVICES_MAX (length shapes)) then Some BadShape
+    if (pages == 0 || nat_lt PAGES_MAX pages || length shapes == 0 || nat_lt DEVICES_MAX (length shapes) || are_beyond shapes) then Some BadShape
     else if not (are_same (disk_sizes shapes) sizes) then Some DiskMismatch
     else None
 
--- What is seen of a device without a disk.
-abbrev pub seen_without_disk : DeviceState → DeviceSeen
-seen_without_disk state = record { state = state; sectors = []; marks = no_marks }
+-- The MAC of a network device is 6 bytes, and the id of a block device 20.
+pub record AreBytes (count : ℕ) (list : List ℕ) : Type 0 where
+  pub size : length list ≡ count
+  pub bytes : IsBytes list
 
--- A machine as it was saved.
+abbrev pub HasBytes : Shape → Type 0
+HasBytes (Net mac) = AreBytes 6 mac
+HasBytes (Block sectors read_only id) = AreBytes 20 id
+HasBytes _ = Unit {0}
+
+-- What is known of a disk beside its sectors.
+abbrev pub marks_in : DiskState → Marks
+marks_in d = record { failures = d.failures; honest = d.honest; steady = d.steady }
+
+-- A disk whose sectors are all good, and disks of whose sectors these are bad.
+abbrev pub good_sectors : DiskState → SectorsState
+good_sectors d = record { content = map Some d.sectors; failures = d.failures; honest = d.honest; steady = d.steady }
+
+abbrev pub marked : List DiskState → List (List Bool) → List SectorsState
+marked [] bad = []
+marked (d ∷ ds) [] = []
+marked (d ∷ ds) (marks ∷ bad) = seen_of d marks ∷ marked ds bad
+
+abbrev pub marked_sectors : List DiskState → List (List Bool) → List (List Sector)
+marked_sectors disks bad = map (λ s. s.content) (marked disks bad)
+
+-- There is a mark for each sector of each disk, and no other.
+abbrev pub AreMarksOf : List DiskState → List (List Bool) → Type 0
+AreMarksOf disks bad = map length bad ≡ map (λ d. length d.sectors) disks
+
+-- Devices as they are seen, of which those with a disk have the next of these.
+abbrev pub seen_with : DeviceState → Option SectorsState → DeviceSeen
+seen_with state disk = record { state = state; sectors = sectors_of disk; marks = marks_of disk }
+
+abbrev pub next_disk : Option ℕ → List SectorsState → Option SectorsState
+next_disk None disks = None
+next_disk (Some size) [] = None
+next_disk (Some size) (disk ∷ disks) = Some disk
+
+abbrev pub seen_devices : List DeviceState → List SectorsState → List DeviceSeen
+seen_devices [] disks = []
+seen_devices (d ∷ ds) disks = seen_with d (next_disk (disk_size_of d.shape) disks) ∷ seen_devices ds (left_over (disk_size_of d.shape) disks)
+
+-- A machine as it was saved, whose disks have these sectors in the order of the devices that have one.
 abbrev pub saved_machine : List ℕ → List DeviceState → List (List Sector) → MachineState
 saved_machine ram states disks = record { ram = ram; devices = states; disks = dealt_sectors (map (λ d. d.shape) states) disks }

@@ -1,5 +1,5 @@
 -- The queue that a step looks at, and what is malformed there.
-use Rattle.std.specs.Prelude.{◌≡◌, ℕ, true, false, Some, slice_get}
+use Rattle.std.specs.Prelude.{◌≡◌, ℕ, zero, suc, true, false, Some, slice_get}
 use Rattle.mmio.specs.State.{queue_at}
 use Rattle.mmio.specs.Status.{is_running}
 use Rattle.mmio.specs.declared.queue.Queue.{Queue}
@@ -8,11 +8,15 @@ use Rattle.chains.specs.Ring.{Answers}
 use Rattle.chains.specs.declared.next.Next.{Next}
 use Rattle.chains.specs.declared.next.Next.TheVariants as next
 use Rattle.chains.specs.declared.position.Positions.{Positions}
-use Rattle.console.specs.Receive.{takes_bytes}
+use Rattle.blk.specs.Take.{is_no_request}
+use Rattle.chains.specs.ReceiveBuffer.{takes_bytes}
+use Rattle.chains.specs.Transmit.{is_message}
+use Rattle.console.specs.Transmit.{text_form}
+use Rattle.net.specs.Transmit.{frame_form}
 use Rattle.machine.specs.DeviceStep.{has_work}
 use Rattle.machine.specs.State.{DeviceState, MachineState}
 use Rattle.machine.specs.declared.own.Own.{Own}
-use Rattle.machine.specs.declared.own.Own.TheVariants.{Entropy}
+use Rattle.machine.specs.declared.own.Own.TheVariants.{Network, Block, Console, Entropy}
 
 -- A step of a device with this pick looks at this ring: the driver drives the device, which has not asked for a reset; the
 -- pick names one of its queues, which is ready and notified; and the device has something to do there (VIRTIO 1.2, 2.1.2).
@@ -27,11 +31,18 @@ pub record IsLookedAt (d : DeviceState) (pick : ℕ) (q : RingState) : Type 0 wh
   pub work : has_work d.own pick ≡ true
   pub is : q ≡ state_of queue d.registers.common.features positions
 
--- What a queue of a number answers is malformed for the device: no chain at all, or one that is none for its kind. An
--- entropy device has use only for a chain without a readable byte and with a writable one (VIRTIO 1.2, 5.4.6.1).
+-- What a queue of a number answers is malformed for the device: no chain at all, or one that is none for its kind. A network
+-- device, a console and an entropy device have use only for a chain without a readable byte and with a writable one at their
+-- queue 0 (VIRTIO 1.2, 5.1.6.3, 5.3.6 and 5.4.6.1), and the first two only for a message at queue 1; a block device only
+-- for a chain with a header of 16 readable bytes and a writable byte for the status (5.2.6).
 abbrev pub IsMalformed : Own → ℕ → Next → Type 0
 IsMalformed own number next.Empty = ⊥
 IsMalformed own number next.Malformed = Unit {0}
+IsMalformed (Network frames) zero (next.Chain c) = takes_bytes c ≡ false
+IsMalformed (Network frames) (suc number) (next.Chain c) = is_message frame_form c ≡ false
+IsMalformed (Block requests) number (next.Chain c) = is_no_request c ≡ true
+IsMalformed (Console size held) zero (next.Chain c) = takes_bytes c ≡ false
+IsMalformed (Console size held) (suc number) (next.Chain c) = is_message text_form c ≡ false
 IsMalformed (Entropy pool) number (next.Chain c) = takes_bytes c ≡ false
 
 -- A step of a device with this pick looks at a queue that is malformed.

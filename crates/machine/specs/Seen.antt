@@ -1,8 +1,8 @@
 -- What contracts see of a machine.
-use Rattle.std.specs.Prelude.{ℕ, List, [], map, Option, Some, None, Bool, true}
+use Rattle.std.specs.Prelude.{ℕ, ◌+◌, ◌%◌, ◌^◌, List, [], map, All, Option, Some, None, Bool, true, IsTrue, slice_get, slice_set, if◌then◌else◌}
 use Rattle.guestmem.specs.Memory.{Memory}
-use Rattle.blk.specs.Disk.{DiskState}
-use Rattle.machine.specs.State.{DeviceState, Sector, MachineState}
+use Rattle.blk.specs.Sectors.{Sector, SectorsState}
+use Rattle.machine.specs.State.{DeviceState, MachineState}
 
 -- What is known of a device's disk beside its sectors: it is no part of the machine's state.
 pub record Marks : Type 0 where
@@ -36,13 +36,35 @@ all_marks s = map (λ d. d.marks) s.devices
 abbrev pub no_marks : Marks
 no_marks = record { failures = 0; honest = true; steady = true }
 
-abbrev pub disk_marks : DiskState → Marks
-disk_marks disk = record { failures = disk.failures; honest = disk.honest; steady = disk.steady }
+abbrev pub disk_marks : SectorsState → Marks
+disk_marks s = record { failures = s.failures; honest = s.honest; steady = s.steady }
 
-abbrev pub sectors_of : {D : Type 0} → (D → DiskState) → Option D → List Sector
-sectors_of state None = []
-sectors_of state (Some disk) = map Some (state disk).sectors
+abbrev pub sectors_of : Option SectorsState → List Sector
+sectors_of None = []
+sectors_of (Some s) = s.content
 
-abbrev pub marks_of : {D : Type 0} → (D → DiskState) → Option D → Marks
-marks_of state None = no_marks
-marks_of state (Some disk) = disk_marks (state disk)
+abbrev pub marks_of : Option SectorsState → Marks
+marks_of None = no_marks
+marks_of (Some s) = disk_marks s
+
+-- The marks of the disk of the device of a number. A device that is not there has no disk.
+abbrev pub or_no_marks : Option Marks → Marks
+or_no_marks None = no_marks
+or_no_marks (Some marks) = marks
+
+abbrev pub marks_at : List Marks → ℕ → Marks
+marks_at marks dev = or_no_marks (slice_get marks dev)
+
+-- Every disk is honest: a read gives what was written.
+abbrev pub AreHonest : Seen → Type 0
+AreHonest s = All (λ m. IsTrue m.honest) (all_marks s)
+
+-- The marks of all disks after a call of one of them failed.
+abbrev pub failed_once : Marks → Marks
+failed_once m = record m { failures = (m.failures + 1) % 2 ^ 64 }
+
+abbrev pub failed_if : Bool → Marks → Marks
+failed_if failed m = if failed then failed_once m else m
+
+abbrev pub failed_at : List Marks → ℕ → List Marks
+failed_at marks dev = slice_set marks dev (failed_once (marks_at marks dev))

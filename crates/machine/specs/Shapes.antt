@@ -1,18 +1,28 @@
 -- What each shape of device is.
-use Rattle.std.specs.Prelude.{ℕ, ◌+◌, ◌^◌, List, [], ◌∷◌, Option, Some, None, replicate}
+use Rattle.std.specs.Prelude.{ℕ, ◌+◌, ◌^◌, ◌==◌, ◌||◌, nat_lt, Bool, false, List, [], ◌∷◌, Option, Some, None, replicate, if◌then◌else◌}
+use Rattle.byteorder.specs.Endian.{little_bytes}
+use Rattle.blk.specs.declared.shape.BlockShape.{BlockShape}
+use Rattle.console.specs.Size as sizes
+use Rattle.console.specs.declared.features.TheConstants.{SIZE, EMERGENCY_WRITE}
+use Rattle.console.specs.declared.size.ConsoleSize.{ConsoleSize}
+use Rattle.net.specs.declared.features.TheConstants.{MAC}
 use Rattle.mmio.specs.State.{first_registers}
 use Rattle.chains.specs.declared.position.Positions.{Positions}
 use Rattle.mmio.specs.declared.common.Common.{Common}
 use Rattle.mmio.specs.declared.queue.Queue.{Queue}
 use Rattle.machine.specs.declared.own.Own.{Own}
 use Rattle.machine.specs.declared.own.Own.TheVariants as own
+use Rattle.machine.specs.declared.shape.TheConstants.{SECTORS_MAX}
 use Rattle.machine.specs.declared.shape.Shape.{Shape}
-use Rattle.machine.specs.declared.shape.Shape.TheVariants.{Entropy}
+use Rattle.machine.specs.declared.shape.Shape.TheVariants.{Net, Block, Console, Entropy}
 use Rattle.machine.specs.State.{DeviceState}
 use Rattle.machine.specs.QueuePositions.{first_positions}
 
 -- The device's number (VIRTIO 1.2, 5).
 abbrev pub device_id_of : Shape → ℕ
+device_id_of (Net mac) = 1
+device_id_of (Block sectors read_only id) = 2
+device_id_of Console = 3
 device_id_of Entropy = 4
 
 -- The feature bits that every device offers: INDIRECT_DESC 28, EVENT_IDX 29, VERSION_1 32 and RING_PACKED 34
@@ -20,20 +30,44 @@ device_id_of Entropy = 4
 abbrev pub common_features : ℕ
 common_features = 2 ^ 28 + 2 ^ 29 + 2 ^ 32 + 2 ^ 34
 
--- The feature bits that the device offers.
+-- The feature bits that a block device offers besides: FLUSH 9, and RO 5 where the driver may only read it (VIRTIO 1.2,
+-- 5.2.3).
+abbrev pub block_features : Bool → ℕ
+block_features read_only = if read_only then 2 ^ 9 + 2 ^ 5 else 2 ^ 9
+
+-- The feature bits that the device offers: a network device MAC 5 besides (VIRTIO 1.2, 5.1.3), and a console SIZE 0 and
+-- EMERG_WRITE 2 (5.3.3).
 abbrev pub offered_of : Shape → ℕ
+offered_of (Net mac) = common_features + MAC
+offered_of (Block sectors read_only id) = common_features + block_features read_only
+offered_of Console = common_features + (SIZE + EMERGENCY_WRITE)
 offered_of Entropy = common_features
 
--- How many queues it has (VIRTIO 1.2, 5.4.2).
+-- How many queues it has (VIRTIO 1.2, 5.1.2, 5.2.2, 5.3.2 and 5.4.2).
 abbrev pub queues_of : Shape → ℕ
+queues_of (Net mac) = 2
+queues_of (Block sectors read_only id) = 1
+queues_of Console = 2
 queues_of Entropy = 1
 
--- Its configuration space (VIRTIO 1.2, 5.4.4: the entropy device has none).
-abbrev pub configuration_of : DeviceState → List ℕ
-configuration_of d = []
+-- The configuration space of a console is that of its size (VIRTIO 1.2, 5.3.4).
+abbrev pub size_configuration : Own → List ℕ
+size_configuration (own.Console size held) = sizes.configuration_of size
+size_configuration _ = []
+
+-- The configuration space: of a network device the six bytes of its MAC (VIRTIO 1.2, 5.1.4), of a block device the number of
+-- its sectors, in 8 bytes (5.2.4); an entropy device has none (5.4.4).
+abbrev pub configuration_of : Shape → Own → List ℕ
+configuration_of (Net mac) o = mac
+configuration_of (Block sectors read_only id) o = little_bytes 8 sectors
+configuration_of Console o = size_configuration o
+configuration_of Entropy o = []
 
 -- How many sectors its disk has, if it has one.
 abbrev pub disk_size_of : Shape → Option ℕ
+disk_size_of (Net mac) = None
+disk_size_of (Block sectors read_only id) = Some sectors
+disk_size_of Console = None
 disk_size_of Entropy = None
 
 abbrev pub or_zero : Option ℕ → ℕ
@@ -53,8 +87,25 @@ abbrev pub disk_sizes : List Shape → List ℕ
 disk_sizes [] = []
 disk_sizes (shape ∷ shapes) = with_size (disk_size_of shape) (disk_sizes shapes)
 
--- What a device of its kind begins with.
+-- What a device is as a block device. Another device has no sectors.
+abbrev pub block_of : Shape → BlockShape
+block_of (Block sectors read_only id) = record { sectors = sectors; read_only = read_only; id = id }
+block_of _ = record { sectors = 0; read_only = false; id = replicate 20 0 }
+
+-- What a device may be made as: a block device has 1 to 2,097,152 sectors.
+abbrev pub is_beyond : Shape → Bool
+is_beyond (Block sectors read_only id) = sectors == 0 || nat_lt SECTORS_MAX sectors
+is_beyond _ = false
+
+-- A console begins with 80 columns and 25 rows.
+abbrev pub first_size : ConsoleSize
+first_size = record { columns = 80; rows = 25 }
+
+-- What each kind of device begins with.
 abbrev pub first_own : Shape → Own
+first_own (Net mac) = own.Network []
+first_own (Block sectors read_only id) = own.Block []
+first_own Console = own.Console first_size []
 first_own Entropy = own.Entropy []
 
 -- A new device in a machine whose RAM has so many bytes.

@@ -1,5 +1,6 @@
 -- A machine, as what two equal machines agree on.
-use Rattle.std.specs.Prelude.{ℕ, List, Option}
+use Rattle.std.specs.Prelude.{List, ℕ}
+use Rattle.blk.specs.Sectors.{Sector}
 use Rattle.mmio.specs.State.{Registers}
 use Rattle.chains.specs.declared.position.Positions.{Positions}
 use Rattle.machine.specs.declared.own.Own.{Own}
@@ -13,12 +14,8 @@ pub record DeviceState : Type 0 where
   pub positions : List Positions
   pub own : Own
 
--- The bytes of a sector, or none where it is bad.
-abbrev pub Sector : Type 0
-Sector = Option (List ℕ)
-
--- A machine: one list of bytes, its devices in order, and for each device the sectors of its disk, of which a device
--- without a disk has none. Two machines are equal when all of this is.
+-- A machine: one list of bytes, its devices in order, and for each device the sectors of its disk, each 512 bytes or bad. A
+-- device without a disk has no sectors. Two machines are equal when all of this is.
 pub record MachineState : Type 0 where
   pub ram : List ℕ
   pub devices : List DeviceState

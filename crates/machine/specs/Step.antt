@@ -1,5 +1,5 @@
 -- Steps of a machine.
-use Rattle.std.specs.Prelude.{min, ◌-◌, ◌++◌, ◌≡◌, ℕ, List, [], take, drop, length, Option, Some, None, slice_get}
+use Rattle.std.specs.Prelude.{min, ◌-◌, ◌++◌, ◌≡◌, ℕ, List, [], ◌∷◌, take, drop, length, Option, Some, None, slice_get, Result, Ok, Err, if◌then◌else◌}
 use Rattle.guestmem.specs.Item.{Item, after_all}
 use Rattle.guestmem.specs.Write.{refusal_of}
 use Rattle.guestmem.specs.Writes.{byte_writes}
@@ -8,22 +8,29 @@ use Rattle.guestmem.specs.declared.error.RamError.TheVariants as ram_error
 use Rattle.mmio.specs.RegisterRead.{register_read}
 use Rattle.mmio.specs.RegisterWrite.{register_write}
 use Rattle.mmio.specs.State.{Registers}
+use Rattle.mmio.specs.declared.queue.Queue.{Queue}
 use Rattle.chains.specs.declared.next.Next.{Next}
+use Rattle.console.specs.Emergency.{emergency_byte}
+use Rattle.console.specs.Size.{resized}
 use Rattle.console.specs.declared.host_bytes.TheConstants.{HOST_BYTES_MAX}
-use Rattle.machine.specs.DeviceStep.{device_step, looked_at, MayLook}
-use Rattle.machine.specs.Effect.{Effect, no_effect, applied, items_of}
-use Rattle.machine.specs.Outcome.{Outcome, fine, no_memory, outcome_of}
+use Rattle.console.specs.declared.size.ConsoleSize.{ConsoleSize}
+use Rattle.net.specs.Inbox.{is_frame_len, kept_of, frames_with}
+use Rattle.blk.specs.Sectors.{Sector}
+use Rattle.blk.specs.declared.request.Request.{Request}
+use Rattle.machine.specs.DeviceStep.{device_step, looked_at, message_form, MayLook}
+use Rattle.machine.specs.Effect.{Effect, no_effect, sets_on, applied, items_of}
+use Rattle.machine.specs.Outcome.{Outcome, fine, disk_failed, no_memory, outcome_of}
 use Rattle.machine.specs.QueuePositions.{kept_positions}
 use Rattle.machine.specs.Shapes.{configuration_of}
 use Rattle.machine.specs.State.{DeviceState, MachineState}
 use Rattle.machine.specs.declared.event.Event.{Event}
-use Rattle.machine.specs.declared.event.Event.TheVariants.{RegRead, RegWrite, MemRead, MemWrite, Step, Input}
+use Rattle.machine.specs.declared.event.Event.TheVariants.{RegRead, RegWrite, MemRead, MemWrite, Step, Input, Resize}
 use Rattle.machine.specs.declared.own.Own.{Own}
-use Rattle.machine.specs.declared.own.Own.TheVariants.{Entropy}
+use Rattle.machine.specs.declared.own.Own.TheVariants.{Network, Block, Console, Entropy}
 use Rattle.machine.specs.declared.reply.Refusal.{Refusal}
-use Rattle.machine.specs.declared.reply.Refusal.TheVariants.{NoDevice, OutOfRam, TooLong}
+use Rattle.machine.specs.declared.reply.Refusal.TheVariants.{NoDevice, OutOfRam, TooLong, WrongKind, BadFrame}
 use Rattle.machine.specs.declared.reply.Reply.{Reply}
-use Rattle.machine.specs.declared.reply.Reply.TheVariants.{Value, Done, Bytes, Accepted, NoMemory, Refused}
+use Rattle.machine.specs.declared.reply.Reply.TheVariants.{Value, Done, OutByte, Bytes, Accepted, NoMemory, Refused}
 
 -- What a machine answers to an event, and what changes.
 pub record Answer : Type 0 where
@@ -49,15 +56,34 @@ becomes number device reply = record {
 
 -- The driver reads a register: the table's value.
 abbrev pub register_value_of : DeviceState → ℕ → ℕ → ℕ
-register_value_of d offset width = register_read d.registers offset width (configuration_of d)
+register_value_of d offset width = register_read d.registers offset width (configuration_of d.shape d.own)
 
 abbrev pub read_register : Option DeviceState → ℕ → ℕ → Answer
 read_register None offset width = refused NoDevice
 read_register (Some d) offset width = unchanged (Value (register_value_of d offset width))
 
+-- The outstanding requests of a block device are those of its queue 0, and go where it is not ready.
+abbrev pub kept_requests : List Queue → List Request → List Request
+kept_requests [] requests = []
+kept_requests (q ∷ qs) requests = if q.is_ready then requests else []
+
+abbrev pub kept_own : List Queue → Own → Own
+kept_own queues (Block requests) = Block (kept_requests queues requests)
+kept_own queues own = own
+
 -- A device with these registers: a queue that they say is not ready begins anew.
 abbrev pub with_registers : DeviceState → Registers → DeviceState
-with_registers d r = record d { registers = r; positions = kept_positions r.queues d.positions }
+with_registers d r = record d { registers = r; positions = kept_positions r.queues d.positions; own = kept_own r.queues d.own }
+
+-- The driver wrote a register. Whether the write was taken does not show; but a console gives out what is written into its
+-- emergency register (VIRTIO 1.2, 5.3.5).
+abbrev pub out_reply : Option ℕ → Reply
+out_reply None = Done
+out_reply (Some byte) = OutByte byte
+
+abbrev pub written_out : Own → ℕ → ℕ → ℕ → Option ℕ
+written_out (Console size held) offset width value = emergency_byte offset width value
+written_out _ offset width value = None
 
 -- A device after the driver wrote a register: the table's registers. Whether the write was taken does not show.
 abbrev pub register_set : DeviceState → ℕ → ℕ → ℕ → DeviceState
@@ -65,12 +91,13 @@ register_set d offset width value = with_registers d (register_write d.registers
 
 abbrev pub write_register : ℕ → Option DeviceState → ℕ → ℕ → ℕ → Answer
 write_register number None offset width value = refused NoDevice
-write_register number (Some d) offset width value = becomes number (register_set d offset width value) Done
+write_register number (Some d) offset width value = becomes number (register_set d offset width value) (out_reply (written_out d.own offset width value))
 
 -- The guest reads RAM. Its reply holds the bytes, so memory may be refused.
 abbrev pub read_ram : List ℕ → ℕ → ℕ → Option RamError → Outcome → Answer
 read_ram ram addr len (Some error) o = refused (ram_refusal error)
 read_ram ram addr len None no_memory = unchanged NoMemory
+read_ram ram addr len None disk_failed = unchanged (Bytes (take len (drop addr ram)))
 read_ram ram addr len None fine = unchanged (Bytes (take len (drop addr ram)))
 
 -- The guest writes RAM.
@@ -81,29 +108,69 @@ write_ram addr bytes None = record {
   effect = record { writes = byte_writes addr bytes; sectors = []; replaced = None };
 }
 
--- The host puts bytes in. An entropy device keeps the first that fit into its pool.
-abbrev pub kept_of : Own → List ℕ → ℕ
-kept_of (Entropy pool) bytes = min (length bytes) (HOST_BYTES_MAX - length pool)
+-- The host puts bytes in. A console and an entropy device keep the first that fit; a network device keeps a frame whole,
+-- where there is room, and a block device takes none.
+abbrev pub kept_in : List ℕ → List ℕ → ℕ
+kept_in pool bytes = min (length bytes) (HOST_BYTES_MAX - length pool)
 
-abbrev pub own_with : Own → List ℕ → Own
-own_with (Entropy pool) bytes = Entropy (pool ++ bytes)
+-- How many bytes are kept, or why none is taken.
+abbrev pub input_of : Own → List ℕ → Result ℕ Refusal
+input_of (Network frames) bytes = if is_frame_len (length bytes) then Ok (kept_of frames bytes) else Err BadFrame
+input_of (Block requests) bytes = Err WrongKind
+input_of (Console size held) bytes = Ok (kept_in held bytes)
+input_of (Entropy pool) bytes = Ok (kept_in pool bytes)
+
+abbrev pub own_with_input : Own → List ℕ → Own
+own_with_input (Network frames) bytes = if is_frame_len (length bytes) then Network (frames_with frames bytes) else Network frames
+own_with_input (Block requests) bytes = Block requests
+own_with_input (Console size held) bytes = Console size (held ++ take (kept_in held bytes) bytes)
+own_with_input (Entropy pool) bytes = Entropy (pool ++ take (kept_in pool bytes) bytes)
 
 abbrev pub with_input : DeviceState → List ℕ → DeviceState
-with_input d bytes = record d { own = own_with d.own (take (kept_of d.own bytes) bytes) }
+with_input d bytes = record d { own = own_with_input d.own bytes }
+
+abbrev pub put_by : ℕ → DeviceState → List ℕ → Result ℕ Refusal → Answer
+put_by number d bytes (Err refusal) = refused refusal
+put_by number d bytes (Ok count) = becomes number (with_input d bytes) (Accepted count)
 
 abbrev pub put_in : ℕ → Option DeviceState → List ℕ → Answer
 put_in number None bytes = refused NoDevice
-put_in number (Some d) bytes = becomes number (with_input d bytes) (Accepted (kept_of d.own bytes))
+put_in number (Some d) bytes = put_by number d bytes (input_of d.own bytes)
 
--- A device does one piece of its work. Where it looks at no queue it is idle.
-abbrev pub step_device : ℕ → Option DeviceState → List ℕ → ℕ → Outcome → Next → Answer
-step_device number None ram pick o seen = refused NoDevice
-step_device number (Some d) ram pick o seen =
-    let s = device_step d ram pick o seen in
+-- The host sets the size of a console. One that differs is a change of its configuration (VIRTIO 1.2, 5.3.6).
+abbrev pub size_by : ℕ → DeviceState → Own → ConsoleSize → Answer
+size_by number d (Console old held) size = becomes number (record d { registers = resized old size d.registers; own = Console size held }) Done
+size_by number d _ size = refused WrongKind
+
+-- The same of what only the kind has, and of the registers beside it.
+abbrev pub IsResized : Own → ConsoleSize → Registers → Result (Unit {0}) Refusal → Own → Registers → Type 0
+IsResized (Console old held) size r result new new_r = (result ≡ Ok tt) × (new ≡ Console size held) × (new_r ≡ resized old size r)
+IsResized own size r result new new_r = (result ≡ Err WrongKind) × (new ≡ own) × (new_r ≡ r)
+
+abbrev pub ResizesDevice : DeviceState → ConsoleSize → Result (Unit {0}) Refusal → DeviceState → Type 0
+ResizesDevice d size result new = (new ≡ record d { registers = new.registers; own = new.own }) × IsResized d.own size d.registers result new.own new.registers
+
+abbrev pub set_size : ℕ → Option DeviceState → ConsoleSize → Answer
+set_size number None size = refused NoDevice
+set_size number (Some d) size = size_by number d d.own size
+
+-- A device does one piece of its work, with the sectors of its disk. Where there is nothing to do it is idle.
+abbrev pub step_device : ℕ → Option DeviceState → List ℕ → List Sector → ℕ → Outcome → Next → Answer
+step_device number None ram content pick o seen = refused NoDevice
+step_device number (Some d) ram content pick o seen =
+    let s = device_step d ram content pick o seen in
     record {
       reply = s.reply;
-      effect = record { writes = s.writes; sectors = []; replaced = Some (record { number = number; device = s.device }) };
+      effect = record { writes = s.writes; sectors = sets_on number s.sets; replaced = Some (record { number = number; device = s.device }) };
     }
+
+abbrev pub disk_or_none : Option (List Sector) → List Sector
+disk_or_none None = []
+disk_or_none (Some disk) = disk
+
+-- The sectors of the disk of the device of a number.
+abbrev pub disk_of : MachineState → ℕ → List Sector
+disk_of m dev = disk_or_none (slice_get m.disks dev)
 
 -- What a machine answers to an event, by the outcome of what it asks of the outside and by what a queue that it looks at
 -- answers about its next chain, and what changes.
@@ -112,14 +179,14 @@ answer m (RegRead dev off width) o seen = read_register (slice_get m.devices dev
 answer m (RegWrite dev off width value) o seen = write_register dev (slice_get m.devices dev) off width value
 answer m (MemRead addr len) o seen = read_ram m.ram addr len (refusal_of (length m.ram) addr len) o
 answer m (MemWrite addr bytes) o seen = write_ram addr bytes (refusal_of (length m.ram) addr (length bytes))
-answer m (Step dev pick) o seen = step_device dev (slice_get m.devices dev) m.ram pick o seen
+answer m (Step dev pick) o seen = step_device dev (slice_get m.devices dev) m.ram (disk_of m dev) pick o seen
 answer m (Input dev bytes) o seen = put_in dev (slice_get m.devices dev) bytes
+answer m (Resize dev cols rows) o seen = set_size dev (slice_get m.devices dev) (record { columns = cols; rows = rows })
 
--- What a step may see: where it looks at a queue, what that queue answers; and memory is refused only at a queue with
--- more descriptors in a row than are handled without memory.
+-- What a step may see: where it looks at a queue, what that queue answers; and where memory may be refused.
 abbrev pub MaySeeAt : Option DeviceState → List ℕ → ℕ → Outcome → Next → Type 0
 MaySeeAt None ram pick o seen = Unit {0}
-MaySeeAt (Some d) ram pick o seen = MayLook (looked_at d pick) ram o seen
+MaySeeAt (Some d) ram pick o seen = MayLook (message_form d.own pick) (looked_at d pick) ram o seen
 
 abbrev pub MaySee : MachineState → Event → Outcome → Next → Type 0
 MaySee m (Step dev pick) o seen = MaySeeAt (slice_get m.devices dev) m.ram pick o seen

@@ -1,12 +1,12 @@
 //! A device and its disk.
 
-ghost use Rattle.std.specs.Prelude.{◌≡◌, ℕ, IfOk, length};
+ghost use Rattle.std.specs.Prelude.{◌≡◌, ◌<◌, ℕ, true, false, length};
 ghost use Rattle.machine.specs.Seen.{DeviceSeen, sectors_of, marks_of};
 
-use crate::reply::Reply;
-use crate::shape::Shape;
+use crate::reply::{Refusal, Reply};
 use crate::state::DeviceState;
-use blk::Disk;
+use blk::{Disk, Fetched, Sectors};
+use console::ConsoleSize;
 use guestmem::{NoMemory, Ram, TouchLog};
 use std::alloc::Global;
 use std::marker::Model;
@@ -15,37 +15,33 @@ use std::marker::Model;
 #[derive(Drop)]
 pub(crate) struct Device<D: Disk> {
     state: DeviceState,
-    disk: Option<D>,
+    disk: Option<Sectors<D>>,
 }
 
 impl<D: Disk> Model for Device<D> {
     ghost Value = { DeviceSeen };
 
-    ghost view = { λ d. record { state = d.state; sectors = sectors_of D.state d.disk; marks = marks_of D.state d.disk } };
+    ghost view = { λ d. record { state = d.state; sectors = sectors_of d.disk; marks = marks_of d.disk } };
 }
 
 impl<D: Disk> Device<D> {
-    ghost use Rattle.machine.specs.Step.{register_value_of, register_set, kept_of, with_input};
+    ghost use Rattle.machine.specs.Step.{ResizesDevice, register_value_of, register_set, input_of, with_input, written_out};
     ghost use Rattle.machine.specs.DeviceWork.{IsDeviceStep};
     ghost use Rattle.guestmem.specs.Item.{MayPages};
     ghost use Rattle.guestmem.specs.Later.{IsLater};
+    ghost use Rattle.guestmem.specs.Number.{IsBytes};
     ghost use Rattle.machine.specs.Sound.{IsSoundDevice};
-    ghost use Rattle.machine.specs.First.{seen_without_disk};
-    ghost use Rattle.machine.specs.Shapes.{first_device};
+    ghost use Rattle.blk.specs.Move.{MaySectors};
+    ghost use Rattle.blk.specs.Sectors.{AreWhole, IsFetched, is_failed, sector_in};
+    ghost use Rattle.machine.specs.Outcome.{is_failure};
+    ghost use Rattle.machine.specs.Seen.{failed_if};
+    ghost use Rattle.machine.specs.Shapes.{sector_count};
 
-    /// A new device without a disk, in a machine whose RAM has so many bytes.
-    pub fn new(alloc: Global, shape: Shape, ram_len: u64) -> Result<Device<D>, NoMemory>
-        ensures { IfOk result (λ d. d ≡ seen_without_disk (first_device ram_len shape)) }
+    /// A device, and the disk that belongs to it.
+    pub fn new(state: DeviceState, disk: Option<Sectors<D>>) -> Device<D>
+        ensures { result ≡ record { state = state; sectors = sectors_of disk; marks = marks_of disk } }
     {
-        let state = DeviceState::new(alloc, shape, ram_len)?;
-        Ok(Device::without_disk(state))
-    }
-
-    /// A device without a disk, which is this beside it.
-    pub fn without_disk(state: DeviceState) -> Device<D>
-        ensures { result ≡ seen_without_disk state }
-    {
-        Device { state, disk: None }
+        Device { state, disk }
     }
 
     /// What the device is beside its disk.
@@ -61,14 +57,22 @@ impl<D: Disk> Device<D> {
         self.state.read_register(offset, width)
     }
 
-    pub fn write_register(&mut self, offset: u32, width: u8, value: u32)
-        ensures { self.new ≡ record self.old { state = register_set self.old.state offset width value } }
+    pub fn write_register(&mut self, offset: u32, width: u8, value: u32) -> Option<u8>
+        ensures device { self.new ≡ record self.old { state = register_set self.old.state offset width value } }
+        ensures out { result ≡ written_out self.old.state.own offset width value }
     {
-        self.state.write_register(offset, width, value);
+        self.state.write_register(offset, width, value)
     }
 
-    pub fn input(&mut self, bytes: &[u8]) -> u32
-        ensures count { result ≡ kept_of self.old.state.own bytes.now }
+    pub fn resize(&mut self, size: ConsoleSize) -> Result<(), Refusal>
+        ensures state { ResizesDevice self.old.state size result self.new.state }
+        ensures disk { self.new ≡ record self.old { state = self.new.state } }
+    {
+        self.state.resize(size)
+    }
+
+    pub fn input(&mut self, bytes: &[u8]) -> Result<u32, Refusal>
+        ensures count { result ≡ input_of self.old.state.own bytes.now }
         ensures device { self.new ≡ record self.old { state = with_input self.old.state bytes.now } }
     {
         self.state.input(bytes)
@@ -77,18 +81,55 @@ impl<D: Disk> Device<D> {
     pub fn step<L: TouchLog>(
         &mut self,
         alloc: Global,
+        number: u8,
         pick: u8,
         ram: &mut Ram,
         log: &mut L,
     ) -> Reply
         requires sound { IsSoundDevice (length ram.old.bytes) self.old.state }
+        requires capacity { length self.old.sectors ≡ sector_count self.old.state.shape }
         requires may { MayPages L.may log.old (length ram.old.bytes) }
-        ensures step { IsDeviceStep L.after ram.old.bytes log.old self.old.state pick result ram.new.bytes log.new self.new.state }
-        ensures sectors { self.new.sectors ≡ self.old.sectors }
-        ensures marks { self.new.marks ≡ self.old.marks }
+        requires may_sectors { MaySectors L.may log.old number (length self.old.sectors) }
+        ensures step { IsDeviceStep L.after number self.old.marks.honest ram.old.bytes self.old.sectors log.old self.old.state pick result ram.new.bytes self.new.sectors log.new self.new.state }
+        ensures marks { self.new.marks ≡ failed_if (is_failure result) self.old.marks }
+        ensures unsteady { is_failure result ≡ true → self.old.marks.steady ≡ false }
+        ensures capacity { length self.new.sectors ≡ length self.old.sectors }
         ensures size { length ram.new.bytes ≡ length ram.old.bytes }
+        ensures bytes { IsBytes ram.new.bytes }
+        ensures whole { AreWhole self.new.sectors }
         ensures later { IsLater ram.old ram.new }
     {
-        self.state.step(alloc, pick, ram, log)
+        let reply = match &mut self.disk {
+            Some(sectors) => self.state.step(alloc, number, pick, sectors, ram, log),
+            None => self.state.step_without_disk(alloc, pick, ram, log),
+        };
+        ram.recall();
+        self.recall();
+        reply
+    }
+
+    /// Tells a proof that the sectors of the disk are whole (see the page of `guestmem`).
+    fn recall(&self)
+        ensures { AreWhole self.now.sectors }
+    {
+        if let Some(sectors) = &self.disk {
+            sectors.recall();
+        }
+    }
+
+    /// Reads a sector of the disk, unless it is bad. Where it is not read, the buffer may hold anything.
+    pub fn read_sector(&mut self, n: u64, buf: &mut [u8; 512]) -> Fetched
+        requires { n < length self.old.sectors }
+        ensures state { self.new.state ≡ self.old.state }
+        ensures sectors { self.new.sectors ≡ self.old.sectors }
+        ensures marks { self.new.marks ≡ failed_if (is_failed result) self.old.marks }
+        ensures unsteady { is_failed result ≡ true → self.old.marks.steady ≡ false }
+        ensures fetched { IsFetched self.old.marks.honest (sector_in self.old.sectors n) buf.new result }
+    {
+        match &mut self.disk {
+            Some(sectors) => sectors.read(n, buf),
+            // A device without a disk has no sectors, so this cannot be.
+            None => Fetched::Bad,
+        }
     }
 }

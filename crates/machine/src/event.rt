@@ -32,16 +32,26 @@ pub enum Event {
         bytes: Bytes,
     },
 
-    /// A device does one piece of its work, which the pick names: for an entropy device pick 0, which serves the next buffer
-    /// of its queue 0. A pick that names nothing is answered `Idle`.
+    /// A device does one piece of its work, which the pick names. For a block device pick 0 takes the next request of its
+    /// queue, and pick k, from 1 to 8, advances the k-th outstanding request in the order of taking. For an entropy device
+    /// pick 0 serves the next buffer of its queue 0. For a network device and a console pick 0 serves the next receive
+    /// buffer, and pick 1 takes the next message to be sent. A pick that names nothing is answered `Idle`.
     Step {
         dev: u8,
         pick: u8,
     },
 
-    /// The host puts bytes in, for an entropy device into its pool.
+    /// The host puts bytes in: for an entropy device into its pool, for a console as text, for a network device one frame of
+    /// 14 to 1,514 bytes. A block device takes none: that is `WrongKind`.
     Input {
         dev: u8,
         bytes: Bytes,
+    },
+
+    /// The host sets the size of a console, in characters.
+    Resize {
+        dev: u8,
+        cols: u16,
+        rows: u16,
     },
 }

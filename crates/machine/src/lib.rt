@@ -14,8 +14,11 @@
 //! is what the definitions of `chains` say of the RAM, so steps with equal outcomes are equal. A malformed chain stops its
 //! own device, and changes nothing else.
 //!
-//! It stands on `guestmem` (RAM), `mmio` (registers), the rings and `console`, and trusts nothing else. The disk under a
-//! block device is any type that keeps the contract of the trait `Disk`; `MemDisk` is one. Streams of machines stand
+//! The disk under a block device is any type that keeps the contract of the trait `Disk`. What a step makes of it is said of
+//! honest disks, which give what was written; whatever a disk does, the machine stays sound, and each failure shows in the
+//! reply and in the count of that disk.
+//!
+//! It stands on `guestmem` (RAM), `mmio` (registers), the rings, `blk` and `console`, and trusts nothing else. Streams of machines stand
 //! on it, in `wire`, `sender` and `receiver`; an embedder takes all of it from the crate `vmig`.
 #![tactic(auto)]
 
@@ -31,12 +34,12 @@ mod served;
 mod shape;
 mod state;
 
-pub use blk::{Disk, DiskFault, MemDisk, SECTOR_SIZE};
+pub use blk::{Disk, DiskFault, FaultDisk, FileDisk, MemDisk, SECTOR_SIZE};
 pub use event::Event;
 pub use guestmem::Bytes;
 pub use machine::{DEVICES_MAX, Machine};
 pub use new_error::NewError;
 pub use own::Own;
 pub use reply::{Refusal, Reply};
-pub use shape::Shape;
+pub use shape::{SECTORS_MAX, Shape};
 pub use state::{DeviceState, offered};

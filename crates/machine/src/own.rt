@@ -1,26 +1,50 @@
 //! What a device has that only its kind has.
 
-ghost use Rattle.std.specs.Prelude.{◌≡◌, ◌≤◌, ◌<◌, ℕ, length, take, IfOk, OnErr};
+ghost use Rattle.std.specs.Prelude.{◌≡◌, ◌≤◌, ◌<◌, ℕ, length, not, IfOk, OnErr, true};
 ghost use Rattle.guestmem.specs.Item.{MayPages};
 ghost use Rattle.guestmem.specs.Later.{IsLater};
 ghost use Rattle.chains.specs.State.{HasAreas};
-ghost use Rattle.chains.specs.LongQueue.{IsLongQueue};
-ghost use Rattle.machine.specs.DeviceStep.{has_work, served_of};
+ghost use Rattle.blk.specs.Advance.{advance_step, IsAfterAdvancing};
+ghost use Rattle.blk.specs.Move.{MaySectors, is_disk_failed};
+ghost use Rattle.blk.specs.Sectors.{AreWhole, IsKept};
+ghost use Rattle.blk.specs.Sound.{AreSound};
+ghost use Rattle.machine.specs.DeviceStep.{has_work, message_form, MayRefuse, served_frame, served_message, served_of, served_taking, requests_of, with_requests};
 ghost use Rattle.machine.specs.DeviceWork.{IsServed};
-ghost use Rattle.machine.specs.Shapes.{first_own};
-ghost use Rattle.machine.specs.Step.{kept_of, own_with};
+ghost use Rattle.machine.specs.Shapes.{block_of, first_own, first_size};
+ghost use Rattle.machine.specs.Step.{IsResized, kept_own, input_of, own_with_input, written_out};
+ghost use Rattle.machine.specs.declared.own.Own.TheVariants as owns;
+ghost use Rattle.machine.specs.declared.shape.Shape.{Shape};
+ghost use Rattle.console.specs.declared.size.ConsoleSize.{ConsoleSize};
 
-use crate::reply::Reply;
+use crate::reply::{Refusal, Reply};
 use crate::served::Served;
 use crate::shape::Shape;
-use chains::Ring;
-use console::{HostBytes, Received, receive};
+use blk::{Advanced, BlockShape, Disk, REQUESTS_MAX, Requests, Sectors, Taken};
+use chains::{Ring, Transmitted};
+use console::{ConsoleSize, HostBytes, Received, emergency_byte, receive};
 use guestmem::{NoMemory, Ram, TouchLog};
+use mmio::{QUEUE_SIZE_MAX, Queue, Regs};
+use net::{Inbox, is_frame_len};
 use std::alloc::Global;
 
 /// What a device has that only its kind has, beside its registers and queues.
 #[derive(Drop)]
 pub enum Own {
+    /// A network device: the frames that the host has put in and the guest has not yet taken.
+    Network(Inbox),
+
+    /// A block device: the requests that it has taken and not yet ended, in the order of taking.
+    Block(Requests),
+
+    /// A console.
+    Console {
+        /// Its size, in characters.
+        size: ConsoleSize,
+
+        /// The bytes that the host has put in and the guest has not yet taken.
+        held: HostBytes,
+    },
+
     /// An entropy device: the bytes that the host has put in and the guest has not yet taken.
     Entropy(HostBytes),
 }
@@ -31,6 +55,12 @@ impl Own {
         ensures { IfOk result (λ own. own ≡ first_own shape) }
     {
         match shape {
+            Shape::Net { .. } => Ok(Own::Network(Inbox::new(alloc)?)),
+            Shape::Block { .. } => Ok(Own::Block(Requests::new(alloc)?)),
+            Shape::Console => Ok(Own::Console {
+                size: ConsoleSize::FIRST,
+                held: HostBytes::new(alloc)?,
+            }),
             Shape::Entropy => Ok(Own::Entropy(HostBytes::new(alloc)?)),
         }
     }
@@ -39,25 +69,87 @@ impl Own {
     pub(crate) fn has_work(&self, number: u8) -> bool
         ensures { result ≡ has_work self.now number }
     {
-        let _number = number;
         match self {
+            Own::Network(inbox) => number > 0 || !inbox.is_empty(),
+            Own::Block(requests) => requests.len() < REQUESTS_MAX,
+            Own::Console { held, .. } => number > 0 || !held.is_empty(),
             Own::Entropy(pool) => !pool.is_empty(),
         }
     }
 
-    /// Keeps the first bytes that fit, and answers how many these are.
-    pub(crate) fn input(&mut self, bytes: &[u8]) -> u32
-        ensures count { result ≡ kept_of self.old bytes.now }
-        ensures own { self.new ≡ own_with self.old (take (kept_of self.old bytes.now) bytes.now) }
+    /// How many requests are outstanding.
+    pub(crate) fn outstanding(&self) -> usize
+        ensures { result ≡ length (requests_of self.now) }
     {
         match self {
-            Own::Entropy(pool) => pool.put_in(bytes) as u32,
+            Own::Block(requests) => requests.len(),
+            Own::Network(_) | Own::Console { .. } | Own::Entropy(_) => 0,
+        }
+    }
+
+    /// The driver wrote a register, and these are the queues after it. What belongs to a queue goes where it is not ready.
+    pub(crate) fn keep(&mut self, queues: &[Queue])
+        ensures { self.new ≡ kept_own queues.now self.old }
+    {
+        match self {
+            Own::Block(requests) => match queues {
+                [first, ..] => {
+                    if !first.is_ready {
+                        requests.clear();
+                    }
+                }
+                [] => requests.clear(),
+            },
+            Own::Network(_) | Own::Console { .. } | Own::Entropy(_) => {}
+        }
+    }
+
+    /// Keeps a frame, or the first bytes that fit, and answers how many bytes these are.
+    pub(crate) fn input(&mut self, bytes: &[u8]) -> Result<u32, Refusal>
+        ensures count { result ≡ input_of self.old bytes.now }
+        ensures own { self.new ≡ own_with_input self.old bytes.now }
+    {
+        match self {
+            Own::Network(inbox) => {
+                if !is_frame_len(bytes.len()) {
+                    return Err(Refusal::BadFrame);
+                }
+                Ok(inbox.push(bytes) as u32)
+            }
+            Own::Block(_) => Err(Refusal::WrongKind),
+            Own::Console { held, .. } => Ok(held.put_in(bytes) as u32),
+            Own::Entropy(pool) => Ok(pool.put_in(bytes) as u32),
+        }
+    }
+
+    /// Sets the size of a console, which tells its driver by the registers.
+    pub(crate) fn resize(&mut self, size: ConsoleSize, registers: &mut Regs) -> Result<(), Refusal>
+        ensures { IsResized self.old size registers.old result self.new registers.new }
+    {
+        match self {
+            Own::Console { size: old, .. } => {
+                old.resize(size, registers);
+                Ok(())
+            }
+            Own::Network(_) | Own::Block(_) | Own::Entropy(_) => Err(Refusal::WrongKind),
+        }
+    }
+
+    /// What a write of a register gives out.
+    pub(crate) fn written(&self, offset: u32, width: u8, value: u32) -> Option<u8>
+        ensures { result ≡ written_out self.now offset width value }
+    {
+        match self {
+            Own::Console { .. } => emergency_byte(offset, width, value),
+            Own::Network(_) | Own::Block(_) | Own::Entropy(_) => None,
         }
     }
 
     /// Serves the queue of a number. Its only error is want of memory, and then nothing has changed.
     pub(crate) fn serve<R: Ring, L: TouchLog>(
         &mut self,
+        alloc: Global,
+        shape: Shape,
         number: u8,
         ring: &mut R,
         ram: &mut Ram,
@@ -65,9 +157,11 @@ impl Own {
     ) -> Result<Served, NoMemory>
         requires areas { HasAreas (length ram.old.bytes) (R.state ring.old) }
         requires may { MayPages L.may log.old (length ram.old.bytes) }
-        requires few { (R.state ring.old).size ≤ 256 }
-        ensures served { IfOk result (λ served. IsServed L.after ram.old.bytes (R.state ring.old) self.old number log.old served ram.new.bytes (R.state ring.new) self.new log.new) }
-        ensures memory { OnErr result (IsLongQueue ram.old.bytes (R.state ring.old)) }
+        requires few { (R.state ring.old).size ≤ QUEUE_SIZE_MAX }
+        requires room { has_work self.old number ≡ true }
+        requires sound { AreSound (length ram.old.bytes) (R.state ring.old) (block_of shape) (requests_of self.old) }
+        ensures served { IfOk result (λ served. IsServed L.after ram.old.bytes (R.state ring.old) shape self.old number log.old served ram.new.bytes (R.state ring.new) self.new log.new) }
+        ensures memory { OnErr result (MayRefuse (message_form self.old number) ram.old.bytes (R.state ring.old)) }
         ensures ram_stays { OnErr result (ram.new ≡ ram.old) }
         ensures ring_stays { OnErr result (R.state ring.new ≡ R.state ring.old) }
         ensures own_stays { OnErr result (self.new ≡ self.old) }
@@ -77,11 +171,194 @@ impl Own {
         ensures may { MayPages L.may log.new (length ram.new.bytes) }
     {
         match self {
+            Own::Network(inbox) => serve_frames(alloc, inbox, number, ring, ram, log),
+            Own::Console { held, .. } => serve_text(alloc, held, number, ring, ram, log),
+            Own::Block(requests) => match requests.take(ring, &block_of(shape), ram, log) {
+                Ok(taken) => Ok(served_taking(taken)),
+                Err(error) => Err(error),
+            },
             Own::Entropy(pool) => match receive(ring, pool, ram, log) {
                 Ok(received) => Ok(served(received)),
                 Err(error) => Err(error),
             },
         }
+    }
+
+    /// The outstanding request of a place, from 0, goes on by one unit, or ends. There is none where the device is no block
+    /// device.
+    pub(crate) fn advance<R: Ring, D: Disk, L: TouchLog>(
+        &mut self,
+        shape: Shape,
+        k: usize,
+        ring: &mut R,
+        sectors: &mut Sectors<D>,
+        device: u8,
+        ram: &mut Ram,
+        log: &mut L,
+    ) -> Advanced
+        requires areas { HasAreas (length ram.old.bytes) (R.state ring.old) }
+        requires few { (R.state ring.old).size ≤ QUEUE_SIZE_MAX }
+        requires capacity { length sectors.old.content ≡ (block_of shape).sectors }
+        requires sound { AreSound (length ram.old.bytes) (R.state ring.old) (block_of shape) (requests_of self.old) }
+        requires may { MayPages L.may log.old (length ram.old.bytes) }
+        requires may_sectors { MaySectors L.may log.old device (length sectors.old.content) }
+        ensures answer { result ≡ (advance_step (block_of shape) ram.old.bytes (R.state ring.old) sectors.old.content (requests_of self.old) k (not (is_disk_failed result))).answer }
+        ensures changes { IsAfterAdvancing L.after sectors.old.honest device ram.old.bytes sectors.old.content log.old (advance_step (block_of shape) ram.old.bytes (R.state ring.old) sectors.old.content (requests_of self.old) k (not (is_disk_failed result))) ram.new.bytes (R.state ring.new) sectors.new.content (requests_of self.new) log.new }
+        ensures own { self.new ≡ with_requests self.old (requests_of self.new) }
+        ensures kept { IsKept sectors.old (is_disk_failed result) sectors.new }
+        ensures whole { AreWhole sectors.new.content }
+        ensures sound { AreSound (length ram.new.bytes) (R.state ring.new) (block_of shape) (requests_of self.new) }
+        ensures size { length ram.new.bytes ≡ length ram.old.bytes }
+        ensures later { IsLater ram.old ram.new }
+        ensures may { MayPages L.may log.new (length ram.new.bytes) }
+    {
+        match self {
+            Own::Block(requests) => {
+                requests.advance(k, ring, &block_of(shape), sectors, device, ram, log)
+            }
+            Own::Network(_) | Own::Console { .. } | Own::Entropy(_) => {
+                sectors.recall();
+                Advanced::Idle
+            }
+        }
+    }
+}
+
+/// Serves a queue of a network device: queue 0 takes frames of the inbox, and queue 1 frames to be sent.
+fn serve_frames<R: Ring, L: TouchLog>(
+    alloc: Global,
+    inbox: &mut Inbox,
+    number: u8,
+    ring: &mut R,
+    ram: &mut Ram,
+    log: &mut L,
+) -> Result<Served, NoMemory>
+    requires areas { HasAreas (length ram.old.bytes) (R.state ring.old) }
+    requires may { MayPages L.may log.old (length ram.old.bytes) }
+    requires few { (R.state ring.old).size ≤ QUEUE_SIZE_MAX }
+    requires work { has_work (owns.Network inbox.old) number ≡ true }
+    ensures served { (shape : Shape) → IfOk result (λ served. IsServed L.after ram.old.bytes (R.state ring.old) shape (owns.Network inbox.old) number log.old served ram.new.bytes (R.state ring.new) (owns.Network inbox.new) log.new) }
+    ensures memory { OnErr result (MayRefuse (message_form (owns.Network inbox.old) number) ram.old.bytes (R.state ring.old)) }
+    ensures ram_stays { OnErr result (ram.new ≡ ram.old) }
+    ensures ring_stays { OnErr result (R.state ring.new ≡ R.state ring.old) }
+    ensures inbox_stays { OnErr result (inbox.new ≡ inbox.old) }
+    ensures log_stays { OnErr result (log.new ≡ log.old) }
+    ensures size { length ram.new.bytes ≡ length ram.old.bytes }
+    ensures later { IsLater ram.old ram.new }
+    ensures may { MayPages L.may log.new (length ram.new.bytes) }
+{
+    if number == 0 {
+        return match net::receive(ring, inbox, ram, log) {
+            Ok(received) => Ok(served_frame(received)),
+            Err(error) => Err(error),
+        };
+    }
+    match net::transmit(alloc, ring, ram, log) {
+        Ok(transmitted) => Ok(served_message(transmitted)),
+        Err(error) => Err(error),
+    }
+}
+
+/// Serves a queue of a console: queue 0 takes the bytes held, and queue 1 text to be sent.
+fn serve_text<R: Ring, L: TouchLog>(
+    alloc: Global,
+    held: &mut HostBytes,
+    number: u8,
+    ring: &mut R,
+    ram: &mut Ram,
+    log: &mut L,
+) -> Result<Served, NoMemory>
+    requires areas { HasAreas (length ram.old.bytes) (R.state ring.old) }
+    requires may { MayPages L.may log.old (length ram.old.bytes) }
+    requires few { (R.state ring.old).size ≤ QUEUE_SIZE_MAX }
+    requires work { has_work (owns.Console first_size held.old) number ≡ true }
+    ensures served { (shape : Shape) (size : ConsoleSize) → IfOk result (λ served. IsServed L.after ram.old.bytes (R.state ring.old) shape (owns.Console size held.old) number log.old served ram.new.bytes (R.state ring.new) (owns.Console size held.new) log.new) }
+    ensures memory { OnErr result (MayRefuse (message_form (owns.Console first_size held.old) number) ram.old.bytes (R.state ring.old)) }
+    ensures ram_stays { OnErr result (ram.new ≡ ram.old) }
+    ensures ring_stays { OnErr result (R.state ring.new ≡ R.state ring.old) }
+    ensures held_stays { OnErr result (held.new ≡ held.old) }
+    ensures log_stays { OnErr result (log.new ≡ log.old) }
+    ensures size { length ram.new.bytes ≡ length ram.old.bytes }
+    ensures later { IsLater ram.old ram.new }
+    ensures may { MayPages L.may log.new (length ram.new.bytes) }
+{
+    if number == 0 {
+        return match receive(ring, held, ram, log) {
+            Ok(received) => Ok(served(received)),
+            Err(error) => Err(error),
+        };
+    }
+    match console::transmit(alloc, ring, ram, log) {
+        Ok(transmitted) => Ok(served_message(transmitted)),
+        Err(error) => Err(error),
+    }
+}
+
+/// How a queue of frames for the guest was served.
+fn served_frame(received: net::Received) -> Served
+    ensures { result ≡ served_frame received }
+{
+    match received {
+        net::Received::Empty => Served::Empty,
+        net::Received::Malformed => Served::Malformed,
+        net::Received::Dropped => Served::Published {
+            reply: Reply::Dropped,
+            is_due: false,
+        },
+        net::Received::Completed { len, is_due } => Served::Published {
+            reply: Reply::Completed(len),
+            is_due,
+        },
+    }
+}
+
+/// How a queue of messages was served.
+fn served_message(transmitted: Transmitted) -> Served
+    ensures { result ≡ served_message transmitted }
+{
+    match transmitted {
+        Transmitted::Empty => Served::Empty,
+        Transmitted::Malformed => Served::Malformed,
+        Transmitted::Sent { bytes, is_due } => Served::Published {
+            reply: Reply::Sent(bytes),
+            is_due,
+        },
+    }
+}
+
+/// How a queue of requests was served.
+fn served_taking(taken: Taken) -> Served
+    ensures { result ≡ served_taking taken }
+{
+    match taken {
+        Taken::Empty => Served::Empty,
+        Taken::Malformed => Served::Malformed,
+        Taken::Taken => Served::Published {
+            reply: Reply::Taken,
+            is_due: false,
+        },
+    }
+}
+
+/// What a block device of this shape is. Another device has no sectors.
+fn block_of(shape: Shape) -> BlockShape
+    ensures { result ≡ block_of shape }
+{
+    match shape {
+        Shape::Block {
+            sectors,
+            read_only,
+            id,
+        } => BlockShape {
+            sectors,
+            read_only,
+            id,
+        },
+        Shape::Net { .. } | Shape::Console | Shape::Entropy => BlockShape {
+            sectors: 0,
+            read_only: false,
+            id: [0; 20],
+        },
     }
 }
 

@@ -17,6 +17,12 @@ pub enum Refusal {
 
     /// The access is of more than 4,096 bytes. This is told before `OutOfRam`.
     TooLong,
+
+    /// A device of this kind has no such event.
+    WrongKind,
+
+    /// A frame has fewer than 14 or more than 1,514 bytes.
+    BadFrame,
 }
 
 impl Refusal {
@@ -28,6 +34,8 @@ impl Refusal {
             Refusal::NoDevice => 1,
             Refusal::OutOfRam => 2,
             Refusal::TooLong => 3,
+            Refusal::WrongKind => 4,
+            Refusal::BadFrame => 5,
         }
     }
 }
@@ -52,14 +60,35 @@ pub enum Reply {
     /// The write is done, whether the register took or ignored it.
     Done,
 
+    /// The byte that the driver wrote into the emergency register of a console.
+    OutByte(u8),
+
     /// What a read of RAM gave.
     Bytes(Bytes),
 
     /// The step found nothing to do.
     Idle,
 
+    /// A block device has taken a request.
+    Taken,
+
+    /// A request has moved one unit: a sector, a flush of the disk, or the id.
+    Moved,
+
+    /// The sector that a request is to read is bad. The request ends with an error.
+    BadSector,
+
+    /// The disk failed. The request ends with an error, and a sector that was to be written is bad.
+    DiskFailed,
+
     /// A chain was published with this used length.
     Completed(u32),
+
+    /// A message was taken, and its chain published with length 0: a frame or text.
+    Sent(Bytes),
+
+    /// A frame did not fit into the next chain, and was dropped.
+    Dropped,
 
     /// So many bytes of an input were kept: the first ones.
     Accepted(u32),

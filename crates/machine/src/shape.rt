@@ -1,8 +1,47 @@
 //! The devices that a machine can have.
 
+ghost use Rattle.std.specs.Prelude.{◌≡◌};
+ghost use Rattle.machine.specs.Shapes.{sector_count};
+
+/// The most sectors that a block device can have.
+pub const SECTORS_MAX: u64 = 2_097_152;
+
 /// What a device is made as. It never changes.
 #[derive(Clone, Copy, Debug, PartialEq, Eq)]
 pub enum Shape {
+    /// A network device (VIRTIO 1.2, 5.1).
+    Net {
+        /// Its MAC.
+        mac: [u8; 6],
+    },
+
+    /// A block device (VIRTIO 1.2, 5.2).
+    Block {
+        /// How many sectors of 512 bytes its disk has: 1 to 2,097,152.
+        sectors: u64,
+
+        /// Whether the driver may only read it.
+        read_only: bool,
+
+        /// What it answers to a driver that asks for its id.
+        id: [u8; 20],
+    },
+
+    /// A console (VIRTIO 1.2, 5.3).
+    Console,
+
     /// An entropy device (VIRTIO 1.2, 5.4).
     Entropy,
+}
+
+impl Shape {
+    /// How many sectors the disk of such a device has; 0 where it has no disk.
+    pub fn sectors(self) -> u64
+        ensures { result ≡ sector_count self }
+    {
+        match self {
+            Shape::Block { sectors, .. } => sectors,
+            Shape::Net { .. } | Shape::Console | Shape::Entropy => 0,
+        }
+    }
 }

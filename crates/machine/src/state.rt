@@ -4,16 +4,19 @@ ghost use Rattle.std.specs.Prelude.{◌≡◌, ◌≤◌, ◌<◌, ℕ, IfOk, le
 ghost use Rattle.mmio.specs.State.{queue_at, with_common};
 ghost use Rattle.mmio.specs.Interrupts.{reset_asked, used_raised};
 ghost use Rattle.mmio.specs.QueueRegisters.{notified_cleared};
-ghost use Rattle.machine.specs.DeviceStep.{reply_of, registers_after};
+ghost use Rattle.machine.specs.DeviceStep.{reply_of, reply_to_advance, is_advance_due, registers_after};
 ghost use Rattle.machine.specs.QueuePositions.{first_positions, kept_positions};
 ghost use Rattle.machine.specs.Shapes.{device_id_of, offered_of, queues_of};
 
 use crate::any_ring::AnyRing;
 use crate::own::Own;
-use crate::reply::Reply;
+use crate::reply::{Refusal, Reply};
 use crate::served::Served;
 use crate::shape::Shape;
+use blk::{Advanced, Disk, Sectors};
+use byteorder::{ByteOrder, LittleEndian};
 use chains::{Positions, Ring};
+use console::ConsoleSize;
 use guestmem::{NoMemory, Ram, TouchLog};
 use mmio::{Common, Effect, QUEUE_COUNT_MAX, Queue, Regs};
 use std::alloc::Global;
@@ -39,15 +42,19 @@ impl Model for DeviceState {
 }
 
 impl DeviceState {
-    ghost use Rattle.std.specs.Prelude.{◌≡◌, ◌≤◌, ◌<◌, ℕ, IfOk, MatchOption, IsSome, None, Some, length, take};
+    ghost use Rattle.std.specs.Prelude.{◌≡◌, ◌≤◌, ◌<◌, ℕ, [], true, false, IfOk, MatchOption, IsSome, None, Some, length, take};
     ghost use Rattle.guestmem.specs.Item.{MayPages};
     ghost use Rattle.guestmem.specs.Later.{IsLater};
     ghost use Rattle.machine.specs.AnyRing.{ring_in};
-    ghost use Rattle.machine.specs.DeviceStep.{looks, looked_at};
-    ghost use Rattle.machine.specs.DeviceWork.{IsDeviceStep};
-    ghost use Rattle.machine.specs.Shapes.{first_device, saved_device};
+    ghost use Rattle.blk.specs.Move.{MaySectors, is_disk_failed};
+    ghost use Rattle.blk.specs.Sectors.{IsKept, AreWhole};
+    ghost use Rattle.machine.specs.DeviceStep.{advances, advanced_at, looks, looked_at};
+    ghost use Rattle.machine.specs.DeviceWork.{IsDeviceStep, IsLookedStep, IsAdvancedStep};
+    ghost use Rattle.machine.specs.Outcome.{is_failure};
+    ghost use Rattle.machine.specs.Shapes.{first_device, saved_device, sector_count, size_configuration};
+    ghost use Rattle.mmio.specs.RegisterRead.{register_read};
     ghost use Rattle.machine.specs.Sound.{IsSoundDevice};
-    ghost use Rattle.machine.specs.Step.{register_value_of, register_set, kept_of, with_input};
+    ghost use Rattle.machine.specs.Step.{ResizesDevice, register_value_of, register_set, input_of, with_input, written_out};
 
     /// A new device, in a machine whose RAM has so many bytes. Its only error is want of memory.
     pub(crate) fn new(alloc: Global, shape: Shape, ram_len: u64) -> Result<DeviceState, NoMemory>
@@ -128,26 +135,87 @@ impl DeviceState {
     pub(crate) fn read_register(&self, offset: u32, width: u8) -> u32
         ensures { result ≡ register_value_of self.now offset width }
     {
-        self.registers.read(offset, width, &[])
+        match self.shape {
+            Shape::Block { sectors, .. } => {
+                let mut capacity = [0; 8];
+                LittleEndian::write_u64(&mut capacity, sectors);
+                self.registers.read(offset, width, &capacity)
+            }
+            Shape::Net { mac } => self.registers.read(offset, width, mac.as_slice()),
+            Shape::Console => self.read_size(offset, width),
+            Shape::Entropy => self.registers.read(offset, width, &[]),
+        }
     }
 
-    pub(crate) fn write_register(&mut self, offset: u32, width: u8, value: u32)
-        ensures { self.new ≡ register_set self.old offset width value }
+    /// What the driver of a console reads.
+    fn read_size(&self, offset: u32, width: u8) -> u32
+        ensures { result ≡ register_read self.now.registers offset width (size_configuration self.now.own) }
     {
+        match &self.own {
+            Own::Console { size, .. } => self.registers.read(offset, width, &size.configuration()),
+            _ => self.registers.read(offset, width, &[]),
+        }
+    }
+
+    /// The driver writes a register. What it gives out is what it writes into the emergency register of a console.
+    pub(crate) fn write_register(&mut self, offset: u32, width: u8, value: u32) -> Option<u8>
+        ensures device { self.new ≡ register_set self.old offset width value }
+        ensures out { result ≡ written_out self.old.own offset width value }
+    {
+        let out = self.own.written(offset, width, value);
         let _effect: Effect = self.registers.write(offset, width, value);
-        self.positions = kept(self.registers.queues(), self.positions);
+        let queues = self.registers.queues();
+        self.positions = kept(queues, self.positions);
+        self.own.keep(queues);
+        out
+    }
+
+    /// Sets the size of a console.
+    pub(crate) fn resize(&mut self, size: ConsoleSize) -> Result<(), Refusal>
+        ensures { ResizesDevice self.old size result self.new }
+    {
+        self.own.resize(size, &mut self.registers)
     }
 
     /// Keeps the first bytes that fit, and answers how many these are.
-    pub(crate) fn input(&mut self, bytes: &[u8]) -> u32
-        ensures count { result ≡ kept_of self.old.own bytes.now }
+    pub(crate) fn input(&mut self, bytes: &[u8]) -> Result<u32, Refusal>
+        ensures count { result ≡ input_of self.old.own bytes.now }
         ensures device { self.new ≡ with_input self.old bytes.now }
     {
         self.own.input(bytes)
     }
 
-    /// Does one piece of the device's work.
-    pub(crate) fn step<L: TouchLog>(
+    /// Does one piece of the device's work, with the sectors of its disk. `device` is the number under which the log is told
+    /// of them.
+    pub(crate) fn step<D: Disk, L: TouchLog>(
+        &mut self,
+        alloc: Global,
+        device: u8,
+        pick: u8,
+        sectors: &mut Sectors<D>,
+        ram: &mut Ram,
+        log: &mut L,
+    ) -> Reply
+        requires sound { IsSoundDevice (length ram.old.bytes) self.old }
+        requires capacity { length sectors.old.content ≡ sector_count self.old.shape }
+        requires may { MayPages L.may log.old (length ram.old.bytes) }
+        requires may_sectors { MaySectors L.may log.old device (length sectors.old.content) }
+        ensures step { IsDeviceStep L.after device sectors.old.honest ram.old.bytes sectors.old.content log.old self.old pick result ram.new.bytes sectors.new.content log.new self.new }
+        ensures kept { IsKept sectors.old (is_failure result) sectors.new }
+        ensures size { length ram.new.bytes ≡ length ram.old.bytes }
+        ensures later { IsLater ram.old ram.new }
+    {
+        if let Some(ring) = self.looked_ring(alloc, pick) {
+            return self.look(alloc, pick, ring, ram, log);
+        }
+        match self.advanced_ring(alloc, pick) {
+            Some(ring) => self.advance(device, pick, ring, sectors, ram, log),
+            None => Reply::Idle,
+        }
+    }
+
+    /// Does one piece of the work of a device that has no disk.
+    pub(crate) fn step_without_disk<L: TouchLog>(
         &mut self,
         alloc: Global,
         pick: u8,
@@ -155,21 +223,96 @@ impl DeviceState {
         log: &mut L,
     ) -> Reply
         requires sound { IsSoundDevice (length ram.old.bytes) self.old }
+        requires without { sector_count self.old.shape ≡ 0 }
         requires may { MayPages L.may log.old (length ram.old.bytes) }
-        ensures step { IsDeviceStep L.after ram.old.bytes log.old self.old pick result ram.new.bytes log.new self.new }
+        ensures step { (device : ℕ) → IsDeviceStep L.after device true ram.old.bytes [] log.old self.old pick result ram.new.bytes [] log.new self.new }
+        ensures fine { is_failure result ≡ false }
         ensures size { length ram.new.bytes ≡ length ram.old.bytes }
         ensures later { IsLater ram.old ram.new }
     {
-        let Some(mut ring) = self.looked_ring(alloc, pick) else {
-            return Reply::Idle;
-        };
-        match self.own.serve(pick, &mut ring, ram, log) {
+        match self.looked_ring(alloc, pick) {
+            Some(ring) => self.look(alloc, pick, ring, ram, log),
+            None => Reply::Idle,
+        }
+    }
+
+    /// Looks at the next chain of a queue.
+    fn look<L: TouchLog>(
+        &mut self,
+        alloc: Global,
+        pick: u8,
+        ring: AnyRing,
+        ram: &mut Ram,
+        log: &mut L,
+    ) -> Reply
+        requires sound { IsSoundDevice (length ram.old.bytes) self.old }
+        requires looked { looked_at self.old pick ≡ Some (ring_in ring) }
+        requires there { pick < length self.old.registers.queues }
+        requires may { MayPages L.may log.old (length ram.old.bytes) }
+        ensures looked { IsLookedStep L.after ram.old.bytes log.old self.old pick (ring_in ring) result ram.new.bytes log.new self.new }
+        ensures size { length ram.new.bytes ≡ length ram.old.bytes }
+        ensures later { IsLater ram.old ram.new }
+    {
+        let mut ring = ring;
+        match self.own.serve(alloc, self.shape, pick, &mut ring, ram, log) {
             Ok(served) => {
                 self.positions[pick as usize] = ring.positions();
                 tell(&mut self.registers, pick, served)
             }
             Err(_) => Reply::NoMemory,
         }
+    }
+
+    /// Advances an outstanding request by one unit, or ends it.
+    fn advance<D: Disk, L: TouchLog>(
+        &mut self,
+        device: u8,
+        pick: u8,
+        ring: AnyRing,
+        sectors: &mut Sectors<D>,
+        ram: &mut Ram,
+        log: &mut L,
+    ) -> Reply
+        requires sound { IsSoundDevice (length ram.old.bytes) self.old }
+        requires capacity { length sectors.old.content ≡ sector_count self.old.shape }
+        requires advanced { advanced_at self.old pick ≡ Some (ring_in ring) }
+        requires may { MayPages L.may log.old (length ram.old.bytes) }
+        requires may_sectors { MaySectors L.may log.old device (length sectors.old.content) }
+        ensures advanced { IsAdvancedStep L.after device sectors.old.honest ram.old.bytes sectors.old.content log.old self.old pick (ring_in ring) result ram.new.bytes sectors.new.content log.new self.new }
+        ensures kept { IsKept sectors.old (is_failure result) sectors.new }
+        ensures size { length ram.new.bytes ≡ length ram.old.bytes }
+        ensures later { IsLater ram.old ram.new }
+    {
+        let mut ring = ring;
+        let k = pick as usize - 1;
+        let advanced = self
+            .own
+            .advance(self.shape, k, &mut ring, sectors, device, ram, log);
+        self.positions[0] = ring.positions();
+        let reply = reply_to_advance(advanced);
+        publish(&mut self.registers, reply, is_due(advanced))
+    }
+
+    /// The ring on which the request of a pick is published, if there is such a request.
+    fn advanced_ring(&self, alloc: Global, pick: u8) -> Option<AnyRing>
+        requires sound { (len : ℕ) × IsSoundDevice len self.now }
+        ensures ring { MatchOption result (advanced_at self.now pick ≡ None) (λ ring. advanced_at self.now pick ≡ Some (ring_in ring)) }
+    {
+        if !self.advances(pick) {
+            return None;
+        }
+        let [queue, ..] = self.registers.queues() else {
+            return None;
+        };
+        let features = self.registers.features();
+        Some(AnyRing::new(alloc, queue, features, self.positions[0]))
+    }
+
+    /// Whether a step with this pick advances an outstanding request.
+    fn advances(&self, pick: u8) -> bool
+        ensures { result ≡ advances self.now pick }
+    {
+        self.registers.is_running() && pick > 0 && (pick as usize - 1) < self.own.outstanding()
     }
 
     /// The ring that a step with this pick looks at, if it looks at one.
@@ -200,6 +343,28 @@ impl DeviceState {
             && queue.is_ready
             && queue.is_notified
             && self.own.has_work(number)
+    }
+}
+
+fn reply_to_advance(advanced: Advanced) -> Reply
+    ensures { result ≡ reply_to_advance advanced }
+{
+    match advanced {
+        Advanced::Idle => Reply::Idle,
+        Advanced::Moved => Reply::Moved,
+        Advanced::BadSector => Reply::BadSector,
+        Advanced::DiskFailed => Reply::DiskFailed,
+        Advanced::Completed { len, .. } => Reply::Completed(len),
+    }
+}
+
+/// Whether an interrupt is due after a request went on.
+fn is_due(advanced: Advanced) -> bool
+    ensures { result ≡ is_advance_due advanced }
+{
+    match advanced {
+        Advanced::Completed { is_due, .. } => is_due,
+        _ => false,
     }
 }
 
@@ -235,7 +400,7 @@ fn ask_reset(registers: &mut Regs) -> Reply
     Reply::NeedsReset
 }
 
-/// A chain was published: the interrupt is raised where it is due.
+/// A chain was published, or not: the interrupt is raised where it is due.
 fn publish(registers: &mut Regs, reply: Reply, is_due: bool) -> Reply
     ensures reply { result ≡ reply }
     ensures registers { registers.new ≡ (if is_due then with_common registers.old (used_raised registers.old.common) else registers.old) }
@@ -274,6 +439,9 @@ fn device_id(shape: Shape) -> u32
     ensures { result ≡ device_id_of shape }
 {
     match shape {
+        Shape::Net { .. } => 1,
+        Shape::Block { .. } => 2,
+        Shape::Console => 3,
         Shape::Entropy => 4,
     }
 }
@@ -283,6 +451,16 @@ pub fn offered(shape: Shape) -> u64
     ensures { result ≡ offered_of shape }
 {
     match shape {
+        Shape::Block {
+            read_only: true,
+            ..
+        } => COMMON_FEATURES | BLK_FLUSH | BLK_RO,
+        Shape::Block {
+            read_only: false,
+            ..
+        } => COMMON_FEATURES | BLK_FLUSH,
+        Shape::Net { .. } => COMMON_FEATURES | net::MAC,
+        Shape::Console => COMMON_FEATURES | console::SIZE | console::EMERGENCY_WRITE,
         Shape::Entropy => COMMON_FEATURES,
     }
 }
@@ -291,9 +469,18 @@ fn queue_count(shape: Shape) -> u8
     ensures { result ≡ queues_of shape }
 {
     match shape {
+        Shape::Net { .. } => 2,
+        Shape::Block { .. } => 1,
+        Shape::Console => 2,
         Shape::Entropy => 1,
     }
 }
+
+/// The driver may only read the disk (VIRTIO 1.2, 5.2.3).
+const BLK_RO: u64 = 1 << 5;
+
+/// The driver may ask for a flush of the disk (VIRTIO 1.2, 5.2.3).
+const BLK_FLUSH: u64 = 1 << 9;
 
 const COMMON_FEATURES: u64 = mmio::INDIRECT_DESC
     | mmio::EVENT_IDX

@@ -4,9 +4,12 @@ use Rattle.std.proofs.lemmas.List.{take-append-drop}
 use Rattle.sha2.specs.Sha256.{sha256}
 use Rattle.wire.specs.Records.{Record, spelled_record}
 use Rattle.wire.specs.Stream.{texts, rounds}
+use Rattle.blk.specs.Disk.{DiskState}
+use Rattle.machine.specs.Seen.{Marks}
 use Rattle.machine.specs.declared.shape.Shape.{Shape}
 use Rattle.wire.proofs.HeaderLemmas.{header_of-spelled}
 use Rattle.wire.proofs.Unique.{alike}
+use Rattle.receiver.specs.Disks.{MarksRefused, sizes_in}
 use Rattle.receiver.specs.Good.{AreGood}
 use Rattle.receiver.specs.Faults.{IsFront, Fault}
 use Rattle.receiver.specs.Receiving.{IsKnown, IsFinish, HasRounds, NoNext, NoFault, RefusesSlice, TellsFault, TellsNow, rounds_in, has_failed}
@@ -45,16 +48,16 @@ rounds_by sizes b p ss before tail n f none e = record {
   some = λ q ts others rest g nothing. e ∙ ap rounds (sym (same_records sizes b p q ss ts before others tail rest f none g nothing));
 }
 
-pub rounds_known : (sizes held : List ℕ) (at : ℕ) (stage : Stage) → IsKnown sizes held at stage → has_failed stage ≡ false → HasRounds sizes held (rounds_in stage)
-rounds_known sizes held at stages.Head k f = record { none = λ never. refl; some = λ p ss before tail g none. absurd (k.0.no_header p ss (texts before ++ tail) g.begins) }
-rounds_known sizes held at (stages.Records i) k f =
+pub rounds_known : (ds : List DiskState) (held : List ℕ) (at : ℕ) (stage : Stage) → IsKnown ds held at stage → has_failed stage ≡ false → HasRounds (sizes_in ds) held (rounds_in stage)
+rounds_known ds held at stages.Head k f = record { none = λ never. refl; some = λ p ss before tail g none. absurd (k.0.no_header p ss (texts before ++ tail) g.begins) }
+rounds_known ds held at (stages.Records i) k f =
     let o = k.open_at in
-    rounds_by sizes held k.pages k.shapes o.before (drop at held) i.rounds (front_of held (drop at held) o.read (sym (take-append-drop at held))) (λ r y g e. o.waits.no_record r y g.spells e) o.read.rounds_are
-rounds_known sizes held at (stages.Ended i) k f =
+    rounds_by (sizes_in ds) held k.pages k.shapes o.before (drop at held) i.rounds (front_of held (drop at held) o.read (sym (take-append-drop at held))) (λ r y g e. o.waits.no_record r y g.spells e) o.read.rounds_are
+rounds_known ds held at (stages.Ended i) k f =
     let w = k.ended in
     let whole : held ≡ w.front ++ (5 ∷ sha256 w.front) = w.whole ∙ ap (λ (x : List ℕ). w.front ++ x) (commit_text (sha256 w.front)) in
-    rounds_by sizes held k.pages k.shapes w.before (5 ∷ sha256 w.front) i.rounds (front_of held (5 ∷ sha256 w.front) w.read whole) (λ r y g e. no_other k.pages k.shapes w.before (sha256 w.front) r y g e) w.read.rounds_are
-rounds_known sizes held at stages.Failed k f = absurd cc
+    rounds_by (sizes_in ds) held k.pages k.shapes w.before (5 ∷ sha256 w.front) i.rounds (front_of held (5 ∷ sha256 w.front) w.read whole) (λ r y g e. no_other k.pages k.shapes w.before (sha256 w.front) r y g e) w.read.rounds_are
+rounds_known ds held at stages.Failed k f = absurd cc
 
 pub none_failed : (stage : Stage) → has_failed stage ≡ true → rounds_in stage ≡ 0
 none_failed stages.Head e = refl
@@ -66,41 +69,41 @@ no_truncation : (sizes bytes : List ℕ) (at : ℕ) → ¬ (Fault sizes bytes er
 no_truncation sizes bytes at (inl h) = h
 no_truncation sizes bytes at (inr h) = h.fault
 
-pub slice_told : (sizes bytes : List ℕ) (e : RecvError) → TellsFault sizes bytes e → RefusesSlice sizes bytes e
-slice_told sizes bytes errors.BadMagic t = t
-slice_told sizes bytes errors.BadVersion t = t
-slice_told sizes bytes errors.BadShape t = t
-slice_told sizes bytes errors.ShapeMismatch t = t
-slice_told sizes bytes errors.BadTag t = t
-slice_told sizes bytes errors.BadPage t = t
-slice_told sizes bytes errors.BadSector t = t
-slice_told sizes bytes errors.BadRound t = t
-slice_told sizes bytes errors.BadDevice t = t
-slice_told sizes bytes errors.BadDigest t = t
-slice_told sizes bytes errors.Missing t = t
-slice_told sizes bytes errors.Trailing t = t
-slice_told sizes bytes errors.Truncated t = absurd (no_truncation sizes bytes t.0 t.1)
-slice_told sizes bytes errors.DiskFailed t = t
-slice_told sizes bytes errors.NoMemory t = tt
-slice_told sizes bytes errors.AlreadyFailed t = t
+pub slice_told : (sizes : List ℕ) (marks new : List Marks) (bytes : List ℕ) (e : RecvError) → MarksRefused marks e new → TellsFault sizes bytes e → RefusesSlice sizes marks bytes e
+slice_told sizes marks new bytes errors.BadMagic m t = t
+slice_told sizes marks new bytes errors.BadVersion m t = t
+slice_told sizes marks new bytes errors.BadShape m t = t
+slice_told sizes marks new bytes errors.ShapeMismatch m t = t
+slice_told sizes marks new bytes errors.BadTag m t = t
+slice_told sizes marks new bytes errors.BadPage m t = t
+slice_told sizes marks new bytes errors.BadSector m t = t
+slice_told sizes marks new bytes errors.BadRound m t = t
+slice_told sizes marks new bytes errors.BadDevice m t = t
+slice_told sizes marks new bytes errors.BadDigest m t = t
+slice_told sizes marks new bytes errors.Missing m t = t
+slice_told sizes marks new bytes errors.Trailing m t = t
+slice_told sizes marks new bytes errors.Truncated m t = absurd (no_truncation sizes bytes t.0 t.1)
+slice_told sizes marks new bytes errors.DiskFailed m t = record { disk = m.disk; unsteady = m.unsteady }
+slice_told sizes marks new bytes errors.NoMemory m t = tt
+slice_told sizes marks new bytes errors.AlreadyFailed m t = t
 
-pub slice_cut : (sizes bytes : List ℕ) (e : RecvError) → IsFinish bytes e → NoFault sizes bytes → RefusesSlice sizes bytes e
-slice_cut sizes bytes errors.BadMagic h n = absurd h
-slice_cut sizes bytes errors.BadVersion h n = absurd h
-slice_cut sizes bytes errors.BadShape h n = absurd h
-slice_cut sizes bytes errors.ShapeMismatch h n = absurd h
-slice_cut sizes bytes errors.BadTag h n = absurd h
-slice_cut sizes bytes errors.BadPage h n = absurd h
-slice_cut sizes bytes errors.BadSector h n = absurd h
-slice_cut sizes bytes errors.BadRound h n = absurd h
-slice_cut sizes bytes errors.BadDevice h n = absurd h
-slice_cut sizes bytes errors.BadDigest h n = absurd h
-slice_cut sizes bytes errors.Missing h n = absurd h
-slice_cut sizes bytes errors.Trailing h n = absurd h
-slice_cut sizes bytes errors.Truncated h n = (n, h)
-slice_cut sizes bytes errors.DiskFailed h n = absurd h
-slice_cut sizes bytes errors.NoMemory h n = tt
-slice_cut sizes bytes errors.AlreadyFailed h n = absurd h
+pub slice_cut : (sizes : List ℕ) (marks : List Marks) (bytes : List ℕ) (e : RecvError) → IsFinish bytes e → NoFault sizes bytes → RefusesSlice sizes marks bytes e
+slice_cut sizes marks bytes errors.BadMagic h n = absurd h
+slice_cut sizes marks bytes errors.BadVersion h n = absurd h
+slice_cut sizes marks bytes errors.BadShape h n = absurd h
+slice_cut sizes marks bytes errors.ShapeMismatch h n = absurd h
+slice_cut sizes marks bytes errors.BadTag h n = absurd h
+slice_cut sizes marks bytes errors.BadPage h n = absurd h
+slice_cut sizes marks bytes errors.BadSector h n = absurd h
+slice_cut sizes marks bytes errors.BadRound h n = absurd h
+slice_cut sizes marks bytes errors.BadDevice h n = absurd h
+slice_cut sizes marks bytes errors.BadDigest h n = absurd h
+slice_cut sizes marks bytes errors.Missing h n = absurd h
+slice_cut sizes marks bytes errors.Trailing h n = absurd h
+slice_cut sizes marks bytes errors.Truncated h n = (n, h)
+slice_cut sizes marks bytes errors.DiskFailed h n = absurd h
+slice_cut sizes marks bytes errors.NoMemory h n = tt
+slice_cut sizes marks bytes errors.AlreadyFailed h n = absurd h
 
 -- What is told of a first piece is told of the slice.
 pub told_at_once : (sizes bytes : List ℕ) (e : RecvError) → TellsNow sizes [] bytes e → TellsFault sizes bytes e

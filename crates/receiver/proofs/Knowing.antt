@@ -1,6 +1,6 @@
 -- What a receiver knows of its bytes.
-use Rattle.std.proofs.Common.{◌≡◌, ℕ, ◌+◌, ◌/◌, ◌≤◌, ◌⊎◌, inl, inr, Some, None, Option, Bool, true, false, List, [], ◌∷◌, ◌++◌, length, drop, get_or, refl, sym, ap, ◌∙◌, append_assoc, append-nil, arith}
-use Rattle.std.specs.Prelude.{is_some}
+use Rattle.std.proofs.Common.{◌≡◌, ℕ, ◌+◌, ◌/◌, ◌≤◌, ◌⊎◌, inl, inr, Some, None, Option, Bool, true, false, List, [], ◌∷◌, ◌++◌, length, map, drop, get_or, refl, sym, ap, ◌∙◌, append_assoc, append-nil, arith}
+use Rattle.std.specs.Prelude.{All, is_some}
 use Rattle.std.proofs.lemmas.List.{length-append, take-append-drop}
 use Rattle.std.proofs.lemmas.List.Elements.{All-from_recursion}
 use Rattle.sha2.specs.Sha256.{sha256}
@@ -12,8 +12,10 @@ use Rattle.wire.specs.Records.{Record, page, sector, round_end, device, commit, 
 use Rattle.wire.specs.Stream.{IsStream, texts, rounds, shapes_in, device_texts, before_commit, last_named, record_in}
 use Rattle.receiver.specs.Taken.{shown}
 use Rattle.guestmem.specs.Item.{Item}
-use Rattle.machine.specs.First.{dealt_sectors, saved_machine}
+use Rattle.blk.specs.Disk.{AreSectors, DiskState}
+use Rattle.machine.specs.First.{dealt_sectors, marked_sectors, saved_machine}
 use Rattle.machine.specs.Layout.{IsItemIn, layout_by, layout_of, number_of, pages_of}
+use Rattle.machine.specs.Shapes.{disk_sizes}
 use Rattle.machine.specs.Sound.{IsSound, IsSoundDevice}
 use Rattle.machine.specs.State.{DeviceState, MachineState}
 use Rattle.machine.specs.declared.shape.Shape.{Shape}
@@ -21,9 +23,11 @@ use Rattle.machine.proofs.Fresh.{dealt_sizes, dealt_whole}
 use Rattle.machine.proofs.Numbering.{sound_layout}
 use Rattle.receiver.proofs.Lists.{take_all}
 use Rattle.wire.proofs.Spelling.{tail_same, split_same}
+use Rattle.receiver.specs.Disks.{AreHonestDisks, all_marks_in, sizes_in}
+use Rattle.receiver.proofs.Sectors.{marked_sizes, marked_whole, marks_count}
 use Rattle.receiver.specs.Good.{Follows, devices_in}
 use Rattle.receiver.specs.Faults.{IsComplete, IsBadDigest, IsTrailing, IsFault, IsFront}
-use Rattle.receiver.specs.Fed.{HasRead, IsEnded, device_records}
+use Rattle.receiver.specs.Fed.{HasRead, IsEnded, device_records, held_sectors}
 use Rattle.receiver.specs.Heading.{WaitsHead}
 use Rattle.receiver.specs.Receiving.{IsKnown, IsReading, HasCome, GoesOn, NoFault}
 use Rattle.receiver.specs.declared.intake.Intake.{Intake}
@@ -39,11 +43,11 @@ use Rattle.receiver.proofs.Working.{front_of, commit_text}
 pub nothing_known : WaitsHead []
 nothing_known = head_short [] (omega arith) (λ at h. omega (arith, h.long)) (λ at h. omega (arith, h.long))
 
-pub place_within : (sizes held : List ℕ) (at : ℕ) (stage : Stage) → IsKnown sizes held at stage → GoesOn stage → at ≤ length held
-place_within sizes held at stages.Head k g = omega (arith, k.1)
-place_within sizes held at (stages.Records i) k g = k.within
-place_within sizes held at (stages.Ended i) k g = omega (arith, k.at_end)
-place_within sizes held at stages.Failed k g = absurd g
+pub place_within : (ds : List DiskState) (held : List ℕ) (at : ℕ) (stage : Stage) → IsKnown ds held at stage → GoesOn stage → at ≤ length held
+place_within ds held at stages.Head k g = omega (arith, k.1)
+place_within ds held at (stages.Records i) k g = k.within
+place_within ds held at (stages.Ended i) k g = omega (arith, k.at_end)
+place_within ds held at stages.Failed k g = absurd g
 
 -- The digest is no other record, and has no fault.
 
@@ -86,24 +90,24 @@ no_fault_head : (sizes held : List ℕ) → WaitsHead held → NoFault sizes hel
 no_fault_head sizes held w k at (inl h) = w.no_fault sizes k at h
 no_fault_head sizes held w k at (inr h) = w.no_header h.pages h.shapes (texts h.before ++ h.tail) h.front.begins
 
-no_fault_reading : (sizes held : List ℕ) (at : ℕ) (i : Intake) → IsReading sizes held at i → NoFault sizes held
-no_fault_reading sizes held at i r =
+no_fault_reading : (ds : List DiskState) (held : List ℕ) (at : ℕ) (i : Intake) → IsReading ds held at i → NoFault (sizes_in ds) held
+no_fault_reading ds held at i r =
     let o = r.open_at in
-    quiet_front sizes held r.pages r.shapes o.before (drop at held) (front_of held (drop at held) o.read (sym (take-append-drop at held))) (λ s y f e. o.waits.no_record s y f.spells e) o.waits.no_fault
+    quiet_front (sizes_in ds) held r.pages r.shapes o.before (drop at held) (front_of held (drop at held) o.read (sym (take-append-drop at held))) (λ s y f e. o.waits.no_record s y f.spells e) o.waits.no_fault
 
-no_fault_come : (sizes held : List ℕ) (at : ℕ) (i : Intake) → HasCome sizes held at i → NoFault sizes held
-no_fault_come sizes held at i h =
+no_fault_come : (ds : List DiskState) (held : List ℕ) (at : ℕ) (i : Intake) → HasCome ds held at i → NoFault (sizes_in ds) held
+no_fault_come ds held at i h =
     let w = h.ended in
     let whole : held ≡ w.front ++ (5 ∷ sha256 w.front) = w.whole ∙ ap (λ (x : List ℕ). w.front ++ x) (commit_text (sha256 w.front)) in
-    quiet_front sizes held h.pages h.shapes w.before (5 ∷ sha256 w.front) (front_of held (5 ∷ sha256 w.front) w.read whole)
+    quiet_front (sizes_in ds) held h.pages h.shapes w.before (5 ∷ sha256 w.front) (front_of held (5 ∷ sha256 w.front) w.read whole)
     (λ s y f e. no_other h.pages h.shapes w.before (sha256 w.front) s y f e) (end_quiet h.pages h.shapes w.before (sha256 w.front) w.complete (ap sha256 w.read.whole))
 
 -- No fault stands in what was fed while no refusal came.
-pub no_fault_known : (sizes held : List ℕ) (at : ℕ) (stage : Stage) → IsKnown sizes held at stage → GoesOn stage → NoFault sizes held
-no_fault_known sizes held at stages.Head k g = no_fault_head sizes held k.0
-no_fault_known sizes held at (stages.Records i) k g = no_fault_reading sizes held at i k
-no_fault_known sizes held at (stages.Ended i) k g = no_fault_come sizes held at i k
-no_fault_known sizes held at stages.Failed k g = absurd g
+pub no_fault_known : (ds : List DiskState) (held : List ℕ) (at : ℕ) (stage : Stage) → IsKnown ds held at stage → GoesOn stage → NoFault (sizes_in ds) held
+no_fault_known ds held at stages.Head k g = no_fault_head (sizes_in ds) held k.0
+no_fault_known ds held at (stages.Records i) k g = no_fault_reading ds held at i k
+no_fault_known ds held at (stages.Ended i) k g = no_fault_come ds held at i k
+no_fault_known ds held at stages.Failed k g = absurd g
 
 -- A whole stream.
 
@@ -133,20 +137,21 @@ rounds_none k [] = refl
 rounds_none k (d ∷ ds) = rounds_none (k + 1) ds
 
 -- The machine that was read.
-abbrev pub read_machine : Intake → MachineState
-read_machine i = saved_machine i.ram.bytes i.devices.items []
+abbrev pub read_machine : List DiskState → Intake → MachineState
+read_machine ds i = saved_machine i.ram.bytes i.devices.items (marked_sectors ds i.bad.items)
 
 some_shown : (b : Bool) (x : Record) (o : Option Record) → o ≡ shown b x → is_some o ≡ true → o ≡ Some x
 some_shown true x o e s = e
 some_shown false x o e s = let no : false ≡ true = ap is_some (sym e) ∙ s in absurd cc
 
-pub whole_shapes : {sizes front : List ℕ} {pages : ℕ} {shapes : List Shape} {before : List Record} {i : Intake} → HasRead sizes pages shapes before i front → devices_in before ≡ length shapes → shapes_in i.devices.items ≡ shapes
+pub whole_shapes : {ds : List DiskState} {front : List ℕ} {pages : ℕ} {shapes : List Shape} {before : List Record} {i : Intake} → HasRead ds pages shapes before i front → devices_in before ≡ length shapes → shapes_in i.devices.items ≡ shapes
 whole_shapes {shapes = shapes} {i = i} h all = h.devices_are ∙ take_all (length i.devices.items) shapes (omega (arith, all, devices_are h))
 
-pub read_sound : {sizes front : List ℕ} {pages : ℕ} {shapes : List Shape} {before : List Record} {i : Intake} → HasRead sizes pages shapes before i front → devices_in before ≡ length shapes → IsBytes i.ram.bytes → IsSound (read_machine i)
-read_sound {pages = pages} {shapes = shapes} {i = i} h all are =
+pub read_sound : {ds : List DiskState} {front : List ℕ} {pages : ℕ} {shapes : List Shape} {before : List Record} {i : Intake} → HasRead ds pages shapes before i front → devices_in before ≡ length shapes → IsBytes i.ram.bytes → All (λ (d : DiskState). AreSectors d.sectors) ds → IsSound (read_machine ds i)
+read_sound {ds = ds} {pages = pages} {shapes = shapes} {i = i} h all are sectors =
     let count : length i.devices.items ≡ length shapes = omega (arith, all, devices_are h) in
     let size : length i.ram.bytes / 4096 ≡ pages = omega (arith, h.taken.ram_size) in
+    let sizes : disk_sizes (shapes_in i.devices.items) ≡ map length (marked_sectors ds i.bad.items) = ap disk_sizes (whole_shapes h all) ∙ sym h.fits ∙ sym (marked_sizes ds i.bad.items (marks_count ds i.bad.items h.marks_are)) in
     record {
       whole_pages = omega (arith, h.taken.ram_size);
       some_pages = omega (arith, size, h.head.some_page);
@@ -155,28 +160,28 @@ read_sound {pages = pages} {shapes = shapes} {i = i} h all are =
       few_devices = omega (arith, h.head.few_devices, count);
       devices = All-from_recursion (IsSoundDevice (length i.ram.bytes)) i.devices.items (rw h.taken.ram_size h.sound);
       bytes = are;
-      disks = dealt_sizes i.devices.items [];
-      sectors = dealt_whole (shapes_in i.devices.items) [];
+      disks = dealt_sizes i.devices.items (marked_sectors ds i.bad.items) sizes;
+      sectors = dealt_whole (shapes_in i.devices.items) (marked_sectors ds i.bad.items) (marked_whole ds i.bad.items sectors);
     }
 
 -- Its layout is that of the header.
-pub read_layout : {sizes front : List ℕ} {pages : ℕ} {shapes : List Shape} {before : List Record} {i : Intake} → HasRead sizes pages shapes before i front → devices_in before ≡ length shapes → IsBytes i.ram.bytes → layout_of (read_machine i) ≡ layout_by pages shapes
-read_layout {pages = pages} {shapes = shapes} {i = i} h all are =
+pub read_layout : {ds : List DiskState} {front : List ℕ} {pages : ℕ} {shapes : List Shape} {before : List Record} {i : Intake} → HasRead ds pages shapes before i front → devices_in before ≡ length shapes → IsSound (read_machine ds i) → layout_of (read_machine ds i) ≡ layout_by pages shapes
+read_layout {ds = ds} {pages = pages} {shapes = shapes} {i = i} h all sound =
     let size : length i.ram.bytes / 4096 ≡ pages = omega (arith, h.taken.ram_size) in
-    sound_layout (read_machine i) (read_sound h all are) ∙ rw (size, whole_shapes h all) refl
+    sound_layout (read_machine ds i) sound ∙ rw (size, whole_shapes h all) refl
 
-pub whole_stream : (sizes held : List ℕ) (pages : ℕ) (shapes : List Shape) (i : Intake) → IsEnded sizes pages shapes i held → IsBytes i.ram.bytes → IsStream held (read_machine i)
-whole_stream sizes held pages shapes i w are =
+pub whole_stream : (ds : List DiskState) (held : List ℕ) (pages : ℕ) (shapes : List Shape) (i : Intake) → IsEnded ds pages shapes i held → IsSound (read_machine ds i) → AreHonestDisks (all_marks_in ds) → IsStream held (read_machine ds i)
+whole_stream ds held pages shapes i w sound honest =
     let h = w.read in
     let all = w.complete.devices refl in
     let same : texts w.before ≡ texts h.entries ++ device_texts 0 i.devices.items =
     ap texts h.split ∙ texts-append h.entries (device_records 0 i.devices.items) ∙ ap (λ (x : List ℕ). texts h.entries ++ x) (texts_devices 0 i.devices.items) in
     let front : w.front ≡ before_commit pages h.entries i.devices.items =
     h.whole ∙ ap (λ (x : List ℕ). header pages shapes ++ x) same ∙ ap (λ (x : List Shape). header pages x ++ (texts h.entries ++ device_texts 0 i.devices.items)) (sym (whole_shapes h all)) in
-    let m : MachineState = read_machine i in
-    let layout : layout_of m ≡ layout_by pages shapes = read_layout h all are in
+    let m : MachineState = read_machine ds i in
+    let layout : layout_of m ≡ layout_by pages shapes = read_layout h all sound in
     let size : pages_of m ≡ pages = omega (arith, h.taken.ram_size) in
-    let disks : m.disks ≡ dealt_sectors shapes [] = ap (λ (x : List Shape). dealt_sectors x []) (whole_shapes h all) in
+    let disks : m.disks ≡ held_sectors shapes ds i.bad.items = ap (λ (x : List Shape). dealt_sectors x (marked_sectors ds i.bad.items)) (whole_shapes h all) in
     record {
       entries = h.entries;
       by = record {
@@ -185,8 +190,8 @@ whole_stream sizes held pages shapes i w are =
         last = λ item has.
             let here : IsItemIn (layout_by pages shapes) item = rw layout at has in
             sym (ap (last_named item) h.split ∙ last_entries item 0 h.entries i.devices.items)
-            ∙ rw disks (some_shown (get_or i.named.items (number_of (layout_by pages shapes) item) false) (record_in i.ram.bytes (dealt_sectors shapes []) item) (last_named item w.before) (h.taken.last item here) (w.complete.items item here));
-        sound = read_sound h all are;
+            ∙ rw disks (some_shown (get_or i.named.items (number_of (layout_by pages shapes) item) false) (record_in i.ram.bytes (held_sectors shapes ds i.bad.items) item) (last_named item w.before) (h.taken.last honest item here) (w.complete.items item here));
+        sound = sound;
         whole = rw size (w.whole ∙ ap (λ (x : List ℕ). x ++ spelled_record (commit (sha256 x))) front);
       };
     }

@@ -1,11 +1,14 @@
 -- A fault stands at one place, and is one.
 use Rattle.std.proofs.Common.{◌≡◌, ℕ, ◌+◌, ◌⊎◌, inl, inr, List, [], ◌∷◌, ◌++◌, length, refl, sym, ap, subst, ◌∙◌, append_assoc, append-nil, arith}
 use Rattle.std.proofs.lemmas.List.{length-append}
+use Rattle.std.specs.Prelude.{All}
+use Rattle.std.specs.List.{AllByRecursion}
 use Rattle.sha2.specs.Sha256.{sha256}
 use Rattle.sha2.proofs.Facts256.{length-sha256}
 use Rattle.wire.specs.Header.{front, header, Begins, spelled_shapes}
 use Rattle.wire.specs.Records.{Record, spelled_record}
 use Rattle.wire.specs.Stream.{texts}
+use Rattle.machine.specs.Sound.{IsSoundShape}
 use Rattle.machine.specs.declared.shape.Shape.{Shape}
 use Rattle.wire.proofs.HeaderLemmas.{header_of-spelled}
 use Rattle.wire.proofs.Spelling.{head_same, tail_same, split_same, number_same}
@@ -16,7 +19,7 @@ use Rattle.receiver.specs.Faults.{MayTag, IsComplete, Opens, IsBadTag, IsMissing
 use Rattle.receiver.specs.declared.recv_error.RecvError.{RecvError}
 use Rattle.receiver.specs.declared.recv_error.RecvError.TheVariants as errors
 use Rattle.receiver.proofs.Aligned.{LongerRecords, records_led, good_spell, next_good, no_fault_here}
-use Rattle.receiver.proofs.Heads.{no_header_fault, header_same, says_of, shapes_led, LongerShapes, no_bad_spelled}
+use Rattle.receiver.proofs.Heads.{no_header_fault, header_same, says_of, shapes_led, sound_behind, LongerShapes, bad_lengths, no_bad_spelled}
 
 abbrev pub Same : RecvError → ℕ → RecvError → ℕ → Type 0
 Same k p j q = (k ≡ j) × (p ≡ q)
@@ -150,21 +153,17 @@ one_record_fault sizes bytes k j at bt f h =
 
 -- Headers.
 
-bad_first : (ss : List Shape) (bad other x y : List ℕ) → IsNoShape bad → IsNoShape other → bad ++ x ≡ spelled_shapes ss ++ (other ++ y) → (ss ≡ []) × (length bad ≡ length other)
-bad_first [] (k ∷ []) (j ∷ []) x y n m e = (refl, refl)
-bad_first [] [] other x y n m e = absurd n
-bad_first [] (k ∷ b ∷ bad) other x y n m e = absurd n
-bad_first [] (k ∷ []) [] x y n m e = absurd m
-bad_first [] (k ∷ []) (j ∷ b ∷ other) x y n m e = absurd m
-bad_first (s ∷ ss) bad other x y n m e = absurd (no_bad_spelled s bad x (spelled_shapes ss ++ (other ++ y)) n (e ∙ append_assoc _ (spelled_shapes ss) (other ++ y)))
+bad_first : (ss : List Shape) (bad other x y : List ℕ) → AllByRecursion IsSoundShape ss → IsNoShape bad → IsNoShape other → bad ++ x ≡ spelled_shapes ss ++ (other ++ y) → (ss ≡ []) × (length bad ≡ length other)
+bad_first [] bad other x y good n m e = (refl, bad_lengths bad other x y n m e)
+bad_first (s ∷ ss) bad other x y good n m e = absurd (no_bad_spelled s bad x (spelled_shapes ss ++ (other ++ y)) good.0 n (e ∙ append_assoc _ (spelled_shapes ss) (other ++ y)))
 
-shapes_one : (ss ts : List Shape) (bad other x y : List ℕ) → IsNoShape bad → IsNoShape other → LongerShapes ss ts (bad ++ x) (other ++ y) ⊎ LongerShapes ts ss (other ++ y) (bad ++ x) → (length (spelled_shapes ss) + length bad ≡ length (spelled_shapes ts) + length other)
-shapes_one ss ts bad other x y n m (inl l) =
-    let o = bad_first l.more bad other x y n m l.left in
+shapes_one : (ss ts : List Shape) (bad other x y : List ℕ) → All IsSoundShape ss → All IsSoundShape ts → IsNoShape bad → IsNoShape other → LongerShapes ss ts (bad ++ x) (other ++ y) ⊎ LongerShapes ts ss (other ++ y) (bad ++ x) → (length (spelled_shapes ss) + length bad ≡ length (spelled_shapes ts) + length other)
+shapes_one ss ts bad other x y h k n m (inl l) =
+    let o = bad_first l.more bad other x y (sound_behind ss l.more ts l.all k) n m l.left in
     let same : ts ≡ ss = l.all ∙ ap (λ (z : List Shape). ss ++ z) o.0 ∙ append-nil ss in
     omega (arith, o.1, ap (λ (z : List Shape). length (spelled_shapes z)) same)
-shapes_one ss ts bad other x y n m (inr l) =
-    let o = bad_first l.more other bad y x m n l.left in
+shapes_one ss ts bad other x y h k n m (inr l) =
+    let o = bad_first l.more other bad y x (sound_behind ts l.more ss l.all h) m n l.left in
     let same : ss ≡ ts = l.all ∙ ap (λ (z : List Shape). ts ++ z) o.0 ∙ append-nil ts in
     omega (arith, o.1, ap (λ (z : List Shape). length (spelled_shapes z)) same)
 
@@ -229,7 +228,7 @@ one_shape_fault : (sizes bytes : List ℕ) (p : ℕ) → IsBadShape bytes p → 
 one_shape_fault sizes bytes p f errors.BadMagic q h = absurd (h.never f.says.magic)
 one_shape_fault sizes bytes p f errors.BadVersion q h = absurd (h.never f.says.version)
 one_shape_fault sizes bytes p f errors.BadShape q (inl h) = absurd (h.never (rw (sym h.says.pages_are ∙ f.says.pages_are, sym h.says.count_is ∙ f.says.count_is) f.may))
-one_shape_fault sizes bytes p f errors.BadShape q (inr h) = (refl, omega (arith, f.there, h.there, shapes_one f.shapes h.shapes f.bad h.bad f.more h.more f.never h.never (shapes_led f.shapes h.shapes (f.bad ++ f.more) (h.bad ++ h.more) (sym f.whole ∙ h.whole))))
+one_shape_fault sizes bytes p f errors.BadShape q (inr h) = (refl, omega (arith, f.there, h.there, shapes_one f.shapes h.shapes f.bad h.bad f.more h.more f.sound h.sound f.never h.never (shapes_led f.shapes h.shapes (f.bad ++ f.more) (h.bad ++ h.more) f.sound h.sound (sym f.whole ∙ h.whole))))
 one_shape_fault sizes bytes p f errors.ShapeMismatch q h = absurd (no_header_fault (disk_sizes h.shapes) bytes h.pages h.shapes h.more h.begins refl errors.BadShape p (inr f))
 one_shape_fault sizes bytes p f errors.BadTag q h = absurd h
 one_shape_fault sizes bytes p f errors.BadPage q h = absurd h

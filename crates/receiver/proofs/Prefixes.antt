@@ -114,7 +114,7 @@ header_stays : (sizes b c : List ℕ) (k : RecvError) (p : ℕ) → IsHeaderFaul
 header_stays sizes b c errors.BadMagic p h = record { long = omega (arith, h.long, length-append b c); never = λ e. h.never (sym (number_at-append 0 4 b c (omega (arith, h.long))) ∙ e); there = h.there }
 header_stays sizes b c errors.BadVersion p h = record { long = omega (arith, h.long, length-append b c); magic = number_at-append 0 4 b c (omega (arith, h.long)) ∙ h.magic; never = λ e. h.never (sym (number_at-append 4 4 b c (omega (arith, h.long))) ∙ e); there = h.there }
 header_stays sizes b c errors.BadShape p (inl h) = inl (record { pages = h.pages; count = h.count; says = says_on b c h.pages h.count h.says; never = h.never; there = h.there })
-header_stays sizes b c errors.BadShape p (inr h) = inr (record { pages = h.pages; count = h.count; shapes = h.shapes; bad = h.bad; more = h.more ++ c; says = says_on b c h.pages h.count h.says; may = h.may; fewer = h.fewer; whole = drop-append-le 16 b c h.says.long ∙ ap (λ (x : List ℕ). x ++ c) h.whole ∙ append_assoc (spelled_shapes h.shapes) (h.bad ++ h.more) c ∙ ap (λ (x : List ℕ). spelled_shapes h.shapes ++ x) (append_assoc h.bad h.more c); never = h.never; there = h.there })
+header_stays sizes b c errors.BadShape p (inr h) = inr (record { pages = h.pages; count = h.count; shapes = h.shapes; bad = h.bad; more = h.more ++ c; says = says_on b c h.pages h.count h.says; may = h.may; fewer = h.fewer; sound = h.sound; whole = drop-append-le 16 b c h.says.long ∙ ap (λ (x : List ℕ). x ++ c) h.whole ∙ append_assoc (spelled_shapes h.shapes) (h.bad ++ h.more) c ∙ ap (λ (x : List ℕ). spelled_shapes h.shapes ++ x) (append_assoc h.bad h.more c); never = h.never; there = h.there })
 header_stays sizes b c errors.ShapeMismatch p h = record { pages = h.pages; shapes = h.shapes; more = h.more ++ c; begins = record { good = h.begins.good; whole = ap (λ (x : List ℕ). x ++ c) h.begins.whole ∙ append_assoc (header h.pages h.shapes) h.more c }; never = h.never; there = h.there }
 header_stays sizes b c errors.BadTag p h = absurd h
 header_stays sizes b c errors.BadPage p h = absurd h
@@ -136,7 +136,7 @@ header_holds sizes b c errors.BadShape p le (inl h) = inl (record { pages = h.pa
 header_holds sizes b c errors.BadShape p le (inr h) =
     let long : 16 ≤ length b = omega (arith, le, h.there) in
     let d = behind (drop 16 b) c (spelled_shapes h.shapes ++ h.bad) h.more (sym (drop-append-le 16 b c long) ∙ h.whole ∙ sym (append_assoc (spelled_shapes h.shapes) h.bad h.more)) (omega (arith, le, h.there, length-drop 16 b, length-append (spelled_shapes h.shapes) h.bad)) in
-    inr (record { pages = h.pages; count = h.count; shapes = h.shapes; bad = h.bad; more = d.w; says = says_at b c h.pages h.count long h.says; may = h.may; fewer = h.fewer; whole = d.left ∙ append_assoc (spelled_shapes h.shapes) h.bad d.w; never = h.never; there = h.there })
+    inr (record { pages = h.pages; count = h.count; shapes = h.shapes; bad = h.bad; more = d.w; says = says_at b c h.pages h.count long h.says; may = h.may; fewer = h.fewer; sound = h.sound; whole = d.left ∙ append_assoc (spelled_shapes h.shapes) h.bad d.w; never = h.never; there = h.there })
 header_holds sizes b c errors.ShapeMismatch p le h =
     let d = behind b c (header h.pages h.shapes) h.more h.begins.whole (omega (arith, le, h.there)) in
     record { pages = h.pages; shapes = h.shapes; more = d.w; begins = record { good = h.begins.good; whole = d.left }; never = h.never; there = h.there }

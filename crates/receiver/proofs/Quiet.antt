@@ -1,5 +1,5 @@
 -- Faults at the front of the bytes, and bytes that wait.
-use Rattle.std.proofs.Common.{◌≡◌, ◌≢◌, ℕ, zero, suc, ◌+◌, ◌*◌, ◌^◌, ◌<◌, ◌≤◌, ◌⊎◌, List, [], ◌∷◌, ◌++◌, length, map, take, drop, get_or, inl, inr, refl, sym, ap, subst, ◌∙◌, arith}
+use Rattle.std.proofs.Common.{◌≡◌, ◌≢◌, ℕ, ◌+◌, ◌*◌, ◌^◌, ◌<◌, ◌≤◌, ◌⊎◌, List, [], ◌∷◌, ◌++◌, length, take, drop, inl, inr, refl, sym, ap, subst, ◌∙◌, arith}
 use Rattle.std.proofs.lemmas.List.{take-append-drop, take_at, length-append, length-take, length-drop}
 use Rattle.sha2.specs.Sha256.{sha256}
 use Rattle.sha2.proofs.Facts256.{length-sha256}
@@ -9,13 +9,13 @@ use Rattle.wire.specs.Header.{header}
 use Rattle.wire.specs.Numbers.{digits}
 use Rattle.wire.specs.Records.{Record, spelled_record, BeginsRecord}
 use Rattle.wire.specs.Stream.{rounds, texts}
-use Rattle.machine.specs.Shapes.{sector_count}
+use Rattle.guestmem.specs.Item as items
+use Rattle.machine.specs.Layout.{IsItemIn, layout_by}
 use Rattle.machine.specs.State.{DeviceState}
 use Rattle.machine.specs.declared.shape.Shape.{Shape}
-use Rattle.machine.specs.declared.shape.Shape.TheVariants.{Entropy}
-use Rattle.wire.proofs.Decoding.{page_short, sector_short, round_short, device_short, device_cut, commit_short, no_bytes}
+use Rattle.wire.proofs.Decoding.{page_short, sector_cut, sector_short, round_short, device_short, device_cut, commit_short, no_bytes}
 use Rattle.wire.proofs.Digits.{digits-number_at, number_at-digits, number_at-fits, length-digits, spelled-numbers}
-use Rattle.wire.proofs.Spelling.{head_same, tail_same}
+use Rattle.wire.proofs.Spelling.{head_same, number_same, tail_same}
 use Rattle.receiver.specs.Good.{devices_in}
 use Rattle.receiver.specs.Faults.{MayTag, IsComplete, Opens, IsBadPage, IsBadSector, IsBadRound, IsNextHead, IsBadHead, IsBadBody, IsBadDigest, IsTrailing, IsFault}
 use Rattle.receiver.specs.Fed.{Waits, Ends}
@@ -140,32 +140,40 @@ sector_waits pages shapes before rest short o = record {
       (λ e. absurd (omega (arith, e))) (λ e. absurd (omega (arith, e))) (λ e. absurd (omega (arith, e)));
 }
 
--- No device has a sector.
-pub no_sector : (shapes : List Shape) (d : ℕ) → get_or (map sector_count shapes) d 0 ≡ 0
-no_sector [] d = refl
-no_sector (Entropy ∷ shapes) zero = refl
-no_sector (Entropy ∷ shapes) (suc d) = no_sector shapes d
-
-six_bytes : (rest : List ℕ) → IsBytes rest → 6 ≤ length rest → rest ≡ number_at rest 0 1 ∷ (digits 4 (number_at rest 1 4) ++ (number_at rest 5 1 ∷ drop 6 rest))
-six_bytes rest are long =
+six_bytes : (rest : List ℕ) (d n m : ℕ) → IsBytes rest → 6 ≤ length rest → d ≡ number_at rest 0 1 → n ≡ number_at rest 1 4 → m ≡ number_at rest 5 1 → rest ≡ d ∷ (digits 4 n ++ (m ∷ drop 6 rest))
+six_bytes rest d n m are long e f g =
     let head = spelled-numbers (1 ∷ 4 ∷ 1 ∷ []) 0 rest are long in
-    sym (take-append-drop 6 rest) ∙ ap (λ (x : List ℕ). x ++ drop 6 rest) (sym head)
+    rw (e, f, g) (sym (take-append-drop 6 rest) ∙ ap (λ (x : List ℕ). x ++ drop 6 rest) (sym head))
 
-pub bad_sector : (pages : ℕ) (shapes : List Shape) (before : List Record) (rest : List ℕ) → IsBytes rest → 6 ≤ length rest → Opens pages shapes before (2 ∷ rest) 2 rest
-    → (place : ℕ) × IsBadSector pages shapes before (2 ∷ rest) place
-bad_sector pages shapes before rest are long o = (
+pub bad_sector : (pages : ℕ) (shapes : List Shape) (before : List Record) (rest : List ℕ) (d n m : ℕ) → IsBytes rest → 6 ≤ length rest → d ≡ number_at rest 0 1 → n ≡ number_at rest 1 4 → m ≡ number_at rest 5 1
+    → ¬ (IsItemIn (layout_by pages shapes) (items.sector d n) × (m ≤ 1)) → Opens pages shapes before (2 ∷ rest) 2 rest → (place : ℕ) × IsBadSector pages shapes before (2 ∷ rest) place
+bad_sector pages shapes before rest d n m are long e f g never o = (
   7,
   record {
-    disk = number_at rest 0 1;
-    number = number_at rest 1 4;
-    mark = number_at rest 5 1;
+    disk = d;
+    number = n;
+    mark = m;
     more = drop 6 rest;
-    opens = opens_with pages shapes before (2 ∷ rest) 2 rest _ o (six_bytes rest are long);
-    fits = number_at-fits 4 1 rest are;
-    never = λ h. omega (arith, h.0, no_sector shapes (number_at rest 0 1));
+    opens = opens_with pages shapes before (2 ∷ rest) 2 rest _ o (six_bytes rest d n m are long e f g);
+    fits = rw f (number_at-fits 4 1 rest are);
+    never = never;
     there = refl;
   },
 )
+
+-- A good sector of which bytes are missing.
+pub good_waits : (pages : ℕ) (shapes : List Shape) (before : List Record) (rest : List ℕ) (d n m : ℕ) → IsBytes rest → 6 ≤ length rest → d ≡ number_at rest 0 1 → n ≡ number_at rest 1 4 → m ≡ number_at rest 5 1
+    → IsItemIn (layout_by pages shapes) (items.sector d n) → m ≤ 1 → m ≢ 0 → length (drop 6 rest) < 512 → Opens pages shapes before (2 ∷ rest) 2 rest → Waits pages shapes before (2 ∷ rest)
+good_waits pages shapes before rest d n m are long e f g there few good short o = record {
+  no_record = sector_cut rest m g good short;
+  no_fault = quiet pages shapes before (2 ∷ rest) 2 rest o
+      (λ z. absurd (omega (arith, z)))
+      (λ z place h.
+      let same = tail_same (sym (ap (λ (x : List ℕ). 2 ∷ x) (six_bytes rest d n m are long e f g)) ∙ h.opens.whole) in
+      let numbers = number_same 4 n h.number (m ∷ drop 6 rest) (h.mark ∷ h.more) (rw f (number_at-fits 4 1 rest are)) h.fits (tail_same same) in
+      h.never (rw (sym (head_same same), sym numbers.0, sym (head_same numbers.1)) (there, few)))
+      (λ z. absurd (omega (arith, z))) (λ z. absurd (omega (arith, z))) (λ z. absurd (omega (arith, z)));
+}
 
 -- The end of a round.
 

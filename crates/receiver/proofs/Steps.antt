@@ -1,6 +1,6 @@
 -- One record more.
-use Rattle.std.proofs.Common.{◌≡◌, ℕ, zero, suc, ◌+◌, ◌*◌, ◌^◌, ◌<◌, ◌≤◌, Bool, true, false, List, [], ◌∷◌, ◌++◌, length, take, drop, get_or, refl, sym, ap, ◌∙◌, append_assoc, append-nil, arith}
-use Rattle.std.specs.Prelude.{set, is_some, All}
+use Rattle.std.proofs.Common.{◌≡◌, ◌≢◌, ℕ, zero, suc, ◌+◌, ◌*◌, ◌^◌, ◌<◌, ◌≤◌, Bool, true, false, List, [], ◌∷◌, ◌++◌, length, take, drop, get_or, refl, sym, ap, subst, ◌∙◌, append_assoc, append-nil, arith}
+use Rattle.std.specs.Prelude.{set, All, IsTrue}
 use Rattle.std.proofs.lemmas.List.Elements.{All-get_or, All-from_get_or}
 use Rattle.std.specs.List.{AllByRecursion}
 use Rattle.std.proofs.lemmas.List.{length-append}
@@ -8,18 +8,25 @@ use Rattle.wire.specs.DeviceBody.{body, IsBodyOf}
 use Rattle.wire.specs.Header.{header}
 use Rattle.wire.specs.Records.{Record, page, sector, round_end, device, commit, spelled_record, HasSpelling}
 use Rattle.wire.specs.Stream.{IsEntry, AreNumbered, rounds, texts, shapes_in, record_in}
-use Rattle.receiver.specs.Taken.{AreTaken, shown}
-use Rattle.machine.specs.First.{dealt_sectors}
-use Rattle.machine.specs.Layout.{Layout, layout_by, item_at, number_of, size_of}
+use Rattle.guestmem.specs.Item as items
+use Rattle.guestmem.specs.Item.{Item}
+use Rattle.blk.specs.Disk.{DiskState}
+use Rattle.blk.specs.Sectors.{Sector, sectors_of}
+use Rattle.receiver.specs.Disks.{AreHonestDisks, all_marks_in, sizes_in}
+use Rattle.receiver.specs.Spots.{disks_before}
+use Rattle.receiver.specs.Taken.{AreTaken}
+use Rattle.receiver.proofs.Sectors.{IsChanged, changed, disk_below, honest_at, marks_kept, marks_length, marks_set, record_here, record_there, sizes_kept}
+use Rattle.machine.specs.First.{AreMarksOf, marks_in}
+use Rattle.machine.specs.Layout.{IsItemIn, Layout, layout_by, item_at, number_of, size_of}
 use Rattle.machine.proofs.Numbering.{item_there, number_back, number_below}
 use Rattle.machine.specs.Sound.{IsSoundDevice}
 use Rattle.machine.specs.State.{DeviceState}
 use Rattle.machine.specs.declared.shape.Shape.{Shape}
-use Rattle.receiver.proofs.Takings.{put_page, taken_device, taken_page, taken_round, rounds_page, rounds_round, numbered_round}
+use Rattle.receiver.proofs.Takings.{names_sector, put_page, taken_device, taken_item, taken_page, taken_round, rounds_page, rounds_round, rounds_sector, numbered_round}
 use Rattle.wire.proofs.Whole.{texts-snoc, each-snoc, numbered_page}
 use Rattle.receiver.specs.Good.{AreGood, AreNamed, Follows, devices_in}
 use Rattle.receiver.specs.Faults.{MayTag}
-use Rattle.receiver.specs.Fed.{HasRead, device_records}
+use Rattle.receiver.specs.Fed.{HasRead, device_records, held_sectors}
 use Rattle.receiver.specs.declared.intake.Intake.{Intake}
 
 pub good-snoc : (pages : ℕ) (shapes : List Shape) (acc rs : List Record) (r : Record) → AreGood pages shapes acc rs → Follows pages shapes (acc ++ rs) r → AreGood pages shapes acc (rs ++ r ∷ [])
@@ -43,7 +50,7 @@ count_all l k (round_end n ∷ es) ds h = count_all l k es ds h.1
 count_all l k (device d b ∷ es) ds h = absurd h.0.stands
 count_all l k (commit b ∷ es) ds h = count_all l k es ds h.1
 
-pub devices_are : {sizes front : List ℕ} {pages : ℕ} {shapes : List Shape} {before : List Record} {i : Intake} → HasRead sizes pages shapes before i front → devices_in before ≡ length i.devices.items
+pub devices_are : {ds : List DiskState} {front : List ℕ} {pages : ℕ} {shapes : List Shape} {before : List Record} {i : Intake} → HasRead ds pages shapes before i front → devices_in before ≡ length i.devices.items
 devices_are {pages = pages} {shapes = shapes} {before = before} {i = i} h = ap devices_in h.split ∙ count_all (layout_by pages shapes) 0 h.entries i.devices.items h.each
 
 -- Behind no device all records are entries.
@@ -56,7 +63,7 @@ unfolding device_records
 no_devices entries before [] e n = e ∙ append-nil entries
 no_devices entries before (d ∷ ds) e n = absurd (omega (arith, n))
 
-are_entries : {sizes front : List ℕ} {pages : ℕ} {shapes : List Shape} {before : List Record} {i : Intake} → HasRead sizes pages shapes before i front → devices_in before ≡ 0 → AreEntries (layout_by pages shapes) before
+are_entries : {ds : List DiskState} {front : List ℕ} {pages : ℕ} {shapes : List Shape} {before : List Record} {i : Intake} → HasRead ds pages shapes before i front → devices_in before ≡ 0 → AreEntries (layout_by pages shapes) before
 are_entries {before = before} {i = i} h none =
     let same : before ≡ h.entries = no_devices h.entries before i.devices.items h.split (sym (devices_are h) ∙ none) in
     rw same (record { each = h.each; numbered = h.numbered })
@@ -69,45 +76,91 @@ unfolding device_records
 no_records before [] n = sym (append-nil before)
 no_records before (d ∷ ds) n = absurd (omega (arith, n))
 
-more_entry : (sizes front : List ℕ) (pages : ℕ) (shapes : List Shape) (before : List Record) (i j : Intake) (r : Record) → HasRead sizes pages shapes before i front → devices_in before ≡ 0 → Follows pages shapes before r → IsEntry (layout_by pages shapes) r
-    → (AreNumbered 1 before → AreNumbered 1 (before ++ r ∷ [])) → j.rounds ≡ rounds (before ++ r ∷ []) → AreTaken j.ram.bytes (dealt_sectors shapes []) j.named.items (layout_by pages shapes) (before ++ r ∷ []) → j.shapes.items ≡ i.shapes.items → j.devices.items ≡ i.devices.items
-    → HasRead sizes pages shapes (before ++ r ∷ []) j (front ++ spelled_record r)
-more_entry sizes front pages shapes before i j r h none follows entry numbers ends taken same_shapes same_devices =
+-- What an intake has, and the disks.
+record IsSame (i j : Intake) : Type 0 where
+  shapes : j.shapes.items ≡ i.shapes.items
+  firsts : j.firsts.items ≡ i.firsts.items
+  devices : j.devices.items ≡ i.devices.items
+
+more_entry : (ds ds2 : List DiskState) (front : List ℕ) (pages : ℕ) (shapes : List Shape) (before : List Record) (i j : Intake) (r : Record) → HasRead ds pages shapes before i front → devices_in before ≡ 0 → Follows pages shapes before r → IsEntry (layout_by pages shapes) r
+    → (AreNumbered 1 before → AreNumbered 1 (before ++ r ∷ [])) → j.rounds ≡ rounds (before ++ r ∷ [])
+    → AreTaken (AreHonestDisks (all_marks_in ds2)) j.ram.bytes (held_sectors shapes ds2 j.bad.items) j.named.items (layout_by pages shapes) (before ++ r ∷ []) → sizes_in ds2 ≡ sizes_in ds → AreMarksOf ds2 j.bad.items → IsSame i j
+    → HasRead ds2 pages shapes (before ++ r ∷ []) j (front ++ spelled_record r)
+more_entry ds ds2 front pages shapes before i j r h none follows entry numbers ends taken sizes marks same =
     let are = are_entries h none in
-    let count : length j.devices.items ≡ 0 = ap length same_devices ∙ sym (devices_are h) ∙ none in
+    let count : length j.devices.items ≡ 0 = ap length same.devices ∙ sym (devices_are h) ∙ none in
     record {
       head = h.head;
-      fits = h.fits;
+      fits = sizes ∙ h.fits;
       good = good-snoc pages shapes [] before r h.good follows;
       whole = texts_more front (header pages shapes) before r h.whole;
-      shapes_are = same_shapes ∙ h.shapes_are;
+      shapes_are = same.shapes ∙ h.shapes_are;
+      firsts_are = same.firsts ∙ h.firsts_are;
+      marks_are = marks;
       entries = before ++ r ∷ [];
       split = no_records (before ++ r ∷ []) j.devices.items count;
       each = each-snoc (layout_by pages shapes) before r are.each entry;
       numbered = numbers are.numbered;
       rounds_are = ends;
       taken = taken;
-      devices_are = rw same_devices h.devices_are;
-      sound = rw same_devices h.sound;
+      devices_are = rw same.devices h.devices_are;
+      sound = rw same.devices h.sound;
     }
 
-pub more_page : (sizes front : List ℕ) (pages : ℕ) (shapes : List Shape) (before : List Record) (i j : Intake) (n : ℕ) (b : List ℕ) → HasRead sizes pages shapes before i front → devices_in before ≡ 0 → HasSpelling (page n b) → n < length i.named.items
-    → 4096 * n + 4096 ≤ length i.ram.bytes → j.ram.bytes ≡ put_page i.ram.bytes n b → j.named.items ≡ set i.named.items n true → j.rounds ≡ i.rounds → j.shapes.items ≡ i.shapes.items → j.devices.items ≡ i.devices.items
-    → HasRead sizes pages shapes (before ++ page n b ∷ []) j (front ++ spelled_record (page n b))
-more_page sizes front pages shapes before i j n b h none spells marked le ram named ends same_shapes same_devices =
+pub more_page : (ds : List DiskState) (front : List ℕ) (pages : ℕ) (shapes : List Shape) (before : List Record) (i j : Intake) (n : ℕ) (b : List ℕ) → HasRead ds pages shapes before i front → devices_in before ≡ 0 → HasSpelling (page n b)
+    → 4096 * n + 4096 ≤ length i.ram.bytes → j.ram.bytes ≡ put_page i.ram.bytes n b → j.named.items ≡ set i.named.items n true → j.rounds ≡ i.rounds → j.shapes.items ≡ i.shapes.items → j.devices.items ≡ i.devices.items → j.firsts.items ≡ i.firsts.items → j.bad.items ≡ i.bad.items
+    → HasRead ds pages shapes (before ++ page n b ∷ []) j (front ++ spelled_record (page n b))
+more_page ds front pages shapes before i j n b h none spells le ram named ends same_shapes same_devices same_firsts same_bad =
     let low : n < pages = omega (arith, le, h.taken.ram_size) in
-    more_entry sizes front pages shapes before i j (page n b) h none (record { spells = spells; may = (low, none) }) (record { spells = spells; stands = low })
+    let T = AreHonestDisks (all_marks_in ds) in
+    more_entry ds ds front pages shapes before i j (page n b) h none (record { spells = spells; may = (low, none) }) (record { spells = spells; stands = low })
     (numbered_page 1 before n b) (ends ∙ h.rounds_are ∙ sym (rounds_page before n b))
-    (rw (ram, named) (taken_page i.ram.bytes b (dealt_sectors shapes []) i.named.items (layout_by pages shapes) n before h.taken low le marked spells.1)) same_shapes same_devices
+    (rw (ram, named, same_bad) (taken_page T i.ram.bytes b (held_sectors shapes ds i.bad.items) i.named.items (layout_by pages shapes) n before h.taken low le spells.1)) refl (rw same_bad h.marks_are) (record { shapes = same_shapes; firsts = same_firsts; devices = same_devices })
 
-pub more_round : (sizes front : List ℕ) (pages : ℕ) (shapes : List Shape) (before : List Record) (i j : Intake) (n : ℕ) → HasRead sizes pages shapes before i front → devices_in before ≡ 0 → n < 2 ^ 32 → n ≡ i.rounds + 1
-    → j.ram.bytes ≡ i.ram.bytes → j.named.items ≡ i.named.items → j.rounds ≡ n → j.shapes.items ≡ i.shapes.items → j.devices.items ≡ i.devices.items
-    → HasRead sizes pages shapes (before ++ round_end n ∷ []) j (front ++ spelled_record (round_end n))
-more_round sizes front pages shapes before i j n h none fits next ram named ends same_shapes same_devices =
+pub more_round : (ds : List DiskState) (front : List ℕ) (pages : ℕ) (shapes : List Shape) (before : List Record) (i j : Intake) (n : ℕ) → HasRead ds pages shapes before i front → devices_in before ≡ 0 → n < 2 ^ 32 → n ≡ i.rounds + 1
+    → j.ram.bytes ≡ i.ram.bytes → j.named.items ≡ i.named.items → j.rounds ≡ n → j.shapes.items ≡ i.shapes.items → j.devices.items ≡ i.devices.items → j.firsts.items ≡ i.firsts.items → j.bad.items ≡ i.bad.items
+    → HasRead ds pages shapes (before ++ round_end n ∷ []) j (front ++ spelled_record (round_end n))
+more_round ds front pages shapes before i j n h none fits next ram named ends same_shapes same_devices same_firsts same_bad =
     let is : n ≡ rounds before + 1 = next ∙ ap (λ (x : ℕ). x + 1) h.rounds_are in
-    more_entry sizes front pages shapes before i j (round_end n) h none (record { spells = fits; may = (is, none) }) (record { spells = fits; stands = tt })
+    let T = AreHonestDisks (all_marks_in ds) in
+    more_entry ds ds front pages shapes before i j (round_end n) h none (record { spells = fits; may = (is, none) }) (record { spells = fits; stands = tt })
     (λ k. numbered_round 1 before n k (omega (arith, is))) (ends ∙ is ∙ sym (rounds_round before n))
-    (rw (ram, named) (taken_round i.ram.bytes (dealt_sectors shapes []) i.named.items (layout_by pages shapes) n before h.taken)) same_shapes same_devices
+    (rw (ram, named, same_bad) (taken_round T i.ram.bytes (held_sectors shapes ds i.bad.items) i.named.items (layout_by pages shapes) n before h.taken)) refl (rw same_bad h.marks_are) (record { shapes = same_shapes; firsts = same_firsts; devices = same_devices })
+
+-- A sector, whose disk keeps what it is, and holds it from now on where the disks are trusted.
+numbered_sector : (k : ℕ) (es : List Record) (dev n : ℕ) (o : Sector) → AreNumbered k es → AreNumbered k (es ++ sector dev n o ∷ [])
+numbered_sector k [] dev n o h = tt
+numbered_sector k (page m c ∷ es) dev n o h = numbered_sector k es dev n o h
+numbered_sector k (sector d m c ∷ es) dev n o h = numbered_sector k es dev n o h
+numbered_sector k (round_end m ∷ es) dev n o h = (h.0, numbered_sector (k + 1) es dev n o h.1)
+numbered_sector k (device d c ∷ es) dev n o h = numbered_sector k es dev n o h
+numbered_sector k (commit c ∷ es) dev n o h = numbered_sector k es dev n o h
+
+pub more_sector : (ds : List DiskState) (d : DiskState) (front : List ℕ) (pages : ℕ) (shapes : List Shape) (before : List Record) (i j : Intake) (dev n : ℕ) (o : Sector) (m : List Bool) → HasRead ds pages shapes before i front → devices_in before ≡ 0
+    → HasSpelling (sector dev n o) → IsItemIn (layout_by pages shapes) (items.sector dev n)
+    → marks_in d ≡ marks_in (get_or ds (disks_before shapes dev) d) → length d.sectors ≡ length (get_or ds (disks_before shapes dev) d).sectors → length m ≡ length (get_or i.bad.items (disks_before shapes dev) [])
+    → (IsTrue (get_or ds (disks_before shapes dev) d).honest → sectors_of d.sectors m ≡ set (sectors_of (get_or ds (disks_before shapes dev) d).sectors (get_or i.bad.items (disks_before shapes dev) [])) n o)
+    → j.bad.items ≡ set i.bad.items (disks_before shapes dev) m → j.named.items ≡ set i.named.items (number_of (layout_by pages shapes) (items.sector dev n)) true
+    → j.ram.bytes ≡ i.ram.bytes → j.rounds ≡ i.rounds → j.shapes.items ≡ i.shapes.items → j.devices.items ≡ i.devices.items → j.firsts.items ≡ i.firsts.items
+    → HasRead (set ds (disks_before shapes dev) d) pages shapes (before ++ sector dev n o ∷ []) j (front ++ spelled_record (sector dev n o))
+more_sector ds d front pages shapes before i j dev n o m h none spells there marks long size content bad named ram ends same_shapes same_devices same_firsts =
+    let k = disks_before shapes dev in
+    let l = layout_by pages shapes in
+    let ds2 = set ds k d in
+    let T = AreHonestDisks (all_marks_in ds) in
+    let U = AreHonestDisks (all_marks_in ds2) in
+    let trust : U → T = λ u. subst AreHonestDisks (marks_kept ds k d marks) u in
+    let low = disk_below shapes ds dev n h.head.sound h.fits there in
+    let honest : T → IsTrue (get_or ds k d).honest = λ t. honest_at ds k d low t in
+    let change : U → IsChanged shapes ds i.bad.items dev n d m o = λ u. changed shapes ds i.bad.items dev n d m o h.head.sound h.fits h.marks_are there (content (honest (trust u))) in
+    let held = held_sectors shapes ds i.bad.items in
+    let held2 = held_sectors shapes ds2 (set i.bad.items k m) in
+    let is : U → record_in i.ram.bytes held2 (items.sector dev n) ≡ sector dev n o = λ u. ap (λ x. record_in i.ram.bytes x (items.sector dev n)) (change u).now ∙ record_here i.ram.bytes held dev n o (change u).within in
+    let others : U → (x : Item) → IsItemIn l x → x ≢ items.sector dev n → record_in i.ram.bytes held2 x ≡ record_in i.ram.bytes held x = λ u x has other. ap (λ y. record_in i.ram.bytes y x) (change u).now ∙ record_there i.ram.bytes held dev n o x other in
+    more_entry ds ds2 front pages shapes before i j (sector dev n o) h none (record { spells = spells; may = (there, none) }) (record { spells = spells; stands = there })
+    (numbered_sector 1 before dev n o) (ends ∙ h.rounds_are ∙ sym (rounds_sector before dev n o))
+    (rw (ram, named, bad) (taken_item T U i.ram.bytes i.ram.bytes held held2 i.named.items l before (sector dev n o) (items.sector dev n) h.taken trust (names_sector dev n o) there refl is others))
+    (sizes_kept ds k d long) (rw bad (marks_set ds i.bad.items k d m h.marks_are (size ∙ marks_length ds i.bad.items k d h.marks_are low ∙ sym long))) (record { shapes = same_shapes; firsts = same_firsts; devices = same_devices })
 
 -- A device.
 
@@ -144,11 +197,11 @@ next_shape (s ∷ shapes) (suc n) shape others e =
     let m : suc n + 1 ≡ suc (n + 1) = omega arith in
     rw m (ap (λ (x : List Shape). s ∷ x) (next_shape shapes n shape others e))
 
-pub more_device : (sizes front : List ℕ) (pages : ℕ) (shapes others : List Shape) (shape : Shape) (before : List Record) (i j : Intake) (n : ℕ) (raw : List ℕ) (d : DeviceState) → HasRead sizes pages shapes before i front
+pub more_device : (ds : List DiskState) (front : List ℕ) (pages : ℕ) (shapes others : List Shape) (shape : Shape) (before : List Record) (i j : Intake) (n : ℕ) (raw : List ℕ) (d : DeviceState) → HasRead ds pages shapes before i front
     → AreNamed (layout_by pages shapes) before → HasSpelling (device n raw) → n ≡ devices_in before → drop n shapes ≡ shape ∷ others → IsBodyOf shape (4096 * pages) raw d
-    → j.ram.bytes ≡ i.ram.bytes → j.named.items ≡ i.named.items → j.rounds ≡ i.rounds → j.shapes.items ≡ i.shapes.items → j.devices.items ≡ i.devices.items ++ d ∷ []
-    → HasRead sizes pages shapes (before ++ device n raw ∷ []) j (front ++ spelled_record (device n raw))
-more_device sizes front pages shapes others shape before i j n raw d h named spells next here is ram marks ends same_shapes more =
+    → j.ram.bytes ≡ i.ram.bytes → j.named.items ≡ i.named.items → j.rounds ≡ i.rounds → j.shapes.items ≡ i.shapes.items → j.firsts.items ≡ i.firsts.items → j.bad.items ≡ i.bad.items → j.devices.items ≡ i.devices.items ++ d ∷ []
+    → HasRead ds pages shapes (before ++ device n raw ∷ []) j (front ++ spelled_record (device n raw))
+more_device ds front pages shapes others shape before i j n raw d h named spells next here is ram marks ends same_shapes same_firsts same_bad more =
     let count : n ≡ length i.devices.items = next ∙ devices_are h in
     let r = device n raw in
     let last : device (0 + length i.devices.items) (body d) ≡ r = rw (is.is) (ap (λ (k : ℕ). device k (body d)) (omega (arith, count))) in
@@ -164,43 +217,41 @@ more_device sizes front pages shapes others shape before i j n raw d h named spe
       good = good-snoc pages shapes [] before r h.good (record { spells = spells; may = record { named = named; next = next; shape = shape; others = others; here = here; state = d; is = is } });
       whole = texts_more front (header pages shapes) before r h.whole;
       shapes_are = same_shapes ∙ h.shapes_are;
+      firsts_are = same_firsts ∙ h.firsts_are;
+      marks_are = rw same_bad h.marks_are;
       entries = h.entries;
       split = rw more split;
       each = h.each;
       numbered = h.numbered;
       rounds_are = ends ∙ h.rounds_are ∙ sym (rounds_device before n raw);
-      taken = rw (ram, marks) (taken_device i.ram.bytes (dealt_sectors shapes []) i.named.items (layout_by pages shapes) n raw before h.taken);
+      taken = rw (ram, marks, same_bad) (taken_device (AreHonestDisks (all_marks_in ds)) i.ram.bytes (held_sectors shapes ds i.bad.items) i.named.items (layout_by pages shapes) n raw before h.taken);
       devices_are = rw more (shown ∙ ap (λ (k : ℕ). take k shapes) (sym size));
       sound = rw more (sound-snoc (4096 * pages) i.devices.items d h.sound is.sound);
     }
 
 -- What may stand next, by the intake.
 
-pub tag_here : {sizes front : List ℕ} {pages : ℕ} {shapes : List Shape} {before : List Record} {i : Intake} (a b tag : ℕ) → HasRead sizes pages shapes before i front → a ≡ length i.shapes.items → b ≡ length i.devices.items → MayTag a b tag
+pub tag_here : {ds : List DiskState} {front : List ℕ} {pages : ℕ} {shapes : List Shape} {before : List Record} {i : Intake} (a b tag : ℕ) → HasRead ds pages shapes before i front → a ≡ length i.shapes.items → b ≡ length i.devices.items → MayTag a b tag
     → MayTag (length shapes) (devices_in before) tag
 tag_here a b tag h e f m =
     let count = ap length h.shapes_are in
     let devices = devices_are h in
     record { least = m.least; most = m.most; early = λ low. omega (arith, f, devices, m.early low); missing = λ four. omega (arith, e, f, count, devices, m.missing four) }
 
-pub tag_there : {sizes front : List ℕ} {pages : ℕ} {shapes : List Shape} {before : List Record} {i : Intake} (a b tag : ℕ) → HasRead sizes pages shapes before i front → a ≡ length i.shapes.items → b ≡ length i.devices.items
+pub tag_there : {ds : List DiskState} {front : List ℕ} {pages : ℕ} {shapes : List Shape} {before : List Record} {i : Intake} (a b tag : ℕ) → HasRead ds pages shapes before i front → a ≡ length i.shapes.items → b ≡ length i.devices.items
     → MayTag (length shapes) (devices_in before) tag → MayTag a b tag
 tag_there a b tag h e f m =
     let count = ap length h.shapes_are in
     let devices = devices_are h in
     record { least = m.least; most = m.most; early = λ low. omega (arith, f, devices, m.early low); missing = λ four. omega (arith, e, f, count, devices, m.missing four) }
 
-pub named_all : {sizes front : List ℕ} {pages : ℕ} {shapes : List Shape} {before : List Record} {i : Intake} → HasRead sizes pages shapes before i front → All (λ (b : Bool). b ≡ true) i.named.items → AreNamed (layout_by pages shapes) before
+pub named_all : {ds : List DiskState} {front : List ℕ} {pages : ℕ} {shapes : List Shape} {before : List Record} {i : Intake} → HasRead ds pages shapes before i front → All (λ (b : Bool). b ≡ true) i.named.items → AreNamed (layout_by pages shapes) before
 named_all {pages = pages} {shapes = shapes} {i = i} h all item has =
     let l = layout_by pages shapes in
     let low = number_below l item has in
-    ap is_some (h.taken.last item has ∙ ap (λ (x : Bool). shown x (record_in i.ram.bytes (dealt_sectors shapes []) item)) (All-get_or (λ (x : Bool). x ≡ true) i.named.items (number_of l item) false (omega (arith, low, h.taken.named_size)) all))
+    h.taken.marks item has ∙ All-get_or (λ (x : Bool). x ≡ true) i.named.items (number_of l item) false (omega (arith, low, h.taken.named_size)) all
 
-shown_some : (b : Bool) (x : Record) → is_some (shown b x) ≡ true → b ≡ true
-shown_some true x e = refl
-shown_some false x e = absurd cc
-
-pub all_named : {sizes front : List ℕ} {pages : ℕ} {shapes : List Shape} {before : List Record} {i : Intake} → HasRead sizes pages shapes before i front → AreNamed (layout_by pages shapes) before → All (λ (b : Bool). b ≡ true) i.named.items
+pub all_named : {ds : List DiskState} {front : List ℕ} {pages : ℕ} {shapes : List Shape} {before : List Record} {i : Intake} → HasRead ds pages shapes before i front → AreNamed (layout_by pages shapes) before → All (λ (b : Bool). b ≡ true) i.named.items
 all_named {pages = pages} {shapes = shapes} {i = i} h named =
     let l = layout_by pages shapes in
     All-from_get_or (λ (b : Bool). b ≡ true) i.named.items false
@@ -208,5 +259,5 @@ all_named {pages = pages} {shapes = shapes} {i = i} h named =
     let low : n < size_of l = omega (arith, lt, h.taken.named_size) in
     let item = item_at l n in
     let has = item_there l n low in
-    let at : get_or i.named.items (number_of l item) false ≡ true = shown_some (get_or i.named.items (number_of l item) false) (record_in i.ram.bytes (dealt_sectors shapes []) item) (sym (ap is_some (h.taken.last item has)) ∙ named item has) in
+    let at : get_or i.named.items (number_of l item) false ≡ true = sym (h.taken.marks item has) ∙ named item has in
     rw (number_back l n low) at at)

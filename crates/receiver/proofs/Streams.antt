@@ -5,6 +5,7 @@ use Rattle.std.proofs.lemmas.List.Elements.{recursion_from_All}
 use Rattle.std.specs.List.{AllByRecursion}
 use Rattle.sha2.specs.Sha256.{sha256}
 use Rattle.sha2.proofs.Facts256.{length-sha256}
+use Rattle.blk.specs.Disk.{DiskState}
 use Rattle.guestmem.specs.Number.{IsBytes}
 use Rattle.wire.specs.Records.{Record, commit, spelled_record, HasSpelling, BeginsNoRecord}
 use Rattle.wire.specs.Stream.{IsStream, IsEntry, texts, shapes_in, device_texts, before_commit}
@@ -65,8 +66,8 @@ not_led pages shapes before others tail digest good spell none other (inr l) = n
 pub no_stream_head : (held : List ℕ) (m : MachineState) → WaitsHead held → ¬ (IsStream held m)
 no_stream_head held m w s = w.no_header (pages_of m) (shapes_in m.devices) _ (stream_begins s.by)
 
-pub no_stream_reading : (sizes held : List ℕ) (at : ℕ) (i : Intake) (m : MachineState) → IsBytes held → IsReading sizes held at i → ¬ (IsStream held m)
-no_stream_reading sizes held at i m are r s =
+pub no_stream_reading : (ds : List DiskState) (held : List ℕ) (at : ℕ) (i : Intake) (m : MachineState) → IsBytes held → IsReading ds held at i → ¬ (IsStream held m)
+no_stream_reading ds held at i m are r s =
     let o = r.open_at in
     let tail = drop at held in
     let front = front_of held tail o.read (sym (take-append-drop at held)) in

@@ -1,6 +1,6 @@
 -- What came of the items, after one record more.
-use Rattle.std.proofs.Common.{◌≡◌, ◌≢◌, ℕ, ◌+◌, ◌-◌, ◌*◌, ◌<◌, ◌≤◌, Bool, true, false, cond, List, [], ◌∷◌, ◌++◌, length, get_or, take, drop, replicate, inl, inr, Option, Some, None, refl, sym, ap, subst, ◌∙◌, append_assoc, arith}
-use Rattle.std.specs.Prelude.{set}
+use Rattle.std.proofs.Common.{◌≡◌, ◌≢◌, ℕ, ◌+◌, ◌-◌, ◌*◌, ◌<◌, ◌≤◌, Bool, true, false, cond, List, [], ◌∷◌, ◌++◌, length, get_or, take, drop, replicate, inl, inr, Option, Some, None, refl, sym, ap, ◌∙◌, append_assoc, arith}
+use Rattle.std.specs.Prelude.{is_some, set}
 use Rattle.std.proofs.lemmas.Bool.{cases_lt}
 use Rattle.std.proofs.lemmas.List.{take-append-drop, take_at, drop_at, length-append, length-take, length-drop, take-append-le, drop-append-le, length-set, get_or-set_same, get_or-set_other, get_or-replicate, length-replicate}
 use Rattle.std.proofs.Math.Seq.{drop-append-add}
@@ -8,10 +8,10 @@ use Rattle.guestmem.specs.Item as items
 use Rattle.guestmem.specs.Item.{Item}
 use Rattle.guestmem.specs.Page.{page_of}
 use Rattle.machine.specs.Layout.{Layout, IsItemIn, item_at, number_of, size_of}
-use Rattle.machine.specs.State.{Sector}
-use Rattle.machine.proofs.Numbering.{is_below, item_back, number_below}
+use Rattle.blk.specs.Sectors.{Sector}
+use Rattle.machine.proofs.Numbering.{item_back, number_below}
 use Rattle.wire.specs.Records.{Record, page, sector, round_end, device, commit}
-use Rattle.wire.specs.Stream.{AreNumbered, rounds, or_else, same_item, last_named, record_in}
+use Rattle.wire.specs.Stream.{AreNumbered, rounds, or_else, says_of, same_item, last_named, record_in}
 use Rattle.wire.proofs.ItemRecords.{same_if, same_itself, named-snoc, named_nothing}
 use Rattle.receiver.specs.Taken.{shown, AreTaken}
 
@@ -56,29 +56,61 @@ item_stays ram b disks i (items.page n) le e other = ap (page n) (page_put_other
 item_stays ram b disks i (items.sector dev n) le e other = refl
 
 -- Another item has another number.
-other_number : (l : Layout) (i : ℕ) (item : Item) → i < l.pages → IsItemIn l item → item ≢ items.page i → number_of l item ≢ i
-other_number l i item low has other same =
-    let here : item_at l i ≡ items.page i = rw (is_below i l.pages low) refl in
-    other (sym (item_back l item has) ∙ ap (item_at l) same ∙ here)
+other_number : (l : Layout) (here item : Item) → IsItemIn l here → IsItemIn l item → item ≢ here → number_of l item ≢ number_of l here
+other_number l here item there has other same = other (sym (item_back l item has) ∙ ap (item_at l) same ∙ item_back l here there)
 
-shown_at : (l : Layout) (c : Bool) (i : ℕ) (item : Item) (ram b : List ℕ) (disks : List (List Sector)) (named : List Bool) (last : Option Record) → same_item item (items.page i) ≡ c → i < l.pages → IsItemIn l item → 4096 * i + 4096 ≤ length ram → i < length named → length b ≡ 4096
-    → last ≡ shown (get_or named (number_of l item) false) (record_in ram disks item)
-    → or_else (cond c (Some (page i b)) None) last ≡ shown (get_or (set named i true) (number_of l item) false) (record_in (put_page ram i b) disks item)
-shown_at l true i item ram b disks named last is low has le lt len h =
-    let here : item ≡ items.page i = same_if item (items.page i) is in
-    let P : Item → Type 0 = λ x. or_else (cond true (Some (page i b)) None) last ≡ shown (get_or (set named i true) (number_of l x) false) (record_in (put_page ram i b) disks x) in
-    subst P (sym here) (rw (get_or-set_same named i true false lt, page_put_same ram b i le len) refl)
-shown_at l false i item ram b disks named last is low has le lt len h =
-    let other : item ≢ items.page i = λ same. (let no : true ≡ false = sym (rw same (same_itself (items.page i))) ∙ is in cc) in
-    rw (get_or-set_other named i (number_of l item) true false (other_number l i item low has other), item_stays ram b disks i item le len other) h
+-- A record that names this item, and no other.
+pub record Names (r : Record) (here : Item) : Type 0 where
+  pub is : (i : Item) → says_of i r ≡ cond (same_item i here) (Some r) None
 
-pub taken_page : (ram b : List ℕ) (disks : List (List Sector)) (named : List Bool) (l : Layout) (i : ℕ) (es : List Record) → AreTaken ram disks named l es → i < l.pages → 4096 * i + 4096 ≤ length ram → i < length named → length b ≡ 4096
-    → AreTaken (put_page ram i b) disks (set named i true) l (es ++ page i b ∷ [])
-taken_page ram b disks named l i es h low le lt e = record {
-  ram_size = omega (arith, h.ram_size, le, e, length-append (take (4096 * i) ram) (b ++ drop (4096 * i + 4096) ram), length-append b (drop (4096 * i + 4096) ram), length-take (4096 * i) ram, length-drop (4096 * i + 4096) ram);
+pub names_page : (n : ℕ) (b : List ℕ) → Names (page n b) (items.page n)
+names_page n b = record { is = λ i. refl }
+
+pub names_sector : (dev n : ℕ) (o : Sector) → Names (sector dev n o) (items.sector dev n)
+names_sector dev n o = record { is = λ i. refl }
+
+shown_at : (c : Bool) (l : Layout) (r was now : Record) (here item : Item) (named : List Bool) (last : Option Record) → same_item item here ≡ c → IsItemIn l here → IsItemIn l item → length named ≡ size_of l
+    → (item ≡ here → now ≡ r) → (item ≢ here → now ≡ was) → last ≡ shown (get_or named (number_of l item) false) was
+    → or_else (cond c (Some r) None) last ≡ shown (get_or (set named (number_of l here) true) (number_of l item) false) now
+shown_at true l r was now here item named last is there has size same other h =
+    let i : item ≡ here = same_if item here is in
+    let lt : number_of l here < length named = omega (arith, size, number_below l here there) in
+    rw (same i, i, get_or-set_same named (number_of l here) true false lt) refl
+shown_at false l r was now here item named last is there has size same other h =
+    let no : item ≢ here = λ i. (let both : true ≡ false = sym (rw i (same_itself here)) ∙ is in cc) in
+    rw (other no, get_or-set_other named (number_of l here) (number_of l item) true false (other_number l here item there has no)) h
+
+marked_at : (c : Bool) (l : Layout) (r : Record) (here item : Item) (named : List Bool) (last : Option Record) → same_item item here ≡ c → IsItemIn l here → IsItemIn l item → length named ≡ size_of l
+    → is_some last ≡ get_or named (number_of l item) false → is_some (or_else (cond c (Some r) None) last) ≡ get_or (set named (number_of l here) true) (number_of l item) false
+marked_at true l r here item named last is there has size h =
+    let i : item ≡ here = same_if item here is in
+    let lt : number_of l here < length named = omega (arith, size, number_below l here there) in
+    rw (i, get_or-set_same named (number_of l here) true false lt) refl
+marked_at false l r here item named last is there has size h =
+    let no : item ≢ here = λ i. (let both : true ≡ false = sym (rw i (same_itself here)) ∙ is in cc) in
+    rw (get_or-set_other named (number_of l here) (number_of l item) true false (other_number l here item there has no)) h
+
+-- An item more is taken, where it now holds what its record says, and the others what they held.
+pub taken_item : (T U : Type 0) (ram ram2 : List ℕ) (disks disks2 : List (List Sector)) (named : List Bool) (l : Layout) (es : List Record) (r : Record) (here : Item) → AreTaken T ram disks named l es → (U → T) → Names r here → IsItemIn l here
+    → length ram2 ≡ length ram → (U → record_in ram2 disks2 here ≡ r) → (U → (i : Item) → IsItemIn l i → i ≢ here → record_in ram2 disks2 i ≡ record_in ram disks i)
+    → AreTaken U ram2 disks2 (set named (number_of l here) true) l (es ++ r ∷ [])
+taken_item T U ram ram2 disks disks2 named l es r here h trust names there size is others = record {
+  ram_size = size ∙ h.ram_size;
   named_size = simp length-set h.named_size;
-  last = λ item has. named-snoc item es (page i b) ∙ shown_at l (same_item item (items.page i)) i item ram b disks named (last_named item es) refl low has le lt e (h.last item has);
+  marks = λ i has. ap is_some (named-snoc i es r ∙ ap (λ o. or_else o (last_named i es)) (names.is i)) ∙ marked_at (same_item i here) l r here i named (last_named i es) refl there has h.named_size (h.marks i has);
+  last = λ u i has.
+      named-snoc i es r ∙ ap (λ o. or_else o (last_named i es)) (names.is i)
+      ∙ shown_at (same_item i here) l r (record_in ram disks i) (record_in ram2 disks2 i) here i named (last_named i es) refl there has h.named_size (λ e. ap (record_in ram2 disks2) e ∙ is u) (others u i has) (h.last (trust u) i has);
 }
+
+put_size : (ram b : List ℕ) (i : ℕ) → 4096 * i + 4096 ≤ length ram → length b ≡ 4096 → length (put_page ram i b) ≡ length ram
+put_size ram b i le e = omega (arith, le, e, length-append (take (4096 * i) ram) (b ++ drop (4096 * i + 4096) ram), length-append b (drop (4096 * i + 4096) ram), length-take (4096 * i) ram, length-drop (4096 * i + 4096) ram)
+
+pub taken_page : (T : Type 0) (ram b : List ℕ) (disks : List (List Sector)) (named : List Bool) (l : Layout) (i : ℕ) (es : List Record) → AreTaken T ram disks named l es → i < l.pages → 4096 * i + 4096 ≤ length ram → length b ≡ 4096
+    → AreTaken T (put_page ram i b) disks (set named i true) l (es ++ page i b ∷ [])
+taken_page T ram b disks named l i es h low le e =
+    taken_item T T ram (put_page ram i b) disks disks named l es (page i b) (items.page i) h (λ t. t) (names_page i b) low (put_size ram b i le e)
+    (λ t. ap (page i) (page_put_same ram b i le e)) (λ t j has other. item_stays ram b disks i j le e other)
 
 pub rounds_page : (es : List Record) (i : ℕ) (b : List ℕ) → rounds (es ++ page i b ∷ []) ≡ rounds es
 unfolding rounds
@@ -116,18 +148,28 @@ numbered_round k (round_end i ∷ es) n h e = (h.0, numbered_round (k + 1) es n 
 numbered_round k (device d c ∷ es) n h e = numbered_round k es n h e
 numbered_round k (commit c ∷ es) n h e = numbered_round k es n h e
 
-pub taken_round : (ram : List ℕ) (disks : List (List Sector)) (named : List Bool) (l : Layout) (k : ℕ) (es : List Record) → AreTaken ram disks named l es → AreTaken ram disks named l (es ++ round_end k ∷ [])
-taken_round ram disks named l k es h = record { ram_size = h.ram_size; named_size = h.named_size; last = λ item has. named-snoc item es (round_end k) ∙ h.last item has }
+-- A record that names no item.
+taken_more : (T : Type 0) (ram : List ℕ) (disks : List (List Sector)) (named : List Bool) (l : Layout) (r : Record) (es : List Record) → ((i : Item) → says_of i r ≡ None) → AreTaken T ram disks named l es → AreTaken T ram disks named l (es ++ r ∷ [])
+taken_more T ram disks named l r es none h = record {
+  ram_size = h.ram_size;
+  named_size = h.named_size;
+  marks = λ i has. ap is_some (named-snoc i es r ∙ ap (λ o. or_else o (last_named i es)) (none i)) ∙ h.marks i has;
+  last = λ t i has. named-snoc i es r ∙ ap (λ o. or_else o (last_named i es)) (none i) ∙ h.last t i has;
+}
 
-pub taken_device : (ram : List ℕ) (disks : List (List Sector)) (named : List Bool) (l : Layout) (n : ℕ) (b : List ℕ) (es : List Record) → AreTaken ram disks named l es → AreTaken ram disks named l (es ++ device n b ∷ [])
-taken_device ram disks named l n b es h = record { ram_size = h.ram_size; named_size = h.named_size; last = λ item has. named-snoc item es (device n b) ∙ h.last item has }
+pub taken_round : (T : Type 0) (ram : List ℕ) (disks : List (List Sector)) (named : List Bool) (l : Layout) (k : ℕ) (es : List Record) → AreTaken T ram disks named l es → AreTaken T ram disks named l (es ++ round_end k ∷ [])
+taken_round T ram disks named l k es h = taken_more T ram disks named l (round_end k) es (λ i. refl) h
 
-pub new_taken : (ram : List ℕ) (disks : List (List Sector)) (named : List Bool) (l : Layout) → length ram ≡ 4096 * l.pages → named ≡ replicate (size_of l) false → AreTaken ram disks named l []
-new_taken ram disks named l e f =
+pub taken_device : (T : Type 0) (ram : List ℕ) (disks : List (List Sector)) (named : List Bool) (l : Layout) (n : ℕ) (b : List ℕ) (es : List Record) → AreTaken T ram disks named l es → AreTaken T ram disks named l (es ++ device n b ∷ [])
+taken_device T ram disks named l n b es h = taken_more T ram disks named l (device n b) es (λ i. refl) h
+
+pub new_taken : (T : Type 0) (ram : List ℕ) (disks : List (List Sector)) (named : List Bool) (l : Layout) → length ram ≡ 4096 * l.pages → named ≡ replicate (size_of l) false → AreTaken T ram disks named l []
+new_taken T ram disks named l e f =
     rw f (record {
       ram_size = e;
       named_size = length-replicate (size_of l) false;
-      last = λ item has. named_nothing item ∙ rw (get_or-replicate (size_of l) (number_of l item) false false (number_below l item has)) refl;
+      marks = λ item has. ap is_some (named_nothing item) ∙ sym (get_or-replicate (size_of l) (number_of l item) false false (number_below l item has));
+      last = λ t item has. named_nothing item ∙ rw (get_or-replicate (size_of l) (number_of l item) false false (number_below l item has)) refl;
     })
 
 pub put_is : (ram b : List ℕ) (i at : ℕ) → at ≡ 4096 * i → length b ≡ 4096 → take at ram ++ b ++ drop (at + length b) ram ≡ put_page ram i b

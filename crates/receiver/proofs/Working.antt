@@ -1,5 +1,5 @@
 -- Records taken one after the other.
-use Rattle.std.proofs.Common.{◌≡◌, ℕ, ◌+◌, ◌<◌, ◌≤◌, inr, List, [], ◌∷◌, ◌++◌, length, take, drop, refl, sym, ap, ◌∙◌, append_assoc, append-nil, arith}
+use Rattle.std.proofs.Common.{◌≡◌, ◌≢◌, ℕ, ◌+◌, ◌<◌, ◌≤◌, inr, List, [], ◌∷◌, ◌++◌, length, take, drop, refl, sym, ap, subst, ◌∙◌, append_assoc, append-nil, arith}
 use Rattle.std.proofs.lemmas.List.{take-append-drop, length-append, length-drop}
 use Rattle.std.proofs.Math.Seq.{take-add}
 use Rattle.sha2.specs.Sha256.{sha256}
@@ -7,7 +7,10 @@ use Rattle.sha2.proofs.Facts256.{length-sha256}
 use Rattle.wire.specs.Header.{header}
 use Rattle.wire.specs.Records.{Record, commit, spelled_record}
 use Rattle.wire.specs.Stream.{texts}
+use Rattle.blk.specs.Disk.{DiskState}
+use Rattle.machine.specs.Seen.{Marks}
 use Rattle.machine.specs.declared.shape.Shape.{Shape}
+use Rattle.receiver.specs.Disks.{AreKept, AreRefused, MarksRefused, all_marks_in, sizes_in}
 use Rattle.receiver.specs.Faults.{Opens, IsTrailing, IsFault, IsFront, Fault}
 use Rattle.receiver.specs.Fed.{HasRead, Tells, Waits, Ends, IsOpen, IsEnded}
 use Rattle.receiver.specs.declared.intake.Intake.{Intake}
@@ -29,7 +32,7 @@ tells F errors.BadDigest h = h
 tells F errors.Missing h = h
 tells F errors.Trailing h = h
 tells F errors.Truncated h = h
-tells F errors.DiskFailed h = h
+tells F errors.DiskFailed h = tt
 tells F errors.NoMemory h = tt
 tells F errors.AlreadyFailed h = h
 
@@ -47,55 +50,98 @@ tells_more F G errors.BadDigest f h = f h
 tells_more F G errors.Missing f h = f h
 tells_more F G errors.Trailing f h = f h
 tells_more F G errors.Truncated f h = f h
-tells_more F G errors.DiskFailed f h = f h
+tells_more F G errors.DiskFailed f h = tt
 tells_more F G errors.NoMemory f h = tt
 tells_more F G errors.AlreadyFailed f h = f h
 
+pub kept : (ds : List DiskState) → AreKept ds ds
+kept ds = record { sizes = refl; marks = refl }
+
+pub then_kept : (a b c : List DiskState) → AreKept a b → AreKept b c → AreKept a c
+then_kept a b c h k = record { sizes = k.sizes ∙ h.sizes; marks = k.marks ∙ h.marks }
+
+marks_then : (a b c : List Marks) (e : RecvError) → b ≡ a → MarksRefused b e c → MarksRefused a e c
+marks_then a b c e same h = subst (λ ms. MarksRefused ms e c) same h
+
+pub then_refused : (a b c : List DiskState) (e : RecvError) → AreKept a b → AreRefused b c e → AreRefused a c e
+then_refused a b c e h k = record { sizes = k.sizes ∙ h.sizes; marks = marks_then (all_marks_in a) (all_marks_in b) (all_marks_in c) e h.marks k.marks }
+
+-- A refusal that is no failure of a disk.
+pub refused_kept : (ds : List DiskState) (e : RecvError) → e ≢ errors.DiskFailed → AreRefused ds ds e
+refused_kept ds errors.BadMagic n = record { sizes = refl; marks = refl }
+refused_kept ds errors.BadVersion n = record { sizes = refl; marks = refl }
+refused_kept ds errors.BadShape n = record { sizes = refl; marks = refl }
+refused_kept ds errors.ShapeMismatch n = record { sizes = refl; marks = refl }
+refused_kept ds errors.BadTag n = record { sizes = refl; marks = refl }
+refused_kept ds errors.BadPage n = record { sizes = refl; marks = refl }
+refused_kept ds errors.BadSector n = record { sizes = refl; marks = refl }
+refused_kept ds errors.BadRound n = record { sizes = refl; marks = refl }
+refused_kept ds errors.BadDevice n = record { sizes = refl; marks = refl }
+refused_kept ds errors.BadDigest n = record { sizes = refl; marks = refl }
+refused_kept ds errors.Missing n = record { sizes = refl; marks = refl }
+refused_kept ds errors.Trailing n = record { sizes = refl; marks = refl }
+refused_kept ds errors.Truncated n = record { sizes = refl; marks = refl }
+refused_kept ds errors.DiskFailed n = absurd (n refl)
+refused_kept ds errors.NoMemory n = record { sizes = refl; marks = refl }
+refused_kept ds errors.AlreadyFailed n = record { sizes = refl; marks = refl }
+
+never_disk : (pages : ℕ) (shapes : List Shape) (before : List Record) (tail : List ℕ) (e : RecvError) (place : ℕ) → IsFault pages shapes before tail e place → e ≢ errors.DiskFailed
+never_disk pages shapes before tail e place f same = let no : IsFault pages shapes before tail errors.DiskFailed place = rw same at f in no
+
+pub fault_refused : (ds : List DiskState) (pages : ℕ) (shapes : List Shape) (before : List Record) (tail : List ℕ) (e : RecvError) → (place : ℕ) × IsFault pages shapes before tail e place
+    → AreRefused ds ds e × Tells e ((place : ℕ) × IsFault pages shapes before tail e place)
+fault_refused ds pages shapes before tail e f = (refused_kept ds e (never_disk pages shapes before tail e f.0 f.1), tells _ e f)
+
 -- Whole good records so far.
-pub record SoFar (sizes : List ℕ) (pages : ℕ) (shapes : List Shape) (i : Intake) (front : List ℕ) : Type 0 where
+pub record SoFar (old ds : List DiskState) (pages : ℕ) (shapes : List Shape) (i : Intake) (front : List ℕ) : Type 0 where
   pub before : List Record
-  pub read : HasRead sizes pages shapes before i front
+  pub same : AreKept old ds
+  pub read : HasRead ds pages shapes before i front
 
-pub nothing_yet : (sizes : List ℕ) (pages : ℕ) (shapes : List Shape) (before : List Record) (i : Intake) (front : List ℕ) → HasRead sizes pages shapes before i front → SoFar sizes pages shapes i front
-nothing_yet sizes pages shapes before i front h = record { before = before; read = h }
+pub nothing_yet : (ds : List DiskState) (pages : ℕ) (shapes : List Shape) (before : List Record) (i : Intake) (front : List ℕ) → HasRead ds pages shapes before i front → SoFar ds ds pages shapes i front
+nothing_yet ds pages shapes before i front h = record { before = before; same = kept ds; read = h }
 
-pub one_more : (sizes : List ℕ) (pages : ℕ) (shapes : List Shape) (before : List Record) (i : Intake) (held : List ℕ) (at len : ℕ) → (r : Record) × HasRead sizes pages shapes (before ++ r ∷ []) i (take at held ++ take len (drop at held))
-    → SoFar sizes pages shapes i (take (at + len) held)
-one_more sizes pages shapes before i held at len h = record { before = before ++ h.0 ∷ []; read = rw (take-add at len held) h.1 }
+pub one_more : (old ds new : List DiskState) (pages : ℕ) (shapes : List Shape) (before : List Record) (i : Intake) (held : List ℕ) (at len : ℕ) → AreKept old ds → AreKept ds new × ((r : Record) × HasRead new pages shapes (before ++ r ∷ []) i (take at held ++ take len (drop at held)))
+    → SoFar old new pages shapes i (take (at + len) held)
+one_more old ds new pages shapes before i held at len same h = record { before = before ++ h.1.0 ∷ []; same = then_kept old ds new same h.0; read = rw (take-add at len held) h.1.1 }
 
-pub front_of : {sizes : List ℕ} {pages : ℕ} {shapes : List Shape} {before : List Record} {i : Intake} {front : List ℕ} (bytes tail : List ℕ) → HasRead sizes pages shapes before i front → bytes ≡ front ++ tail → IsFront sizes bytes pages shapes before tail
+pub front_of : {ds : List DiskState} {pages : ℕ} {shapes : List Shape} {before : List Record} {i : Intake} {front : List ℕ} (bytes tail : List ℕ) → HasRead ds pages shapes before i front → bytes ≡ front ++ tail → IsFront (sizes_in ds) bytes pages shapes before tail
 front_of {pages = pages} {shapes = shapes} {before = before} bytes tail h e = record {
   begins = record { good = h.head; whole = e ∙ ap (λ (x : List ℕ). x ++ tail) h.whole ∙ append_assoc (header pages shapes) (texts before) tail };
   fits = h.fits;
   good = h.good;
 }
 
-pub fault_here : {sizes : List ℕ} {pages : ℕ} {shapes : List Shape} {before : List Record} {i : Intake} {front : List ℕ} (bytes tail : List ℕ) (e : RecvError) → HasRead sizes pages shapes before i front → bytes ≡ front ++ tail
-    → (place : ℕ) × IsFault pages shapes before tail e place → (at : ℕ) × Fault sizes bytes e at
+pub fault_here : {ds : List DiskState} {pages : ℕ} {shapes : List Shape} {before : List Record} {i : Intake} {front : List ℕ} (bytes tail : List ℕ) (e : RecvError) → HasRead ds pages shapes before i front → bytes ≡ front ++ tail
+    → (place : ℕ) × IsFault pages shapes before tail e place → (at : ℕ) × Fault (sizes_in ds) bytes e at
 fault_here {pages = pages} {shapes = shapes} {before = before} bytes tail e h is f =
     (length (header pages shapes ++ texts before) + f.0, inr (record { pages = pages; shapes = shapes; before = before; tail = tail; place = f.0; front = front_of bytes tail h is; fault = f.1; there = refl }))
 
 cut : (held : List ℕ) (at : ℕ) → held ≡ take at held ++ drop at held
 cut held at = sym (take-append-drop at held)
 
-pub refused : (sizes : List ℕ) (pages : ℕ) (shapes : List Shape) (before : List Record) (i : Intake) (held : List ℕ) (at : ℕ) (e : RecvError) → HasRead sizes pages shapes before i (take at held)
-    → Tells e ((place : ℕ) × IsFault pages shapes before (drop at held) e place) → Tells e ((k : ℕ) × Fault sizes held e k)
-refused sizes pages shapes before i held at e h t = tells_more _ _ e (fault_here held (drop at held) e h (cut held at)) t
+pub refused : (old ds new : List DiskState) (pages : ℕ) (shapes : List Shape) (before : List Record) (i : Intake) (held : List ℕ) (at : ℕ) (e : RecvError) → AreKept old ds → HasRead ds pages shapes before i (take at held)
+    → AreRefused ds new e × Tells e ((place : ℕ) × IsFault pages shapes before (drop at held) e place) → AreRefused old new e × Tells e ((k : ℕ) × Fault (sizes_in old) held e k)
+refused old ds new pages shapes before i held at e same h t =
+    (then_refused old ds new e same t.0, tells_more _ _ e (λ f. subst (λ sizes. (k : ℕ) × Fault sizes held e k) same.sizes (fault_here held (drop at held) e h (cut held at) f)) t.1)
 
-pub waiting : (sizes : List ℕ) (pages : ℕ) (shapes : List Shape) (before : List Record) (i : Intake) (front tail : List ℕ) → HasRead sizes pages shapes before i front × Waits pages shapes before tail → IsOpen sizes pages shapes i front tail
-waiting sizes pages shapes before i front tail h = record { before = before; read = h.0; waits = h.1 }
+pub waiting : (old ds new : List DiskState) (pages : ℕ) (shapes : List Shape) (before : List Record) (i : Intake) (front tail : List ℕ) → AreKept old ds → AreKept ds new × HasRead new pages shapes before i front × Waits pages shapes before tail → AreKept old new × IsOpen new pages shapes i front tail
+waiting old ds new pages shapes before i front tail same h = (then_kept old ds new same h.0, record { before = before; read = h.1; waits = h.2 })
 
-pub at_end : (sizes : List ℕ) (pages : ℕ) (shapes : List Shape) (i : Intake) (held : List ℕ) (at : ℕ) → SoFar sizes pages shapes i (take at held) → length held ≤ at → IsOpen sizes pages shapes i (take at held) (drop at held)
-at_end sizes pages shapes i held at h le = record { before = h.before; read = h.read; waits = nothing_waits pages shapes h.before (drop at held) (omega (arith, le, length-drop at held)) }
+pub at_end : (old ds : List DiskState) (pages : ℕ) (shapes : List Shape) (i : Intake) (held : List ℕ) (at : ℕ) → SoFar old ds pages shapes i (take at held) → length held ≤ at → AreKept old ds × IsOpen ds pages shapes i (take at held) (drop at held)
+at_end old ds pages shapes i held at h le = (h.same, record { before = h.before; read = h.read; waits = nothing_waits pages shapes h.before (drop at held) (omega (arith, le, length-drop at held)) })
 
 trailing_by : (pages : ℕ) (shapes : List Shape) (before : List Record) (tail more : List ℕ) → Opens pages shapes before tail 5 (sha256 (header pages shapes ++ texts before) ++ more) → 33 < length tail → IsTrailing pages shapes before tail 34
 trailing_by pages shapes before tail [] o long = absurd (omega (arith, long, ap length o.whole, length-append (sha256 (header pages shapes ++ texts before)) [], length-sha256 (header pages shapes ++ texts before)))
 trailing_by pages shapes before tail (byte ∷ more) o long = record { byte = byte; more = more; opens = o; there = refl }
 
-pub trailing : (sizes : List ℕ) (pages : ℕ) (shapes : List Shape) (before : List Record) (i : Intake) (held : List ℕ) (at : ℕ) → HasRead sizes pages shapes before i (take at held) × Ends pages shapes before (drop at held) → at + 33 < length held
-    → (k : ℕ) × Fault sizes held errors.Trailing k
-trailing sizes pages shapes before i held at h long =
-    fault_here held (drop at held) errors.Trailing h.0 (cut held at) (34, trailing_by pages shapes before (drop at held) h.1.more h.1.opens (omega (arith, long, length-drop at held)))
+pub trailing : (old ds new : List DiskState) (pages : ℕ) (shapes : List Shape) (before : List Record) (i : Intake) (held : List ℕ) (at : ℕ) → AreKept old ds → AreKept ds new × HasRead new pages shapes before i (take at held) × Ends pages shapes before (drop at held) → at + 33 < length held
+    → AreRefused old new errors.Trailing × ((k : ℕ) × Fault (sizes_in old) held errors.Trailing k)
+trailing old ds new pages shapes before i held at same h long =
+    let both = then_kept old ds new same h.0 in (
+      record { sizes = both.sizes; marks = both.marks },
+      subst (λ sizes. (k : ℕ) × Fault sizes held errors.Trailing k) both.sizes (fault_here held (drop at held) errors.Trailing h.1 (cut held at) (34, trailing_by pages shapes before (drop at held) h.2.more h.2.opens (omega (arith, long, length-drop at held)))),
+    )
 
 ended_by : (pages : ℕ) (shapes : List Shape) (before : List Record) (tail more : List ℕ) → Opens pages shapes before tail 5 (sha256 (header pages shapes ++ texts before) ++ more) → length tail ≤ 33 → tail ≡ 5 ∷ sha256 (header pages shapes ++ texts before)
 ended_by pages shapes before tail [] o short = o.whole ∙ ap (λ (x : List ℕ). 5 ∷ x) (append-nil (sha256 (header pages shapes ++ texts before)))
@@ -105,17 +151,20 @@ pub commit_text : (digest : List ℕ) → spelled_record (commit digest) ≡ 5 �
 unfolding spelled_record
 commit_text digest = refl
 
-pub ended : (sizes : List ℕ) (pages : ℕ) (shapes : List Shape) (before : List Record) (i : Intake) (held : List ℕ) (at : ℕ) → HasRead sizes pages shapes before i (take at held) × Ends pages shapes before (drop at held) → length held ≤ at + 33
-    → IsEnded sizes pages shapes i held
-ended sizes pages shapes before i held at h short =
-    let tail = ended_by pages shapes before (drop at held) h.1.more h.1.opens (omega (arith, short, length-drop at held)) in
-    record {
-      before = before;
-      front = take at held;
-      read = h.0;
-      complete = h.1.opens.complete (omega arith);
-      whole = cut held at ∙ ap (λ (x : List ℕ). take at held ++ x) (tail ∙ ap (λ (x : List ℕ). 5 ∷ sha256 x) (sym h.0.whole) ∙ sym (commit_text (sha256 (take at held))));
-    }
+pub ended : (old ds new : List DiskState) (pages : ℕ) (shapes : List Shape) (before : List Record) (i : Intake) (held : List ℕ) (at : ℕ) → AreKept old ds → AreKept ds new × HasRead new pages shapes before i (take at held) × Ends pages shapes before (drop at held) → length held ≤ at + 33 → at + 33 ≡ length held
+    → AreKept old new × (at + 33 ≡ length held) × IsEnded new pages shapes i held
+ended old ds new pages shapes before i held at same h short all =
+    let tail = ended_by pages shapes before (drop at held) h.2.more h.2.opens (omega (arith, short, length-drop at held)) in (
+      then_kept old ds new same h.0,
+      all,
+      record {
+        before = before;
+        front = take at held;
+        read = h.1;
+        complete = h.2.opens.complete (omega arith);
+        whole = cut held at ∙ ap (λ (x : List ℕ). take at held ++ x) (tail ∙ ap (λ (x : List ℕ). 5 ∷ sha256 x) (sym h.1.whole) ∙ sym (commit_text (sha256 (take at held))));
+      },
+    )
 
 pub within : (held rest : List ℕ) (at len : ℕ) → rest ≡ drop at held → at ≤ length held → len ≤ length rest → at + len ≤ length held
 within held rest at len e low room = omega (arith, ap length e, length-drop at held, low, room)

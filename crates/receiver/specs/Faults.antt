@@ -1,16 +1,18 @@
 -- The faults of a stream, each with its place: the number of bytes up to the one that tells it. Behind the header and
 -- whole good records stand bytes that begin with the fault.
-use Rattle.std.specs.Prelude.{◌≡◌, ◌≢◌, ◌<◌, ◌≤◌, ◌^◌, ◌⊎◌, ℕ, ◌+◌, ◌*◌, List, [], ◌∷◌, ◌++◌, length, drop}
+use Rattle.std.specs.Prelude.{◌≡◌, ◌≢◌, ◌<◌, ◌≤◌, ◌^◌, ◌⊎◌, ℕ, ◌+◌, ◌*◌, List, [], ◌∷◌, ◌++◌, length, drop, All, Some, None}
 use Rattle.sha2.specs.Sha256.{sha256}
 use Rattle.guestmem.specs.Number.{number_at}
 use Rattle.wire.specs.DeviceBody.{IsBodyOf}
-use Rattle.wire.specs.Header.{header, spelled_shapes, Begins}
+use Rattle.wire.specs.Header.{header, spelled_shape, spelled_shapes, Begins}
 use Rattle.wire.specs.Numbers.{digits}
 use Rattle.wire.specs.Records.{Record}
+use Rattle.wire.specs.ShapeReading.{shape_length}
 use Rattle.wire.specs.Stream.{rounds, texts}
 use Rattle.guestmem.specs.Item as items
 use Rattle.machine.specs.Layout.{IsItemIn, layout_by}
 use Rattle.machine.specs.Shapes.{disk_sizes}
+use Rattle.machine.specs.Sound.{IsSoundShape}
 use Rattle.machine.specs.State.{DeviceState}
 use Rattle.machine.specs.declared.shape.Shape.{Shape}
 use Rattle.receiver.specs.Good.{AreGood, AreNamed, devices_in}
@@ -176,11 +178,22 @@ pub record IsBadCount (bytes : List ℕ) (at : ℕ) : Type 0 where
   pub never : ¬ (MayCount pages count)
   pub there : at ≡ 16
 
--- Bytes that no shape is spelled as: an unknown number.
+-- A number that no device has, told at this number; and as many bytes as the shape has that begins with their number, which
+-- are the spelling of no shape that a device may have.
+pub record IsUnknown (bad : List ℕ) : Type 0 where
+  pub number : ℕ
+  pub is : bad ≡ number ∷ []
+  pub never : shape_length number ≡ None
+
+pub record IsBeyond (bad : List ℕ) : Type 0 where
+  pub number : ℕ
+  pub others : List ℕ
+  pub is : bad ≡ number ∷ others
+  pub long : shape_length number ≡ Some (length bad)
+  pub never : (s : Shape) → IsSoundShape s → bad ≢ spelled_shape s
+
 abbrev pub IsNoShape : List ℕ → Type 0
-IsNoShape [] = ⊥
-IsNoShape (number ∷ []) = number ≢ 4
-IsNoShape (number ∷ byte ∷ bytes) = ⊥
+IsNoShape bad = IsUnknown bad ⊎ IsBeyond bad
 
 -- 3, told at the number of a device that is unknown, or at the end of its shape.
 pub record IsBadShape (bytes : List ℕ) (at : ℕ) : Type 0 where
@@ -192,6 +205,7 @@ pub record IsBadShape (bytes : List ℕ) (at : ℕ) : Type 0 where
   pub says : Says bytes pages count
   pub may : MayCount pages count
   pub fewer : length shapes < count
+  pub sound : All IsSoundShape shapes
   pub whole : drop 16 bytes ≡ spelled_shapes shapes ++ (bad ++ more)
   pub never : IsNoShape bad
   pub there : at ≡ 16 + (length (spelled_shapes shapes) + length bad)

@@ -4,14 +4,17 @@ use Rattle.std.specs.List.{AllByRecursion}
 use Rattle.sha2.specs.Sha256.{sha256}
 use Rattle.wire.specs.DeviceBody.{body}
 use Rattle.wire.specs.Header.{header, IsHeader}
+use Rattle.blk.specs.Disk.{DiskState}
 use Rattle.wire.specs.Records.{Record, device, commit, spelled_record, BeginsNoRecord}
 use Rattle.wire.specs.Stream.{IsEntry, AreNumbered, rounds, shapes_in, texts}
-use Rattle.machine.specs.First.{dealt_sectors}
-use Rattle.machine.specs.Layout.{layout_by}
+use Rattle.machine.specs.First.{AreMarksOf, dealt_sectors, marked_sectors}
+use Rattle.machine.specs.Layout.{layout_by, firsts_of}
 use Rattle.machine.specs.Shapes.{disk_sizes}
 use Rattle.machine.specs.Sound.{IsSoundDevice}
+use Rattle.blk.specs.Sectors.{Sector}
 use Rattle.machine.specs.State.{DeviceState}
 use Rattle.machine.specs.declared.shape.Shape.{Shape}
+use Rattle.receiver.specs.Disks.{AreHonestDisks, AreKept, AreRefused, all_marks_in, sizes_in}
 use Rattle.receiver.specs.Good.{AreGood}
 use Rattle.receiver.specs.Taken.{AreTaken}
 use Rattle.receiver.specs.Faults.{IsComplete, Opens, IsFault, Fault}
@@ -19,32 +22,39 @@ use Rattle.receiver.specs.declared.intake.Intake.{Intake}
 use Rattle.receiver.specs.declared.part.Part.{Part}
 use Rattle.receiver.specs.declared.part.Part.TheVariants as parts
 use Rattle.receiver.specs.declared.recv_error.RecvError.{RecvError}
-use Rattle.receiver.specs.declared.recv_error.RecvError.TheVariants.{NoMemory}
+use Rattle.receiver.specs.declared.recv_error.RecvError.TheVariants.{DiskFailed, NoMemory}
 
 -- The records of devices, numbered from here on.
 unfoldable pub device_records : ℕ → List DeviceState → List Record
 device_records number [] = []
 device_records number (d ∷ ds) = device number (body d) ∷ device_records (number + 1) ds
 
--- The intake has taken these bytes: a header, and these whole good records.
-pub record HasRead (sizes : List ℕ) (pages : ℕ) (shapes : List Shape) (before : List Record) (i : Intake) (front : List ℕ) : Type 0 where
+-- What the disks of these devices hold, of which these sectors are marked bad.
+abbrev pub held_sectors : List Shape → List DiskState → List (List Bool) → List (List Sector)
+held_sectors shapes disks bad = dealt_sectors shapes (marked_sectors disks bad)
+
+-- The intake has taken these bytes, a header and these whole good records, and the disks are of the devices.
+pub record HasRead (disks : List DiskState) (pages : ℕ) (shapes : List Shape) (before : List Record) (i : Intake) (front : List ℕ) : Type 0 where
   pub head : IsHeader pages shapes
-  pub fits : sizes ≡ disk_sizes shapes
+  pub fits : sizes_in disks ≡ disk_sizes shapes
   pub good : AreGood pages shapes [] before
   pub whole : front ≡ header pages shapes ++ texts before
   pub shapes_are : i.shapes.items ≡ shapes
+  pub firsts_are : i.firsts.items ≡ firsts_of (layout_by pages shapes)
+  pub marks_are : AreMarksOf disks i.bad.items
   pub entries : List Record
   pub split : before ≡ entries ++ device_records 0 i.devices.items
   pub each : AllByRecursion (IsEntry (layout_by pages shapes)) entries
   pub numbered : AreNumbered 1 entries
   pub rounds_are : i.rounds ≡ rounds before
-  pub taken : AreTaken i.ram.bytes (dealt_sectors shapes []) i.named.items (layout_by pages shapes) before
+  pub taken : AreTaken (AreHonestDisks (all_marks_in disks)) i.ram.bytes (held_sectors shapes disks i.bad.items) i.named.items (layout_by pages shapes) before
   pub devices_are : shapes_in i.devices.items ≡ take (length i.devices.items) shapes
   pub sound : AllByRecursion (IsSoundDevice (4096 * pages)) i.devices.items
 
--- A refusal tells a fault, want of memory aside.
+-- A refusal tells a fault, want of memory and a disk that failed aside.
 abbrev pub Tells : RecvError → Type 0 → Type 0
 Tells NoMemory F = Unit {0}
+Tells DiskFailed F = Unit {0}
 Tells _ F = F
 
 -- The bytes behind whole good records begin with no record and no fault.
@@ -59,7 +69,7 @@ pub record Ends (pages : ℕ) (shapes : List Shape) (before : List Record) (tail
 
 abbrev pub Checked : ℕ → List Shape → List Record → ℕ → List ℕ → Result (Unit {0}) RecvError → Type 0
 Checked pages shapes before tag more (Ok x) = Opens pages shapes before (tag ∷ more) tag more
-Checked pages shapes before tag more (Err e) = Tells e ((place : ℕ) × IsFault pages shapes before (tag ∷ more) e place)
+Checked pages shapes before tag more (Err e) = (place : ℕ) × IsFault pages shapes before (tag ∷ more) e place
 
 abbrev pub size_of : Part → ℕ
 size_of parts.Wait = 0
@@ -72,28 +82,28 @@ IsLong parts.Wait = Unit {0}
 IsLong (parts.Record len) = 0 < len
 IsLong parts.End = Unit {0}
 
--- The intake after it looked at the bytes behind those that it has taken.
-abbrev pub After : List ℕ → ℕ → List Shape → List Record → Intake → List ℕ → List ℕ → Result Part RecvError → Type 0
-After sizes pages shapes before new front tail (Ok parts.Wait) = HasRead sizes pages shapes before new front × Waits pages shapes before tail
-After sizes pages shapes before new front tail (Ok (parts.Record len)) = (r : Record) × HasRead sizes pages shapes (before ++ r ∷ []) new (front ++ take len tail)
-After sizes pages shapes before new front tail (Ok parts.End) = HasRead sizes pages shapes before new front × Ends pages shapes before tail
-After sizes pages shapes before new front tail (Err e) = Tells e ((place : ℕ) × IsFault pages shapes before tail e place)
+-- The disks, and the intake after it looked at the bytes behind those that it has taken.
+abbrev pub After : List DiskState → List DiskState → ℕ → List Shape → List Record → Intake → List ℕ → List ℕ → Result Part RecvError → Type 0
+After old disks pages shapes before new front tail (Ok parts.Wait) = AreKept old disks × HasRead disks pages shapes before new front × Waits pages shapes before tail
+After old disks pages shapes before new front tail (Ok (parts.Record len)) = AreKept old disks × ((r : Record) × HasRead disks pages shapes (before ++ r ∷ []) new (front ++ take len tail))
+After old disks pages shapes before new front tail (Ok parts.End) = AreKept old disks × HasRead disks pages shapes before new front × Ends pages shapes before tail
+After old disks pages shapes before new front tail (Err e) = AreRefused old disks e × Tells e ((place : ℕ) × IsFault pages shapes before tail e place)
 
 -- The intake has taken a beginning of the bytes, and waits for more.
-pub record IsOpen (sizes : List ℕ) (pages : ℕ) (shapes : List Shape) (i : Intake) (front tail : List ℕ) : Type 0 where
+pub record IsOpen (disks : List DiskState) (pages : ℕ) (shapes : List Shape) (i : Intake) (front tail : List ℕ) : Type 0 where
   pub before : List Record
-  pub read : HasRead sizes pages shapes before i front
+  pub read : HasRead disks pages shapes before i front
   pub waits : Waits pages shapes before tail
 
 -- The intake has taken a whole stream.
-pub record IsEnded (sizes : List ℕ) (pages : ℕ) (shapes : List Shape) (i : Intake) (bytes : List ℕ) : Type 0 where
+pub record IsEnded (disks : List DiskState) (pages : ℕ) (shapes : List Shape) (i : Intake) (bytes : List ℕ) : Type 0 where
   pub before : List Record
   pub front : List ℕ
-  pub read : HasRead sizes pages shapes before i front
+  pub read : HasRead disks pages shapes before i front
   pub complete : IsComplete pages shapes before 5
   pub whole : bytes ≡ front ++ spelled_record (commit (sha256 front))
 
-abbrev pub Worked : List ℕ → ℕ → List Shape → Intake → List ℕ → Result (ℕ × Bool) RecvError → Type 0
-Worked sizes pages shapes new held (Ok (at, false)) = IsOpen sizes pages shapes new (take at held) (drop at held)
-Worked sizes pages shapes new held (Ok (at, true)) = (at ≡ length held) × IsEnded sizes pages shapes new held
-Worked sizes pages shapes new held (Err e) = Tells e ((at : ℕ) × Fault sizes held e at)
+abbrev pub Worked : List DiskState → List DiskState → ℕ → List Shape → Intake → List ℕ → Result (ℕ × Bool) RecvError → Type 0
+Worked old disks pages shapes new held (Ok (at, false)) = AreKept old disks × IsOpen disks pages shapes new (take at held) (drop at held)
+Worked old disks pages shapes new held (Ok (at, true)) = AreKept old disks × (at ≡ length held) × IsEnded disks pages shapes new held
+Worked old disks pages shapes new held (Err e) = AreRefused old disks e × Tells e ((at : ℕ) × Fault (sizes_in old) held e at)

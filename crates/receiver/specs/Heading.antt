@@ -1,6 +1,7 @@
 -- What stands at the front of a stream, as far as it came.
-use Rattle.std.specs.Prelude.{◌≡◌, ◌<◌, ℕ, List, ◌++◌, length, Option, Some, None, Result, Ok, Err}
+use Rattle.std.specs.Prelude.{◌≡◌, ◌<◌, ℕ, List, ◌++◌, length, All, Option, Some, None, Result, Ok, Err}
 use Rattle.wire.specs.Header.{Begins, spelled_shape, spelled_shapes}
+use Rattle.machine.specs.Sound.{IsSoundShape}
 use Rattle.machine.specs.declared.shape.Shape.{Shape}
 use Rattle.receiver.specs.Faults.{IsNoShape, IsHeaderFault}
 use Rattle.receiver.specs.declared.recv_error.RecvError.{RecvError}
@@ -8,7 +9,7 @@ use Rattle.receiver.specs.declared.recv_error.RecvError.TheVariants.{BadShape, N
 
 -- The bytes begin with no shape, and with none that is wrong.
 pub record ShapeWaits (bytes : List ℕ) : Type 0 where
-  pub no_shape : (s : Shape) (rest : List ℕ) → ¬ (bytes ≡ spelled_shape s ++ rest)
+  pub no_shape : (s : Shape) (rest : List ℕ) → IsSoundShape s → ¬ (bytes ≡ spelled_shape s ++ rest)
   pub no_bad : (bad rest : List ℕ) → IsNoShape bad → ¬ (bytes ≡ bad ++ rest)
 
 pub record BadFirst (bytes : List ℕ) : Type 0 where
@@ -19,7 +20,7 @@ pub record BadFirst (bytes : List ℕ) : Type 0 where
 
 abbrev pub FirstShape : {X : Type 0} → (X → List ℕ) → List ℕ → Result (Option (Shape × X)) RecvError → Type 0
 FirstShape view bytes (Ok None) = ShapeWaits bytes
-FirstShape view bytes (Ok (Some found)) = bytes ≡ spelled_shape found.0 ++ view found.1
+FirstShape view bytes (Ok (Some found)) = IsSoundShape found.0 × (bytes ≡ spelled_shape found.0 ++ view found.1)
 FirstShape view bytes (Err e) = (e ≡ BadShape) × BadFirst bytes
 
 -- Fewer shapes than there are to be, and what is behind them.
@@ -27,6 +28,7 @@ pub record FewShapes (count : ℕ) (bytes : List ℕ) : Type 0 where
   pub shapes : List Shape
   pub rest : List ℕ
   pub fewer : length shapes < count
+  pub sound : All IsSoundShape shapes
   pub whole : bytes ≡ spelled_shapes shapes ++ rest
 
 pub record ShapesWait (count : ℕ) (bytes : List ℕ) : Type 0 where
@@ -39,6 +41,7 @@ pub record ShapesBad (count : ℕ) (bytes : List ℕ) : Type 0 where
 
 pub record ShapesRead (count : ℕ) (bytes : List ℕ) (shapes : List Shape) (rest : List ℕ) : Type 0 where
   pub count_is : length shapes ≡ count
+  pub sound : All IsSoundShape shapes
   pub whole : bytes ≡ spelled_shapes shapes ++ rest
 
 abbrev pub OnBad : RecvError → Type 0 → Type 0
@@ -50,6 +53,11 @@ abbrev pub ReadShapes : {X Y : Type 0} → (X → List Shape) → (Y → List �
 ReadShapes shapes view count bytes (Ok None) = ShapesWait count bytes
 ReadShapes shapes view count bytes (Ok (Some found)) = ShapesRead count bytes (shapes found.0) (view found.1)
 ReadShapes shapes view count bytes (Err e) = OnBad e (ShapesBad count bytes)
+
+-- A refusal tells a fault of the header, want of memory aside.
+abbrev pub TellsHead : RecvError → Type 0 → Type 0
+TellsHead NoMemory F = Unit {0}
+TellsHead _ F = F
 
 -- The bytes begin with no header, and with no fault of one.
 pub record WaitsHead (bytes : List ℕ) : Type 0 where

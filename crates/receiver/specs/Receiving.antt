@@ -1,11 +1,13 @@
 -- What a receiver knows of the bytes that it was fed.
-use Rattle.std.specs.Prelude.{◌≡◌, ◌<◌, ◌≤◌, ℕ, List, ◌++◌, length, take, drop, map, Result, Ok, Err, Bool, true, false}
+use Rattle.std.specs.Prelude.{◌≡◌, ◌<◌, ◌≤◌, ℕ, List, ◌++◌, length, take, drop, Result, Ok, Err, Bool, true, false}
 use Rattle.wire.specs.Header.{Begins}
 use Rattle.wire.specs.Records.{Record, spelled_record}
 use Rattle.wire.specs.Stream.{IsStream, rounds}
 use Rattle.blk.specs.Disk.{DiskState}
+use Rattle.machine.specs.Seen.{Marks}
 use Rattle.machine.specs.State.{MachineState}
 use Rattle.machine.specs.declared.shape.Shape.{Shape}
+use Rattle.receiver.specs.Disks.{AreKept, AreRefused, IsUnsteady, sizes_in}
 use Rattle.receiver.specs.Good.{Follows}
 use Rattle.receiver.specs.Faults.{Fault, IsFront}
 use Rattle.receiver.specs.Fed.{IsOpen, IsEnded, Tells}
@@ -14,30 +16,26 @@ use Rattle.receiver.specs.declared.intake.Intake.{Intake}
 use Rattle.receiver.specs.declared.stage.Stage.{Stage}
 use Rattle.receiver.specs.declared.stage.Stage.TheVariants as stages
 use Rattle.receiver.specs.declared.recv_error.RecvError.{RecvError}
-use Rattle.receiver.specs.declared.recv_error.RecvError.TheVariants.{NoMemory, Truncated}
+use Rattle.receiver.specs.declared.recv_error.RecvError.TheVariants.{DiskFailed, NoMemory, Truncated}
 
--- The sizes of disks, in sectors.
-abbrev pub sizes_of : {D : Type 0} → (D → DiskState) → List D → List ℕ
-sizes_of state disks = map (λ d. length (state d).sectors) disks
-
-pub record IsReading (sizes held : List ℕ) (at : ℕ) (i : Intake) : Type 0 where
+pub record IsReading (disks : List DiskState) (held : List ℕ) (at : ℕ) (i : Intake) : Type 0 where
   pub pages : ℕ
   pub shapes : List Shape
   pub within : at ≤ length held
-  pub open_at : IsOpen sizes pages shapes i (take at held) (drop at held)
+  pub open_at : IsOpen disks pages shapes i (take at held) (drop at held)
 
-pub record HasCome (sizes held : List ℕ) (at : ℕ) (i : Intake) : Type 0 where
+pub record HasCome (disks : List DiskState) (held : List ℕ) (at : ℕ) (i : Intake) : Type 0 where
   pub pages : ℕ
   pub shapes : List Shape
-  pub ended : IsEnded sizes pages shapes i held
+  pub ended : IsEnded disks pages shapes i held
   pub at_end : at ≡ length held
 
--- A receiver at this stage, which has read the bytes up to a place, knows this of them.
-abbrev pub IsKnown : List ℕ → List ℕ → ℕ → Stage → Type 0
-IsKnown sizes held at stages.Head = WaitsHead held × (at ≡ 0)
-IsKnown sizes held at (stages.Records i) = IsReading sizes held at i
-IsKnown sizes held at (stages.Ended i) = HasCome sizes held at i
-IsKnown sizes held at stages.Failed = Unit {0}
+-- A receiver with these disks at this stage, which has read the bytes up to a place, knows this of them.
+abbrev pub IsKnown : List DiskState → List ℕ → ℕ → Stage → Type 0
+IsKnown disks held at stages.Head = WaitsHead held × (at ≡ 0)
+IsKnown disks held at (stages.Records i) = IsReading disks held at i
+IsKnown disks held at (stages.Ended i) = HasCome disks held at i
+IsKnown disks held at stages.Failed = Unit {0}
 
 -- No refusal came.
 abbrev pub GoesOn : Stage → Type 0
@@ -48,17 +46,18 @@ GoesOn _ = Unit {0}
 abbrev pub NoFault : List ℕ → List ℕ → Type 0
 NoFault sizes bytes = (k : RecvError) (at : ℕ) → ¬ (Fault sizes bytes k at)
 
--- The refusal tells a fault of the bytes, want of memory aside.
+-- The refusal tells a fault of the bytes, want of memory and a disk that failed aside.
 abbrev pub TellsFault : List ℕ → List ℕ → RecvError → Type 0
 TellsFault sizes bytes e = Tells e ((at : ℕ) × Fault sizes bytes e at)
 
--- The refusal tells a fault of the bytes whose place lies behind those that were fed before, want of memory aside.
+-- The refusal tells a fault of the bytes whose place lies behind those that were fed before, want of memory and
+-- a disk that failed aside.
 abbrev pub TellsNow : List ℕ → List ℕ → List ℕ → RecvError → Type 0
 TellsNow sizes b piece e = Tells e ((at : ℕ) × (length b < at) × Fault sizes (b ++ piece) e at)
 
-abbrev pub Stepped : List ℕ → List ℕ → Result (ℕ × Stage) RecvError → Type 0
-Stepped sizes held (Ok next) = IsKnown sizes held next.0 next.1 × GoesOn next.1
-Stepped sizes held (Err e) = Tells e ((at : ℕ) × Fault sizes held e at)
+abbrev pub Stepped : List DiskState → List DiskState → List ℕ → Result (ℕ × Stage) RecvError → Type 0
+Stepped old disks held (Ok next) = AreKept old disks × IsKnown disks held next.0 next.1 × GoesOn next.1
+Stepped old disks held (Err e) = AreRefused old disks e × Tells e ((at : ℕ) × Fault (sizes_in old) held e at)
 
 -- The rounds that ended, by what was read.
 abbrev pub rounds_in : Stage → ℕ
@@ -73,10 +72,11 @@ has_failed (stages.Records i) = false
 has_failed (stages.Ended i) = false
 has_failed stages.Failed = true
 
--- What contracts see of a receiver: the sizes of its disks, the bytes that it was fed, the rounds that ended, and whether
--- a refusal came.
+-- What contracts see of a receiver: the sizes of its disks and what else is known of them, the bytes that it was fed, the
+-- rounds that ended, and whether a refusal came.
 pub record Received : Type 0 where
   pub sizes : List ℕ
+  pub marks : List Marks
   pub bytes : List ℕ
   pub rounds : ℕ
   pub failed : Bool
@@ -92,11 +92,13 @@ IsFinish b NoMemory = Unit {0}
 IsFinish b Truncated = (m : MachineState) → ¬ (IsStream b m)
 IsFinish b _ = ⊥
 
--- What a refusal of a whole slice tells: a fault of the bytes, or that they are a stream that is not whole.
-abbrev pub RefusesSlice : List ℕ → List ℕ → RecvError → Type 0
-RefusesSlice sizes bytes NoMemory = Unit {0}
-RefusesSlice sizes bytes Truncated = NoFault sizes bytes × ((m : MachineState) → ¬ (IsStream bytes m))
-RefusesSlice sizes bytes e = (at : ℕ) × Fault sizes bytes e at
+-- What a refusal of a whole slice tells: a fault of the bytes, or that they are a stream that is not whole, or that a disk
+-- failed, of which one is not steady.
+abbrev pub RefusesSlice : List ℕ → List Marks → List ℕ → RecvError → Type 0
+RefusesSlice sizes marks bytes NoMemory = Unit {0}
+RefusesSlice sizes marks bytes DiskFailed = IsUnsteady marks
+RefusesSlice sizes marks bytes Truncated = NoFault sizes bytes × ((m : MachineState) → ¬ (IsStream bytes m))
+RefusesSlice sizes marks bytes e = (at : ℕ) × Fault sizes bytes e at
 
 -- A record that may stand behind the good ones does not stand there.
 abbrev pub NoNext : ℕ → List Shape → List Record → List ℕ → Type 0

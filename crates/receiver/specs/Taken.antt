@@ -1,8 +1,8 @@
 -- What came of the items of a machine.
-use Rattle.std.specs.Prelude.{◌≡◌, ℕ, ◌*◌, Bool, true, false, List, length, get_or, Option, Some, None}
+use Rattle.std.specs.Prelude.{◌≡◌, ℕ, ◌*◌, Bool, true, false, List, length, get_or, is_some, Option, Some, None}
 use Rattle.guestmem.specs.Item.{Item}
 use Rattle.machine.specs.Layout.{Layout, IsItemIn, number_of, size_of}
-use Rattle.machine.specs.State.{Sector}
+use Rattle.blk.specs.Sectors.{Sector}
 use Rattle.wire.specs.Records.{Record}
 use Rattle.wire.specs.Stream.{last_named, record_in}
 
@@ -10,9 +10,10 @@ abbrev pub shown : {A : Type 0} → Bool → A → Option A
 shown true x = Some x
 shown false x = None
 
--- RAM and disks hold, of each item that is marked, what the last record says that names it, and no record names another
--- item.
-pub record AreTaken (ram : List ℕ) (disks : List (List Sector)) (named : List Bool) (l : Layout) (es : List Record) : Type 0 where
+-- An item is marked exactly where a record names it. Where the disks are trusted, RAM and disks hold of each marked item what
+-- the last record says that names it.
+pub record AreTaken (trusted : Type 0) (ram : List ℕ) (disks : List (List Sector)) (named : List Bool) (l : Layout) (es : List Record) : Type 0 where
   pub ram_size : length ram ≡ 4096 * l.pages
   pub named_size : length named ≡ size_of l
-  pub last : (i : Item) → IsItemIn l i → last_named i es ≡ shown (get_or named (number_of l i) false) (record_in ram disks i)
+  pub marks : (i : Item) → IsItemIn l i → is_some (last_named i es) ≡ get_or named (number_of l i) false
+  pub last : trusted → (i : Item) → IsItemIn l i → last_named i es ≡ shown (get_or named (number_of l i) false) (record_in ram disks i)

@@ -3,13 +3,12 @@
 ghost use Rattle.std.specs.Prelude.{◌≡◌, ◌↔◌, ◌≤◌, IsTrue, IfOk, IfErr, MatchOption, drop, length, ℕ, List};
 ghost use Rattle.wire.specs.Header.{Begins};
 ghost use Rattle.receiver.specs.Faults.{MayCount, IsHeaderFault};
-ghost use Rattle.receiver.specs.Fed.{Tells};
-ghost use Rattle.receiver.specs.Heading.{FirstShape, WaitsHead, ReadShapes};
+ghost use Rattle.receiver.specs.Heading.{FirstShape, WaitsHead, ReadShapes, TellsHead};
 
 use crate::recv_error::RecvError;
 use machine::Shape;
 use std::alloc::Global;
-use wire::u32_at;
+use wire::{shape_at, shape_len, u32_at};
 
 /// "VMIG" as a little-endian number.
 const MAGIC: u32 = 0x4749_4d56;
@@ -29,13 +28,19 @@ pub struct Heading {
 fn first_shape(bytes: &[u8]) -> Result<Option<(Shape, &[u8])>, RecvError>
     ensures { FirstShape (λ x. x.now) bytes.now result }
 {
-    let Some((number, rest)) = bytes.split_first() else {
+    if let Some((shape, rest)) = shape_at(bytes) {
+        return Ok(Some((shape, rest)));
+    }
+    let Some((number, _)) = bytes.split_first() else {
         return Ok(None);
     };
-    match *number {
-        4 => Ok(Some((Shape::Entropy, rest))),
-        _ => Err(RecvError::BadShape),
+    let Some(len) = shape_len(*number) else {
+        return Err(RecvError::BadShape);
+    };
+    if bytes.len() < len {
+        return Ok(None);
     }
+    Err(RecvError::BadShape)
 }
 
 /// So many shapes at the front of the bytes, where they are whole, and the bytes behind them.
@@ -74,7 +79,7 @@ fn may_count(pages: u32, count: u32) -> bool
 pub fn read_heading(alloc: Global, bytes: &[u8]) -> Result<Option<Heading>, RecvError>
     ensures read { IfOk result (λ found. MatchOption found (WaitsHead bytes.now)
         (λ h. (h.len ≤ length bytes.now) × Begins bytes.now h.pages h.shapes.items (drop h.len bytes.now))) }
-    ensures refused { IfErr result (λ e. Tells e ((sizes : List ℕ) → (at : ℕ) × IsHeaderFault sizes bytes.now e at)) }
+    ensures refused { IfErr result (λ e. TellsHead e ((sizes : List ℕ) → (at : ℕ) × IsHeaderFault sizes bytes.now e at)) }
 {
     if bytes.len() < 4 {
         return Ok(None);

@@ -1,18 +1,25 @@
 //! Records taken one by one from a stream.
 
-ghost use Rattle.std.specs.Prelude.{◌≡◌, ◌++◌, ◌+◌, ◌≤◌, ◌<◌, ◌*◌, ◌∷◌, ◌↔◌, [], ℕ, List, All, IsTrue, IfOk, take, drop, length, slice_index_or, true};
+ghost use Rattle.std.specs.Prelude.{◌≡◌, ◌++◌, ◌+◌, ◌≤◌, ◌<◌, ◌*◌, ◌∷◌, ◌↔◌, [], ℕ, List, All, IsTrue, IfOk, IfSome, MatchOption, Some, None, count_by, nat_lt, map, take, drop, length, slice_index_or, true};
 ghost use Rattle.wire.specs.Records as records;
 ghost use Rattle.sha2.specs.Sha256.{sha256};
-ghost use Rattle.wire.specs.Records.{page, spelled_record, HasSpelling};
+ghost use Rattle.wire.specs.Records.{page, sector, spelled_record, HasSpelling};
+ghost use Rattle.blk.specs.Disk.{DiskState};
+ghost use Rattle.guestmem.specs.Item as items;
+ghost use Rattle.machine.specs.Layout.{IsItemIn, layout_by};
+ghost use Rattle.machine.specs.Shapes.{sector_count};
 ghost use Rattle.machine.specs.declared.shape.Shape as shapes;
+ghost use Rattle.receiver.specs.Disks.{sizes_of};
 ghost use Rattle.receiver.specs.Faults.{MayTag, Opens};
 ghost use Rattle.receiver.specs.Good.{devices_in};
 ghost use Rattle.receiver.specs.Fed.{HasRead, Checked, After, Worked, size_of, IsLong};
+ghost use Rattle.receiver.specs.Spots.{HasMarks, HasSector, IsSpotOf, Taking, disks_before};
 
 use crate::part::Part;
 use crate::recv_error::RecvError;
+use dirtylog::BitSet;
 use guestmem::{NoLog, NoMemory, PAGE_SIZE, Ram};
-use machine::{DeviceState, Shape};
+use machine::{DeviceState, Disk, SECTOR_SIZE, Shape};
 use sha2::{Digest, Sha256};
 use std::alloc::Global;
 use wire::{DecodeError, decode_device, u8_at, u32_at};
@@ -20,15 +27,27 @@ use wire::{DecodeError, decode_device, u8_at, u32_at};
 /// The most bytes that a body may have.
 const BODY_MAX: usize = 131_072;
 
-/// What was taken of a stream: the devices that there are to be, the pages, which of them were named, how many rounds
-/// ended, and the devices that came.
+/// What was taken of a stream: the devices that there are to be, the pages, the marks of the bad sectors of each disk, how
+/// many rounds ended, and the devices that came. The good sectors went to the disks.
+///
+/// `named` has a mark for each item in the order of their numbers, and `firsts` the number of the first sector of each
+/// device.
 #[derive(Drop)]
 pub struct Intake {
     pub shapes: Vec<Shape>,
     pub ram: Ram,
     pub named: Vec<bool>,
+    pub firsts: Vec<u32>,
+    pub bad: Vec<BitSet>,
     pub rounds: u32,
     pub devices: Vec<DeviceState>,
+}
+
+/// Where a sector is: the place of its disk among the disks, and the number of the item.
+#[derive(Clone, Copy)]
+struct Spot {
+    disk: usize,
+    item: usize,
 }
 
 /// Whether a record of this tag may stand behind so many devices of so many.
@@ -38,7 +57,7 @@ fn may_stand(count: usize, devices: usize, tag: u8) -> bool
     1 <= tag && tag <= 5 && (tag > 3 || devices == 0) && (tag != 4 || devices < count)
 }
 
-/// Whether each page is named.
+/// Whether each item is named.
 fn is_named(named: &[bool]) -> bool
     ensures { IsTrue result ↔ All (λ b. b ≡ true) named.now }
 {
@@ -47,7 +66,7 @@ fn is_named(named: &[bool]) -> bool
 
 /// Whether a record of this tag may stand here.
 fn check_tag(intake: &Intake, tag: u8) -> Result<(), RecvError>
-    ensures { (sizes front more : List ℕ) (pages : ℕ) (shapes : List shapes.Shape) (before : List records.Record) → HasRead sizes pages shapes before intake.now front → Checked pages shapes before tag more result }
+    ensures { (ds : List DiskState) (front more : List ℕ) (pages : ℕ) (shapes : List shapes.Shape) (before : List records.Record) → HasRead ds pages shapes before intake.now front → Checked pages shapes before tag more result }
 {
     if !may_stand(intake.shapes.len(), intake.devices.len(), tag) {
         return Err(RecvError::BadTag);
@@ -72,7 +91,7 @@ fn take_page(intake: &mut Intake, number: u32, bytes: &[u8])
     requires within { 4096 * number + 4096 ≤ length intake.old.ram.bytes }
     requires marked { number < length intake.old.named.items }
     requires spells { HasSpelling (page number bytes.now) }
-    ensures { (sizes front : List ℕ) (pages : ℕ) (shapes : List shapes.Shape) (before : List records.Record) → HasRead sizes pages shapes before intake.old front → devices_in before ≡ 0 → HasRead sizes pages shapes (before ++ page number bytes.now ∷ []) intake.new (front ++ spelled_record (page number bytes.now)) }
+    ensures { (ds : List DiskState) (front : List ℕ) (pages : ℕ) (shapes : List shapes.Shape) (before : List records.Record) → HasRead ds pages shapes before intake.old front → devices_in before ≡ 0 → HasRead ds pages shapes (before ++ page number bytes.now ∷ []) intake.new (front ++ spelled_record (page number bytes.now)) }
 {
     intake
         .ram
@@ -84,7 +103,7 @@ fn take_page(intake: &mut Intake, number: u32, bytes: &[u8])
 fn page_part(intake: &mut Intake, rest: &[u8]) -> Result<Part, RecvError>
     ensures room { IfOk result (λ part. size_of part ≤ 1 + length rest.now) }
     ensures some { IfOk result (λ part. IsLong part) }
-    ensures after { (sizes front : List ℕ) (pages : ℕ) (shapes : List shapes.Shape) (before : List records.Record) → HasRead sizes pages shapes before intake.old front → Opens pages shapes before (1 ∷ rest.now) 1 rest.now → After sizes pages shapes before intake.new front (1 ∷ rest.now) result }
+    ensures after { (ds : List DiskState) (front : List ℕ) (pages : ℕ) (shapes : List shapes.Shape) (before : List records.Record) → HasRead ds pages shapes before intake.old front → Opens pages shapes before (1 ∷ rest.now) 1 rest.now → After ds ds pages shapes before intake.new front (1 ∷ rest.now) result }
 {
     if rest.len() < 4 {
         return Ok(Part::Wait);
@@ -106,23 +125,128 @@ fn page_part(intake: &mut Intake, rest: &[u8]) -> Result<Part, RecvError>
     Ok(Part::Record(5 + PAGE_SIZE))
 }
 
-/// Takes a sector's record, whose tag was seen: no device has a disk.
-fn sector_part(intake: &mut Intake, rest: &[u8]) -> Result<Part, RecvError>
+/// How many of the devices before a place have a disk.
+fn disks_before(shapes: &[Shape], place: usize) -> usize
+    requires { place ≤ length shapes.now }
+    ensures { result ≡ disks_before shapes.now place }
+{
+    let (before, _) = shapes.split_at(place);
+    before.iter().filter(|shape| shape.sectors() > 0).count()
+}
+
+/// Where the sector of a device is, if the device has it.
+fn find_sector<D: Disk>(intake: &Intake, disks: &[D], dev: u8, number: u32) -> Option<Spot>
+    ensures marked { IfSome result (λ spot. HasMarks intake.now number spot) }
+    ensures there { IfSome result (λ spot. HasSector (sizes_of D.state disks.now) spot.disk number) }
+    ensures found { (front : List ℕ) (pages : ℕ) (shapes : List shapes.Shape) (before : List records.Record) → HasRead (map D.state disks.now) pages shapes before intake.now front
+        → MatchOption result (¬ (IsItemIn (layout_by pages shapes) (items.sector dev number))) (λ spot. IsSpotOf pages shapes dev number spot) }
+{
+    let place = dev as usize;
+    if place >= intake.shapes.len() {
+        return None;
+    }
+    if number as u64 >= intake.shapes[place].sectors() {
+        return None;
+    }
+    let disk = disks_before(&intake.shapes, place);
+    // First numbers, marks and disks are those of these devices.
+    if place >= intake.firsts.len() {
+        return None;
+    }
+    let item = intake.firsts[place] as usize + number as usize;
+    if item >= intake.named.len() {
+        return None;
+    }
+    if disk >= intake.bad.len() {
+        return None;
+    }
+    if number as u64 >= intake.bad[disk].len() {
+        return None;
+    }
+    if disk >= disks.len() {
+        return None;
+    }
+    if number as u64 >= disks[disk].sectors() {
+        return None;
+    }
+    Some(Spot { disk, item })
+}
+
+/// Marks a sector as bad, as its record says.
+fn take_bad(intake: &mut Intake, spot: Spot, dev: u8, number: u32)
+    requires { HasMarks intake.old number spot }
+    ensures { (ds : List DiskState) (front : List ℕ) (pages : ℕ) (shapes : List shapes.Shape) (before : List records.Record) → HasRead ds pages shapes before intake.old front → devices_in before ≡ 0 → IsSpotOf pages shapes dev number spot
+        → HasRead ds pages shapes (before ++ sector dev number None ∷ []) intake.new (front ++ spelled_record (sector dev number None)) }
+{
+    intake.bad[spot.disk].insert(number as u64);
+    intake.named[spot.item] = true;
+}
+
+/// Writes a sector to its disk, as its record says. It is good from now on.
+fn take_good<D: Disk>(
+    intake: &mut Intake,
+    disks: &mut [D],
+    spot: Spot,
+    dev: u8,
+    number: u32,
+    bytes: &[u8; SECTOR_SIZE],
+) -> Result<(), RecvError>
+    requires marked { HasMarks intake.old number spot }
+    requires there { HasSector (sizes_of D.state disks.old) spot.disk number }
+    ensures { (front : List ℕ) (pages : ℕ) (shapes : List shapes.Shape) (before : List records.Record) → HasRead (map D.state disks.old) pages shapes before intake.old front → devices_in before ≡ 0 → IsSpotOf pages shapes dev number spot
+        → Taking (map D.state disks.old) (map D.state disks.new) pages shapes before intake.new front (sector dev number (Some bytes.now)) result }
+{
+    match disks[spot.disk].write(number as u64, bytes) {
+        Ok(()) => {}
+        Err(_) => return Err(RecvError::DiskFailed),
+    }
+    intake.bad[spot.disk].remove(number as u64);
+    intake.named[spot.item] = true;
+    Ok(())
+}
+
+/// Takes a sector's record, whose tag was seen: a good one goes to its disk.
+fn sector_part<D: Disk>(
+    intake: &mut Intake,
+    disks: &mut [D],
+    rest: &[u8],
+) -> Result<Part, RecvError>
     ensures room { IfOk result (λ part. size_of part ≤ 1 + length rest.now) }
     ensures some { IfOk result (λ part. IsLong part) }
-    ensures after { (sizes front : List ℕ) (pages : ℕ) (shapes : List shapes.Shape) (before : List records.Record) → HasRead sizes pages shapes before intake.old front → Opens pages shapes before (2 ∷ rest.now) 2 rest.now → After sizes pages shapes before intake.new front (2 ∷ rest.now) result }
+    ensures after { (front : List ℕ) (pages : ℕ) (shapes : List shapes.Shape) (before : List records.Record) → HasRead (map D.state disks.old) pages shapes before intake.old front → Opens pages shapes before (2 ∷ rest.now) 2 rest.now
+        → After (map D.state disks.old) (map D.state disks.new) pages shapes before intake.new front (2 ∷ rest.now) result }
 {
     if rest.len() < 6 {
         return Ok(Part::Wait);
     }
-    Err(RecvError::BadSector)
+    let dev = u8_at(rest, 0);
+    let number = u32_at(rest, 1);
+    let good = u8_at(rest, 5);
+    let Some(spot) = find_sector(intake, disks, dev, number) else {
+        return Err(RecvError::BadSector);
+    };
+    if good > 1 {
+        return Err(RecvError::BadSector);
+    }
+    if good == 0 {
+        take_bad(intake, spot, dev, number);
+        return Ok(Part::Record(7));
+    }
+    let (_, behind) = rest.split_at(6);
+    let Some(bytes) = behind.first_chunk::<SECTOR_SIZE>() else {
+        return Ok(Part::Wait);
+    };
+    if let Err(error) = take_good(intake, disks, spot, dev, number, bytes) {
+        return Err(error);
+    }
+    Ok(Part::Record(7 + SECTOR_SIZE))
 }
 
 /// Takes the record of a round's end, whose tag was seen.
 fn round_part(intake: &mut Intake, rest: &[u8]) -> Result<Part, RecvError>
     ensures room { IfOk result (λ part. size_of part ≤ 1 + length rest.now) }
     ensures some { IfOk result (λ part. IsLong part) }
-    ensures after { (sizes front : List ℕ) (pages : ℕ) (shapes : List shapes.Shape) (before : List records.Record) → HasRead sizes pages shapes before intake.old front → Opens pages shapes before (3 ∷ rest.now) 3 rest.now → After sizes pages shapes before intake.new front (3 ∷ rest.now) result }
+    ensures after { (ds : List DiskState) (front : List ℕ) (pages : ℕ) (shapes : List shapes.Shape) (before : List records.Record) → HasRead ds pages shapes before intake.old front → Opens pages shapes before (3 ∷ rest.now) 3 rest.now → After ds ds pages shapes before intake.new front (3 ∷ rest.now) result }
 {
     if rest.len() < 4 {
         return Ok(Part::Wait);
@@ -142,7 +266,7 @@ fn round_part(intake: &mut Intake, rest: &[u8]) -> Result<Part, RecvError>
 fn device_part(alloc: Global, intake: &mut Intake, rest: &[u8]) -> Result<Part, RecvError>
     ensures room { IfOk result (λ part. size_of part ≤ 1 + length rest.now) }
     ensures some { IfOk result (λ part. IsLong part) }
-    ensures after { (sizes front : List ℕ) (pages : ℕ) (shapes : List shapes.Shape) (before : List records.Record) → HasRead sizes pages shapes before intake.old front → Opens pages shapes before (4 ∷ rest.now) 4 rest.now → After sizes pages shapes before intake.new front (4 ∷ rest.now) result }
+    ensures after { (ds : List DiskState) (front : List ℕ) (pages : ℕ) (shapes : List shapes.Shape) (before : List records.Record) → HasRead ds pages shapes before intake.old front → Opens pages shapes before (4 ∷ rest.now) 4 rest.now → After ds ds pages shapes before intake.new front (4 ∷ rest.now) result }
 {
     if rest.len() < 5 {
         return Ok(Part::Wait);
@@ -195,7 +319,7 @@ fn is_digest(front: &[u8], digest: &[u8]) -> bool
 fn commit_part(intake: &mut Intake, front: &[u8], rest: &[u8]) -> Result<Part, RecvError>
     ensures room { IfOk result (λ part. size_of part ≤ 1 + length rest.now) }
     ensures some { IfOk result (λ part. IsLong part) }
-    ensures after { (sizes : List ℕ) (pages : ℕ) (shapes : List shapes.Shape) (before : List records.Record) → HasRead sizes pages shapes before intake.old front.now → Opens pages shapes before (5 ∷ rest.now) 5 rest.now → After sizes pages shapes before intake.new front.now (5 ∷ rest.now) result }
+    ensures after { (ds : List DiskState) (pages : ℕ) (shapes : List shapes.Shape) (before : List records.Record) → HasRead ds pages shapes before intake.old front.now → Opens pages shapes before (5 ∷ rest.now) 5 rest.now → After ds ds pages shapes before intake.new front.now (5 ∷ rest.now) result }
 {
     if rest.len() < 32 {
         return Ok(Part::Wait);
@@ -208,15 +332,17 @@ fn commit_part(intake: &mut Intake, front: &[u8], rest: &[u8]) -> Result<Part, R
 }
 
 /// Takes the record at the front of the rest, where it is whole.
-fn take_part(
+fn take_part<D: Disk>(
     alloc: Global,
     intake: &mut Intake,
+    disks: &mut [D],
     front: &[u8],
     rest: &[u8],
 ) -> Result<Part, RecvError>
     ensures room { IfOk result (λ part. size_of part ≤ length rest.now) }
     ensures some { IfOk result (λ part. IsLong part) }
-    ensures after { (sizes : List ℕ) (pages : ℕ) (shapes : List shapes.Shape) (before : List records.Record) → HasRead sizes pages shapes before intake.old front.now → After sizes pages shapes before intake.new front.now rest.now result }
+    ensures after { (pages : ℕ) (shapes : List shapes.Shape) (before : List records.Record) → HasRead (map D.state disks.old) pages shapes before intake.old front.now
+        → After (map D.state disks.old) (map D.state disks.new) pages shapes before intake.new front.now rest.now result }
 {
     let Some((tag, rest)) = rest.split_first() else {
         return Ok(Part::Wait);
@@ -226,7 +352,7 @@ fn take_part(
     }
     match *tag {
         1 => page_part(intake, rest),
-        2 => sector_part(intake, rest),
+        2 => sector_part(intake, disks, rest),
         3 => round_part(intake, rest),
         4 => device_part(alloc, intake, rest),
         _ => commit_part(intake, front, rest),
@@ -234,20 +360,22 @@ fn take_part(
 }
 
 /// Works off the whole records from a place on, and says up to where, and whether the last is the digest.
-pub fn work_off(
+pub fn work_off<D: Disk>(
     alloc: Global,
     intake: &mut Intake,
+    disks: &mut [D],
     held: &[u8],
     from: usize,
 ) -> Result<(usize, bool), RecvError>
     requires { from ≤ length held.now }
     ensures room { IfOk result (λ x. x.0 ≤ length held.now) }
-    ensures worked { (sizes : List ℕ) (pages : ℕ) (shapes : List shapes.Shape) (before : List records.Record) → HasRead sizes pages shapes before intake.old (take from held.now) → Worked sizes pages shapes intake.new held.now result }
+    ensures worked { (pages : ℕ) (shapes : List shapes.Shape) (before : List records.Record) → HasRead (map D.state disks.old) pages shapes before intake.old (take from held.now)
+        → Worked (map D.state disks.old) (map D.state disks.new) pages shapes intake.new held.now result }
 {
     let mut at = from;
     while at < held.len() {
         let (front, rest) = held.split_at(at);
-        match take_part(alloc, intake, front, rest) {
+        match take_part(alloc, intake, disks, front, rest) {
             Err(error) => return Err(error),
             Ok(Part::Wait) => return Ok((at, false)),
             Ok(Part::Record(len)) => at += len,

@@ -1,6 +1,7 @@
 //! A receiver that is fed a stream in pieces.
 
-ghost use Rattle.std.specs.Prelude.{◌≡◌};
+ghost use Rattle.std.specs.Prelude.{◌≡◌, All, map};
+ghost use Rattle.blk.specs.Disk.{AreSectors};
 ghost use Rattle.receiver.specs.Receiving.{has_failed, rounds_in};
 
 use crate::intake::Intake;
@@ -24,27 +25,32 @@ pub struct Receiver<D: Disk> {
 }
 
 impl<D: Disk> Model for Receiver<D> {
-    ghost use Rattle.receiver.specs.Receiving.{IsKnown, Received, has_failed, rounds_in, sizes_of};
+    ghost use Rattle.std.specs.Prelude.{map};
+    ghost use Rattle.receiver.specs.Disks.{disk_marks_of, sizes_of};
+    ghost use Rattle.receiver.specs.Receiving.{IsKnown, Received, has_failed, rounds_in};
 
     ghost Value = { Received };
 
-    ghost view = { λ r. record { sizes = sizes_of D.state r.disks.items; bytes = r.held.items; rounds = rounds_in r.stage; failed = has_failed r.stage } };
+    ghost view = { λ r. record { sizes = sizes_of D.state r.disks.items; marks = disk_marks_of D.state r.disks.items; bytes = r.held.items; rounds = rounds_in r.stage; failed = has_failed r.stage } };
 
-    ghost invariant = { λ r. IsKnown (sizes_of D.state r.disks.items) r.held.items r.at r.stage };
+    ghost invariant = { λ r. IsKnown (map D.state r.disks.items) r.held.items r.at r.stage };
 }
 
 impl<D: Disk + Drop> Receiver<D> {
     ghost use Rattle.std.specs.Prelude.{◌≡◌, ◌++◌, [], ℕ, List, IfOk, IfErr, OnOk, OnErr, Err, true, false};
-    ghost use Rattle.machine.specs.Seen.{state_of};
+    ghost use Rattle.machine.specs.First.{dealt_marks};
+    ghost use Rattle.machine.specs.Seen.{all_marks, state_of};
     ghost use Rattle.machine.specs.Shapes.{disk_sizes};
     ghost use Rattle.wire.specs.Stream.{IsStream, shapes_in};
     ghost use Rattle.receiver.specs.declared.recv_error.RecvError.TheVariants as errors;
-    ghost use Rattle.receiver.specs.Receiving.{HasBeenFed, NoFault, IsFinish, HasRounds, TellsNow, sizes_of};
+    ghost use Rattle.receiver.specs.Disks.{AreHonestDisks, MarksAfter, disk_marks_of, sizes_of};
+    ghost use Rattle.receiver.specs.Receiving.{HasBeenFed, NoFault, IsFinish, HasRounds, TellsNow};
 
     /// A receiver that was fed nothing, with these disks. It takes no memory.
     pub fn new(alloc: Global, disks: Vec<D>) -> Receiver<D>
         ensures fed { HasBeenFed result [] }
         ensures sizes { result.sizes ≡ sizes_of D.state disks.items }
+        ensures marks { result.marks ≡ disk_marks_of D.state disks.items }
     {
         Receiver {
             alloc,
@@ -55,9 +61,10 @@ impl<D: Disk + Drop> Receiver<D> {
         }
     }
 
-    /// Takes the next piece.
+    /// Takes the next piece. The good sectors in it go to the disks. `DiskFailed` is answered exactly where a disk failed.
     pub fn feed(&mut self, piece: &[u8]) -> Result<(), RecvError>
         ensures sizes { self.new.sizes ≡ self.old.sizes }
+        ensures marks { MarksAfter self.old.marks result self.new.marks }
         ensures fed { OnOk result ((b : List ℕ) → HasBeenFed self.old b → HasBeenFed self.new (b ++ piece.now)) }
         ensures quiet { OnOk result ((b : List ℕ) → HasBeenFed self.old b → NoFault self.old.sizes (b ++ piece.now)) }
         ensures told { IfErr result (λ e. (b : List ℕ) → HasBeenFed self.old b → TellsNow self.old.sizes b piece.now e) }
@@ -72,7 +79,7 @@ impl<D: Disk + Drop> Receiver<D> {
             return Err(RecvError::NoMemory);
         }
         let stage = mem::replace(&mut self.stage, Stage::Failed);
-        match step(self.alloc, &self.disks, &self.held, self.at, stage) {
+        match step(self.alloc, &mut self.disks, &self.held, self.at, stage) {
             Ok((at, stage)) => {
                 self.at = at;
                 self.stage = stage;
@@ -90,9 +97,10 @@ impl<D: Disk + Drop> Receiver<D> {
         rounds_of(&self.stage)
     }
 
-    /// The machine whose stream was fed.
+    /// The machine whose stream was fed. A refusal drops the disks.
     pub fn finish(self) -> Result<Machine<D>, RecvError>
-        ensures received { IfOk result (λ m. (b : List ℕ) → HasBeenFed self b → IsStream b (state_of m)) }
+        ensures received { IfOk result (λ m. AreHonestDisks self.marks → (b : List ℕ) → HasBeenFed self b → IsStream b (state_of m)) }
+        ensures marks { IfOk result (λ m. all_marks m ≡ dealt_marks (shapes_in (state_of m).devices) self.marks) }
         ensures fits { IfOk result (λ m. self.sizes ≡ disk_sizes (shapes_in (state_of m).devices)) }
         ensures refused { IfErr result (λ e. (b : List ℕ) → HasBeenFed self b → IsFinish b e) }
         ensures already { self.failed ≡ true → result ≡ Err errors.AlreadyFailed }
@@ -105,17 +113,20 @@ impl<D: Disk + Drop> Receiver<D> {
             stage,
         } = self;
         recall_bytes(&held);
+        recall_disks(&disks);
         match stage {
             Stage::Ended(intake) => {
                 let Intake {
                     shapes,
                     ram,
                     named: _,
+                    firsts: _,
+                    bad,
                     rounds: _,
                     devices,
                 } = intake;
                 ram.recall();
-                match Machine::restore(alloc, ram, shapes, devices, disks) {
+                match Machine::restore(alloc, ram, shapes, devices, disks, bad) {
                     Ok(machine) => Ok(machine),
                     Err(_) => Err(RecvError::NoMemory),
                 }
@@ -124,6 +135,15 @@ impl<D: Disk + Drop> Receiver<D> {
             Stage::Records(_) => Err(RecvError::Truncated),
             Stage::Head => Err(RecvError::Truncated),
         }
+    }
+}
+
+/// Tells a proof that each sector of the disks has 512 bytes (see the page of `guestmem`).
+fn recall_disks<D: Disk>(disks: &[D])
+    ensures { All (λ d. AreSectors d.sectors) (map D.state disks.now) }
+{
+    for disk in disks {
+        let _count = disk.sectors();
     }
 }
 

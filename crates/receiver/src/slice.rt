@@ -1,10 +1,12 @@
 //! A whole stream in one slice.
 
 ghost use Rattle.std.specs.Prelude.{◌≡◌, IfOk, IfErr};
-ghost use Rattle.machine.specs.Seen.{state_of};
+ghost use Rattle.machine.specs.First.{dealt_marks};
+ghost use Rattle.machine.specs.Seen.{all_marks, state_of};
 ghost use Rattle.machine.specs.Shapes.{disk_sizes};
 ghost use Rattle.wire.specs.Stream.{shapes_in};
-ghost use Rattle.receiver.specs.Receiving.{IsReceived, RefusesSlice, sizes_of};
+ghost use Rattle.receiver.specs.Disks.{AreHonestDisks, disk_marks_of, sizes_of};
+ghost use Rattle.receiver.specs.Receiving.{IsReceived, RefusesSlice};
 
 use crate::receiver::Receiver;
 use crate::recv_error::RecvError;
@@ -18,9 +20,10 @@ pub fn receive<D: Disk + Drop>(
     bytes: &[u8],
     disks: Vec<D>,
 ) -> Result<(Machine<D>, u32), RecvError>
-    ensures received { IfOk result (λ x. IsReceived bytes.now (state_of x.0) x.1) }
+    ensures received { IfOk result (λ x. AreHonestDisks (disk_marks_of D.state disks.items) → IsReceived bytes.now (state_of x.0) x.1) }
+    ensures marks { IfOk result (λ x. all_marks x.0 ≡ dealt_marks (shapes_in (state_of x.0).devices) (disk_marks_of D.state disks.items)) }
     ensures fits { IfOk result (λ x. sizes_of D.state disks.items ≡ disk_sizes (shapes_in (state_of x.0).devices)) }
-    ensures refused { IfErr result (λ e. RefusesSlice (sizes_of D.state disks.items) bytes.now e) }
+    ensures refused { IfErr result (λ e. RefusesSlice (sizes_of D.state disks.items) (disk_marks_of D.state disks.items) bytes.now e) }
 {
     let mut receiver = Receiver::new(alloc, disks);
     if let Err(error) = receiver.feed(bytes) {

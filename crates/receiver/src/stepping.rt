@@ -1,51 +1,113 @@
 //! From one stage to the next.
 
-ghost use Rattle.std.specs.Prelude.{◌≡◌, ◌≤◌, ◌++◌, [], ℕ, List, IfOk, take, length};
-ghost use Rattle.wire.specs.Header.{header, Begins};
+ghost use Rattle.std.specs.Prelude.{◌≡◌, ◌≤◌, ◌++◌, ◌↔◌, [], ℕ, List, IfOk, IsTrue, All, false, map, replicate, take, length};
+ghost use Rattle.blk.specs.Disk.{DiskState};
+ghost use Rattle.wire.specs.Header.{header, Begins, IsHeader};
 ghost use Rattle.wire.specs.Records as records;
+ghost use Rattle.machine.specs.Layout.{firsts_of, layout_by, size_of};
+ghost use Rattle.machine.specs.Sound.{IsSoundShape};
 ghost use Rattle.machine.specs.declared.shape.Shape as shapes;
 ghost use Rattle.machine.specs.Shapes.{disk_sizes};
+ghost use Rattle.receiver.specs.Disks.{sizes_in, sizes_of};
 ghost use Rattle.receiver.specs.Fed.{HasRead};
-ghost use Rattle.receiver.specs.Receiving.{IsKnown, GoesOn, Stepped, sizes_of};
+ghost use Rattle.receiver.specs.Receiving.{IsKnown, GoesOn, Stepped};
 
 use crate::heading::read_heading;
 use crate::intake::{Intake, work_off};
 use crate::recv_error::RecvError;
 use crate::stage::Stage;
+use dirtylog::BitSet;
 use guestmem::{NoMemory, Ram};
 use machine::{Disk, Shape};
 use std::alloc::Global;
 
-/// An intake that has taken a header.
-fn new_intake(alloc: Global, pages: u32, shapes: Vec<Shape>) -> Result<Intake, NoMemory>
-    requires some { 1 ≤ pages }
-    requires few { pages ≤ 16384 }
-    ensures { IfOk result (λ i. (sizes : List ℕ) (bytes rest : List ℕ) → Begins bytes pages shapes.items rest → sizes ≡ disk_sizes shapes.items → HasRead sizes pages shapes.items [] i (header pages shapes.items)) }
+/// The number of the first sector of each device, and how many items there are.
+fn number_items(alloc: Global, pages: u32, shapes: &[Shape]) -> Result<(Vec<u32>, u32), NoMemory>
+    requires { IsHeader pages shapes.now }
+    ensures { IfOk result (λ x. (x.0.items ≡ firsts_of (layout_by pages shapes.now)) × (x.1 ≡ size_of (layout_by pages shapes.now))) }
 {
+    let mut firsts = Vec::with_capacity(alloc, shapes.len())?;
+    let mut first = pages;
+    for shape in shapes {
+        firsts.push(first)?;
+        first += shape.sectors() as u32;
+    }
+    Ok((firsts, first))
+}
+
+/// A mark for each sector of each disk, which is not set.
+fn new_marks<D: Disk>(alloc: Global, disks: &[D]) -> Result<Vec<BitSet>, NoMemory>
+    ensures { IfOk result (λ bad. bad.items ≡ map (λ n. replicate n false) (sizes_of D.state disks.now)) }
+{
+    let mut bad = Vec::with_capacity(alloc, disks.len())?;
+    for disk in disks {
+        let marks = BitSet::new(alloc, disk.sectors())?;
+        bad.push(marks)?;
+    }
+    Ok(bad)
+}
+
+/// An intake that has taken a header.
+fn new_intake<D: Disk>(
+    alloc: Global,
+    disks: &[D],
+    pages: u32,
+    shapes: Vec<Shape>,
+) -> Result<Intake, NoMemory>
+    requires { IsHeader pages shapes.items }
+    ensures { IfOk result (λ i. (bytes rest : List ℕ) → Begins bytes pages shapes.items rest → sizes_of D.state disks.now ≡ disk_sizes shapes.items → HasRead (map D.state disks.now) pages shapes.items [] i (header pages shapes.items)) }
+{
+    let (firsts, count) = number_items(alloc, pages, &shapes)?;
+    let bad = new_marks(alloc, disks)?;
     let ram = Ram::new(alloc, pages)?;
-    let named = vec![in alloc; false; pages as usize]?;
+    let named = vec![in alloc; false; count as usize]?;
     let devices = Vec::new(alloc);
     Ok(Intake {
         shapes,
         ram,
         named,
+        firsts,
+        bad,
         rounds: 0,
         devices,
     })
 }
 
+/// Whether these are the disks of the devices that have one, in their order.
+fn are_disks_of<D: Disk>(shapes: &[Shape], disks: &[D]) -> bool
+    requires { All IsSoundShape shapes.now }
+    ensures { IsTrue result ↔ (sizes_of D.state disks.now ≡ disk_sizes shapes.now) }
+{
+    let mut rest = disks;
+    for shape in shapes {
+        let size = shape.sectors();
+        if size == 0 {
+            continue;
+        }
+        let Some((disk, others)) = rest.split_first() else {
+            return false;
+        };
+        if disk.sectors() != size {
+            return false;
+        }
+        rest = others;
+    }
+    rest.is_empty()
+}
+
 /// Takes the whole records that stand from a place on.
-fn advance(
+fn advance<D: Disk>(
     alloc: Global,
     intake: Intake,
+    disks: &mut [D],
     held: &[u8],
     from: usize,
 ) -> Result<(usize, Stage), RecvError>
     requires { from ≤ length held.now }
-    ensures { (sizes : List ℕ) (pages : ℕ) (shapes : List shapes.Shape) (before : List records.Record) → HasRead sizes pages shapes before intake (take from held.now) → Stepped sizes held.now result }
+    ensures { (pages : ℕ) (shapes : List shapes.Shape) (before : List records.Record) → HasRead (map D.state disks.old) pages shapes before intake (take from held.now) → Stepped (map D.state disks.old) (map D.state disks.new) held.now result }
 {
     let mut intake = intake;
-    match work_off(alloc, &mut intake, held, from) {
+    match work_off(alloc, &mut intake, disks, held, from) {
         Ok((at, true)) => Ok((at, Stage::Ended(intake))),
         Ok((at, false)) => Ok((at, Stage::Records(intake))),
         Err(error) => Err(error),
@@ -53,38 +115,38 @@ fn advance(
 }
 
 /// Reads the header, where it is whole, and the whole records behind it.
-fn begin<D: Disk>(alloc: Global, disks: &[D], held: &[u8]) -> Result<(usize, Stage), RecvError>
-    ensures { Stepped (sizes_of D.state disks.now) held.now result }
+fn begin<D: Disk>(alloc: Global, disks: &mut [D], held: &[u8]) -> Result<(usize, Stage), RecvError>
+    ensures { Stepped (map D.state disks.old) (map D.state disks.new) held.now result }
 {
     let heading = match read_heading(alloc, held) {
         Ok(Some(heading)) => heading,
         Ok(None) => return Ok((0, Stage::Head)),
         Err(error) => return Err(error),
     };
-    if !disks.is_empty() {
+    if !are_disks_of(&heading.shapes, disks) {
         return Err(RecvError::ShapeMismatch);
     }
-    let Ok(intake) = new_intake(alloc, heading.pages, heading.shapes) else {
+    let Ok(intake) = new_intake(alloc, disks, heading.pages, heading.shapes) else {
         return Err(RecvError::NoMemory);
     };
-    advance(alloc, intake, held, heading.len)
+    advance(alloc, intake, disks, held, heading.len)
 }
 
 /// Goes on with the bytes held, a piece more than before.
 pub fn step<D: Disk>(
     alloc: Global,
-    disks: &[D],
+    disks: &mut [D],
     held: &[u8],
     at: usize,
     stage: Stage,
 ) -> Result<(usize, Stage), RecvError>
     requires goes_on { GoesOn stage }
     requires within { at ≤ length held.now }
-    ensures { (old piece : List ℕ) → held.now ≡ old ++ piece → IsKnown (sizes_of D.state disks.now) old at stage → Stepped (sizes_of D.state disks.now) held.now result }
+    ensures { (old piece : List ℕ) → held.now ≡ old ++ piece → IsKnown (map D.state disks.old) old at stage → Stepped (map D.state disks.old) (map D.state disks.new) held.now result }
 {
     match stage {
         Stage::Head => begin(alloc, disks, held),
-        Stage::Records(intake) => advance(alloc, intake, held, at),
+        Stage::Records(intake) => advance(alloc, intake, disks, held, at),
         Stage::Ended(intake) => {
             if at < held.len() {
                 return Err(RecvError::Trailing);

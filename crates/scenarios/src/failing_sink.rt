@@ -1,8 +1,9 @@
 //! A writer that fails at any byte of a stream.
 
+use crate::disks::TestDisk;
 use crate::stream::saved;
 use anyhow::{Result, ensure};
-use machine::{Machine, MemDisk, Shape};
+use machine::{Machine, Shape};
 use sender::{MigError, save};
 use std::alloc::Global;
 use std::io::BufWriter;
@@ -20,7 +21,7 @@ pub fn fails(alloc: Global) -> Result<()> {
     flush_fails(alloc)
 }
 
-fn fresh_machine(alloc: Global) -> Result<Machine<MemDisk>> {
+fn fresh_machine(alloc: Global) -> Result<Machine<TestDisk>> {
     Ok(Machine::new(alloc, 1, &[Shape::Entropy], Vec::new(alloc))?)
 }
 
@@ -38,7 +39,7 @@ fn write_fails(alloc: Global) -> Result<()> {
 
 fn fails_after(
     alloc: Global,
-    machine: &mut Machine<MemDisk>,
+    machine: &mut Machine<TestDisk>,
     stream: &[u8],
     room: usize,
 ) -> Result<()> {
@@ -52,7 +53,7 @@ fn fails_after(
     Ok(())
 }
 
-fn is_saved_again(alloc: Global, machine: &mut Machine<MemDisk>, stream: &[u8]) -> Result<()> {
+fn is_saved_again(alloc: Global, machine: &mut Machine<TestDisk>, stream: &[u8]) -> Result<()> {
     let again = saved(alloc, machine)?;
     ensure!(again.as_slice() == stream, "another stream");
     Ok(())
@@ -67,7 +68,7 @@ fn flush_fails(alloc: Global) -> Result<()> {
 
 fn ends_at_the_flush(
     alloc: Global,
-    machine: &mut Machine<MemDisk>,
+    machine: &mut Machine<TestDisk>,
     room: usize,
     code: u8,
 ) -> Result<()> {

@@ -1,10 +1,11 @@
 //! Machines that are saved, received, and go on.
 
+use crate::disks::TestDisk;
 use crate::playing::{play, plays_on};
 use crate::stream::{arrived, saved};
 use anyhow::{Context, Result, ensure};
 use books::{Script, spelled};
-use machine::{Machine, MemDisk};
+use machine::Machine;
 use std::alloc::Global;
 
 /// A journey: where a machine comes from, the stream that it is saved as, and a script that it plays after that.
@@ -51,13 +52,18 @@ impl<'t> Journey<'t> {
     }
 
     /// What a machine that is saved as this stream is saved as after it has played the script.
-    fn end(&self, alloc: Global, machine: &mut Machine<MemDisk>, stream: &[u8]) -> Result<Vec<u8>> {
+    fn end(
+        &self,
+        alloc: Global,
+        machine: &mut Machine<TestDisk>,
+        stream: &[u8],
+    ) -> Result<Vec<u8>> {
         is_saved_as(alloc, machine, stream)?;
         plays_on(alloc, machine, self.after)?;
         saved(alloc, machine)
     }
 
-    fn machine(&self, alloc: Global) -> Result<Machine<MemDisk>> {
+    fn machine(&self, alloc: Global) -> Result<Machine<TestDisk>> {
         match self.before.strip_prefix("rounds ") {
             Some(rest) => machine_of_rounds(alloc, rest),
             None => machine_of_script(alloc, self.before),
@@ -65,20 +71,20 @@ impl<'t> Journey<'t> {
     }
 }
 
-fn machine_of_rounds(alloc: Global, text: &str) -> Result<Machine<MemDisk>> {
+fn machine_of_rounds(alloc: Global, text: &str) -> Result<Machine<TestDisk>> {
     let (rounds, stream) = text.split_once('\n').context("no stream")?;
     let rounds = rounds.parse::<u32>()?;
     let stream = spelled(alloc, stream)?;
     arrived(alloc, stream.as_slice(), rounds)
 }
 
-fn machine_of_script(alloc: Global, text: &str) -> Result<Machine<MemDisk>> {
+fn machine_of_script(alloc: Global, text: &str) -> Result<Machine<TestDisk>> {
     let mut script = Script::new(alloc);
     script.add(text)?;
     play(alloc, &script)
 }
 
-fn is_saved_as(alloc: Global, machine: &mut Machine<MemDisk>, stream: &[u8]) -> Result<()> {
+fn is_saved_as(alloc: Global, machine: &mut Machine<TestDisk>, stream: &[u8]) -> Result<()> {
     let saved = saved(alloc, machine)?;
     ensure!(saved.as_slice() == stream, "another stream");
     Ok(())

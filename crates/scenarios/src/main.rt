@@ -5,10 +5,12 @@
 //! are machines that are saved and streams that are refused (`journey`, `refusal`).
 #![tactic(auto)]
 
+mod disks;
 mod failing_sink;
 mod journey;
 mod playing;
 mod refusal;
+mod sectors;
 mod stream;
 
 use anyhow::{Context, Result, bail};

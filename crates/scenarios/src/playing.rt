@@ -1,8 +1,10 @@
 //! Scripts, played.
 
+use crate::disks::{TestDisk, disks_of};
+use crate::sectors::write_sector;
 use anyhow::{Result, bail};
-use books::{Book, Scenario, Script};
-use machine::{Event, Machine, MemDisk};
+use books::{Book, Question, Scenario, Script};
+use machine::{Event, Machine};
 use std::alloc::Global;
 use std::io::Write;
 use traces::{Trace, parse, write_reply};
@@ -15,19 +17,20 @@ pub fn play_scenario(alloc: Global, book: &Book, scenario: &Scenario) -> Result<
 }
 
 /// The machine of a script after all its events, whose replies must be those of the script.
-pub fn play(alloc: Global, script: &Script) -> Result<Machine<MemDisk>> {
+pub fn play(alloc: Global, script: &Script) -> Result<Machine<TestDisk>> {
     let Trace {
         pages,
         shapes,
         events,
     } = parse(alloc, script.trace())?;
-    let mut machine = Machine::new(alloc, pages, shapes.as_slice(), Vec::new(alloc))?;
+    let disks = disks_of(alloc, script, shapes.as_slice())?;
+    let mut machine = Machine::new(alloc, pages, shapes.as_slice(), disks)?;
     agrees(alloc, &mut machine, script, events.as_slice())?;
     Ok(machine)
 }
 
 /// Plays lines of events on a machine that is there. The replies must be as they say.
-pub fn plays_on(alloc: Global, machine: &mut Machine<MemDisk>, lines: &str) -> Result<()> {
+pub fn plays_on(alloc: Global, machine: &mut Machine<TestDisk>, lines: &str) -> Result<()> {
     let mut script = Script::new(alloc);
     // A trace begins with a machine, which is not made here.
     script.add("ram 1\nentropy")?;
@@ -38,7 +41,7 @@ pub fn plays_on(alloc: Global, machine: &mut Machine<MemDisk>, lines: &str) -> R
 
 fn agrees(
     alloc: Global,
-    machine: &mut Machine<MemDisk>,
+    machine: &mut Machine<TestDisk>,
     script: &Script,
     events: &[Event],
 ) -> Result<()> {
@@ -51,16 +54,38 @@ fn agrees(
 
 fn replies_to(
     alloc: Global,
-    machine: &mut Machine<MemDisk>,
+    machine: &mut Machine<TestDisk>,
     script: &Script,
     events: &[Event],
 ) -> Result<Vec<u8>> {
     let mut replies = Vec::new(alloc);
+    answer_questions(machine, script, 0, &mut replies)?;
     for (at, event) in events.iter().enumerate() {
         write_reply(&machine.apply(event), &mut replies)?;
-        if script.asks_after(at.saturating_add(1)) {
-            writeln!(replies, "lines {}", machine.lines())?;
-        }
+        answer_questions(machine, script, at.saturating_add(1), &mut replies)?;
     }
     Ok(replies)
+}
+
+/// Answers what is asked after so many events.
+fn answer_questions(
+    machine: &mut Machine<TestDisk>,
+    script: &Script,
+    events: usize,
+    out: &mut Vec<u8>,
+) -> Result<()> {
+    for (asked, question) in script.questions() {
+        if *asked == events {
+            answer(machine, *question, out)?;
+        }
+    }
+    Ok(())
+}
+
+fn answer(machine: &mut Machine<TestDisk>, question: Question, out: &mut Vec<u8>) -> Result<()> {
+    match question {
+        Question::Lines => writeln!(out, "lines {}", machine.lines())?,
+        Question::Sector { dev, n } => write_sector(machine, dev, n, out)?,
+    }
+    Ok(())
 }

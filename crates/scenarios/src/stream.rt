@@ -1,13 +1,14 @@
 //! Streams of machines: how they are made and received.
 
+use crate::disks::{TestDisk, disks_for};
 use crate::journey::Journey;
 use crate::refusal::tells;
-use anyhow::{Result, ensure};
-use machine::{Machine, MemDisk};
+use anyhow::{Context, Result, ensure};
+use machine::Machine;
 use receiver::{Receiver, RecvError, receive};
 use sender::save;
 use std::alloc::Global;
-use wire::WriteSink;
+use wire::{WriteSink, decode_header};
 
 /// Lines with a line `saved as` are a journey; those of every other scenario are streams and what is told of them.
 pub fn show(alloc: Global, lines: &str) -> Result<()> {
@@ -21,21 +22,23 @@ pub fn show(alloc: Global, lines: &str) -> Result<()> {
 }
 
 /// The stream that a machine is saved as.
-pub fn saved(alloc: Global, machine: &mut Machine<MemDisk>) -> Result<Vec<u8>> {
+pub fn saved(alloc: Global, machine: &mut Machine<TestDisk>) -> Result<Vec<u8>> {
     let mut sink = WriteSink::new(Vec::new(alloc));
     save(machine, &mut sink)?;
     Ok(sink.into_inner())
 }
 
 /// The machine of a stream in which so many rounds ended.
-pub fn arrived(alloc: Global, stream: &[u8], rounds: u32) -> Result<Machine<MemDisk>> {
-    let (machine, ended) = receive(alloc, stream, Vec::new(alloc))?;
+pub fn arrived(alloc: Global, stream: &[u8], rounds: u32) -> Result<Machine<TestDisk>> {
+    let header = decode_header(alloc, stream)?.context("no header")?;
+    let disks = disks_for(alloc, header.shapes.as_slice())?;
+    let (machine, ended) = receive(alloc, stream, disks)?;
     ensure!(ended == rounds, "{ended} rounds ended");
     Ok(machine)
 }
 
 /// The number of the refusal of a stream beside these disks, or 0 where it is received.
-pub fn refusal_of(alloc: Global, stream: &[u8], disks: Vec<MemDisk>) -> u8 {
+pub fn refusal_of(alloc: Global, stream: &[u8], disks: Vec<TestDisk>) -> u8 {
     receive(alloc, stream, disks)
         .err()
         .map_or(0, RecvError::code)
@@ -46,7 +49,7 @@ pub fn refusal_of(alloc: Global, stream: &[u8], disks: Vec<MemDisk>) -> u8 {
 pub fn refusal_in_pieces(
     alloc: Global,
     stream: &[u8],
-    disks: Vec<MemDisk>,
+    disks: Vec<TestDisk>,
     size: usize,
 ) -> (u8, usize) {
     let mut receiver = Receiver::new(alloc, disks);

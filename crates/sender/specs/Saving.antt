@@ -1,8 +1,45 @@
--- What saving a machine answers.
-use Rattle.std.specs.Prelude.{ℕ}
+-- What sending parts of a machine answers, and what it leaves.
+use Rattle.std.specs.Prelude.{◌≡◌, ℕ, ◌+◌, ◌%◌, ◌^◌, ◌++◌, List, Bool, true, false, IsTrue, Option, Some, Result, Ok, Err, IfErr, OnOk, if◌then◌else◌}
+use Rattle.machine.specs.Applied.{IsGood}
+use Rattle.machine.specs.EffectLaws.{sector_on, sectors_on}
+use Rattle.machine.specs.Seen.{AreHonest, Marks, Seen, all_marks, failed_at, marks_at, state_of}
 use Rattle.sender.specs.declared.mig_error.MigError.{MigError}
-use Rattle.sender.specs.declared.mig_error.MigError.TheVariants.{StreamFailed}
+use Rattle.sender.specs.declared.mig_error.MigError.TheVariants.{DiskFailed, StreamFailed}
+use Rattle.wire.specs.Sinks.{SinkState, Takes}
 
 -- The number that stands for the reason why a machine is not sent.
 abbrev pub mig_code_of : MigError → ℕ
+mig_code_of (DiskFailed dev sector) = 3
 mig_code_of StreamFailed = 4
+
+-- Whether the writer failed.
+abbrev pub has_writer_failed : {A : Type 0} → Result A MigError → Bool
+has_writer_failed (Ok x) = false
+has_writer_failed (Err (DiskFailed dev sector)) = false
+has_writer_failed (Err StreamFailed) = true
+
+-- The marks of the disks after some of their sectors were read.
+abbrev pub marks_after : {A : Type 0} → List Marks → Result A MigError → List Marks
+marks_after marks (Ok x) = marks
+marks_after marks (Err (DiskFailed dev sector)) = failed_at marks dev
+marks_after marks (Err StreamFailed) = marks
+
+-- A failed disk is named with a sector that it has and that is not bad, and is not steady.
+abbrev pub IsNamed : Seen → MigError → Type 0
+IsNamed s (DiskFailed dev n) = ((marks_at (all_marks s) dev).steady ≡ false) × IsGood (sector_on (sectors_on (state_of s) dev) n)
+IsNamed s StreamFailed = Unit {0}
+
+-- A call that adds these bytes to a sink, and may read sectors for them. The machine is the same. The writer's count of
+-- failures rises exactly where the writer is said to have failed, and a disk's exactly where this disk is said to have. What
+-- was added are these bytes where the disks and the sink are honest.
+pub record Sends {A : Type 0} (old : Seen) (out : SinkState) (bytes : List ℕ) (result : Result A MigError) (new : Seen) (new_out : SinkState) : Type 0 where
+  pub memory : new.memory ≡ old.memory
+  pub state : state_of new ≡ state_of old
+  pub marks : all_marks new ≡ marks_after (all_marks old) result
+  pub named : IfErr result (λ e. IsNamed old e)
+  pub count : new_out.failures ≡ (if has_writer_failed result then (out.failures + 1) % 2 ^ 64 else out.failures)
+  pub holds : OnOk result (AreHonest old → IsTrue out.honest → IsTrue new_out.honest × (new_out.held ≡ out.held ++ bytes))
+
+-- The same, where what is kept of the bytes goes on meanwhile.
+abbrev pub TakesOn : {A : Type 0} → Seen → (List ℕ → Type 0) → List ℕ → Result A MigError → (List ℕ → Type 0) → Type 0
+TakesOn old has_taken bytes result has_taken_now = OnOk result (AreHonest old → Takes has_taken bytes has_taken_now)

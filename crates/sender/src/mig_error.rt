@@ -2,6 +2,7 @@
 
 ghost use Rattle.std.specs.Prelude.{◌≡◌};
 ghost use Rattle.sender.specs.Saving.{mig_code_of};
+ghost use Rattle.sender.specs.declared.mig_error.MigError.TheVariants as errors;
 
 use thiserror::Error;
 use wire::SinkFault;
@@ -9,6 +10,16 @@ use wire::SinkFault;
 /// Why a machine is not sent.
 #[derive(Clone, Copy, Debug, Drop, PartialEq, Eq, Error)]
 pub enum MigError {
+    /// The disk of a device failed as this sector was read from it.
+    #[error("the disk failed")]
+    DiskFailed {
+        /// The number of the device.
+        dev: u8,
+
+        /// The number of the sector on its disk.
+        sector: u32,
+    },
+
     /// The writer failed.
     #[error("the writer failed")]
     StreamFailed,
@@ -20,12 +31,15 @@ impl MigError {
         ensures { result ≡ mig_code_of self }
     {
         match self {
+            MigError::DiskFailed { .. } => 3,
             MigError::StreamFailed => 4,
         }
     }
 }
 
 impl From<SinkFault> for MigError {
+    ghost from_gives = { λ _ error. error ≡ errors.StreamFailed };
+
     fn from(_fault: SinkFault) -> MigError {
         MigError::StreamFailed
     }

@@ -1,47 +1,74 @@
 //! A whole machine, saved to a sink.
 
-ghost use Rattle.std.specs.Prelude.{◌≡◌, ◌++◌, ℕ, List, IsTrue, OnOk, IfErr};
+ghost use Rattle.std.specs.Prelude.{◌≡◌, ◌<◌, ◌++◌, ℕ, List, OnOk, length};
+ghost use Rattle.guestmem.specs.Item.{sector};
+ghost use Rattle.machine.specs.EffectLaws.{HasItem};
 ghost use Rattle.machine.specs.Layout.{pages_of};
 ghost use Rattle.machine.specs.Seen.{state_of};
+ghost use Rattle.wire.specs.Records.{commit, spelled_record};
 ghost use Rattle.wire.specs.Sinks.{Appends, Takes};
-ghost use Rattle.wire.specs.Stream.{device_texts, records_below, saved, texts, whole};
-ghost use Rattle.sender.specs.declared.mig_error.MigError.TheVariants as errors;
+ghost use Rattle.wire.specs.Stream.{device_texts, record_of, records_below, saved, texts, whole};
+ghost use Rattle.sender.specs.Items.{disk_text, front_text, sectors_text};
+ghost use Rattle.sender.specs.Saving.{Sends, TakesOn};
 
 use crate::mig_error::MigError;
 use guestmem::PAGE_SIZE;
-use machine::{Disk, Machine};
+use machine::{Disk, Machine, SECTOR_SIZE};
 use sha2::{Digest, Sha256};
-use wire::{Sink, SinkFault, Tally, encode_commit, write_device, write_header, write_page};
+use wire::{
+    Sink, SinkFault, Tally, encode_commit, write_bad_sector, write_device, write_header,
+    write_page, write_sector,
+};
 
-/// Writes the whole stream of a machine, and flushes the writer: each page once, in order, the devices, and the digest. It
-/// answers `StreamFailed` exactly where the writer failed. The machine stays as it was. It takes no memory.
+/// Writes the whole stream of a machine, and flushes the writer: each page once and each sector once, in order, the devices,
+/// and the digest. A bad sector is written without a call of its disk. It answers `StreamFailed` exactly where the writer
+/// failed, and `DiskFailed` exactly where the disk failed that it names. The machine stays as it was. It takes no memory.
 #[tactic(auto, unfolding(wire::specs::Stream::whole))]
 pub fn save<D: Disk, S: Sink>(machine: &mut Machine<D>, out: &mut S) -> Result<(), MigError>
-    ensures out { Appends (S.state out.old) (whole (state_of machine.old)) result (S.state out.new) }
-    ensures refused { IfErr result (λ e. e ≡ errors.StreamFailed) }
-    ensures same { machine.new ≡ machine.old }
+    ensures { Sends machine.old (S.state out.old) (whole (state_of machine.old)) result machine.new (S.state out.new) }
 {
     let mut digest = Sha256::new();
     write_saved(machine, out, &mut digest)?;
-    encode_commit(&digest.finalize(), out)?;
-    out.flush()?;
+    write_end(&digest.finalize(), out)?;
     Ok(())
+}
+
+/// The digest, and the flush behind it.
+fn write_end<S: Sink>(digest: &[u8; 32], out: &mut S) -> Result<(), SinkFault>
+    ensures { Appends (S.state out.old) (spelled_record (commit digest.now)) result (S.state out.new) }
+{
+    encode_commit(digest, out)?;
+    out.flush()
 }
 
 /// All that stands before the digest.
 fn write_saved<D: Disk, S: Sink, T: Tally>(
+    machine: &mut Machine<D>,
+    out: &mut S,
+    tally: &mut T,
+) -> Result<(), MigError>
+    ensures sent { Sends machine.old (S.state out.old) (saved (state_of machine.old)) result machine.new (S.state out.new) }
+    ensures taken { TakesOn machine.old (T.has_taken tally.old) (saved (state_of machine.old)) result (T.has_taken tally.new) }
+{
+    write_front(machine, out, tally)?;
+    write_disks(machine, out, tally)?;
+    write_devices(machine, out, tally)?;
+    Ok(())
+}
+
+/// The header, and the record of each page, in order.
+fn write_front<D: Disk, S: Sink, T: Tally>(
     machine: &Machine<D>,
     out: &mut S,
     tally: &mut T,
 ) -> Result<(), SinkFault>
-    ensures out { Appends (S.state out.old) (saved (state_of machine.now)) result (S.state out.new) }
-    ensures taken { OnOk result (Takes (T.has_taken tally.old) (saved (state_of machine.now)) (T.has_taken tally.new)) }
+    ensures out { Appends (S.state out.old) (front_text (state_of machine.now)) result (S.state out.new) }
+    ensures taken { OnOk result (Takes (T.has_taken tally.old) (front_text (state_of machine.now)) (T.has_taken tally.new)) }
 {
     machine.ram().recall();
     let pages = machine.ram().len() / PAGE_SIZE as u64;
     write_header(pages as u32, machine.shapes(), out, tally)?;
-    write_pages(machine, out, tally)?;
-    write_devices(machine, out, tally)
+    write_pages(machine, out, tally)
 }
 
 /// The record of each page, in order.
@@ -58,6 +85,65 @@ fn write_pages<D: Disk, S: Sink, T: Tally>(
     ram.recall();
     for number in 0..ram.len() / PAGE_SIZE as u64 {
         write_page(number as u32, ram.page(number), out, tally)?;
+    }
+    Ok(())
+}
+
+/// The record of each sector of each disk, in order.
+fn write_disks<D: Disk, S: Sink, T: Tally>(
+    machine: &mut Machine<D>,
+    out: &mut S,
+    tally: &mut T,
+) -> Result<(), MigError>
+    ensures sent { Sends machine.old (S.state out.old) (sectors_text (state_of machine.old)) result machine.new (S.state out.new) }
+    ensures taken { TakesOn machine.old (T.has_taken tally.old) (sectors_text (state_of machine.old)) result (T.has_taken tally.new) }
+{
+    for dev in 0..machine.shapes().len() as u8 {
+        write_disk(machine, dev, out, tally)?;
+    }
+    Ok(())
+}
+
+/// The record of each sector of a device's disk, in order.
+fn write_disk<D: Disk, S: Sink, T: Tally>(
+    machine: &mut Machine<D>,
+    dev: u8,
+    out: &mut S,
+    tally: &mut T,
+) -> Result<(), MigError>
+    requires { dev < length (state_of machine.old).devices }
+    ensures sent { Sends machine.old (S.state out.old) (disk_text (state_of machine.old) dev) result machine.new (S.state out.new) }
+    ensures taken { TakesOn machine.old (T.has_taken tally.old) (disk_text (state_of machine.old) dev) result (T.has_taken tally.new) }
+{
+    for number in 0..machine.shapes()[dev as usize].sectors() {
+        send_sector(machine, dev, number as u32, out, tally)?;
+    }
+    Ok(())
+}
+
+/// The record of a sector, as it is now. A bad one is written without a call of the disk.
+#[tactic(auto, using(crate::proofs::SectorReads::sent_good, crate::proofs::SectorReads::took_good, crate::proofs::SectorReads::not_sent))]
+fn send_sector<D: Disk, S: Sink, T: Tally>(
+    machine: &mut Machine<D>,
+    dev: u8,
+    number: u32,
+    out: &mut S,
+    tally: &mut T,
+) -> Result<(), MigError>
+    requires { HasItem (state_of machine.old) (sector dev number) }
+    ensures sent { Sends machine.old (S.state out.old) (spelled_record (record_of (state_of machine.old) (sector dev number))) result machine.new (S.state out.new) }
+    ensures taken { TakesOn machine.old (T.has_taken tally.old) (spelled_record (record_of (state_of machine.old) (sector dev number))) result (T.has_taken tally.new) }
+{
+    let mut bytes = [0; SECTOR_SIZE];
+    match machine.read_sector(dev, number as u64, &mut bytes) {
+        Ok(true) => write_sector(dev, number, &bytes, out, tally)?,
+        Ok(false) => write_bad_sector(dev, number, out, tally)?,
+        Err(_) => {
+            return Err(MigError::DiskFailed {
+                dev,
+                sector: number,
+            });
+        }
     }
     Ok(())
 }

@@ -1,16 +1,19 @@
 -- What one line of a trace says: the table of its lines.
-use Rattle.std.specs.Prelude.{ℕ, ◌^◌, Bool, true, ◌==◌, if◌then◌else◌, List, [], ◌∷◌, codes, Option, Some, None}
+use Rattle.std.specs.Prelude.{ℕ, ◌^◌, Bool, true, false, ◌==◌, if◌then◌else◌, List, [], ◌∷◌, codes, Option, Some, None}
 use Rattle.std.specs.Str.{bytes_eq}
 use Rattle.std.specs.List.{slice_split}
-use Rattle.machine.specs.declared.event.Event.TheVariants.{RegRead, RegWrite, MemRead, MemWrite, Step, Input}
-use Rattle.machine.specs.declared.shape.Shape.TheVariants.{Entropy}
+use Rattle.machine.specs.declared.event.Event.TheVariants.{RegRead, RegWrite, MemRead, MemWrite, Step, Input, Resize}
+use Rattle.machine.specs.declared.shape.Shape.TheVariants.{Net, Block, Console, Entropy}
 use Rattle.traces.specs.declared.line.Line.{Line}
 use Rattle.traces.specs.declared.line.Line.TheVariants.{Skip, Ram, Device, Act}
-use Rattle.traces.specs.Numbers.{◌>>=◌, below, bytes_of}
+use Rattle.traces.specs.Numbers.{◌>>=◌, below, bytes_of, sized_bytes_of}
 
 -- the fields of a line, by the greatest number that each may hold
 abbrev pub u8_field : List ℕ → Option ℕ
 u8_field word = below (2 ^ 8) word
+
+abbrev pub u16_field : List ℕ → Option ℕ
+u16_field word = below (2 ^ 16) word
 
 abbrev pub u32_field : List ℕ → Option ℕ
 u32_field word = below (2 ^ 32) word
@@ -23,6 +26,27 @@ abbrev pub ram_line : List ℕ → Option Line
 ram_line pages = do
   pages ← u32_field pages
   Some (Ram pages)
+
+-- net MAC
+abbrev pub net_line : List ℕ → Option Line
+net_line mac = do
+  mac ← sized_bytes_of 6 mac
+  Some (Device (Net mac))
+
+-- `rw`, or `ro` for a device that the driver may only read
+abbrev pub read_only_field : List ℕ → Option Bool
+read_only_field word =
+    if bytes_eq word (codes "rw") then Some false
+    else if bytes_eq word (codes "ro") then Some true
+    else None
+
+-- block SECTORS rw ID, block SECTORS ro ID
+abbrev pub block_line : List ℕ → List ℕ → List ℕ → Option Line
+block_line sectors access id = do
+  sectors ← u64_field sectors
+  read_only ← read_only_field access
+  id ← sized_bytes_of 20 id
+  Some (Device (Block sectors read_only id))
 
 -- r DEV OFF WIDTH
 abbrev pub register_read_line : List ℕ → List ℕ → List ℕ → Option Line
@@ -69,12 +93,26 @@ input_line dev bytes = do
   bytes ← bytes_of bytes
   Some (Act (Input dev bytes))
 
+-- size DEV COLS ROWS
+abbrev pub resize_line : List ℕ → List ℕ → List ℕ → Option Line
+resize_line dev cols rows = do
+  dev ← u8_field dev
+  cols ← u16_field cols
+  rows ← u16_field rows
+  Some (Act (Resize dev cols rows))
+
 -- Each line has its number of words, and among those of one number the first word tells it.
 abbrev pub one_word : List ℕ → Option Line
-one_word verb = if bytes_eq verb (codes "entropy") then Some (Device Entropy) else None
+one_word verb =
+    if bytes_eq verb (codes "console") then Some (Device Console)
+    else if bytes_eq verb (codes "entropy") then Some (Device Entropy)
+    else None
 
 abbrev pub two_words : List ℕ → List ℕ → Option Line
-two_words verb a = if bytes_eq verb (codes "ram") then ram_line a else None
+two_words verb a =
+    if bytes_eq verb (codes "ram") then ram_line a
+    else if bytes_eq verb (codes "net") then net_line a
+    else None
 
 abbrev pub three_words : List ℕ → List ℕ → List ℕ → Option Line
 three_words verb a b =
@@ -85,7 +123,11 @@ three_words verb a b =
     else None
 
 abbrev pub four_words : List ℕ → List ℕ → List ℕ → List ℕ → Option Line
-four_words verb a b c = if bytes_eq verb (codes "r") then register_read_line a b c else None
+four_words verb a b c =
+    if bytes_eq verb (codes "block") then block_line a b c
+    else if bytes_eq verb (codes "r") then register_read_line a b c
+    else if bytes_eq verb (codes "size") then resize_line a b c
+    else None
 
 abbrev pub five_words : List ℕ → List ℕ → List ℕ → List ℕ → List ℕ → Option Line
 five_words verb a b c d = if bytes_eq verb (codes "w") then register_write_line a b c d else None

@@ -1,6 +1,6 @@
 -- Numbers and bytes, as a word of a line spells them.
 use Rattle.std.specs.Prelude.{ℕ, ◌+◌, ◌*◌, ◌-◌, nat_le, nat_lt, Bool, true, false, ◌&&◌, ◌==◌, drop, if◌then◌else◌, List, [], ◌∷◌, length, codes, Option, Some, None, Result, Ok, Err}
-use Rattle.hex.specs.Hex.{hex_digit_value, decode_of}
+use Rattle.hex.specs.Hex.{hex_digit_value, decode_of, decode_sized}
 
 -- the second step, where the first gave a value
 infixl 10 ◌>>=◌
@@ -46,3 +46,7 @@ unfoldable pub bytes_of : List ℕ → Option (List ℕ)
 bytes_of [] = None
 bytes_of (c ∷ []) = if c == 45 then Some [] else None
 bytes_of (c ∷ d ∷ cs) = ok_of (decode_of (c ∷ d ∷ cs))
+
+-- So many bytes and no others, each by two hexadecimal digits of either case.
+abbrev pub sized_bytes_of : ℕ → List ℕ → Option (List ℕ)
+sized_bytes_of count word = ok_of (decode_sized word count)

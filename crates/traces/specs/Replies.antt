@@ -5,7 +5,7 @@ use Rattle.std.specs.Io.KnownBytes.{Appends}
 use Rattle.hex.specs.Hex.{encode_lower}
 use Rattle.machine.specs.Refusal.{code_of}
 use Rattle.machine.specs.declared.reply.Reply.{Reply}
-use Rattle.machine.specs.declared.reply.Reply.TheVariants.{Value, Done, Bytes, Idle, Completed, Accepted, NeedsReset, NoMemory, Refused}
+use Rattle.machine.specs.declared.reply.Reply.TheVariants.{Value, Done, OutByte, Bytes, Idle, Taken, Moved, BadSector, DiskFailed, Completed, Sent, Dropped, Accepted, NeedsReset, NoMemory, Refused}
 
 -- the line's LF
 abbrev pub newline : List ℕ
@@ -24,9 +24,16 @@ bytes_text (b ∷ bytes) = encode_lower (b ∷ bytes)
 abbrev pub reply_line : Reply → List ℕ
 reply_line (Value n) = codes "value " ++ value_text n ++ newline
 reply_line Done = codes "done" ++ newline
+reply_line (OutByte byte) = codes "out 0x" ++ encode_lower (byte ∷ []) ++ newline
 reply_line (Bytes bytes) = codes "bytes " ++ bytes_text bytes ++ newline
 reply_line Idle = codes "idle" ++ newline
+reply_line Taken = codes "taken" ++ newline
+reply_line Moved = codes "moved" ++ newline
+reply_line BadSector = codes "badsector" ++ newline
+reply_line DiskFailed = codes "diskfailed" ++ newline
 reply_line (Completed count) = codes "completed " ++ decimal count ++ newline
+reply_line (Sent bytes) = codes "sent " ++ bytes_text bytes ++ newline
+reply_line Dropped = codes "dropped" ++ newline
 reply_line (Accepted count) = codes "accepted " ++ decimal count ++ newline
 reply_line NeedsReset = codes "needsreset" ++ newline
 reply_line NoMemory = codes "nomemory" ++ newline

@@ -1,11 +1,11 @@
 //! The fields of a line: numbers that fit, and bytes.
 
 ghost use Rattle.std.specs.Prelude.{◌≡◌, IfOk};
-ghost use Rattle.traces.specs.Numbers.{bytes_of};
-ghost use Rattle.traces.specs.Line.{u8_field, u32_field, u64_field};
+ghost use Rattle.traces.specs.Numbers.{bytes_of, sized_bytes_of};
+ghost use Rattle.traces.specs.Line.{read_only_field, u8_field, u16_field, u32_field, u64_field};
 
 use crate::numbers::number;
-use hex::FromHexError;
+use hex::{FromHex, FromHexError};
 use machine::Bytes;
 use std::alloc::{AllocError, Global};
 
@@ -15,6 +15,17 @@ pub fn number8(word: &[u8]) -> Option<u8>
     let value = number(word)?;
     if value < 1 << 8 {
         Some(value as u8)
+    } else {
+        None
+    }
+}
+
+pub fn number16(word: &[u8]) -> Option<u16>
+    ensures { result ≡ u16_field word.now }
+{
+    let value = number(word)?;
+    if value < 1 << 16 {
+        Some(value as u16)
     } else {
         None
     }
@@ -57,5 +68,25 @@ pub fn bytes(alloc: Global, word: &[u8]) -> Result<Option<Bytes>, AllocError>
         Ok(held) => Ok(Some(Bytes::from_vec(held))),
         Err(FromHexError::OutOfMemory) => Err(AllocError),
         Err(_) => Ok(None),
+    }
+}
+
+/// The bytes that a word of twice as many digits spells.
+pub fn sized_bytes<const N: usize>(word: &[u8]) -> Option<[u8; N]>
+    ensures { result ≡ sized_bytes_of N word.now }
+{
+    <[u8; N]>::from_hex(word).ok()
+}
+
+/// Whether a driver may only read a device: `ro`, and not `rw`.
+pub fn read_only(word: &[u8]) -> Option<bool>
+    ensures { result ≡ read_only_field word.now }
+{
+    if word == b"rw".as_slice() {
+        Some(false)
+    } else if word == b"ro".as_slice() {
+        Some(true)
+    } else {
+        None
     }
 }

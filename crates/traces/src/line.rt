@@ -2,9 +2,9 @@
 
 ghost use Rattle.std.specs.Prelude.{◌≡◌, IfOk};
 ghost use Rattle.std.specs.List.{slice_split};
-ghost use Rattle.traces.specs.Line.{one_word, two_words, three_words, four_words, five_words, memory_read_line, memory_write_line, step_line, input_line, words_say, line_says, is_space};
+ghost use Rattle.traces.specs.Line.{one_word, two_words, three_words, four_words, five_words, net_line, block_line, register_read_line, memory_read_line, memory_write_line, step_line, input_line, resize_line, words_say, line_says, is_space};
 
-use crate::fields::{bytes, number8, number32, number64};
+use crate::fields::{bytes, number8, number16, number32, number64, read_only, sized_bytes};
 use crate::words::split_word;
 use machine::{Event, Shape};
 use std::alloc::{AllocError, Global};
@@ -28,11 +28,20 @@ pub enum Line {
 fn one(verb: &[u8]) -> Option<Line>
     ensures { result ≡ one_word verb.now }
 {
-    if verb == b"entropy".as_slice() {
+    if verb == b"console".as_slice() {
+        Some(Line::Device(Shape::Console))
+    } else if verb == b"entropy".as_slice() {
         Some(Line::Device(Shape::Entropy))
     } else {
         None
     }
+}
+
+fn net(a: &[u8]) -> Option<Line>
+    ensures { result ≡ net_line a.now }
+{
+    let mac = sized_bytes(a)?;
+    Some(Line::Device(Shape::Net { mac }))
 }
 
 fn two(verb: &[u8], a: &[u8]) -> Option<Line>
@@ -41,6 +50,8 @@ fn two(verb: &[u8], a: &[u8]) -> Option<Line>
     if verb == b"ram".as_slice() {
         let pages = number32(a)?;
         Some(Line::Ram(pages))
+    } else if verb == b"net".as_slice() {
+        net(a)
     } else {
         None
     }
@@ -102,16 +113,49 @@ fn three(alloc: Global, verb: &[u8], a: &[u8], b: &[u8]) -> Result<Option<Line>,
     }
 }
 
-fn four(verb: &[u8], a: &[u8], b: &[u8], c: &[u8]) -> Option<Line>
-    ensures { result ≡ four_words verb.now a.now b.now c.now }
+fn block(a: &[u8], b: &[u8], c: &[u8]) -> Option<Line>
+    ensures { result ≡ block_line a.now b.now c.now }
 {
-    if verb != b"r".as_slice() {
-        return None;
-    }
+    let sectors = number64(a)?;
+    let read_only = read_only(b)?;
+    let id = sized_bytes(c)?;
+    Some(Line::Device(Shape::Block {
+        sectors,
+        read_only,
+        id,
+    }))
+}
+
+fn register_read(a: &[u8], b: &[u8], c: &[u8]) -> Option<Line>
+    ensures { result ≡ register_read_line a.now b.now c.now }
+{
     let dev = number8(a)?;
     let off = number32(b)?;
     let width = number8(c)?;
     Some(Line::Act(Event::RegRead { dev, off, width }))
+}
+
+fn resize(a: &[u8], b: &[u8], c: &[u8]) -> Option<Line>
+    ensures { result ≡ resize_line a.now b.now c.now }
+{
+    let dev = number8(a)?;
+    let cols = number16(b)?;
+    let rows = number16(c)?;
+    Some(Line::Act(Event::Resize { dev, cols, rows }))
+}
+
+fn four(verb: &[u8], a: &[u8], b: &[u8], c: &[u8]) -> Option<Line>
+    ensures { result ≡ four_words verb.now a.now b.now c.now }
+{
+    if verb == b"block".as_slice() {
+        block(a, b, c)
+    } else if verb == b"r".as_slice() {
+        register_read(a, b, c)
+    } else if verb == b"size".as_slice() {
+        resize(a, b, c)
+    } else {
+        None
+    }
 }
 
 fn five(verb: &[u8], a: &[u8], b: &[u8], c: &[u8], d: &[u8]) -> Option<Line>

@@ -11,8 +11,9 @@ use std::alloc::Global;
 /// Reads a trace.
 ///
 /// Lines end with LF, which the last may lack. Empty lines and lines that begin with `#` are skipped. The others are
-/// one `ram PAGES`, then 1 to 16 of `entropy`, and then events: `r DEV OFF WIDTH`, `w DEV OFF WIDTH VALUE`,
-/// `mr ADDR LEN`, `mw ADDR BYTES`, `s DEV PICK` and `in DEV BYTES`. One space parts two words.
+/// one `ram PAGES`, then 1 to 16 of `net MAC`, `block SECTORS rw ID`, `block SECTORS ro ID`, `console` and `entropy`, and
+/// then events: `r DEV OFF WIDTH`, `w DEV OFF WIDTH VALUE`, `mr ADDR LEN`, `mw ADDR BYTES`, `s DEV PICK`, `in DEV BYTES`
+/// and `size DEV COLS ROWS`. One space parts two words.
 ///
 /// `Line` names the first line that may not stand where it stands, or the one that is missing behind the last;
 /// skipped lines count. `NoMemory` comes only where memory was refused.

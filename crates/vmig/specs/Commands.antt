@@ -6,6 +6,13 @@ use Rattle.clap.specs.declared.builder.ArgAction.TheVariants.{Set}
 abbrev pub input_argument : Rule
 input_argument = record (new_rule (codes "input")) { required = true; action = Some Set }
 
--- a verb, and the name of a file
-abbrev pub command_of : List ℕ → App
-command_of verb = with_rule (new_app verb) input_argument
+abbrev pub disk_option : Rule
+disk_option = record (new_rule (codes "disk")) { long = Some (codes "disk"); action = Some Set }
+
+-- `check`, and the name of a file
+abbrev pub check_command : App
+check_command = with_rule (new_app (codes "check")) input_argument
+
+-- `run`, the name of a file, and the image of a disk
+abbrev pub run_command : App
+run_command = with_rule (with_rule (new_app (codes "run")) input_argument) disk_option

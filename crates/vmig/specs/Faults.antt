@@ -1,5 +1,5 @@
 -- The faults of the program: which refusal each stands for, its exit status, and its line on standard error.
-use Rattle.std.specs.Prelude.{ℕ, List, ◌++◌, codes, decimal}
+use Rattle.std.specs.Prelude.{◌≡◌, ℕ, List, ◌++◌, codes, decimal}
 use Rattle.std.specs.Borrow.{Bor}
 use Rattle.std.specs.declared.io.ErrorKind.{ErrorKind}
 use Rattle.std.specs.declared.io.ErrorKind.TheVariants.{OutOfMemory}
@@ -55,3 +55,14 @@ fault_line (File name) = codes "vmig: file " ++ name.now ++ newline
 fault_line (Line number) = codes "vmig: trace line " ++ decimal number ++ newline
 fault_line (Shape refusal) = codes "vmig: shape " ++ decimal refusal ++ newline
 fault_line (Stream refusal) = codes "vmig: stream " ++ decimal refusal ++ newline
+
+-- a file of this name could not be opened or read
+abbrev pub TellsOfFile : List ℕ → Fault → Type 0
+TellsOfFile named NoMemory = Unit {0}
+TellsOfFile named (File name) = name.now ≡ named
+TellsOfFile named _ = ⊥
+
+-- standard output failed, which is told as a file of the name `-`
+abbrev pub TellsOfOutput : Fault → Type 0
+TellsOfOutput (File name) = name.now ≡ codes "-"
+TellsOfOutput _ = ⊥

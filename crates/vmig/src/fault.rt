@@ -3,10 +3,11 @@
 ghost use Rattle.std.specs.Prelude.{◌≡◌, OnOk, OnErr};
 ghost use Rattle.std.specs.Io.KnownBytes.{Appends};
 ghost use Rattle.traces.specs.Replies.{AppendsBeginning};
-ghost use Rattle.vmig.specs.Faults.{words_fault, read_fault, trace_fault, shape_fault, stream_fault, status_of, fault_line};
-ghost use Rattle.vmig.specs.Run.{TellsOfOutput};
+ghost use Rattle.vmig.specs.declared.fault.Fault.TheVariants as faults;
+ghost use Rattle.vmig.specs.Faults.{words_fault, read_fault, trace_fault, shape_fault, stream_fault, status_of, fault_line, TellsOfOutput};
 
 use crate::words::WordsError;
+use guestmem::NoMemory;
 use machine::NewError;
 use receiver::RecvError;
 use std::io::{ErrorKind, Write};
@@ -24,7 +25,7 @@ pub enum Fault<'a> {
     /// The words are no line of the program.
     Usage,
 
-    /// The file of this name can't be opened or read, or standard output failed.
+    /// The file of this name can't be opened or read, or is no image of a disk, or standard output failed.
     File(&'a str),
 
     /// The first bad line of the trace.
@@ -35,6 +36,14 @@ pub enum Fault<'a> {
 
     /// The refusal of a stream, by its number.
     Stream(u8),
+}
+
+impl From<NoMemory> for Fault<'_> {
+    ghost from_gives = { λ _ fault. fault ≡ faults.NoMemory };
+
+    fn from(_refusal: NoMemory) -> Self {
+        Fault::NoMemory
+    }
 }
 
 impl From<WordsError> for Fault<'_> {

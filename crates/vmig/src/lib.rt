@@ -11,25 +11,31 @@
 //! where it wrote the lines of the replies of a fresh machine to a trace, or the line of a stream, and nothing to standard
 //! error. With every other status a fault says why, and its line was written to standard error, or a beginning of it where
 //! that failed. Each refusal of a layer below has its fault, and before a fault of anything but standard output nothing was
-//! written to that. That the trace or the stream is the one in the file is not in its contract, since the contracts of
-//! files say nothing of what a file holds: the crate `calls` shows it.
+//! written to that. The contracts of files say nothing of what a file holds. So that the trace or the stream is the one in the
+//! file is not in its contract, and of a run over an image it says only that there is a line for a reply to each event: the
+//! crate `calls` shows both.
 //!
 //! The definitions stand in `specs/`: `Words` the program's words, `Faults` which refusal each fault stands for, its status
-//! and its line, and `Run` what is written and what a fault says. `Commands` is for the private parts of `words` alone.
+//! and its line, `Playing` and `Checking` what `run` and `check` write and what a fault of theirs says, `Output` how much of it
+//! was written, and `Run` all of it by the words. `Commands` is for the private parts of `words` alone.
 //!
 //! It stands on the crates that it hands on, and on `clap` for the words, of which this crate first finds that they are a line of
-//! its own; that clap then refuses them only for want of memory, and finds the name that stands in them, is proved.
+//! its own; that clap then refuses them only for want of memory, and finds the names that stand in them, is proved.
 #![tactic(auto)]
 
+mod checking;
 mod fault;
 pub mod laws;
+mod output;
+mod playing;
 mod program;
 mod words;
 
+pub use dirtylog::BitSet;
 pub use guestmem::{ACCESS_MAX, NoMemory, PAGE_SIZE, PAGES_MAX, Ram, RamError, Touched};
 pub use machine::{
-    Bytes, DEVICES_MAX, DeviceState, Disk, DiskFault, Event, Machine, MemDisk, NewError, Own,
-    Refusal, Reply, SECTOR_SIZE, Shape,
+    Bytes, DEVICES_MAX, DeviceState, Disk, DiskFault, Event, FaultDisk, FileDisk, Machine, MemDisk,
+    NewError, Own, Refusal, Reply, SECTOR_SIZE, SECTORS_MAX, Shape,
 };
 pub use program::execute;
 pub use receiver::{Receiver, RecvError, receive};
@@ -37,5 +43,5 @@ pub use sender::{MigError, save};
 pub use traces::{Trace, TraceError, WriteFault, parse, write_checked, write_reply};
 pub use wire::{
     DecodeError, Header, Record, Sink, SinkFault, WriteSink, decode_device, decode_header,
-    decode_record, encode_commit, encode_device, encode_header, encode_page,
+    decode_record, encode_commit, encode_device, encode_header, encode_page, encode_sector,
 };

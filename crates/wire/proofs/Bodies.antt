@@ -1,7 +1,8 @@
 -- Bodies of devices: what is read was spelled so, and what is spelled so is read.
-use Rattle.std.proofs.Common.{◌≡◌, ℕ, ◌+◌, ◌<◌, ◌≤◌, Bool, true, false, List, [], ◌∷◌, ◌++◌, length, take, drop, get_or, refl, sym, ap, subst, ◌∙◌, append_assoc, append-nil, drop-drop, arith}
-use Rattle.std.specs.List.{All}
+use Rattle.std.proofs.Common.{◌≡◌, ℕ, zero, suc, ◌+◌, ◌*◌, ◌<◌, ◌≤◌, Bool, true, false, List, [], ◌∷◌, ◌++◌, length, take, drop, get_or, Some, None, refl, sym, ap, subst, ◌∙◌, append_assoc, drop-drop, arith}
+use Rattle.std.specs.List.{AllByRecursion}
 use Rattle.std.proofs.lemmas.Nat.{and_le_l}
+use Rattle.std.proofs.lemmas.List.Elements.{recursion_from_All}
 use Rattle.std.proofs.lemmas.List.{take-append-drop, length-append, length-drop, drop_at}
 use Rattle.guestmem.specs.ByteLaws.{IsBytes-append, IsBytes-drop}
 use Rattle.guestmem.specs.Number.{number_at, IsBytes}
@@ -9,18 +10,18 @@ use Rattle.chains.specs.declared.position.Positions.{Positions}
 use Rattle.mmio.specs.Sound.{IsSoundCommon, IsSoundQueue}
 use Rattle.mmio.specs.declared.common.Common.{Common}
 use Rattle.mmio.specs.declared.queue.Queue.{Queue}
-use Rattle.wire.specs.Numbers.{digits, Fit, flag}
-use Rattle.wire.specs.DeviceBody.{IsBodyOf, body, common_numbers, common_text, common_widths, held_text, queue_numbers, queue_text, queue_widths}
-use Rattle.wire.specs.BodyReading.{HasEntropyForm, HasFlags, common_from, common_of, entropy_of, positions_from, positions_of, queue_from, queue_of}
+use Rattle.wire.specs.Numbers.{Fit, flag}
+use Rattle.wire.specs.DeviceBody.{IsBodyOf, body, common_numbers, common_text, common_widths, own_text, queue_numbers, queue_text, queue_widths, queues_text}
+use Rattle.wire.specs.BodyReading.{HasFlags, HasFront, HaveFlags, common_from, common_of, device_of, own_of, positions_from, positions_in, positions_of, queue_from, queue_of, queues_in}
 use Rattle.machine.specs.QueuePositions.{HasPositions, HavePositions, is_packed_by}
-use Rattle.machine.specs.Shapes.{device_id_of, offered_of, queues_of, saved_device}
-use Rattle.machine.specs.Sound.{AreHostBytes, IsSoundDevice, IsSoundOwn}
+use Rattle.machine.specs.Shapes.{queues_of, saved_device}
+use Rattle.machine.specs.Sound.{IsSoundDevice}
 use Rattle.machine.specs.State.{DeviceState}
 use Rattle.machine.specs.declared.own.Own.{Own}
-use Rattle.machine.specs.declared.own.Own.TheVariants as own
 use Rattle.machine.specs.declared.shape.Shape.{Shape}
-use Rattle.machine.specs.declared.shape.Shape.TheVariants.{Entropy}
-use Rattle.wire.proofs.Digits.{spelled-numbers, numbers-spelled, digits-number_at, number_at-digits, IsBytes-digits, IsBytes-spelled, flag-number, number-flag}
+use Rattle.wire.proofs.Choices.{same_found}
+use Rattle.wire.proofs.Digits.{spelled-numbers, numbers-spelled, IsBytes-spelled, flag-number, number-flag}
+use Rattle.wire.proofs.OwnTexts.{ReadsOwn, own_reads, own_written}
 
 -- The registers that a device has once.
 
@@ -99,74 +100,135 @@ queue_fits ram_len packed c q p sound placed = (
   ),
 )
 
--- The body of an entropy device.
+-- Queues and their positions.
 
-abbrev device_with : ℕ → Common → Queue → Positions → List ℕ → DeviceState
-device_with ram_len c q p pool = saved_device ram_len Entropy c (q ∷ []) (p ∷ []) (own.Entropy pool)
+abbrev FitQueues : List Queue → List Positions → Type 0
+FitQueues [] [] = Unit {0}
+FitQueues (q ∷ qs) (p ∷ ps) = Fit queue_widths (queue_numbers q p) × FitQueues qs ps
+FitQueues qs ps = ⊥
 
-body_with : (ram_len : ℕ) (c : Common) (q : Queue) (p : Positions) (pool : List ℕ) → body (device_with ram_len c q p pool) ≡ common_text c ++ (queue_text q p ++ held_text pool)
-body_with ram_len c q p pool = ap (λ (x : List ℕ). common_text c ++ (x ++ held_text pool)) (append-nil (queue_text q p))
+queues_fit : (ram_len : ℕ) (packed : Bool) (c : Common) (qs : List Queue) (ps : List Positions) → AllByRecursion (IsSoundQueue ram_len c) qs → HavePositions packed qs ps → FitQueues qs ps
+queues_fit ram_len packed c [] [] sound placed = tt
+queues_fit ram_len packed c [] (p ∷ ps) sound placed = absurd placed
+queues_fit ram_len packed c (q ∷ qs) [] sound placed = absurd placed
+queues_fit ram_len packed c (q ∷ qs) (p ∷ ps) sound placed = (queue_fits ram_len packed c q p sound.0 placed.0, queues_fit ram_len packed c qs ps sound.1 placed.1)
 
-three_parts : (bytes : List ℕ) → take 26 bytes ++ (take 36 (drop 26 bytes) ++ (take 2 (drop 62 bytes) ++ drop 64 bytes)) ≡ bytes
-three_parts bytes =
-    let pool : drop 64 bytes ≡ drop 2 (drop 62 bytes) = sym (drop-drop 2 62 bytes) in
-    let count : drop 62 bytes ≡ drop 36 (drop 26 bytes) = sym (drop-drop 36 26 bytes) in
-    rw (pool, take-append-drop 2 (drop 62 bytes), count, take-append-drop 36 (drop 26 bytes), take-append-drop 26 bytes) refl
+pub length-queues_in : (n : ℕ) (bytes : List ℕ) → length (queues_in n bytes) ≡ n
+unfolding queues_in
+length-queues_in zero bytes = refl
+length-queues_in (suc n) bytes = ap suc (length-queues_in n (drop 36 bytes))
 
-same_parts : {a b c m n o : List ℕ} → a ≡ m → b ≡ n → c ≡ o → (d : List ℕ) → a ++ (b ++ (c ++ d)) ≡ m ++ (n ++ (o ++ d))
-same_parts e f g d = rw (e, f, g) refl
+-- What the bytes say of so many queues.
+record SaysQueues (n : ℕ) (text : List ℕ) (qs : List Queue) (ps : List Positions) (rest : List ℕ) : Type 0 where
+  pub queues : queues_in n text ≡ qs
+  pub positions : positions_in n text ≡ ps
+  pub flags : HaveFlags n text
+  pub rest_is : drop (36 * n) text ≡ rest
+  pub long : length text ≡ 36 * n + length rest
 
-body_of-entropy : (ram_len : ℕ) (bytes : List ℕ) → IsBytes bytes → HasEntropyForm bytes → bytes ≡ body (entropy_of ram_len bytes)
-body_of-entropy ram_len bytes are form =
-    let rest = drop 26 bytes in
-    let common = common_text-of bytes are (omega (arith, form.long)) in
-    let queue = queue_text-of rest (IsBytes-drop 26 bytes are) (omega (arith, form.long, length-drop 26 bytes)) form.flags in
-    let count : length (drop 64 bytes) ≡ number_at bytes 62 2 = omega (arith, form.pool, length-drop 64 bytes) in
-    let two : digits 2 (length (drop 64 bytes)) ≡ take 2 (drop 62 bytes) = ap (digits 2) count ∙ digits-number_at 2 bytes 62 are (omega (arith, form.long)) in
-    sym (three_parts bytes) ∙ same_parts (sym common) (sym queue) (sym two) (drop 64 bytes)
-    ∙ sym (body_with ram_len (common_of bytes) (queue_of rest) (positions_of rest) (drop 64 bytes))
-
--- What a text of the three parts reads as.
-pub record ReadsAs (ram_len : ℕ) (text : List ℕ) (d : DeviceState) : Type 0 where
-  pub form : HasEntropyForm text
-  pub device : entropy_of ram_len text ≡ d
-
-reads_as : (ram_len : ℕ) (c : Common) (q : Queue) (p : Positions) (pool : List ℕ) → Fit common_widths (common_numbers c) → Fit queue_widths (queue_numbers q p) → length pool ≤ 4096
-    → ReadsAs ram_len (common_text c ++ (queue_text q p ++ held_text pool)) (device_with ram_len c q p pool)
-reads_as ram_len c q p pool common_fits queue_fits few =
-    let after = queue_text q p ++ held_text pool in
-    let text = common_text c ++ after in
-    let past_common : drop 26 text ≡ after = drop_at (common_text c) after 26 (length-common_text c) in
-    let past_queue : drop 62 text ≡ held_text pool = sym (drop-drop 36 26 text) ∙ ap (drop 36) past_common ∙ drop_at (queue_text q p) (held_text pool) 36 (length-queue_text q p) in
-    let past_count : drop 64 text ≡ pool = sym (drop-drop 2 62 text) ∙ ap (drop 2) past_queue in
-    let before : length (common_text c ++ queue_text q p) ≡ 62 = omega (arith, length-append (common_text c) (queue_text q p), length-common_text c, length-queue_text q p) in
-    let grouped : text ≡ (common_text c ++ queue_text q p) ++ (digits 2 (length pool) ++ pool) = sym (append_assoc (common_text c) (queue_text q p) (held_text pool)) in
-    let count : number_at text 62 2 ≡ length pool = ap (λ (k : ℕ). number_at text k 2) (sym before) ∙ ap (λ (x : List ℕ). number_at x (length (common_text c ++ queue_text q p)) 2) grouped
-    ∙ number_at-digits 2 (length pool) (common_text c ++ queue_text q p) pool (omega (arith, few)) in
-    let long : length text ≡ 64 + length pool = omega (arith, length-append (common_text c) after, length-append (queue_text q p) (held_text pool), length-common_text c, length-queue_text q p) in
+one_more_queue : (n : ℕ) (q : Queue) (p : Positions) (qs : List Queue) (ps : List Positions) (after rest : List ℕ) → Fit queue_widths (queue_numbers q p) → SaysQueues n after qs ps rest
+    → SaysQueues (suc n) (queue_text q p ++ after) (q ∷ qs) (p ∷ ps) rest
+unfolding queues_in positions_in
+one_more_queue n q p qs ps after rest fits others =
+    let past : drop 36 (queue_text q p ++ after) ≡ after = drop_at (queue_text q p) after 36 (length-queue_text q p) in
+    let size : 36 * suc n ≡ 36 + 36 * n = omega arith in
     record {
-      form = record { long = omega (arith, long); flags = rw past_common (flags_of-text q p (held_text pool) queue_fits); pool = omega (arith, long, count) };
-      device = rw (common_of-text c after common_fits, past_common, queue_of-text q p (held_text pool) queue_fits, positions_of-text q p (held_text pool) queue_fits, past_count) refl;
+      queues = rw (queue_of-text q p after fits, past, others.queues) refl;
+      positions = rw (positions_of-text q p after fits, past, others.positions) refl;
+      flags = (flags_of-text q p after fits, rw past others.flags);
+      rest_is = rw size (sym (drop-drop (36 * n) 36 (queue_text q p ++ after)) ∙ ap (drop (36 * n)) past ∙ others.rest_is);
+      long = omega (arith, length-append (queue_text q p) after, length-queue_text q p, others.long);
     }
 
--- What an entropy device has.
-pub record HasPool (o : Own) : Type 0 where
-  pub pool : List ℕ
-  pub is : o ≡ own.Entropy pool
-  pub are : AreHostBytes pool
+queues_said : (qs : List Queue) (ps : List Positions) (rest : List ℕ) → FitQueues qs ps → SaysQueues (length qs) (queues_text qs ps ++ rest) qs ps rest
+unfolding queues_in positions_in
+queues_said [] [] rest fits = record { queues = refl; positions = refl; flags = tt; rest_is = refl; long = omega arith }
+queues_said [] (p ∷ ps) rest fits = absurd fits
+queues_said (q ∷ qs) [] rest fits = absurd fits
+queues_said (q ∷ qs) (p ∷ ps) rest fits =
+    subst (λ (x : List ℕ). SaysQueues (suc (length qs)) x (q ∷ qs) (p ∷ ps) rest) (sym (append_assoc (queue_text q p) (queues_text qs ps) rest))
+    (one_more_queue (length qs) q p qs ps (queues_text qs ps ++ rest) rest fits.0 (queues_said qs ps rest fits.1))
 
-entropy_own : (o : Own) → IsSoundOwn Entropy o → HasPool o
-entropy_own (own.Entropy pool) are = record { pool = pool; is = refl; are = are }
+queues_written : (n : ℕ) (bytes : List ℕ) → IsBytes bytes → 36 * n ≤ length bytes → HaveFlags n bytes → bytes ≡ queues_text (queues_in n bytes) (positions_in n bytes) ++ drop (36 * n) bytes
+unfolding queues_in positions_in
+queues_written zero bytes are long flags = refl
+queues_written (suc n) bytes are long flags =
+    let size : 36 * suc n ≡ 36 + 36 * n = omega arith in
+    let text = queues_text (queues_in n (drop 36 bytes)) (positions_in n (drop 36 bytes)) in
+    let first : queue_text (queue_of bytes) (positions_of bytes) ≡ take 36 bytes = queue_text-of bytes are (omega (arith, long)) flags.0 in
+    let others : drop 36 bytes ≡ text ++ drop (36 * n) (drop 36 bytes) = queues_written n (drop 36 bytes) (IsBytes-drop 36 bytes are) (omega (arith, long, length-drop 36 bytes)) flags.1 in
+    let behind : drop (36 * n) (drop 36 bytes) ≡ drop (36 * suc n) bytes = rw size (drop-drop (36 * n) 36 bytes) in
+    sym (take-append-drop 36 bytes)
+    ∙ ap (λ (x : List ℕ). x ++ drop 36 bytes) (sym first)
+    ∙ ap (λ (x : List ℕ). queue_text (queue_of bytes) (positions_of bytes) ++ x) (others ∙ ap (λ (x : List ℕ). text ++ x) behind)
+    ∙ sym (append_assoc (queue_text (queue_of bytes) (positions_of bytes)) text (drop (36 * suc n) bytes))
 
--- A sound entropy device is one of its parts.
-pub record EntropyParts (ram_len : ℕ) (d : DeviceState) : Type 0 where
-  pub queue : Queue
-  pub positions : Positions
-  pub pool : List ℕ
-  pub pool_are : AreHostBytes pool
-  pub is : d ≡ device_with ram_len d.registers.common queue positions pool
-  pub common_fits : Fit common_widths (common_numbers d.registers.common)
-  pub queue_fits : Fit queue_widths (queue_numbers queue positions)
+-- What stands before what only a kind of device has.
+
+abbrev front_text : Common → List Queue → List Positions → List ℕ → List ℕ
+front_text c qs ps rest = common_text c ++ (queues_text qs ps ++ rest)
+
+pub record ReadsFront (n : ℕ) (text : List ℕ) (c : Common) (qs : List Queue) (ps : List Positions) (rest : List ℕ) : Type 0 where
+  pub form : HasFront n text
+  pub common : common_of text ≡ c
+  pub queues : queues_in n (drop 26 text) ≡ qs
+  pub positions : positions_in n (drop 26 text) ≡ ps
+  pub rest_is : drop (26 + 36 * n) text ≡ rest
+  pub long : length text ≡ 26 + 36 * n + length rest
+
+front_said : (n : ℕ) (c : Common) (qs : List Queue) (ps : List Positions) (after rest : List ℕ) → Fit common_widths (common_numbers c) → SaysQueues n after qs ps rest → ReadsFront n (common_text c ++ after) c qs ps rest
+front_said n c qs ps after rest fits says =
+    let past : drop 26 (common_text c ++ after) ≡ after = drop_at (common_text c) after 26 (length-common_text c) in
+    let size : length (common_text c ++ after) ≡ 26 + 36 * n + length rest = omega (arith, length-append (common_text c) after, length-common_text c, says.long) in
+    record {
+      form = record { long = omega (arith, size); flags = rw past says.flags };
+      common = common_of-text c after fits;
+      queues = ap (queues_in n) past ∙ says.queues;
+      positions = ap (positions_in n) past ∙ says.positions;
+      rest_is = sym (drop-drop (36 * n) 26 (common_text c ++ after)) ∙ ap (drop (36 * n)) past ∙ says.rest_is;
+      long = size;
+    }
+
+front_reads : (n : ℕ) (c : Common) (qs : List Queue) (ps : List Positions) (rest : List ℕ) → length qs ≡ n → Fit common_widths (common_numbers c) → FitQueues qs ps → ReadsFront n (front_text c qs ps rest) c qs ps rest
+front_reads n c qs ps rest count common_fits queues_fits =
+    subst (λ (k : ℕ). ReadsFront k (front_text c qs ps rest) c qs ps rest) count (front_said (length qs) c qs ps (queues_text qs ps ++ rest) rest common_fits (queues_said qs ps rest queues_fits))
+
+front_written : (n : ℕ) (bytes : List ℕ) → IsBytes bytes → HasFront n bytes → bytes ≡ front_text (common_of bytes) (queues_in n (drop 26 bytes)) (positions_in n (drop 26 bytes)) (drop (26 + 36 * n) bytes)
+front_written n bytes are form =
+    let queues = queues_written n (drop 26 bytes) (IsBytes-drop 26 bytes are) (omega (arith, form.long, length-drop 26 bytes)) form.flags in
+    let text = queues_text (queues_in n (drop 26 bytes)) (positions_in n (drop 26 bytes)) in
+    let common : common_text (common_of bytes) ≡ take 26 bytes = common_text-of bytes are (omega (arith, form.long)) in
+    sym (take-append-drop 26 bytes)
+    ∙ ap (λ (x : List ℕ). x ++ drop 26 bytes) (sym common)
+    ∙ ap (λ (x : List ℕ). common_text (common_of bytes) ++ x) (queues ∙ ap (λ (x : List ℕ). text ++ x) (drop-drop (36 * n) 26 bytes))
+
+-- What is read was spelled so.
+
+body_written : (ram_len : ℕ) (s : Shape) (bytes : List ℕ) (o : Own) → IsBytes bytes → HasFront (queues_of s) bytes → own_of s (drop (26 + 36 * queues_of s) bytes) ≡ Some o → bytes ≡ body (device_of ram_len s bytes o)
+body_written ram_len s bytes o are form read =
+    let size = 26 + 36 * queues_of s in
+    front_written (queues_of s) bytes are form
+    ∙ ap (front_text (common_of bytes) (queues_in (queues_of s) (drop 26 bytes)) (positions_in (queues_of s) (drop 26 bytes))) (own_written s (drop size bytes) o (IsBytes-drop size bytes are) read)
+
+-- The parts that were read, in place of where they stand.
+pub read_device : (ram_len : ℕ) (s : Shape) (bytes : List ℕ) (o : Own) (c : Common) (qs : List Queue) (ps : List Positions)
+    → common_of bytes ≡ c → queues_in (queues_of s) (drop 26 bytes) ≡ qs → positions_in (queues_of s) (drop 26 bytes) ≡ ps → device_of ram_len s bytes o ≡ saved_device ram_len s c qs ps o
+read_device ram_len s bytes o c qs ps e f g = rw (e, f, g) refl
+
+-- The parts of a sound device fit their fields.
+record DeviceFits (d : DeviceState) : Type 0 where
+  pub common : Fit common_widths (common_numbers d.registers.common)
+  pub queues : FitQueues d.registers.queues d.positions
+  pub own : ReadsOwn d.shape d.own
+
+device_fits : (ram_len : ℕ) (d : DeviceState) → IsSoundDevice ram_len d → DeviceFits d
+device_fits ram_len d sound =
+    let r = d.registers in
+    record {
+      common = common_fits r.offered r.common sound.registers.common;
+      queues = queues_fit r.ram_len (is_packed_by r.common) r.common r.queues d.positions (recursion_from_All (IsSoundQueue r.ram_len r.common) r.queues sound.registers.queues) sound.positions;
+      own = own_reads ram_len r d.shape d.own sound.shape sound.registers sound.ram_len sound.own;
+    }
 
 same_device : (d e : DeviceState) → d.shape ≡ e.shape → d.registers.device_id ≡ e.registers.device_id → d.registers.offered ≡ e.registers.offered → d.registers.ram_len ≡ e.registers.ram_len
     → d.registers.common ≡ e.registers.common → d.registers.queues ≡ e.registers.queues → d.positions ≡ e.positions → d.own ≡ e.own → d ≡ e
@@ -177,75 +239,68 @@ same_device d e shape id offered ram_len common queues positions own_is =
     = rw (shape, id, offered, ram_len, common, queues, positions, own_is) refl in
     same
 
-positions_at : (packed : Bool) (qs rs : List Queue) (ps os : List Positions) → qs ≡ rs → ps ≡ os → HavePositions packed qs ps → HavePositions packed rs os
-positions_at packed qs rs ps os e f h = subst (λ (x : List Queue). HavePositions packed x os) e (subst (λ (x : List Positions). HavePositions packed qs x) f h)
+-- A sound device is as it was saved.
+as_saved : (ram_len : ℕ) (d : DeviceState) → IsSoundDevice ram_len d → saved_device ram_len d.shape d.registers.common d.registers.queues d.positions d.own ≡ d
+as_saved ram_len d sound =
+    same_device (saved_device ram_len d.shape d.registers.common d.registers.queues d.positions d.own) d refl (sym sound.device_id) (sym sound.offered) (sym sound.ram_len) refl refl refl refl
 
-parts_by : (ram_len : ℕ) (d : DeviceState) (qs : List Queue) (ps : List Positions) → d.registers.queues ≡ qs → d.positions ≡ ps → length qs ≡ 1 → d.shape ≡ Entropy → IsSoundDevice ram_len d → EntropyParts ram_len d
-parts_by ram_len d [] ps e f one shape sound = absurd (omega (arith, one))
-parts_by ram_len d (q ∷ r ∷ qs) ps e f one shape sound = absurd (omega (arith, one))
-parts_by ram_len d (q ∷ []) [] e f one shape sound = absurd (positions_at (is_packed_by d.registers.common) _ _ _ _ e f sound.positions)
-parts_by ram_len d (q ∷ []) (p ∷ o ∷ ps) e f one shape sound = absurd (positions_at (is_packed_by d.registers.common) _ _ _ _ e f sound.positions).1
-parts_by ram_len d (q ∷ []) (p ∷ []) e f one shape sound =
-    let placed = positions_at (is_packed_by d.registers.common) _ _ _ _ e f sound.positions in
-    let queues : All (IsSoundQueue d.registers.ram_len d.registers.common) (q ∷ []) = rw e at sound.registers.queues in
-    let queue : IsSoundQueue d.registers.ram_len d.registers.common q = queues 0 q (omega arith) in
-    let held = entropy_own d.own (rw shape at sound.own) in
+-- What the body of a sound device reads as.
+pub record ReadsAs (ram_len : ℕ) (text : List ℕ) (d : DeviceState) : Type 0 where
+  pub form : HasFront (queues_of d.shape) text
+  pub own : own_of d.shape (drop (26 + 36 * queues_of d.shape) text) ≡ Some d.own
+  pub device : device_of ram_len d.shape text d.own ≡ d
+
+body_front : (ram_len : ℕ) (d : DeviceState) → IsSoundDevice ram_len d → ReadsFront (queues_of d.shape) (body d) d.registers.common d.registers.queues d.positions (own_text d.own)
+body_front ram_len d sound =
+    let fits = device_fits ram_len d sound in
+    front_reads (queues_of d.shape) d.registers.common d.registers.queues d.positions (own_text d.own) sound.queues fits.common fits.queues
+
+pub body_reads_as : (ram_len : ℕ) (d : DeviceState) → IsSoundDevice ram_len d → ReadsAs ram_len (body d) d
+body_reads_as ram_len d sound =
+    let front = body_front ram_len d sound in
     record {
-      queue = q;
-      positions = p;
-      is = same_device d (device_with ram_len d.registers.common q p held.pool) shape (sound.device_id ∙ ap device_id_of shape) (sound.offered ∙ ap offered_of shape) sound.ram_len refl e f held.is;
-      pool = held.pool;
-      pool_are = held.are;
-      common_fits = common_fits d.registers.offered d.registers.common sound.registers.common;
-      queue_fits = queue_fits d.registers.ram_len (is_packed_by d.registers.common) d.registers.common q p queue placed.0;
+      form = front.form;
+      own = ap (own_of d.shape) front.rest_is ∙ (device_fits ram_len d sound).own.read;
+      device = read_device ram_len d.shape (body d) d.own _ _ _ front.common front.queues front.positions ∙ as_saved ram_len d sound;
     }
-
-pub entropy_parts : (ram_len : ℕ) (d : DeviceState) → d.shape ≡ Entropy → IsSoundDevice ram_len d → EntropyParts ram_len d
-entropy_parts ram_len d shape sound = parts_by ram_len d d.registers.queues d.positions refl refl (sound.queues ∙ ap queues_of shape) shape sound
-
-pub body_reads_as : (ram_len : ℕ) (d : DeviceState) → d.shape ≡ Entropy → IsSoundDevice ram_len d → ReadsAs ram_len (body d) d
-body_reads_as ram_len d shape sound =
-    let parts = entropy_parts ram_len d shape sound in
-    let c = d.registers.common in
-    let text : body d ≡ common_text c ++ (queue_text parts.queue parts.positions ++ held_text parts.pool) = ap body parts.is ∙ body_with ram_len c parts.queue parts.positions parts.pool in
-    let reads = reads_as ram_len c parts.queue parts.positions parts.pool parts.common_fits parts.queue_fits parts.pool_are.few in
-    subst (λ (x : DeviceState). ReadsAs ram_len (body d) x) (sym parts.is)
-    (subst (λ (x : List ℕ). ReadsAs ram_len x (device_with ram_len c parts.queue parts.positions parts.pool)) (sym text) reads)
 
 -- The answers of the reader.
 
-pub no_form : (ram_len : ℕ) (bytes : List ℕ) → ¬ (HasEntropyForm bytes) → (d : DeviceState) → ¬ (IsBodyOf Entropy ram_len bytes d)
-no_form ram_len bytes never d is = never (subst HasEntropyForm (sym is.is) (body_reads_as ram_len d is.shape_is is.sound).form)
+pub no_front : (shape : Shape) (ram_len : ℕ) (bytes : List ℕ) → ¬ (HasFront (queues_of shape) bytes) → (d : DeviceState) → ¬ (IsBodyOf shape ram_len bytes d)
+no_front shape ram_len bytes never d is =
+    never (subst (HasFront (queues_of shape)) (sym is.is) (subst (λ (s : Shape). HasFront (queues_of s) (body d)) is.shape_is (body_reads_as ram_len d is.sound).form))
 
-pub not_sound : (ram_len : ℕ) (bytes : List ℕ) → ¬ (IsSoundDevice ram_len (entropy_of ram_len bytes)) → (d : DeviceState) → ¬ (IsBodyOf Entropy ram_len bytes d)
-not_sound ram_len bytes never d is =
-    never (subst (IsSoundDevice ram_len) (sym (ap (entropy_of ram_len) is.is ∙ (body_reads_as ram_len d is.shape_is is.sound).device)) is.sound)
+-- What such a body tells beside its registers and its queues is the device's own.
+own_told : (shape : Shape) (ram_len : ℕ) (bytes : List ℕ) (d : DeviceState) → IsBodyOf shape ram_len bytes d → own_of shape (drop (26 + 36 * queues_of shape) bytes) ≡ Some d.own
+own_told shape ram_len bytes d is =
+    rw is.is (subst (λ (s : Shape). own_of s (drop (26 + 36 * queues_of s) (body d)) ≡ Some d.own) is.shape_is (body_reads_as ram_len d is.sound).own)
 
-pub is_body : (ram_len : ℕ) (bytes : List ℕ) → IsBytes bytes → HasEntropyForm bytes → IsSoundDevice ram_len (entropy_of ram_len bytes) → IsBodyOf Entropy ram_len bytes (entropy_of ram_len bytes)
-is_body ram_len bytes are form sound = record { shape_is = refl; sound = sound; is = body_of-entropy ram_len bytes are form }
+pub no_own : (shape : Shape) (ram_len : ℕ) (bytes : List ℕ) → own_of shape (drop (26 + 36 * queues_of shape) bytes) ≡ None → (d : DeviceState) → ¬ (IsBodyOf shape ram_len bytes d)
+no_own shape ram_len bytes none d is = let told = own_told shape ram_len bytes d is in cc
 
--- The parts that were read, in place of where they stand.
-pub read_parts : (ram_len : ℕ) (bytes : List ℕ) (c : Common) (q : Queue) (p : Positions) (pool : List ℕ) → c ≡ common_of bytes → q ≡ queue_of (drop 26 bytes) → p ≡ positions_of (drop 26 bytes) → pool ≡ drop 64 bytes
-    → entropy_of ram_len bytes ≡ saved_device ram_len Entropy c (q ∷ []) (p ∷ []) (own.Entropy pool)
-read_parts ram_len bytes c q p pool e f g h = rw (e, f, g, h) refl
+device_told : (shape : Shape) (ram_len : ℕ) (bytes : List ℕ) (d : DeviceState) (o : Own) → IsBodyOf shape ram_len bytes d → own_of shape (drop (26 + 36 * queues_of shape) bytes) ≡ Some o → device_of ram_len shape bytes o ≡ d
+device_told shape ram_len bytes d o is read =
+    let same : o ≡ d.own = same_found o d.own (sym read ∙ own_told shape ram_len bytes d is) in
+    ap (device_of ram_len shape bytes) same
+    ∙ ap (λ (s : Shape). device_of ram_len s bytes d.own) (sym is.shape_is)
+    ∙ ap (λ (x : List ℕ). device_of ram_len d.shape x d.own) is.is
+    ∙ (body_reads_as ram_len d is.sound).device
+
+pub not_sound : (shape : Shape) (ram_len : ℕ) (bytes : List ℕ) (o : Own) → own_of shape (drop (26 + 36 * queues_of shape) bytes) ≡ Some o → ¬ (IsSoundDevice ram_len (device_of ram_len shape bytes o)) → (d : DeviceState)
+    → ¬ (IsBodyOf shape ram_len bytes d)
+not_sound shape ram_len bytes o read never d is = never (subst (IsSoundDevice ram_len) (sym (device_told shape ram_len bytes d o is read)) is.sound)
+
+pub is_body : (shape : Shape) (ram_len : ℕ) (bytes : List ℕ) (o : Own) → IsBytes bytes → HasFront (queues_of shape) bytes → own_of shape (drop (26 + 36 * queues_of shape) bytes) ≡ Some o
+    → IsSoundDevice ram_len (device_of ram_len shape bytes o) → IsBodyOf shape ram_len bytes (device_of ram_len shape bytes o)
+is_body shape ram_len bytes o are form read sound = record { shape_is = refl; sound = sound; is = body_written ram_len shape bytes o are form read }
 
 -- One body is of one sound device, and it is short.
-one_body_by : (ram_len : ℕ) (s : Shape) (d e : DeviceState) → d.shape ≡ s → e.shape ≡ s → IsSoundDevice ram_len d → IsSoundDevice ram_len e → body d ≡ body e → d ≡ e
-one_body_by ram_len Entropy d e p q sound other same =
-    sym (body_reads_as ram_len d p sound).device ∙ ap (entropy_of ram_len) same ∙ (body_reads_as ram_len e q other).device
-
 pub one_body : (ram_len : ℕ) (d e : DeviceState) → d.shape ≡ e.shape → IsSoundDevice ram_len d → IsSoundDevice ram_len e → body d ≡ body e → d ≡ e
-one_body ram_len d e shape sound other same = one_body_by ram_len e.shape d e shape refl sound other same
-
-short_by : (ram_len : ℕ) (s : Shape) (d : DeviceState) → d.shape ≡ s → IsSoundDevice ram_len d → length (body d) ≤ 131072
-short_by ram_len Entropy d shape sound =
-    let parts = entropy_parts ram_len d shape sound in
-    let c = d.registers.common in
-    let text : body d ≡ common_text c ++ (queue_text parts.queue parts.positions ++ held_text parts.pool) = ap body parts.is ∙ body_with ram_len c parts.queue parts.positions parts.pool in
-    omega (arith, ap length text, length-append (common_text c) (queue_text parts.queue parts.positions ++ held_text parts.pool), length-append (queue_text parts.queue parts.positions) (held_text parts.pool), length-common_text c, length-queue_text parts.queue parts.positions, parts.pool_are.few)
+one_body ram_len d e shape sound other same =
+    sym (device_told e.shape ram_len (body e) d e.own (record { shape_is = shape; sound = sound; is = sym same }) (body_reads_as ram_len e other).own) ∙ (body_reads_as ram_len e other).device
 
 pub body_is_short : (ram_len : ℕ) (d : DeviceState) → IsSoundDevice ram_len d → length (body d) ≤ 131072
-body_is_short ram_len d sound = short_by ram_len d.shape d refl sound
+body_is_short ram_len d sound = omega (arith, (body_front ram_len d sound).long, sound.queues, sound.registers.few, (device_fits ram_len d sound).own.short)
 
 common_bytes : (c : Common) → Fit common_widths (common_numbers c) → IsBytes (common_text c)
 unfolding common_text
@@ -255,15 +310,15 @@ queue_bytes : (q : Queue) (p : Positions) → Fit queue_widths (queue_numbers q 
 unfolding queue_text
 queue_bytes q p fits = IsBytes-spelled queue_widths (queue_numbers q p) fits
 
-bytes_by : (ram_len : ℕ) (s : Shape) (d : DeviceState) → d.shape ≡ s → IsSoundDevice ram_len d → IsBytes (body d)
-bytes_by ram_len Entropy d shape sound =
-    let parts = entropy_parts ram_len d shape sound in
-    let c = d.registers.common in
-    let text : body d ≡ common_text c ++ (queue_text parts.queue parts.positions ++ held_text parts.pool) = ap body parts.is ∙ body_with ram_len c parts.queue parts.positions parts.pool in
-    let held = IsBytes-append (digits 2 (length parts.pool)) parts.pool (IsBytes-digits 2 (length parts.pool) (omega (arith, parts.pool_are.few))) parts.pool_are.are in
-    subst (λ (x : List ℕ). IsBytes x) (sym text)
-    (IsBytes-append (common_text c) (queue_text parts.queue parts.positions ++ held_text parts.pool) (common_bytes c parts.common_fits)
-    (IsBytes-append (queue_text parts.queue parts.positions) (held_text parts.pool) (queue_bytes parts.queue parts.positions parts.queue_fits) held))
+queues_bytes : (qs : List Queue) (ps : List Positions) → FitQueues qs ps → IsBytes (queues_text qs ps)
+queues_bytes [] [] fits i = omega arith
+queues_bytes [] (p ∷ ps) fits i = absurd fits
+queues_bytes (q ∷ qs) [] fits i = absurd fits
+queues_bytes (q ∷ qs) (p ∷ ps) fits i = IsBytes-append (queue_text q p) (queues_text qs ps) (queue_bytes q p fits.0) (queues_bytes qs ps fits.1) i
 
 pub body_bytes : (ram_len : ℕ) (d : DeviceState) → IsSoundDevice ram_len d → IsBytes (body d)
-body_bytes ram_len d sound = bytes_by ram_len d.shape d refl sound
+body_bytes ram_len d sound =
+    let fits = device_fits ram_len d sound in
+    let c = d.registers.common in
+    IsBytes-append (common_text c) (queues_text d.registers.queues d.positions ++ own_text d.own) (common_bytes c fits.common)
+    (IsBytes-append (queues_text d.registers.queues d.positions) (own_text d.own) (queues_bytes d.registers.queues d.positions fits.queues) fits.own.bytes)

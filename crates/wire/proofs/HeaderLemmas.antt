@@ -1,94 +1,187 @@
 -- Headers and shapes: what is spelled is read, and what is read was spelled.
 use Rattle.std.proofs.lemmas.Bool.{eqb-true, eqb-false, ne_eqb, ltb-false, le-ltb}
-use Rattle.std.proofs.lemmas.List.{drop_at}
+use Rattle.std.proofs.lemmas.List.{drop_at, take_at, length-take, length-drop}
+use Rattle.std.proofs.lemmas.List.Elements.{recursion_from_All, All-from_recursion}
+use Rattle.std.specs.List.{All, AllByRecursion}
+use Rattle.guestmem.specs.ByteLaws.{IsBytes-drop, IsBytes-take}
 use Rattle.guestmem.specs.Number.{number_at, IsBytes}
 use Rattle.wire.specs.HeaderReading.{header_of, with_pages}
-use Rattle.wire.specs.Numbers.{digits, spelled, Fit}
-use Rattle.wire.proofs.Digits.{spelled-numbers, numbers-spelled, length-spelled}
-use Rattle.wire.proofs.Choices.{same_found, not_chosen, neither, so, then_found}
-use Rattle.std.proofs.Common.{◌≡◌, ℕ, zero, suc, ◌+◌, ◌-◌, ◌<◌, ◌≤◌, List, [], ◌∷◌, ◌++◌, length, drop, get_or, subst, ◌≢◌, nat_lt, Option, Some, None, Bool, true, false, cond, refl, sym, ap, ◌∙◌, append_assoc, append-nil, length-append, take-append-drop, arith, eqb}
+use Rattle.wire.specs.Numbers.{digits, spelled, Fit, flag}
+use Rattle.wire.proofs.Digits.{spelled-numbers, numbers-spelled, length-digits, length-spelled, flag-number, number-flag}
+use Rattle.wire.proofs.Choices.{some, same_found, not_chosen, neither, so}
+use Rattle.std.proofs.Common.{◌≡◌, ℕ, suc, ◌+◌, ◌-◌, ◌<◌, ◌≤◌, List, [], ◌∷◌, ◌++◌, length, drop, take, get_or, subst, ◌≢◌, nat_eq, nat_lt, Option, Some, None, Bool, true, false, cond, refl, sym, ap, ◌∙◌, append_assoc, length-append, take-append-drop, arith, eqb}
 use Rattle.std.specs.Int.{byte_at}
-use Rattle.std.specs.Prelude.{codes, option_and_then, not, ◌||◌, ◌%◌}
+use Rattle.std.specs.Prelude.{codes, not, ◌||◌, ◌%◌}
 use Rattle.machine.specs.declared.shape.Shape.{Shape}
-use Rattle.machine.specs.declared.shape.Shape.TheVariants.{Entropy}
-use Rattle.wire.specs.ShapeReading.{shape_of, shapes_of, in_front}
+use Rattle.machine.specs.declared.shape.Shape.TheVariants.{Net, Block, Console, Entropy}
+use Rattle.machine.specs.Sound.{IsBlockShape, IsMac, IsSoundShape}
+use Rattle.wire.specs.ShapeReading.{block_shape_of, net_shape_of, shape_length, shape_of, shapes_of}
+use Rattle.wire.proofs.Lists.{WasSpelled, WereSpelled, several-spelled, spelled-several}
 use Rattle.wire.specs.Header.{spelled_shape, spelled_shapes, front, header, IsHeader, Begins}
 
-in_front-in_front : (xs ys : List Shape) (read : Option (List Shape × List ℕ)) → in_front xs (in_front ys read) ≡ in_front (xs ++ ys) read
-in_front-in_front xs ys None = refl
-in_front-in_front xs ys (Some others) = ap (λ (l : List Shape). Some (l, others.1)) (sym (append_assoc xs ys others.0))
-
--- One shape more.
-shapes_of-more : (m n : ℕ) (bytes : List ℕ) → m ≡ suc n → shapes_of m bytes ≡ option_and_then (λ first. in_front (first.0 ∷ []) (shapes_of n first.1)) (shape_of bytes)
-unfolding shapes_of
-shapes_of-more m n bytes e = ap (λ k. shapes_of k bytes) e
-
-pub shapes_go_on : (count i : ℕ) (xs : List Shape) (bytes after : List ℕ) (shape : Shape) (whole : Option (List Shape × List ℕ)) → i < count → shape_of bytes ≡ Some (shape, after)
-    → in_front xs (shapes_of (count - i) bytes) ≡ whole → in_front (xs ++ shape ∷ []) (shapes_of (count - (i + 1)) after) ≡ whole
-shapes_go_on count i xs bytes after shape whole below found is =
-    let m : count - i ≡ suc (count - (i + 1)) = omega arith in
-    sym (in_front-in_front xs (shape ∷ []) (shapes_of (count - (i + 1)) after))
-    ∙ sym (ap (in_front xs) (shapes_of-more (count - i) (count - (i + 1)) bytes m ∙ ap (option_and_then (λ first. in_front (first.0 ∷ []) (shapes_of (count - (i + 1)) first.1))) found)) ∙ is
-
-pub shapes_fail : (count i : ℕ) (xs : List Shape) (bytes : List ℕ) (whole : Option (List Shape × List ℕ)) → i < count → shape_of bytes ≡ None
-    → in_front xs (shapes_of (count - i) bytes) ≡ whole → whole ≡ None
-shapes_fail count i xs bytes whole below none is =
-    let m : count - i ≡ suc (count - (i + 1)) = omega arith in
-    sym is ∙ ap (in_front xs) (shapes_of-more (count - i) (count - (i + 1)) bytes m ∙ ap (option_and_then (λ first. in_front (first.0 ∷ []) (shapes_of (count - (i + 1)) first.1))) none)
-
-pub shapes_end : (count i : ℕ) (xs : List Shape) (bytes : List ℕ) (whole : Option (List Shape × List ℕ)) → count ≤ i
-    → in_front xs (shapes_of (count - i) bytes) ≡ whole → whole ≡ Some (xs, bytes)
-unfolding shapes_of
-shapes_end count i xs bytes whole done is =
-    let m : count - i ≡ 0 = omega arith in
-    sym is ∙ ap (λ k. in_front xs (shapes_of k bytes)) m ∙ ap (λ (l : List Shape). Some (l, bytes)) (append-nil xs)
-
 -- A shape that is spelled is read, and one that is read was spelled.
-pub shape_of-spelled : (s : Shape) (rest : List ℕ) → shape_of (spelled_shape s ++ rest) ≡ Some (s, rest)
-unfolding shape_of spelled_shape
-shape_of-spelled Entropy rest = refl
+abbrev block_widths : List ℕ
+block_widths = 8 ∷ 1 ∷ []
 
-entropy_read : (n : ℕ) (bytes : List ℕ) (found : Shape × List ℕ) (is : Bool) → eqb n 4 ≡ is → cond is (Some (Entropy, bytes)) None ≡ Some found → n ∷ bytes ≡ spelled_shape found.0 ++ found.1
+-- What the bytes behind its number say of a block device.
+record SaysBlock (bytes : List ℕ) (sectors : ℕ) (read_only : Bool) (id rest : List ℕ) : Type 0 where
+  pub long : 29 ≤ length bytes
+  pub sectors_are : number_at bytes 0 8 ≡ sectors
+  pub only : number_at bytes 8 1 ≡ flag read_only
+  pub id_is : take 20 (drop 9 bytes) ≡ id
+  pub rest_is : drop 20 (drop 9 bytes) ≡ rest
+
+flag_fits : (b : Bool) → flag b < 256
+flag_fits true = omega arith
+flag_fits false = omega arith
+
+flag_few : (b : Bool) → flag b ≤ 1
+flag_few true = omega arith
+flag_few false = omega arith
+
+block_says : (sectors : ℕ) (read_only : Bool) (id rest : List ℕ) → IsBlockShape sectors id → SaysBlock ((digits 8 sectors ++ (flag read_only ∷ id)) ++ rest) sectors read_only id rest
+block_says sectors read_only id rest good =
+    let fits : Fit block_widths (sectors ∷ flag read_only ∷ []) = (omega (arith, good.few), (flag_fits read_only, tt)) in
+    let read = numbers-spelled block_widths (sectors ∷ flag read_only ∷ []) [] (id ++ rest) fits in
+    let nth = λ (k : ℕ). ap (λ (ns : List ℕ). get_or ns k 0) read in
+    record {
+      long = omega (arith, length-append (digits 8 sectors ++ (flag read_only ∷ id)) rest, length-append (digits 8 sectors) (flag read_only ∷ id), length-digits 8 sectors, good.id_size);
+      sectors_are = nth 0;
+      only = nth 1;
+      id_is = take_at id rest 20 good.id_size;
+      rest_is = drop_at id rest 20 good.id_size;
+    }
+
+block_reads : (bytes : List ℕ) (sectors : ℕ) (read_only : Bool) (id rest : List ℕ) → IsBlockShape sectors id → SaysBlock bytes sectors read_only id rest → block_shape_of bytes ≡ Some (Block sectors read_only id, rest)
+unfolding block_shape_of
+block_reads bytes sectors read_only id rest good says =
+    let long : nat_lt (length bytes) 29 ≡ false = le-ltb _ _ says.long in
+    let one : nat_lt 1 (flag read_only) ≡ false = le-ltb _ _ (flag_few read_only) in
+    let some : eqb sectors 0 ≡ false = ne_eqb _ _ (λ (z : sectors ≡ 0). omega (arith, good.some)) in
+    let few : nat_lt 2097152 sectors ≡ false = le-ltb _ _ good.few in
+    rw (long, says.only, one, says.sectors_are, some, few, number-flag read_only, says.id_is, says.rest_is) refl
+
+net_reads : (mac rest : List ℕ) → IsMac mac → net_shape_of (mac ++ rest) ≡ Some (Net mac, rest)
+unfolding net_shape_of
+net_reads mac rest good =
+    let long : nat_lt (length (mac ++ rest)) 6 ≡ false = le-ltb _ _ (omega (arith, length-append mac rest, good.size)) in
+    rw (long, take_at mac rest 6 good.size, drop_at mac rest 6 good.size) refl
+
+pub shape_of-spelled : (s : Shape) (rest : List ℕ) → IsSoundShape s → shape_of (spelled_shape s ++ rest) ≡ Some (s, rest)
+unfolding shape_of spelled_shape
+shape_of-spelled (Net mac) rest good = net_reads mac rest good
+shape_of-spelled (Block sectors read_only id) rest good =
+    block_reads ((digits 8 sectors ++ (flag read_only ∷ id)) ++ rest) sectors read_only id rest good (block_says sectors read_only id rest good)
+shape_of-spelled Console rest good = refl
+shape_of-spelled Entropy rest good = refl
+
+one_more_number : (sectors only : ℕ) (id rest : List ℕ) → spelled block_widths (sectors ∷ only ∷ []) ++ (id ++ rest) ≡ (digits 8 sectors ++ (only ∷ id)) ++ rest
+one_more_number sectors only id rest = refl
+
+block_written : (bytes : List ℕ) (sectors : ℕ) → IsBytes bytes → 29 ≤ length bytes → number_at bytes 0 8 ≡ sectors → number_at bytes 8 1 ≤ 1
+    → bytes ≡ (digits 8 sectors ++ (flag (nat_eq (number_at bytes 8 1) 1) ∷ take 20 (drop 9 bytes))) ++ drop 20 (drop 9 bytes)
+block_written bytes sectors are long sectors_are few =
+    let taken : spelled block_widths (number_at bytes 0 8 ∷ number_at bytes 8 1 ∷ []) ≡ take 9 bytes = spelled-numbers block_widths 0 bytes are (omega (arith, long)) in
+    sym (take-append-drop 9 bytes)
+    ∙ ap (λ (x : List ℕ). x ++ drop 9 bytes) (sym taken)
+    ∙ ap (λ (x : List ℕ). spelled block_widths (number_at bytes 0 8 ∷ number_at bytes 8 1 ∷ []) ++ x) (sym (take-append-drop 20 (drop 9 bytes)))
+    ∙ one_more_number (number_at bytes 0 8) (number_at bytes 8 1) (take 20 (drop 9 bytes)) (drop 20 (drop 9 bytes))
+    ∙ ap (λ (x : ℕ). (digits 8 x ++ (number_at bytes 8 1 ∷ take 20 (drop 9 bytes))) ++ drop 20 (drop 9 bytes)) sectors_are
+    ∙ ap (λ (x : ℕ). (digits 8 sectors ++ (x ∷ take 20 (drop 9 bytes))) ++ drop 20 (drop 9 bytes)) (sym (flag-number (number_at bytes 8 1) few))
+
+block_sound : (bytes : List ℕ) → IsBytes bytes → 29 ≤ length bytes → eqb (number_at bytes 0 8) 0 ≡ false → nat_lt 2097152 (number_at bytes 0 8) ≡ false → IsBlockShape (number_at bytes 0 8) (take 20 (drop 9 bytes))
+block_sound bytes are long some few =
+    let is : number_at bytes 0 8 ≢ 0 = eqb-false (number_at bytes 0 8) 0 some in
+    record {
+      some = omega (arith, is);
+      few = ltb-false 2097152 (number_at bytes 0 8) few;
+      id_size = omega (arith, long, length-take 20 (drop 9 bytes), length-drop 9 bytes);
+      id_bytes = IsBytes-take 20 (drop 9 bytes) (IsBytes-drop 9 bytes are);
+    }
+
+abbrev ShapeRead : List ℕ → Shape × List ℕ → Type 0
+ShapeRead bytes found = WasSpelled spelled_shape IsSoundShape bytes found
+
+net_read : (n : ℕ) (bytes : List ℕ) (found : Shape × List ℕ) → IsBytes bytes → n ≡ 1 → net_shape_of bytes ≡ Some found → ShapeRead (n ∷ bytes) found
+unfolding net_shape_of spelled_shape
+net_read n bytes found are one e =
+    let long = not_chosen (nat_lt (length bytes) 6) _ found e in
+    let within = ltb-false (length bytes) 6 long.0 in
+    subst (λ (y : Shape × List ℕ). ShapeRead (n ∷ bytes) y) (same_found _ found long.1) (record {
+      good = record { size = omega (arith, within, length-take 6 bytes); bytes = IsBytes-take 6 bytes are };
+      whole = ap (λ (k : ℕ). k ∷ bytes) one ∙ ap (λ (x : List ℕ). 1 ∷ x) (sym (take-append-drop 6 bytes));
+    })
+
+block_read : (n : ℕ) (bytes : List ℕ) (found : Shape × List ℕ) → IsBytes bytes → n ≡ 2 → block_shape_of bytes ≡ Some found → ShapeRead (n ∷ bytes) found
+unfolding block_shape_of spelled_shape
+block_read n bytes found are two e =
+    let long = not_chosen (nat_lt (length bytes) 29 || nat_lt 1 (number_at bytes 8 1)) _ found e in
+    let some = not_chosen (eqb (number_at bytes 0 8) 0 || nat_lt 2097152 (number_at bytes 0 8)) _ found long.1 in
+    let size = neither (nat_lt (length bytes) 29) (nat_lt 1 (number_at bytes 8 1)) long.0 in
+    let limits = neither (eqb (number_at bytes 0 8) 0) (nat_lt 2097152 (number_at bytes 0 8)) some.0 in
+    let within = ltb-false (length bytes) 29 size.0 in
+    subst (λ (y : Shape × List ℕ). ShapeRead (n ∷ bytes) y) (same_found _ found some.1) (record {
+      good = block_sound bytes are within limits.0 limits.1;
+      whole = ap (λ (k : ℕ). k ∷ bytes) two ∙ ap (λ (x : List ℕ). 2 ∷ x) (block_written bytes (number_at bytes 0 8) are within refl (ltb-false 1 (number_at bytes 8 1) size.1));
+    })
+
+entropy_read : (n : ℕ) (bytes : List ℕ) (found : Shape × List ℕ) (is : Bool) → eqb n 4 ≡ is → cond is (Some (Entropy, bytes)) None ≡ Some found → ShapeRead (n ∷ bytes) found
 unfolding spelled_shape
 entropy_read n bytes found true four e =
-    subst (λ (y : Shape × List ℕ). n ∷ bytes ≡ spelled_shape y.0 ++ y.1) (same_found (Entropy, bytes) found e) (ap (λ (k : ℕ). k ∷ bytes) (eqb-true n 4 four))
+    subst (λ (y : Shape × List ℕ). ShapeRead (n ∷ bytes) y) (same_found (Entropy, bytes) found e) (record { good = tt; whole = ap (λ (k : ℕ). k ∷ bytes) (eqb-true n 4 four) })
 entropy_read n bytes found false four e = absurd cc
 
-pub spelled-shape_of : (bytes : List ℕ) (found : Shape × List ℕ) → shape_of bytes ≡ Some found → bytes ≡ spelled_shape found.0 ++ found.1
-unfolding shape_of
-spelled-shape_of [] found e = absurd cc
-spelled-shape_of (n ∷ bytes) found e = entropy_read n bytes found (eqb n 4) refl e
+console_read : (n : ℕ) (bytes : List ℕ) (found : Shape × List ℕ) (is : Bool) → eqb n 3 ≡ is → cond is (Some (Console, bytes)) (cond (eqb n 4) (Some (Entropy, bytes)) None) ≡ Some found → ShapeRead (n ∷ bytes) found
+unfolding spelled_shape
+console_read n bytes found true three e =
+    subst (λ (y : Shape × List ℕ). ShapeRead (n ∷ bytes) y) (same_found (Console, bytes) found e) (record { good = tt; whole = ap (λ (k : ℕ). k ∷ bytes) (eqb-true n 3 three) })
+console_read n bytes found false three e = entropy_read n bytes found (eqb n 4) refl e
 
-shapes_of-spelled : (shapes : List Shape) (rest : List ℕ) → shapes_of (length shapes) (spelled_shapes shapes ++ rest) ≡ Some (shapes, rest)
-unfolding shapes_of
-shapes_of-spelled [] rest = refl
-shapes_of-spelled (s ∷ shapes) rest =
-    let first : spelled_shapes (s ∷ shapes) ++ rest ≡ spelled_shape s ++ (spelled_shapes shapes ++ rest) = append_assoc (spelled_shape s) (spelled_shapes shapes) rest in
-    rw (first, shape_of-spelled s (spelled_shapes shapes ++ rest), shapes_of-spelled shapes rest) refl
+from_block_read : (n : ℕ) (bytes : List ℕ) (found : Shape × List ℕ) (is : Bool) → IsBytes bytes → eqb n 2 ≡ is
+    → cond is (block_shape_of bytes) (cond (eqb n 3) (Some (Console, bytes)) (cond (eqb n 4) (Some (Entropy, bytes)) None)) ≡ Some found → ShapeRead (n ∷ bytes) found
+from_block_read n bytes found true are two e = block_read n bytes found are (eqb-true n 2 two) e
+from_block_read n bytes found false are two e = console_read n bytes found (eqb n 3) refl e
+
+shape_read : (n : ℕ) (bytes : List ℕ) (found : Shape × List ℕ) (is : Bool) → IsBytes bytes → eqb n 1 ≡ is
+    → cond is (net_shape_of bytes) (cond (eqb n 2) (block_shape_of bytes) (cond (eqb n 3) (Some (Console, bytes)) (cond (eqb n 4) (Some (Entropy, bytes)) None))) ≡ Some found → ShapeRead (n ∷ bytes) found
+shape_read n bytes found true are one e = net_read n bytes found are (eqb-true n 1 one) e
+shape_read n bytes found false are one e = from_block_read n bytes found (eqb n 2) are refl e
+
+pub spelled-shape_of : (bytes : List ℕ) (found : Shape × List ℕ) → IsBytes bytes → shape_of bytes ≡ Some found → ShapeRead bytes found
+unfolding shape_of
+spelled-shape_of [] found are e = absurd cc
+spelled-shape_of (n ∷ bytes) found are e = shape_read n bytes found (eqb n 1) (λ i. are (suc i)) refl e
+
+-- Where no shape is read, none is spelled.
+pub no_shape : (bytes : List ℕ) → shape_of bytes ≡ None → (s : Shape) (rest : List ℕ) → IsSoundShape s → ¬ (bytes ≡ spelled_shape s ++ rest)
+no_shape bytes none s rest good is = let read = ap shape_of is ∙ shape_of-spelled s rest good in cc
+
+-- A shape is as long as its first byte says.
+pub record HasLength (s : Shape) : Type 0 where
+  pub number : ℕ
+  pub others : List ℕ
+  pub is : spelled_shape s ≡ number ∷ others
+  pub long : shape_length number ≡ Some (suc (length others))
+
+pub length_shape : (s : Shape) → IsSoundShape s → HasLength s
+unfolding spelled_shape
+length_shape (Net mac) good = record { number = 1; others = mac; is = refl; long = ap (λ (n : ℕ). some (suc n)) (sym good.size) }
+length_shape (Block sectors read_only id) good =
+    let others = digits 8 sectors ++ (flag read_only ∷ id) in
+    let size : suc (length others) ≡ 30 = omega (arith, length-append (digits 8 sectors) (flag read_only ∷ id), length-digits 8 sectors, good.id_size) in
+    record { number = 2; others = others; is = refl; long = ap some (sym size) }
+length_shape Console good = record { number = 3; others = []; is = refl; long = refl }
+length_shape Entropy good = record { number = 4; others = []; is = refl; long = refl }
+
+shapes_of-spelled : (shapes : List Shape) (rest : List ℕ) → All IsSoundShape shapes → shapes_of (length shapes) (spelled_shapes shapes ++ rest) ≡ Some (shapes, rest)
+shapes_of-spelled shapes rest sound = several-spelled shape_of spelled_shape IsSoundShape shape_of-spelled shapes rest (recursion_from_All IsSoundShape shapes sound)
 
 -- What so many shapes at the front were spelled as.
-record WereShapes (n : ℕ) (bytes : List ℕ) (found : List Shape × List ℕ) : Type 0 where
-  pub count : length found.0 ≡ n
-  pub whole : bytes ≡ spelled_shapes found.0 ++ found.1
+abbrev WereShapes : ℕ → List ℕ → List Shape × List ℕ → Type 0
+WereShapes n bytes found = WereSpelled spelled_shape IsSoundShape n bytes found
 
--- Shapes that were read in front of others.
-first_and_others : (shapes : List Shape) (others : Option (List Shape × List ℕ)) (found : List Shape × List ℕ) → in_front shapes others ≡ Some found
-    → (x : List Shape × List ℕ) × (others ≡ Some x) × ((shapes ++ x.0, x.1) ≡ found)
-first_and_others shapes None found e = absurd cc
-first_and_others shapes (Some others) found e = (others, refl, same_found (shapes ++ others.0, others.1) found e)
-
-shapes_read : (n : ℕ) (bytes : List ℕ) (found : List Shape × List ℕ) → shapes_of n bytes ≡ Some found → WereShapes n bytes found
-unfolding shapes_of
-shapes_read zero bytes found e =
-    subst (λ (y : List Shape × List ℕ). WereShapes 0 bytes y) (same_found ([], bytes) found e) (record { count = refl; whole = refl })
-shapes_read (suc n) bytes found e =
-    let a = then_found (λ (first : Shape × List ℕ). in_front (first.0 ∷ []) (shapes_of n first.1)) (shape_of bytes) found e in
-    let b = first_and_others (a.0.0 ∷ []) (shapes_of n a.0.1) found a.2 in
-    let first = spelled-shape_of bytes a.0 a.1 in
-    let others = shapes_read n a.0.1 b.0 b.1 in
-    let regroup : spelled_shape a.0.0 ++ (spelled_shapes b.0.0 ++ b.0.1) ≡ spelled_shapes (a.0.0 ∷ b.0.0) ++ b.0.1 = sym (append_assoc (spelled_shape a.0.0) (spelled_shapes b.0.0) b.0.1) in
-    subst (λ (y : List Shape × List ℕ). WereShapes (suc n) bytes y) b.2
-    (record { count = ap suc others.count; whole = first ∙ ap (λ (x : List ℕ). spelled_shape a.0.0 ++ x) others.whole ∙ regroup })
+shapes_read : (n : ℕ) (bytes : List ℕ) (found : List Shape × List ℕ) → IsBytes bytes → shapes_of n bytes ≡ Some found → WereShapes n bytes found
+shapes_read n bytes found are e = spelled-several shape_of spelled_shape IsSoundShape spelled-shape_of n bytes found are e
 
 abbrev head_widths : List ℕ
 head_widths = 4 ∷ 4 ∷ 4 ∷ 4 ∷ []
@@ -140,7 +233,7 @@ header_reads bytes pages shapes rest good says after =
     let few_pages : nat_lt 16384 pages ≡ false = le-ltb _ _ good.few_pages in
     let some_device : eqb (length shapes) 0 ≡ false = ne_eqb _ _ (λ (z : length shapes ≡ 0). omega (arith, good.some_device)) in
     let few_devices : nat_lt 16 (length shapes) ≡ false = le-ltb _ _ good.few_devices in
-    rw (long, says.magic, says.version, says.pages_are, says.count_is, some_page, few_pages, some_device, few_devices, after, shapes_of-spelled shapes rest) refl
+    rw (long, says.magic, says.version, says.pages_are, says.count_is, some_page, few_pages, some_device, few_devices, after, shapes_of-spelled shapes rest good.sound) refl
 
 header_at : (bytes : List ℕ) (pages : ℕ) (shapes : List Shape) (rest : List ℕ) → IsHeader pages shapes → bytes ≡ spelled head_widths (head_numbers pages (length shapes)) ++ (spelled_shapes shapes ++ rest)
     → header_of bytes ≡ Some (pages, shapes, rest)
@@ -194,12 +287,13 @@ limits_of pages count e =
     let few = neither (eqb pages 0) (nat_lt 16384 pages) some_device.0 in
     limits_from pages count few.0 few.1 some_device.1 few_devices.1
 
-header_within : (pages count : ℕ) (shapes : List Shape) → Limits pages count → length shapes ≡ count → IsHeader pages shapes
-header_within pages count shapes limits is = record {
+header_within : (pages count : ℕ) (shapes : List Shape) → Limits pages count → length shapes ≡ count → AllByRecursion IsSoundShape shapes → IsHeader pages shapes
+header_within pages count shapes limits is sound = record {
   some_page = limits.some_page;
   few_pages = limits.few_pages;
   some_device = omega (arith, limits.some_device, is);
   few_devices = omega (arith, limits.few_devices, is);
+  sound = All-from_recursion IsSoundShape shapes sound;
 }
 
 header_whole : (bytes : List ℕ) (pages count : ℕ) (shapes : List Shape) (rest : List ℕ) → IsBytes bytes → HeadSays bytes pages count → length shapes ≡ count → drop 16 bytes ≡ spelled_shapes shapes ++ rest
@@ -212,14 +306,14 @@ header_whole bytes pages count shapes rest are says is after =
 
 begins_with : (bytes : List ℕ) (pages count : ℕ) (x : List Shape × List ℕ) → IsBytes bytes → HeadSays bytes pages count → Limits pages count → WereShapes count (drop 16 bytes) x → Begins bytes pages x.0 x.1
 begins_with bytes pages count x are says limits shapes = record {
-  good = header_within pages count x.0 limits shapes.count;
+  good = header_within pages count x.0 limits shapes.count shapes.good;
   whole = header_whole bytes pages count x.0 x.1 are says shapes.count shapes.whole;
 }
 
 begins_read : (bytes : List ℕ) (pages count : ℕ) (found : ℕ × List Shape × List ℕ) → IsBytes bytes → HeadSays bytes pages count → Limits pages count
     → (x : List Shape × List ℕ) → shapes_of count (drop 16 bytes) ≡ Some x → (pages, x.0, x.1) ≡ found → Begins bytes found.0 found.1 found.2
 begins_read bytes pages count found are says limits x read is =
-    subst (λ (y : ℕ × List Shape × List ℕ). Begins bytes y.0 y.1 y.2) is (begins_with bytes pages count x are says limits (shapes_read count (drop 16 bytes) x read))
+    subst (λ (y : ℕ × List Shape × List ℕ). Begins bytes y.0 y.1 y.2) is (begins_with bytes pages count x are says limits (shapes_read count (drop 16 bytes) x (IsBytes-drop 16 bytes are) read))
 
 begins_found : (bytes : List ℕ) (pages count : ℕ) (found : ℕ × List Shape × List ℕ) → IsBytes bytes → HeadSays bytes pages count → Limits pages count
     → with_pages pages (shapes_of count (drop 16 bytes)) ≡ Some found → Begins bytes found.0 found.1 found.2
@@ -261,7 +355,7 @@ third_byte n = omega arith
 fourth_byte : (n : ℕ) → byte_at 3 (n % 4294967296) ≡ byte_at 3 n
 fourth_byte n = omega arith
 
-low_digits : (n : ℕ) → digits 4 (n % 4294967296) ≡ digits 4 n
+pub low_digits : (n : ℕ) → digits 4 (n % 4294967296) ≡ digits 4 n
 low_digits n = rw (first_byte n, second_byte n, third_byte n, fourth_byte n) refl
 
 pub front_low : (pages n : ℕ) → front pages (n % 4294967296) ≡ front pages n

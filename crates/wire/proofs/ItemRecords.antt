@@ -1,8 +1,8 @@
 -- Records that name items: which is the last that names one.
-use Rattle.std.proofs.Common.{◌≡◌, ℕ, zero, suc, ◌*◌, ◌<◌, ◌≤◌, Bool, true, false, cond, ◌&&◌, eqb, List, [], ◌∷◌, ◌++◌, length, inl, inr, Option, Some, None, refl, sym, ap, subst, ◌∙◌, arith}
+use Rattle.std.proofs.Common.{◌≡◌, ℕ, zero, suc, ◌<◌, ◌≤◌, Bool, true, false, cond, ◌&&◌, eqb, List, [], ◌∷◌, ◌++◌, inl, inr, Option, Some, None, refl, sym, ap, subst, ◌∙◌, arith}
 use Rattle.std.proofs.lemmas.Bool.{eqb-true, eqb-false, eq-eqb}
 use Rattle.guestmem.specs.Item.{Item, page, sector}
-use Rattle.machine.specs.Layout.{Layout, IsItemIn, layout_of, pages_of, size_of, number_of, item_at}
+use Rattle.machine.specs.Layout.{Layout, IsItemIn, layout_of, size_of, number_of, item_at}
 use Rattle.machine.specs.State.{MachineState}
 use Rattle.machine.proofs.Numbering.{either_way, number_back, number_below, item_back}
 use Rattle.wire.specs.Records.{Record}

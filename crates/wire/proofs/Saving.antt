@@ -1,16 +1,21 @@
 -- Parts of a stream, one after another.
 use Rattle.std.proofs.Common.{◌≡◌, ℕ, zero, suc, ◌+◌, ◌*◌, ◌<◌, List, [], ◌∷◌, ◌++◌, length, take, get_or, slice_get, Some, refl, sym, ap, ◌∙◌, append_assoc, append-nil, arith}
 use Rattle.std.proofs.lemmas.List.{length-append, length-take}
-use Rattle.std.proofs.lemmas.Option.{get_or_from_slice_get}
+use Rattle.std.specs.Int.{byte_at}
+use Rattle.std.specs.List.{flat_map}
+use Rattle.std.specs.Prelude.{◌%◌}
+use Rattle.std.proofs.lemmas.Option.{get_or_from_slice_get, slice_get_within}
 use Rattle.std.proofs.lemmas.Grind.{flat_map-append}
 use Rattle.chains.specs.declared.position.Positions.{Positions}
 use Rattle.mmio.specs.declared.queue.Queue.{Queue}
-use Rattle.wire.specs.DeviceBody.{body, common_text, queue_text, queues_text, held_text}
-use Rattle.wire.specs.Header.{spelled_shape, spelled_shapes}
+use Rattle.blk.specs.Request.{verdict_byte}
+use Rattle.blk.specs.declared.request.Request.{Request}
+use Rattle.wire.specs.DeviceBody.{body, common_text, queue_text, queues_text, own_text}
+use Rattle.wire.specs.Numbers.{digits, spelled}
+use Rattle.wire.specs.RequestText.{head_text, kind_number}
 use Rattle.wire.specs.Records.{device, spelled_record}
 use Rattle.machine.specs.Layout.{layout_of, item_at}
 use Rattle.machine.specs.State.{DeviceState, MachineState}
-use Rattle.machine.specs.declared.own.Own.TheVariants as own
 use Rattle.wire.specs.Stream.{device_texts, record_of, records_below, shapes_in, texts}
 use Rattle.machine.specs.declared.shape.Shape.{Shape}
 use Rattle.wire.proofs.Bodies.{length-common_text, length-queue_text}
@@ -30,11 +35,25 @@ first_more (y ∷ ys) (suc n) x below is =
     let m : suc n + 1 ≡ suc (n + 1) = omega arith in
     rw m (ap (λ zs. y ∷ zs) (first_more ys n x (omega (arith, below)) is))
 
-pub shape_more : (x : List ℕ) (shapes : List Shape) (s : Shape) (n : ℕ) → n < length shapes → s ≡ get_or shapes n s → (x ++ spelled_shapes (take n shapes)) ++ spelled_shape s ≡ x ++ spelled_shapes (take (n + 1) shapes)
-shape_more x shapes s n below is =
-    let one : spelled_shapes (take (n + 1) shapes) ≡ spelled_shapes (take n shapes) ++ spelled_shape s =
-    ap spelled_shapes (first_more shapes n s below is) ∙ flat_map-append spelled_shape (take n shapes) (s ∷ []) ∙ ap (λ (t : List ℕ). spelled_shapes (take n shapes) ++ t) (append-nil (spelled_shape s)) in
-    rw one (append_assoc x (spelled_shapes (take n shapes)) (spelled_shape s))
+-- Texts of things one after another, and one more.
+texts_more : {A : Type 0} (text : A → List ℕ) (xs : List A) (x : A) (n : ℕ) → n < length xs → x ≡ get_or xs n x → flat_map text (take (n + 1) xs) ≡ flat_map text (take n xs) ++ text x
+texts_more text xs x n below is =
+    ap (flat_map text) (first_more xs n x below is) ∙ flat_map-append text (take n xs) (x ∷ []) ∙ ap (λ (t : List ℕ). flat_map text (take n xs) ++ t) (append-nil (text x))
+
+pub text_more : {A : Type 0} (text : A → List ℕ) (front : List ℕ) (xs : List A) (x : A) (n : ℕ) → n < length xs → x ≡ get_or xs n x
+    → (front ++ flat_map text (take n xs)) ++ text x ≡ front ++ flat_map text (take (n + 1) xs)
+text_more text front xs x n below is = rw (texts_more text xs x n below is) (append_assoc front (flat_map text (take n xs)) (text x))
+
+pub length_more : {A : Type 0} (text : A → List ℕ) (xs : List A) (x : A) (n : ℕ) → n < length xs → x ≡ get_or xs n x → length (flat_map text (take (n + 1) xs)) ≡ length (flat_map text (take n xs)) + length (text x)
+length_more text xs x n below is = ap length (texts_more text xs x n below is) ∙ length-append (flat_map text (take n xs)) (text x)
+
+-- The same of a thing that is looked up.
+pub text_found : {A : Type 0} (text : A → List ℕ) (front : List ℕ) (xs : List A) (n : ℕ) (x : A) → slice_get xs n ≡ Some x
+    → (front ++ flat_map text (take n xs)) ++ text x ≡ front ++ flat_map text (take (n + 1) xs)
+text_found text front xs n x is = text_more text front xs x n (slice_get_within xs n x is) (sym (get_or_from_slice_get xs n x x is))
+
+pub length_found : {A : Type 0} (text : A → List ℕ) (xs : List A) (n : ℕ) (x : A) → slice_get xs n ≡ Some x → length (flat_map text (take (n + 1) xs)) ≡ length (flat_map text (take n xs)) + length (text x)
+length_found text xs n x is = length_more text xs x n (slice_get_within xs n x is) (sym (get_or_from_slice_get xs n x x is))
 
 pub no_devices : (x : List ℕ) → x ++ device_texts 0 [] ≡ x
 unfolding device_texts
@@ -56,14 +75,25 @@ length_queues (q ∷ qs) [] e = refl
 length_queues (q ∷ qs) (p ∷ ps) e =
     omega (arith, length-append (queue_text q p) (queues_text qs ps), length-queue_text q p, length_queues qs ps (omega (arith, e)))
 
-pub length_body : (d : DeviceState) (pool : List ℕ) → length d.positions ≡ length d.registers.queues → d.own ≡ own.Entropy pool → length (body d) ≡ 26 + 36 * length d.positions + (2 + length pool)
-length_body d pool each own_is =
-    let whole : body d ≡ common_text d.registers.common ++ (queues_text d.registers.queues d.positions ++ held_text pool) = rw own_is refl in
+pub length_body : (d : DeviceState) → length d.positions ≡ length d.registers.queues → length (body d) ≡ 26 + 36 * length d.positions + length (own_text d.own)
+length_body d each =
     omega (
       arith,
-      ap length whole,
-      length-append (common_text d.registers.common) (queues_text d.registers.queues d.positions ++ held_text pool),
-      length-append (queues_text d.registers.queues d.positions) (held_text pool),
+      length-append (common_text d.registers.common) (queues_text d.registers.queues d.positions ++ own_text d.own),
+      length-append (queues_text d.registers.queues d.positions) (own_text d.own),
       length-common_text d.registers.common,
       length_queues d.registers.queues d.positions each,
     )
+
+-- A request's head tells the lowest two bytes of the numbers of its segments.
+low_two : (n : ℕ) → digits 2 (n % 65536) ≡ digits 2 n
+low_two n =
+    let first : byte_at 0 (n % 65536) ≡ byte_at 0 n = omega arith in
+    let second : byte_at 1 (n % 65536) ≡ byte_at 1 n = omega arith in
+    rw (first, second) refl
+
+pub head_low : (r : Request) (m n : ℕ) → head_text r (m % 65536) (n % 65536) ≡ head_text r m n
+unfolding head_text
+head_low r m n =
+    let front = spelled (2 ∷ 2 ∷ 1 ∷ 1 ∷ 8 ∷ 4 ∷ 4 ∷ []) (r.id ∷ r.slots ∷ kind_number r.kind ∷ verdict_byte r.verdict ∷ r.first ∷ r.units ∷ r.done ∷ []) in
+    ap (λ (x : List ℕ). front ++ (x ++ (digits 2 (n % 65536) ++ []))) (low_two m) ∙ ap (λ (x : List ℕ). front ++ (digits 2 m ++ (x ++ []))) (low_two n)

@@ -1,21 +1,22 @@
 -- One stream has one machine.
 use Rattle.std.proofs.Common.{◌≡◌, ℕ, zero, suc, ◌+◌, ◌*◌, ◌<◌, ◌≤◌, List, [], ◌∷◌, ◌++◌, length, map, take, slice_get, Option, Some, None, refl, sym, ap, ◌∙◌, append_assoc, append-nil, arith}
 use Rattle.std.proofs.lemmas.List.{length-append, length-map}
-use Rattle.std.proofs.lemmas.List.Elements.{recursion_from_All}
+use Rattle.std.proofs.lemmas.List.Elements.{All-map, recursion_from_All}
 use Rattle.std.proofs.Math.Seq.{take-length, take-add}
 use Rattle.std.specs.List.{AllByRecursion, All}
 use Rattle.sha2.specs.Sha256.{sha256}
 use Rattle.wire.specs.DeviceBody.{body}
 use Rattle.wire.specs.Header.{header, IsHeader, Begins}
 use Rattle.wire.specs.Records.{Record, page, sector, round_end, device, commit, HasSpelling, spelled_record}
+use Rattle.blk.specs.Sectors.{Sector}
 use Rattle.guestmem.specs.Item.{Item, page as page_item, sector as sector_item}
 use Rattle.guestmem.specs.Page.{page_of}
 use Rattle.machine.specs.EffectLaws.{sector_on}
 use Rattle.machine.specs.Layout.{Layout, IsItemIn, layout_of, pages_of}
 use Rattle.machine.specs.Shapes.{sector_count}
-use Rattle.machine.specs.Sound.{IsSound, IsSoundDevice}
+use Rattle.machine.specs.Sound.{IsSound, IsSoundDevice, IsSoundShape}
 use Rattle.machine.proofs.Numbering.{in_layout}
-use Rattle.machine.specs.State.{DeviceState, MachineState, Sector}
+use Rattle.machine.specs.State.{DeviceState, MachineState}
 use Rattle.wire.specs.Stream.{IsStream, IsStreamBy, IsEntry, shapes_in, content_of, record_of, last_named, rounds, texts, device_texts, before_commit}
 use Rattle.machine.specs.declared.shape.Shape.{Shape}
 use Rattle.wire.proofs.Bodies.{body_is_short, body_bytes, one_body}
@@ -105,6 +106,7 @@ pages_limits m sound = record {
   few_pages = sound.few_pages;
   some_device = omega (arith, length_shapes m.devices, sound.some_devices);
   few_devices = omega (arith, length_shapes m.devices, sound.few_devices);
+  sound = All-map IsSoundShape (λ (d : DeviceState). d.shape) m.devices (λ k d below. (sound.devices k d below).shape);
 }
 
 pub after_header : (pages : ℕ) (entries : List Record) (ss : List DeviceState) (c : List ℕ) → before_commit pages entries ss ++ c ≡ header pages (shapes_in ss) ++ (texts entries ++ (device_texts 0 ss ++ c))

@@ -3,7 +3,9 @@ use Rattle.std.proofs.Common.{◌≡◌, ℕ, zero, suc, ◌+◌, ◌*◌, ◌^�
 use Rattle.std.specs.Prelude.{slice_get}
 use Rattle.std.proofs.lemmas.List.{length-take, length-drop}
 use Rattle.std.proofs.lemmas.Option.{get_or_from_slice_get, slice_get_within}
+use Rattle.std.proofs.lemmas.List.Elements.{recursion_from_All}
 use Rattle.std.specs.List.{All, AllByRecursion}
+use Rattle.blk.specs.Sectors.{IsWhole, Sector}
 use Rattle.guestmem.specs.ByteLaws.{IsBytes-drop, IsBytes-take}
 use Rattle.guestmem.specs.Item as items
 use Rattle.guestmem.specs.Item.{Item}
@@ -12,13 +14,13 @@ use Rattle.guestmem.specs.Page.{page_of}
 use Rattle.machine.specs.EffectLaws.{sector_on}
 use Rattle.machine.specs.Layout.{Layout, IsItemIn, layout_of, item_at, size_of}
 use Rattle.machine.specs.Shapes.{sector_count}
-use Rattle.machine.specs.Sound.{IsSound, IsWhole}
-use Rattle.machine.specs.State.{DeviceState, MachineState, Sector}
+use Rattle.machine.specs.Sound.{IsSound, IsSoundDevice, IsSoundShape}
+use Rattle.machine.specs.State.{DeviceState, MachineState}
 use Rattle.machine.specs.declared.shape.Shape.{Shape}
-use Rattle.machine.specs.declared.shape.Shape.TheVariants.{Entropy}
+use Rattle.machine.specs.declared.shape.Shape.TheVariants.{Net, Block, Console, Entropy}
 use Rattle.machine.proofs.Numbering.{has_item, item_there}
 use Rattle.wire.specs.Records.{Record, page, sector, round_end, device, commit, spelled_record, HasSpelling}
-use Rattle.wire.specs.Stream.{IsStream, IsEntry, AreNumbered, shapes_in, content_of, record_of, records_below, texts, whole}
+use Rattle.wire.specs.Stream.{IsStream, IsEntry, AreNumbered, content_of, record_of, records_below, texts, whole}
 use Rattle.wire.proofs.ItemRecords.{all_named}
 
 pub texts-snoc : (rs : List Record) (r : Record) → texts (rs ++ r ∷ []) ≡ texts rs ++ spelled_record r
@@ -61,13 +63,16 @@ is_page_entry l ram n e few are lt = record {
 }
 
 -- A sector that a sound machine has.
-few_sectors : (shape : Shape) (n : ℕ) → n < sector_count shape → n < 2 ^ 32
-few_sectors Entropy n below = omega (arith, below)
+few_sectors : (shape : Shape) (n : ℕ) → IsSoundShape shape → n < sector_count shape → n < 2 ^ 32
+few_sectors (Net mac) n good below = omega (arith, below)
+few_sectors (Block sectors read_only id) n good below = omega (arith, good.few, below)
+few_sectors Console n good below = omega (arith, below)
+few_sectors Entropy n good below = omega (arith, below)
 
-few_counts : (ds : List DeviceState) (dev n : ℕ) → n < get_or (map (λ (d : DeviceState). sector_count d.shape) ds) dev 0 → (dev < length ds) × (n < 2 ^ 32)
-few_counts [] dev n below = absurd (omega (arith, below))
-few_counts (d ∷ ds) zero n below = (omega arith, few_sectors d.shape n below)
-few_counts (d ∷ ds) (suc dev) n below = let h = few_counts ds dev n below in (omega (arith, h.0), h.1)
+few_counts : (ram_len : ℕ) (ds : List DeviceState) (dev n : ℕ) → AllByRecursion (IsSoundDevice ram_len) ds → n < get_or (map (λ (d : DeviceState). sector_count d.shape) ds) dev 0 → (dev < length ds) × (n < 2 ^ 32)
+few_counts ram_len [] dev n sound below = absurd (omega (arith, below))
+few_counts ram_len (d ∷ ds) zero n sound below = (omega arith, few_sectors d.shape n sound.0.shape below)
+few_counts ram_len (d ∷ ds) (suc dev) n sound below = let h = few_counts ram_len ds dev n sound.1 below in (omega (arith, h.0), h.1)
 
 whole_sector_by : (disks : List (List Sector)) (found : Option (List Sector)) (dev n : ℕ) (content : Sector) → All (All IsWhole) disks → slice_get disks dev ≡ found → sector_on found n ≡ Some content → IsWhole content
 whole_sector_by disks None dev n content all is there = cc
@@ -81,7 +86,7 @@ sector_spells dev n (Some bytes) low few whole = (low, few, whole.size, whole.by
 
 is_sector_entry : (m : MachineState) (dev n : ℕ) → IsSound m → IsItemIn (layout_of m) (items.sector dev n) → IsEntry (layout_of m) (record_of m (items.sector dev n))
 is_sector_entry m dev n sound within =
-    let few = few_counts m.devices dev n (rw sound.disks at within) in
+    let few = few_counts (length m.ram) m.devices dev n (recursion_from_All (IsSoundDevice (length m.ram)) m.devices sound.devices) (rw sound.disks at within) in
     let has = has_item m (items.sector dev n) sound.whole_pages within in
     let whole = whole_sector_by m.disks (slice_get m.disks dev) dev n has.0 sound.sectors refl has.1 in
     rw has.1 (record { spells = sector_spells dev n has.0 (omega (arith, few.0, sound.few_devices)) few.1 whole; stands = within })

@@ -1,18 +1,27 @@
 -- How the body of a device is read. That this is the spelling the other way round is proved beside it.
-use Rattle.std.specs.Prelude.{◌≡◌, ℕ, ◌+◌, ◌≤◌, nat_eq, List, [], ◌∷◌, drop, length}
+use Rattle.std.specs.Prelude.{ℕ, zero, suc, ◌+◌, ◌*◌, ◌≤◌, ◌==◌, ◌||◌, not, nat_eq, nat_lt, if◌then◌else◌, List, [], ◌∷◌, drop, length, Option, Some, None}
+use Rattle.std.specs.Option.{option_map}
 use Rattle.guestmem.specs.Number.{number_at}
+use Rattle.blk.specs.declared.requests.TheConstants.{REQUESTS_MAX}
 use Rattle.chains.specs.declared.position.Positions.{Positions}
+use Rattle.console.specs.declared.host_bytes.TheConstants.{HOST_BYTES_MAX}
+use Rattle.console.specs.declared.size.ConsoleSize.{ConsoleSize}
+use Rattle.net.specs.declared.limits.TheConstants.{INBOX_MAX}
 use Rattle.mmio.specs.State.{first_queue, first_common}
 use Rattle.mmio.specs.declared.common.Common.{Common}
 use Rattle.mmio.specs.declared.queue.Queue.{Queue}
-use Rattle.wire.specs.DeviceBody.{IsBodyOf, common_widths, queue_widths}
+use Rattle.wire.specs.DeviceBody.{IsBodyOf, common_widths, queue_widths, size_widths}
+use Rattle.wire.specs.FrameReading.{frame_of}
 use Rattle.wire.specs.Numbers.{numbers}
+use Rattle.wire.specs.RequestReading.{request_of}
+use Rattle.wire.specs.Several.{several}
 use Rattle.machine.specs.QueuePositions.{first_positions}
-use Rattle.machine.specs.Shapes.{saved_device}
+use Rattle.machine.specs.Shapes.{first_size, queues_of, saved_device}
 use Rattle.machine.specs.State.{DeviceState}
+use Rattle.machine.specs.declared.own.Own.{Own}
 use Rattle.machine.specs.declared.own.Own.TheVariants as own
 use Rattle.machine.specs.declared.shape.Shape.{Shape}
-use Rattle.machine.specs.declared.shape.Shape.TheVariants.{Entropy}
+use Rattle.machine.specs.declared.shape.Shape.TheVariants.{Net, Block, Console, Entropy}
 use Rattle.wire.specs.declared.decode_error.DecodeError.{DecodeError}
 use Rattle.wire.specs.declared.decode_error.DecodeError.TheVariants.{BadBody, NoMemory}
 
@@ -46,15 +55,72 @@ pub record HasFlags (bytes : List ℕ) : Type 0 where
   pub taking : number_at bytes 32 1 ≤ 1
   pub used : number_at bytes 35 1 ≤ 1
 
--- The bytes have the length and the flags of the body of an entropy device.
-pub record HasEntropyForm (bytes : List ℕ) : Type 0 where
-  pub long : 64 ≤ length bytes
-  pub flags : HasFlags (drop 26 bytes)
-  pub pool : number_at bytes 62 2 + 64 ≡ length bytes
+-- So many queues, of 36 bytes each, their positions, and their flags.
+unfoldable pub queues_in : ℕ → List ℕ → List Queue
+queues_in zero bytes = []
+queues_in (suc n) bytes = queue_of bytes ∷ queues_in n (drop 36 bytes)
 
--- The entropy device whose body these bytes would be, in a machine with so many bytes of RAM.
-abbrev pub entropy_of : ℕ → List ℕ → DeviceState
-entropy_of ram_len bytes = saved_device ram_len Entropy (common_of bytes) (queue_of (drop 26 bytes) ∷ []) (positions_of (drop 26 bytes) ∷ []) (own.Entropy (drop 64 bytes))
+unfoldable pub positions_in : ℕ → List ℕ → List Positions
+positions_in zero bytes = []
+positions_in (suc n) bytes = positions_of bytes ∷ positions_in n (drop 36 bytes)
+
+abbrev pub HaveFlags : ℕ → List ℕ → Type 0
+HaveFlags zero bytes = Unit {0}
+HaveFlags (suc n) bytes = HasFlags bytes × HaveFlags n (drop 36 bytes)
+
+-- The bytes begin with the registers that a device has once, and so many queues.
+pub record HasFront (queues : ℕ) (bytes : List ℕ) : Type 0 where
+  pub long : 26 + 36 * queues ≤ length bytes
+  pub flags : HaveFlags queues (drop 26 bytes)
+
+-- What a device has that has all these, where nothing stands behind them.
+abbrev pub all_of : {A : Type 0} → (List A → Own) → Option (List A × List ℕ) → Option Own
+all_of has None = None
+all_of has (Some found) = if length found.1 == 0 then Some (has found.0) else None
+
+-- What only a network device has: its frames.
+unfoldable pub net_own_of : List ℕ → Option Own
+net_own_of bytes =
+    if nat_lt (length bytes) 2 || nat_lt INBOX_MAX (number_at bytes 0 2) then None
+    else all_of own.Network (several frame_of (number_at bytes 0 2) (drop 2 bytes))
+
+-- What only a block device has: its requests.
+unfoldable pub block_own_of : List ℕ → Option Own
+block_own_of [] = None
+block_own_of (count ∷ bytes) = if nat_lt REQUESTS_MAX count then None else all_of own.Block (several request_of count bytes)
+
+-- Bytes of the host, which are all that stands behind their number.
+unfoldable pub held_of : List ℕ → Option (List ℕ)
+held_of bytes =
+    if nat_lt (length bytes) 2 || not (number_at bytes 0 2 + 2 == length bytes) || nat_lt HOST_BYTES_MAX (number_at bytes 0 2) then None
+    else Some (drop 2 bytes)
+
+-- What only a console has: its size, in the first 4 bytes, and the bytes held for its driver.
+abbrev pub size_from : List ℕ → ConsoleSize
+size_from (a ∷ b ∷ rest) = record { columns = a; rows = b }
+size_from numbers = first_size
+
+unfoldable pub size_of : List ℕ → ConsoleSize
+size_of bytes = size_from (numbers size_widths 0 bytes)
+
+unfoldable pub console_own_of : List ℕ → Option Own
+console_own_of bytes = if nat_lt (length bytes) 4 then None else option_map (own.Console (size_of bytes)) (held_of (drop 4 bytes))
+
+-- What only an entropy device has: its pool.
+abbrev pub entropy_own_of : List ℕ → Option Own
+entropy_own_of bytes = option_map own.Entropy (held_of bytes)
+
+-- What only the kind of device has that a shape says, in the bytes behind its queues.
+abbrev pub own_of : Shape → List ℕ → Option Own
+own_of (Net mac) bytes = net_own_of bytes
+own_of (Block sectors read_only id) bytes = block_own_of bytes
+own_of Console bytes = console_own_of bytes
+own_of Entropy bytes = entropy_own_of bytes
+
+-- The device of a shape, in a machine with so many bytes of RAM, whose body begins with these bytes and that has this.
+abbrev pub device_of : ℕ → Shape → List ℕ → Own → DeviceState
+device_of ram_len shape bytes own_is =
+    saved_device ram_len shape (common_of bytes) (queues_in (queues_of shape) (drop 26 bytes)) (positions_in (queues_of shape) (drop 26 bytes)) own_is
 
 -- What an error tells of bytes that are no body.
 abbrev pub RefusesBody : Shape → ℕ → List ℕ → DecodeError → Type 0

@@ -2,14 +2,17 @@
 -- has. Every number is little-endian.
 use Rattle.std.specs.Prelude.{◌≡◌, ℕ, List, [], ◌∷◌, ◌++◌, length}
 use Rattle.chains.specs.declared.position.Positions.{Positions}
+use Rattle.console.specs.declared.size.ConsoleSize.{ConsoleSize}
 use Rattle.mmio.specs.declared.common.Common.{Common}
 use Rattle.mmio.specs.declared.queue.Queue.{Queue}
 use Rattle.wire.specs.Numbers.{spelled, digits, flag}
 use Rattle.machine.specs.Sound.{IsSoundDevice}
 use Rattle.machine.specs.State.{DeviceState}
 use Rattle.machine.specs.declared.own.Own.{Own}
-use Rattle.machine.specs.declared.own.Own.TheVariants.{Entropy}
+use Rattle.machine.specs.declared.own.Own.TheVariants.{Network, Block, Console, Entropy}
 use Rattle.machine.specs.declared.shape.Shape.{Shape}
+use Rattle.wire.specs.FrameText.{frames_text}
+use Rattle.wire.specs.RequestText.{requests_text}
 
 -- The registers that a device has once, in 26 bytes: status and interrupt status, DeviceFeaturesSel, DriverFeaturesSel, the
 -- driver's features, QueueSel and ConfigGeneration (VIRTIO 1.2, 4.2.2).
@@ -43,8 +46,23 @@ queues_text qs ps = []
 abbrev pub held_text : List ℕ → List ℕ
 held_text bytes = digits 2 (length bytes) ++ bytes
 
--- What only a kind of device has: an entropy device the bytes of its pool.
+-- The size of a console, in 4 bytes: its columns and its rows.
+abbrev pub size_widths : List ℕ
+size_widths = 2 ∷ 2 ∷ []
+
+abbrev pub size_numbers : ConsoleSize → List ℕ
+size_numbers s = s.columns ∷ s.rows ∷ []
+
+unfoldable pub size_text : ConsoleSize → List ℕ
+size_text s = spelled size_widths (size_numbers s)
+
+-- What only a kind of device has: a network device the frames of its inbox, the oldest first; a block device its outstanding
+-- requests in the order of taking; a console its size and the bytes held for its driver; an entropy device the bytes of its
+-- pool.
 abbrev pub own_text : Own → List ℕ
+own_text (Network frames) = frames_text frames
+own_text (Block requests) = requests_text requests
+own_text (Console size held) = size_text size ++ held_text held
 own_text (Entropy pool) = held_text pool
 
 abbrev pub body : DeviceState → List ℕ

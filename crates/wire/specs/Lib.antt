@@ -1,10 +1,15 @@
 pub mod BodyReading
 pub mod DeviceBody
+pub mod FrameReading
+pub mod FrameText
 pub mod Header
 pub mod HeaderReading
 pub mod Numbers
 pub mod RecordView
 pub mod Records
+pub mod RequestReading
+pub mod RequestText
+pub mod Several
 pub mod ShapeReading
 pub mod Sinks
 pub mod Stream

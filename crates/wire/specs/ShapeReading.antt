@@ -1,19 +1,36 @@
 -- How shapes are read. That this is the spelling the other way round is proved beside it.
-use Rattle.std.specs.Prelude.{ℕ, zero, suc, List, [], ◌∷◌, ◌++◌, ◌==◌, if◌then◌else◌, Option, Some, None, option_and_then}
+use Rattle.std.specs.Prelude.{ℕ, List, [], ◌∷◌, length, take, drop, nat_eq, nat_lt, ◌==◌, ◌||◌, if◌then◌else◌, Option, Some, None}
+use Rattle.guestmem.specs.Number.{number_at}
 use Rattle.machine.specs.declared.shape.Shape.{Shape}
-use Rattle.machine.specs.declared.shape.Shape.TheVariants.{Entropy}
+use Rattle.machine.specs.declared.shape.Shape.TheVariants.{Net, Block, Console, Entropy}
+use Rattle.machine.specs.declared.shape.TheConstants.{SECTORS_MAX}
+use Rattle.wire.specs.Several.{several}
+
+-- How many bytes the shape has whose first byte this is, the device's number.
+abbrev pub shape_length : ℕ → Option ℕ
+shape_length number = if number == 1 then Some 7 else if number == 2 then Some 30 else if number == 3 then Some 1 else if number == 4 then Some 1 else None
+
+-- The shape of a network device, whose number stands before the bytes, and the bytes after it.
+unfoldable pub net_shape_of : List ℕ → Option (Shape × List ℕ)
+net_shape_of bytes = if nat_lt (length bytes) 6 then None else Some (Net (take 6 bytes), drop 6 bytes)
+
+-- The shape of a block device, whose number stands before the bytes, and the bytes after it.
+unfoldable pub block_shape_of : List ℕ → Option (Shape × List ℕ)
+block_shape_of bytes =
+    if nat_lt (length bytes) 29 || nat_lt 1 (number_at bytes 8 1) then None
+    else if (number_at bytes 0 8 == 0) || nat_lt SECTORS_MAX (number_at bytes 0 8) then None
+    else Some (Block (number_at bytes 0 8) (nat_eq (number_at bytes 8 1) 1) (take 20 (drop 9 bytes)), drop 20 (drop 9 bytes))
 
 -- The shape at the front of the bytes, and the bytes after it.
 unfoldable pub shape_of : List ℕ → Option (Shape × List ℕ)
 shape_of [] = None
-shape_of (number ∷ bytes) = if number == 4 then Some (Entropy, bytes) else None
-
--- Shapes in front of those that were read.
-abbrev pub in_front : List Shape → Option (List Shape × List ℕ) → Option (List Shape × List ℕ)
-in_front shapes None = None
-in_front shapes (Some others) = Some (shapes ++ others.0, others.1)
+shape_of (number ∷ bytes) =
+    if number == 1 then net_shape_of bytes
+    else if number == 2 then block_shape_of bytes
+    else if number == 3 then Some (Console, bytes)
+    else if number == 4 then Some (Entropy, bytes)
+    else None
 
 -- So many shapes, and the bytes after them.
-unfoldable pub shapes_of : ℕ → List ℕ → Option (List Shape × List ℕ)
-shapes_of zero bytes = Some ([], bytes)
-shapes_of (suc n) bytes = option_and_then (λ first. in_front (first.0 ∷ []) (shapes_of n first.1)) (shape_of bytes)
+abbrev pub shapes_of : ℕ → List ℕ → Option (List Shape × List ℕ)
+shapes_of = several shape_of

@@ -1,15 +1,16 @@
 -- The stream of a machine: a header; pages, sectors and ends of rounds in any order; each device once, in order; and the
 -- digest of all bytes before it.
-use Rattle.std.specs.Prelude.{◌≡◌, ◌<◌, ℕ, zero, suc, ◌+◌, List, [], ◌∷◌, ◌++◌, map, slice_get, Option, Some, None, Bool, false, ◌==◌, ◌&&◌, if◌then◌else◌}
+use Rattle.std.specs.Prelude.{◌≡◌, ℕ, zero, suc, ◌+◌, List, [], ◌∷◌, ◌++◌, map, slice_get, Option, Some, None, Bool, false, ◌==◌, ◌&&◌, if◌then◌else◌}
 use Rattle.std.specs.List.{AllByRecursion}
 use Rattle.sha2.specs.Sha256.{sha256}
+use Rattle.blk.specs.Sectors.{Sector}
 use Rattle.guestmem.specs.Item as items
 use Rattle.guestmem.specs.Item.{Item}
 use Rattle.guestmem.specs.Page.{page_of}
 use Rattle.machine.specs.EffectLaws.{sector_on}
 use Rattle.machine.specs.Layout.{Layout, IsItemIn, layout_of, pages_of, item_at, size_of}
 use Rattle.machine.specs.Sound.{IsSound}
-use Rattle.machine.specs.State.{DeviceState, MachineState, Sector}
+use Rattle.machine.specs.State.{DeviceState, MachineState}
 use Rattle.machine.specs.declared.shape.Shape.{Shape}
 use Rattle.wire.specs.DeviceBody.{body}
 use Rattle.wire.specs.Header.{header}

@@ -1,25 +1,24 @@
 //! The body of a device, read.
 
-ghost use Rattle.std.specs.Prelude.{◌≡◌, ◌≤◌, ◌↔◌, ◌∷◌, [], IsTrue, IfOk, IfErr, length};
-ghost use Rattle.wire.specs.BodyReading.{HasEntropyForm, RefusesBody};
+ghost use Rattle.std.specs.Prelude.{◌≡◌, ◌≤◌, ◌*◌, ◌↔◌, [], All, IsSomeAnd, IsTrue, IfOk, IfErr, length, slice_get, take};
+ghost use Rattle.wire.specs.BodyReading.{HasFront, HaveFlags, RefusesBody, positions_in, queues_in};
 ghost use Rattle.wire.specs.DeviceBody.{IsBodyOf};
-ghost use Rattle.machine.specs.QueuePositions.{HasPositions, is_packed_by};
-ghost use Rattle.machine.specs.Shapes.{saved_device};
-ghost use Rattle.machine.specs.Sound.{IsSoundDevice};
-ghost use Rattle.machine.specs.declared.own.Own.TheVariants as own;
-ghost use Rattle.machine.specs.declared.shape.Shape.TheVariants as shapes;
+ghost use Rattle.machine.specs.QueuePositions.{HasPositions, HavePositions, is_packed_by};
+ghost use Rattle.machine.specs.Shapes.{queues_of, saved_device};
+ghost use Rattle.machine.specs.Sound.{AreRequestsOf, IsBlockShape, IsSoundConsole, IsSoundDevice, IsSoundOwn, IsSoundShape};
+ghost use Rattle.mmio.specs.Sound.{IsSoundQueue};
+ghost use Rattle.mmio.specs.declared.constants.TheConstants.{QUEUE_COUNT_MAX};
 
 use crate::decode_error::DecodeError;
-use crate::numbers::u16_at;
+use crate::own_reading::own_at;
 use crate::registers_text::{COMMON_LEN, QUEUE_LEN, common_at, has_flags, positions_at, queue_at};
+use blk::{BlockShape, REQUESTS_MAX, Requests};
 use chains::{Position, Positions};
-use console::{HOST_BYTES_MAX, HostBytes};
-use machine::{DeviceState, Own, Shape, offered};
-use mmio::{Common, Queue, RING_PACKED, is_sound_common, is_sound_queue};
+use console::{ConsoleSize, HostBytes};
+use guestmem::recall_bytes;
+use machine::{DeviceState, Own, SECTORS_MAX, Shape, offered};
+use mmio::{Common, QUEUE_COUNT_MAX, Queue, RING_PACKED, is_sound_common, is_sound_queue};
 use std::alloc::Global;
-
-/// The bytes of an entropy device before its pool.
-const ENTROPY_LEN: usize = COMMON_LEN + QUEUE_LEN + 2;
 
 /// The device of this shape whose body the bytes are, in a machine with so many bytes of RAM. `BadBody` where they are
 /// the body of no sound device of this shape.
@@ -32,67 +31,231 @@ pub fn decode_device(
     ensures read { IfOk result (λ d. IsBodyOf shape ram_len body.now d) }
     ensures refused { IfErr result (λ e. RefusesBody shape ram_len body.now e) }
 {
-    match shape {
-        Shape::Entropy => decode_entropy(alloc, ram_len, body),
-    }
-}
-
-fn decode_entropy(alloc: Global, ram_len: u64, body: &[u8]) -> Result<DeviceState, DecodeError>
-    ensures read { IfOk result (λ d. IsBodyOf shapes.Entropy ram_len body.now d) }
-    ensures refused { IfErr result (λ e. RefusesBody shapes.Entropy ram_len body.now e) }
-{
-    if !has_entropy_form(body) {
+    let count = queue_count(shape);
+    if !has_front(count, body) {
         return Err(DecodeError::BadBody);
     }
     let common = common_at(body);
     let (_, rest) = body.split_at(COMMON_LEN);
-    let queue = queue_at(rest);
-    let positions = positions_at(rest);
-    let (_, pool) = body.split_at(ENTROPY_LEN);
-    if !is_sound_entropy(ram_len, &common, &queue, &positions, pool) {
+    let (queues, positions) = queues_at(count, rest);
+    let (_, rest) = body.split_at(COMMON_LEN + QUEUE_LEN * count);
+    let Some(own) = own_at(alloc, shape, rest)? else {
+        return Err(DecodeError::BadBody);
+    };
+    let queues = &queues[..count];
+    if !is_sound_device(ram_len, shape, &common, queues, &positions[..count], &own) {
         return Err(DecodeError::BadBody);
     }
-    let pool = HostBytes::from_slice(alloc, pool)?;
-    Ok(DeviceState::restored(
-        Shape::Entropy,
-        ram_len,
-        common,
-        &[queue],
-        [positions, Positions::FIRST],
-        Own::Entropy(pool),
-    ))
+    Ok(DeviceState::restored(shape, ram_len, common, queues, positions, own))
 }
 
-fn has_entropy_form(body: &[u8]) -> bool
-    ensures { IsTrue result ↔ HasEntropyForm body.now }
+/// How many queues a device of this shape has.
+fn queue_count(shape: Shape) -> usize
+    ensures { result ≡ queues_of shape }
 {
-    if body.len() < ENTROPY_LEN {
+    match shape {
+        Shape::Net { .. } | Shape::Console => 2,
+        Shape::Block { .. } | Shape::Entropy => 1,
+    }
+}
+
+/// Whether the bytes begin with registers and so many queues.
+fn has_front(queues: usize, body: &[u8]) -> bool
+    requires some { 1 ≤ queues }
+    requires few { queues ≤ QUEUE_COUNT_MAX }
+    ensures { IsTrue result ↔ HasFront queues body.now }
+{
+    if body.len() < COMMON_LEN + QUEUE_LEN * queues {
         return false;
     }
     let (_, rest) = body.split_at(COMMON_LEN);
-    has_flags(rest) && u16_at(body, COMMON_LEN + QUEUE_LEN) as usize == body.len() - ENTROPY_LEN
+    have_flags(queues, rest)
 }
 
-/// Whether an entropy device may have these registers, positions and pool.
-fn is_sound_entropy(
-    ram_len: u64,
-    common: &Common,
-    queue: &Queue,
-    positions: &Positions,
-    pool: &[u8],
-) -> bool
-    ensures { IsTrue result ↔ IsSoundDevice ram_len (saved_device ram_len shapes.Entropy common.now (queue.now ∷ []) (positions.now ∷ []) (own.Entropy pool.now)) }
+/// Whether each flag of so many queues is 0 or 1.
+fn have_flags(queues: usize, rest: &[u8]) -> bool
+    requires some { 1 ≤ queues }
+    requires few { queues ≤ QUEUE_COUNT_MAX }
+    requires long { 36 * queues ≤ length rest.now }
+    ensures { IsTrue result ↔ HaveFlags queues rest.now }
 {
-    is_sound_common(offered(Shape::Entropy), common)
-        && is_sound_queue(ram_len, common, queue)
-        && has_positions(is_packed(common), queue, positions)
-        && pool.len() <= HOST_BYTES_MAX
+    if queues == 1 {
+        return has_flags(rest);
+    }
+    let (_, after) = rest.split_at(QUEUE_LEN);
+    has_flags(rest) && has_flags(after)
+}
+
+/// So many queues and their positions. What stands behind these in the arrays tells nothing.
+#[tactic(auto, unfolding(crate::specs::BodyReading::queues_in, crate::specs::BodyReading::positions_in))]
+fn queues_at(count: usize, rest: &[u8]) -> ([Queue; QUEUE_COUNT_MAX], [Positions; QUEUE_COUNT_MAX])
+    requires some { 1 ≤ count }
+    requires few { count ≤ QUEUE_COUNT_MAX }
+    requires long { 36 * count ≤ length rest.now }
+    ensures queues { take count result.0 ≡ queues_in count rest.now }
+    ensures positions { take count result.1 ≡ positions_in count rest.now }
+{
+    let queue = queue_at(rest);
+    let positions = positions_at(rest);
+    if count == 1 {
+        return ([queue, Queue::FIRST], [positions, Positions::FIRST]);
+    }
+    let (_, after) = rest.split_at(QUEUE_LEN);
+    ([queue, queue_at(after)], [positions, positions_at(after)])
+}
+
+/// Whether a device of this shape may have these registers, positions and what only its kind has.
+fn is_sound_device(
+    ram_len: u64,
+    shape: Shape,
+    common: &Common,
+    queues: &[Queue],
+    positions: &[Positions],
+    own: &Own,
+) -> bool
+    requires count { length queues.now ≡ queues_of shape }
+    requires few { length queues.now ≤ QUEUE_COUNT_MAX }
+    requires each { length positions.now ≡ length queues.now }
+    ensures { IsTrue result ↔ IsSoundDevice ram_len (saved_device ram_len shape common.now queues.now positions.now own.now) }
+{
+    is_sound_shape(shape)
+        && is_sound_common(offered(shape), common)
+        && are_sound_queues(ram_len, common, queues)
+        && have_positions(is_packed(common), queues, positions)
+        && is_sound_own(ram_len, shape, common, queues, own)
+}
+
+/// Whether a device may be made as this.
+fn is_sound_shape(shape: Shape) -> bool
+    ensures { IsTrue result ↔ IsSoundShape shape }
+{
+    match shape {
+        Shape::Net { mac } => {
+            recall_bytes(mac.as_slice());
+            true
+        }
+        Shape::Block { sectors, id, .. } => is_block_shape(sectors, &id),
+        Shape::Console | Shape::Entropy => true,
+    }
+}
+
+/// Whether a block device may have so many sectors, and this id.
+fn is_block_shape(sectors: u64, id: &[u8; 20]) -> bool
+    ensures { IsTrue result ↔ IsBlockShape sectors id.now }
+{
+    recall_bytes(id);
+    1 <= sectors && sectors <= SECTORS_MAX
+}
+
+/// Whether each queue of a device may be as this.
+fn are_sound_queues(ram_len: u64, common: &Common, queues: &[Queue]) -> bool
+    ensures { IsTrue result ↔ All (IsSoundQueue ram_len common.now) queues.now }
+{
+    queues
+        .iter()
+        .all(|queue| is_sound_queue(ram_len, common, queue))
+}
+
+/// Whether a device of this shape may have this beside such registers.
+fn is_sound_own(ram_len: u64, shape: Shape, common: &Common, queues: &[Queue], own: &Own) -> bool
+    ensures { IsTrue result ↔ IsSoundOwn ram_len (saved_device ram_len shape common.now queues.now [] own.now).registers shape own.now }
+{
+    match (shape, own) {
+        (Shape::Net { .. }, Own::Network(inbox)) => {
+            inbox.recall();
+            true
+        }
+        (
+            Shape::Block {
+                sectors,
+                read_only,
+                id,
+            },
+            Own::Block(requests),
+        ) => {
+            let shape = BlockShape {
+                sectors,
+                read_only,
+                id,
+            };
+            are_requests_of(ram_len, is_packed(common), queues, &shape, requests)
+        }
+        (Shape::Console, Own::Console { size, held }) => {
+            recall_console(size, held);
+            true
+        }
+        (Shape::Entropy, Own::Entropy(pool)) => {
+            pool.recall();
+            true
+        }
+        _ => false,
+    }
+}
+
+/// Tells a proof what a console keeps (see the page of `guestmem`).
+fn recall_console(size: &ConsoleSize, held: &HostBytes)
+    ensures { IsSoundConsole size.now held.now }
+{
+    // Each field is read, since with that it is known to fit its place.
+    let ConsoleSize {
+        columns: _columns,
+        rows: _rows,
+    } = *size;
+    held.recall();
+}
+
+/// Whether a block device with these queues may have these requests outstanding.
+fn are_requests_of(
+    ram_len: u64,
+    is_packed: bool,
+    queues: &[Queue],
+    shape: &BlockShape,
+    requests: &Requests,
+) -> bool
+    ensures { IsTrue result ↔ IsSomeAnd (slice_get queues.now 0) (λ q. AreRequestsOf ram_len is_packed q shape.now requests.now) }
+{
+    match queues {
+        [first, ..] => are_requests(ram_len, is_packed, first, shape, requests),
+        [] => false,
+    }
+}
+
+/// Whether a block device may have these requests outstanding: each must be sound, and there are none unless its queue is
+/// ready.
+fn are_requests(
+    ram_len: u64,
+    is_packed: bool,
+    queue: &Queue,
+    shape: &BlockShape,
+    requests: &Requests,
+) -> bool
+    ensures { IsTrue result ↔ AreRequestsOf ram_len is_packed queue.now shape.now requests.now }
+{
+    requests.len() <= REQUESTS_MAX
+        && requests.are_sound(ram_len, is_packed, queue.size, shape)
+        && (queue.is_ready || requests.is_empty())
 }
 
 fn is_packed(common: &Common) -> bool
     ensures { result ≡ is_packed_by common.now }
 {
     common.features & RING_PACKED == RING_PACKED
+}
+
+/// Whether each queue can have its positions.
+fn have_positions(is_packed: bool, queues: &[Queue], positions: &[Positions]) -> bool
+    requires few { length queues.now ≤ QUEUE_COUNT_MAX }
+    requires each { length positions.now ≡ length queues.now }
+    ensures { IsTrue result ↔ HavePositions is_packed queues.now positions.now }
+{
+    match (queues, positions) {
+        ([only], [its]) => has_positions(is_packed, only, its),
+        ([one, two], [its, others]) => {
+            has_positions(is_packed, one, its) && has_positions(is_packed, two, others)
+        }
+        // There is no queue.
+        _ => true,
+    }
 }
 
 /// Whether a queue can have these positions.

@@ -65,7 +65,7 @@ fn header_at(alloc: Global, bytes: &[u8]) -> Result<Option<(u32, Vec<Shape>, &[u
     Ok(Some((pages, shapes, rest)))
 }
 
-#[tactic(auto, using(crate::proofs::HeaderLemmas::shapes_go_on, crate::proofs::HeaderLemmas::shapes_fail, crate::proofs::HeaderLemmas::shapes_end))]
+#[tactic(auto, using(crate::proofs::Lists::several_go_on, crate::proofs::Lists::several_fail, crate::proofs::Lists::several_end))]
 fn shapes_at(
     alloc: Global,
     count: u32,

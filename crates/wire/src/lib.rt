@@ -1,15 +1,17 @@
 //! Whole machines as bytes: how each part of a stream is spelled and read, and which bytes are a stream of which machine.
 //!
-//! A stream is a header, the pages and the ends of rounds in any order, each device once, and the digest of all that stands
-//! before it. `specs/Stream` says which bytes are a stream of which machine; it stands on `specs/Header`, `specs/Records`
-//! and `specs/DeviceBody` (how each part is spelled), and on the machine's own `Sound` (which machines there are). How
-//! parts are read stands apart (`specs/HeaderReading`, `specs/ShapeReading`, `specs/BodyReading`), and is proved to be the
-//! spelling the other way round.
+//! A stream is a header, the pages, the sectors and the ends of rounds in any order, each device once, and the digest of all
+//! that stands before it. `specs/Stream` says which bytes are a stream of which machine; it stands on `specs/Header`,
+//! `specs/Records` and `specs/DeviceBody` (how each part is spelled; requests and frames in `specs/RequestText` and
+//! `specs/FrameText`), and on the machine's own `Sound` (which machines there are). How parts are read stands apart
+//! (`specs/HeaderReading`, `specs/ShapeReading`, `specs/BodyReading`, `specs/RequestReading`, `specs/FrameReading`), and is
+//! proved to be the spelling the other way round.
 //!
 //! What the layers above may rely on: each `encode_` function adds the spelling of its part to an honest sink; each
 //! `write_` function does the same, and a `Tally` takes the bytes meanwhile; each `decode_` function succeeds exactly on a
-//! spelling at the front, want of memory aside. By the laws no spelling of a record is the beginning of another's, a stream
-//! has one machine, and the whole stream of a sound machine is a stream of it.
+//! spelling at the front, and `decode_device` on a body that is all of the bytes, want of memory aside. By the laws no
+//! spelling of a record is the beginning of another's, a stream has one machine, and the whole stream of a sound machine is a
+//! stream of it.
 //!
 //! It stands on `machine`, whose devices and shapes these are. The digest is `sha2`'s, whose contract says that it is the one
 //! of FIPS 180-4.
@@ -18,13 +20,20 @@
 mod decode_error;
 mod device_reading;
 mod encode;
+mod frame_reading;
+mod frame_writing;
 mod header;
 pub mod laws;
 mod numbers;
+mod own_reading;
 mod record;
 mod registers_text;
+mod request_text;
+mod request_writing;
+mod sector_writing;
 mod shape_spelling;
 mod sink;
+mod size_text;
 mod tally;
 mod writing;
 
@@ -34,7 +43,8 @@ pub use encode::{encode_commit, encode_device, encode_header, encode_page};
 pub use header::{FRONT_LEN, Header, MAGIC, VERSION, decode_header};
 pub use numbers::{u8_at, u32_at};
 pub use record::{Record, decode_record};
-pub use shape_spelling::shape_at;
+pub use sector_writing::{encode_sector, write_bad_sector, write_sector};
+pub use shape_spelling::{shape_at, shape_len};
 pub use sink::{Sink, SinkFault, WriteSink};
 pub use tally::{NoTally, Tally};
 pub use writing::{write_device, write_header, write_page};

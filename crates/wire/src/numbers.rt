@@ -1,9 +1,22 @@
-//! The numbers in a stream: little-endian, at a place in a slice.
+//! The numbers in a stream: little-endian.
 
 ghost use Rattle.std.specs.Prelude.{◌≡◌, ◌≤◌, ◌+◌, length, nat_eq};
 ghost use Rattle.guestmem.specs.Number.{number_at};
+ghost use Rattle.wire.specs.Numbers.{digits};
 
 use byteorder::{ByteOrder, LittleEndian};
+
+/// The bytes of a count of frames or of bytes in the body of a device.
+pub const COUNT_LEN: usize = 2;
+
+/// A count, as its bytes.
+pub fn count_bytes(count: u16) -> [u8; 2]
+    ensures { result ≡ digits 2 count }
+{
+    let mut bytes = [0; COUNT_LEN];
+    LittleEndian::write_u16(&mut bytes, count);
+    bytes
+}
 
 #[tactic(auto, unfolding(guestmem::specs::Number::number_at))]
 pub fn u8_at(bytes: &[u8], at: usize) -> u8

@@ -1,13 +1,18 @@
 //! Records on their way to a sink, and what is kept of them meanwhile.
 
-ghost use Rattle.std.specs.Prelude.{◌≡◌, ◌++◌, ◌≤◌, ◌<◌, ◌^◌, ◌/◌, ℕ, List, IsTrue, OnOk, length};
-ghost use Rattle.wire.specs.DeviceBody.{body, held_text, queues_text};
+ghost use Rattle.std.specs.Prelude.{◌≡◌, ◌∷◌, ◌++◌, ◌≤◌, ◌<◌, ◌^◌, ◌/◌, ◌%◌, ℕ, List, IsTrue, OnOk, length};
+ghost use Rattle.wire.specs.DeviceBody.{body, held_text, own_text, queues_text};
+ghost use Rattle.wire.specs.Numbers.{digits};
 ghost use Rattle.wire.specs.Header.{front, header, spelled_shape, spelled_shapes};
 ghost use Rattle.wire.specs.Records.{page, device, spelled_record};
 ghost use Rattle.wire.specs.Sinks.{Appends, Takes};
 
+use crate::frame_writing::{frames_len, write_frames};
+use crate::numbers::{COUNT_LEN, count_bytes};
 use crate::registers_text::{COMMON_LEN, QUEUE_LEN, common_bytes, queue_bytes};
+use crate::request_writing::{requests_len, write_requests};
 use crate::sink::{Sink, SinkFault};
+use crate::size_text::{SIZE_LEN, size_bytes};
 use crate::tally::Tally;
 use byteorder::{ByteOrder, LittleEndian};
 use chains::Positions;
@@ -17,6 +22,9 @@ use mmio::Queue;
 
 /// One past the greatest count of devices that the header's field can tell.
 const COUNT_END: usize = 1 << 32;
+
+/// One past the greatest length that the field of a device's record can tell.
+const LEN_END: u64 = 1 << 32;
 
 /// Puts bytes into the sink, and where that succeeds, takes them into the tally.
 pub fn put<S: Sink, T: Tally>(bytes: &[u8], out: &mut S, tally: &mut T) -> Result<(), SinkFault>
@@ -54,7 +62,7 @@ fn front_bytes(pages: u32, count: u32) -> [u8; 16]
     bytes
 }
 
-#[tactic(auto, using(crate::proofs::Saving::shape_more))]
+#[tactic(auto, using(crate::proofs::Saving::text_more))]
 fn write_shapes<S: Sink, T: Tally>(
     shapes: &[Shape],
     out: &mut S,
@@ -75,6 +83,21 @@ fn write_shape<S: Sink, T: Tally>(shape: Shape, out: &mut S, tally: &mut T) -> R
     ensures taken { OnOk result (Takes (T.has_taken tally.old) (spelled_shape shape) (T.has_taken tally.new)) }
 {
     match shape {
+        Shape::Net { mac } => {
+            put(&[1], out, tally)?;
+            put(&mac, out, tally)
+        }
+        Shape::Block {
+            sectors,
+            read_only,
+            id,
+        } => {
+            let mut head = [2, 0, 0, 0, 0, 0, 0, 0, 0, read_only as u8];
+            LittleEndian::write_u64(&mut head[1..], sectors);
+            put(&head, out, tally)?;
+            put(&id, out, tally)
+        }
+        Shape::Console => put(&[3], out, tally),
         Shape::Entropy => put(&[4], out, tally),
     }
 }
@@ -107,22 +130,46 @@ pub fn write_device<S: Sink, T: Tally>(
     ensures out { Appends (S.state out.old) (spelled_record (device number (body state.now))) result (S.state out.new) }
     ensures taken { OnOk result (Takes (T.has_taken tally.old) (spelled_record (device number (body state.now))) (T.has_taken tally.new)) }
 {
-    let mut head = [4, number, 0, 0, 0, 0];
-    LittleEndian::write_u32(&mut head[2..], body_len(state));
-    put(&head, out, tally)?;
+    put(&device_head(number, state), out, tally)?;
     write_body(state, out, tally)
 }
 
-/// How many bytes the body of a device has.
+/// What stands before the body of a device: the tag of its record, its number, and how long the body is.
+fn device_head(number: u8, state: &DeviceState) -> [u8; 6]
+    ensures { result ≡ 4 ∷ (number ∷ digits 4 (length (body state.now))) }
+{
+    device_head_with(number, body_len(state))
+}
+
+fn device_head_with(number: u8, len: u32) -> [u8; 6]
+    ensures { result ≡ 4 ∷ (number ∷ digits 4 len) }
+{
+    let mut head = [4, number, 0, 0, 0, 0];
+    LittleEndian::write_u32(&mut head[2..], len);
+    head
+}
+
+/// How many bytes the body of a device has, modulo 2^32. The body of a sound device is shorter.
 #[tactic(auto, using(crate::proofs::Saving::length_body))]
 fn body_len(state: &DeviceState) -> u32
-    ensures { result ≡ length (body state.now) }
+    ensures { result ≡ length (body state.now) % 2 ^ 32 }
 {
-    let queues = state.positions().len() as u32;
-    let own = match state.own() {
-        Own::Entropy(pool) => 2 + pool.len() as u32,
-    };
-    COMMON_LEN as u32 + QUEUE_LEN as u32 * queues + own
+    let queues = state.positions().len() as u64;
+    let own = own_len(state.own()) as u64;
+    ((COMMON_LEN as u64 + QUEUE_LEN as u64 * queues + own) % LEN_END) as u32
+}
+
+/// How many bytes tell what only a kind of device has, modulo 2^32.
+#[tactic(auto, unfolding(crate::specs::DeviceBody::size_text))]
+fn own_len(own: &Own) -> u32
+    ensures { result ≡ length (own_text own.now) % 2 ^ 32 }
+{
+    match own {
+        Own::Network(inbox) => frames_len(inbox),
+        Own::Block(requests) => requests_len(requests),
+        Own::Console { held, .. } => (SIZE_LEN + COUNT_LEN + held.len()) as u32,
+        Own::Entropy(pool) => (COUNT_LEN + pool.len()) as u32,
+    }
 }
 
 fn write_body<S: Sink, T: Tally>(
@@ -136,9 +183,7 @@ fn write_body<S: Sink, T: Tally>(
     let registers = state.registers();
     put(&common_bytes(&registers.common()), out, tally)?;
     write_queues(registers.queues(), state.positions(), out, tally)?;
-    match state.own() {
-        Own::Entropy(pool) => write_held(pool, out, tally),
-    }
+    write_own(state.own(), out, tally)
 }
 
 fn write_queues<S: Sink, T: Tally>(
@@ -162,6 +207,22 @@ fn write_queues<S: Sink, T: Tally>(
     }
 }
 
+/// What only a kind of device has.
+fn write_own<S: Sink, T: Tally>(own: &Own, out: &mut S, tally: &mut T) -> Result<(), SinkFault>
+    ensures out { Appends (S.state out.old) (own_text own.now) result (S.state out.new) }
+    ensures taken { OnOk result (Takes (T.has_taken tally.old) (own_text own.now) (T.has_taken tally.new)) }
+{
+    match own {
+        Own::Network(inbox) => write_frames(inbox, out, tally),
+        Own::Block(requests) => write_requests(requests, out, tally),
+        Own::Console { size, held } => {
+            put(&size_bytes(size), out, tally)?;
+            write_held(held, out, tally)
+        }
+        Own::Entropy(pool) => write_held(pool, out, tally),
+    }
+}
+
 /// The bytes that the host has put in, with their number before them.
 fn write_held<S: Sink, T: Tally>(
     bytes: &HostBytes,
@@ -171,9 +232,7 @@ fn write_held<S: Sink, T: Tally>(
     ensures out { Appends (S.state out.old) (held_text bytes.now) result (S.state out.new) }
     ensures taken { OnOk result (Takes (T.has_taken tally.old) (held_text bytes.now) (T.has_taken tally.new)) }
 {
-    let mut count = [0; 2];
-    LittleEndian::write_u16(&mut count, bytes.len() as u16);
-    put(&count, out, tally)?;
+    put(&count_bytes(bytes.len() as u16), out, tally)?;
     let (front, back) = bytes.as_slices();
     put(front, out, tally)?;
     put(back, out, tally)

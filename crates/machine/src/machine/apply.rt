@@ -2,11 +2,11 @@
 
 ghost use Rattle.std.specs.Prelude.{◌≡◌, map, length, IfOk, OnErr};
 ghost use Rattle.guestmem.specs.Later.{IsLater};
-ghost use Rattle.machine.specs.Applied.{IsApplied, IsAppliedLogged, MayItems};
-ghost use Rattle.machine.specs.Direct.{value_reply, done_reply, accepted_reply};
+ghost use Rattle.machine.specs.Applied.{FailOnlyUnsteady, IsApplied, IsAppliedLogged, MayItems, marks_run};
+ghost use Rattle.machine.specs.Direct.{value_reply, done_reply, accepted_reply, written_result};
 ghost use Rattle.machine.specs.Outcome.{outcome_of};
 ghost use Rattle.machine.specs.Run.{IsRun};
-ghost use Rattle.machine.specs.Seen.{state_of, all_marks};
+ghost use Rattle.machine.specs.Seen.{AreHonest, state_of, all_marks};
 ghost use Rattle.machine.specs.Sound.{IsSound};
 ghost use Rattle.machine.specs.declared.event.Event.TheVariants as events;
 
@@ -36,23 +36,26 @@ impl<D: Disk> Machine<D> {
                 off,
                 width,
                 value,
-            } => done(self.write_register(*dev, *off, *width, *value)),
+            } => written(self.write_register(*dev, *off, *width, *value)),
             Event::MemRead { addr, len } => self.read_bytes(*addr, *len),
             Event::MemWrite { addr, bytes } => {
                 done(self.write_ram_logged(*addr, bytes.as_slice(), log))
             }
             Event::Step { dev, pick } => self.step_logged(*dev, *pick, log),
             Event::Input { dev, bytes } => accepted(self.input(*dev, bytes.as_slice())),
+            Event::Resize { dev, cols, rows } => done(self.resize(*dev, *cols, *rows)),
         }
     }
 
     /// Applies all events in order, and gives their replies. It reserves room for the replies first: where that is
     /// refused, nothing was played.
     pub fn play(&mut self, events: &[Event]) -> Result<Vec<Reply>, NoMemory>
-        ensures run { IfOk result (λ replies. IsRun (state_of self.old) events.now (map outcome_of replies.items) replies.items (state_of self.new)) }
+        ensures each { IfOk result (λ replies. length replies.items ≡ length events.now) }
+        ensures run { IfOk result (λ replies. AreHonest self.old → IsRun (state_of self.old) events.now (map outcome_of replies.items) replies.items (state_of self.new)) }
         ensures sound { IsSound (state_of self.new) }
         ensures later { IsLater self.old.memory self.new.memory }
-        ensures disks { all_marks self.new ≡ all_marks self.old }
+        ensures marks { IfOk result (λ replies. all_marks self.new ≡ marks_run (all_marks self.old) events.now replies.items) }
+        ensures unsteady { IfOk result (λ replies. FailOnlyUnsteady (all_marks self.old) events.now replies.items) }
         ensures err { OnErr result (self.new ≡ self.old) }
     {
         let mut replies = Vec::with_capacity(self.alloc, events.len())?;
@@ -85,6 +88,16 @@ fn value(answer: Result<u32, Refusal>) -> Reply
 {
     match answer {
         Ok(value) => Reply::Value(value),
+        Err(refusal) => Reply::Refused(refusal),
+    }
+}
+
+fn written(answer: Result<Option<u8>, Refusal>) -> Reply
+    ensures { result ≡ written_result answer }
+{
+    match answer {
+        Ok(Some(byte)) => Reply::OutByte(byte),
+        Ok(None) => Reply::Done,
         Err(refusal) => Reply::Refused(refusal),
     }
 }

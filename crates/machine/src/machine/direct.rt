@@ -4,13 +4,14 @@
 ghost use Rattle.std.specs.Prelude.{◌≡◌, length, OnErr};
 ghost use Rattle.guestmem.specs.Item.{MayPages};
 ghost use Rattle.machine.specs.Applied.{IsApplied, IsAppliedLogged, MayItems};
-ghost use Rattle.machine.specs.Direct.{value_reply, done_reply, bytes_reply, accepted_reply};
+ghost use Rattle.machine.specs.Direct.{value_reply, done_reply, bytes_reply, accepted_reply, written_result};
 ghost use Rattle.machine.specs.Seen.{state_of};
 ghost use Rattle.machine.specs.declared.event.Event.TheVariants as events;
 
 use crate::machine::Machine;
 use crate::reply::{Refusal, Reply};
 use blk::Disk;
+use console::ConsoleSize;
 use guestmem::{NoLog, TouchLog, recall_bytes};
 
 impl<D: Disk> Machine<D> {
@@ -26,22 +27,35 @@ impl<D: Disk> Machine<D> {
     }
 
     /// The driver writes a register of a device, `width` bytes at an offset of its window (VIRTIO 1.2, 4.2.2). Whether the
-    /// device takes the value does not show.
+    /// device takes the value does not show; a byte comes out where it is written into the emergency register of a console.
     pub fn write_register(
         &mut self,
         dev: u8,
         offset: u32,
         width: u8,
         value: u32,
-    ) -> Result<(), Refusal>
-        ensures { IsApplied self.old (events.RegWrite dev offset width value) (done_reply result) self.new }
+    ) -> Result<Option<u8>, Refusal>
+        ensures { IsApplied self.old (events.RegWrite dev offset width value) (written_result result) self.new }
     {
         let dev = dev as usize;
         if dev >= self.devices.len() {
             return Err(Refusal::NoDevice);
         }
-        self.devices[dev].write_register(offset, width, value);
-        Ok(())
+        Ok(self.devices[dev].write_register(offset, width, value))
+    }
+
+    /// The host sets the size of a console, in characters.
+    pub fn resize(&mut self, dev: u8, cols: u16, rows: u16) -> Result<(), Refusal>
+        ensures { IsApplied self.old (events.Resize dev cols rows) (done_reply result) self.new }
+    {
+        let dev = dev as usize;
+        if dev >= self.devices.len() {
+            return Err(Refusal::NoDevice);
+        }
+        self.devices[dev].resize(ConsoleSize {
+            columns: cols,
+            rows,
+        })
     }
 
     /// The guest reads RAM from an address on into the whole buffer. It takes no memory. A refusal leaves the buffer as it
@@ -63,7 +77,8 @@ impl<D: Disk> Machine<D> {
         self.write_ram_logged(addr, bytes, &mut NoLog)
     }
 
-    /// The host puts bytes in, for an entropy device into its pool. It answers how many were kept: the first ones.
+    /// The host puts bytes in: for an entropy device into its pool, for a console as text, for a network device one frame. It
+    /// answers how many were kept: the first ones, or a whole frame. A block device takes none.
     pub fn input(&mut self, dev: u8, bytes: &[u8]) -> Result<u32, Refusal>
         ensures { IsApplied self.old (events.Input dev bytes.now) (accepted_reply result) self.new }
     {
@@ -72,7 +87,7 @@ impl<D: Disk> Machine<D> {
             return Err(Refusal::NoDevice);
         }
         recall_bytes(bytes);
-        Ok(self.devices[dev].input(bytes))
+        self.devices[dev].input(bytes)
     }
 
     /// A device does one piece of its work, which the pick names.
@@ -103,11 +118,11 @@ impl<D: Disk> Machine<D> {
         requires may { MayItems L.may log.old (state_of self.old) }
         ensures { IsAppliedLogged L.after self.old log.old (events.Step dev pick) result self.new log.new }
     {
-        let dev = dev as usize;
-        if dev >= self.devices.len() {
+        let number = dev as usize;
+        if number >= self.devices.len() {
             return Reply::Refused(Refusal::NoDevice);
         }
-        let device = &mut self.devices[dev];
-        device.step(self.alloc, pick, &mut self.ram, log)
+        let device = &mut self.devices[number];
+        device.step(self.alloc, dev, pick, &mut self.ram, log)
     }
 }

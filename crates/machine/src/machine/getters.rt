@@ -1,6 +1,9 @@
 //! What a machine is.
 
 ghost use Rattle.std.specs.Prelude.{◌≡◌, ◌<◌, ◌==◌, if◌then◌else◌, length, map, Some, slice_get};
+ghost use Rattle.guestmem.specs.Item.{sector};
+ghost use Rattle.machine.specs.Applied.{ReadsSector};
+ghost use Rattle.machine.specs.EffectLaws.{HasItem};
 ghost use Rattle.machine.specs.Seen.{state_of};
 ghost use Rattle.machine.specs.Lines.{lines_of};
 ghost use Rattle.machine.specs.Sound.{IsSound};
@@ -8,7 +11,7 @@ ghost use Rattle.machine.specs.Sound.{IsSound};
 use crate::machine::Machine;
 use crate::shape::Shape;
 use crate::state::DeviceState;
-use blk::Disk;
+use blk::{Disk, DiskFault, Fetched, SECTOR_SIZE};
 use guestmem::Ram;
 
 impl<D: Disk> Machine<D> {
@@ -40,6 +43,24 @@ impl<D: Disk> Machine<D> {
         ensures { slice_get (state_of self.now).devices dev ≡ Some result.now }
     {
         self.devices[dev as usize].state()
+    }
+
+    /// Reads a sector of a device's disk. A bad sector is not read, and answered with `false`; then, and where the disk
+    /// fails, the buffer may hold anything.
+    pub fn read_sector(
+        &mut self,
+        dev: u8,
+        n: u64,
+        buf: &mut [u8; SECTOR_SIZE],
+    ) -> Result<bool, DiskFault>
+        requires { HasItem (state_of self.old) (sector dev n) }
+        ensures { ReadsSector self.old dev n buf.new result self.new }
+    {
+        match self.devices[dev as usize].read_sector(n, buf) {
+            Fetched::Read => Ok(true),
+            Fetched::Bad => Ok(false),
+            Fetched::Failed => Err(DiskFault),
+        }
     }
 
     /// The RAM.

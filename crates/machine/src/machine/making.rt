@@ -1,23 +1,26 @@
 //! Machines that are made, or were saved.
 
-ghost use Rattle.std.specs.Prelude.{◌≡◌, ◌≤◌, length, map, Err, None, Some, IfOk, IfErr, IfSome};
-ghost use Rattle.machine.specs.Seen.{state_of, all_marks, disk_marks};
-ghost use Rattle.machine.specs.Shapes.{disk_size_of, disk_sizes, first_device};
-ghost use Rattle.machine.specs.First.{are_same, dealt_marks, first_machine, saved_machine, seen_without_disk, new_refusal};
+ghost use Rattle.std.specs.Prelude.{◌≡◌, ◌≤◌, length, map, All, Err, None, Some, IfOk, IfErr, IfSome};
+ghost use Rattle.blk.specs.Sectors.{AreWhole};
+ghost use Rattle.machine.specs.Seen.{state_of, all_marks};
+ghost use Rattle.machine.specs.Shapes.{disk_size_of, disk_sizes, first_device, is_beyond};
+ghost use Rattle.machine.specs.First.{AreMarksOf, HasBytes, are_beyond, are_same, dealt_marks, first_machine, good_sectors, marked, marked_sectors, marks_in, saved_machine, seen_devices, new_refusal};
 ghost use Rattle.machine.specs.Sound.{IsSound};
 ghost use Rattle.machine.specs.declared.new_error.NewError.TheVariants as new_error;
 
 use crate::device::Device;
 use crate::machine::{DEVICES_MAX, Machine};
 use crate::new_error::NewError;
-use crate::shape::Shape;
+use crate::shape::{SECTORS_MAX, Shape};
 use crate::state::DeviceState;
-use blk::Disk;
-use guestmem::{NoMemory, PAGES_MAX, Ram};
+use blk::{Disk, Sectors};
+use dirtylog::BitSet;
+use guestmem::{NoMemory, PAGES_MAX, Ram, recall_bytes};
 use std::alloc::Global;
 
 impl<D: Disk + Drop> Machine<D> {
-    /// A new machine of so many pages of zeros and devices of these shapes, whose block devices get the disks in order.
+    /// A new machine of so many pages of zeros and devices of these shapes, whose block devices get the disks in order. All
+    /// their sectors are good.
     ///
     /// `BadShape` is told first, then `DiskMismatch`, then `NoMemory`. A refusal drops the disks.
     pub fn new(
@@ -27,7 +30,7 @@ impl<D: Disk + Drop> Machine<D> {
         disks: Vec<D>,
     ) -> Result<Machine<D>, NewError>
         ensures made { IfOk result (λ m. state_of m ≡ first_machine ram_pages shapes.now (map (λ d. map Some (D.state d).sectors) disks.items)) }
-        ensures marks { IfOk result (λ m. all_marks m ≡ dealt_marks shapes.now (map (λ d. disk_marks (D.state d)) disks.items)) }
+        ensures marks { IfOk result (λ m. all_marks m ≡ dealt_marks shapes.now (map (λ d. marks_in (D.state d)) disks.items)) }
         ensures sound { IfOk result (λ m. IsSound (state_of m)) }
         ensures refused { IfSome (new_refusal ram_pages shapes.now (map (λ d. length (D.state d).sectors) disks.items)) (λ error. result ≡ Err error) }
         ensures memory { new_refusal ram_pages shapes.now (map (λ d. length (D.state d).sectors) disks.items) ≡ None → IfErr result (λ error. error ≡ new_error.NoMemory) }
@@ -35,8 +38,11 @@ impl<D: Disk + Drop> Machine<D> {
         if let Some(error) = refusal(ram_pages, shapes, disks.as_slice()) {
             return Err(error);
         }
+        recall_all(shapes);
         let ram = Ram::new(alloc, ram_pages)?;
-        let devices = new_devices(alloc, shapes, ram.len())?;
+        let states = new_states(alloc, shapes, ram.len())?;
+        let sectors = all_good(alloc, disks)?;
+        let devices = with_disks(alloc, states, sectors)?;
         let shapes = Vec::from_slice(alloc, shapes)?;
         Ok(Machine {
             alloc,
@@ -46,22 +52,25 @@ impl<D: Disk + Drop> Machine<D> {
         })
     }
 
-    /// A machine as it was saved, whose block devices get the disks in order. The caller has seen to it that it is sound. Its
-    /// only error is want of memory.
+    /// A machine as it was saved, whose block devices get the disks in order, and their marks of bad sectors. The caller has
+    /// seen to it that it is sound. Its only error is want of memory.
     pub fn restore(
         alloc: Global,
         ram: Ram,
         shapes: Vec<Shape>,
         states: Vec<DeviceState>,
         disks: Vec<D>,
+        bad: Vec<BitSet>,
     ) -> Result<Machine<D>, NoMemory>
-        requires sound { IsSound (saved_machine ram.bytes states.items (map (λ d. map Some (D.state d).sectors) disks.items)) }
+        requires sound { IsSound (saved_machine ram.bytes states.items (marked_sectors (map D.state disks.items) bad.items)) }
         requires shapes { shapes.items ≡ map (λ d. d.shape) states.items }
-        ensures restored { IfOk result (λ m. state_of m ≡ saved_machine ram.bytes states.items (map (λ d. map Some (D.state d).sectors) disks.items)) }
-        ensures marks { IfOk result (λ m. all_marks m ≡ dealt_marks shapes.items (map (λ d. disk_marks (D.state d)) disks.items)) }
+        requires bad { AreMarksOf (map D.state disks.items) bad.items }
+        ensures restored { IfOk result (λ m. state_of m ≡ saved_machine ram.bytes states.items (marked_sectors (map D.state disks.items) bad.items)) }
+        ensures marks { IfOk result (λ m. all_marks m ≡ dealt_marks shapes.items (map (λ d. marks_in (D.state d)) disks.items)) }
         ensures sound { IfOk result (λ m. IsSound (state_of m)) }
     {
-        let devices = restored_devices(alloc, states)?;
+        let sectors = all_marked(alloc, disks, bad)?;
+        let devices = with_disks(alloc, states, sectors)?;
         Ok(Machine {
             alloc,
             ram,
@@ -71,15 +80,56 @@ impl<D: Disk + Drop> Machine<D> {
     }
 }
 
-fn restored_devices<D: Disk + Drop>(
+/// The disks with all their sectors good.
+fn all_good<D: Disk + Drop>(alloc: Global, disks: Vec<D>) -> Result<Vec<Sectors<D>>, NoMemory>
+    ensures good { IfOk result (λ all. all.items ≡ map (λ d. good_sectors (D.state d)) disks.items) }
+    ensures whole { IfOk result (λ all. All (λ s. AreWhole s.content) all.items) }
+{
+    let mut all = Vec::with_capacity(alloc, disks.len())?;
+    for disk in disks {
+        let sectors = Sectors::new(alloc, disk)?;
+        sectors.recall();
+        all.push(sectors)?;
+    }
+    Ok(all)
+}
+
+/// The disks with these marks of bad sectors.
+fn all_marked<D: Disk + Drop>(
+    alloc: Global,
+    disks: Vec<D>,
+    bad: Vec<BitSet>,
+) -> Result<Vec<Sectors<D>>, NoMemory>
+    requires { AreMarksOf (map D.state disks.items) bad.items }
+    ensures { IfOk result (λ all. all.items ≡ marked (map D.state disks.items) bad.items) }
+{
+    let mut all = Vec::with_capacity(alloc, disks.len())?;
+    let mut bad = bad.into_iter();
+    for disk in disks {
+        let Some(marks) = bad.next() else {
+            break;
+        };
+        all.push(Sectors::with_marks(disk, marks))?;
+    }
+    Ok(all)
+}
+
+/// The devices, of which those with a disk get the next of these.
+fn with_disks<D: Disk + Drop>(
     alloc: Global,
     states: Vec<DeviceState>,
+    sectors: Vec<Sectors<D>>,
 ) -> Result<Vec<Device<D>>, NoMemory>
-    ensures { IfOk result (λ devices. devices.items ≡ map seen_without_disk states.items) }
+    ensures { IfOk result (λ devices. devices.items ≡ seen_devices states.items sectors.items) }
 {
     let mut devices = Vec::with_capacity(alloc, states.len())?;
+    let mut sectors = sectors.into_iter();
     for state in states {
-        devices.push(Device::without_disk(state))?;
+        let disk = match disk_size(state.shape()) {
+            Some(_) => sectors.next(),
+            None => None,
+        };
+        devices.push(Device::new(state, disk))?;
     }
     Ok(devices)
 }
@@ -89,6 +139,9 @@ fn refusal<D: Disk>(pages: u32, shapes: &[Shape], disks: &[D]) -> Option<NewErro
     ensures { result ≡ new_refusal pages shapes.now (map (λ d. length (D.state d).sectors) disks.now) }
 {
     if pages == 0 || pages > PAGES_MAX || shapes.is_empty() || shapes.len() > DEVICES_MAX {
+        return Some(NewError::BadShape);
+    }
+    if are_beyond(shapes) {
         return Some(NewError::BadShape);
     }
     if !are_disks_of(shapes, disks) {
@@ -122,21 +175,59 @@ fn disk_size(shape: Shape) -> Option<u64>
     ensures { result ≡ disk_size_of shape }
 {
     match shape {
-        Shape::Entropy => None,
+        Shape::Block { sectors, .. } => Some(sectors),
+        Shape::Net { .. } | Shape::Console | Shape::Entropy => None,
     }
 }
 
-fn new_devices<D: Disk + Drop>(
-    alloc: Global,
-    shapes: &[Shape],
-    ram_len: u64,
-) -> Result<Vec<Device<D>>, NoMemory>
-    ensures { IfOk result (λ devices. devices.items ≡ map (λ shape. seen_without_disk (first_device ram_len shape)) shapes.now) }
+fn new_states(alloc: Global, shapes: &[Shape], ram_len: u64) -> Result<Vec<DeviceState>, NoMemory>
+    ensures { IfOk result (λ states. states.items ≡ map (first_device ram_len) shapes.now) }
 {
-    let mut devices = Vec::with_capacity(alloc, shapes.len())?;
+    let mut states = Vec::with_capacity(alloc, shapes.len())?;
     for shape in shapes {
-        let device = Device::new(alloc, *shape, ram_len)?;
-        devices.push_reserved(device);
+        let state = DeviceState::new(alloc, *shape, ram_len)?;
+        states.push_reserved(state);
     }
-    Ok(devices)
+    Ok(states)
+}
+
+/// Whether a device is beyond its limits.
+fn are_beyond(shapes: &[Shape]) -> bool
+    ensures { result ≡ are_beyond shapes.now }
+{
+    for shape in shapes {
+        if is_beyond(*shape) {
+            return true;
+        }
+    }
+    false
+}
+
+fn is_beyond(shape: Shape) -> bool
+    ensures { result ≡ is_beyond shape }
+{
+    match shape {
+        Shape::Block { sectors, .. } => sectors == 0 || sectors > SECTORS_MAX,
+        Shape::Net { .. } | Shape::Console | Shape::Entropy => false,
+    }
+}
+
+/// Tells a proof that the MACs of network devices are 6 bytes each, and the ids of block devices 20 (see the page of
+/// `guestmem`).
+fn recall_all(shapes: &[Shape])
+    ensures { All HasBytes shapes.now }
+{
+    for shape in shapes {
+        recall_one(*shape);
+    }
+}
+
+fn recall_one(shape: Shape)
+    ensures { HasBytes shape }
+{
+    match shape {
+        Shape::Net { mac } => recall_bytes(mac.as_slice()),
+        Shape::Block { id, .. } => recall_bytes(id.as_slice()),
+        Shape::Console | Shape::Entropy => {}
+    }
 }

@@ -1,34 +1,42 @@
-use Rattle.std.proofs.Common.{◌≡◌, ◌/◌, ◌++◌, ℕ, List, length, ap, ◌∙◌}
-use Rattle.guestmem.specs.Memory.{Memory}
-use Rattle.machine.specs.Layout.{pages_of}
+use Rattle.std.proofs.Common.{◌≡◌, ◌++◌, Ok, refl, ◌∙◌, append_assoc}
 use Rattle.machine.specs.Seen.{state_of}
-use Rattle.machine.specs.State.{MachineState}
-use Rattle.wire.specs.Header.{header}
-use Rattle.wire.specs.Stream.{device_texts, records_below, saved, texts}
-use Rattle.wire.proofs.Sinks.{then_appends, then_takes}
+use Rattle.wire.specs.Stream.{device_texts, saved}
+use Rattle.sender.specs.Items.{front_text, sectors_text}
+use Rattle.sender.specs.Saving.{Sends, TakesOn}
 use Rattle.sender.proofs.Parts.{saved_in_parts}
+use Rattle.sender.proofs.Sending.{sends_next, sends_ok, takes_next, then_sends, then_takes_on}
 use Rattle.sender.proofs.saving.write_saved.Goals as goal
 
-pub returns-clause-out : goal.returns-clause-out
-returns-clause-out g c =
-    let m : MachineState = state_of c.args.machine.now in
-    let pages = c.len.result / 4096 in
-    let ram : pages ≡ pages_of m = ap (λ n. n / 4096) (c.len.ensures ∙ ap (λ (r : Memory). length r.bytes) c.ram-2.ensures) in
-    let head : List ℕ = header pages c.shapes.result.now in
-    let items : List ℕ = texts (records_below m (pages_of m)) in
-    let devices : List ℕ = device_texts 0 m.devices in
-    let is : head ++ (items ++ devices) ≡ saved m = saved_in_parts m pages c.shapes.result.now c.shapes.ensures.sound ram c.shapes.ensures.shapes in
-    rw is at (then_appends _ _ _ head (items ++ devices) c.in_ok-write_header.field-0 c.write_devices.result c.in_ok-write_header.ensures.out
-    (then_appends _ _ _ items devices c.in_ok-write_pages.field-0 c.write_devices.result c.in_ok-write_pages.ensures.out c.write_devices.ensures.out))
+pub returns-clause-sent : goal.returns-clause-sent
+returns-clause-sent g c =
+    let m = state_of c.args.machine.now in
+    let old = c.args.machine.now in
+    let new = c.write_disks.new.machine in
+    let out0 = g.S.Sink.state c.args.out.now in
+    let out1 = g.S.Sink.state c.write_front.new.out in
+    let out2 = g.S.Sink.state c.write_disks.new.out in
+    let out3 = g.S.Sink.state c.write_devices.new.out in
+    let e : (front_text m ++ sectors_text m) ++ device_texts 0 m.devices ≡ saved m = append_assoc (front_text m) (sectors_text m) (device_texts 0 m.devices) ∙ saved_in_parts m in
+    let front : Sends {A = Unit {0}} old out0 (front_text m) (Ok (tt {0})) old out1 = sends_ok old out0 out1 (front_text m) (tt {0}) (tt {0}) (rw c.in_ok-write_front.was at c.write_front.ensures.out) in
+    let both : Sends {A = Unit {0}} old out0 (front_text m ++ sectors_text m) (Ok (tt {0})) new out2 = then_sends old old new out0 out1 out2 (front_text m) (sectors_text m) (tt {0}) (Ok (tt {0})) front (rw c.in_ok-write_disks.was at c.write_disks.ensures.sent) in
+    sends_next old new new out0 out2 out3 (front_text m ++ sectors_text m) (saved m) (λ k. device_texts 0 k.devices) (tt {0}) (Ok (tt {0})) e both
+    (sends_ok new out2 out3 (device_texts 0 (state_of new).devices) (tt {0}) (tt {0}) (rw c.in_ok-write_devices.was at c.write_devices.ensures.out))
 
 pub returns-clause-taken : goal.returns-clause-taken
 returns-clause-taken g c =
-    let m : MachineState = state_of c.args.machine.now in
-    let pages = c.len.result / 4096 in
-    let ram : pages ≡ pages_of m = ap (λ n. n / 4096) (c.len.ensures ∙ ap (λ (r : Memory). length r.bytes) c.ram-2.ensures) in
-    let head : List ℕ = header pages c.shapes.result.now in
-    let items : List ℕ = texts (records_below m (pages_of m)) in
-    let devices : List ℕ = device_texts 0 m.devices in
-    let is : head ++ (items ++ devices) ≡ saved m = saved_in_parts m pages c.shapes.result.now c.shapes.ensures.sound ram c.shapes.ensures.shapes in
-    rw is at (then_takes (g.T.Tally.has_taken c.args.tally.now) (g.T.Tally.has_taken c.write_header.new.tally) (g.T.Tally.has_taken c.write_devices.new.tally) head (items ++ devices) c.write_devices.result c.in_ok-write_header.ensures.taken
-    (then_takes (g.T.Tally.has_taken c.write_header.new.tally) (g.T.Tally.has_taken c.write_pages.new.tally) (g.T.Tally.has_taken c.write_devices.new.tally) items devices c.write_devices.result c.in_ok-write_pages.ensures.taken c.write_devices.ensures.taken))
+    let m = state_of c.args.machine.now in
+    let old = c.args.machine.now in
+    let new = c.write_disks.new.machine in
+    let out0 = g.S.Sink.state c.args.out.now in
+    let out1 = g.S.Sink.state c.write_front.new.out in
+    let out2 = g.S.Sink.state c.write_disks.new.out in
+    let t0 = g.T.Tally.has_taken c.args.tally.now in
+    let t1 = g.T.Tally.has_taken c.write_front.new.tally in
+    let t2 = g.T.Tally.has_taken c.write_disks.new.tally in
+    let t3 = g.T.Tally.has_taken c.write_devices.new.tally in
+    let e : (front_text m ++ sectors_text m) ++ device_texts 0 m.devices ≡ saved m = append_assoc (front_text m) (sectors_text m) (device_texts 0 m.devices) ∙ saved_in_parts m in
+    let front : Sends {A = Unit {0}} old out0 (front_text m) (Ok (tt {0})) old out1 = sends_ok old out0 out1 (front_text m) (tt {0}) (tt {0}) (rw c.in_ok-write_front.was at c.write_front.ensures.out) in
+    let both : Sends {A = Unit {0}} old out0 (front_text m ++ sectors_text m) (Ok (tt {0})) new out2 = then_sends old old new out0 out1 out2 (front_text m) (sectors_text m) (tt {0}) (Ok (tt {0})) front (rw c.in_ok-write_disks.was at c.write_disks.ensures.sent) in
+    let took_front : TakesOn {A = Unit {0}} old t0 (front_text m) (Ok (tt {0})) t1 = λ disks. c.in_ok-write_front.ensures.taken in
+    let took_both : TakesOn {A = Unit {0}} old t0 (front_text m ++ sectors_text m) (Ok (tt {0})) t2 = then_takes_on {A = Unit {0}} {B = Unit {0}} old old t0 t1 t2 (front_text m) (sectors_text m) (tt {0}) (Ok (tt {0})) refl took_front c.in_ok-write_disks.ensures.taken in
+    takes_next {A = Unit {0}} {B = Unit {0}} old new new out0 out2 t0 t2 t3 (front_text m ++ sectors_text m) (saved m) (λ k. device_texts 0 k.devices) (tt {0}) (Ok (tt {0})) e both took_both (λ disks. c.in_ok-write_devices.ensures.taken)

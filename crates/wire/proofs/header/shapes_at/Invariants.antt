@@ -1,5 +1,6 @@
 use Rattle.std.proofs.Common.{◌≡◌, ◌-◌}
-use Rattle.wire.specs.ShapeReading.{shapes_of, in_front}
+use Rattle.wire.specs.Several.{in_front}
+use Rattle.wire.specs.ShapeReading.{shapes_of}
 use Rattle.wire.proofs.header.shapes_at.Given as goal
 
 abbrev pub invariant-loop : goal.invariant-loop

@@ -1,5 +1,7 @@
-use Rattle.std.proofs.Common.{arith, sym}
-use Rattle.std.proofs.lemmas.List.{length-map}
+use Rattle.std.proofs.Common.{List, arith, sym, ap, map, ◌∙◌}
+use Rattle.std.proofs.lemmas.List.{length-map, take_all}
+use Rattle.machine.specs.Lines.{lines_of}
+use Rattle.machine.specs.Seen.{DeviceSeen}
 use Rattle.machine.proofs.Raised.{no_lines, one_more, lines_low, line_low, bit_low}
 use Rattle.machine.proofs.machine.Machine.lines.Goals as goal
 
@@ -26,3 +28,8 @@ pub overflow_cast-result : goal.overflow_cast-result
 overflow_cast-result g c =
     let i = c.loop-device in
     omega (arith, lines_low i.device-index c.deref-device-items.result.now i.line i.lines (omega (arith, i.auto.device-index-end)) i.invariant)
+
+pub returns : goal.returns
+returns g c =
+    let all = rw (take_all c.loop-device.device-index c.deref-device-items.result.now c.loop-device-test.false) at c.loop-device.invariant.lines in
+    rw (← c.self.view_is) (all ∙ ap (λ (ds : List DeviceSeen). lines_of (map (λ (x : DeviceSeen). x.state) ds)) c.deref-device-items.ensures.value)

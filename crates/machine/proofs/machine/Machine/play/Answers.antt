@@ -1,7 +1,8 @@
-use Rattle.std.proofs.Common.{◌≡◌, ◌∷◌, ◌++◌, ◌∙◌, [], take, ◌+◌, refl, arith}
-use Rattle.std.proofs.lemmas.List.{take_more}
+use Rattle.std.proofs.Common.{◌≡◌, ◌∷◌, ◌++◌, [], take, length, ◌+◌, refl, arith}
+use Rattle.std.proofs.lemmas.List.{length-take, take_more}
 use Rattle.guestmem.specs.LaterLaws.{later_trans}
-use Rattle.machine.specs.Seen.{state_of}
+use Rattle.machine.specs.Seen.{all_marks, state_of}
+use Rattle.machine.proofs.Failing.{honest_for, honest_stays, marks_more, unsteady_more}
 use Rattle.machine.proofs.Running.{run_more}
 use Rattle.machine.proofs.machine.Machine.play.Goals as goal
 
@@ -9,13 +10,20 @@ pub loop-event-preserved : goal.loop-event-preserved
 loop-event-preserved g c =
     let i = c.loop-event.event-index in
     let events = c.args.events.now in
-    let more : take (i + 1) events ≡ take i events ++ c.event-item.result ∷ [] = rw (take_more events i c.event-item.result c.loop-event-test.true, ← c.event-item.is) refl in
+    let old = all_marks c.args.self.now in
+    let replies = c.loop-event.replies.items in
+    let e = c.event-item.result in
+    let r = c.apply-reply.result in
+    let more : take (i + 1) events ≡ take i events ++ e ∷ [] = rw (take_more events i e c.loop-event-test.true, ← c.event-item.is) refl in
+    let even : length replies ≡ length (take i events) = omega (arith, c.loop-event.invariant.count, length-take i events, c.loop-event-test.true) in
     record {
       room = omega arith;
       count = omega arith;
-      marks = c.apply-reply.ensures.marks ∙ c.loop-event.invariant.marks;
+      marks = rw (more, c.push_reserved.ensures.items) (marks_more old (all_marks c.loop-event.self) (take i events) replies e r even c.loop-event.invariant.marks c.apply-reply.ensures.marks);
+      unsteady = rw (more, c.push_reserved.ensures.items) (unsteady_more old (all_marks c.loop-event.self) (take i events) replies e r even c.loop-event.invariant.marks c.loop-event.invariant.unsteady c.apply-reply.ensures.unsteady);
       later = later_trans c.args.self.now.memory c.loop-event.self.memory c.apply-reply.new.self.memory c.loop-event.invariant.later c.apply-reply.ensures.later;
       sound = c.apply-reply.ensures.sound;
-      so_far = rw (more, c.push_reserved.ensures.items)
-          (run_more (state_of c.args.self.now) (state_of c.loop-event.self) (state_of c.apply-reply.new.self) (take i events) c.loop-event.replies.items c.event-item.result c.apply-reply.result c.loop-event.invariant.so_far c.apply-reply.ensures.step);
+      so_far = λ honest. rw (more, c.push_reserved.ensures.items)
+          (run_more (state_of c.args.self.now) (state_of c.loop-event.self) (state_of c.apply-reply.new.self) (take i events) replies e r (c.loop-event.invariant.so_far honest)
+          (c.apply-reply.ensures.step (honest_for (all_marks c.loop-event.self) e (honest_stays old (all_marks c.loop-event.self) (take i events) replies c.loop-event.invariant.marks honest))));
     }

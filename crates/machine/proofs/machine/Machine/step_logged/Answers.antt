@@ -1,40 +1,47 @@
 use Rattle.std.proofs.Common.{refl, arith}
+use Rattle.guestmem.specs.Item.{sector}
 use Rattle.guestmem.specs.LaterLaws.{later_same}
-use Rattle.machine.specs.Outcome.{outcome_of}
-use Rattle.machine.specs.Seen.{DeviceSeen, state_of}
 use Rattle.machine.specs.declared.event.Event.TheVariants as events
 use Rattle.machine.specs.declared.reply.Refusal.TheVariants as refusals
 use Rattle.machine.specs.declared.reply.Reply.TheVariants as replies
-use Rattle.machine.proofs.At.{IsAt, sound_device, missing_step, work_step, plain_step, map-set_same, held_step, applied_logged}
+use Rattle.machine.proofs.At.{IsAt, applied_logged, has_disk, has_sector, held_worked, missing_step, sound_device, worked}
 use Rattle.machine.proofs.machine.Machine.step_logged.Goals as goal
 
-pub returns-then-dev-len : goal.returns-then-dev-len
-returns-then-dev-len g c =
+pub returns-then-number-len : goal.returns-then-number-len
+returns-then-number-len g c =
     let i = c.self.inside in
     rw (← c.self.view_is)
     (applied_logged g.L.TouchLog.after i.shapes.items (record { memory = i.ram; devices = i.devices.items }) _ c.args.log.now c.args.log.now (events.Step c.args.dev c.args.pick) (replies.Refused refusals.NoDevice) c.self.invariant (c.ranges.dev.fits, c.ranges.pick.fits)
-    (missing_step g.L.TouchLog.after i.ram c.args.log.now i.devices.items c.args.dev c.args.pick (omega arith)) (later_same i.ram) refl)
+    (missing_step g.L.TouchLog.after i.ram c.args.log.now i.devices.items c.args.dev c.args.pick (omega arith)) (later_same i.ram) refl (λ h. cc))
 
 pub step-requires-clause-sound : goal.step-requires-clause-sound
 step-requires-clause-sound g c =
     let i = c.self.inside in
     sound_device i.ram i.devices.items c.args.dev c.index_mut-device.result.now (record { below = omega arith; is = c.index_mut-device.ensures.value }) c.self.invariant.sound
 
+pub step-requires-clause-capacity : goal.step-requires-clause-capacity
+step-requires-clause-capacity g c =
+    let i = c.self.inside in
+    (has_disk i.ram i.devices.items c.args.dev c.index_mut-device.result.now (record { below = omega arith; is = c.index_mut-device.ensures.value }) c.self.invariant.sound).count
+
+pub step-requires-clause-may_sectors : goal.step-requires-clause-may_sectors
+step-requires-clause-may_sectors g c = λ n below.
+    let i = c.self.inside in
+    let d = c.index_mut-device.result.now in
+    c.requires.may (sector c.args.dev n) (rw (← c.self.view_is) (has_sector i.ram i.devices.items c.args.dev n d (record { below = omega arith; is = c.index_mut-device.ensures.value }) below))
+
 pub invariant_of-self : goal.invariant_of-self
 invariant_of-self g c =
     let i = c.self.inside in
     let d = c.index_mut-device.result.now in
     let at : IsAt i.devices.items c.args.dev d = record { below = omega arith; is = c.index_mut-device.ensures.value } in
-    let step = work_step g.L.TouchLog.after i.ram c.step.new.ram c.args.log.now c.step.new.log i.devices.items c.args.dev c.args.pick d c.step.new.self c.step.result at c.step.ensures.step c.step.ensures.sectors in
-    held_step i.shapes.items (record { memory = i.ram; devices = i.devices.items }) _ (events.Step c.args.dev c.args.pick) (outcome_of c.step.result) c.step.result c.self.invariant (c.ranges.dev.fits, c.ranges.pick.fits)
-    (plain_step g.L.TouchLog.after (state_of (record { memory = i.ram; devices = i.devices.items })) _ c.args.log.now c.step.new.log (events.Step c.args.dev c.args.pick) c.step.result step)
+    held_worked g.L.TouchLog.after i.shapes.items i.ram c.step.new.ram c.args.log.now c.step.new.log i.devices.items c.args.dev c.args.pick d c.step.new.self c.step.result c.self.invariant at c.step.ensures.step c.step.ensures.size c.step.ensures.bytes c.step.ensures.whole c.step.ensures.capacity
 
 pub returns : goal.returns
 returns g c =
     let i = c.self.inside in
     let d = c.index_mut-device.result.now in
     let at : IsAt i.devices.items c.args.dev d = record { below = omega arith; is = c.index_mut-device.ensures.value } in
-    let step = work_step g.L.TouchLog.after i.ram c.step.new.ram c.args.log.now c.step.new.log i.devices.items c.args.dev c.args.pick d c.step.new.self c.step.result at c.step.ensures.step c.step.ensures.sectors in
     rw (← c.self.view_is)
-    (applied_logged g.L.TouchLog.after i.shapes.items (record { memory = i.ram; devices = i.devices.items }) _ c.args.log.now c.step.new.log (events.Step c.args.dev c.args.pick) c.step.result c.self.invariant (c.ranges.dev.fits, c.ranges.pick.fits)
-    step c.step.ensures.later (map-set_same (λ (x : DeviceSeen). x.marks) i.devices.items c.args.dev d c.step.new.self at c.step.ensures.marks))
+    (worked g.L.TouchLog.after i.shapes.items i.ram c.step.new.ram c.args.log.now c.step.new.log i.devices.items c.args.dev c.args.pick d c.step.new.self c.step.result c.self.invariant at c.step.ensures.step c.step.ensures.size c.step.ensures.bytes c.step.ensures.whole c.step.ensures.capacity
+    c.step.ensures.later c.step.ensures.marks c.step.ensures.unsteady)

@@ -19,4 +19,4 @@ returns g c =
     let step = stored_step g.L.TouchLog.after i.ram c.put.new.self c.args.log.now c.put.new.log i.devices.items c.args.addr c.args.bytes.now (sym c.refusal.ensures ∙ c.in_default.is) c.put.ensures.bytes c.put.ensures.log in
     rw (← c.self.view_is)
     (applied_logged g.L.TouchLog.after i.shapes.items (record { memory = i.ram; devices = i.devices.items }) _ c.args.log.now c.put.new.log (events.MemWrite c.args.addr c.args.bytes.now) replies.Done c.self.invariant (c.ranges.addr.fits, c.recall_bytes.ensures)
-    step c.put.ensures.later refl)
+    step c.put.ensures.later refl tt)

@@ -1,0 +1,17 @@
+//! What a script asks.
+
+/// What a script asks of its machine between two events.
+#[derive(Clone, Copy, Debug, PartialEq, Eq)]
+pub enum Question {
+    /// Which interrupt lines are up.
+    Lines,
+
+    /// What a sector holds.
+    Sector {
+        /// The device.
+        dev: u8,
+
+        /// The sector of its disk.
+        n: u64,
+    },
+}

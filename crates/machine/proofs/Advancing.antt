@@ -1,0 +1,81 @@
+-- The outstanding request that a step of a device advances.
+use Rattle.std.proofs.Common.{◌≡◌, ℕ, ◌-◌, ◌<◌, List, [], length, Option, Some, None, Bool, true, false, cond, refl, sym, arith}
+use Rattle.std.specs.Prelude.{slice_get}
+use Rattle.std.specs.Bool.{MatchBool}
+use borrow.Author.Tests.{ltb-true}
+use Rattle.blk.specs.declared.request.Request.{Request}
+use Rattle.mmio.specs.State.{Registers, queue_at}
+use Rattle.mmio.specs.declared.queue.Queue.{Queue}
+use Rattle.chains.specs.State.{RingState, state_of}
+use Rattle.chains.specs.declared.position.Positions.{Positions}
+use Rattle.machine.specs.DeviceStep.{advances, advanced_by, advanced_at, requests_of}
+use Rattle.machine.specs.Sound.{IsSoundDevice, IsSoundOwn, AreRequestsOf}
+use Rattle.machine.specs.QueuePositions.{is_packed_by}
+use Rattle.machine.specs.Shapes.{block_of}
+use Rattle.machine.specs.State.{DeviceState}
+use Rattle.machine.specs.declared.own.Own.{Own}
+use Rattle.machine.specs.declared.own.Own.TheVariants.{Network, Block, Console, Entropy}
+use Rattle.machine.specs.declared.shape.Shape.{Shape}
+use Rattle.machine.specs.declared.shape.Shape.TheVariants as shapes
+use Rattle.machine.proofs.Looking.{left_of_and, right_of_and, same_some}
+
+-- A step of a sound device with this pick advances a request, which goes on on this ring: that of queue 0, which is ready.
+pub record IsAdvancedAt (d : DeviceState) (pick : ℕ) (q : RingState) : Type 0 where
+  pub queue : Queue
+  pub positions : Positions
+  pub there : queue_at d.registers 0 ≡ Some queue
+  pub placed : slice_get d.positions 0 ≡ Some positions
+  pub some : 0 < pick
+  pub below : pick - 1 < length (requests_of d.own)
+  pub ready : queue.is_ready ≡ true
+  pub is : q ≡ state_of queue d.registers.common.features positions
+
+-- A queue with requests is ready.
+ready_by : (b : Bool) (requests : List Request) (k : ℕ) → MatchBool b (Unit {0}) (requests ≡ []) → k < length requests → b ≡ true
+ready_by true requests k h below = refl
+ready_by false requests k h below = let none : length requests ≡ 0 = rw h refl in absurd (omega (arith, below, none))
+
+own_ready : (len : ℕ) (r : Registers) (shape : Shape) (own : Own) (queue : Queue) (k : ℕ) → queue_at r 0 ≡ Some queue → IsSoundOwn len r shape own → k < length (requests_of own) → queue.is_ready ≡ true
+own_ready len r (shapes.Net mac) (Network frames) queue k there sound below = absurd (omega (arith, below))
+own_ready len r (shapes.Block sectors read_only id) (Block requests) queue k there sound below =
+    let are : AreRequestsOf len (is_packed_by r.common) queue (block_of (shapes.Block sectors read_only id)) requests = rw there at sound in
+    ready_by queue.is_ready requests k are.where_ready below
+own_ready len r shapes.Console (Console size held) queue k there sound below = absurd (omega (arith, below))
+own_ready len r shapes.Entropy (Entropy pool) queue k there sound below = absurd (omega (arith, below))
+own_ready len r (shapes.Net mac) (Block requests) queue k there sound below = absurd sound
+own_ready len r (shapes.Net mac) (Console size held) queue k there sound below = absurd sound
+own_ready len r (shapes.Net mac) (Entropy pool) queue k there sound below = absurd sound
+own_ready len r (shapes.Block sectors read_only id) (Network frames) queue k there sound below = absurd sound
+own_ready len r (shapes.Block sectors read_only id) (Console size held) queue k there sound below = absurd sound
+own_ready len r (shapes.Block sectors read_only id) (Entropy pool) queue k there sound below = absurd sound
+own_ready len r shapes.Console (Network frames) queue k there sound below = absurd sound
+own_ready len r shapes.Console (Block requests) queue k there sound below = absurd sound
+own_ready len r shapes.Console (Entropy pool) queue k there sound below = absurd sound
+own_ready len r shapes.Entropy (Network frames) queue k there sound below = absurd sound
+own_ready len r shapes.Entropy (Block requests) queue k there sound below = absurd sound
+own_ready len r shapes.Entropy (Console size held) queue k there sound below = absurd sound
+
+advance_if : (len : ℕ) (d : DeviceState) (pick : ℕ) (queue : Queue) (p : Positions) (q : RingState) (b : Bool) → IsSoundDevice len d → advances d pick ≡ b → queue_at d.registers 0 ≡ Some queue → slice_get d.positions 0 ≡ Some p
+    → cond b (Some (state_of queue d.registers.common.features p)) None ≡ Some q → IsAdvancedAt d pick q
+advance_if len d pick queue p q true sound all there placed is =
+    let two = left_of_and _ _ all in
+    let below = ltb-true (pick - 1) (length (requests_of d.own)) (right_of_and _ _ all) in
+    record {
+      queue = queue;
+      positions = p;
+      there = there;
+      placed = placed;
+      some = ltb-true 0 pick (right_of_and _ _ two);
+      below = below;
+      ready = own_ready len d.registers d.shape d.own queue (pick - 1) there sound.own below;
+      is = sym (same_some (state_of queue d.registers.common.features p) q is);
+    }
+advance_if len d pick queue p q false sound all there placed is = cc
+
+advance_by : (len : ℕ) (d : DeviceState) (pick : ℕ) (queue : Option Queue) (p : Option Positions) (q : RingState) → IsSoundDevice len d → queue_at d.registers 0 ≡ queue → slice_get d.positions 0 ≡ p → advanced_by d pick queue p ≡ Some q → IsAdvancedAt d pick q
+advance_by len d pick None p q sound there placed is = cc
+advance_by len d pick (Some queue) None q sound there placed is = cc
+advance_by len d pick (Some queue) (Some p) q sound there placed is = advance_if len d pick queue p q (advances d pick) sound refl there placed is
+
+pub advanced_is : (len : ℕ) (d : DeviceState) (pick : ℕ) (q : RingState) → IsSoundDevice len d → advanced_at d pick ≡ Some q → IsAdvancedAt d pick q
+advanced_is len d pick q sound is = advance_by len d pick (queue_at d.registers 0) (slice_get d.positions 0) q sound refl refl is

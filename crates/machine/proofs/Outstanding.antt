@@ -1,0 +1,261 @@
+-- Outstanding requests of a block device as they go on: they stay sound, write inside RAM, and set sectors that are there.
+use Rattle.std.proofs.Common.{◌≡◌, ℕ, zero, suc, ◌+◌, ◌-◌, ◌*◌, ◌<◌, ◌≤◌, Bool, true, false, cond, ltb, List, [], ◌∷◌, length, take, drop, set, get_or, Option, Some, None, refl, sym, ap, arith}
+use Rattle.std.specs.Prelude.{◌&&◌, slice_get}
+use Rattle.std.specs.List.{All, remove}
+use Rattle.std.proofs.lemmas.List.{length-set, length-take, length-drop}
+use Rattle.std.proofs.lemmas.Option.{get_or_from_slice_get, slice_get_within}
+use Rattle.std.proofs.lemmas.Bool.{true≢false}
+use borrow.Author.Tests.{ltb-true}
+use Rattle.guestmem.specs.ByteLaws.{IsBytes-take, IsBytes-drop}
+use Rattle.guestmem.specs.Number.{IsBytes}
+use Rattle.chains.specs.Places.{places, place_writes, read_places, AreSegmentsInside}
+use Rattle.chains.specs.Publish.{published}
+use Rattle.chains.specs.State.{RingState}
+use Rattle.blk.proofs.Units.{goes_on}
+use Rattle.blk.specs.Advance.{AdvanceStep, advance_one, advance_step, completed, after_move, end_writes, verdict_writes, used_len}
+use Rattle.blk.specs.Move.{Move, SectorSet, move_of, move_out, move_flush, moved, disk_failed, bad_sector, unit_bytes, one_done, failed}
+use Rattle.blk.specs.Request.{is_good, is_open, next_sector, verdict_byte}
+use Rattle.blk.specs.Sectors.{Sector, sector_in, bytes_of, is_bad, IsWhole, AreWhole}
+use Rattle.blk.specs.Sound.{AreSound, IsSoundRequest, IsSoundWork}
+use Rattle.blk.specs.declared.advancing.Advanced.TheVariants as advanced
+use Rattle.blk.specs.declared.request.Kind.{Kind}
+use Rattle.blk.specs.declared.request.Kind.TheVariants.{Refused, In, Out, Flush, GetId}
+use Rattle.blk.specs.declared.request.Request.{Request}
+use Rattle.blk.specs.declared.request.Verdict.{Verdict}
+use Rattle.blk.specs.declared.request.Verdict.TheVariants.{Good, IoError, Unsupported}
+use Rattle.blk.specs.declared.shape.BlockShape.{BlockShape}
+use Rattle.machine.proofs.Inside.{AreInsideRam, MayPublish, AreAddresses, first_inside, inside_append, places_inside, placed_inside, published_inside, may_publish}
+use Rattle.machine.proofs.Rings.{IsLookedRing, placed_published}
+use Rattle.machine.proofs.Serving.{IsSameRing, same_ring}
+
+-- An open request.
+good_is : (v : Verdict) → is_good v ≡ true → v ≡ Good
+good_is Good h = refl
+good_is IoError h = cc
+good_is Unsupported h = cc
+
+left_true : (a b : Bool) → (a && b) ≡ true → a ≡ true
+left_true true b h = refl
+left_true false b h = cc
+
+right_true : (a b : Bool) → (a && b) ≡ true → b ≡ true
+right_true true b h = h
+right_true false b h = cc
+
+pub record IsOpen (r : Request) : Type 0 where
+  pub good : r.verdict ≡ Good
+  pub left : r.done < r.units
+
+pub open_is : (r : Request) → is_open r ≡ true → IsOpen r
+open_is r h = record { good = good_is r.verdict (left_true (is_good r.verdict) (ltb r.done r.units) h); left = ltb-true r.done r.units (right_true (is_good r.verdict) (ltb r.done r.units) h) }
+
+-- The work of an open request after one more unit, and after a failure.
+abbrev Work : Kind → ℕ → ℕ → BlockShape → Verdict → ℕ → ℕ → ℕ → Type 0
+Work k readable writable shape verdict first units done = IsSoundWork k readable writable shape.sectors shape.read_only verdict first units done
+
+one_more : (k : Kind) (readable writable : ℕ) (shape : BlockShape) (first units done : ℕ) → done < units → Work k readable writable shape Good first units done → Work k readable writable shape Good first units (done + 1)
+one_more Refused readable writable shape first units done left h = absurd (true≢false h.0)
+one_more In readable writable shape first units done left h = (omega (arith, left), h.1, h.2)
+one_more Out readable writable shape first units done left h = (omega (arith, left), h.1, h.2, h.3)
+one_more Flush readable writable shape first units done left h = (omega (arith, left), h.1, h.2)
+one_more GetId readable writable shape first units done left h = (h.0, omega (arith, left), h.2, h.3, h.4)
+
+-- Whether a kind of request calls the disk.
+abbrev Calls : Kind → Type 0
+Calls Refused = ⊥
+Calls In = Unit {0}
+Calls Out = Unit {0}
+Calls Flush = Unit {0}
+Calls GetId = ⊥
+
+gone_wrong : (k : Kind) (readable writable : ℕ) (shape : BlockShape) (first units done : ℕ) → Calls k → done < units → Work k readable writable shape Good first units done → Work k readable writable shape IoError first units done
+gone_wrong Refused readable writable shape first units done calls left h = absurd calls
+gone_wrong In readable writable shape first units done calls left h = (left, h.1, h.2)
+gone_wrong Out readable writable shape first units done calls left h = (left, h.1, h.2, h.3)
+gone_wrong Flush readable writable shape first units done calls left h = (left, h.1, h.2)
+gone_wrong GetId readable writable shape first units done calls left h = absurd calls
+
+-- What one unit brings.
+pub record IsGoodSet (count : ℕ) (s : SectorSet) : Type 0 where
+  pub there : s.number < count
+  pub whole : IsWhole s.content
+
+abbrev pub AreGoodSets : ℕ → List SectorSet → Type 0
+AreGoodSets count [] = Unit {0}
+AreGoodSets count (s ∷ ss) = IsGoodSet count s × AreGoodSets count ss
+
+abbrev WorkOf : BlockShape → Request → Type 0
+WorkOf shape r = Work r.kind (length (places r.readable)) (length (places r.writable)) shape r.verdict r.first r.units r.done
+
+record IsMove (len : ℕ) (shape : BlockShape) (r : Request) (m : Move) : Type 0 where
+  goes : (k : ℕ) (q : RingState) (rs : List Request) → AreSound len q shape rs → k < length rs → r ≡ get_or rs k r → AreSound len q shape (set rs k m.request)
+  inside : AreInsideRam len m.writes
+  sets : AreGoodSets shape.sectors m.sets
+
+moved_after : (len : ℕ) (shape : BlockShape) (r : Request) → IsOpen r → WorkOf shape r → (k : ℕ) (q : RingState) (rs : List Request) → AreSound len q shape rs → k < length rs → r ≡ get_or rs k r → AreSound len q shape (set rs k (one_done r))
+moved_after len shape r at_work work k q rs sound below is =
+    goes_on len q shape rs k r (one_done r) advanced.Moved sound below is refl
+    (rw at_work.good (one_more r.kind (length (places r.readable)) (length (places r.writable)) shape r.first r.units r.done at_work.left (rw at_work.good at work)))
+
+failed_after : (len : ℕ) (shape : BlockShape) (r : Request) → IsOpen r → Calls r.kind → WorkOf shape r → (k : ℕ) (q : RingState) (rs : List Request) → AreSound len q shape rs → k < length rs → r ≡ get_or rs k r → AreSound len q shape (set rs k (failed r))
+failed_after len shape r at_work calls work k q rs sound below is =
+    goes_on len q shape rs k r (failed r) advanced.DiskFailed sound below is refl
+    (gone_wrong r.kind (length (places r.readable)) (length (places r.writable)) shape r.first r.units r.done calls at_work.left (rw at_work.good at work))
+
+-- Places further on.
+rest_inside : (len n : ℕ) (at : List ℕ) → AreAddresses len at → AreAddresses len (drop n at)
+rest_inside len zero at h = h
+rest_inside len (suc n) [] h = tt
+rest_inside len (suc n) (a ∷ at) h = rest_inside len n at h.1
+
+some_inside : (len n k : ℕ) (r : Request) (bytes : List ℕ) → AreSegmentsInside len r.writable → IsBytes bytes → AreInsideRam len (place_writes (take n (drop k (places r.writable))) bytes)
+some_inside len n k r bytes inside are = placed_inside len (take n (drop k (places r.writable))) bytes (first_inside len n (drop k (places r.writable)) (rest_inside len k (places r.writable) (places_inside len r.writable inside))) are
+
+no_bytes : IsBytes []
+no_bytes i = omega arith
+
+whole_bytes : (s : Sector) → IsWhole s → IsBytes (bytes_of s)
+whole_bytes None h = no_bytes
+whole_bytes (Some bytes) h = h.bytes
+
+in_by : (len : ℕ) (shape : BlockShape) (content : List Sector) (r : Request) (bad is_fine : Bool) → IsOpen r → r.kind ≡ In → WorkOf shape r → AreSegmentsInside len r.writable → IsWhole (sector_in content (next_sector r))
+    → IsMove len shape r (cond bad (bad_sector r) (cond is_fine (moved r (place_writes (take 512 (drop (512 * r.done) (places r.writable))) (bytes_of (sector_in content (next_sector r)))) []) (disk_failed r [])))
+in_by len shape content r true is_fine at_work kind work inside whole = record { goes = failed_after len shape r at_work (rw kind tt) work; inside = tt; sets = tt }
+in_by len shape content r false true at_work kind work inside whole = record {
+  goes = moved_after len shape r at_work work;
+  inside = some_inside len 512 (512 * r.done) r (bytes_of (sector_in content (next_sector r))) inside (whole_bytes (sector_in content (next_sector r)) whole);
+  sets = tt;
+}
+in_by len shape content r false false at_work kind work inside whole = record { goes = failed_after len shape r at_work (rw kind tt) work; inside = tt; sets = tt }
+
+-- The bytes of a unit.
+read_bytes : (ram at : List ℕ) → IsBytes ram → IsBytes (read_places ram at)
+read_bytes ram [] are i = omega arith
+read_bytes ram (a ∷ at) are zero = are a
+read_bytes ram (a ∷ at) are (suc i) = read_bytes ram at are i
+
+length-read_places : (ram at : List ℕ) → length (read_places ram at) ≡ length at
+length-read_places ram [] = refl
+length-read_places ram (a ∷ at) = ap suc (length-read_places ram at)
+
+unit_whole : (ram : List ℕ) (r : Request) (units : ℕ) → IsBytes ram → r.done < units → 512 * units + 16 ≡ length (places r.readable) → IsWhole (Some (unit_bytes ram r))
+unit_whole ram r units are left long =
+    let all = read_places ram (places r.readable) in
+    let rest = drop (16 + 512 * r.done) all in
+    record {
+      size = omega (arith, length-take 512 rest, length-drop (16 + 512 * r.done) all, length-read_places ram (places r.readable), left, long);
+      bytes = IsBytes-take 512 rest (IsBytes-drop (16 + 512 * r.done) all (read_bytes ram (places r.readable) are));
+    }
+
+out_by : (len : ℕ) (shape : BlockShape) (ram : List ℕ) (r : Request) (is_fine : Bool) → IsBytes ram → IsOpen r → r.kind ≡ Out → WorkOf shape r → IsMove len shape r (move_out ram r is_fine)
+out_by len shape ram r true are at_work kind work =
+    let w : Work Out (length (places r.readable)) (length (places r.writable)) shape r.verdict r.first r.units r.done = rw kind at work in
+    record {
+      goes = moved_after len shape r at_work work;
+      inside = tt;
+      sets = (record { there = omega (arith, at_work.left, w.2); whole = unit_whole ram r r.units are at_work.left w.1 }, tt);
+    }
+out_by len shape ram r false are at_work kind work =
+    let w : Work Out (length (places r.readable)) (length (places r.writable)) shape r.verdict r.first r.units r.done = rw kind at work in
+    record {
+      goes = failed_after len shape r at_work (rw kind tt) work;
+      inside = tt;
+      sets = (record { there = omega (arith, at_work.left, w.2); whole = tt }, tt);
+    }
+
+flush_by : (len : ℕ) (shape : BlockShape) (r : Request) (is_fine : Bool) → IsOpen r → r.kind ≡ Flush → WorkOf shape r → IsMove len shape r (move_flush r is_fine)
+flush_by len shape r true at_work kind work = record { goes = moved_after len shape r at_work work; inside = tt; sets = tt }
+flush_by len shape r false at_work kind work = record { goes = failed_after len shape r at_work (rw kind tt) work; inside = tt; sets = tt }
+
+move_by : (len : ℕ) (shape : BlockShape) (ram : List ℕ) (content : List Sector) (r : Request) (is_fine : Bool) (k : Kind) → r.kind ≡ k → IsBytes ram → IsBytes shape.id → length content ≡ shape.sectors → AreWhole content → IsOpen r → WorkOf shape r → AreSegmentsInside len r.writable
+    → IsMove len shape r (move_of k shape.id ram content r is_fine)
+move_by len shape ram content r is_fine Refused kind are id long whole at_work work inside =
+    let w : Work Refused (length (places r.readable)) (length (places r.writable)) shape Good r.first r.units r.done = rw (kind, at_work.good) at work in
+    absurd (true≢false w.0)
+move_by len shape ram content r is_fine In kind are id long whole at_work work inside =
+    let w : Work In (length (places r.readable)) (length (places r.writable)) shape r.verdict r.first r.units r.done = rw kind at work in
+    let there : next_sector r < length content = omega (arith, at_work.left, w.2, long) in
+    in_by len shape content r (is_bad (sector_in content (next_sector r))) is_fine at_work kind work inside (whole (next_sector r) None there)
+move_by len shape ram content r is_fine Out kind are id long whole at_work work inside = out_by len shape ram r is_fine are at_work kind work
+move_by len shape ram content r is_fine Flush kind are id long whole at_work work inside = flush_by len shape r is_fine at_work kind work
+move_by len shape ram content r is_fine GetId kind are id long whole at_work work inside = record {
+  goes = moved_after len shape r at_work work;
+  inside = some_inside len 20 0 r shape.id inside id;
+  sets = tt;
+}
+
+-- A request that ends.
+verdict_small : (v : Verdict) → verdict_byte v < 256
+verdict_small Good = omega arith
+verdict_small IoError = omega arith
+verdict_small Unsupported = omega arith
+
+one_byte : (b : ℕ) → b < 256 → IsBytes (b ∷ [])
+one_byte b small zero = small
+one_byte b small (suc i) = omega arith
+
+end_inside : (len : ℕ) (q : RingState) (r : Request) → MayPublish len q → AreSegmentsInside len r.writable → AreInsideRam len (end_writes q r)
+unfolding end_writes
+end_inside len q r may inside =
+    inside_append len (verdict_writes r) (published q r.id r.slots (used_len r) true)
+    (some_inside len 1 (length (places r.writable) - 1) r (verdict_byte r.verdict ∷ []) inside (one_byte (verdict_byte r.verdict) (verdict_small r.verdict)))
+    (published_inside len q r.id r.slots (used_len r) true may)
+
+All-remove : {A : Type 0} (P : A → Type 0) (xs : List A) (n : ℕ) → All P xs → All P (remove xs n)
+All-remove P [] zero h k d below = h k d below
+All-remove P [] (suc n) h k d below = h k d below
+All-remove P (x ∷ xs) zero h k d below = h (suc k) d (omega (arith, below))
+All-remove P (x ∷ xs) (suc n) h zero d below = h zero d (omega arith)
+All-remove P (x ∷ xs) (suc n) h (suc k) d below = All-remove P xs n (λ i e lt. h (suc i) e (omega (arith, lt))) k d (omega (arith, below))
+
+length-remove : {A : Type 0} (xs : List A) (n : ℕ) → length (remove xs n) ≤ length xs
+length-remove [] zero = omega arith
+length-remove [] (suc n) = omega arith
+length-remove (x ∷ xs) zero = omega arith
+length-remove (x ∷ xs) (suc n) = omega (arith, length-remove xs n)
+
+-- What advancing brings.
+pub record GoesOn (len : ℕ) (q : RingState) (shape : BlockShape) (requests : List Request) (s : AdvanceStep) : Type 0 where
+  pub sound : AreSound len q shape s.requests
+  pub ring : IsSameRing q s.ring
+  pub few : length s.requests ≤ length requests
+  pub inside : AreInsideRam len s.writes
+  pub sets : AreGoodSets shape.sectors s.sets
+
+advanced_one : (len : ℕ) (shape : BlockShape) (ram : List ℕ) (q : RingState) (content : List Sector) (requests : List Request) (k : ℕ) (is_fine : Bool) (r : Request) (at_work : Bool) → is_open r ≡ at_work → slice_get requests k ≡ Some r
+    → IsLookedRing len q → IsBytes ram → IsBytes shape.id → length content ≡ shape.sectors → AreWhole content → AreSound len q shape requests
+    → GoesOn len q shape requests (cond at_work (after_move q requests k (move_of r.kind shape.id ram content r is_fine)) (completed ram q requests k r))
+advanced_one len shape ram q content requests k is_fine r true at_work at may are id long whole sound =
+    let below : k < length requests = slice_get_within requests k r at in
+    let is : r ≡ get_or requests k r = sym (get_or_from_slice_get requests k r r at) in
+    let one : IsSoundRequest len q.is_packed q.size shape r = rw (← is) at (sound k r below) in
+    let m = move_by len shape ram content r is_fine r.kind refl are id long whole (open_is r at_work) one.work one.writable in
+    record {
+      sound = m.goes k q requests sound below is;
+      ring = same_ring q may.placed;
+      few = omega (arith, length-set requests k (move_of r.kind shape.id ram content r is_fine).request);
+      inside = m.inside;
+      sets = m.sets;
+    }
+advanced_one len shape ram q content requests k is_fine r false at_work at may are id long whole sound =
+    let below : k < length requests = slice_get_within requests k r at in
+    let is : r ≡ get_or requests k r = sym (get_or_from_slice_get requests k r r at) in
+    let one : IsSoundRequest len q.is_packed q.size shape r = rw (← is) at (sound k r below) in
+    record {
+      sound = All-remove (IsSoundRequest len q.is_packed q.size shape) requests k sound;
+      ring = record { layout = refl; size = refl; placed = placed_published q r.slots q.is_packed refl may.may may.placed one.slots };
+      few = length-remove requests k;
+      inside = end_inside len q r (may_publish len q may) one.writable;
+      sets = tt;
+    }
+
+advanced_by : (len : ℕ) (shape : BlockShape) (ram : List ℕ) (q : RingState) (content : List Sector) (requests : List Request) (k : ℕ) (is_fine : Bool) (found : Option Request) → slice_get requests k ≡ found
+    → IsLookedRing len q → IsBytes ram → IsBytes shape.id → length content ≡ shape.sectors → AreWhole content → AreSound len q shape requests
+    → GoesOn len q shape requests (advance_one shape ram q content requests k is_fine found)
+advanced_by len shape ram q content requests k is_fine None at may are id long whole sound = record { sound = sound; ring = same_ring q may.placed; few = omega arith; inside = tt; sets = tt }
+advanced_by len shape ram q content requests k is_fine (Some r) at may are id long whole sound = advanced_one len shape ram q content requests k is_fine r (is_open r) refl at may are id long whole sound
+
+pub goes_on_by : (len : ℕ) (shape : BlockShape) (ram : List ℕ) (q : RingState) (content : List Sector) (requests : List Request) (k : ℕ) (is_fine : Bool)
+    → IsLookedRing len q → IsBytes ram → IsBytes shape.id → length content ≡ shape.sectors → AreWhole content → AreSound len q shape requests
+    → GoesOn len q shape requests (advance_step shape ram q content requests k is_fine)
+goes_on_by len shape ram q content requests k is_fine may are id long whole sound = advanced_by len shape ram q content requests k is_fine (slice_get requests k) refl may are id long whole sound

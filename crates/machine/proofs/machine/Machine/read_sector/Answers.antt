@@ -1,0 +1,29 @@
+use Rattle.machine.proofs.At.{IsAt}
+use Rattle.machine.proofs.Reading.{IsRead, Tells, device_there, held_so, reads}
+use Rattle.machine.proofs.machine.Machine.read_sector.Goals as goal
+use Rattle.machine.proofs.machine.Machine.read_sector.Goals.{in-Read, in-Bad, in-Failed}
+
+pub invariant_of-self : goal.invariant_of-self
+invariant_of-self g c =
+    let at : IsAt c.self.inside.devices.items c.args.dev c.index_mut.result.now = record { below = device_there c.self.inside.ram c.self.inside.devices.items c.args.dev c.args.n (rw (← c.self.view_is) at c.requires); is = c.index_mut.ensures.value } in
+    held_so c.self.inside.shapes.items c.self.inside.ram c.self.inside.devices.items c.args.dev c.index_mut.result.now c.read_sector.new.self at c.read_sector.ensures.state c.read_sector.ensures.sectors c.self.invariant
+
+pub returns : goal.returns
+returns g c =
+    let ds = c.self.inside.devices.items in
+    let at : IsAt ds c.args.dev c.index_mut.result.now = record { below = device_there c.self.inside.ram c.self.inside.devices.items c.args.dev c.args.n (rw (← c.self.view_is) at c.requires); is = c.index_mut.ensures.value } in
+    let read : IsRead c.self.inside.ram ds c.args.dev c.args.n c.index_mut.result.now c.read_sector.new.self c.read_sector.new.buf c.read_sector.result = record {
+      at = at;
+      there = rw (← c.self.view_is) at c.requires;
+      state = c.read_sector.ensures.state;
+      sectors = c.read_sector.ensures.sectors;
+      marks = c.read_sector.ensures.marks;
+      unsteady = c.read_sector.ensures.unsteady;
+      is = c.read_sector.ensures.fetched;
+    } in
+    let told : Tells c.read_sector.result c.match-read_sector.result = elim c.match-read_sector.branch [
+      | in-Read w ↦ rw w.in-Read.is w.result-is
+      | in-Bad w ↦ rw w.in-Bad.is w.result-is
+      | in-Failed w ↦ rw w.in-Failed.is (_, w.result-is)
+    ] in
+    rw (← c.self.view_is) (reads c.self.inside.ram ds c.args.dev c.args.n c.index_mut.result.now c.read_sector.new.self c.read_sector.new.buf c.read_sector.result c.match-read_sector.result read told)

@@ -1,0 +1,214 @@
+-- The sectors of the disks of some devices, one of which changes.
+use Rattle.std.proofs.Common.{◌≡◌, ◌≢◌, ℕ, zero, suc, ◌+◌, ◌<◌, ◌⊎◌, inl, inr, Bool, true, false, cond, List, [], ◌∷◌, length, map, get_or, replicate, take, Some, None, refl, sym, ap, subst, ◌∙◌, arith}
+use Rattle.std.specs.Prelude.{All, IsTrue, nat_lt, set, slice_get}
+use Rattle.std.specs.List.{AllByRecursion}
+use Rattle.std.proofs.lemmas.Bool.{lt-ltb}
+use Rattle.std.proofs.Math.Seq.{map-set_same}
+use Rattle.std.proofs.lemmas.List.{get_or-map, get_or-set_same, length-map, length-replicate, length-set, map-set}
+use Rattle.std.proofs.lemmas.List.Elements.{All-get_or, recursion_from_All}
+use Rattle.std.proofs.lemmas.List.Sums.{sum_by-cons}
+use Rattle.std.proofs.lemmas.Option.{slice_get-get_or}
+use Rattle.guestmem.specs.Item as items
+use Rattle.guestmem.specs.Item.{Item}
+use Rattle.blk.specs.Disk.{AreSectors, DiskState}
+use Rattle.blk.specs.Sectors.{AreWhole, Sector, sectors_of}
+use Rattle.blk.proofs.Marks.{are_whole, length_sectors}
+use Rattle.machine.specs.EffectLaws.{sector_on}
+use Rattle.machine.specs.First.{AreMarksOf, dealt_sectors, marked_sectors, marks_in}
+use Rattle.machine.specs.Shapes.{disk_size_of, disk_sizes, sector_count}
+use Rattle.machine.specs.Seen.{Marks}
+use Rattle.machine.specs.Sound.{IsSoundShape}
+use Rattle.machine.specs.declared.shape.Shape.{Shape}
+use Rattle.machine.specs.declared.shape.Shape.TheVariants.{Net, Block, Console, Entropy}
+use Rattle.receiver.specs.Disks.{AreHonestDisks, all_marks_in, sizes_in}
+use Rattle.receiver.specs.Fed.{held_sectors}
+use Rattle.receiver.specs.Spots.{disks_before}
+use Rattle.wire.specs.Records.{sector}
+use Rattle.wire.specs.Stream.{content_of, record_in}
+
+-- A device has a disk exactly where it has sectors.
+pub record HasDisk (shape : Shape) : Type 0 where
+  pub size : disk_size_of shape ≡ Some (sector_count shape)
+  pub counts : nat_lt 0 (sector_count shape) ≡ true
+
+pub record HasNoDisk (shape : Shape) : Type 0 where
+  pub size : disk_size_of shape ≡ None
+  pub counts : nat_lt 0 (sector_count shape) ≡ false
+  pub none : sector_count shape ≡ 0
+
+pub with_or_without : (shape : Shape) → IsSoundShape shape → HasDisk shape ⊎ HasNoDisk shape
+with_or_without (Net mac) good = inr (record { size = refl; counts = refl; none = refl })
+with_or_without (Block sectors read_only id) good = inl (record { size = refl; counts = lt-ltb 0 sectors (omega (arith, good.some)) })
+with_or_without Console good = inr (record { size = refl; counts = refl; none = refl })
+with_or_without Entropy good = inr (record { size = refl; counts = refl; none = refl })
+
+before_with : (shape : Shape) (shapes : List Shape) (dev : ℕ) → HasDisk shape → disks_before (shape ∷ shapes) (suc dev) ≡ suc (disks_before shapes dev)
+before_with shape shapes dev h =
+    sum_by-cons (λ (s : Shape). cond (nat_lt 0 (sector_count s)) 1 0) shape (take dev shapes) ∙ ap (λ b. cond b 1 0 + disks_before shapes dev) h.counts ∙ omega arith
+
+before_without : (shape : Shape) (shapes : List Shape) (dev : ℕ) → HasNoDisk shape → disks_before (shape ∷ shapes) (suc dev) ≡ disks_before shapes dev
+before_without shape shapes dev h =
+    sum_by-cons (λ (s : Shape). cond (nat_lt 0 (sector_count s)) 1 0) shape (take dev shapes) ∙ ap (λ b. cond b 1 0 + disks_before shapes dev) h.counts ∙ omega arith
+
+-- Where a device has a sector, its disk is among the disks, and what is dealt to it is that of this disk.
+pub record IsDealt (shapes : List Shape) (xs : List (List Sector)) (dev : ℕ) (y : List Sector) : Type 0 where
+  pub below : disks_before shapes dev < length (disk_sizes shapes)
+  pub size : get_or (disk_sizes shapes) (disks_before shapes dev) 0 ≡ get_or (map sector_count shapes) dev 0
+  pub found : get_or (dealt_sectors shapes xs) dev [] ≡ get_or xs (disks_before shapes dev) []
+  pub changed : dealt_sectors shapes (set xs (disks_before shapes dev) y) ≡ set (dealt_sectors shapes xs) dev y
+
+dealt_by : (shape : Shape) (shapes : List Shape) (xs : List (List Sector)) (dev : ℕ) (y : List Sector) → HasDisk shape ⊎ HasNoDisk shape
+    → ((zs : List (List Sector)) (k : ℕ) → length zs ≡ length (disk_sizes shapes) → 0 < get_or (map sector_count shapes) k 0 → IsDealt shapes zs k y)
+    → length xs ≡ length (disk_sizes (shape ∷ shapes)) → 0 < get_or (map sector_count (shape ∷ shapes)) dev 0 → IsDealt (shape ∷ shapes) xs dev y
+dealt_by shape shapes [] dev y (inl h) more size some =
+    let s : disk_sizes (shape ∷ shapes) ≡ sector_count shape ∷ disk_sizes shapes = rw h.size refl in
+    absurd (omega (arith, size, ap length s))
+dealt_by shape shapes (x ∷ xs) zero y (inl h) more size some = record {
+  below = rw h.size (omega arith);
+  size = rw h.size refl;
+  found = rw h.size refl;
+  changed = rw h.size refl;
+}
+dealt_by shape shapes (x ∷ xs) (suc dev) y (inl h) more size some =
+    let s : disk_sizes (shape ∷ shapes) ≡ sector_count shape ∷ disk_sizes shapes = rw h.size refl in
+    let i = more xs dev (omega (arith, size, ap length s)) some in
+    record {
+      below = rw (before_with shape shapes dev h, s) (omega (arith, i.below));
+      size = rw (before_with shape shapes dev h, s) i.size;
+      found = rw (before_with shape shapes dev h, h.size) i.found;
+      changed = rw (before_with shape shapes dev h, h.size) (ap (λ ys. x ∷ ys) i.changed);
+    }
+dealt_by shape shapes xs zero y (inr h) more size some = absurd (omega (arith, some, h.none))
+dealt_by shape shapes xs (suc dev) y (inr h) more size some =
+    let s : disk_sizes (shape ∷ shapes) ≡ disk_sizes shapes = rw h.size refl in
+    let i = more xs dev (size ∙ ap length s) some in
+    record {
+      below = rw (before_without shape shapes dev h, s) i.below;
+      size = rw (before_without shape shapes dev h, s) i.size;
+      found = rw (before_without shape shapes dev h, h.size) i.found;
+      changed = rw (before_without shape shapes dev h, h.size) (ap (λ (ys : List (List Sector)). [] ∷ ys) i.changed);
+    }
+
+dealt_to : (shapes : List Shape) (xs : List (List Sector)) (dev : ℕ) (y : List Sector) → AllByRecursion IsSoundShape shapes → length xs ≡ length (disk_sizes shapes) → 0 < get_or (map sector_count shapes) dev 0 → IsDealt shapes xs dev y
+dealt_to [] xs dev y good size some = absurd (omega (arith, some))
+dealt_to (shape ∷ shapes) xs dev y good size some =
+    dealt_by shape shapes xs dev y (with_or_without shape good.0) (λ zs k e f. dealt_to shapes zs k y good.1 e f) size some
+
+-- The marks of the disks.
+pub marks_count : (ds : List DiskState) (bad : List (List Bool)) → AreMarksOf ds bad → length bad ≡ length ds
+marks_count ds bad are = sym (length-map bad length) ∙ ap length are ∙ length-map ds (λ (d : DiskState). length d.sectors)
+
+pub marks_length : (ds : List DiskState) (bad : List (List Bool)) (k : ℕ) (d : DiskState) → AreMarksOf ds bad → k < length ds → length (get_or bad k []) ≡ length (get_or ds k d).sectors
+marks_length ds bad k d are lt =
+    sym (get_or-map length bad k [] 0 (omega (arith, lt, marks_count ds bad are))) ∙ ap (λ ns. get_or ns k 0) are ∙ get_or-map (λ (x : DiskState). length x.sectors) ds k d 0 lt
+
+pub marks_set : (ds : List DiskState) (bad : List (List Bool)) (k : ℕ) (d : DiskState) (m : List Bool) → AreMarksOf ds bad → length m ≡ length d.sectors → AreMarksOf (set ds k d) (set bad k m)
+marks_set ds bad k d m are e = map-set length bad k m ∙ rw (e, are) refl ∙ sym (map-set (λ (x : DiskState). length x.sectors) ds k d)
+
+marked_set : (ds : List DiskState) (bad : List (List Bool)) (k : ℕ) (d : DiskState) (m : List Bool) → length bad ≡ length ds → marked_sectors (set ds k d) (set bad k m) ≡ set (marked_sectors ds bad) k (sectors_of d.sectors m)
+marked_set [] bad k d m e = refl
+marked_set (x ∷ ds) [] k d m e = absurd (omega (arith, e))
+marked_set (x ∷ ds) (b ∷ bad) zero d m e = refl
+marked_set (x ∷ ds) (b ∷ bad) (suc k) d m e = ap (λ (ys : List (List Sector)). sectors_of x.sectors b ∷ ys) (marked_set ds bad k d m (omega (arith, e)))
+
+marked_get : (ds : List DiskState) (bad : List (List Bool)) (k : ℕ) (d : DiskState) → length bad ≡ length ds → k < length ds → get_or (marked_sectors ds bad) k [] ≡ sectors_of (get_or ds k d).sectors (get_or bad k [])
+marked_get [] bad k d e lt = absurd (omega (arith, lt))
+marked_get (x ∷ ds) [] k d e lt = absurd (omega (arith, e))
+marked_get (x ∷ ds) (b ∷ bad) zero d e lt = refl
+marked_get (x ∷ ds) (b ∷ bad) (suc k) d e lt = marked_get ds bad k d (omega (arith, e)) (omega (arith, lt))
+
+marked_count : (ds : List DiskState) (bad : List (List Bool)) → length bad ≡ length ds → length (marked_sectors ds bad) ≡ length ds
+marked_count [] bad e = refl
+marked_count (x ∷ ds) [] e = absurd (omega (arith, e))
+marked_count (x ∷ ds) (b ∷ bad) e = ap suc (marked_count ds bad (omega (arith, e)))
+
+pub marked_sizes : (ds : List DiskState) (bad : List (List Bool)) → length bad ≡ length ds → map length (marked_sectors ds bad) ≡ sizes_in ds
+marked_sizes [] bad e = refl
+marked_sizes (x ∷ ds) [] e = absurd (omega (arith, e))
+marked_sizes (x ∷ ds) (b ∷ bad) e = rw (length_sectors x.sectors b, marked_sizes ds bad (omega (arith, e))) refl
+
+pub marked_whole : (ds : List DiskState) (bad : List (List Bool)) → All (λ (d : DiskState). AreSectors d.sectors) ds → All AreWhole (marked_sectors ds bad)
+marked_whole [] bad h k d below = absurd (omega (arith, below))
+marked_whole (x ∷ ds) [] h k d below = absurd (omega (arith, below))
+marked_whole (x ∷ ds) (b ∷ bad) h zero d below = are_whole x.sectors b (h 0 x (omega arith))
+marked_whole (x ∷ ds) (b ∷ bad) h (suc k) d below = marked_whole ds bad (λ j e lt. h (suc j) e (omega (arith, lt))) k d (omega (arith, below))
+
+-- A sector of the disk of a device changes.
+pub record IsChanged (shapes : List Shape) (ds : List DiskState) (bad : List (List Bool)) (dev n : ℕ) (d : DiskState) (m : List Bool) (o : Sector) : Type 0 where
+  pub now : held_sectors shapes (set ds (disks_before shapes dev) d) (set bad (disks_before shapes dev) m) ≡ set (held_sectors shapes ds bad) dev (set (get_or (held_sectors shapes ds bad) dev []) n o)
+  pub within : n < length (get_or (held_sectors shapes ds bad) dev [])
+
+pub disk_below : (shapes : List Shape) (ds : List DiskState) (dev n : ℕ) → All IsSoundShape shapes → sizes_in ds ≡ disk_sizes shapes → n < get_or (map sector_count shapes) dev 0 → disks_before shapes dev < length ds
+disk_below shapes ds dev n good fits there =
+    let dealt = dealt_to shapes (replicate (length (disk_sizes shapes)) []) dev [] (recursion_from_All IsSoundShape shapes good) (length-replicate (length (disk_sizes shapes)) []) (omega (arith, there)) in
+    omega (arith, dealt.below, ap length fits, length-map ds (λ (x : DiskState). length x.sectors))
+
+pub disk_size : (shapes : List Shape) (ds : List DiskState) (dev n : ℕ) → All IsSoundShape shapes → sizes_in ds ≡ disk_sizes shapes → n < get_or (map sector_count shapes) dev 0 → n < get_or (sizes_in ds) (disks_before shapes dev) 0
+disk_size shapes ds dev n good fits there =
+    let dealt = dealt_to shapes (replicate (length (disk_sizes shapes)) []) dev [] (recursion_from_All IsSoundShape shapes good) (length-replicate (length (disk_sizes shapes)) []) (omega (arith, there)) in
+    omega (arith, there, dealt.size, ap (λ ns. get_or ns (disks_before shapes dev) 0) fits)
+
+pub changed : (shapes : List Shape) (ds : List DiskState) (bad : List (List Bool)) (dev n : ℕ) (d : DiskState) (m : List Bool) (o : Sector) → All IsSoundShape shapes → sizes_in ds ≡ disk_sizes shapes → AreMarksOf ds bad
+    → n < get_or (map sector_count shapes) dev 0 → sectors_of d.sectors m ≡ set (sectors_of (get_or ds (disks_before shapes dev) d).sectors (get_or bad (disks_before shapes dev) [])) n o
+    → IsChanged shapes ds bad dev n d m o
+changed shapes ds bad dev n d m o good fits are there is =
+    let k = disks_before shapes dev in
+    let count = marks_count ds bad are in
+    let held = marked_sectors ds bad in
+    let size : length held ≡ length (disk_sizes shapes) = marked_count ds bad count ∙ sym (length-map ds (λ (x : DiskState). length x.sectors)) ∙ ap length fits in
+    let dealt = dealt_to shapes held dev (sectors_of d.sectors m) (recursion_from_All IsSoundShape shapes good) size (omega (arith, there)) in
+    let low = disk_below shapes ds dev n good fits there in
+    let found : get_or (held_sectors shapes ds bad) dev [] ≡ sectors_of (get_or ds k d).sectors (get_or bad k []) = dealt.found ∙ marked_get ds bad k d count low in
+    record {
+      now = ap (dealt_sectors shapes) (marked_set ds bad k d m count) ∙ dealt.changed ∙ ap (set (held_sectors shapes ds bad) dev) (is ∙ ap (λ xs. set xs n o) (sym found));
+      within =
+          let long = disk_size shapes ds dev n good fits there in
+          let at : get_or (sizes_in ds) k 0 ≡ length (get_or ds k d).sectors = get_or-map (λ (x : DiskState). length x.sectors) ds k d 0 low in
+          omega (arith, long, at, ap length found, length_sectors (get_or ds k d).sectors (get_or bad k []));
+    }
+
+-- What stands at a place of the disks, after a sector was set.
+get_set_same : (xs : List Sector) (n : ℕ) (o : Sector) → n < length xs → slice_get (set xs n o) n ≡ Some o
+get_set_same xs n o lt = slice_get-get_or (set xs n o) n o (omega (arith, lt, length-set xs n o)) ∙ ap Some (get_or-set_same xs n o o lt)
+
+get_set_other : (xs : List Sector) (n b : ℕ) (o : Sector) → b ≢ n → slice_get (set xs n o) b ≡ slice_get xs b
+get_set_other [] n b o other = refl
+get_set_other (x ∷ xs) zero zero o other = absurd (other refl)
+get_set_other (x ∷ xs) zero (suc b) o other = refl
+get_set_other (x ∷ xs) (suc n) zero o other = refl
+get_set_other (x ∷ xs) (suc n) (suc b) o other = get_set_other xs n b o (λ e. other (ap suc e))
+
+pub set_here : (disks : List (List Sector)) (dev n : ℕ) (o : Sector) → n < length (get_or disks dev []) → sector_on (slice_get (set disks dev (set (get_or disks dev []) n o)) dev) n ≡ Some o
+set_here [] dev n o lt = absurd (omega (arith, lt))
+set_here (x ∷ disks) zero n o lt = get_set_same x n o lt
+set_here (x ∷ disks) (suc dev) n o lt = set_here disks dev n o lt
+
+pub set_there : (disks : List (List Sector)) (dev n a b : ℕ) (o : Sector) → (a ≡ dev → b ≡ n → ⊥) → sector_on (slice_get (set disks dev (set (get_or disks dev []) n o)) a) b ≡ sector_on (slice_get disks a) b
+set_there [] dev n a b o other = refl
+set_there (x ∷ disks) zero n zero b o other = get_set_other x n b o (λ e. other refl e)
+set_there (x ∷ disks) zero n (suc a) b o other = refl
+set_there (x ∷ disks) (suc dev) n zero b o other = refl
+set_there (x ∷ disks) (suc dev) n (suc a) b o other = set_there disks dev n a b o (λ e f. other (ap suc e) f)
+
+sectors_alike : (a b c d : ℕ) → a ≡ c → b ≡ d → items.sector a b ≡ items.sector c d
+sectors_alike a b c d e f = rw (e, f) refl
+
+-- The records of the items, after a sector was set.
+pub record_here : (ram : List ℕ) (disks : List (List Sector)) (dev n : ℕ) (o : Sector) → n < length (get_or disks dev []) → record_in ram (set disks dev (set (get_or disks dev []) n o)) (items.sector dev n) ≡ sector dev n o
+record_here ram disks dev n o lt = ap (λ found. sector dev n (content_of found)) (set_here disks dev n o lt)
+
+pub record_there : (ram : List ℕ) (disks : List (List Sector)) (dev n : ℕ) (o : Sector) (i : Item) → i ≢ items.sector dev n → record_in ram (set disks dev (set (get_or disks dev []) n o)) i ≡ record_in ram disks i
+record_there ram disks dev n o (items.page k) other = refl
+record_there ram disks dev n o (items.sector a b) other = ap (λ found. sector a b (content_of found)) (set_there disks dev n a b o (λ e f. other (sectors_alike a b dev n e f)))
+
+-- What is known of disks after one of them changed that keeps its own.
+pub marks_kept : (ds : List DiskState) (k : ℕ) (d : DiskState) → marks_in d ≡ marks_in (get_or ds k d) → all_marks_in (set ds k d) ≡ all_marks_in ds
+marks_kept ds k d same = map-set_same marks_in ds k d d same
+
+pub sizes_kept : (ds : List DiskState) (k : ℕ) (d : DiskState) → length d.sectors ≡ length (get_or ds k d).sectors → sizes_in (set ds k d) ≡ sizes_in ds
+sizes_kept ds k d same = map-set_same (λ (x : DiskState). length x.sectors) ds k d d same
+
+pub honest_at : (ds : List DiskState) (k : ℕ) (d : DiskState) → k < length ds → AreHonestDisks (all_marks_in ds) → IsTrue (get_or ds k d).honest
+honest_at ds k d lt all =
+    let at : get_or (all_marks_in ds) k (marks_in d) ≡ marks_in (get_or ds k d) = get_or-map marks_in ds k d (marks_in d) lt in
+    subst (λ (m : Marks). IsTrue m.honest) at (All-get_or (λ (m : Marks). IsTrue m.honest) (all_marks_in ds) k (marks_in d) (omega (arith, lt, length-map ds marks_in)) all)

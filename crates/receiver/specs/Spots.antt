@@ -1,0 +1,39 @@
+-- Where a sector is: its disk among all disks, and the number of its item.
+use Rattle.std.specs.Prelude.{◌≡◌, ◌<◌, ℕ, List, ◌∷◌, [], ◌++◌, count_by, length, nat_lt, slice_index_or, take, Result, Ok, Err}
+use Rattle.blk.specs.Disk.{DiskState}
+use Rattle.guestmem.specs.Item as items
+use Rattle.machine.specs.Layout.{IsItemIn, layout_by, number_of}
+use Rattle.machine.specs.Shapes.{sector_count}
+use Rattle.machine.specs.declared.shape.Shape.{Shape}
+use Rattle.wire.specs.Records.{Record, spelled_record}
+use Rattle.receiver.specs.Disks.{AreKept, AreRefused}
+use Rattle.receiver.specs.Fed.{HasRead}
+use Rattle.receiver.specs.declared.intake.Intake.{Intake}
+use Rattle.receiver.specs.declared.intake.Spot.{Spot}
+use Rattle.receiver.specs.declared.recv_error.RecvError.{RecvError}
+use Rattle.receiver.specs.declared.recv_error.RecvError.TheVariants.{DiskFailed}
+
+-- How many of the devices before a place have a disk.
+abbrev pub disks_before : List Shape → ℕ → ℕ
+disks_before shapes place = count_by (λ shape. nat_lt 0 (sector_count shape)) (take place shapes)
+
+-- The disk has a sector of this number.
+abbrev pub HasSector : List ℕ → ℕ → ℕ → Type 0
+HasSector sizes disk number = number < slice_index_or sizes disk 0
+
+-- The intake has a mark for the sector, and one for the item.
+pub record HasMarks (i : Intake) (number : ℕ) (spot : Spot) : Type 0 where
+  pub disk : spot.disk < length i.bad.items
+  pub sector : number < length (slice_index_or i.bad.items spot.disk [])
+  pub item : spot.item < length i.named.items
+
+-- The device has this sector, and it is there.
+pub record IsSpotOf (pages : ℕ) (shapes : List Shape) (dev number : ℕ) (spot : Spot) : Type 0 where
+  pub there : IsItemIn (layout_by pages shapes) (items.sector dev number)
+  pub disk : spot.disk ≡ disks_before shapes dev
+  pub item : spot.item ≡ number_of (layout_by pages shapes) (items.sector dev number)
+
+-- A record more was taken, or its disk failed.
+abbrev pub Taking : List DiskState → List DiskState → ℕ → List Shape → List Record → Intake → List ℕ → Record → Result (Unit {0}) RecvError → Type 0
+Taking old disks pages shapes before new front r (Ok x) = AreKept old disks × HasRead disks pages shapes (before ++ r ∷ []) new (front ++ spelled_record r)
+Taking old disks pages shapes before new front r (Err e) = (e ≡ DiskFailed) × AreRefused old disks DiskFailed

@@ -1,0 +1,48 @@
+//! The disks of the machines of scenarios.
+
+use anyhow::Result;
+use books::Script;
+use machine::{Disk, FaultDisk, MemDisk, SECTOR_SIZE, Shape};
+use std::alloc::Global;
+
+/// A disk in memory, some of whose calls may fail.
+pub type TestDisk = FaultDisk<MemDisk>;
+
+/// Disks of zeros for the block devices of these shapes. None of their calls fails.
+pub fn disks_for(alloc: Global, shapes: &[Shape]) -> Result<Vec<TestDisk>> {
+    let script = Script::new(alloc);
+    disks_of(alloc, &script, shapes)
+}
+
+/// The disks of a script's machine, which has these shapes.
+pub fn disks_of(alloc: Global, script: &Script, shapes: &[Shape]) -> Result<Vec<TestDisk>> {
+    let mut disks = Vec::new(alloc);
+    for (dev, shape) in shapes.iter().enumerate() {
+        if let Shape::Block { sectors, .. } = shape {
+            disks.push(disk_of(alloc, script, dev, *sectors)?)?;
+        }
+    }
+    Ok(disks)
+}
+
+fn disk_of(alloc: Global, script: &Script, dev: usize, sectors: u64) -> Result<TestDisk> {
+    let mut disk = MemDisk::new(alloc, sectors)?;
+    if script.fills(dev) {
+        fill(&mut disk)?;
+    }
+    let mut plan = Vec::new(alloc);
+    for (planned, call) in script.plans() {
+        if *planned == dev {
+            plan.push(*call)?;
+        }
+    }
+    Ok(FaultDisk::new(disk, plan))
+}
+
+/// Fills each sector with its number modulo 256.
+fn fill(disk: &mut MemDisk) -> Result<()> {
+    for n in 0..disk.sectors() {
+        disk.write(n, &[(n % 256) as u8; SECTOR_SIZE])?;
+    }
+    Ok(())
+}

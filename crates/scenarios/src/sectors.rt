@@ -1,0 +1,37 @@
+//! Sectors, as lines of answers.
+
+use crate::disks::TestDisk;
+use anyhow::{Result, bail};
+use machine::{Machine, SECTOR_SIZE};
+use std::io::Write;
+
+/// Writes what a sector holds: its bytes, or that it is bad, or that its disk failed.
+pub fn write_sector(
+    machine: &mut Machine<TestDisk>,
+    dev: u8,
+    n: u64,
+    out: &mut Vec<u8>,
+) -> Result<()> {
+    write!(out, "sector {dev} {n} ")?;
+    let Some(shape) = machine.shapes().get(dev as usize) else {
+        bail!("no device");
+    };
+    if n >= shape.sectors() {
+        bail!("no sector");
+    }
+    let mut bytes = [0; SECTOR_SIZE];
+    match machine.read_sector(dev, n, &mut bytes) {
+        Ok(true) => write_bytes(&bytes, out)?,
+        Ok(false) => writeln!(out, "bad")?,
+        Err(_) => writeln!(out, "failed")?,
+    }
+    Ok(())
+}
+
+fn write_bytes(bytes: &[u8; SECTOR_SIZE], out: &mut Vec<u8>) -> Result<()> {
+    for byte in bytes {
+        write!(out, "{byte:02x}")?;
+    }
+    writeln!(out)?;
+    Ok(())
+}

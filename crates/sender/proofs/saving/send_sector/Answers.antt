@@ -1,0 +1,15 @@
+use Rattle.std.proofs.Common.{Ok, true, ap, ◌∙◌}
+use Rattle.sender.proofs.SectorReads.{sent_good, took_good}
+use Rattle.sender.proofs.saving.send_sector.Goals as goal
+
+pub returns-in_ok-write_sector-in-Ok-true-clause-sent :
+    goal.returns-in_ok-write_sector-in-Ok-true-clause-sent
+returns-in_ok-write_sector-in-Ok-true-clause-sent g c =
+    sent_good c.args.machine.now c.read_sector.new.self c.args.dev c.args.number c.read_sector.new.buf (g.S.Sink.state c.args.out.now) (g.S.Sink.state c.write_sector.new.out) (tt {0}) (tt {0})
+    (rw (c.in-Ok-true.is, c.in-Ok-true.field-0-test) at c.read_sector.ensures) (rw c.in_ok-write_sector-in-Ok-true.was at c.write_sector.ensures.out)
+
+pub returns-in_ok-write_sector-in-Ok-true-clause-taken :
+    goal.returns-in_ok-write_sector-in-Ok-true-clause-taken
+returns-in_ok-write_sector-in-Ok-true-clause-taken g c =
+    took_good c.args.machine.now c.read_sector.new.self c.args.dev c.args.number c.read_sector.new.buf (g.T.Tally.has_taken c.args.tally.now) (g.T.Tally.has_taken c.write_sector.new.tally) (tt {0})
+    (rw (c.in-Ok-true.is, c.in-Ok-true.field-0-test) at c.read_sector.ensures) c.in_ok-write_sector-in-Ok-true.ensures.taken

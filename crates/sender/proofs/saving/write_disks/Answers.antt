@@ -1,0 +1,39 @@
+use Rattle.std.proofs.Common.{◌≡◌, ◌+◌, ◌++◌, Ok, length, map, ap, sym, ◌∙◌, arith}
+use Rattle.std.proofs.lemmas.List.{length-map}
+use Rattle.machine.specs.Layout.{pages_of}
+use Rattle.machine.specs.Seen.{state_of}
+use Rattle.machine.specs.State.{DeviceState}
+use Rattle.wire.specs.Stream.{texts}
+use Rattle.sender.specs.Items.{disk_text, records_from, sectors_before}
+use Rattle.sender.proofs.Disks.{disks_long}
+use Rattle.sender.proofs.Parts.{disk_more, none_from}
+use Rattle.sender.proofs.Sending.{sends_next, sends_nothing, takes_next, takes_nothing}
+use Rattle.sender.proofs.saving.write_disks.Goals as goal
+
+pub loop-dev-init : goal.loop-dev-init
+loop-dev-init g c =
+    let m = state_of c.args.machine.now in
+    record {
+      sound = c.shapes.ensures.sound;
+      end = ap length c.shapes.ensures.shapes ∙ length-map m.devices (λ (d : DeviceState). d.shape);
+      sent = sends_nothing c.args.machine.now (g.S.Sink.state c.args.out.now) (texts (records_from m (pages_of m) 0)) (tt {0}) (none_from m (pages_of m));
+      taken = takes_nothing {A = Unit {0}} c.args.machine.now (g.T.Tally.has_taken c.args.tally.now) (texts (records_from m (pages_of m) 0)) (tt {0}) (none_from m (pages_of m));
+    }
+
+pub loop-dev-preserved : goal.loop-dev-preserved
+loop-dev-preserved g c =
+    let m = state_of c.args.machine.now in
+    let dev = c.loop-dev.dev in
+    let before = texts (records_from m (pages_of m) (sectors_before m dev)) in
+    let after = texts (records_from m (pages_of m) (sectors_before m (dev + 1))) in
+    let long = disks_long m c.loop-dev.invariant.sound in
+    let counts : length (map length m.disks) ≡ length m.disks = length-map m.disks length in
+    let more : before ++ disk_text m dev ≡ after = sym (disk_more m dev (omega (arith, c.loop-dev-test.true, c.loop-dev.invariant.end, long, counts))) in
+    record {
+      sound = c.loop-dev.invariant.sound;
+      end = c.loop-dev.invariant.end;
+      sent = sends_next c.args.machine.now c.loop-dev.machine c.write_disk.new.machine (g.S.Sink.state c.args.out.now) (g.S.Sink.state c.loop-dev.out) (g.S.Sink.state c.write_disk.new.out) before after (λ k. disk_text k dev) (tt {0}) (Ok (tt {0})) more
+          c.loop-dev.invariant.sent (rw c.in_ok-write_disk.was at c.write_disk.ensures.sent);
+      taken = takes_next {B = Unit {0}} c.args.machine.now c.loop-dev.machine c.write_disk.new.machine (g.S.Sink.state c.args.out.now) (g.S.Sink.state c.loop-dev.out) (g.T.Tally.has_taken c.args.tally.now) (g.T.Tally.has_taken c.loop-dev.tally) (g.T.Tally.has_taken c.write_disk.new.tally) before after (λ k. disk_text k dev) (tt {0}) (Ok (tt {0})) more
+          c.loop-dev.invariant.sent c.loop-dev.invariant.taken (rw c.in_ok-write_disk.was at c.write_disk.ensures.taken);
+    }

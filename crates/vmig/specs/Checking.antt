@@ -1,0 +1,49 @@
+-- What `check` does: a stream is received over disks in memory, and one line says of what machine it is.
+use Rattle.std.specs.Prelude.{◌≡◌, ◌⊎◌, ◌/◌, ℕ, List, [], length}
+use Rattle.guestmem.specs.declared.limits.TheConstants.{PAGE_SIZE}
+use Rattle.machine.specs.Shapes.{disk_sizes}
+use Rattle.machine.specs.State.{MachineState}
+use Rattle.machine.specs.declared.shape.Shape.{Shape}
+use Rattle.receiver.specs.Receiving.{IsReceived, RefusesSlice}
+use Rattle.receiver.specs.declared.recv_error.RecvError.{RecvError}
+use Rattle.traces.specs.Replies.{checked_line}
+use Rattle.wire.specs.Header.{Begins}
+use Rattle.vmig.specs.Faults.{stream_fault}
+use Rattle.vmig.specs.declared.fault.Fault.{Fault}
+use Rattle.vmig.specs.declared.fault.Fault.TheVariants.{NoMemory}
+
+-- The bytes are the stream of a machine, and this is its line.
+pub record IsStreamLine (bytes line : List ℕ) : Type 0 where
+  pub machine : MachineState
+  pub rounds : ℕ
+  pub received : IsReceived bytes machine rounds
+  pub spelled : line ≡ checked_line (length machine.ram / PAGE_SIZE) (length machine.devices) rounds
+
+-- The header of a machine with disks of these sizes.
+pub record TellsSizes (bytes sizes : List ℕ) : Type 0 where
+  pub pages : ℕ
+  pub shapes : List Shape
+  pub rest : List ℕ
+  pub begins : Begins bytes pages shapes rest
+  pub sizes_are : sizes ≡ disk_sizes shapes
+
+-- The bytes begin with no header.
+pub record TellsNone (bytes sizes : List ℕ) : Type 0 where
+  pub no_header : (pages : ℕ) (shapes : List Shape) (rest : List ℕ) → ¬ (Begins bytes pages shapes rest)
+  pub none : sizes ≡ []
+
+-- Disks of these sizes fit the header with which the bytes begin; there are none where they begin with no header.
+abbrev pub AreSizesOf : List ℕ → List ℕ → Type 0
+AreSizesOf bytes sizes = TellsSizes bytes sizes ⊎ TellsNone bytes sizes
+
+-- What a fault says of bytes: for a machine with disks as the header tells them, none of which ever fails, the first fault
+-- stands in them that its number tells, or they are a stream that is not whole; or memory was refused.
+pub record TellsOfBytes (bytes : List ℕ) (fault : Fault) : Type 0 where
+  pub sizes : List ℕ
+  pub fit : AreSizesOf bytes sizes
+  pub refusal : RecvError
+  pub refused : RefusesSlice sizes [] bytes refusal
+  pub is : fault ≡ stream_fault refusal
+
+abbrev pub TellsOfStream : List ℕ → Fault → Type 0
+TellsOfStream bytes fault = (fault ≡ NoMemory) ⊎ TellsOfBytes bytes fault

@@ -1,0 +1,29 @@
+-- What was written to standard output, and how a run of the program failed.
+use Rattle.std.specs.Prelude.{◌≡◌, ◌⊎◌, ℕ, List, Option}
+use Rattle.std.specs.Io.KnownBytes.{Appends, Keeps}
+use Rattle.traces.specs.Replies.{AppendsBeginning}
+use Rattle.vmig.specs.Faults.{TellsOfFile, TellsOfOutput}
+use Rattle.vmig.specs.declared.fault.Fault.{Fault}
+
+-- An output of this kind was written.
+pub record HasWritten (IsOutput : List ℕ → Type 0) (old new : Option (List ℕ)) : Type 0 where
+  pub output : List ℕ
+  pub asked : IsOutput output
+  pub written : Appends old new output
+
+-- A beginning of an output of this kind was written.
+pub record HasBegun (IsOutput : List ℕ → Type 0) (old new : Option (List ℕ)) : Type 0 where
+  pub output : List ℕ
+  pub asked : IsOutput output
+  pub begun : AppendsBeginning old new output
+
+-- It failed: before anything was written, or where standard output did.
+abbrev pub Fails : (Fault → Type 0) → (List ℕ → Type 0) → Option (List ℕ) → Option (List ℕ) → Fault → Type 0
+Fails Tells IsOutput old new fault = (Tells fault × Keeps old new) ⊎ (TellsOfOutput fault × HasBegun IsOutput old new)
+
+-- The same of the file of this name. No contract says what a file holds, so it is said of some text.
+abbrev pub HasDoneFile : (List ℕ → List ℕ → Type 0) → Option (List ℕ) → Option (List ℕ) → Type 0
+HasDoneFile IsOutput old new = (text : List ℕ) × HasWritten (IsOutput text) old new
+
+abbrev pub FailsOnFile : List ℕ → (List ℕ → Fault → Type 0) → (List ℕ → List ℕ → Type 0) → Option (List ℕ) → Option (List ℕ) → Fault → Type 0
+FailsOnFile named Tells IsOutput old new fault = (TellsOfFile named fault × Keeps old new) ⊎ ((text : List ℕ) × Fails (Tells text) (IsOutput text) old new fault)

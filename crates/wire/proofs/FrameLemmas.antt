@@ -1,0 +1,86 @@
+-- Frames: what is spelled is read, and what is read was spelled.
+use Rattle.std.proofs.Common.{◌≡◌, ℕ, ◌+◌, ◌*◌, ◌≤◌, List, [], ◌∷◌, ◌++◌, length, take, drop, nat_lt, not, ◌||◌, ◌&&◌, Bool, true, false, Some, refl, sym, ap, subst, ◌∙◌, arith}
+use Rattle.std.proofs.lemmas.Bool.{ltb-false, le-ltb}
+use Rattle.std.proofs.lemmas.List.{take-append-drop, take_at, drop_at, length-append, length-take}
+use Rattle.std.specs.List.{AllByRecursion, flat_map}
+use Rattle.guestmem.specs.ByteLaws.{IsBytes-drop, IsBytes-take}
+use Rattle.guestmem.specs.Number.{number_at, IsBytes}
+use Rattle.net.specs.Inbox.{IsFrame, is_frame_len}
+use Rattle.wire.specs.FrameReading.{frame_of}
+use Rattle.wire.specs.FrameText.{frame_text}
+use Rattle.wire.specs.Numbers.{digits}
+use Rattle.wire.proofs.Choices.{same_found, not_chosen, neither, so}
+use Rattle.wire.proofs.Digits.{digits-number_at, number_at-digits, IsBytes-digits, IsBytes-append}
+use Rattle.wire.proofs.Lists.{WasSpelled}
+
+pub frame_of-text : (frame rest : List ℕ) → IsFrame frame → frame_of (frame_text frame ++ rest) ≡ Some (frame, rest)
+unfolding frame_of frame_text
+frame_of-text frame rest is =
+    let count : number_at (frame_text frame ++ rest) 0 2 ≡ length frame = number_at-digits 2 (length frame) [] (frame ++ rest) (omega (arith, is.short)) in
+    let long : nat_lt (length (frame_text frame ++ rest)) 2 ≡ false = le-ltb _ _ (omega arith) in
+    let least : nat_lt (length frame) 14 ≡ false = le-ltb _ _ is.long in
+    let most : nat_lt 1514 (length frame) ≡ false = le-ltb _ _ is.short in
+    let room : nat_lt (length (frame ++ rest)) (length frame) ≡ false = le-ltb _ _ (omega (arith, length-append frame rest)) in
+    rw (long, count, least, most, room, take_at frame rest (length frame) refl, drop_at frame rest (length frame) refl) refl
+
+-- What the length before a frame tells.
+both : (a b : Bool) → (a && b) ≡ true → (a ≡ true) × (b ≡ true)
+both true b e = (refl, e)
+both false b e = absurd cc
+
+not_so : (b : Bool) → not b ≡ true → b ≡ false
+not_so true e = absurd cc
+not_so false e = refl
+
+record HasFrame (bytes : List ℕ) (len : ℕ) : Type 0 where
+  pub least : 14 ≤ len
+  pub most : len ≤ 1514
+  pub room : len ≤ length (drop 2 bytes)
+  pub long : 2 ≤ length bytes
+  pub told : number_at bytes 0 2 ≡ len
+
+frame_spelled : (bytes : List ℕ) (len : ℕ) → IsBytes bytes → HasFrame bytes len → WasSpelled frame_text IsFrame bytes (take len (drop 2 bytes), drop len (drop 2 bytes))
+unfolding frame_text
+frame_spelled bytes len are has =
+    let many : length (take len (drop 2 bytes)) ≡ len = omega (arith, length-take len (drop 2 bytes), has.room) in
+    let two : digits 2 (length (take len (drop 2 bytes))) ≡ take 2 bytes = ap (digits 2) (many ∙ sym has.told) ∙ digits-number_at 2 bytes 0 are has.long in
+    record {
+      good = record { long = omega (arith, many, has.least); short = omega (arith, many, has.most); are = IsBytes-take len (drop 2 bytes) (IsBytes-drop 2 bytes are) };
+      whole = sym (take-append-drop 2 bytes) ∙ ap (λ (x : List ℕ). x ++ drop 2 bytes) (sym two) ∙ ap (λ (x : List ℕ). digits 2 (length (take len (drop 2 bytes))) ++ x) (sym (take-append-drop len (drop 2 bytes)));
+    }
+
+frame_length : (bytes : List ℕ) → (nat_lt (length bytes) 2 || not (is_frame_len (number_at bytes 0 2))) ≡ false → nat_lt (length (drop 2 bytes)) (number_at bytes 0 2) ≡ false → HasFrame bytes (number_at bytes 0 2)
+frame_length bytes e room =
+    let first = neither (nat_lt (length bytes) 2) (not (is_frame_len (number_at bytes 0 2))) e in
+    let fits = both (not (nat_lt (number_at bytes 0 2) 14)) (not (nat_lt 1514 (number_at bytes 0 2))) (so _ first.1) in
+    record {
+      least = ltb-false (number_at bytes 0 2) 14 (not_so _ fits.0);
+      most = ltb-false 1514 (number_at bytes 0 2) (not_so _ fits.1);
+      room = ltb-false (length (drop 2 bytes)) (number_at bytes 0 2) room;
+      long = ltb-false (length bytes) 2 first.0;
+      told = refl;
+    }
+
+pub text-frame_of : (bytes : List ℕ) (found : List ℕ × List ℕ) → IsBytes bytes → frame_of bytes ≡ Some found → WasSpelled frame_text IsFrame bytes found
+unfolding frame_of
+text-frame_of bytes found are e =
+    let head = not_chosen (nat_lt (length bytes) 2 || not (is_frame_len (number_at bytes 0 2))) _ found e in
+    let room = not_chosen (nat_lt (length (drop 2 bytes)) (number_at bytes 0 2)) _ found head.1 in
+    subst (λ (y : List ℕ × List ℕ). WasSpelled frame_text IsFrame bytes y) (same_found _ found room.1) (frame_spelled bytes (number_at bytes 0 2) are (frame_length bytes head.0 room.0))
+
+-- The size of frames, and their bytes.
+pub length-frame_text : (frame : List ℕ) → length (frame_text frame) ≡ 2 + length frame
+unfolding frame_text
+length-frame_text frame = length-append (digits 2 (length frame)) frame
+
+frame_bytes : (frame : List ℕ) → IsFrame frame → IsBytes (frame_text frame)
+unfolding frame_text
+frame_bytes frame is = IsBytes-append (digits 2 (length frame)) frame (IsBytes-digits 2 (length frame) (omega (arith, is.short))) is.are
+
+pub frames_short : (frames : List (List ℕ)) → AllByRecursion IsFrame frames → length (flat_map frame_text frames) ≤ 1516 * length frames
+frames_short [] are = omega arith
+frames_short (frame ∷ frames) are = omega (arith, length-append (frame_text frame) (flat_map frame_text frames), length-frame_text frame, are.0.short, frames_short frames are.1)
+
+pub frames_bytes : (frames : List (List ℕ)) → AllByRecursion IsFrame frames → IsBytes (flat_map frame_text frames)
+frames_bytes [] are i = omega arith
+frames_bytes (frame ∷ frames) are i = IsBytes-append (frame_text frame) (flat_map frame_text frames) (frame_bytes frame are.0) (frames_bytes frames are.1) i

@@ -1,0 +1,13 @@
+use Rattle.std.proofs.Common.{rules, ◌≡◌, ◌++◌, ◌∷◌, [], Some, arith, length-append}
+use Rattle.wire.specs.FrameReading.{frame_of}
+use Rattle.wire.proofs.Lists.{several_go_on}
+use Rattle.wire.proofs.frame_reading.frames_at.Goals as goal
+
+pub loop-preserved : goal.loop-preserved
+loop-preserved c =
+    let items : c.push.new.self ≡ c.loop.inbox ++ c.in-Some.frame.now ∷ [] = search rules in
+    let found : frame_of c.loop.rest.now ≡ Some (c.in-Some.frame.now, c.in-Some.after.now) = search rules in
+    record {
+      many = rw items (omega (arith, length-append c.loop.inbox (c.in-Some.frame.now ∷ []), c.loop.invariant.many));
+      whole = rw items (several_go_on frame_of c.args.count c.loop.counter c.loop.inbox c.loop.rest.now c.in-Some.after.now c.in-Some.frame.now _ c.loop-test.true found c.loop.invariant.whole);
+    }

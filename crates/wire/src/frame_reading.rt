@@ -1,0 +1,53 @@
+//! Frames in the body of a network device, read.
+
+ghost use Rattle.std.specs.Prelude.{◌≡◌, ◌≤◌, IfOk, IfSome, MatchOption, None, Some, length};
+ghost use Rattle.net.specs.Inbox.{IsFrame};
+ghost use Rattle.net.specs.declared.limits.TheConstants.{INBOX_MAX};
+ghost use Rattle.wire.specs.FrameReading.{frame_of};
+ghost use Rattle.wire.specs.Several.{several};
+
+use crate::numbers::{COUNT_LEN, u16_at};
+use guestmem::{NoMemory, recall_bytes};
+use net::{Inbox, is_frame_len};
+use std::alloc::Global;
+
+/// So many frames, and the bytes after them.
+#[tactic(auto, using(crate::proofs::Lists::several_go_on, crate::proofs::Lists::several_fail, crate::proofs::Lists::several_end))]
+pub fn frames_at(
+    alloc: Global,
+    count: u16,
+    bytes: &[u8],
+) -> Result<Option<(Inbox, &[u8])>, NoMemory>
+    requires { count ≤ INBOX_MAX }
+    ensures { IfOk result (λ found. MatchOption found (several frame_of count bytes.now ≡ None) (λ x. several frame_of count bytes.now ≡ Some (x.0, x.1.now))) }
+{
+    let mut inbox = Inbox::new(alloc)?;
+    let mut rest = bytes;
+    for _ in 0..count {
+        let Some((frame, after)) = frame_at(rest) else {
+            return Ok(None);
+        };
+        inbox.push(frame);
+        rest = after;
+    }
+    Ok(Some((inbox, rest)))
+}
+
+/// The frame at the front of the bytes, behind its length, and the bytes after it.
+#[tactic(auto, unfolding(crate::specs::FrameReading::frame_of))]
+fn frame_at(bytes: &[u8]) -> Option<(&[u8], &[u8])>
+    ensures read { MatchOption result (frame_of bytes.now ≡ None) (λ x. frame_of bytes.now ≡ Some (x.0.now, x.1.now)) }
+    ensures frame { IfSome result (λ x. IsFrame x.0.now) }
+{
+    if bytes.len() < COUNT_LEN || !is_frame_len(u16_at(bytes, 0) as usize) {
+        return None;
+    }
+    let len = u16_at(bytes, 0) as usize;
+    let (_, rest) = bytes.split_at(COUNT_LEN);
+    if rest.len() < len {
+        return None;
+    }
+    let (frame, rest) = rest.split_at(len);
+    recall_bytes(frame);
+    Some((frame, rest))
+}

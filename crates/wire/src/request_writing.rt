@@ -1,0 +1,101 @@
+//! Requests on their way to a sink.
+
+ghost use Rattle.std.specs.Prelude.{◌≡◌, ◌^◌, ◌%◌, OnOk, length};
+ghost use Rattle.std.specs.List.{flat_map};
+ghost use Rattle.wire.specs.RequestText.{head_text, request_text, requests_text, segs_text};
+ghost use Rattle.wire.specs.Sinks.{Appends, Takes};
+
+use crate::request_text::{HEAD_LEN, SEG_LEN, head_bytes, seg_bytes};
+use crate::sink::{Sink, SinkFault};
+use crate::tally::Tally;
+use crate::writing::put;
+use blk::{Request, Requests};
+use chains::Seg;
+
+/// One past the greatest count of segments that a request's field can tell.
+const SEGS_END: usize = 1 << 16;
+
+/// One past the greatest number of bytes that the field of a device's record can tell.
+const LEN_END: usize = 1 << 32;
+
+/// The requests, with their number before them.
+pub fn write_requests<S: Sink, T: Tally>(
+    requests: &Requests,
+    out: &mut S,
+    tally: &mut T,
+) -> Result<(), SinkFault>
+    ensures out { Appends (S.state out.old) (requests_text requests.now) result (S.state out.new) }
+    ensures taken { OnOk result (Takes (T.has_taken tally.old) (requests_text requests.now) (T.has_taken tally.new)) }
+{
+    put(&[requests.len() as u8], out, tally)?;
+    write_each(requests.as_slice(), out, tally)
+}
+
+#[tactic(auto, using(crate::proofs::Saving::text_more))]
+fn write_each<S: Sink, T: Tally>(
+    requests: &[Request],
+    out: &mut S,
+    tally: &mut T,
+) -> Result<(), SinkFault>
+    ensures out { Appends (S.state out.old) (flat_map request_text requests.now) result (S.state out.new) }
+    ensures taken { OnOk result (Takes (T.has_taken tally.old) (flat_map request_text requests.now) (T.has_taken tally.new)) }
+{
+    for i in 0..requests.len() {
+        write_request(&requests[i], out, tally)?;
+    }
+    Ok(())
+}
+
+fn write_request<S: Sink, T: Tally>(
+    request: &Request,
+    out: &mut S,
+    tally: &mut T,
+) -> Result<(), SinkFault>
+    ensures out { Appends (S.state out.old) (request_text request.now) result (S.state out.new) }
+    ensures taken { OnOk result (Takes (T.has_taken tally.old) (request_text request.now) (T.has_taken tally.new)) }
+{
+    put(&request_head(request), out, tally)?;
+    write_segs(request.readable.as_slice(), out, tally)?;
+    write_segs(request.writable.as_slice(), out, tally)
+}
+
+/// The head of a request, with the numbers of its segments.
+fn request_head(request: &Request) -> [u8; 26]
+    ensures { result ≡ head_text request.now (length request.now.readable) (length request.now.writable) }
+{
+    let readable = (request.readable.len() % SEGS_END) as u16;
+    let writable = (request.writable.len() % SEGS_END) as u16;
+    head_bytes(request, readable, writable)
+}
+
+#[tactic(auto, using(crate::proofs::Saving::text_more))]
+fn write_segs<S: Sink, T: Tally>(segs: &[Seg], out: &mut S, tally: &mut T) -> Result<(), SinkFault>
+    ensures out { Appends (S.state out.old) (segs_text segs.now) result (S.state out.new) }
+    ensures taken { OnOk result (Takes (T.has_taken tally.old) (segs_text segs.now) (T.has_taken tally.new)) }
+{
+    for i in 0..segs.len() {
+        put(&seg_bytes(&segs[i]), out, tally)?;
+    }
+    Ok(())
+}
+
+/// How many bytes tell the requests, modulo 2^32.
+#[tactic(auto, using(crate::proofs::Saving::length_more))]
+pub fn requests_len(requests: &Requests) -> u32
+    ensures { result ≡ length (requests_text requests.now) % 2 ^ 32 }
+{
+    let list = requests.as_slice();
+    let mut len = 1;
+    for i in 0..list.len() {
+        len = (len + request_len(&list[i])) % LEN_END;
+    }
+    len as u32
+}
+
+/// How many bytes tell a request, modulo 2^32.
+fn request_len(request: &Request) -> usize
+    ensures { result ≡ length (request_text request.now) % 2 ^ 32 }
+{
+    let segments = request.readable.len() % LEN_END + request.writable.len() % LEN_END;
+    (HEAD_LEN + SEG_LEN * segments) % LEN_END
+}

@@ -1,0 +1,62 @@
+//! The record of a sector, on its way to a sink.
+
+ghost use Rattle.std.specs.Prelude.{MatchOption, None, OnOk, Some};
+ghost use Rattle.wire.specs.Records.{sector, spelled_record};
+ghost use Rattle.wire.specs.Sinks.{Appends, Takes};
+
+use crate::sink::{Sink, SinkFault};
+use crate::tally::{NoTally, Tally};
+use crate::writing::put;
+use byteorder::{ByteOrder, LittleEndian};
+use machine::SECTOR_SIZE;
+
+/// Writes the record of a sector: its 512 bytes, or none where it is bad.
+pub fn encode_sector<S: Sink>(
+    device: u8,
+    number: u32,
+    content: Option<&[u8; SECTOR_SIZE]>,
+    out: &mut S,
+) -> Result<(), SinkFault>
+    ensures out { MatchOption content.entry
+        (Appends (S.state out.old) (spelled_record (sector device number None)) result (S.state out.new))
+        (λ bytes. Appends (S.state out.old) (spelled_record (sector device number (Some bytes.now))) result (S.state out.new)) }
+{
+    match content {
+        Some(bytes) => write_sector(device, number, bytes, out, &mut NoTally),
+        None => write_bad_sector(device, number, out, &mut NoTally),
+    }
+}
+
+/// The record of a sector that is good.
+#[tactic(auto, unfolding(crate::specs::Records::spelled_record))]
+pub fn write_sector<S: Sink, T: Tally>(
+    device: u8,
+    number: u32,
+    bytes: &[u8; SECTOR_SIZE],
+    out: &mut S,
+    tally: &mut T,
+) -> Result<(), SinkFault>
+    ensures out { Appends (S.state out.old) (spelled_record (sector device number (Some bytes.now))) result (S.state out.new) }
+    ensures taken { OnOk result (Takes (T.has_taken tally.old) (spelled_record (sector device number (Some bytes.now))) (T.has_taken tally.new)) }
+{
+    let mut head = [2, device, 0, 0, 0, 0, 1];
+    LittleEndian::write_u32(&mut head[2..], number);
+    put(&head, out, tally)?;
+    put(bytes, out, tally)
+}
+
+/// The record of a sector that is bad.
+#[tactic(auto, unfolding(crate::specs::Records::spelled_record))]
+pub fn write_bad_sector<S: Sink, T: Tally>(
+    device: u8,
+    number: u32,
+    out: &mut S,
+    tally: &mut T,
+) -> Result<(), SinkFault>
+    ensures out { Appends (S.state out.old) (spelled_record (sector device number None)) result (S.state out.new) }
+    ensures taken { OnOk result (Takes (T.has_taken tally.old) (spelled_record (sector device number None)) (T.has_taken tally.new)) }
+{
+    let mut head = [2, device, 0, 0, 0, 0, 0];
+    LittleEndian::write_u32(&mut head[2..], number);
+    put(&head, out, tally)
+}

@@ -1,0 +1,33 @@
+//! The size of a console in its body.
+
+ghost use Rattle.std.specs.Prelude.{◌≡◌, ◌≤◌, length};
+ghost use Rattle.wire.specs.BodyReading.{size_of};
+ghost use Rattle.wire.specs.DeviceBody.{size_text};
+
+use crate::numbers::u16_at;
+use byteorder::{ByteOrder, LittleEndian};
+use console::ConsoleSize;
+
+/// The bytes of a console's size.
+pub const SIZE_LEN: usize = 4;
+
+#[tactic(auto, unfolding(crate::specs::DeviceBody::size_text))]
+pub fn size_bytes(size: &ConsoleSize) -> [u8; 4]
+    ensures { result ≡ size_text size.now }
+{
+    let mut bytes = [0; SIZE_LEN];
+    LittleEndian::write_u16(&mut bytes[0..], size.columns);
+    LittleEndian::write_u16(&mut bytes[2..], size.rows);
+    bytes
+}
+
+#[tactic(auto, unfolding(crate::specs::BodyReading::size_of))]
+pub fn size_at(bytes: &[u8]) -> ConsoleSize
+    requires { 4 ≤ length bytes.now }
+    ensures { result ≡ size_of bytes.now }
+{
+    ConsoleSize {
+        columns: u16_at(bytes, 0),
+        rows: u16_at(bytes, 2),
+    }
+}
