@@ -29,7 +29,7 @@ use Rattle.machine.specs.Outcome.{Outcome, is_failure, outcome_of}
 use Rattle.machine.specs.Seen.{DeviceSeen, Seen, state_of, all_marks, failed_at, failed_if, marks_at}
 use Rattle.machine.specs.Sound.{IsSound, IsSoundDevice}
 use Rattle.machine.specs.State.{DeviceState, MachineState}
-use Rattle.machine.specs.Step.{IsStep, IsLoggedStep, IsResized, ResizesDevice, input_of, out_reply, own_with_input, refused, size_by, written_out, register_set, with_input}
+use Rattle.machine.specs.Step.{HasEffect, IsStep, IsLoggedStep, IsResized, ResizesDevice, input_of, out_reply, own_with_input, refused, size_by, written_out, register_set, with_input}
 use Rattle.machine.specs.StepLaws.{Fits}
 use Rattle.machine.specs.declared.event.Event.{Event}
 use Rattle.machine.specs.declared.event.Event.TheVariants.{RegWrite, MemWrite, Step, Input, Resize}
@@ -186,22 +186,6 @@ found_marks [] dev d at = absurd (omega (arith, at.below))
 found_marks (x ∷ ds) zero d at = ap (λ (y : DeviceSeen). y.marks) (sym at.is)
 found_marks (x ∷ ds) (suc dev) d at = found_marks ds dev d (record { below = omega (arith, at.below); is = at.is })
 
--- Its device did a piece of its work.
-pub work_step : {L : Type 0} (taking : L → Item → L) (m new_m : Memory) (log new_log : L) (ds : List DeviceSeen) (dev pick : ℕ) (d new : DeviceSeen) (reply : Reply) → IsAt ds dev d
-    → IsDeviceStep taking dev d.marks.honest m.bytes d.sectors log d.state pick reply new_m.bytes new.sectors new_log new.state → IsTrue d.marks.honest
-    → IsLoggedStep taking (state_of (record { memory = m; devices = ds })) log (Step dev pick) reply (state_of (record { memory = new_m; devices = set ds dev new })) new_log
-work_step taking m new_m log new_log ds dev pick d new reply at h honest =
-    let s = device_step d.state m.bytes d.sectors pick (outcome_of reply) h.seen in
-    let disk = found_disk ds dev d at in
-    let sectors : map (λ (x : DeviceSeen). x.sectors) (set ds dev new) ≡ effects.sectors_set (map (λ (x : DeviceSeen). x.sectors) ds) (sets_on dev s.sets) =
-    map-set (λ (x : DeviceSeen). x.sectors) ds dev new ∙ ap (λ content. set (map (λ (x : DeviceSeen). x.sectors) ds) dev content) (h.content_is honest) ∙ sym (disk_set (map (λ (x : DeviceSeen). x.sectors) ds) dev d.sectors s.sets disk) in
-    record {
-      effect = record { writes = s.writes; sectors = sets_on dev s.sets; replaced = Some (record { number = dev; device = new.state }) };
-      has = record { seen = h.seen; may_see = rw (found ds dev d at) h.may_look; reply_is = rw (found ds dev d at, disk) h.reply_is; effect_is = rw (found ds dev d at, disk, h.device_is) refl; outcome_is = refl };
-      changed = rw (map-set (λ (x : DeviceSeen). x.state) ds dev new, sectors, h.ram_is honest) refl;
-      logged = rw (touched_on dev s.sets) h.log_is;
-    }
-
 -- The guest wrote RAM.
 pub stored_step : {L : Type 0} (taking : L → Item → L) (m new_m : Memory) (log new_log : L) (ds : List DeviceSeen) (addr : ℕ) (bytes : List ℕ) → refusal_of (length m.bytes) addr (length bytes) ≡ None
     → new_m.bytes ≡ set_all m.bytes (byte_writes addr bytes) → new_log ≡ after_all taking log (touched (byte_writes addr bytes))
@@ -248,13 +232,31 @@ pub plain_step : {L : Type 0} (taking : L → Item → L) (m next : MachineState
 plain_step taking m next log new_log e reply h = record { effect = h.effect; has = h.has; changed = h.changed }
 
 -- Such a step of a machine that is held is one that was applied.
+step_same : (old new : MachineState) (e : Event) (reply : Reply) (effect : Effect) → HasEffect old e (outcome_of reply) reply effect → new ≡ applied old effect → IsSameShape old new
+step_same old new e reply effect has changed = rw changed (step_shape old e (outcome_of reply) reply effect has)
+
 pub applied_step : (shapes : List Shape) (old new : Seen) (e : Event) (reply : Reply) → IsHeld shapes old → Fits e → IsStep (state_of old) e (outcome_of reply) reply (state_of new) → IsLater old.memory new.memory → all_marks new ≡ marks_after (all_marks old) e reply → FailsOnlyUnsteady (all_marks old) e reply → IsApplied old e reply new
-applied_step shapes old new e reply held fits h later marks unsteady = record { step = λ _. h; sound = (held_step shapes old new e (outcome_of reply) reply held fits h).sound; later = later; marks = marks; unsteady = unsteady }
+applied_step shapes old new e reply held fits h later marks unsteady = record {
+  effect = h.effect;
+  has = h.has;
+  changed = λ _. h.changed;
+  devices = ap (λ (k : MachineState). k.devices) h.changed;
+  shape = step_same (state_of old) (state_of new) e reply h.effect h.has h.changed;
+  sound = (held_step shapes old new e (outcome_of reply) reply held fits h).sound;
+  later = later;
+  marks = marks;
+  unsteady = unsteady;
+}
 
 pub applied_logged : {L : Type 0} (taking : L → Item → L) (shapes : List Shape) (old new : Seen) (log new_log : L) (e : Event) (reply : Reply) → IsHeld shapes old → Fits e → IsLoggedStep taking (state_of old) log e reply (state_of new) new_log → IsLater old.memory new.memory → all_marks new ≡ marks_after (all_marks old) e reply → FailsOnlyUnsteady (all_marks old) e reply
     → IsAppliedLogged taking old log e reply new new_log
 applied_logged taking shapes old new log new_log e reply held fits h later marks unsteady = record {
-  step = λ _. h;
+  effect = h.effect;
+  has = h.has;
+  changed = λ _. h.changed;
+  logged = h.logged;
+  devices = ap (λ (k : MachineState). k.devices) h.changed;
+  shape = step_same (state_of old) (state_of new) e reply h.effect h.has h.changed;
   sound = (held_step shapes old new e (outcome_of reply) reply held fits (plain_step taking (state_of old) (state_of new) log new_log e reply h)).sound;
   later = later;
   marks = marks;
@@ -277,25 +279,32 @@ worked_shape : {L : Type 0} (taking : L → Item → L) (m new_m : Memory) (log 
 unfolding device_step
 worked_shape taking m new_m log new_log dev pick d new reply h = ap (λ (x : DeviceState). x.shape) h.device_is ∙ shape_at d.state m.bytes d.sectors pick (looked_at d.state pick) (outcome_of reply) h.seen
 
+seen_shapes : {L : Type 0} (taking : L → Item → L) (m new_m : Memory) (log new_log : L) (ds : List DeviceSeen) (dev pick : ℕ) (d new : DeviceSeen) (reply : Reply) → IsAt ds dev d
+    → IsDeviceStep taking dev d.marks.honest m.bytes d.sectors log d.state pick reply new_m.bytes new.sectors new_log new.state → map (λ (x : DeviceSeen). x.state.shape) (set ds dev new) ≡ map (λ (x : DeviceSeen). x.state.shape) ds
+seen_shapes taking m new_m log new_log ds dev pick d new reply at h = map-set_same (λ (x : DeviceSeen). x.state.shape) ds dev d new at (worked_shape taking m new_m log new_log dev pick d new reply h)
+
+same_worked : {L : Type 0} (taking : L → Item → L) (m new_m : Memory) (log new_log : L) (ds : List DeviceSeen) (dev pick : ℕ) (d new : DeviceSeen) (reply : Reply) → IsAt ds dev d
+    → IsDeviceStep taking dev d.marks.honest m.bytes d.sectors log d.state pick reply new_m.bytes new.sectors new_log new.state
+    → length new_m.bytes ≡ length m.bytes → length new.sectors ≡ length d.sectors → IsSameShape (state_of (record { memory = m; devices = ds })) (state_of (record { memory = new_m; devices = set ds dev new }))
+same_worked taking m new_m log new_log ds dev pick d new reply at h size count = record {
+  ram = size;
+  devices = sym (shapes_seen (set ds dev new)) ∙ seen_shapes taking m new_m log new_log ds dev pick d new reply at h ∙ shapes_seen ds;
+  disks = lengths_same ds (set ds dev new) (map-set_same (λ (x : DeviceSeen). length x.sectors) ds dev d new at count);
+}
+
 pub held_worked : {L : Type 0} (taking : L → Item → L) (shapes : List Shape) (m new_m : Memory) (log new_log : L) (ds : List DeviceSeen) (dev pick : ℕ) (d new : DeviceSeen) (reply : Reply) → IsHeld shapes (record { memory = m; devices = ds }) → IsAt ds dev d
     → IsDeviceStep taking dev d.marks.honest m.bytes d.sectors log d.state pick reply new_m.bytes new.sectors new_log new.state
     → length new_m.bytes ≡ length m.bytes → IsBytes new_m.bytes → AreWhole new.sectors → length new.sectors ≡ length d.sectors → IsHeld shapes (record { memory = new_m; devices = set ds dev new })
 held_worked taking shapes m new_m log new_log ds dev pick d new reply held at h size bytes whole count =
     let old : MachineState = state_of (record { memory = m; devices = ds }) in
-    let shape = worked_shape taking m new_m log new_log dev pick d new reply h in
     let sound_new : IsSoundDevice (length m.bytes) new.state = rw h.device_is (sound_stepped d.state m.bytes d.sectors pick (outcome_of reply) h.seen h.may_look held.sound.bytes (sound_device m ds dev d at held.sound) (has_disk m ds dev d at held.sound)) in
     let states : map (λ (x : DeviceSeen). x.state) (set ds dev new) ≡ set (map (λ (x : DeviceSeen). x.state) ds) dev new.state = map-set (λ (x : DeviceSeen). x.state) ds dev new in
     let disks : map (λ (x : DeviceSeen). x.sectors) (set ds dev new) ≡ set (map (λ (x : DeviceSeen). x.sectors) ds) dev new.sectors = map-set (λ (x : DeviceSeen). x.sectors) ds dev new in
-    let seen_shapes : map (λ (x : DeviceSeen). x.state.shape) (set ds dev new) ≡ map (λ (x : DeviceSeen). x.state.shape) ds = map-set_same (λ (x : DeviceSeen). x.state.shape) ds dev d new at shape in
-    let same : IsSameShape old (state_of (record { memory = new_m; devices = set ds dev new })) = record {
-      ram = size;
-      devices = sym (shapes_seen (set ds dev new)) ∙ seen_shapes ∙ shapes_seen ds;
-      disks = lengths_same ds (set ds dev new) (map-set_same (λ (x : DeviceSeen). length x.sectors) ds dev d new at count);
-    } in
+    let same = same_worked taking m new_m log new_log ds dev pick d new reply at h size count in
     record {
       sound = sound_by old (state_of (record { memory = new_m; devices = set ds dev new })) same (rw (states, length-set) refl) (rw states (All-set (IsSoundDevice (length m.bytes)) (map (λ (x : DeviceSeen). x.state) ds) dev new.state sound_new held.sound.devices)) bytes
           (rw disks (All-set AreWhole (map (λ (x : DeviceSeen). x.sectors) ds) dev new.sectors whole held.sound.sectors)) held.sound;
-      shapes_are = held.shapes_are ∙ sym seen_shapes;
+      shapes_are = held.shapes_are ∙ sym (seen_shapes taking m new_m log new_log ds dev pick d new reply at h);
     }
 
 -- The marks of the disks after it.
@@ -308,10 +317,21 @@ pub worked : {L : Type 0} (taking : L → Item → L) (shapes : List Shape) (m n
     → IsDeviceStep taking dev d.marks.honest m.bytes d.sectors log d.state pick reply new_m.bytes new.sectors new_log new.state
     → length new_m.bytes ≡ length m.bytes → IsBytes new_m.bytes → AreWhole new.sectors → length new.sectors ≡ length d.sectors → IsLater m new_m → new.marks ≡ failed_if (is_failure reply) d.marks → (is_failure reply ≡ true → d.marks.steady ≡ false)
     → IsAppliedLogged taking (record { memory = m; devices = ds }) log (Step dev pick) reply (record { memory = new_m; devices = set ds dev new }) new_log
-worked taking shapes m new_m log new_log ds dev pick d new reply held at h size bytes whole count later marks unsteady = record {
-  step = λ honest. work_step taking m new_m log new_log ds dev pick d new reply at h (rw (found_marks ds dev d at) at honest);
-  sound = (held_worked taking shapes m new_m log new_log ds dev pick d new reply held at h size bytes whole count).sound;
-  later = later;
-  marks = failed_marks ds dev d new (is_failure reply) at marks;
-  unsteady = λ failed. rw (found_marks ds dev d at) (unsteady failed);
-}
+worked taking shapes m new_m log new_log ds dev pick d new reply held at h size bytes whole count later marks unsteady =
+    let s = device_step d.state m.bytes d.sectors pick (outcome_of reply) h.seen in
+    let disk = found_disk ds dev d at in
+    let sectors : IsTrue d.marks.honest → map (λ (x : DeviceSeen). x.sectors) (set ds dev new) ≡ effects.sectors_set (map (λ (x : DeviceSeen). x.sectors) ds) (sets_on dev s.sets) =
+    (λ honest. map-set (λ (x : DeviceSeen). x.sectors) ds dev new ∙ ap (λ content. set (map (λ (x : DeviceSeen). x.sectors) ds) dev content) (h.content_is honest) ∙ sym (disk_set (map (λ (x : DeviceSeen). x.sectors) ds) dev d.sectors s.sets disk)) in
+    let is_honest : IsTrue (marks_at (map (λ (x : DeviceSeen). x.marks) ds) dev).honest → IsTrue d.marks.honest = (λ honest. rw (found_marks ds dev d at) at honest) in
+    record {
+      effect = record { writes = s.writes; sectors = sets_on dev s.sets; replaced = Some (record { number = dev; device = new.state }) };
+      has = record { seen = h.seen; may_see = rw (found ds dev d at) h.may_look; reply_is = rw (found ds dev d at, disk) h.reply_is; effect_is = rw (found ds dev d at, disk, h.device_is) refl; outcome_is = refl };
+      changed = λ honest. rw (map-set (λ (x : DeviceSeen). x.state) ds dev new, sectors (is_honest honest), h.ram_is (is_honest honest)) refl;
+      logged = rw (touched_on dev s.sets) h.log_is;
+      devices = map-set (λ (x : DeviceSeen). x.state) ds dev new;
+      shape = same_worked taking m new_m log new_log ds dev pick d new reply at h size count;
+      sound = (held_worked taking shapes m new_m log new_log ds dev pick d new reply held at h size bytes whole count).sound;
+      later = later;
+      marks = failed_marks ds dev d new (is_failure reply) at marks;
+      unsteady = λ failed. rw (found_marks ds dev d at) (unsteady failed);
+    }

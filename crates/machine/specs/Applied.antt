@@ -1,14 +1,15 @@
 -- What applying an event does to a machine that is held.
 use Rattle.std.specs.Prelude.{◌≡◌, ℕ, List, [], ◌∷◌, IsTrue, Bool, true, false, Option, Some, None, Result, IfOk, OnOk, OnErr, if◌then◌else◌}
-use Rattle.guestmem.specs.Item.{Item}
+use Rattle.guestmem.specs.Item.{Item, after_all}
 use Rattle.guestmem.specs.Later.{IsLater}
 use Rattle.blk.specs.Sectors.{Sector}
-use Rattle.machine.specs.EffectLaws.{HasItem, sector_on, sectors_on}
+use Rattle.machine.specs.Effect.{Effect, applied, items_of}
+use Rattle.machine.specs.EffectLaws.{HasItem, IsSameShape, sector_on, sectors_on}
 use Rattle.machine.specs.Outcome.{is_failure, outcome_of}
 use Rattle.machine.specs.Seen.{Seen, Marks, state_of, all_marks, marks_at, failed_at}
 use Rattle.machine.specs.Sound.{IsSound}
 use Rattle.machine.specs.State.{MachineState}
-use Rattle.machine.specs.Step.{IsStep, IsLoggedStep}
+use Rattle.machine.specs.Step.{HasEffect}
 use Rattle.machine.specs.declared.event.Event.{Event}
 use Rattle.machine.specs.declared.event.Event.TheVariants.{Step}
 use Rattle.machine.specs.declared.reply.Reply.{Reply}
@@ -32,18 +33,28 @@ abbrev pub FailsOnlyUnsteady : List Marks → Event → Reply → Type 0
 FailsOnlyUnsteady marks (Step dev pick) reply = is_failure reply ≡ true → (marks_at marks dev).steady ≡ false
 FailsOnlyUnsteady marks e reply = Unit {0}
 
--- One step, with the outcome that its reply tells of, where the disk that it calls is honest. Whatever its disk does, the
--- machine is sound after it, its RAM is one that is later, and the disks' marks tell of each failure.
+-- An event was applied: the reply and the effect are those of a step with the outcome that the reply tells of, and the
+-- devices are as the effect says. So are RAM and the sectors where the disk that it calls is honest. Whatever its disk does,
+-- the machine keeps its shape and is sound, its RAM is one that is later, and the disks' marks tell of each failure.
 pub record IsApplied (old : Seen) (e : Event) (reply : Reply) (new : Seen) : Type 0 where
-  pub step : IsHonestFor (all_marks old) e → IsStep (state_of old) e (outcome_of reply) reply (state_of new)
+  pub effect : Effect
+  pub has : HasEffect (state_of old) e (outcome_of reply) reply effect
+  pub changed : IsHonestFor (all_marks old) e → state_of new ≡ applied (state_of old) effect
+  pub devices : (state_of new).devices ≡ (applied (state_of old) effect).devices
+  pub shape : IsSameShape (state_of old) (state_of new)
   pub sound : IsSound (state_of new)
   pub later : IsLater old.memory new.memory
   pub marks : all_marks new ≡ marks_after (all_marks old) e reply
   pub unsteady : FailsOnlyUnsteady (all_marks old) e reply
 
--- The same, and a log after it.
+-- The same, and a log after it, which took in exactly the items that the effect writes into, whatever the disk does.
 pub record IsAppliedLogged {L : Type 0} (taking : L → Item → L) (old : Seen) (log : L) (e : Event) (reply : Reply) (new : Seen) (new_log : L) : Type 0 where
-  pub step : IsHonestFor (all_marks old) e → IsLoggedStep taking (state_of old) log e reply (state_of new) new_log
+  pub effect : Effect
+  pub has : HasEffect (state_of old) e (outcome_of reply) reply effect
+  pub changed : IsHonestFor (all_marks old) e → state_of new ≡ applied (state_of old) effect
+  pub logged : new_log ≡ after_all taking log (items_of effect)
+  pub devices : (state_of new).devices ≡ (applied (state_of old) effect).devices
+  pub shape : IsSameShape (state_of old) (state_of new)
   pub sound : IsSound (state_of new)
   pub later : IsLater old.memory new.memory
   pub marks : all_marks new ≡ marks_after (all_marks old) e reply

@@ -5,9 +5,8 @@ use Rattle.guestmem.specs.Item.{sector}
 use Rattle.guestmem.specs.Page.{page_of}
 use Rattle.machine.specs.Layout.{firsts_from, item_at, layout_of, pages_of, size_of, size_from}
 use Rattle.machine.specs.State.{MachineState}
-use Rattle.machine.specs.declared.shape.Shape.{Shape}
 use Rattle.machine.proofs.Numbering.{is_below, item_back}
-use Rattle.wire.specs.Records.{Record, page, spelled_record}
+use Rattle.wire.specs.Records.{page, spelled_record}
 use Rattle.wire.specs.Header.{header}
 use Rattle.wire.specs.Stream.{device_texts, record_of, records_below, saved, shapes_in, texts}
 use Rattle.wire.proofs.Saving.{one_record}
@@ -24,12 +23,12 @@ page_more x m b n below e =
     rw (e, one) (append_assoc x (texts (records_below m n)) (spelled_record (page n (page_of m.ram n))))
 
 -- The sectors of a disk have the numbers from that of the first one on.
-first_at : (sizes : List ℕ) (first dev : ℕ) → dev < length sizes → get_or (firsts_from first sizes) dev 0 ≡ size_from first (take dev sizes)
+pub first_at : (sizes : List ℕ) (first dev : ℕ) → dev < length sizes → get_or (firsts_from first sizes) dev 0 ≡ size_from first (take dev sizes)
 first_at [] first dev below = absurd (omega (arith, below))
 first_at (size ∷ sizes) first zero below = refl
 first_at (size ∷ sizes) first (suc dev) below = first_at sizes (first + size) dev (omega (arith, below))
 
-within_length : (sizes : List ℕ) (dev n : ℕ) → n < get_or sizes dev 0 → dev < length sizes
+pub within_length : (sizes : List ℕ) (dev n : ℕ) → n < get_or sizes dev 0 → dev < length sizes
 within_length [] dev n below = absurd (omega (arith, below))
 within_length (size ∷ sizes) zero n below = omega arith
 within_length (size ∷ sizes) (suc dev) n below = omega (arith, within_length sizes dev n below)
@@ -88,7 +87,7 @@ shifted (size ∷ sizes) a b = let e : a + b + size ≡ a + (b + size) = omega a
 first_is : (m : MachineState) (dev : ℕ) → first_sector m dev ≡ pages_of m + sectors_before m dev
 first_is m dev = let e : pages_of m ≡ pages_of m + 0 = omega arith in ap (λ n. size_from n (take dev (map length m.disks))) e ∙ shifted (take dev (map length m.disks)) (pages_of m) 0
 
-before_more : (sizes : List ℕ) (first dev : ℕ) → dev < length sizes → size_from first (take (dev + 1) sizes) ≡ size_from first (take dev sizes) + get_or sizes dev 0
+pub before_more : (sizes : List ℕ) (first dev : ℕ) → dev < length sizes → size_from first (take (dev + 1) sizes) ≡ size_from first (take dev sizes) + get_or sizes dev 0
 before_more [] first dev below = absurd (omega (arith, below))
 before_more (size ∷ sizes) first zero below = refl
 before_more (size ∷ sizes) first (suc dev) below = let e : suc dev + 1 ≡ suc (dev + 1) = omega arith in rw e (before_more sizes (first + size) dev (omega (arith, below)))
@@ -98,7 +97,7 @@ disk_more m dev below =
     ap (λ n. texts (records_from m (pages_of m) n)) (before_more (map length m.disks) 0 dev below) ∙ from_both m (pages_of m) (sectors_before m dev) (size_on m dev)
     ∙ ap (λ n. texts (records_from m (pages_of m) (sectors_before m dev)) ++ texts (records_from m n (size_on m dev))) (sym (first_is m dev))
 
-all_taken : (xs : List ℕ) (n : ℕ) → n ≡ length xs → take n xs ≡ xs
+pub all_taken : (xs : List ℕ) (n : ℕ) → n ≡ length xs → take n xs ≡ xs
 all_taken [] zero e = refl
 all_taken [] (suc n) e = refl
 all_taken (x ∷ xs) zero e = absurd (omega (arith, e))

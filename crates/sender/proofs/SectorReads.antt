@@ -1,8 +1,7 @@
 -- A sector that is read, and then sent.
-use Rattle.std.proofs.Common.{◌≡◌, ℕ, zero, suc, ◌++◌, List, [], ◌∷◌, length, true, Some, None, refl, sym, ap, ◌∙◌, arith}
-use Rattle.std.specs.Prelude.{IsTrue, All, Result, Ok, Err}
+use Rattle.std.proofs.Common.{◌≡◌, ℕ, zero, suc, List, [], ◌∷◌, true, Some, refl, ap, arith}
+use Rattle.std.specs.Prelude.{IsTrue, All, Ok, Err}
 use Rattle.machine.specs.Applied.{ReadsSector}
-use Rattle.machine.specs.EffectLaws.{sector_on, sectors_on}
 use Rattle.machine.specs.Seen.{AreHonest, Marks, Seen, all_marks, marks_at, state_of}
 use Rattle.guestmem.specs.Item as items
 use Rattle.sender.specs.Saving.{Sends, TakesOn}
@@ -11,7 +10,7 @@ use Rattle.wire.specs.Records.{sector, spelled_record}
 use Rattle.wire.specs.Sinks.{Appends, SinkState, Takes}
 use Rattle.wire.specs.Stream.{content_of, record_of}
 
-honest_at : (marks : List Marks) (dev : ℕ) → All (λ m. IsTrue m.honest) marks → IsTrue (marks_at marks dev).honest
+pub honest_at : (marks : List Marks) (dev : ℕ) → All (λ m. IsTrue m.honest) marks → IsTrue (marks_at marks dev).honest
 honest_at [] dev are = refl
 honest_at (m ∷ marks) zero are = are 0 m (omega arith)
 honest_at (m ∷ marks) (suc dev) are = honest_at marks dev (λ k d below. are (suc k) d (omega (arith, below)))

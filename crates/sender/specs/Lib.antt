@@ -1,2 +1,10 @@
 pub mod Items
 pub mod Saving
+pub mod Dirty
+pub mod LiveState
+pub mod Calls
+pub mod Stopping
+pub mod History
+pub mod HistoryLaws
+pub mod Follows
+pub mod Ran

@@ -1,33 +1,49 @@
 -- What sending parts of a machine answers, and what it leaves.
-use Rattle.std.specs.Prelude.{◌≡◌, ℕ, ◌+◌, ◌%◌, ◌^◌, ◌++◌, List, Bool, true, false, IsTrue, Option, Some, Result, Ok, Err, IfErr, OnOk, if◌then◌else◌}
+use Rattle.std.specs.Prelude.{◌≡◌, ℕ, ◌+◌, ◌%◌, ◌^◌, ◌++◌, List, Bool, true, false, IsTrue, Result, Ok, Err, IfErr, OnOk, if◌then◌else◌}
+use Rattle.guestmem.specs.Item as items
 use Rattle.machine.specs.Applied.{IsGood}
 use Rattle.machine.specs.EffectLaws.{sector_on, sectors_on}
 use Rattle.machine.specs.Seen.{AreHonest, Marks, Seen, all_marks, failed_at, marks_at, state_of}
 use Rattle.sender.specs.declared.mig_error.MigError.{MigError}
-use Rattle.sender.specs.declared.mig_error.MigError.TheVariants.{DiskFailed, StreamFailed}
+use Rattle.sender.specs.declared.mig_error.MigError.TheVariants.{AlreadyBegun, AlreadyStopped, DiskFailed, NotBegun, RoundsEnded, StreamFailed}
 use Rattle.wire.specs.Sinks.{SinkState, Takes}
 
 -- The number that stands for the reason why a machine is not sent.
 abbrev pub mig_code_of : MigError → ℕ
+mig_code_of NotBegun = 1
+mig_code_of AlreadyBegun = 2
 mig_code_of (DiskFailed dev sector) = 3
 mig_code_of StreamFailed = 4
+mig_code_of AlreadyStopped = 5
+mig_code_of RoundsEnded = 6
 
 -- Whether the writer failed.
 abbrev pub has_writer_failed : {A : Type 0} → Result A MigError → Bool
 has_writer_failed (Ok x) = false
-has_writer_failed (Err (DiskFailed dev sector)) = false
 has_writer_failed (Err StreamFailed) = true
+has_writer_failed (Err e) = false
 
 -- The marks of the disks after some of their sectors were read.
 abbrev pub marks_after : {A : Type 0} → List Marks → Result A MigError → List Marks
 marks_after marks (Ok x) = marks
 marks_after marks (Err (DiskFailed dev sector)) = failed_at marks dev
-marks_after marks (Err StreamFailed) = marks
+marks_after marks (Err e) = marks
 
--- A failed disk is named with a sector that it has and that is not bad, and is not steady.
+-- A failed disk is named with a sector that it has and that is not bad, and is not steady. Nothing else fails but the writer.
 abbrev pub IsNamed : Seen → MigError → Type 0
 IsNamed s (DiskFailed dev n) = ((marks_at (all_marks s) dev).steady ≡ false) × IsGood (sector_on (sectors_on (state_of s) dev) n)
 IsNamed s StreamFailed = Unit {0}
+IsNamed s e = ⊥
+
+-- A disk that failed as an item was read is named with this item, and nothing was written then.
+pub record IsUnwritten {T : Type 0} (i : items.Item) (dev n : ℕ) (out new_out : SinkState) (tally new_tally : T) : Type 0 where
+  pub names : items.sector dev n ≡ i
+  pub out_stays : new_out ≡ out
+  pub tally_stays : new_tally ≡ tally
+
+abbrev pub NamesItem : {T : Type 0} → items.Item → MigError → SinkState → SinkState → T → T → Type 0
+NamesItem i (DiskFailed dev n) out new_out tally new_tally = IsUnwritten i dev n out new_out tally new_tally
+NamesItem i e out new_out tally new_tally = Unit {0}
 
 -- A call that adds these bytes to a sink, and may read sectors for them. The machine is the same. The writer's count of
 -- failures rises exactly where the writer is said to have failed, and a disk's exactly where this disk is said to have. What

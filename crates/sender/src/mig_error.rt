@@ -7,9 +7,17 @@ ghost use Rattle.sender.specs.declared.mig_error.MigError.TheVariants as errors;
 use thiserror::Error;
 use wire::SinkFault;
 
-/// Why a machine is not sent.
+/// Why a machine is not sent, or a call of its migration is refused.
 #[derive(Clone, Copy, Debug, Drop, PartialEq, Eq, Error)]
 pub enum MigError {
+    /// The migration was not begun.
+    #[error("the migration was not begun")]
+    NotBegun,
+
+    /// The migration was begun before.
+    #[error("the migration was begun before")]
+    AlreadyBegun,
+
     /// The disk of a device failed as this sector was read from it.
     #[error("the disk failed")]
     DiskFailed {
@@ -20,9 +28,17 @@ pub enum MigError {
         sector: u32,
     },
 
-    /// The writer failed.
+    /// The writer failed, now or before.
     #[error("the writer failed")]
     StreamFailed,
+
+    /// The machine was stopped, and its stream is closed.
+    #[error("the machine was stopped")]
+    AlreadyStopped,
+
+    /// No round after this one has a number.
+    #[error("no round is left")]
+    RoundsEnded,
 }
 
 impl MigError {
@@ -31,8 +47,12 @@ impl MigError {
         ensures { result ≡ mig_code_of self }
     {
         match self {
+            MigError::NotBegun => 1,
+            MigError::AlreadyBegun => 2,
             MigError::DiskFailed { .. } => 3,
             MigError::StreamFailed => 4,
+            MigError::AlreadyStopped => 5,
+            MigError::RoundsEnded => 6,
         }
     }
 }

@@ -1,16 +1,18 @@
 //! A whole machine, saved to a sink.
 
-ghost use Rattle.std.specs.Prelude.{◌≡◌, ◌<◌, ◌++◌, ℕ, List, OnOk, length};
-ghost use Rattle.guestmem.specs.Item.{sector};
+ghost use Rattle.std.specs.Prelude.{◌≡◌, ◌<◌, ◌++◌, ℕ, List, IfErr, OnOk, length};
+ghost use Rattle.guestmem.specs.Item.{page, sector};
 ghost use Rattle.machine.specs.EffectLaws.{HasItem};
 ghost use Rattle.machine.specs.Layout.{pages_of};
 ghost use Rattle.machine.specs.Seen.{state_of};
 ghost use Rattle.wire.specs.Records.{commit, spelled_record};
 ghost use Rattle.wire.specs.Sinks.{Appends, Takes};
 ghost use Rattle.wire.specs.Stream.{device_texts, record_of, records_below, saved, texts, whole};
+ghost use Rattle.sender.specs.LiveState.{item_of};
 ghost use Rattle.sender.specs.Items.{disk_text, front_text, sectors_text};
-ghost use Rattle.sender.specs.Saving.{Sends, TakesOn};
+ghost use Rattle.sender.specs.Saving.{NamesItem, Sends, TakesOn};
 
+use crate::event::Item;
 use crate::mig_error::MigError;
 use guestmem::PAGE_SIZE;
 use machine::{Disk, Machine, SECTOR_SIZE};
@@ -34,7 +36,7 @@ pub fn save<D: Disk, S: Sink>(machine: &mut Machine<D>, out: &mut S) -> Result<(
 }
 
 /// The digest, and the flush behind it.
-fn write_end<S: Sink>(digest: &[u8; 32], out: &mut S) -> Result<(), SinkFault>
+pub(crate) fn write_end<S: Sink>(digest: &[u8; 32], out: &mut S) -> Result<(), SinkFault>
     ensures { Appends (S.state out.old) (spelled_record (commit digest.now)) result (S.state out.new) }
 {
     encode_commit(digest, out)?;
@@ -121,6 +123,43 @@ fn write_disk<D: Disk, S: Sink, T: Tally>(
     Ok(())
 }
 
+/// The record of an item, as it is now.
+pub(crate) fn send_item<D: Disk, S: Sink, T: Tally>(
+    machine: &mut Machine<D>,
+    item: Item,
+    out: &mut S,
+    tally: &mut T,
+) -> Result<(), MigError>
+    requires { HasItem (state_of machine.old) (item_of item) }
+    ensures item { IfErr result (λ e. NamesItem (item_of item) e (S.state out.old) (S.state out.new) tally.old tally.new) }
+    ensures sent { Sends machine.old (S.state out.old) (spelled_record (record_of (state_of machine.old) (item_of item))) result machine.new (S.state out.new) }
+    ensures taken { TakesOn machine.old (T.has_taken tally.old) (spelled_record (record_of (state_of machine.old) (item_of item))) result (T.has_taken tally.new) }
+{
+    match item {
+        Item::Page(number) => {
+            send_page(machine, number, out, tally)?;
+            Ok(())
+        }
+        Item::Sector { dev, sector } => send_sector(machine, dev, sector, out, tally),
+    }
+}
+
+/// The record of a page, as it is now.
+fn send_page<D: Disk, S: Sink, T: Tally>(
+    machine: &Machine<D>,
+    number: u32,
+    out: &mut S,
+    tally: &mut T,
+) -> Result<(), SinkFault>
+    requires { HasItem (state_of machine.now) (page number) }
+    ensures out { Appends (S.state out.old) (spelled_record (record_of (state_of machine.now) (page number))) result (S.state out.new) }
+    ensures taken { OnOk result (Takes (T.has_taken tally.old) (spelled_record (record_of (state_of machine.now) (page number))) (T.has_taken tally.new)) }
+{
+    let ram = machine.ram();
+    ram.recall();
+    write_page(number, ram.page(number as u64), out, tally)
+}
+
 /// The record of a sector, as it is now. A bad one is written without a call of the disk.
 #[tactic(auto, using(crate::proofs::SectorReads::sent_good, crate::proofs::SectorReads::took_good, crate::proofs::SectorReads::not_sent))]
 fn send_sector<D: Disk, S: Sink, T: Tally>(
@@ -131,6 +170,7 @@ fn send_sector<D: Disk, S: Sink, T: Tally>(
     tally: &mut T,
 ) -> Result<(), MigError>
     requires { HasItem (state_of machine.old) (sector dev number) }
+    ensures item { IfErr result (λ e. NamesItem (sector dev number) e (S.state out.old) (S.state out.new) tally.old tally.new) }
     ensures sent { Sends machine.old (S.state out.old) (spelled_record (record_of (state_of machine.old) (sector dev number))) result machine.new (S.state out.new) }
     ensures taken { TakesOn machine.old (T.has_taken tally.old) (spelled_record (record_of (state_of machine.old) (sector dev number))) result (T.has_taken tally.new) }
 {
@@ -148,8 +188,9 @@ fn send_sector<D: Disk, S: Sink, T: Tally>(
     Ok(())
 }
 
+/// The record of each device, in order.
 #[tactic(auto, using(wire::proofs::Saving::no_devices, wire::proofs::Saving::device_more))]
-fn write_devices<D: Disk, S: Sink, T: Tally>(
+pub(crate) fn write_devices<D: Disk, S: Sink, T: Tally>(
     machine: &Machine<D>,
     out: &mut S,
     tally: &mut T,

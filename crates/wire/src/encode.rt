@@ -3,12 +3,12 @@
 ghost use Rattle.std.specs.Prelude.{◌≡◌, ◌++◌, ◌<◌, ◌^◌, ℕ, List, IsTrue, OnOk, length};
 ghost use Rattle.wire.specs.DeviceBody.{body};
 ghost use Rattle.wire.specs.Header.{header};
-ghost use Rattle.wire.specs.Records.{commit, device, page, spelled_record};
+ghost use Rattle.wire.specs.Records.{commit, device, page, round_end, spelled_record};
 ghost use Rattle.wire.specs.Sinks.{Appends};
 
 use crate::sink::{Sink, SinkFault};
 use crate::tally::NoTally;
-use crate::writing::{write_device, write_header, write_page};
+use crate::writing::{write_device, write_header, write_page, write_round};
 use machine::{DeviceState, Shape};
 
 /// Writes the header of a stream: of a machine of so many pages, with devices of these shapes.
@@ -23,6 +23,13 @@ pub fn encode_page<S: Sink>(number: u32, bytes: &[u8; 4096], out: &mut S) -> Res
     ensures out { Appends (S.state out.old) (spelled_record (page number bytes.now)) result (S.state out.new) }
 {
     write_page(number, bytes, out, &mut NoTally)
+}
+
+/// Writes the record of the end of a round.
+pub fn encode_round<S: Sink>(number: u32, out: &mut S) -> Result<(), SinkFault>
+    ensures out { Appends (S.state out.old) (spelled_record (round_end number)) result (S.state out.new) }
+{
+    write_round(number, out, &mut NoTally)
 }
 
 /// Writes the record of a device.

@@ -39,7 +39,7 @@ mod writing;
 
 pub use decode_error::DecodeError;
 pub use device_reading::decode_device;
-pub use encode::{encode_commit, encode_device, encode_header, encode_page};
+pub use encode::{encode_commit, encode_device, encode_header, encode_page, encode_round};
 pub use header::{FRONT_LEN, Header, MAGIC, VERSION, decode_header};
 pub use numbers::{u8_at, u32_at};
 pub use record::{Record, decode_record};
@@ -47,4 +47,4 @@ pub use sector_writing::{encode_sector, write_bad_sector, write_sector};
 pub use shape_spelling::{shape_at, shape_len};
 pub use sink::{Sink, SinkFault, WriteSink};
 pub use tally::{NoTally, Tally};
-pub use writing::{write_device, write_header, write_page};
+pub use writing::{write_device, write_header, write_page, write_round};

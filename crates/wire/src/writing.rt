@@ -4,7 +4,7 @@ ghost use Rattle.std.specs.Prelude.{◌≡◌, ◌∷◌, ◌++◌, ◌≤◌, �
 ghost use Rattle.wire.specs.DeviceBody.{body, held_text, own_text, queues_text};
 ghost use Rattle.wire.specs.Numbers.{digits};
 ghost use Rattle.wire.specs.Header.{front, header, spelled_shape, spelled_shapes};
-ghost use Rattle.wire.specs.Records.{page, device, spelled_record};
+ghost use Rattle.wire.specs.Records.{page, round_end, device, spelled_record};
 ghost use Rattle.wire.specs.Sinks.{Appends, Takes};
 
 use crate::frame_writing::{frames_len, write_frames};
@@ -117,6 +117,21 @@ pub fn write_page<S: Sink, T: Tally>(
     LittleEndian::write_u32(&mut head[1..], number);
     put(&head, out, tally)?;
     put(bytes, out, tally)
+}
+
+/// The record of the end of a round.
+#[tactic(auto, unfolding(crate::specs::Records::spelled_record))]
+pub fn write_round<S: Sink, T: Tally>(
+    number: u32,
+    out: &mut S,
+    tally: &mut T,
+) -> Result<(), SinkFault>
+    ensures out { Appends (S.state out.old) (spelled_record (round_end number)) result (S.state out.new) }
+    ensures taken { OnOk result (Takes (T.has_taken tally.old) (spelled_record (round_end number)) (T.has_taken tally.new)) }
+{
+    let mut record = [3, 0, 0, 0, 0];
+    LittleEndian::write_u32(&mut record[1..], number);
+    put(&record, out, tally)
 }
 
 /// The record of a device.

@@ -1,4 +1,3 @@
-use Rattle.std.proofs.Common.{Ok, true, ap, ◌∙◌}
 use Rattle.sender.proofs.SectorReads.{sent_good, took_good}
 use Rattle.sender.proofs.saving.send_sector.Goals as goal
 

@@ -1,4 +1,4 @@
-use Rattle.std.proofs.Common.{◌≡◌, ◌≤◌, length, Ok}
+use Rattle.std.proofs.Common.{◌≡◌, length, Ok}
 use Rattle.machine.specs.Layout.{pages_of}
 use Rattle.machine.specs.Seen.{state_of}
 use Rattle.machine.specs.Sound.{IsSound}

@@ -15,6 +15,7 @@ loop-event-preserved g c =
     let e = c.event-item.result in
     let r = c.apply-reply.result in
     let more : take (i + 1) events ≡ take i events ++ e ∷ [] = rw (take_more events i e c.loop-event-test.true, ← c.event-item.is) refl in
+    let applied = c.apply-reply.ensures in
     let even : length replies ≡ length (take i events) = omega (arith, c.loop-event.invariant.count, length-take i events, c.loop-event-test.true) in
     record {
       room = omega arith;
@@ -25,5 +26,5 @@ loop-event-preserved g c =
       sound = c.apply-reply.ensures.sound;
       so_far = λ honest. rw (more, c.push_reserved.ensures.items)
           (run_more (state_of c.args.self.now) (state_of c.loop-event.self) (state_of c.apply-reply.new.self) (take i events) replies e r (c.loop-event.invariant.so_far honest)
-          (c.apply-reply.ensures.step (honest_for (all_marks c.loop-event.self) e (honest_stays old (all_marks c.loop-event.self) (take i events) replies c.loop-event.invariant.marks honest))));
+          (record { effect = applied.effect; has = applied.has; changed = applied.changed (honest_for (all_marks c.loop-event.self) e (honest_stays old (all_marks c.loop-event.self) (take i events) replies c.loop-event.invariant.marks honest)) }));
     }

@@ -1,0 +1,236 @@
+-- A machine that is sent, and its sets, after each call.
+use Rattle.std.proofs.Common.{◌≡◌, ◌≢◌, ℕ, zero, suc, ◌+◌, ◌<◌, ◌≤◌, ◌^◌, Bool, true, false, List, [], ◌∷◌, inl, inr, ◌⊎◌, length, map, replicate, set, Option, None, refl, sym, ap, subst, ◌∙◌, arith}
+use Rattle.std.proofs.lemmas.Bool.{eq-eqb}
+use Rattle.std.proofs.lemmas.List.{get_or-set_same, length-set, length-replicate}
+use Rattle.dirtylog.specs.Members.{HasNone, IsLeast, has}
+use Rattle.sha2.specs.declared.Sha256.{Sha256}
+use Rattle.guestmem.specs.Memory.{Memory}
+use Rattle.guestmem.specs.Item.{Item, after_all, page, sector}
+use Rattle.machine.specs.Applied.{IsApplied, IsAppliedLogged, MayItems}
+use Rattle.machine.specs.Effect.{items_of}
+use Rattle.machine.specs.Layout.{IsItemIn, firsts_of, layout_of, number_in, number_of, size_of}
+use Rattle.machine.specs.Seen.{DeviceSeen, Marks, Seen, all_marks, state_of}
+use Rattle.machine.specs.Sound.{IsSound}
+use Rattle.machine.specs.State.{DeviceState, MachineState}
+use Rattle.machine.specs.declared.event.Event.{Event}
+use Rattle.machine.specs.declared.reply.Reply.{Reply}
+use Rattle.machine.proofs.Numbering.{in_layout, number_below, same_layout}
+use Rattle.wire.specs.Sinks.{SinkState}
+use Rattle.sender.specs.Calls.{AfterGuest, EndsRound, Serves, with_items}
+use Rattle.sender.specs.Dirty.{HasFirst, after_taking, may_take}
+use Rattle.sender.specs.LiveState.{LiveSeen, last_round, refusal_for}
+use Rattle.sender.specs.Stopping.{IsLive, RoundFits}
+use Rattle.sender.specs.declared.dirty.Dirty.{Dirty}
+use Rattle.sender.specs.declared.phase.Phase.{Phase}
+use Rattle.sender.specs.declared.phase.Phase.TheVariants as phases
+use Rattle.sender.specs.declared.event.LiveEvent.{LiveEvent}
+use Rattle.sender.specs.declared.event.LiveEvent.TheVariants.{Guest, EndRound}
+use Rattle.sender.specs.declared.event.LiveReply.TheVariants as r
+use Rattle.sender.proofs.Numbers.{length-firsts}
+use Rattle.sender.proofs.Parts.{within_length}
+
+-- A call that is not refused comes before the stream is closed.
+pub going : (p : Phase) (e : LiveEvent) → refusal_for p e ≡ None → p ≢ phases.Stopped
+going phases.Fresh e free is = cc
+going (phases.Open k) e free is = cc
+going phases.Failed e free is = cc
+going phases.Stopped e free is = cc
+
+le_or : (m n : ℕ) → (m ≤ n) ⊎ (n < m)
+le_or zero n = inl (omega arith)
+le_or (suc m) zero = inr (omega arith)
+le_or (suc m) (suc n) = elim (le_or m n) as (λ _. (suc m ≤ suc n) ⊎ (suc n < suc m)) [ inl a ↦ inl (omega (arith, a)) | inr b ↦ inr (omega (arith, b)) ]
+
+pub member_below : (s : List Bool) (i : ℕ) → has s i ≡ true → i < length s
+member_below [] i is = cc
+member_below (b ∷ s) zero is = omega arith
+member_below (b ∷ s) (suc i) is = omega (arith, member_below s i is)
+
+-- What is no member stays none.
+still_none : (s : List Bool) (n k : ℕ) → has s k ≡ false → has (set s n false) k ≡ false
+still_none [] n k none = none
+still_none (b ∷ s) zero zero none = refl
+still_none (b ∷ s) zero (suc k) none = none
+still_none (b ∷ s) (suc n) zero none = none
+still_none (b ∷ s) (suc n) (suc k) none = still_none s n k none
+
+-- Nothing up to the least member is left once it is taken out.
+behind : (s : List Bool) (n k : ℕ) → n < length s → IsLeast s 0 n → k ≤ n → has (set s n false) k ≡ false
+behind s n k inside least le = elim (le_or n k) as (λ _. has (set s n false) k ≡ false) [
+  | inl past ↦ let same : k ≡ n = omega (arith, past, le) in rw same (get_or-set_same s n false false inside)
+  | inr before ↦ still_none s n k (least.least k (omega arith) before)
+]
+
+-- A new machine that is sent.
+pub live_first : (machine : Seen) (left set_ : List Bool) (firsts : List ℕ) (size : ℕ) → IsSound (state_of machine) → firsts ≡ firsts_of (layout_of (state_of machine)) → size ≡ size_of (layout_of (state_of machine)) → size < 2 ^ 64
+    → left ≡ replicate size false → set_ ≡ replicate size false → IsLive machine phases.Fresh left set_ firsts 0
+live_first machine left set_ firsts size sound are is few l s =
+    let left_long : length left ≡ size = ap length l ∙ length-replicate size false in
+    let set_long : length set_ ≡ size = ap length s ∙ length-replicate size false in
+    record {
+      sound = sound;
+      few = omega (arith, left_long, few);
+      room = record { due_size = left_long ∙ is; dirty_size = set_long ∙ is; firsts_are = are };
+      round = tt;
+      reached = omega arith;
+      passed = λ k below. absurd (omega (arith, below));
+    }
+
+-- The machine is of the same shape, the sets keep their lengths, and the next due item is looked for from another number on.
+live_next : (old new : Seen) (p q : Phase) (due new_due dirty new_dirty : List Bool) (firsts new_firsts : List ℕ) (at new_at : ℕ) → IsLive old p due dirty firsts at → IsSound (state_of new) → layout_of (state_of new) ≡ layout_of (state_of old) → length new_due ≡ length due → length new_dirty ≡ length dirty
+    → new_firsts ≡ firsts → RoundFits q → new_at ≤ length new_due → ((k : ℕ) → k < new_at → has new_due k ≡ false) → IsLive new q new_due new_dirty new_firsts new_at
+live_next old new p q due new_due dirty new_dirty firsts new_firsts at new_at live sound same due_long dirty_long firsts_same round reached passed = record {
+  sound = sound;
+  few = omega (arith, due_long, live.few);
+  room = record {
+    due_size = due_long ∙ live.room.due_size ∙ ap size_of (sym same);
+    dirty_size = dirty_long ∙ live.room.dirty_size ∙ ap size_of (sym same);
+    firsts_are = firsts_same ∙ live.room.firsts_are ∙ ap firsts_of (sym same);
+  };
+  round = round;
+  reached = reached;
+  passed = passed;
+}
+
+-- Only the phase is another, or the marks of the disks.
+pub live_again : (old new : Seen) (p q : Phase) (due dirty : List Bool) (firsts : List ℕ) (at : ℕ) → IsLive old p due dirty firsts at → state_of new ≡ state_of old → RoundFits q → IsLive new q due dirty firsts at
+live_again old new p q due dirty firsts at live state round =
+    live_next old new p q due due dirty dirty firsts firsts at at live (subst IsSound (sym state) live.sound) (ap layout_of state) refl refl refl round live.reached live.passed
+
+-- An item left both sets.
+pub live_sent : (old new : Seen) (p : Phase) (due new_due dirty new_dirty : List Bool) (firsts : List ℕ) (at n : ℕ) → IsLive old p due dirty firsts at → state_of new ≡ state_of old → new_due ≡ set due n false → new_dirty ≡ set dirty n false
+    → IsLive new p new_due new_dirty firsts at
+live_sent old new p due new_due dirty new_dirty firsts at n live state d e =
+    let due_long : length new_due ≡ length due = ap length d ∙ length-set due n false in
+    live_next old new p p due new_due dirty new_dirty firsts firsts at at live (subst IsSound (sym state) live.sound) (ap layout_of state) due_long (ap length e ∙ length-set dirty n false) refl live.round
+    (omega (arith, due_long, live.reached)) (λ k below. rw d (still_none due n k (live.passed k below)))
+
+-- The next due item is looked for behind the one that was sent.
+pub live_behind : (machine : Seen) (p : Phase) (old due dirty : List Bool) (firsts : List ℕ) (at next n : ℕ) → IsLive machine p due dirty firsts at → due ≡ set old n false → length old ≡ length due → IsLeast old 0 n → next ≡ n + 1
+    → IsLive machine p due dirty firsts next
+live_behind machine p old due dirty firsts at next n live d long least is =
+    let inside : n < length old = member_below old n least.member in
+    live_next machine machine p p due due dirty dirty firsts firsts at next live live.sound refl refl refl refl live.round (omega (arith, is, inside, long)) (λ k below. rw d (behind old n k inside least (omega (arith, is, below))))
+
+-- Every set is another.
+pub live_begun : (machine : Seen) (p q : Phase) (due new_due dirty new_dirty : List Bool) (firsts : List ℕ) (at : ℕ) → IsLive machine p due dirty firsts at → length new_due ≡ length due → length new_dirty ≡ length dirty → RoundFits q → IsLive machine q new_due new_dirty firsts 0
+live_begun machine p q due new_due dirty new_dirty firsts at live due_long dirty_long round =
+    live_next machine machine p q due new_due dirty new_dirty firsts firsts at 0 live live.sound refl due_long dirty_long refl round (omega arith) (λ k below. absurd (omega (arith, below)))
+
+-- The least due item, where none below a number is due.
+pub least_of_all : (s : List Bool) (at n : ℕ) → ((k : ℕ) → k < at → has s k ≡ false) → IsLeast s at n → IsLeast s 0 n
+least_of_all s at n none least = record {
+  reached = omega arith;
+  member = least.member;
+  least = λ k _ below. elim (le_or at k) as (λ _. has s k ≡ false) [ inl past ↦ least.least k past below | inr before ↦ none k before ];
+}
+
+pub none_of_all : (s : List Bool) (at : ℕ) → ((k : ℕ) → k < at → has s k ≡ false) → ((k : ℕ) → at ≤ k → has s k ≡ false) → HasNone s
+none_of_all s at before after = λ k. elim (le_or at k) as (λ _. has s k ≡ false) [ inl past ↦ after k past | inr under ↦ before k under ]
+
+-- The log may be told of every item.
+first_of : (m : MachineState) (firsts : List ℕ) (i : Item) → firsts ≡ firsts_of (layout_of m) → IsItemIn (layout_of m) i → HasFirst firsts i
+first_of m firsts (page n) are within = tt
+first_of m firsts (sector dev n) are within =
+    let below = within_length (map length m.disks) dev n within in
+    omega (arith, below, ap length are, length-firsts (map length m.disks) (layout_of m).pages)
+
+pub may_all : (machine : Seen) (d : Dirty) (p : Phase) (due : List Bool) (at : ℕ) → IsLive machine p due d.set d.firsts.items at → MayItems may_take d (state_of machine)
+may_all machine d p due at live = λ i there.
+    let m = state_of machine in
+    let room = live.room in
+    let within : IsItemIn (layout_of m) i = in_layout m i live.sound.whole_pages there in
+    let below : number_of (layout_of m) i < length d.set = subst (λ n. number_of (layout_of m) i < n) (sym room.dirty_size) (number_below (layout_of m) i within) in
+    record {
+      first = first_of m d.firsts.items i room.firsts_are within;
+      place = subst (λ firsts. number_in firsts i < length d.set) (sym room.firsts_are) below;
+      few = omega (arith, live.few, room.due_size, room.dirty_size);
+    }
+
+-- The log after a step.
+pub all_noted : (d : Dirty) (is : List Item) → after_all after_taking d is ≡ record d { set = with_items d.firsts.items d.set is }
+all_noted d [] = refl
+all_noted d (i ∷ is) = all_noted (after_taking d i) is
+
+pub length-with_items : (firsts : List ℕ) (s : List Bool) (is : List Item) → length (with_items firsts s is) ≡ length s
+length-with_items firsts s [] = refl
+length-with_items firsts s (i ∷ is) = length-with_items firsts (set s (number_in firsts i) true) is ∙ length-set s (number_in firsts i) true
+
+guest_free : (p : Phase) (e : Event) → p ≢ phases.Stopped → refusal_for p (Guest e) ≡ None
+guest_free phases.Fresh e open_still = refl
+guest_free (phases.Open k) e open_still = refl
+guest_free phases.Stopped e open_still = absurd (open_still refl)
+guest_free phases.Failed e open_still = refl
+
+plainly : (old new : Seen) (d next : Dirty) (e : Event) (reply : Reply) → IsAppliedLogged after_taking old d e reply new next → IsApplied old e reply new
+plainly old new d next e reply h = record { effect = h.effect; has = h.has; changed = h.changed; devices = h.devices; shape = h.shape; sound = h.sound; later = h.later; marks = h.marks; unsteady = h.unsteady }
+
+module _ (machine next : Seen) (d new : Dirty) (phase : Phase) (due : List Bool) (at : ℕ) (digest : Sha256) (out : SinkState) (e : Event) (reply : Reply) (live : IsLive machine phase due d.set d.firsts.items at) (h : IsAppliedLogged after_taking machine d e reply next new) where
+  noted : new ≡ record d { set = with_items d.firsts.items d.set (items_of h.effect) }
+  noted = h.logged ∙ all_noted d (items_of h.effect)
+
+  pub live_guest : IsLive next phase due new.set new.firsts.items at
+  live_guest =
+      live_next machine next phase phase due due d.set new.set d.firsts.items new.firsts.items at at live h.sound (same_layout (state_of machine) (state_of next) h.shape) refl
+      (ap (λ (x : Dirty). length x.set) noted ∙ length-with_items d.firsts.items d.set (items_of h.effect)) (ap (λ (x : Dirty). x.firsts.items) noted) live.round live.reached live.passed
+
+  pub guest_served : phase ≢ phases.Stopped → Serves (record { machine = machine; phase = phase; due = due; dirty = d.set; digest = digest; out = out }) (Guest e) (r.Guest reply) (record { machine = next; phase = phase; due = due; dirty = new.set; digest = digest; out = out })
+  unfolding plainly
+  guest_served open_still = rw (guest_free phase e open_still) (record {
+    is_applied = plainly machine next d new e reply h;
+    dirty = ap (λ (x : Dirty). x.set) noted ∙ ap (λ (fs : List ℕ). with_items fs d.set (items_of h.effect)) live.room.firsts_are;
+    rest = refl;
+  })
+
+-- The end of a round.
+no_members : (s : List Bool) (n : ℕ) → length s ≡ n → HasNone s → s ≡ replicate n false
+no_members [] zero e none = refl
+no_members [] (suc n) e none = absurd (omega (arith, e))
+no_members (b ∷ s) zero e none = absurd (omega (arith, e))
+no_members (b ∷ s) (suc n) e none =
+    let f : length s ≡ n = omega (arith, e) in
+    let head : b ≡ false = none 0 in
+    rw (head, ← no_members s n f (λ k. none (suc k))) refl
+
+not_last : (phase : Phase) (round : ℕ) → phase ≡ phases.Open round → refusal_for phase EndRound ≡ None → round ≢ last_round
+not_last phase round open_is free is =
+    let free' = rw open_is at free in
+    let h = rw (eq-eqb round last_round is) at free' in cc
+
+pub served_round : (old new : LiveSeen) (k : ℕ) → refusal_for old.phase EndRound ≡ None → HasNone old.due → EndsRound old k new → Serves old EndRound (r.Begun k) new
+served_round old new k free none ends = rw free (none, ends)
+
+pub round_fits : (phase : Phase) (round : ℕ) → phase ≡ phases.Open round → RoundFits phase → refusal_for phase EndRound ≡ None → round + 1 ≤ last_round
+round_fits phase round open_is fits free =
+    let below : round ≤ last_round = rw open_is at fits in
+    let some : round ≢ last_round = not_last phase round open_is free in
+    omega (arith, below, some)
+
+-- A machine whose parts are the same is the same.
+parts_of : (s t : DeviceState) (x y : List (Option (List ℕ))) (a b : Marks) → s ≡ t → x ≡ y → a ≡ b → ◌≡◌ {A = DeviceSeen} (record { state = s; sectors = x; marks = a }) (record { state = t; sectors = y; marks = b })
+parts_of s t x y a b e f g = rw (e, f, g) refl
+
+device_same : (e d : DeviceSeen) → e.state ≡ d.state → e.sectors ≡ d.sectors → e.marks ≡ d.marks → e ≡ d
+device_same e d state sectors marks = parts_of e.state d.state e.sectors d.sectors e.marks d.marks state sectors marks
+
+both_of : (m n : Memory) (ds es : List DeviceSeen) → m ≡ n → ds ≡ es → ◌≡◌ {A = Seen} (record { memory = m; devices = ds }) (record { memory = n; devices = es })
+both_of m n ds es e f = rw (e, f) refl
+
+seen_devices : (ds es : List DeviceSeen) → map (λ (d : DeviceSeen). d.state) es ≡ map (λ (d : DeviceSeen). d.state) ds → map (λ (d : DeviceSeen). d.sectors) es ≡ map (λ (d : DeviceSeen). d.sectors) ds → map (λ (d : DeviceSeen). d.marks) es ≡ map (λ (d : DeviceSeen). d.marks) ds → es ≡ ds
+seen_devices [] [] a b c = refl
+seen_devices [] (e ∷ es) a b c = absurd (omega (arith, ap length a))
+seen_devices (d ∷ ds) [] a b c = absurd (omega (arith, ap length a))
+seen_devices (d ∷ ds) (e ∷ es) a b c =
+    let states : map (λ (x : DeviceSeen). x.state) es ≡ map (λ (x : DeviceSeen). x.state) ds = cc in
+    let disks : map (λ (x : DeviceSeen). x.sectors) es ≡ map (λ (x : DeviceSeen). x.sectors) ds = cc in
+    let others : map (λ (x : DeviceSeen). x.marks) es ≡ map (λ (x : DeviceSeen). x.marks) ds = cc in
+    let rest : es ≡ ds = seen_devices ds es states disks others in
+    let state : e.state ≡ d.state = cc in
+    let sectors : e.sectors ≡ d.sectors = cc in
+    let marks : e.marks ≡ d.marks = cc in
+    let same : e ≡ d = device_same e d state sectors marks in
+    rw (same, rest) refl
+
+pub seen_same : (old new : Seen) → new.memory ≡ old.memory → state_of new ≡ state_of old → all_marks new ≡ all_marks old → new ≡ old
+seen_same old new memory state marks =
+    both_of new.memory old.memory new.devices old.devices memory (seen_devices old.devices new.devices (ap (λ (m : MachineState). m.devices) state) (ap (λ (m : MachineState). m.disks) state) marks)

@@ -1,0 +1,106 @@
+-- What the calls of a machine that is sent leave.
+use Rattle.std.proofs.Common.{◌≡◌, ℕ, Bool, true, false, eqb, List, [], ◌∷◌, ◌++◌, length, map, set, None, refl, sym, ap, ◌∙◌, append_assoc, append-nil}
+use Rattle.std.specs.Prelude.{◌↔◌, Ok, Err}
+use Rattle.std.proofs.lemmas.Bool.{eqb-true, eq-eqb}
+use Rattle.sha2.specs.Hashers.{Holds256}
+use Rattle.sha2.specs.Sha256.{sha256}
+use Rattle.sha2.specs.declared.Sha256.{Sha256}
+use Rattle.guestmem.specs.Item as items
+use Rattle.machine.specs.Layout.{firsts_of, item_at, layout_of, pages_of, size_of}
+use Rattle.machine.specs.Seen.{Seen, state_of}
+use Rattle.machine.specs.State.{DeviceState, MachineState}
+use Rattle.machine.specs.declared.shape.Shape.{Shape}
+use Rattle.wire.specs.Header.{header}
+use Rattle.wire.specs.Records.{commit, spelled_record}
+use Rattle.wire.specs.Sinks.{Appends, SinkState, Takes}
+use Rattle.wire.specs.Stream.{device_texts, record_of, texts}
+use Rattle.sender.specs.Calls.{Begins, Serves, Took, Wrote}
+use Rattle.sender.specs.LiveState.{LiveSeen, closing, header_of, item_of, now, record_at, records_of, refusal_for}
+use Rattle.sender.specs.Saving.{NamesItem, Sends, TakesOn}
+use Rattle.sender.specs.Stopping.{RoundFits, SendsItem, SendsOk, phase_after}
+use Rattle.sender.specs.declared.event.Item.{Item}
+use Rattle.sender.specs.declared.mig_error.MigError.{MigError}
+use Rattle.sender.specs.declared.mig_error.MigError.TheVariants as errors
+use Rattle.sender.specs.declared.phase.Phase.{Phase}
+use Rattle.sender.specs.declared.event.LiveEvent.TheVariants as events
+use Rattle.sender.specs.declared.event.LiveReply.TheVariants as r
+use Rattle.sender.proofs.Living.{seen_same}
+
+-- What was written.
+pub wrote_by : {A E : Type 0} (old new : LiveSeen) (x y : List ℕ) (done : A) → x ≡ y → Appends {E = E} old.out x (Ok done) new.out → Takes (λ b. Holds256 old.digest b) x (λ b. Holds256 new.digest b) → Wrote old new y
+wrote_by old new x y done e appends takes = rw (← e) (record { took = record { count = appends.count; holds = λ disks. appends.holds }; taken = λ disks. takes })
+
+pub header_told : (m : MachineState) (pages : ℕ) (shapes : List Shape) → pages ≡ pages_of m → shapes ≡ map (λ (d : DeviceState). d.shape) m.devices → header pages shapes ≡ header_of m
+header_told m pages shapes e f = rw (e, f) refl
+
+pub served_begin : (old new : LiveSeen) → refusal_for old.phase events.Begin ≡ None → Begins old new → Serves old events.Begin (r.Begun 1) new
+served_begin old new free begins = rw free (refl, begins)
+
+-- One item.
+one_text : (m : MachineState) (i : ℕ) → texts (records_of m (i ∷ [])) ≡ spelled_record (record_at m i)
+unfolding texts
+one_text m i = append-nil (spelled_record (record_at m i))
+
+text_of : (m : MachineState) (i : ℕ) (item : items.Item) → item ≡ item_at (layout_of m) i → spelled_record (record_of m item) ≡ texts (records_of m (i ∷ []))
+text_of m i item is = ap (λ x. spelled_record (record_of m x)) is ∙ sym (one_text m i)
+
+pub item_sent : {A : Type 0} (old new : LiveSeen) (i : ℕ) (item : Item) (done : A) → item_of item ≡ item_at (layout_of (now old)) i → Sends old.machine old.out (spelled_record (record_of (now old) (item_of item))) (Ok done) new.machine new.out
+    → TakesOn old.machine (λ b. Holds256 old.digest b) (spelled_record (record_of (now old) (item_of item))) (Ok done) (λ b. Holds256 new.digest b)
+    → new.phase ≡ old.phase → new.due ≡ set old.due i false → new.dirty ≡ set old.dirty i false → SendsOk old i item new
+item_sent old new i item done is sends takes phase due dirty = record {
+  item_is = is;
+  sent = record {
+    machine = seen_same old.machine new.machine sends.memory sends.state sends.marks;
+    phase = phase;
+    due = due;
+    dirty = dirty;
+    wrote = rw (← text_of (now old) i (item_of item) is) (record { took = record { count = sends.count; holds = sends.holds }; taken = takes });
+  };
+}
+
+rest_parts : (m : Seen) (p q : Phase) (due new_due dirty new_dirty : List Bool) (digest new_digest : Sha256) (out new_out : SinkState) → q ≡ p → new_due ≡ due → new_dirty ≡ dirty → new_digest ≡ digest → new_out ≡ out
+    → ◌≡◌ {A = LiveSeen} (record { machine = m; phase = q; due = new_due; dirty = new_dirty; digest = new_digest; out = new_out }) (record { machine = m; phase = p; due = due; dirty = dirty; digest = digest; out = out })
+rest_parts m p q due new_due dirty new_dirty digest new_digest out new_out a b c d e = rw (a, b, c, d, e) refl
+
+pub item_not_sent : {A : Type 0} (old new : LiveSeen) (i : ℕ) (item : Item) (e : MigError) (x : List ℕ) → item_of item ≡ item_at (layout_of (now old)) i → Sends {A = A} old.machine old.out x (Err e) new.machine new.out
+    → NamesItem (item_of item) e old.out new.out old.digest new.digest → new.phase ≡ phase_after old.phase e → new.due ≡ old.due → new.dirty ≡ old.dirty → SendsItem old i (Err e) new
+item_not_sent old new i item errors.StreamFailed x is sends names phase due dirty = record { machine = seen_same old.machine new.machine sends.memory sends.state sends.marks; phase = phase; count = sends.count }
+item_not_sent old new i item (errors.DiskFailed dev n) x is sends names phase due dirty = record {
+  item_is = names.names ∙ is;
+  unread = record {
+    memory = sends.memory;
+    state = sends.state;
+    marks = sends.marks;
+    unsteady = sends.named.0;
+    good = sends.named.1;
+    rest = rest_parts new.machine old.phase new.phase old.due new.due old.dirty new.dirty old.digest new.digest old.out new.out phase due dirty names.tally_stays names.out_stays;
+  };
+}
+item_not_sent old new i item errors.NotBegun x is sends names phase due dirty = absurd sends.named
+item_not_sent old new i item errors.AlreadyBegun x is sends names phase due dirty = absurd sends.named
+item_not_sent old new i item errors.AlreadyStopped x is sends names phase due dirty = absurd sends.named
+item_not_sent old new i item errors.RoundsEnded x is sends names phase due dirty = absurd sends.named
+
+pub fits_after : (p : Phase) (e : MigError) → RoundFits p → RoundFits (phase_after p e)
+fits_after p errors.StreamFailed fits = tt
+fits_after p (errors.DiskFailed dev n) fits = fits
+fits_after p errors.NotBegun fits = fits
+fits_after p errors.AlreadyBegun fits = fits
+fits_after p errors.AlreadyStopped fits = fits
+fits_after p errors.RoundsEnded fits = fits
+
+-- The stream was closed.
+pub closing_took : {A B E F : Type 0} (old new : LiveSeen) (mid : SinkState) (digest : Sha256) (sum : List ℕ) (done : A) (ended : B)
+    → Appends {E = E} old.out (device_texts 0 (now old).devices) (Ok done) mid → Takes (λ b. Holds256 old.digest b) (device_texts 0 (now old).devices) (λ b. Holds256 digest b)
+    → ((b : List ℕ) → Holds256 digest b → sum ≡ sha256 b) → Appends {E = F} mid (spelled_record (commit sum)) (Ok ended) new.out
+    → (b : List ℕ) → Holds256 old.digest b → Took old new (closing (now old) b)
+closing_took old new mid digest sum done ended devices takes is_sum ends b held =
+    let d = device_texts 0 (now old).devices in
+    let is : sum ≡ sha256 (b ++ d) = is_sum (b ++ d) (takes b held) in
+    record {
+      count = ends.count ∙ devices.count;
+      holds = λ disks honest.
+          let one = devices.holds honest in
+          let two = ends.holds one.0 in
+          (two.0, two.1 ∙ ap (λ held. held ++ spelled_record (commit sum)) one.1 ∙ append_assoc old.out.held d (spelled_record (commit sum)) ∙ ap (λ s. old.out.held ++ (d ++ spelled_record (commit s))) is);
+    }

@@ -1,0 +1,29 @@
+use Rattle.std.proofs.Common.{Err, refl, subst}
+use Rattle.sender.specs.LiveState.{LiveSeen}
+use Rattle.sender.specs.Stopping.{SendsItem}
+use Rattle.sender.proofs.Living.{live_again, live_sent}
+use Rattle.sender.proofs.Served.{fits_after, item_not_sent, item_sent}
+use Rattle.sender.proofs.live.Live.send.Goals as goal
+
+pub invariant_of-self : goal.invariant_of-self
+invariant_of-self g c =
+    let i = c.self.inside in
+    live_again i.source c.send_item.new.machine i.stage _ i.left i.changed.set i.changed.firsts.items i.at c.self.invariant c.in-Err.ensures.sent.state
+    (rw c.phase_after-self-inside.ensures (fits_after i.stage c.in-Err.error c.self.invariant.round))
+
+pub invariant_of-self-2 : goal.invariant_of-self-2
+invariant_of-self-2 g c =
+    let i = c.self.inside in
+    live_sent i.source c.send_item.new.machine i.stage i.left c.remove.new.self i.changed.set c.remove-2.new.self i.changed.firsts.items i.at c.args.number c.self.invariant c.in-Ok.ensures.sent.state c.remove.ensures c.remove-2.ensures
+
+pub returns-in-Err : goal.returns-in-Err
+returns-in-Err g c =
+    let i = c.self.inside in
+    let old : LiveSeen = record { machine = i.source; phase = i.stage; due = i.left; dirty = i.changed.set; digest = i.taken; out = g.W.Sink.state i.writer } in
+    let new : LiveSeen = record { machine = c.send_item.new.machine; phase = c.phase_after-self-inside.result; due = i.left; dirty = i.changed.set; digest = c.send_item.new.tally; out = g.W.Sink.state c.send_item.new.out } in
+    subst (λ (v : LiveSeen). SendsItem v c.args.number (Err c.in-Err.error) new) c.self.view_is
+    (item_not_sent old new c.args.number c.item_at-item.result c.in-Err.error _ c.item_at-item.ensures.item c.in-Err.ensures.sent c.in-Err.ensures.item c.phase_after-self-inside.ensures refl refl)
+
+pub returns : goal.returns
+returns g c =
+    rw (← c.self.view_is) (item_sent _ _ c.args.number c.item_at-item.result _ c.item_at-item.ensures.item c.in-Ok.ensures.sent c.in-Ok.ensures.taken refl c.remove.ensures c.remove-2.ensures)

@@ -1,0 +1,50 @@
+use Rattle.std.proofs.Common.{◌<◌, ◌∙◌, ap, length, take, [], arith}
+use Rattle.std.proofs.Common.{◌≡◌, ◌+◌, ◌++◌, ◌∷◌, refl}
+use Rattle.std.proofs.lemmas.List.{length-take, take_more}
+use Rattle.machine.specs.Seen.{all_marks, state_of}
+use Rattle.sender.proofs.Steady.{alike_first, keeps_on, no_replies}
+use Rattle.sender.proofs.Replaying.{ran, ran_none, so_far_first, so_far_more, take_all}
+use Rattle.sender.proofs.playing.replay.Goals as goal
+
+pub returns-in-Err-clause-ran : goal.returns-in-Err-clause-ran
+returns-in-Err-clause-ran g c = λ honest. ran_none _ _ _ _ _ _ c.new-in-Err.ensures.items (ap state_of c.in-Err.ensures.err.0) (ap g.W.Sink.state c.in-Err.ensures.err.1)
+
+pub returns-in_default-clause-ran : goal.returns-in_default-clause-ran
+returns-in_default-clause-ran g c = λ honest. ran_none _ _ _ _ _ _ c.new-in_default.ensures.items (ap state_of (c.into_parts-machine.ensures.machine ∙ c.in-Ok.ensures.machine)) (c.into_parts-machine.ensures.out ∙ c.in-Ok.ensures.out)
+
+pub loop-event-init : goal.loop-event-init
+loop-event-init g c = record {
+  room = c.in-Ok-with_capacity.ensures.capacity;
+  count = c.in-Ok-with_capacity.ensures.len;
+  alike = rw c.in-Ok.ensures.machine (alike_first (all_marks c.args.machine));
+  unsteady = tt;
+  so_far = λ honest. so_far_first c.in-Ok.live c.args.machine _ [] c.in-Ok-with_capacity.replies.items c.in-Ok-with_capacity.ensures.items c.in-Ok.ensures.machine c.in-Ok.ensures.fresh c.in-Ok.ensures.digest c.in-Ok.ensures.out honest;
+}
+
+pub loop-event-preserved : goal.loop-event-preserved
+loop-event-preserved g c =
+    let events = c.args.events.now in
+    let i = c.loop-event.event-index in
+    let below : i < length events = c.loop-event-test.true in
+    let more : take (i + 1) events ≡ take i events ++ c.event-item.result ∷ [] = rw (take_more events i c.event-item.result below, ← c.event-item.is) refl in
+    let even : length c.loop-event.replies.items ≡ length (take i events) = omega (arith, c.loop-event.invariant.count, length-take i events, below) in
+    let kept = keeps_on (all_marks c.args.machine) c.loop-event.live c.serve-reply.new.self (take i events) c.loop-event.replies.items c.event-item.result c.serve-reply.result even c.loop-event.invariant.alike c.loop-event.invariant.unsteady c.serve-reply.ensures in
+    record {
+      room = omega arith;
+      count = omega arith;
+      alike = kept.0;
+      unsteady = rw (more, c.push_reserved.ensures.items) kept.1;
+      so_far = λ honest. rw c.push_reserved.ensures.items
+          (so_far_more _ _ c.args.events.now c.loop-event.event-index c.event-item.result c.event-item.result c.loop-event.replies.items c.serve-reply.result c.loop-event.live c.serve-reply.new.self
+          below c.event-item.is (omega (arith, c.loop-event.invariant.count)) c.recall.ensures c.serve-reply.ensures (c.loop-event.invariant.so_far honest));
+    }
+
+pub returns-clause-ran : goal.returns-clause-ran
+returns-clause-ran g c = λ honest. ran _ _ (take c.loop-event.event-index c.args.events.now) c.args.events.now c.loop-event.replies.items _ _ c.loop-event.live (take_all c.loop-event.event-index c.args.events.now (omega arith) (omega arith))
+    c.shapes-shapes.ensures.sound (ap state_of c.into_parts-machine-2.ensures.machine) c.into_parts-machine-2.ensures.out (c.loop-event.invariant.so_far honest)
+
+pub returns-in-Err-clause-unsteady : goal.returns-in-Err-clause-unsteady
+returns-in-Err-clause-unsteady g c = rw c.new-in-Err.ensures.items (no_replies (all_marks c.args.machine) c.args.events.now)
+
+pub returns-in_default-clause-unsteady : goal.returns-in_default-clause-unsteady
+returns-in_default-clause-unsteady g c = rw c.new-in_default.ensures.items (no_replies (all_marks c.args.machine) c.args.events.now)

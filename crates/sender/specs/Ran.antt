@@ -1,0 +1,56 @@
+-- What a list of live events leaves.
+use Rattle.std.specs.Prelude.{◌≡◌, ◌++◌, ◌⊎◌, List, [], ◌∷◌, length, false, IsTrue}
+use Rattle.machine.specs.Applied.{FailsOnlyUnsteady}
+use Rattle.machine.specs.Effect.{Effect}
+use Rattle.machine.specs.Seen.{Marks, marks_at}
+use Rattle.machine.specs.State.{MachineState}
+use Rattle.machine.specs.declared.reply.Reply.{Reply}
+use Rattle.wire.specs.Sinks.{SinkState}
+use Rattle.wire.specs.Stream.{IsStream}
+use Rattle.sender.specs.declared.phase.Phase.TheVariants as phases
+use Rattle.sender.specs.Follows.{count_after}
+use Rattle.sender.specs.History.{AllAllowed, History, has_fault, machine_after, nothing, onward, phase_of, text}
+use Rattle.sender.specs.declared.event.LiveEvent.{LiveEvent}
+use Rattle.sender.specs.declared.event.LiveEvent.TheVariants.{Guest}
+use Rattle.sender.specs.declared.event.LiveReply.{LiveReply}
+use Rattle.sender.specs.declared.event.LiveReply.TheVariants as r
+use Rattle.sender.specs.declared.mig_error.MigError.{MigError}
+use Rattle.sender.specs.declared.mig_error.MigError.TheVariants as errors
+
+-- What a history leaves of a machine and of a writer: the machine after it, every reply one that may come, the writer's count
+-- of failures, which rose where a reply tells so, and the text of the history, which is a stream of the machine once a stop
+-- answered Ok.
+pub record Leaves (m : MachineState) (h : History) (old : SinkState) (last : MachineState) (new : SinkState) : Type 0 where
+  pub machine : last ≡ machine_after m h
+  pub allowed : AllAllowed m h
+  pub count : new.failures ≡ count_after old.failures (has_fault h)
+  pub held : has_fault h ≡ false → IsTrue old.honest → IsTrue new.honest × (new.held ≡ old.held ++ text m h)
+  pub stream : phase_of h ≡ phases.Stopped → (has_fault h ≡ false) × IsStream (text m h) last
+
+-- These events were answered so, and each changed in the machine what its step says.
+pub record Ran (m : MachineState) (events : List LiveEvent) (replies : List LiveReply) (old : SinkState) (last : MachineState) (new : SinkState) : Type 0 where
+  pub effects : List Effect
+  pub leaves : Leaves m (onward nothing events replies effects) old last new
+
+-- Each event was answered, or none was, where memory was refused.
+abbrev pub AllOrNone : List LiveEvent → List LiveReply → Type 0
+AllOrNone events replies = (length replies ≡ length events) ⊎ (replies ≡ [])
+
+-- A reply that tells of a failed disk, be it of a guest's step or of a sector that was to be sent, names a device whose disk
+-- is not steady.
+abbrev pub GuestNames : List Marks → LiveEvent → Reply → Type 0
+GuestNames marks (Guest e) reply = FailsOnlyUnsteady marks e reply
+GuestNames marks _ reply = Unit {0}
+
+abbrev pub MigNames : List Marks → MigError → Type 0
+MigNames marks (errors.DiskFailed dev n) = (marks_at marks dev).steady ≡ false
+MigNames marks _ = Unit {0}
+
+abbrev pub NamesUnsteady : List Marks → LiveEvent → LiveReply → Type 0
+NamesUnsteady marks e (r.Guest reply) = GuestNames marks e reply
+NamesUnsteady marks e (r.Mig x) = MigNames marks x
+NamesUnsteady marks e _ = Unit {0}
+
+abbrev pub AllNameUnsteady : List Marks → List LiveEvent → List LiveReply → Type 0
+AllNameUnsteady marks (e ∷ es) (reply ∷ replies) = NamesUnsteady marks e reply × AllNameUnsteady marks es replies
+AllNameUnsteady marks es replies = Unit {0}

@@ -1,0 +1,93 @@
+-- The parts of a copy and of a stop.
+use Rattle.std.specs.Prelude.{◌≡◌, ◌≢◌, ℕ, ◌+◌, ◌<◌, ◌≤◌, ◌^◌, if◌then◌else◌, nat_lt, List, Bool, true, false, Option, Some, None, Result, Ok, Err, length}
+use Rattle.dirtylog.specs.Members.{has}
+use Rattle.sha2.specs.Hashers.{Holds256}
+use Rattle.guestmem.specs.Item as items
+use Rattle.machine.specs.Layout.{firsts_of, item_at, layout_of, size_of}
+use Rattle.machine.specs.Seen.{Seen, state_of}
+use Rattle.machine.specs.Sound.{IsSound}
+use Rattle.sender.specs.Calls.{AreSent, Fails, IsSent, IsUnread, StopsShort, Took, in_either}
+use Rattle.sender.specs.LiveState.{LiveSeen, closing, item_of, last_round, now, pages_among, sectors_among}
+use Rattle.sender.specs.declared.event.Item.{Item}
+use Rattle.sender.specs.declared.event.Stopped.{Stopped}
+use Rattle.sender.specs.declared.mig_error.MigError.{MigError}
+use Rattle.sender.specs.declared.mig_error.MigError.TheVariants as errors
+use Rattle.sender.specs.declared.phase.Phase.{Phase}
+use Rattle.sender.specs.declared.phase.Phase.TheVariants as phases
+
+-- The round's number is one that a record can tell.
+abbrev pub RoundFits : Phase → Type 0
+RoundFits (phases.Open round) = round ≤ last_round
+RoundFits _ = Unit {0}
+
+-- The sets have a place for each item, and the log finds it.
+pub record HasRoom (machine : Seen) (due dirty : List Bool) (firsts : List ℕ) : Type 0 where
+  pub due_size : length due ≡ size_of (layout_of (state_of machine))
+  pub dirty_size : length dirty ≡ size_of (layout_of (state_of machine))
+  pub firsts_are : firsts ≡ firsts_of (layout_of (state_of machine))
+
+-- The machine is sound, the sets have a place for each item, of which there are fewer than a count can tell, and no item
+-- below a number is due, from which on the next one is looked for.
+pub record IsLive (machine : Seen) (phase : Phase) (due dirty : List Bool) (firsts : List ℕ) (at : ℕ) : Type 0 where
+  pub sound : IsSound (state_of machine)
+  pub few : length due < 2 ^ 64
+  pub room : HasRoom machine due dirty firsts
+  pub round : RoundFits phase
+  pub reached : at ≤ length due
+  pub passed : (k : ℕ) → k < at → has due k ≡ false
+
+-- The machine is sound, and the sets have a place for each item, of which there are fewer than a count can tell.
+pub record HasPlaces (s : LiveSeen) : Type 0 where
+  pub sound : IsSound (now s)
+  pub few : length s.due < 2 ^ 64
+  pub due_size : length s.due ≡ size_of (layout_of (now s))
+  pub dirty_size : length s.dirty ≡ size_of (layout_of (now s))
+
+-- The phase after a sending that failed so.
+abbrev pub phase_after : Phase → MigError → Phase
+phase_after p errors.StreamFailed = phases.Failed
+phase_after p e = p
+
+-- A sending of one item, by its result.
+pub record SendsOk (old : LiveSeen) (i : ℕ) (item : Item) (new : LiveSeen) : Type 0 where
+  pub item_is : item_of item ≡ item_at (layout_of (now old)) i
+  pub sent : IsSent old i new
+
+pub record SendFails (old : LiveSeen) (i dev n : ℕ) (new : LiveSeen) : Type 0 where
+  pub item_is : items.sector dev n ≡ item_at (layout_of (now old)) i
+  pub unread : IsUnread old dev n new
+
+abbrev pub SendsItem : LiveSeen → ℕ → Result Item MigError → LiveSeen → Type 0
+SendsItem old i (Ok item) new = SendsOk old i item new
+SendsItem old i (Err (errors.DiskFailed dev n)) new = SendFails old i dev n new
+SendsItem old i (Err errors.StreamFailed) new = Fails old new
+SendsItem old i (Err _) new = ⊥
+
+-- All items of the two sets were sent.
+pub record AllSent (old : LiveSeen) (pages sectors : ℕ) (new : LiveSeen) : Type 0 where
+  pub are_sent : AreSent old (size_of (layout_of (now old))) new
+  pub pages_are : pages ≡ pages_among (layout_of (now old)) (in_either old) (size_of (layout_of (now old)))
+  pub sectors_are : sectors ≡ sectors_among (layout_of (now old)) (in_either old) (size_of (layout_of (now old)))
+
+abbrev pub SendsAll : LiveSeen → Result Stopped MigError → LiveSeen → Type 0
+SendsAll old (Ok s) new = AllSent old s.pages s.sectors new
+SendsAll old (Err (errors.DiskFailed dev n)) new = StopsShort old dev n new
+SendsAll old (Err errors.StreamFailed) new = Fails old new
+SendsAll old (Err _) new = ⊥
+
+-- The stream was closed.
+pub record IsClosed (old new : LiveSeen) : Type 0 where
+  pub machine : new.machine ≡ old.machine
+  pub phase : new.phase ≡ phases.Stopped
+  pub due : new.due ≡ old.due
+  pub dirty : new.dirty ≡ old.dirty
+  pub count : new.out.failures ≡ old.out.failures
+  pub took : (b : List ℕ) → Holds256 old.digest b → Took old new (closing (now old) b)
+
+abbrev pub Closes : {A : Type 0} → LiveSeen → Result A MigError → LiveSeen → Type 0
+Closes old (Ok x) new = IsClosed old new
+Closes old (Err errors.StreamFailed) new = Fails old new
+Closes old (Err _) new = ⊥
+
+abbrev pub one_more : Stopped → Bool → Stopped
+one_more s is_page = if is_page then record { pages = s.pages + 1; sectors = s.sectors } else record { pages = s.pages; sectors = s.sectors + 1 }

@@ -1,0 +1,110 @@
+//! What happens to a machine that is sent, and what is answered.
+
+use crate::mig_error::MigError;
+use machine::{Event, Reply};
+
+/// What is sent as one record.
+#[derive(Clone, Copy, Debug, PartialEq, Eq)]
+pub enum Item {
+    /// A page of RAM, by its number.
+    Page(u32),
+
+    /// A sector of the disk of a device.
+    Sector {
+        /// The number of the device.
+        dev: u8,
+
+        /// The number of the sector on its disk.
+        sector: u32,
+    },
+}
+
+/// One thing that happens to a machine that is sent.
+#[derive(Debug, Drop, PartialEq, Eq)]
+pub enum LiveEvent {
+    /// What the guest or the host does to the machine.
+    Guest(Event),
+
+    /// The migration begins.
+    Begin,
+
+    /// One item is sent.
+    Copy,
+
+    /// A round ends.
+    EndRound,
+
+    /// The machine stands still, and the rest is sent.
+    Stop,
+}
+
+/// What a copy answers.
+#[derive(Clone, Copy, Debug, PartialEq, Eq)]
+pub enum CopyAnswer {
+    /// This item was sent.
+    Copied(Item),
+
+    /// No item is due.
+    RoundDone,
+}
+
+/// What the end of a round answers.
+#[derive(Clone, Copy, Debug, PartialEq, Eq)]
+pub enum End {
+    /// The round of this number has begun.
+    Begun(u32),
+
+    /// An item is still due.
+    RoundOpen,
+}
+
+/// What a stop answers: how many items it sent.
+#[derive(Clone, Copy, Debug, PartialEq, Eq)]
+pub struct Stopped {
+    /// How many pages.
+    pub pages: u64,
+
+    /// How many sectors.
+    pub sectors: u64,
+}
+
+/// How many items are still to be sent.
+#[derive(Clone, Copy, Debug, PartialEq, Eq)]
+pub struct Remaining {
+    /// How many are due in this round.
+    pub due: u64,
+
+    /// How many were touched since they were sent, or since the round began.
+    pub dirty: u64,
+}
+
+/// What is answered to a live event.
+#[derive(Debug, Drop, PartialEq, Eq)]
+pub enum LiveReply {
+    /// What the machine answered.
+    Guest(Reply),
+
+    /// The round of this number has begun.
+    Begun(u32),
+
+    /// This item was sent.
+    Copied(Item),
+
+    /// No item is due.
+    RoundDone,
+
+    /// An item is still due.
+    RoundOpen,
+
+    /// The stream is closed. The stop sent so many pages and sectors.
+    Stopped {
+        /// How many pages.
+        pages: u64,
+
+        /// How many sectors.
+        sectors: u64,
+    },
+
+    /// The call was refused.
+    Mig(MigError),
+}

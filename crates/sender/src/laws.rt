@@ -1,0 +1,35 @@
+//! Laws over the definitions alone. These functions do nothing: their contracts are the laws.
+
+ghost use Rattle.sender.specs.Follows.{CallsFollow};
+ghost use Rattle.sender.specs.HistoryLaws.{AfterIsRun, FreshIsLast, OneHistory, StaleIsNotFresh, StoppedIsStream};
+
+/// Whatever happened, an item that is not stale, a page or a sector, is as the last record that names it says.
+pub fn fresh_is_last()
+    ensures { FreshIsLast }
+{}
+
+/// An item is stale exactly where no sending of it is free of later touches of it.
+pub fn stale_is_not_fresh()
+    ensures { StaleIsNotFresh }
+{}
+
+/// Every call of a machine that is sent, by its reply, lets the sets follow the history: while a round is open the due set is
+/// what is due, and what is due or dirty is exactly what is stale.
+pub fn calls_follow()
+    ensures { CallsFollow }
+{}
+
+/// Once a stop answered Ok, what was written is a stream of the machine as it then was.
+pub fn stopped_is_a_stream()
+    ensures { StoppedIsStream }
+{}
+
+/// The machine after a history is the one that the guest's events alone give, each with the outcome of its reply.
+pub fn after_is_run()
+    ensures { AfterIsRun }
+{}
+
+/// Events and replies settle all of a history: what was written, what is stale, and the machine.
+pub fn replies_settle()
+    ensures { OneHistory }
+{}

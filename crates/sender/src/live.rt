@@ -1,0 +1,387 @@
+//! A machine that is sent while it runs.
+
+ghost use Rattle.std.specs.Prelude.{◌≡◌, ◌<◌, ◌^◌, ◌-◌, IfOk, IfErr, []};
+ghost use Rattle.dirtylog.specs.Members.{HasNone, member_count};
+ghost use Rattle.sha2.specs.Hashers.{Holds256};
+ghost use Rattle.machine.specs.Layout.{layout_of, size_of};
+ghost use Rattle.sender.specs.LiveState.{now, refusal_for};
+ghost use Rattle.sender.specs.Calls.{Serves, begun_reply, copied_reply, ended_reply, guest_reply, in_either, stopped_reply};
+ghost use Rattle.sender.specs.Stopping.{Closes, HasPlaces, SendsAll, SendsItem, one_more, phase_after};
+
+use crate::dirty::Dirty;
+use crate::event::{CopyAnswer, End, Item, LiveEvent, LiveReply, Remaining, Stopped};
+use crate::mig_error::MigError;
+use crate::numbering::{item_at, number_items, page_count};
+use crate::phase::Phase;
+use crate::saving::{send_item, write_devices, write_end};
+use dirtylog::BitSet;
+use machine::{Disk, Event, Machine, Reply};
+use sha2::{Digest, Sha256};
+use std::alloc::{AllocError, Global};
+use std::marker::Model;
+use std::mem;
+use wire::{Sink, write_header, write_round};
+
+/// A machine, the stream that is written of it, and what is still to be sent.
+#[derive(Drop)]
+pub struct Live<D: Disk, W: Sink> {
+    source: Machine<D>,
+    writer: W,
+    taken: Sha256,
+    stage: Phase,
+    left: BitSet,
+    // No item below this number is due. The next one is looked for from here on.
+    at: u64,
+    changed: Dirty,
+}
+
+impl<D: Disk, W: Sink> Model for Live<D, W> {
+    ghost use Rattle.sender.specs.LiveState.{LiveSeen};
+
+    ghost Value = { LiveSeen };
+
+    ghost use Rattle.sender.specs.Stopping.{IsLive};
+
+    ghost view = { λ l. record { machine = l.source; phase = l.stage; due = l.left; dirty = l.changed.set; digest = l.taken; out = W.state l.writer } };
+
+    ghost invariant = { λ l. IsLive l.source l.stage l.left l.changed.set l.changed.firsts.items l.at };
+}
+
+impl<D: Disk, W: Sink> Live<D, W> {
+    /// A machine of which nothing is sent yet. Its only error is want of memory.
+    pub fn new(
+        alloc: Global,
+        machine: Machine<D>,
+        writer: W,
+    ) -> Result<Live<D, W>, (AllocError, Machine<D>, W)>
+        ensures machine { IfOk result (λ l. l.machine ≡ machine) }
+        ensures fresh { IfOk result (λ l. l.phase ≡ Phase.Fresh) }
+        ensures empty { IfOk result (λ l. HasNone l.due × HasNone l.dirty) }
+        ensures digest { IfOk result (λ l. Holds256 l.digest []) }
+        ensures out { IfOk result (λ l. l.out ≡ W.state writer) }
+        ensures err { IfErr result (λ e. (e.1 ≡ machine) × (e.2 ≡ writer)) }
+    {
+        let _shapes = machine.shapes();
+        let Ok((firsts, size)) = number_items(alloc, &machine) else {
+            return Err((AllocError, machine, writer));
+        };
+        let Ok(left) = BitSet::new(alloc, size) else {
+            return Err((AllocError, machine, writer));
+        };
+        let Ok(set) = BitSet::new(alloc, size) else {
+            return Err((AllocError, machine, writer));
+        };
+        Ok(Live {
+            source: machine,
+            writer,
+            taken: Sha256::new(),
+            stage: Phase::Fresh,
+            left,
+            at: 0,
+            changed: Dirty { set, firsts },
+        })
+    }
+
+    /// How many items are due, and how many are dirty.
+    pub fn remaining(&self) -> Remaining
+        ensures due { result.due ≡ member_count self.now.due }
+        ensures dirty { result.dirty ≡ member_count self.now.dirty }
+    {
+        Remaining {
+            due: self.left.count(),
+            dirty: self.changed.set.count(),
+        }
+    }
+
+    /// The machine as it is.
+    pub fn abort(self) -> Machine<D>
+    where
+        W: Drop,
+        ensures { result ≡ self.machine }
+    {
+        let (machine, _writer) = self.into_parts();
+        machine
+    }
+
+    /// The machine and the writer, as they are.
+    pub fn into_parts(self) -> (Machine<D>, W)
+        ensures machine { result.0 ≡ self.machine }
+        ensures out { W.state result.1 ≡ self.out }
+    {
+        let Live {
+            source,
+            writer,
+            taken: _,
+            stage: _,
+            left: _,
+            at: _,
+            changed: _,
+        } = self;
+        (source, writer)
+    }
+
+    /// Tells a proof that the sets have a place for each item (see the page of `guestmem`).
+    pub(crate) fn recall(&self)
+        ensures { HasPlaces self.now }
+    {
+        let _left = &self.left;
+    }
+
+    fn refusal(&self, event: &LiveEvent) -> Option<MigError>
+        ensures { result ≡ refusal_for self.now.phase event.now }
+    {
+        match (self.stage, event) {
+            (Phase::Failed, LiveEvent::Guest(_)) => None,
+            (Phase::Failed, _) => Some(MigError::StreamFailed),
+            (Phase::Stopped, _) => Some(MigError::AlreadyStopped),
+            (Phase::Fresh, LiveEvent::Guest(_)) => None,
+            (Phase::Fresh, LiveEvent::Begin) => None,
+            (Phase::Fresh, _) => Some(MigError::NotBegun),
+            (Phase::Open(_), LiveEvent::Begin) => Some(MigError::AlreadyBegun),
+            (Phase::Open(round), LiveEvent::EndRound) => {
+                if round == 4294967295 {
+                    Some(MigError::RoundsEnded)
+                } else {
+                    None
+                }
+            }
+            (Phase::Open(_), _) => None,
+        }
+    }
+
+    /// Applies the guest's event, and notes what it writes.
+    pub fn apply(&mut self, event: &Event) -> Result<Reply, MigError>
+        ensures { Serves self.old (LiveEvent.Guest event.now) (guest_reply result) self.new }
+    {
+        match self.stage {
+            Phase::Stopped => return Err(MigError::AlreadyStopped),
+            _ => {}
+        }
+        Ok(self.source.apply_logged(event, &mut self.changed))
+    }
+
+    /// Begins: the header is written, and every item is due.
+    pub fn begin(&mut self) -> Result<u32, MigError>
+        ensures { Serves self.old LiveEvent.Begin (begun_reply result) self.new }
+    {
+        match self.refusal(&LiveEvent::Begin) {
+            Some(error) => return Err(error),
+            None => {}
+        }
+        let pages = page_count(&self.source);
+        match write_header(
+            pages as u32,
+            self.source.shapes(),
+            &mut self.writer,
+            &mut self.taken,
+        ) {
+            Ok(()) => {}
+            Err(_) => {
+                self.stage = Phase::Failed;
+                return Err(MigError::StreamFailed);
+            }
+        }
+        self.left.fill();
+        self.at = 0;
+        self.changed.set.clear();
+        self.stage = Phase::Open(1);
+        Ok(1)
+    }
+
+    /// Sends the item of a number.
+    fn send(&mut self, number: u64) -> Result<Item, MigError>
+        requires { number < size_of (layout_of (now self.old)) }
+        ensures { SendsItem self.old number result self.new }
+    {
+        let item = item_at(&self.source, number);
+        match send_item(&mut self.source, item, &mut self.writer, &mut self.taken) {
+            Ok(()) => {}
+            Err(error) => {
+                self.stage = phase_after(self.stage, error);
+                return Err(error);
+            }
+        }
+        self.left.remove(number);
+        self.changed.set.remove(number);
+        Ok(item)
+    }
+
+    /// Sends the least due item.
+    #[tactic(auto, using(crate::proofs::Living::going, crate::proofs::Stopping::due_below, crate::proofs::Stopping::served_copy, crate::proofs::Stopping::served_done, crate::proofs::Stopping::copy_failed))]
+    pub fn copy(&mut self) -> Result<CopyAnswer, MigError>
+        ensures { Serves self.old LiveEvent.Copy (copied_reply result) self.new }
+    {
+        match self.refusal(&LiveEvent::Copy) {
+            Some(error) => return Err(error),
+            None => {}
+        }
+        let Some(number) = self.left.first_from(self.at) else {
+            return Ok(CopyAnswer::RoundDone);
+        };
+        match self.send(number) {
+            Ok(item) => {
+                self.at = number + 1;
+                return Ok(CopyAnswer::Copied(item));
+            }
+            Err(error) => return Err(error),
+        }
+    }
+
+    /// Ends a round: the dirty items become due.
+    pub fn end_round(&mut self) -> Result<End, MigError>
+        ensures { Serves self.old LiveEvent.EndRound (ended_reply result) self.new }
+    {
+        match self.refusal(&LiveEvent::EndRound) {
+            Some(error) => return Err(error),
+            None => {}
+        }
+        let Phase::Open(round) = self.stage else {
+            return Err(MigError::NotBegun);
+        };
+        if !self.left.is_empty() {
+            return Ok(End::RoundOpen);
+        }
+        match write_round(round, &mut self.writer, &mut self.taken) {
+            Ok(()) => {}
+            Err(_) => {
+                self.stage = Phase::Failed;
+                return Err(MigError::StreamFailed);
+            }
+        }
+        self.changed.set.swap_out(&mut self.left);
+        self.at = 0;
+        self.stage = Phase::Open(round + 1);
+        Ok(End::Begun(round + 1))
+    }
+
+    /// Whether an item is due or dirty.
+    fn is_left(&self, number: u64) -> bool
+        requires { number < size_of (layout_of (now self.now)) }
+        ensures { result ≡ in_either self.now number }
+    {
+        self.left.contains(number) || self.changed.set.contains(number)
+    }
+
+    /// Sends all items of the two sets.
+    fn send_all(&mut self) -> Result<Stopped, MigError>
+        ensures { SendsAll self.old result self.new }
+    {
+        self.recall();
+        let pages = page_count(&self.source);
+        let mut sent = Stopped {
+            pages: 0,
+            sectors: 0,
+        };
+        for number in 0..self.left.len() {
+            if self.is_left(number) {
+                match self.send(number) {
+                    Ok(_) => {}
+                    Err(error) => return Err(error),
+                }
+                sent = counted(sent, number < pages);
+            }
+        }
+        Ok(sent)
+    }
+
+    /// Closes the stream.
+    fn close(&mut self) -> Result<(), MigError>
+        ensures { Closes self.old result self.new }
+    {
+        match write_devices(&self.source, &mut self.writer, &mut self.taken) {
+            Ok(()) => {}
+            Err(_) => {
+                self.stage = Phase::Failed;
+                return Err(MigError::StreamFailed);
+            }
+        }
+        let digest = mem::replace(&mut self.taken, Sha256::new());
+        match write_end(&digest.finalize(), &mut self.writer) {
+            Ok(()) => {}
+            Err(_) => {
+                self.stage = Phase::Failed;
+                return Err(MigError::StreamFailed);
+            }
+        }
+        self.stage = Phase::Stopped;
+        Ok(())
+    }
+
+    /// Sends what is left, and closes the stream.
+    #[tactic(auto, using(crate::proofs::Living::going, crate::proofs::Stopping::stops, crate::proofs::Stopping::stop_short, crate::proofs::Stopping::stop_failed))]
+    pub fn stop(&mut self) -> Result<Stopped, MigError>
+        ensures { Serves self.old LiveEvent.Stop (stopped_reply result) self.new }
+    {
+        match self.refusal(&LiveEvent::Stop) {
+            Some(error) => return Err(error),
+            None => {}
+        }
+        let sent = match self.send_all() {
+            Ok(sent) => sent,
+            Err(error) => return Err(error),
+        };
+        match self.close() {
+            Ok(()) => return Ok(sent),
+            Err(error) => return Err(error),
+        }
+    }
+
+    /// Any live event.
+    pub fn serve(&mut self, event: &LiveEvent) -> LiveReply
+        ensures { Serves self.old event.now result self.new }
+    {
+        match event {
+            LiveEvent::Guest(event) => match self.apply(event) {
+                Ok(reply) => return LiveReply::Guest(reply),
+                Err(error) => return LiveReply::Mig(error),
+            },
+            LiveEvent::Begin => match self.begin() {
+                Ok(round) => return LiveReply::Begun(round),
+                Err(error) => return LiveReply::Mig(error),
+            },
+            LiveEvent::Copy => match self.copy() {
+                Ok(CopyAnswer::Copied(item)) => return LiveReply::Copied(item),
+                Ok(CopyAnswer::RoundDone) => return LiveReply::RoundDone,
+                Err(error) => return LiveReply::Mig(error),
+            },
+            LiveEvent::EndRound => match self.end_round() {
+                Ok(End::Begun(round)) => return LiveReply::Begun(round),
+                Ok(End::RoundOpen) => return LiveReply::RoundOpen,
+                Err(error) => return LiveReply::Mig(error),
+            },
+            LiveEvent::Stop => match self.stop() {
+                Ok(Stopped { pages, sectors }) => return LiveReply::Stopped { pages, sectors },
+                Err(error) => return LiveReply::Mig(error),
+            },
+        }
+    }
+}
+
+/// The phase after a sending that failed so.
+fn phase_after(phase: Phase, error: MigError) -> Phase
+    ensures { result ≡ phase_after phase error }
+{
+    match error {
+        MigError::StreamFailed => Phase::Failed,
+        _ => phase,
+    }
+}
+
+/// One more item, a page or not.
+fn counted(sent: Stopped, is_page: bool) -> Stopped
+    requires pages { sent.pages < 2 ^ 64 - 1 }
+    requires sectors { sent.sectors < 2 ^ 64 - 1 }
+    ensures { result ≡ one_more sent is_page }
+{
+    if is_page {
+        Stopped {
+            pages: sent.pages + 1,
+            sectors: sent.sectors,
+        }
+    } else {
+        Stopped {
+            pages: sent.pages,
+            sectors: sent.sectors + 1,
+        }
+    }
+}

@@ -1,0 +1,76 @@
+//! The items of a machine in one numbering: its pages, then the sectors of each disk, in device order.
+
+ghost use Rattle.std.specs.Prelude.{◌≡◌, ◌<◌, ◌≤◌, ◌^◌, IfOk, length};
+ghost use Rattle.machine.specs.EffectLaws.{HasItem};
+ghost use Rattle.machine.specs.Layout.{firsts_of, item_at, layout_of, pages_of, size_of};
+ghost use Rattle.machine.specs.Seen.{state_of};
+ghost use Rattle.machine.specs.Sound.{IsSound};
+ghost use Rattle.sender.specs.Items.{size_on};
+ghost use Rattle.sender.specs.LiveState.{item_of};
+
+use crate::event::Item;
+use guestmem::PAGE_SIZE;
+use machine::{Disk, Machine};
+use std::alloc::{AllocError, Global};
+
+/// How many pages a machine has.
+pub(crate) fn page_count<D: Disk>(machine: &Machine<D>) -> u64
+    ensures count { result ≡ pages_of (state_of machine.now) }
+    ensures few { result ≤ 16384 }
+    ensures sound { IsSound (state_of machine.now) }
+{
+    let _shapes = machine.shapes();
+    machine.ram().recall();
+    machine.ram().len() / PAGE_SIZE as u64
+}
+
+/// How many sectors the disk of a device has.
+fn sector_count<D: Disk>(machine: &Machine<D>, dev: u8) -> u64
+    requires { dev < length (state_of machine.now).devices }
+    ensures count { result ≡ size_on (state_of machine.now) dev }
+    ensures few { result ≤ 4294967295 }
+{
+    machine.shapes()[dev as usize].sectors()
+}
+
+/// The number of the first sector of each disk, and how many items there are. Its only error is want of memory.
+pub(crate) fn number_items<D: Disk>(
+    alloc: Global,
+    machine: &Machine<D>,
+) -> Result<(Vec<u64>, u64), AllocError>
+    ensures firsts { IfOk result (λ x. x.0.items ≡ firsts_of (layout_of (state_of machine.now))) }
+    ensures size { IfOk result (λ x. x.1 ≡ size_of (layout_of (state_of machine.now))) }
+{
+    let count = machine.shapes().len();
+    let mut firsts = Vec::with_capacity(alloc, count)?;
+    let mut first = page_count(machine);
+    for dev in 0..count {
+        firsts.push_reserved(first);
+        first += sector_count(machine, dev as u8);
+    }
+    Ok((firsts, first))
+}
+
+/// The item of a number.
+pub(crate) fn item_at<D: Disk>(machine: &Machine<D>, number: u64) -> Item
+    requires { number < size_of (layout_of (state_of machine.now)) }
+    ensures item { item_of result ≡ item_at (layout_of (state_of machine.now)) number }
+    ensures there { HasItem (state_of machine.now) (item_of result) }
+{
+    let mut first = page_count(machine);
+    if number < first {
+        return Item::Page(number as u32);
+    }
+    for dev in 0..machine.shapes().len() {
+        let size = sector_count(machine, dev as u8);
+        if number - first < size {
+            return Item::Sector {
+                dev: dev as u8,
+                sector: (number - first) as u32,
+            };
+        }
+        first += size;
+    }
+    // Every number below the count of the items was found.
+    Item::Page(0)
+}
