@@ -1,5 +1,5 @@
 -- Sets of numbers below a length. A set is the list that says of each of these numbers whether it is a member.
-use Rattle.std.specs.Prelude.{◌≡◌, ℕ, ◌≤◌, ◌<◌, List, Bool, true, false, Option, Some, None, slice_index_or, count_by}
+use Rattle.std.specs.Prelude.{◌≡◌, ℕ, ◌≤◌, ◌<◌, ◌^◌, List, Bool, true, false, Option, Some, None, slice_index_or, count_by, length}
 
 -- Whether a number is a member. One that is not below the length is none.
 abbrev pub has : List Bool → ℕ → Bool
@@ -23,3 +23,8 @@ IsLeastFrom set from None = (k : ℕ) → from ≤ k → has set k ≡ false
 -- How many members there are.
 abbrev pub member_count : List Bool → ℕ
 member_count set = count_by (λ b. b) set
+
+-- The number of members that is kept beside a set is the one that it has. The length is a number of 64 bits.
+pub record HasCount (set : List Bool) (members : ℕ) : Type 0 where
+  pub counted : members ≡ member_count set
+  pub fits : length set < 2 ^ 64

@@ -6,18 +6,23 @@ ghost use Rattle.dirtylog.specs.Members.{has, HasNone, IsLeastFrom, member_count
 use std::alloc::{AllocError, Global};
 use std::marker::Model;
 
-/// A set of numbers below a fixed length. Contracts see for each of these numbers whether it is a member.
+/// A set of numbers below a fixed length. Contracts see for each of these numbers whether it is a member. It keeps how many
+/// members it has, so that `count` and `is_empty` look at no mark.
 #[derive(Drop)]
 pub struct BitSet {
     marks: Vec<bool>,
+    members: u64,
 }
 
 impl Model for BitSet {
     ghost use Rattle.std.specs.Prelude.{List, Bool};
+    ghost use Rattle.dirtylog.specs.Members.{HasCount};
 
     ghost Value = { List Bool };
 
     ghost view = { λ s. s.marks.items };
+
+    ghost invariant = { λ s. HasCount s.marks.items s.members };
 }
 
 impl BitSet {
@@ -26,7 +31,7 @@ impl BitSet {
         ensures { IfOk result (λ set. set ≡ replicate len false) }
     {
         let marks = vec![in alloc; false; len as usize]?;
-        Ok(BitSet { marks })
+        Ok(BitSet { marks, members: 0 })
     }
 
     /// The length: members are below it.
@@ -41,7 +46,10 @@ impl BitSet {
         requires { n < length self.old }
         ensures { self.new ≡ slice_set self.old n true }
     {
-        self.marks[n as usize] = true;
+        if !self.contains(n) {
+            self.marks[n as usize] = true;
+            self.members += 1;
+        }
     }
 
     /// Takes out a number.
@@ -49,7 +57,10 @@ impl BitSet {
         requires { n < length self.old }
         ensures { self.new ≡ slice_set self.old n false }
     {
-        self.marks[n as usize] = false;
+        if self.contains(n) {
+            self.marks[n as usize] = false;
+            self.members -= 1;
+        }
     }
 
     /// Whether a number is a member.
@@ -74,17 +85,18 @@ impl BitSet {
     }
 
     /// Whether there is no member.
+    #[tactic(auto, using(crate::proofs::Counts::none_counted, crate::proofs::Counts::count_of_none))]
     pub fn is_empty(&self) -> bool
         ensures { IsTrue result ↔ HasNone self.now }
     {
-        self.first_from(0).is_none()
+        self.members == 0
     }
 
     /// How many members there are.
     pub fn count(&self) -> u64
         ensures { result ≡ member_count self.now }
     {
-        self.marks.iter().filter(|mark| **mark).count() as u64
+        self.members
     }
 
     /// Gives all members to another set of the same length, which has none. Afterwards this one has none.
@@ -94,13 +106,14 @@ impl BitSet {
         ensures given { other.new ≡ self.old }
         ensures left { self.new ≡ replicate (length self.old) false }
     {
-        std::mem::swap(&mut self.marks, &mut other.marks);
+        std::mem::swap(self, other);
     }
 
     /// Makes every number a member.
     pub fn fill(&mut self)
         ensures { self.new ≡ replicate (length self.old) true }
     {
+        self.members = self.len();
         self.marks.fill(true);
     }
 
@@ -109,5 +122,6 @@ impl BitSet {
         ensures { self.new ≡ replicate (length self.old) false }
     {
         self.marks.fill(false);
+        self.members = 0;
     }
 }

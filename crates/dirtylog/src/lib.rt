@@ -4,7 +4,8 @@
 //! made with it: only `BitSet::new` takes memory.
 //!
 //! Contracts see a set as the list that says of each number below its length whether it is a member (`specs/Members`). How
-//! a set keeps them is no part of that: here as a plain list of truth values. Nothing is trusted here beside the toolchain.
+//! a set keeps them is no part of that: here as a plain list of truth values, and beside it how many of them are true. Nothing
+//! is trusted here beside the toolchain.
 #![tactic(auto)]
 
 mod bit_set;

@@ -1,6 +1,5 @@
-use Rattle.std.proofs.Common.{◌∙◌}
 use Rattle.dirtylog.specs.MemberLaws.{no_members}
 use Rattle.dirtylog.proofs.bit_set.BitSet.swap_out.Goals as goal
 
 pub returns-clause-left : goal.returns-clause-left
-returns-clause-left c = rw (c.swap.ensures.x_after, ← c.requires.length) (c.other.view_is ∙ no_members c.args.other.now c.requires.empty)
+returns-clause-left c = rw (c.swap.ensures.x_after, ← c.requires.length) (no_members c.args.other.now c.requires.empty)
