@@ -82,7 +82,14 @@ impl<D: Disk, W: Sink> Live<D, W> {
         })
     }
 
-    /// How many items are due, and how many are dirty.
+    /// The machine, to be read: its registers, its RAM, its interrupt lines.
+    pub fn machine(&self) -> &Machine<D>
+        ensures { result.now ≡ self.now.machine }
+    {
+        &self.source
+    }
+
+    /// How many items are due, and how many are dirty. It takes constant time.
     pub fn remaining(&self) -> Remaining
         ensures due { result.due ≡ member_count self.now.due }
         ensures dirty { result.dirty ≡ member_count self.now.dirty }

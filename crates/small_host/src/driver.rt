@@ -46,3 +46,9 @@ pub const HANDLE_INTERRUPT: [Exit; 3] = [
     Exit::Write(0x064, 1), // InterruptACK
     Exit::Store(0x4c, b"\x01\0"), // used_event
 ];
+
+/// It reads its status, and writes into RAM.
+pub const GO_ON: [Exit; 2] = [
+    Exit::Read(0x070), // Status
+    Exit::Store(0xa00, b"here"),
+];

@@ -1,6 +1,7 @@
 //! The loop around a machine.
 
 use crate::driver::Exit;
+use crate::migration::migrate;
 use anyhow::{Result, bail};
 use std::io::Write;
 use vmig::{Machine, MemDisk, Refusal, Reply, Shape, WriteSink, receive, save};
@@ -100,6 +101,14 @@ impl Host {
         let mut sink = WriteSink::new(Vec::new(rt.alloc()));
         save(&mut self.machine, &mut sink)?;
         Ok(sink.into_inner())
+    }
+
+    /// Moves the machine to another host, while its guest comes to these exits. It goes on there as one that was saved.
+    pub fn migrate(self, rt: &HostRuntime, exits: &[Exit]) -> Result<Host> {
+        let machine = migrate(rt, self.machine, exits)?;
+        let mut host = Host { machine, lines: 0 };
+        host.work(rt)?;
+        Ok(host)
     }
 
     /// Goes on with a machine that was saved. Kicks and interrupts came with it: before the guest goes on each queue is

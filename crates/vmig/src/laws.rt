@@ -9,6 +9,9 @@ pub use receiver::laws::{
     faults_stand_early, faults_stay, no_fault_in_a_stream, one_fault, rounds_of_a_stream,
     saved_is_received,
 };
+pub use sender::laws::{
+    after_is_run, calls_follow, fresh_is_last, replies_settle, stale_is_not_fresh, stopped_is_a_stream,
+};
 pub use traces::laws::texts_are_read_in_one_way;
 pub use wire::laws::{
     a_stream_has_one_count_of_rounds, a_stream_has_one_machine, no_record_begins_another,

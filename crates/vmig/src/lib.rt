@@ -1,7 +1,8 @@
 //! All that an embedder needs, from one crate, and the program `vmig` as a library.
 //!
-//! Machines, their events and their replies are those of `machine`; `save` is that of `sender` and `receive` that of
-//! `receiver`, over the sinks and records of `wire`; `parse`, `write_reply` and what belongs to them are those of `traces`.
+//! Machines, their events and their replies are those of `machine`; `Live`, `replay` and `save` are those of `sender`, and
+//! `Receiver` and `receive` those of `receiver`, over the sinks and records of `wire`; `parse`, `write_reply` and what
+//! belongs to them are those of `traces`.
 //! The functions of `laws` are the laws of all of these.
 //!
 //! `execute` is the whole program: its words, the files that they name, what it prints and its exit status. The crate
@@ -39,9 +40,13 @@ pub use machine::{
 };
 pub use program::execute;
 pub use receiver::{Receiver, RecvError, receive};
-pub use sender::{MigError, save};
+pub use sender::{
+    CopyAnswer, End, Item, Live, LiveEvent, LiveReply, MigError, Phase, Remaining, Replay, Stopped,
+    replay, save,
+};
 pub use traces::{Trace, TraceError, WriteFault, parse, write_checked, write_reply};
 pub use wire::{
     DecodeError, Header, Record, Sink, SinkFault, WriteSink, decode_device, decode_header,
-    decode_record, encode_commit, encode_device, encode_header, encode_page, encode_sector,
+    decode_record, encode_commit, encode_device, encode_header, encode_page, encode_round,
+    encode_sector,
 };
