@@ -65,6 +65,15 @@ impl Book {
         Ok(script)
     }
 
+    /// All lines of a scenario of this book. Its only error is want of memory.
+    pub fn text(&self, alloc: Global, scenario: &Scenario) -> io::Result<String> {
+        let mut text = String::new(alloc);
+        text.push_str(self.beginning.as_str())?;
+        text.push_str(scenario.lines.as_str())?;
+        text.push_str(self.end.as_str())?;
+        Ok(text)
+    }
+
     fn add_line(&mut self, alloc: Global, line: &str) -> io::Result<()> {
         if line.is_empty() || line.starts_with('#') {
             return Ok(());

@@ -14,4 +14,13 @@ pub enum Question {
         /// The sector of its disk.
         n: u64,
     },
+
+    /// How many items are still to be sent.
+    Remaining,
+
+    /// How many bytes were written.
+    Written,
+
+    /// Of which sector the disk failed in the last call.
+    Failed,
 }

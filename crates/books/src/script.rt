@@ -28,6 +28,15 @@ use std::str::FromStr;
 /// - `PLAN DEV CALL CALL ..`: these calls of the disk fail, the first of all being 1;
 /// - `SECTOR DEV N BYTES`: the sector holds these bytes now. That it is read is a call of the disk as well;
 /// - `BAD DEV N`: the sector is bad now.
+///
+/// Among the events may be those of a migration: `begin`, `copy`, `round` and `stop`. Five lines are about it:
+///
+/// - `WRITER N`: its writer takes so many bytes and then fails;
+/// - `ALONE DEV CALL CALL ..`: as `PLAN`, for the disk of a machine to which the same happens but for the migration, so
+///   that no item is read from its disks;
+/// - `BYTES N`: so many bytes are written by now;
+/// - `FAILED DEV N`: the last call was refused because this sector could not be read;
+/// - `REMAINING DUE DIRTY`: so many items are due now, and so many are dirty.
 #[derive(Drop)]
 pub struct Script {
     alloc: Global,
@@ -37,6 +46,8 @@ pub struct Script {
     asked: Vec<(usize, Question)>,
     filled: Vec<usize>,
     plans: Vec<(usize, u64)>,
+    plans_alone: Vec<(usize, u64)>,
+    room: Option<usize>,
 }
 
 impl Script {
@@ -50,6 +61,8 @@ impl Script {
             asked: Vec::new(alloc),
             filled: Vec::new(alloc),
             plans: Vec::new(alloc),
+            plans_alone: Vec::new(alloc),
+            room: None,
         }
     }
 
@@ -78,6 +91,16 @@ impl Script {
         self.plans.as_slice()
     }
 
+    /// The calls of disks that fail where nothing is sent, each behind the number of its device.
+    pub fn plans_alone(&self) -> &[(usize, u64)] {
+        self.plans_alone.as_slice()
+    }
+
+    /// How many bytes the writer takes before it fails, if it does.
+    pub fn room(&self) -> Option<usize> {
+        self.room
+    }
+
     /// Adds the lines of a text. `InvalidData` where a count is no number; else its only error is want of memory.
     pub fn add(&mut self, text: &str) -> io::Result<()> {
         for line in text.lines() {
@@ -93,7 +116,12 @@ impl Script {
             "EACH" => self.add_turns(words),
             "LINES" => self.add_lines(words),
             "FILL" => self.add_filled(words),
-            "PLAN" => self.add_plan(words),
+            "PLAN" => add_plan(&mut self.plans, words),
+            "ALONE" => add_plan(&mut self.plans_alone, words),
+            "WRITER" => self.set_room(words),
+            "BYTES" => self.add_written(words),
+            "FAILED" => self.add_failed(words),
+            "REMAINING" => self.add_remaining(words),
             "SECTOR" => self.add_sector(words),
             "BAD" => self.add_bad(words),
             "UP" => self.add_start(words),
@@ -121,13 +149,24 @@ impl Script {
         Ok(())
     }
 
-    fn add_plan(&mut self, words: &str) -> io::Result<()> {
-        let (dev, calls) = cut(words);
-        let dev = number(dev)?;
-        for call in calls.split(' ') {
-            self.plans.push((dev, number(call)?))?;
-        }
+    fn set_room(&mut self, bytes: &str) -> io::Result<()> {
+        self.room = Some(number(bytes)?);
         Ok(())
+    }
+
+    fn add_written(&mut self, bytes: &str) -> io::Result<()> {
+        self.asked.push((self.events, Question::Written))?;
+        writeln!(self.replies, "written {bytes}")
+    }
+
+    fn add_failed(&mut self, sector: &str) -> io::Result<()> {
+        self.asked.push((self.events, Question::Failed))?;
+        writeln!(self.replies, "failed {sector}")
+    }
+
+    fn add_remaining(&mut self, items: &str) -> io::Result<()> {
+        self.asked.push((self.events, Question::Remaining))?;
+        writeln!(self.replies, "remaining {items}")
     }
 
     fn add_sector(&mut self, words: &str) -> io::Result<()> {
@@ -224,6 +263,16 @@ impl Script {
         writeln!(self.trace, "w {device} {register} 4 {value}")?;
         writeln!(self.replies, "done")
     }
+}
+
+/// Adds the calls of a disk, behind the number of its device.
+fn add_plan(plans: &mut Vec<(usize, u64)>, words: &str) -> io::Result<()> {
+    let (dev, calls) = cut(words);
+    let dev = number(dev)?;
+    for call in calls.split(' ') {
+        plans.push((dev, number(call)?))?;
+    }
+    Ok(())
 }
 
 /// Writes the pieces of a line.

@@ -1,15 +1,24 @@
 //! Streams as text.
 
 use anyhow::Result;
+use sha2::{Digest, Sha256};
 use std::alloc::Global;
+
+/// The tag of the record that ends a stream.
+const COMMIT: u8 = 5;
 
 /// The bytes that a text spells: words of hexadecimal digits, the bytes of each as often as a number behind `*` says
 /// (`00*4096`). Four words stand for what is often the same: `HEADER` for the header of one page and one entropy device,
 /// `PAGE` for the record of page 0 of zeros, `DEVICE` for the record of such a device as it begins, and `FRESH` for the
-/// whole stream of such a machine.
+/// whole stream of such a machine. `COMMIT` stands for the record that ends a stream, with the SHA-256 of all bytes before it,
+/// and `|` parts records for a reader and means nothing.
 pub fn spelled(alloc: Global, text: &str) -> Result<Vec<u8>> {
     let mut bytes = Vec::new(alloc);
     for word in text.split_whitespace() {
+        if word == "COMMIT" {
+            add_commit(&mut bytes)?;
+            continue;
+        }
         for part in meaning(word).split(' ') {
             add_word(alloc, &mut bytes, part)?;
         }
@@ -26,8 +35,17 @@ fn meaning(word: &str) -> &str {
             "564d4947 01000000 01000000 01000000 04 01 00000000 00*4096 04 00 40000000 00*58 010000 010000 05 ",
             "0462f7be415328f8018cdf1e37eb8886ff32fe1ed27858552e208da3e1ac3d2d"
         ),
+        "|" => "",
         _ => word,
     }
+}
+
+/// Adds the last record of a stream that begins with these bytes.
+fn add_commit(bytes: &mut Vec<u8>) -> Result<()> {
+    let digest = Sha256::digest(bytes.as_slice());
+    bytes.push(COMMIT)?;
+    bytes.extend_from_slice(digest.as_slice())?;
+    Ok(())
 }
 
 fn add_word(alloc: Global, bytes: &mut Vec<u8>, word: &str) -> Result<()> {

@@ -16,22 +16,44 @@ pub fn disks_for(alloc: Global, shapes: &[Shape]) -> Result<Vec<TestDisk>> {
 
 /// The disks of a script's machine, which has these shapes.
 pub fn disks_of(alloc: Global, script: &Script, shapes: &[Shape]) -> Result<Vec<TestDisk>> {
+    disks_by(alloc, script, script.plans(), shapes)
+}
+
+/// The disks of a script's machine where it is not sent.
+pub fn disks_alone(alloc: Global, script: &Script, shapes: &[Shape]) -> Result<Vec<TestDisk>> {
+    disks_by(alloc, script, script.plans_alone(), shapes)
+}
+
+fn disks_by(
+    alloc: Global,
+    script: &Script,
+    plans: &[(usize, u64)],
+    shapes: &[Shape],
+) -> Result<Vec<TestDisk>> {
     let mut disks = Vec::new(alloc);
     for (dev, shape) in shapes.iter().enumerate() {
         if let Shape::Block { sectors, .. } = shape {
-            disks.push(disk_of(alloc, script, dev, *sectors)?)?;
+            let is_filled = script.fills(dev);
+            disks.push(disk_of(alloc, *sectors, is_filled, plans, dev)?)?;
         }
     }
     Ok(disks)
 }
 
-fn disk_of(alloc: Global, script: &Script, dev: usize, sectors: u64) -> Result<TestDisk> {
+/// The disk of a device, whose calls fail by the plans of all devices.
+fn disk_of(
+    alloc: Global,
+    sectors: u64,
+    is_filled: bool,
+    plans: &[(usize, u64)],
+    dev: usize,
+) -> Result<TestDisk> {
     let mut disk = MemDisk::new(alloc, sectors)?;
-    if script.fills(dev) {
+    if is_filled {
         fill(&mut disk)?;
     }
     let mut plan = Vec::new(alloc);
-    for (planned, call) in script.plans() {
+    for (planned, call) in plans {
         if *planned == dev {
             plan.push(*call)?;
         }

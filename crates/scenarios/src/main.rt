@@ -2,15 +2,23 @@
 //! as it says. The first that is not ends the program.
 //!
 //! What the lines of a book are, the folder says that it is in: `scripts` are machines and what happens to them, `streams`
-//! are machines that are saved and streams that are refused (`journey`, `refusal`).
+//! are machines that are saved and streams that are refused (`journey`, `refusal`), `migrations` are machines that are sent
+//! while they run (`migration`).
 #![tactic(auto)]
 
+mod changes;
 mod disks;
 mod failing_sink;
 mod journey;
+mod leg;
+mod live_replies;
+mod live_trace;
+mod migration;
 mod playing;
 mod refusal;
+mod sameness;
 mod sectors;
+mod serving;
 mod stream;
 
 use anyhow::{Context, Result, bail};
@@ -21,6 +29,7 @@ use std::{env, fs};
 fn show(rt: &HostRuntime, folder: &str, book: &Book, scenario: &Scenario) -> Result<()> {
     match folder {
         "scripts" => playing::play_scenario(rt.alloc(), book, scenario),
+        "migrations" => migration::show(rt.alloc(), book, scenario),
         "streams" => stream::show(rt.alloc(), scenario.lines()),
         _ => bail!("no such books"),
     }

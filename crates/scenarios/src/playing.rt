@@ -2,11 +2,12 @@
 
 use crate::disks::{TestDisk, disks_of};
 use crate::sectors::write_sector;
-use anyhow::{Result, bail};
+use anyhow::{Result, bail, ensure};
 use books::{Book, Question, Scenario, Script};
 use machine::{Event, Machine};
 use std::alloc::Global;
 use std::io::Write;
+use std::str;
 use traces::{Trace, parse, write_reply};
 
 /// Plays a scenario of a book of scripts.
@@ -46,9 +47,22 @@ fn agrees(
     events: &[Event],
 ) -> Result<()> {
     let replies = replies_to(alloc, machine, script, events)?;
-    if replies.as_slice() != script.replies() {
-        bail!("{}", String::from_utf8(replies)?);
+    are_lines(replies.as_slice(), script.replies())
+}
+
+/// Fails at the first line that is not as it was to be.
+pub fn are_lines(lines: &[u8], expected: &[u8]) -> Result<()> {
+    let told = lines.split(|byte| *byte == b'\n');
+    for (line, wanted) in told.zip(expected.split(|byte| *byte == b'\n')) {
+        if line != wanted {
+            bail!(
+                "{} and not {}",
+                str::from_utf8(line)?,
+                str::from_utf8(wanted)?
+            );
+        }
     }
+    ensure!(lines.len() == expected.len(), "more or fewer lines");
     Ok(())
 }
 
@@ -76,16 +90,22 @@ fn answer_questions(
 ) -> Result<()> {
     for (asked, question) in script.questions() {
         if *asked == events {
-            answer(machine, *question, out)?;
+            answer_of_machine(machine, *question, out)?;
         }
     }
     Ok(())
 }
 
-fn answer(machine: &mut Machine<TestDisk>, question: Question, out: &mut Vec<u8>) -> Result<()> {
+/// Answers what is asked of a machine.
+pub fn answer_of_machine(
+    machine: &mut Machine<TestDisk>,
+    question: Question,
+    out: &mut Vec<u8>,
+) -> Result<()> {
     match question {
         Question::Lines => writeln!(out, "lines {}", machine.lines())?,
         Question::Sector { dev, n } => write_sector(machine, dev, n, out)?,
+        _ => bail!("asked of a migration alone"),
     }
     Ok(())
 }

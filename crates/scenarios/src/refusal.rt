@@ -1,15 +1,16 @@
 //! Bytes, and what is told of them when they are received.
 
+use crate::changes::Streams;
 use crate::disks::{TestDisk, disks_of};
-use crate::stream::{refusal_in_pieces, refusal_of};
+use crate::stream::{PIECES, refusal_in_pieces, refusal_of};
 use anyhow::{Context, Result, ensure};
 use books::{Script, spelled};
 use machine::{FaultDisk, MemDisk};
 use std::alloc::Global;
 use wire::decode_header;
 
-/// The sizes of the pieces in which each stream is fed too.
-const PIECES: [usize; 6] = [1, 2, 3, 511, 4101, 65_536];
+/// Of streams that differ in a byte and are told alike, one in so many is fed in pieces.
+const SELDOM: usize = 16;
 
 /// Receives the stream of a line, which stands before ` -> ` and the number of its refusal, or 0 where it is received. It
 /// is told alike in pieces of any size. Behind the number may stand ` AT ` and a place: so many bytes tell the refusal,
@@ -19,41 +20,95 @@ const PIECES: [usize; 6] = [1, 2, 3, 511, 4101, 65_536];
 /// `A DISK, AND`: then there is one more; or a line of a script about disks, as `PLAN 0 1, AND`: then they are as this line
 /// says.
 ///
-/// `EACH BEGINNING OF` and `EACH BYTE TURNED IN` stand for many streams: for each place in this one, what is before it, or
-/// the same stream with the complement of the byte there. Then the numbers are spelled like a stream.
+/// A line may stand for many streams (`Streams`). Then the numbers are spelled like a stream, and of places `PLACE*COUNT`
+/// stands for so many that are the same.
 pub fn tells(alloc: Global, line: &str) -> Result<()> {
     let (streams, told) = line.split_once(" -> ").context("no number")?;
-    let (numbers, place) = told.split_once(" AT ").unwrap_or((told, ""));
-    let expected = spelled(alloc, numbers)?;
-    let told = told_of(alloc, streams)?;
-    ensure!(told.as_slice() == expected.as_slice(), "{line}");
-    if !place.is_empty() {
-        let place = place.parse::<usize>()?;
-        ensure!(told_at(alloc, streams)? == place, "{line}");
+    let (numbers, places) = told.split_once(" AT ").unwrap_or((told, ""));
+    let (disks, streams) = streams.split_once(", AND ").unwrap_or(("", streams));
+    let streams = Streams::read(alloc, streams)?;
+    let refusals = Refusals {
+        disks,
+        numbers: spelled(alloc, numbers)?,
+        places: counted(alloc, places)?,
+    };
+    ensure!(refusals.numbers.len() == streams.count(), "{line}");
+    for place in 0..streams.count() {
+        refusals.tell(alloc, &streams, place).context(line)?;
     }
     Ok(())
 }
 
-fn told_of(alloc: Global, streams: &str) -> Result<Vec<u8>> {
-    if let Some(stream) = streams.strip_prefix("EACH BEGINNING OF ") {
-        told_of_beginnings(alloc, stream)
-    } else if let Some(stream) = streams.strip_prefix("EACH BYTE TURNED IN ") {
-        told_of_turned(alloc, stream)
-    } else {
-        told_of_one(alloc, streams)
+/// Numbers in decimal, of which one may stand for many that are the same.
+fn counted(alloc: Global, text: &str) -> Result<Vec<usize>> {
+    let mut numbers = Vec::new(alloc);
+    for word in text.split_whitespace() {
+        let (number, count) = word.split_once('*').unwrap_or((word, "1"));
+        let number = number.parse::<usize>()?;
+        for _ in 0..count.parse::<u16>()? {
+            numbers.push(number)?;
+        }
     }
+    Ok(numbers)
 }
 
-/// The stream of a line, and the disks that are handed in.
-fn one_of(alloc: Global, streams: &str) -> Result<(Vec<u8>, Vec<TestDisk>)> {
-    let (kind, text) = streams.split_once(", AND ").unwrap_or(("", streams));
-    let stream = spelled(alloc, text)?;
-    let disks = match kind {
-        "NO DISK" => Vec::new(alloc),
-        "A DISK" => one_disk_more(alloc, stream.as_slice())?,
-        _ => disks_by(alloc, kind, stream.as_slice())?,
-    };
-    Ok((stream, disks))
+/// What is told of streams beside disks.
+#[derive(Drop)]
+struct Refusals<'t> {
+    disks: &'t str,
+    numbers: Vec<u8>,
+    places: Vec<usize>,
+}
+
+impl<'t> Refusals<'t> {
+    /// Fails where another refusal is told of the stream that is changed at this place.
+    fn tell(&self, alloc: Global, streams: &Streams, place: usize) -> Result<()> {
+        let stream = streams.stream(alloc, place)?;
+        let number = self.numbers.get(place).context("no number")?;
+        let disks = self.disks_beside(alloc, streams)?;
+        let told = refusal_of(alloc, stream.as_slice(), disks);
+        ensure!(told == *number, "{told} at {place}");
+        if place % SELDOM == 0 || !self.is_as_before(place) {
+            self.tell_in_pieces(alloc, streams, place)?;
+        }
+        Ok(())
+    }
+
+    /// Whether this stream is told as the one before it.
+    fn is_as_before(&self, place: usize) -> bool {
+        match place.checked_sub(1) {
+            Some(before) => self.numbers.get(place) == self.numbers.get(before),
+            None => false,
+        }
+    }
+
+    /// Fails where the stream is told otherwise or elsewhere in pieces of any size.
+    fn tell_in_pieces(&self, alloc: Global, streams: &Streams, place: usize) -> Result<()> {
+        let stream = streams.stream(alloc, place)?;
+        let number = self.numbers.get(place).context("no number")?;
+        let disks = self.disks_beside(alloc, streams)?;
+        let (_, told_at) = refusal_in_pieces(alloc, stream.as_slice(), disks, 1)?;
+        if let Some(expected) = self.places.get(place) {
+            ensure!(told_at == *expected, "at byte {told_at} at {place}");
+        }
+        for size in PIECES {
+            let disks = self.disks_beside(alloc, streams)?;
+            let told = refusal_in_pieces(alloc, stream.as_slice(), disks, size)?;
+            let end = told_at.div_ceil(size).saturating_mul(size);
+            let expected = (*number, end.min(stream.len()));
+            ensure!(told == expected, "pieces of {size} at {place}");
+        }
+        Ok(())
+    }
+
+    /// The disks beside which streams are received.
+    fn disks_beside(&self, alloc: Global, streams: &Streams) -> Result<Vec<TestDisk>> {
+        match self.disks {
+            "NO DISK" => Ok(Vec::new(alloc)),
+            "A DISK" => one_disk_more(alloc, streams.whole()),
+            lines => disks_by(alloc, lines, streams.whole()),
+        }
+    }
 }
 
 /// Disks of the devices that the header of a stream tells, as lines of a script say of them.
@@ -70,54 +125,4 @@ fn one_disk_more(alloc: Global, stream: &[u8]) -> Result<Vec<TestDisk>> {
     let mut disks = disks_by(alloc, "", stream)?;
     disks.push(FaultDisk::new(MemDisk::new(alloc, 1)?, Vec::new(alloc)))?;
     Ok(disks)
-}
-
-fn told_of_one(alloc: Global, streams: &str) -> Result<Vec<u8>> {
-    let (stream, disks) = one_of(alloc, streams)?;
-    let number = refusal_of(alloc, stream.as_slice(), disks);
-    for size in PIECES {
-        let (stream, disks) = one_of(alloc, streams)?;
-        let (in_pieces, _) = refusal_in_pieces(alloc, stream.as_slice(), disks, size);
-        ensure!(in_pieces == number, "pieces of {size}");
-    }
-    let mut told = Vec::new(alloc);
-    told.push(number)?;
-    Ok(told)
-}
-
-/// How many bytes tell the refusal of this stream.
-fn told_at(alloc: Global, streams: &str) -> Result<usize> {
-    let (stream, disks) = one_of(alloc, streams)?;
-    let (_, place) = refusal_in_pieces(alloc, stream.as_slice(), disks, 1);
-    Ok(place)
-}
-
-fn told_of_beginnings(alloc: Global, stream: &str) -> Result<Vec<u8>> {
-    let stream = spelled(alloc, stream)?;
-    let stream = stream.as_slice();
-    let mut told = Vec::new(alloc);
-    for len in 0..stream.len() {
-        let disks = disks_by(alloc, "", stream)?;
-        told.push(refusal_of(alloc, &stream[..len], disks))?;
-    }
-    Ok(told)
-}
-
-fn told_of_turned(alloc: Global, stream: &str) -> Result<Vec<u8>> {
-    let whole = spelled(alloc, stream)?;
-    let mut turned = spelled(alloc, stream)?;
-    let mut told = Vec::new(alloc);
-    for place in 0..whole.len() {
-        let disks = disks_by(alloc, "", whole.as_slice())?;
-        turn(turned.as_mut_slice(), place);
-        told.push(refusal_of(alloc, turned.as_slice(), disks))?;
-        turn(turned.as_mut_slice(), place);
-    }
-    Ok(told)
-}
-
-fn turn(stream: &mut [u8], place: usize) {
-    if let Some(byte) = stream.get_mut(place) {
-        *byte = !*byte;
-    }
 }

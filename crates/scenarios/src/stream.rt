@@ -10,6 +10,12 @@ use sender::save;
 use std::alloc::Global;
 use wire::{WriteSink, decode_header};
 
+/// The sizes of the pieces in which each stream is fed too.
+pub const PIECES: [usize; 6] = [1, 2, 3, 511, 4101, 65_536];
+
+/// The number of the refusal of all that comes behind a refusal.
+const REFUSED_BEFORE: u8 = 16;
+
 /// Lines with a line `saved as` are a journey; those of every other scenario are streams and what is told of them.
 pub fn show(alloc: Global, lines: &str) -> Result<()> {
     if let Some(journey) = Journey::read(lines) {
@@ -37,6 +43,23 @@ pub fn arrived(alloc: Global, stream: &[u8], rounds: u32) -> Result<Machine<Test
     Ok(machine)
 }
 
+/// The machine of a stream in which so many rounds ended, received in pieces of so many bytes.
+pub fn arrived_in_pieces(
+    alloc: Global,
+    stream: &[u8],
+    rounds: u32,
+    size: usize,
+) -> Result<Machine<TestDisk>> {
+    let header = decode_header(alloc, stream)?.context("no header")?;
+    let disks = disks_for(alloc, header.shapes.as_slice())?;
+    let mut receiver = Receiver::new(alloc, disks);
+    for piece in stream.chunks(size.max(1)) {
+        receiver.feed(piece)?;
+    }
+    ensure!(receiver.rounds() == rounds, "rounds in pieces of {size}");
+    Ok(receiver.finish()?)
+}
+
 /// The number of the refusal of a stream beside these disks, or 0 where it is received.
 pub fn refusal_of(alloc: Global, stream: &[u8], disks: Vec<TestDisk>) -> u8 {
     receive(alloc, stream, disks)
@@ -45,21 +68,34 @@ pub fn refusal_of(alloc: Global, stream: &[u8], disks: Vec<TestDisk>) -> u8 {
 }
 
 /// The number of the refusal of a stream that is fed in pieces of so many bytes, or 0 where it is received; and how many
-/// bytes were fed then.
+/// bytes were fed then. It fails where a receiver that refused a piece does not refuse all that comes behind it.
 pub fn refusal_in_pieces(
     alloc: Global,
     stream: &[u8],
     disks: Vec<TestDisk>,
     size: usize,
-) -> (u8, usize) {
+) -> Result<(u8, usize)> {
     let mut receiver = Receiver::new(alloc, disks);
     let mut fed = 0usize;
     for piece in stream.chunks(size.max(1)) {
         fed = fed.saturating_add(piece.len());
         if let Err(error) = receiver.feed(piece) {
-            return (error.code(), fed);
+            stays_refused(receiver)?;
+            return Ok((error.code(), fed));
         }
     }
     let refusal = receiver.finish().err();
-    (refusal.map_or(0, RecvError::code), fed)
+    Ok((refusal.map_or(0, RecvError::code), fed))
+}
+
+/// Fails where a receiver takes anything more.
+fn stays_refused(mut receiver: Receiver<TestDisk>) -> Result<()> {
+    let fed = receiver.feed(&[0]).err().map_or(0, RecvError::code);
+    let rounds = receiver.rounds();
+    let finished = receiver.finish().err().map_or(0, RecvError::code);
+    ensure!(
+        (fed, rounds, finished) == (REFUSED_BEFORE, 0, REFUSED_BEFORE),
+        "behind a refusal"
+    );
+    Ok(())
 }

@@ -1,0 +1,204 @@
+//! Machines that are sent while they run.
+
+use crate::disks::TestDisk;
+use crate::leg::Leg;
+use crate::live_replies::write_live_reply;
+use crate::playing::{are_lines, plays_on};
+use crate::sameness::are_same;
+use crate::serving::{Served, Way};
+use crate::stream::{PIECES, arrived, arrived_in_pieces};
+use anyhow::{Context, Result, ensure};
+use books::{Book, Scenario, spelled};
+use machine::Machine;
+use sender::{LiveEvent, LiveReply};
+use std::alloc::Global;
+
+/// A migration: the lines of a script among which the machine is sent. A line `ABORT` stands where the host gives up, and
+/// begins again with a writer that fails only where a line says so.
+///
+/// Behind them may stand a line `sent as`, with the stream that they end in; a line `then`, with events that the machine
+/// and what arrived answer alike; or a line `counted`: then the stream is too long to be received here.
+#[derive(Drop)]
+pub struct Migration<'t> {
+    legs: Vec<Leg>,
+    stream: &'t str,
+    after: &'t str,
+    is_counted: bool,
+}
+
+/// Shows a scenario of a book of migrations: the replies are as its lines say, by single calls and by the list, which write
+/// the same bytes. Where a stop closed the stream, what is received in pieces of any size is the machine, and so is a machine
+/// to which the same happened but for the migration. They stay the same.
+pub fn show(alloc: Global, book: &Book, scenario: &Scenario) -> Result<()> {
+    let text = book.text(alloc, scenario)?;
+    let migration = Migration::read(alloc, text.as_str())?;
+    for at in 0..migration.legs.len() {
+        migration.is_answered(alloc, at)?;
+    }
+    if migration.is_counted {
+        return Ok(());
+    }
+    migration.arrives(alloc)
+}
+
+impl<'t> Migration<'t> {
+    /// The migration of a text.
+    fn read(alloc: Global, text: &'t str) -> Result<Migration<'t>> {
+        let (text, is_counted) = match text.split_once("counted\n") {
+            Some((text, _)) => (text, true),
+            None => (text, false),
+        };
+        let (text, after) = text.split_once("then\n").unwrap_or((text, ""));
+        let (text, stream) = text.split_once("sent as\n").unwrap_or((text, ""));
+        let mut legs = Vec::new(alloc);
+        for lines in text.split("ABORT\n") {
+            legs.push(Leg::read(alloc, lines)?)?;
+        }
+        Ok(Migration {
+            legs,
+            stream,
+            after,
+            is_counted,
+        })
+    }
+
+    fn first(&self) -> Result<&Leg> {
+        self.legs.first().context("no lines")
+    }
+
+    /// What is there after so many events of a leg.
+    fn serve(&self, alloc: Global, way: Way, at: usize, events: usize) -> Result<Served> {
+        let mut machine = self.first()?.machine(alloc)?;
+        for leg in self.legs.iter().take(at) {
+            machine = leg.play(alloc, way, machine, leg.events().len())?.machine;
+        }
+        let leg = self.legs.get(at).context("no such lines")?;
+        leg.play(alloc, way, machine, events)
+    }
+
+    /// Fails where a leg is not answered as its lines say, by calls and by the list.
+    fn is_answered(&self, alloc: Global, at: usize) -> Result<()> {
+        let leg = self.legs.get(at).context("no such lines")?;
+        let all = leg.events().len();
+        let mut served = self.serve(alloc, Way::Calls, at, all)?;
+        let mut lines = Vec::new(alloc);
+        for (events, reply) in served.replies.iter().enumerate() {
+            self.answer(alloc, at, events, &mut lines)?;
+            write_live_reply(reply, &mut lines)?;
+        }
+        leg.answer(&mut served, all, &mut lines)?;
+        are_lines(lines.as_slice(), leg.lines())?;
+        if self.is_counted {
+            return Ok(());
+        }
+        let listed = self.serve(alloc, Way::List, at, all)?;
+        ensure!(listed.replies == served.replies, "other replies");
+        ensure!(listed.written == served.written, "other bytes");
+        Ok(())
+    }
+
+    /// Answers what is asked in the midst of a leg. The machine that is asked is not sent further.
+    fn answer(&self, alloc: Global, at: usize, events: usize, out: &mut Vec<u8>) -> Result<()> {
+        let leg = self.legs.get(at).context("no such lines")?;
+        if !leg.asks(events) {
+            return Ok(());
+        }
+        let mut served = self.serve(alloc, Way::Calls, at, events)?;
+        leg.answer(&mut served, events, out)
+    }
+
+    /// Fails where another machine arrives.
+    fn arrives(&self, alloc: Global) -> Result<()> {
+        let last = self.legs.len().saturating_sub(1);
+        let Served {
+            mut machine,
+            replies,
+            written,
+            remaining: _,
+        } = self.serve(alloc, Way::Calls, last, usize::MAX)?;
+        let mut alone = self.machine_alone(alloc)?;
+        are_same(alloc, &mut machine, &mut alone).context("alone")?;
+        let mut listed = self.serve(alloc, Way::List, last, usize::MAX)?.machine;
+        are_same(alloc, &mut machine, &mut listed).context("by the list")?;
+        let Some(rounds) = rounds_of(replies.as_slice()) else {
+            return Ok(());
+        };
+        self.is_sent_as(alloc, written.as_slice())?;
+        for size in PIECES {
+            let mut copy = arrived_in_pieces(alloc, written.as_slice(), rounds, size)?;
+            are_same(alloc, &mut machine, &mut copy).context("in pieces")?;
+        }
+        let copy = arrived(alloc, written.as_slice(), rounds)?;
+        self.go_on(alloc, machine, copy, alone)
+    }
+
+    fn is_sent_as(&self, alloc: Global, written: &[u8]) -> Result<()> {
+        if self.stream.is_empty() {
+            return Ok(());
+        }
+        let stream = spelled(alloc, self.stream)?;
+        ensure!(stream.as_slice() == written, "sent otherwise");
+        Ok(())
+    }
+
+    /// The machine after the same but for the migration.
+    fn machine_alone(&self, alloc: Global) -> Result<Machine<TestDisk>> {
+        let mut machine = self.first()?.machine_alone(alloc)?;
+        for (at, leg) in self.legs.iter().enumerate() {
+            let served = self.serve(alloc, Way::Calls, at, usize::MAX)?;
+            for (event, reply) in leg.events().iter().zip(served.replies.iter()) {
+                answers_alike(&mut machine, event, reply)?;
+            }
+        }
+        Ok(machine)
+    }
+
+    /// Plays what comes then on the machine, on what arrived and on the machine that was not sent.
+    fn go_on(
+        &self,
+        alloc: Global,
+        mut machine: Machine<TestDisk>,
+        mut copy: Machine<TestDisk>,
+        mut alone: Machine<TestDisk>,
+    ) -> Result<()> {
+        are_same(alloc, &mut machine, &mut copy).context("as it arrived")?;
+        plays_on(alloc, &mut machine, self.after).context("the source, then")?;
+        plays_on(alloc, &mut copy, self.after).context("what arrived, then")?;
+        plays_on(alloc, &mut alone, self.after).context("alone, then")?;
+        are_same(alloc, &mut machine, &mut copy).context("what arrived, in the end")?;
+        are_same(alloc, &mut machine, &mut alone).context("alone, in the end")
+    }
+}
+
+/// Applies an event of the guest that was answered.
+fn answers_alike(
+    machine: &mut Machine<TestDisk>,
+    event: &LiveEvent,
+    reply: &LiveReply,
+) -> Result<()> {
+    if let (LiveEvent::Guest(event), LiveReply::Guest(reply)) = (event, reply) {
+        ensure!(
+            machine.apply(event) == *reply,
+            "another reply where nothing is sent"
+        );
+    }
+    Ok(())
+}
+
+/// How many rounds ended, where a stop closed the stream.
+fn rounds_of(replies: &[LiveReply]) -> Option<u32> {
+    let mut round = 0u32;
+    let mut is_stopped = false;
+    for reply in replies {
+        match reply {
+            LiveReply::Begun(number) => round = *number,
+            LiveReply::Stopped { .. } => is_stopped = true,
+            _ => {}
+        }
+    }
+    if is_stopped {
+        Some(round.saturating_sub(1))
+    } else {
+        None
+    }
+}

@@ -1,0 +1,158 @@
+//! Live events, played.
+
+use crate::disks::TestDisk;
+use anyhow::{Result, bail, ensure};
+use machine::Machine;
+use sender::{CopyAnswer, End, Live, LiveEvent, LiveReply, Remaining, Replay, Stopped, replay};
+use std::alloc::Global;
+use wire::Sink;
+
+/// How live events are played.
+#[derive(Clone, Copy, Debug, PartialEq, Eq)]
+pub enum Way {
+    /// By a call for each.
+    Calls,
+
+    /// As a list.
+    List,
+}
+
+/// What is there after live events.
+#[derive(Drop)]
+pub struct Served {
+    /// The machine.
+    pub machine: Machine<TestDisk>,
+
+    /// What each event was answered.
+    pub replies: Vec<LiveReply>,
+
+    /// What was written, where the writer does not fail.
+    pub written: Vec<u8>,
+
+    /// How many items are still to be sent, where the events were played by calls.
+    pub remaining: Option<Remaining>,
+}
+
+/// Plays the events in a way. The bytes written are left to the writer.
+pub fn serve<W: Sink + Drop>(
+    alloc: Global,
+    way: Way,
+    machine: Machine<TestDisk>,
+    events: &[LiveEvent],
+    writer: W,
+) -> Result<(Served, W)> {
+    match way {
+        Way::Calls => serve_calls(alloc, machine, events, writer),
+        Way::List => serve_list(alloc, machine, events, writer),
+    }
+}
+
+/// Plays the events in a way, and gives up.
+pub fn serve_and_abort<W: Sink + Drop>(
+    alloc: Global,
+    way: Way,
+    machine: Machine<TestDisk>,
+    events: &[LiveEvent],
+    writer: W,
+) -> Result<Served> {
+    match way {
+        Way::Calls => {
+            let (live, replies) = play_calls(alloc, machine, events, writer)?;
+            let remaining = Some(live.remaining());
+            Ok(outcome(alloc, live.abort(), replies, remaining))
+        }
+        Way::List => Ok(serve_list(alloc, machine, events, writer)?.0),
+    }
+}
+
+fn serve_calls<W: Sink + Drop>(
+    alloc: Global,
+    machine: Machine<TestDisk>,
+    events: &[LiveEvent],
+    writer: W,
+) -> Result<(Served, W)> {
+    let (live, replies) = play_calls(alloc, machine, events, writer)?;
+    let remaining = Some(live.remaining());
+    let (machine, writer) = live.into_parts();
+    Ok((outcome(alloc, machine, replies, remaining), writer))
+}
+
+/// What a call for each event answers, and the machine on its way.
+fn play_calls<W: Sink + Drop>(
+    alloc: Global,
+    machine: Machine<TestDisk>,
+    events: &[LiveEvent],
+    writer: W,
+) -> Result<(Live<TestDisk, W>, Vec<LiveReply>)> {
+    let Ok(mut live) = Live::new(alloc, machine, writer) else {
+        bail!("no memory");
+    };
+    let mut replies = Vec::new(alloc);
+    for event in events {
+        replies.push(answer(&mut live, event))?;
+    }
+    Ok((live, replies))
+}
+
+fn outcome(
+    alloc: Global,
+    machine: Machine<TestDisk>,
+    replies: Vec<LiveReply>,
+    remaining: Option<Remaining>,
+) -> Served {
+    Served {
+        machine,
+        replies,
+        written: Vec::new(alloc),
+        remaining,
+    }
+}
+
+fn serve_list<W: Sink + Drop>(
+    alloc: Global,
+    machine: Machine<TestDisk>,
+    events: &[LiveEvent],
+    writer: W,
+) -> Result<(Served, W)> {
+    let Replay {
+        machine,
+        out,
+        replies,
+    } = replay(alloc, machine, events, writer);
+    ensure!(replies.len() == events.len(), "no memory");
+    Ok((outcome(alloc, machine, replies, None), out))
+}
+
+/// What the call for an event answers.
+fn answer<W: Sink>(live: &mut Live<TestDisk, W>, event: &LiveEvent) -> LiveReply {
+    let answered = match event {
+        LiveEvent::Guest(event) => live.apply(event).map(LiveReply::Guest),
+        LiveEvent::Begin => live.begin().map(LiveReply::Begun),
+        LiveEvent::Copy => live.copy().map(of_copy),
+        LiveEvent::EndRound => live.end_round().map(of_end),
+        LiveEvent::Stop => live.stop().map(of_stop),
+    };
+    match answered {
+        Ok(reply) => reply,
+        Err(error) => LiveReply::Mig(error),
+    }
+}
+
+fn of_copy(answer: CopyAnswer) -> LiveReply {
+    match answer {
+        CopyAnswer::Copied(item) => LiveReply::Copied(item),
+        CopyAnswer::RoundDone => LiveReply::RoundDone,
+    }
+}
+
+fn of_end(answer: End) -> LiveReply {
+    match answer {
+        End::Begun(round) => LiveReply::Begun(round),
+        End::RoundOpen => LiveReply::RoundOpen,
+    }
+}
+
+fn of_stop(answer: Stopped) -> LiveReply {
+    let Stopped { pages, sectors } = answer;
+    LiveReply::Stopped { pages, sectors }
+}
