@@ -28,7 +28,6 @@ use Rattle.sender.specs.declared.mig_error.MigError.TheVariants as errors
 use Rattle.sender.specs.declared.event.LiveReply.{LiveReply}
 use Rattle.sender.specs.declared.event.LiveReply.TheVariants as r
 use Rattle.sender.proofs.Fresh.{told}
-use Rattle.sender.proofs.Living.{going}
 use Rattle.sender.proofs.Following.{IsLogged, quiet_done, quiet_open, quiet_unread, quiet_follows, refused_follows, guest_follows, begin_follows, open_if, agree_open, copied_follows, none_due, round_follows, failed_follows, sector_number, short_follows, stopped_follows}
 use Rattle.sender.proofs.SectorReads.{honest_at}
 use Rattle.sender.proofs.Stopping.{due_below, lt_or_le}

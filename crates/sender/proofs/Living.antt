@@ -16,7 +16,7 @@ use Rattle.machine.specs.declared.event.Event.{Event}
 use Rattle.machine.specs.declared.reply.Reply.{Reply}
 use Rattle.machine.proofs.Numbering.{in_layout, number_below, same_layout}
 use Rattle.wire.specs.Sinks.{SinkState}
-use Rattle.sender.specs.Calls.{AfterGuest, EndsRound, Serves, with_items}
+use Rattle.sender.specs.Calls.{EndsRound, Serves, with_items}
 use Rattle.sender.specs.Dirty.{HasFirst, after_taking, may_take}
 use Rattle.sender.specs.LiveState.{LiveSeen, last_round, refusal_for}
 use Rattle.sender.specs.Stopping.{IsLive, RoundFits}

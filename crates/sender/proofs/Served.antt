@@ -1,13 +1,12 @@
 -- What the calls of a machine that is sent leave.
-use Rattle.std.proofs.Common.{◌≡◌, ℕ, Bool, true, false, eqb, List, [], ◌∷◌, ◌++◌, length, map, set, None, refl, sym, ap, ◌∙◌, append_assoc, append-nil}
-use Rattle.std.specs.Prelude.{◌↔◌, Ok, Err}
-use Rattle.std.proofs.lemmas.Bool.{eqb-true, eq-eqb}
+use Rattle.std.proofs.Common.{◌≡◌, ℕ, Bool, false, List, [], ◌∷◌, ◌++◌, map, set, None, refl, sym, ap, ◌∙◌, append_assoc, append-nil}
+use Rattle.std.specs.Prelude.{Ok, Err}
 use Rattle.sha2.specs.Hashers.{Holds256}
 use Rattle.sha2.specs.Sha256.{sha256}
 use Rattle.sha2.specs.declared.Sha256.{Sha256}
 use Rattle.guestmem.specs.Item as items
-use Rattle.machine.specs.Layout.{firsts_of, item_at, layout_of, pages_of, size_of}
-use Rattle.machine.specs.Seen.{Seen, state_of}
+use Rattle.machine.specs.Layout.{item_at, layout_of, pages_of}
+use Rattle.machine.specs.Seen.{Seen}
 use Rattle.machine.specs.State.{DeviceState, MachineState}
 use Rattle.machine.specs.declared.shape.Shape.{Shape}
 use Rattle.wire.specs.Header.{header}

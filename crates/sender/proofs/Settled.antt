@@ -1,9 +1,8 @@
 -- The machine after a history is that of a run, and events and replies settle it.
-use Rattle.std.proofs.Common.{◌≡◌, ℕ, List, [], ◌∷◌, ◌++◌, length, map, inl, inr, refl, ap, sym, subst, ◌∙◌, arith}
-use Rattle.machine.specs.Effect.{Effect, no_effect}
+use Rattle.std.proofs.Common.{◌≡◌, List, [], ◌∷◌, length, inl, inr, refl, ap, sym, subst, ◌∙◌, arith}
+use Rattle.machine.specs.Effect.{Effect}
 use Rattle.machine.specs.Layout.{layout_of}
 use Rattle.machine.specs.Outcome.{outcome_of}
-use Rattle.machine.specs.Run.{IsRun}
 use Rattle.machine.specs.State.{MachineState}
 use Rattle.machine.specs.Step.{HasEffect}
 use Rattle.machine.specs.declared.event.Event.{Event}

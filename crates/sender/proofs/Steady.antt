@@ -1,5 +1,5 @@
 -- A reply that tells of a failed disk names one that is not steady, and steady disks stay so.
-use Rattle.std.proofs.Common.{◌≡◌, ℕ, zero, suc, ◌<◌, List, [], ◌∷◌, ◌++◌, length, Bool, true, false, cond, refl, ap, sym, ◌∙◌, subst, inl, inr, arith}
+use Rattle.std.proofs.Common.{◌≡◌, ℕ, zero, suc, List, [], ◌∷◌, ◌++◌, length, Bool, true, false, cond, refl, ap, sym, ◌∙◌, subst, inl, inr, arith}
 use Rattle.machine.specs.Applied.{FailsOnlyUnsteady, marks_after}
 use Rattle.machine.specs.Outcome.{is_failure}
 use Rattle.machine.specs.Seen.{Marks, Seen, all_marks, failed_at, marks_at}

@@ -6,7 +6,7 @@ use Rattle.sha2.specs.Hashers.{Holds256}
 use Rattle.guestmem.specs.Item as items
 use Rattle.guestmem.specs.Item.{Item}
 use Rattle.machine.specs.Layout.{Layout, layout_of, number_of, size_of}
-use Rattle.machine.specs.Seen.{AreHonest, all_marks}
+use Rattle.machine.specs.Seen.{AreHonest}
 use Rattle.machine.specs.State.{MachineState}
 use Rattle.machine.specs.declared.event.Event.{Event}
 use Rattle.machine.proofs.Numbering.{either_way, same_layout}
@@ -26,7 +26,7 @@ use Rattle.sender.specs.declared.mig_error.MigError.TheVariants as errors
 use Rattle.sender.specs.declared.event.LiveReply.{LiveReply}
 use Rattle.sender.specs.declared.event.LiveReply.TheVariants as r
 use Rattle.sender.proofs.Following.{NamesNone, quiet_mig, open_if, agree_open, sector_number}
-use Rattle.sender.proofs.Going.{chosen_same, honest_for}
+use Rattle.sender.proofs.Going.{chosen_same}
 
 abbrev pub is_stopped : LiveReply → Bool
 is_stopped (r.Stopped pages sectors) = true

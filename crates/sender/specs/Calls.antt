@@ -1,5 +1,5 @@
 -- What the calls of a machine that is sent do, one by one.
-use Rattle.std.specs.Prelude.{◌≡◌, ℕ, ◌+◌, ◌<◌, ◌≤◌, ◌++◌, ◌%◌, ◌^◌, ◌||◌, ◌⊎◌, List, [], ◌∷◌, replicate, Bool, true, false, IsTrue, Result, Ok, Err, slice_set, MatchOption}
+use Rattle.std.specs.Prelude.{◌≡◌, ℕ, ◌+◌, ◌<◌, ◌≤◌, ◌++◌, ◌%◌, ◌^◌, ◌||◌, List, [], ◌∷◌, replicate, Bool, true, false, IsTrue, Result, Ok, Err, slice_set, MatchOption}
 use Rattle.dirtylog.specs.Members.{HasNone, IsLeast, has}
 use Rattle.sha2.specs.Hashers.{Holds256}
 use Rattle.guestmem.specs.Item as items

@@ -1,6 +1,5 @@
-use Rattle.std.proofs.Common.{false, replicate, length, refl, ap, sym, ◌∙◌, arith}
+use Rattle.std.proofs.Common.{false, replicate, length, refl, ap, sym, ◌∙◌}
 use Rattle.std.proofs.lemmas.List.{length-replicate}
-use Rattle.sender.specs.declared.event.LiveEvent.TheVariants.{EndRound}
 use Rattle.sender.proofs.Living.{live_again, live_begun, round_fits, served_round}
 use Rattle.sender.proofs.Served.{wrote_by}
 use Rattle.sender.proofs.live.Live.end_round.Goals as goal

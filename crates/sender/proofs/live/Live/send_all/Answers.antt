@@ -1,4 +1,4 @@
-use Rattle.std.proofs.Common.{◌≡◌, ◌<◌, length, subst, sym, ◌∙◌, arith}
+use Rattle.std.proofs.Common.{◌≡◌, length, subst, sym, ◌∙◌, arith}
 use Rattle.machine.specs.Layout.{pages_of}
 use Rattle.sender.specs.LiveState.{LiveSeen, now}
 use Rattle.sender.proofs.Stopping.{all_along, along_first, along_more, along_past, few_counted, inside, short_of}
