@@ -10,7 +10,8 @@ pub use receiver::laws::{
     saved_is_received,
 };
 pub use sender::laws::{
-    after_is_run, calls_follow, fresh_is_last, replies_settle, stale_is_not_fresh, stopped_is_a_stream,
+    after_is_run, calls_follow, fresh_is_last, replies_settle, stale_is_not_fresh,
+    stopped_is_a_stream,
 };
 pub use traces::laws::texts_are_read_in_one_way;
 pub use wire::laws::{
