@@ -46,6 +46,7 @@ pub record SoFar (m : MachineState) (out : SinkState) (es : List LiveEvent) (rep
 pub ran_none : (m n : MachineState) (es : List LiveEvent) (replies : List LiveReply) (old new : SinkState) → replies ≡ [] → n ≡ m → new ≡ old → Ran m es replies old n new
 ran_none m n es replies old new none same out = record {
   effects = [];
+  as_many = rw none refl;
   leaves = rw (none, onward_none nothing es []) (record {
     machine = same;
     allowed = tt;
@@ -94,6 +95,7 @@ not_faulty m h out s g is = elim (either_way (has_fault h)) as (λ _. has_fault 
 pub ran : (m n : MachineState) (es all : List LiveEvent) (replies : List LiveReply) (out new : SinkState) (s : LiveSeen) → es ≡ all → IsSound m → n ≡ now s → new ≡ s.out → SoFar m out es replies s → Ran m all replies out n new
 ran m n es all replies out new s e sound same sink g = rw (← e) (record {
   effects = g.effects;
+  as_many = g.as_many;
   leaves = record {
     machine = same ∙ g.relates.follows.machine;
     allowed = g.relates.allowed;

@@ -27,9 +27,10 @@ pub record Leaves (m : MachineState) (h : History) (old : SinkState) (last : Mac
   pub held : has_fault h ≡ false → IsTrue old.honest → IsTrue new.honest × (new.held ≡ old.held ++ text m h)
   pub stream : phase_of h ≡ phases.Stopped → (has_fault h ≡ false) × IsStream (text m h) last
 
--- These events were answered so, and each changed in the machine what its step says.
+-- These events were answered so, and each changed in the machine what its step says: there is an effect for each reply.
 pub record Ran (m : MachineState) (events : List LiveEvent) (replies : List LiveReply) (old : SinkState) (last : MachineState) (new : SinkState) : Type 0 where
   pub effects : List Effect
+  pub as_many : length effects ≡ length replies
   pub leaves : Leaves m (onward nothing events replies effects) old last new
 
 -- Each event was answered, or none was, where memory was refused.
