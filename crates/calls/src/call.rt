@@ -1,6 +1,7 @@
 //! Calls of the program.
 
-use crate::text::{read_trace, text_of};
+use crate::moved::move_run;
+use crate::text::{read_events, read_trace, text_of};
 use anyhow::{Context, Result, bail, ensure};
 use books::spelled;
 use std::fs;
@@ -11,7 +12,8 @@ use vmig::execute;
 /// -> STATUS; OUT; ERR` calls the program on these words; it must end so, and write these texts to standard output and
 /// standard error. `PLAY NAME` runs the trace NAME.trace, whose replies must be NAME.replies, and `PLAY NAME IMAGE` does so
 /// over an image. `HOLDS NAME WORDS` finds the bytes that these words spell in a file, and no others. `TRACE TEXT -> NUMBER`
-/// reads a text as a trace, whose first bad line has this number, or which is one for 0. How a text is written, `text` says.
+/// reads a text as a trace, whose first bad line has this number, or which is one for 0, and `EVENTS TEXT -> NUMBER` as events
+/// alone. How a text is written, `text` says.
 pub fn make_calls(rt: &HostRuntime, lines: &str) -> Result<()> {
     for line in lines.lines() {
         make_call(rt, line).context(line)?;
@@ -29,7 +31,9 @@ fn make_call(rt: &HostRuntime, line: &str) -> Result<()> {
         "HOLDS" => holds(rt, words),
         "CALL" => call(rt, words),
         "PLAY" => play(rt, words),
+        "MOVE" => move_run(rt, words),
         "TRACE" => read_trace(rt.alloc(), words),
+        "EVENTS" => read_events(rt.alloc(), words),
         _ => bail!("no such line"),
     }
 }

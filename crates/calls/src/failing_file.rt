@@ -1,8 +1,9 @@
-//! A trace's file that fails as it is read.
+//! Files that fail: one that is read, at any byte, and an image that is written to.
 
 ghost use Rattle.std.specs.Prelude.{IsErr};
 
 use anyhow::{Result, ensure};
+use books::spelled;
 use std::alloc::{Allocator, Global};
 use std::fs::{Metadata, OpenFile, OpenOptions};
 use std::io;
@@ -10,19 +11,31 @@ use std::io::{ErrorKind, Read, Seek, SeekFrom, Write};
 use std::rt::Files;
 use vmig::execute;
 
-/// The text of each file.
+/// A trace.
 const TEXT: &[u8] = b"ram 1\nentropy\nmr 0 1\n";
 
-/// Files of one text, whose reads fail once so many bytes were read.
+/// The stream of a machine with one page and a disk of one sector.
+const DISK_STREAM: &str = concat!(
+    "564d4947 01000000 01000000 01000000 02 0100000000000000 00 41*20 01 00000000 00*4096 ",
+    "02 00 00000000 01 aa*512 04 00 3f000000 00*58 01 0000 01 00 05 ",
+    "9d4a8d1db3dafdcba47759418e428aa7e1e519094d1af665356527fca2914dd9"
+);
+
+/// Of the places in a stream at which a read may fail, one in so many is tried.
+const SELDOM: usize = 64;
+
+/// Files that hold these bytes each. A read of the first of them fails once so many of its bytes were read. Every write fails.
 #[derive(Drop)]
 struct Failing<'r> {
     rt: &'r HostRuntime,
+    files: &'r [(&'r str, &'r [u8])],
     after: usize,
     kind: ErrorKind,
 }
 
 #[derive(Drop)]
-struct FailingFile {
+struct FailingFile<'r> {
+    held: &'r [u8],
     at: usize,
     after: usize,
     kind: ErrorKind,
@@ -34,14 +47,18 @@ fn refused<T>() -> io::Result<T>
     Err(io::Error::from(ErrorKind::Unsupported))
 }
 
-impl Read for FailingFile {
+impl Read for FailingFile<'_> {
     fn read(&mut self, buf: &mut [u8]) -> io::Result<usize> {
         if self.at >= self.after {
             return Err(io::Error::from(self.kind));
         }
-        let left = TEXT.len().saturating_sub(self.at);
+        let left = self.held.len().saturating_sub(self.at);
         let count = buf.len().min(left).min(self.after - self.at).min(5);
-        for (to, from) in buf.iter_mut().zip(TEXT.iter().skip(self.at)).take(count) {
+        for (to, from) in buf
+            .iter_mut()
+            .zip(self.held.iter().skip(self.at))
+            .take(count)
+        {
             *to = *from;
         }
         self.at += count;
@@ -49,7 +66,7 @@ impl Read for FailingFile {
     }
 }
 
-impl Write for FailingFile {
+impl Write for FailingFile<'_> {
     fn write(&mut self, _buf: &[u8]) -> io::Result<usize> {
         refused()
     }
@@ -59,13 +76,17 @@ impl Write for FailingFile {
     }
 }
 
-impl Seek for FailingFile {
-    fn seek(&mut self, _to: SeekFrom) -> io::Result<u64> {
-        refused()
+impl Seek for FailingFile<'_> {
+    fn seek(&mut self, to: SeekFrom) -> io::Result<u64> {
+        match to {
+            SeekFrom::Start(at) => Ok(at),
+            SeekFrom::End(_) => Ok(self.held.len() as u64),
+            SeekFrom::Current(_) => refused(),
+        }
     }
 }
 
-impl OpenFile for FailingFile {
+impl OpenFile for FailingFile<'_> {
     fn metadata(&self) -> io::Result<Metadata> {
         refused()
     }
@@ -91,20 +112,26 @@ impl Alloc for Failing<'_> {
     }
 }
 
-impl Files for Failing<'_> {
-    type File = FailingFile;
+impl<'r> Files for Failing<'r> {
+    type File = FailingFile<'r>;
 
-    type Dir = FailingFile;
+    type Dir = FailingFile<'r>;
 
-    fn open_file(&self, _how: &OpenOptions, _path: &str) -> io::Result<FailingFile> {
-        Ok(FailingFile {
-            at: 0,
-            after: self.after,
-            kind: self.kind,
-        })
+    fn open_file(&self, _how: &OpenOptions, path: &str) -> io::Result<FailingFile<'r>> {
+        for (place, (name, held)) in self.files.iter().enumerate() {
+            if *name == path {
+                return Ok(FailingFile {
+                    held,
+                    at: 0,
+                    after: if place == 0 { self.after } else { usize::MAX },
+                    kind: self.kind,
+                });
+            }
+        }
+        refused()
     }
 
-    fn open_dir(&self, _path: &str) -> io::Result<FailingFile> {
+    fn open_dir(&self, _path: &str) -> io::Result<FailingFile<'r>> {
         refused()
     }
 
@@ -141,28 +168,101 @@ impl Files for Failing<'_> {
     }
 }
 
-/// A read that fails names the file, and one that was refused memory says so, wherever in the file it is.
+/// Goes through all of it.
 pub fn fails(rt: &HostRuntime) -> Result<()> {
+    trace_fails(rt)?;
+    stream_fails(rt)?;
+    image_fails(rt)
+}
+
+/// A read that fails names the file, and one that was refused memory says so, wherever in the file it is.
+fn trace_fails(rt: &HostRuntime) -> Result<()> {
+    let words = ["run", "some.trace"];
+    let files = [("some.trace", TEXT)];
     for after in 0..=TEXT.len() {
+        let named: End = (3, b"vmig: file some.trace\n");
         is_told(
-            rt,
-            after,
-            ErrorKind::PermissionDenied,
-            (3, b"vmig: file some.trace\n"),
+            &failing_files(rt, &files, after, ErrorKind::PermissionDenied),
+            &words,
+            named,
         )?;
-        is_told(rt, after, ErrorKind::OutOfMemory, (1, b"vmig: memory\n"))?;
+        let memory: End = (1, b"vmig: memory\n");
+        is_told(
+            &failing_files(rt, &files, after, ErrorKind::OutOfMemory),
+            &words,
+            memory,
+        )?;
     }
     Ok(())
 }
 
-fn is_told(rt: &HostRuntime, after: usize, kind: ErrorKind, expected: (u8, &[u8])) -> Result<()> {
-    let files = Failing { rt, after, kind };
-    let mut out: Vec<u8> = Vec::new(rt.alloc());
-    let mut err: Vec<u8> = Vec::new(rt.alloc());
-    let status = execute(&files, &["run", "some.trace"], &mut out, &mut err);
+/// The same of a stream that is fed as it is read.
+fn stream_fails(rt: &HostRuntime) -> Result<()> {
+    let words = ["resume", "some.stream", "no.trace"];
+    let stream = spelled(rt.alloc(), "FRESH")?;
+    let files = [
+        ("some.stream", stream.as_slice()),
+        ("no.trace", b"".as_slice()),
+    ];
+    for after in 0..=stream.len() {
+        if after % SELDOM != 0 && after != stream.len() {
+            continue;
+        }
+        let named: End = (3, b"vmig: file some.stream\n");
+        is_told(
+            &failing_files(rt, &files, after, ErrorKind::PermissionDenied),
+            &words,
+            named,
+        )?;
+        let memory: End = (1, b"vmig: memory\n");
+        is_told(
+            &failing_files(rt, &files, after, ErrorKind::OutOfMemory),
+            &words,
+            memory,
+        )?;
+    }
+    Ok(())
+}
+
+/// An image that fails as a sector of a stream is written to it is a refusal of the stream.
+fn image_fails(rt: &HostRuntime) -> Result<()> {
+    let words = ["resume", "some.stream", "no.trace", "--disk", "some.img"];
+    let stream = spelled(rt.alloc(), DISK_STREAM)?;
+    let files = [
+        ("some.stream", stream.as_slice()),
+        ("no.trace", b"".as_slice()),
+        ("some.img", [0u8; 512].as_slice()),
+    ];
+    let files = failing_files(rt, &files, usize::MAX, ErrorKind::PermissionDenied);
+    is_told(&files, &words, (5, b"vmig: stream 14\n"))
+}
+
+/// How a call ends: its exit status, and what it writes to standard error.
+type End = (u8, &'static [u8]);
+
+fn failing_files<'r>(
+    rt: &'r HostRuntime,
+    files: &'r [(&'r str, &'r [u8])],
+    after: usize,
+    kind: ErrorKind,
+) -> Failing<'r> {
+    Failing {
+        rt,
+        files,
+        after,
+        kind,
+    }
+}
+
+fn is_told(files: &Failing<'_>, words: &[&str], expected: End) -> Result<()> {
+    let alloc = files.rt.alloc();
+    let mut out: Vec<u8> = Vec::new(alloc);
+    let mut err: Vec<u8> = Vec::new(alloc);
+    let status = execute(files, words, &mut out, &mut err);
     ensure!(
         status == expected.0 && err.as_slice() == expected.1 && out.is_empty(),
-        "after {after}"
+        "after {}",
+        files.after
     );
     Ok(())
 }

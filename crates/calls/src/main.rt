@@ -4,6 +4,7 @@
 
 mod call;
 mod failing_file;
+mod moved;
 mod narrow;
 mod text;
 

@@ -2,7 +2,7 @@
 
 use anyhow::{Context, Result, bail, ensure};
 use std::alloc::Global;
-use vmig::{TraceError, parse};
+use vmig::{TraceError, parse, parse_events};
 
 /// The text that is written so.
 pub fn text_of(alloc: Global, written: &str) -> Result<String> {
@@ -13,13 +13,27 @@ pub fn text_of(alloc: Global, written: &str) -> Result<String> {
 
 /// Reads the text before ` -> ` as a trace, whose first bad line has the number behind it, or which is one for 0.
 pub fn read_trace(alloc: Global, words: &str) -> Result<()> {
+    let (text, number) = text_and_number(alloc, words)?;
+    has_bad_line(parse(alloc, text.as_bytes()), number)
+}
+
+/// The same of a text that is to be events alone.
+pub fn read_events(alloc: Global, words: &str) -> Result<()> {
+    let (text, number) = text_and_number(alloc, words)?;
+    has_bad_line(parse_events(alloc, text.as_bytes()), number)
+}
+
+fn text_and_number(alloc: Global, words: &str) -> Result<(String, u64)> {
     let (written, number) = words.split_once(" -> ").context("no number")?;
-    let text = text_of(alloc, written)?;
-    let line = match parse(alloc, text.as_bytes()) {
+    Ok((text_of(alloc, written)?, number.parse::<u64>()?))
+}
+
+fn has_bad_line<T: Drop>(read: Result<T, TraceError>, number: u64) -> Result<()> {
+    let line = match read {
         Ok(_) => 0,
         Err(TraceError::Line(line)) => line,
         Err(error) => bail!("{error}"),
     };
-    ensure!(line == number.parse::<u64>()?, "{line}");
+    ensure!(line == number, "{line}");
     Ok(())
 }

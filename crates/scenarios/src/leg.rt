@@ -1,7 +1,6 @@
 //! A part of a migration: what happens while one writer is written to.
 
 use crate::disks::{TestDisk, disks_alone, disks_of};
-use crate::live_trace::{LiveTrace, parse_live};
 use crate::playing::answer_of_machine;
 use crate::serving::{Served, Way, serve, serve_and_abort};
 use anyhow::{Context, Result};
@@ -10,13 +9,14 @@ use machine::Machine;
 use sender::{LiveEvent, LiveReply, MigError};
 use std::alloc::Global;
 use std::io::Write;
+use traces::{Trace, parse};
 use wire::WriteSink;
 
 /// A part of a migration. It ends where the host gives up, or with the text.
 #[derive(Drop)]
 pub struct Leg {
     script: Script,
-    trace: LiveTrace,
+    trace: Trace,
 }
 
 impl Leg {
@@ -28,7 +28,7 @@ impl Leg {
             script.add("ram 1\nentropy")?;
         }
         script.add(lines)?;
-        let trace = parse_live(alloc, script.trace())?;
+        let trace = parse(alloc, script.trace())?;
         Ok(Leg { script, trace })
     }
 

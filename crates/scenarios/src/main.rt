@@ -3,7 +3,7 @@
 //!
 //! What the lines of a book are, the folder says that it is in: `scripts` are machines and what happens to them, `streams`
 //! are machines that are saved and streams that are refused (`journey`, `refusal`), `migrations` are machines that are sent
-//! while they run (`migration`).
+//! while they run (`migration`), `rehearsals` are machines whose move is rehearsed (`rehearsed`).
 #![tactic(auto)]
 
 mod changes;
@@ -11,11 +11,11 @@ mod disks;
 mod failing_sink;
 mod journey;
 mod leg;
-mod live_replies;
-mod live_trace;
 mod migration;
 mod playing;
+mod recording_disk;
 mod refusal;
+mod rehearsed;
 mod sameness;
 mod sectors;
 mod serving;
@@ -30,6 +30,7 @@ fn show(rt: &HostRuntime, folder: &str, book: &Book, scenario: &Scenario) -> Res
     match folder {
         "scripts" => playing::play_scenario(rt.alloc(), book, scenario),
         "migrations" => migration::show(rt.alloc(), book, scenario),
+        "rehearsals" => rehearsed::show(rt.alloc(), book, scenario),
         "streams" => stream::show(rt.alloc(), scenario.lines()),
         _ => bail!("no such books"),
     }

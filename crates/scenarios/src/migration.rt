@@ -2,7 +2,6 @@
 
 use crate::disks::TestDisk;
 use crate::leg::Leg;
-use crate::live_replies::write_live_reply;
 use crate::playing::{are_lines, plays_on};
 use crate::sameness::are_same;
 use crate::serving::{Served, Way};
@@ -12,6 +11,7 @@ use books::{Book, Scenario, spelled};
 use machine::Machine;
 use sender::{LiveEvent, LiveReply};
 use std::alloc::Global;
+use traces::write_reply;
 
 /// A migration: the lines of a script among which the machine is sent. A line `ABORT` stands where the host gives up, and
 /// begins again with a writer that fails only where a line says so.
@@ -84,7 +84,7 @@ impl<'t> Migration<'t> {
         let mut lines = Vec::new(alloc);
         for (events, reply) in served.replies.iter().enumerate() {
             self.answer(alloc, at, events, &mut lines)?;
-            write_live_reply(reply, &mut lines)?;
+            write_reply(reply, &mut lines)?;
         }
         leg.answer(&mut served, all, &mut lines)?;
         are_lines(lines.as_slice(), leg.lines())?;

@@ -5,10 +5,11 @@ use crate::sectors::write_sector;
 use anyhow::{Result, bail, ensure};
 use books::{Book, Question, Scenario, Script};
 use machine::{Event, Machine};
+use sender::LiveEvent;
 use std::alloc::Global;
 use std::io::Write;
 use std::str;
-use traces::{Trace, parse, write_reply};
+use traces::{Trace, parse, parse_events, write_guest_reply};
 
 /// Plays a scenario of a book of scripts.
 pub fn play_scenario(alloc: Global, book: &Book, scenario: &Scenario) -> Result<()> {
@@ -23,21 +24,33 @@ pub fn play(alloc: Global, script: &Script) -> Result<Machine<TestDisk>> {
         pages,
         shapes,
         events,
+        begin_line: _,
     } = parse(alloc, script.trace())?;
     let disks = disks_of(alloc, script, shapes.as_slice())?;
     let mut machine = Machine::new(alloc, pages, shapes.as_slice(), disks)?;
+    let events = guest_events(alloc, events)?;
     agrees(alloc, &mut machine, script, events.as_slice())?;
     Ok(machine)
+}
+
+/// The events of a trace in which nothing is sent.
+fn guest_events(alloc: Global, events: Vec<LiveEvent>) -> Result<Vec<Event>> {
+    let mut guest = Vec::new(alloc);
+    for event in events {
+        match event {
+            LiveEvent::Guest(event) => guest.push(event)?,
+            _ => bail!("a line of a migration"),
+        }
+    }
+    Ok(guest)
 }
 
 /// Plays lines of events on a machine that is there. The replies must be as they say.
 pub fn plays_on(alloc: Global, machine: &mut Machine<TestDisk>, lines: &str) -> Result<()> {
     let mut script = Script::new(alloc);
-    // A trace begins with a machine, which is not made here.
-    script.add("ram 1\nentropy")?;
     script.add(lines)?;
-    let trace = parse(alloc, script.trace())?;
-    agrees(alloc, machine, &script, trace.events.as_slice())
+    let events = parse_events(alloc, script.trace())?;
+    agrees(alloc, machine, &script, events.as_slice())
 }
 
 fn agrees(
@@ -75,7 +88,7 @@ fn replies_to(
     let mut replies = Vec::new(alloc);
     answer_questions(machine, script, 0, &mut replies)?;
     for (at, event) in events.iter().enumerate() {
-        write_reply(&machine.apply(event), &mut replies)?;
+        write_guest_reply(&machine.apply(event), &mut replies)?;
         answer_questions(machine, script, at.saturating_add(1), &mut replies)?;
     }
     Ok(replies)

@@ -4,7 +4,7 @@ use crate::disks::{TestDisk, disks_for};
 use crate::journey::Journey;
 use crate::refusal::tells;
 use anyhow::{Context, Result, ensure};
-use machine::Machine;
+use machine::{Disk, Machine};
 use receiver::{Receiver, RecvError, receive};
 use sender::save;
 use std::alloc::Global;
@@ -28,7 +28,7 @@ pub fn show(alloc: Global, lines: &str) -> Result<()> {
 }
 
 /// The stream that a machine is saved as.
-pub fn saved(alloc: Global, machine: &mut Machine<TestDisk>) -> Result<Vec<u8>> {
+pub fn saved<D: Disk>(alloc: Global, machine: &mut Machine<D>) -> Result<Vec<u8>> {
     let mut sink = WriteSink::new(Vec::new(alloc));
     save(machine, &mut sink)?;
     Ok(sink.into_inner())

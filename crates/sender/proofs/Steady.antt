@@ -19,7 +19,7 @@ use Rattle.sender.proofs.Following.{NamesNone, no_disk}
 use Rattle.sender.proofs.Fresh.{told}
 
 -- The same disks are steady.
-pub AreAlike : List Marks → List Marks → Type 0
+unfoldable pub AreAlike : List Marks → List Marks → Type 0
 AreAlike old new = (dev : ℕ) → (marks_at new dev).steady ≡ (marks_at old dev).steady
 
 fails_alike : (marks : List Marks) (d : ℕ) → AreAlike marks (failed_at marks d)

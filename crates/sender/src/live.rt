@@ -128,7 +128,7 @@ impl<D: Disk, W: Sink> Live<D, W> {
     }
 
     /// Tells a proof that the sets have a place for each item (see the page of `guestmem`).
-    pub(crate) fn recall(&self)
+    pub fn recall(&self)
         ensures { HasPlaces self.now }
     {
         let _left = &self.left;

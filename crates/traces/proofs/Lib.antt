@@ -2,9 +2,11 @@ pub mod Numerals
 pub mod Cut
 pub mod FirstWord
 pub mod Progress
+pub mod FirstBegin
 pub mod Known
 pub mod CheckedLine
 pub mod Whole
+pub mod EventsAlone
 pub mod Decimal
 pub mod HexText
 pub mod OneReading

@@ -3,17 +3,17 @@ use Rattle.std.proofs.Common.{◌≡◌, ℕ, suc, ◌+◌, ◌<◌, ◌≤◌, 
 use Rattle.std.proofs.lemmas.List.{append-nil, map-append, length-append}
 use Rattle.std.proofs.lemmas.Option.{cond_some}
 use borrow.Author.Tests.{ltb-true}
-use Rattle.machine.specs.declared.event.Event.{Event}
 use Rattle.machine.specs.declared.shape.Shape.{Shape}
 use Rattle.machine.specs.declared.shape.Shape.TheVariants.{Entropy}
+use Rattle.sender.specs.declared.event.LiveEvent.{LiveEvent}
 use Rattle.traces.specs.declared.line.Line.{Line}
 use Rattle.traces.specs.declared.line.Line.TheVariants.{Skip, Ram, Device, Act}
 use Rattle.traces.specs.Numbers.{◌>>=◌, number_of, digits_after}
 use Rattle.traces.specs.Line.{line_says}
-use Rattle.traces.specs.Trace.{Contents, onto, lines_say, AreTrace, AreBeginning}
+use Rattle.traces.specs.Trace.{Contents, onto, lines_say, begin_line_of, AreTrace, AreSomeTrace, AreBeginning}
 use Rattle.traces.specs.Reading.{Said, nothing, with_line, after_line, after_lines, IsWhole}
 
-abbrev pub part : Option ℕ → List Shape → List Event → Said
+abbrev pub part : Option ℕ → List Shape → List LiveEvent → Said
 part pages shapes events = record { pages = pages; shapes = shapes; events = events }
 
 -- the lines that say it
@@ -56,7 +56,7 @@ event_last ram devices before after event e = rw e (sym (append_assoc (ram ++ de
 grows_by_skip : (said : Said) → IsPart said → Grows said said Skip
 grows_by_skip said h = record { is_part = h; added = sym (append-nil (kept said)) }
 
-grows_by_ram : (pages : ℕ) (shapes : List Shape) (events : List Event) → IsPart (part None shapes events) → Grows (part None shapes events) (part (Some pages) shapes events) (Ram pages)
+grows_by_ram : (pages : ℕ) (shapes : List Shape) (events : List LiveEvent) → IsPart (part None shapes events) → Grows (part None shapes events) (part (Some pages) shapes events) (Ram pages)
 grows_by_ram pages shapes events h =
     let no_shapes : shapes ≡ [] = h.no_ram refl in
     let no_events : events ≡ [] = h.no_device no_shapes in
@@ -73,7 +73,7 @@ grows_by_device pages shapes shape few =
       added = device_last (Ram pages ∷ []) (map Device shapes) _ (Device shape) (map-append Device shapes (shape ∷ []));
     }
 
-grows_by_event : (pages : Option ℕ) (shapes : List Shape) (events : List Event) (event : Event) → 0 < length shapes → IsPart (part pages shapes events)
+grows_by_event : (pages : Option ℕ) (shapes : List Shape) (events : List LiveEvent) (event : LiveEvent) → 0 < length shapes → IsPart (part pages shapes events)
     → Grows (part pages shapes events) (part pages shapes (events ++ event ∷ [])) (Act event)
 grows_by_event pages shapes events event some h =
     record {
@@ -81,7 +81,7 @@ grows_by_event pages shapes events event some h =
       added = event_last (kept_ram pages) (map Device shapes) (map Act events) _ (Act event) (map-append Act events (event ∷ []));
     }
 
-one_grows : (pages : Option ℕ) (shapes : List Shape) (events : List Event) (line : Line) (more : Said) → IsPart (part pages shapes events)
+one_grows : (pages : Option ℕ) (shapes : List Shape) (events : List LiveEvent) (line : Line) (more : Said) → IsPart (part pages shapes events)
     → with_line (part pages shapes events) line ≡ Some more → Grows (part pages shapes events) more line
 one_grows pages shapes events Skip more h e = let same : part pages shapes events ≡ more = cc in subst (λ (s : Said). Grows (part pages shapes events) s Skip) same (grows_by_skip _ h)
 one_grows None shapes events (Ram n) more h e =
@@ -177,7 +177,7 @@ run_devices pages before (shape ∷ shapes) events few =
     let others = run_devices pages (before ++ shape ∷ []) shapes events (omega (arith, length-append before (shape ∷ []))) in
     rw (one, others, append_assoc) refl
 
-run_events : (pages : ℕ) (shapes : List Shape) (before events : List Event) → 0 < length shapes
+run_events : (pages : ℕ) (shapes : List Shape) (before events : List LiveEvent) → 0 < length shapes
     → run (part (Some pages) shapes before) (map Act events) ≡ Some (part (Some pages) shapes (before ++ events))
 unfolding run
 run_events pages shapes before [] some = rw append-nil refl
@@ -204,14 +204,14 @@ after_both said (x ∷ xs) ys = elim (after_line said x) as (λ (o : Option Said
 ]
 
 -- Where a line could not be read, no trace begins so.
-pub no_beginning : (lines : List (List ℕ)) → after_lines nothing lines ≡ None → AreBeginning lines → ⊥
+pub no_beginning : (lines : List (List ℕ)) → after_lines nothing lines ≡ None → AreBeginning AreSomeTrace lines → ⊥
 no_beginning lines none h =
-    let whole = reads (lines ++ h.others) h.contents h.trace in
+    let whole = reads (lines ++ h.others) h.good.0 h.good.1 in
     let two = after_both nothing lines h.others in
     let stuck : after_lines nothing (lines ++ h.others) ≡ None = rw none at two in
     cc
 
-say_both : (xs ys : List (List ℕ)) (said more : List Line) → lines_say xs ≡ Some said → lines_say ys ≡ Some more → lines_say (xs ++ ys) ≡ Some (said ++ more)
+pub say_both : (xs ys : List (List ℕ)) (said more : List Line) → lines_say xs ≡ Some said → lines_say ys ≡ Some more → lines_say (xs ++ ys) ≡ Some (said ++ more)
 unfolding lines_say
 say_both [] ys said more e f = let same : [] ≡ said = cc in rw (← same) f
 say_both (x ∷ xs) ys said more e f =
@@ -238,12 +238,12 @@ nothing_is_part : IsPart nothing
 nothing_is_part = record { no_ram = λ e. refl; no_device = λ e. refl; few = omega arith }
 
 -- what has been read as a trace
-is_trace : (lines others : List (List ℕ)) (said added : List Line) (pages : ℕ) (shapes : List Shape) (events : List Event) → lines_say lines ≡ Some said → lines_say others ≡ Some added
+is_trace : (lines others : List (List ℕ)) (said added : List Line) (pages : ℕ) (shapes : List Shape) (events : List LiveEvent) → lines_say lines ≡ Some said → lines_say others ≡ Some added
     → said ++ added ≡ Ram pages ∷ map Device shapes ++ map Act events → 0 < length shapes → length shapes ≤ 16
-    → AreTrace (lines ++ others) (record { pages = pages; shapes = shapes; events = events })
-is_trace lines others said added pages shapes events e f g some few = record { said = rw (say_both lines others said added e f, g) refl; some_device = some; few_devices = few }
+    → AreTrace (lines ++ others) (record { pages = pages; shapes = shapes; events = events; begin_line = begin_line_of (lines ++ others) })
+is_trace lines others said added pages shapes events e f g some few = record { said = rw (say_both lines others said added e f, g) refl; some_device = some; few_devices = few; begins_there = refl }
 
-begins : (lines : List (List ℕ)) (pages : Option ℕ) (shapes : List Shape) (events : List Event) → GrowBy nothing (part pages shapes events) lines → AreBeginning lines
+begins : (lines : List (List ℕ)) (pages : Option ℕ) (shapes : List Shape) (events : List LiveEvent) → GrowBy nothing (part pages shapes events) lines → AreBeginning AreSomeTrace lines
 unfolding lines_say
 begins lines None shapes events h =
     let no_shapes : shapes ≡ [] = h.is_part.no_ram refl in
@@ -251,17 +251,17 @@ begins lines None shapes events h =
     let none : [] ≡ h.lines_said = rw (no_shapes, no_events) at h.added in
     let others : List (List ℕ) = codes "ram 1" ∷ codes "entropy" ∷ [] in
     let said : lines_say others ≡ Some (Ram 1 ∷ Device Entropy ∷ []) = rw (ram_line_said, device_line_said) refl in
-    record { others = others; contents = record { pages = 1; shapes = Entropy ∷ []; events = [] }; trace = is_trace lines others h.lines_said (Ram 1 ∷ Device Entropy ∷ []) 1 (Entropy ∷ []) [] h.say said (rw (← none) refl) (omega arith) (omega arith) }
+    record { others = others; good = (record { pages = 1; shapes = Entropy ∷ []; events = []; begin_line = begin_line_of (lines ++ others) }, is_trace lines others h.lines_said (Ram 1 ∷ Device Entropy ∷ []) 1 (Entropy ∷ []) [] h.say said (rw (← none) refl) (omega arith) (omega arith)) }
 begins lines (Some pages) [] events h =
     let no_events : events ≡ [] = h.is_part.no_device refl in
     let one : Ram pages ∷ [] ≡ h.lines_said = rw no_events at h.added in
     let others : List (List ℕ) = codes "entropy" ∷ [] in
     let said : lines_say others ≡ Some (Device Entropy ∷ []) = rw device_line_said refl in
-    record { others = others; contents = record { pages = pages; shapes = Entropy ∷ []; events = [] }; trace = is_trace lines others h.lines_said (Device Entropy ∷ []) pages (Entropy ∷ []) [] h.say said (rw (← one) refl) (omega arith) (omega arith) }
+    record { others = others; good = (record { pages = pages; shapes = Entropy ∷ []; events = []; begin_line = begin_line_of (lines ++ others) }, is_trace lines others h.lines_said (Device Entropy ∷ []) pages (Entropy ∷ []) [] h.say said (rw (← one) refl) (omega arith) (omega arith)) }
 begins lines (Some pages) (shape ∷ shapes) events h =
-    record { others = []; contents = record { pages = pages; shapes = shape ∷ shapes; events = events }; trace = is_trace lines [] h.lines_said [] pages (shape ∷ shapes) events h.say refl (append-nil h.lines_said ∙ sym h.added) (omega arith) h.is_part.few }
+    record { others = []; good = (record { pages = pages; shapes = shape ∷ shapes; events = events; begin_line = begin_line_of (lines ++ []) }, is_trace lines [] h.lines_said [] pages (shape ∷ shapes) events h.say refl (append-nil h.lines_said ∙ sym h.added) (omega arith) h.is_part.few) }
 
-pub beginning : (lines : List (List ℕ)) (said : Said) → after_lines nothing lines ≡ Some said → AreBeginning lines
+pub beginning : (lines : List (List ℕ)) (said : Said) → after_lines nothing lines ≡ Some said → AreBeginning AreSomeTrace lines
 beginning lines said e = begins lines said.pages said.shapes said.events (lines_grow nothing said lines nothing_is_part e)
 
 pub not_whole : (lines : List (List ℕ)) (said : Said) → after_lines nothing lines ≡ Some said → (IsWhole said → ⊥) → (c : Contents) → AreTrace lines c → ⊥
@@ -270,8 +270,8 @@ not_whole lines said e missing c h =
     let same : part (Some c.pages) c.shapes c.events ≡ said = cc in
     missing (rw (← same) (refl, h.some_device))
 
-pub whole : (lines : List (List ℕ)) (pages : ℕ) (shapes : List Shape) (events : List Event) → after_lines nothing lines ≡ Some (part (Some pages) shapes events) → 0 < length shapes
-    → AreTrace lines (record { pages = pages; shapes = shapes; events = events })
-whole lines pages shapes events e some =
+pub whole : (lines : List (List ℕ)) (pages : ℕ) (shapes : List Shape) (events : List LiveEvent) (begin_line : ℕ) → after_lines nothing lines ≡ Some (part (Some pages) shapes events) → 0 < length shapes
+    → begin_line ≡ begin_line_of lines → AreTrace lines (record { pages = pages; shapes = shapes; events = events; begin_line = begin_line })
+whole lines pages shapes events begin_line e some there =
     let h = lines_grow nothing (part (Some pages) shapes events) lines nothing_is_part e in
-    record { said = rw h.added h.say; some_device = some; few_devices = h.is_part.few }
+    record { said = rw h.added h.say; some_device = some; few_devices = h.is_part.few; begins_there = there }

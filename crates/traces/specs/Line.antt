@@ -4,6 +4,7 @@ use Rattle.std.specs.Str.{bytes_eq}
 use Rattle.std.specs.List.{slice_split}
 use Rattle.machine.specs.declared.event.Event.TheVariants.{RegRead, RegWrite, MemRead, MemWrite, Step, Input, Resize}
 use Rattle.machine.specs.declared.shape.Shape.TheVariants.{Net, Block, Console, Entropy}
+use Rattle.sender.specs.declared.event.LiveEvent.TheVariants.{Guest, Begin, Copy, EndRound, Stop}
 use Rattle.traces.specs.declared.line.Line.{Line}
 use Rattle.traces.specs.declared.line.Line.TheVariants.{Skip, Ram, Device, Act}
 use Rattle.traces.specs.Numbers.{◌>>=◌, below, bytes_of, sized_bytes_of}
@@ -54,7 +55,7 @@ register_read_line dev off width = do
   dev ← u8_field dev
   off ← u32_field off
   width ← u8_field width
-  Some (Act (RegRead dev off width))
+  Some (Act (Guest (RegRead dev off width)))
 
 -- w DEV OFF WIDTH VALUE
 abbrev pub register_write_line : List ℕ → List ℕ → List ℕ → List ℕ → Option Line
@@ -63,35 +64,35 @@ register_write_line dev off width value = do
   off ← u32_field off
   width ← u8_field width
   value ← u32_field value
-  Some (Act (RegWrite dev off width value))
+  Some (Act (Guest (RegWrite dev off width value)))
 
 -- mr ADDR LEN
 abbrev pub memory_read_line : List ℕ → List ℕ → Option Line
 memory_read_line addr len = do
   addr ← u64_field addr
   len ← u32_field len
-  Some (Act (MemRead addr len))
+  Some (Act (Guest (MemRead addr len)))
 
 -- mw ADDR BYTES
 abbrev pub memory_write_line : List ℕ → List ℕ → Option Line
 memory_write_line addr bytes = do
   addr ← u64_field addr
   bytes ← bytes_of bytes
-  Some (Act (MemWrite addr bytes))
+  Some (Act (Guest (MemWrite addr bytes)))
 
 -- s DEV PICK
 abbrev pub step_line : List ℕ → List ℕ → Option Line
 step_line dev pick = do
   dev ← u8_field dev
   pick ← u8_field pick
-  Some (Act (Step dev pick))
+  Some (Act (Guest (Step dev pick)))
 
 -- in DEV BYTES
 abbrev pub input_line : List ℕ → List ℕ → Option Line
 input_line dev bytes = do
   dev ← u8_field dev
   bytes ← bytes_of bytes
-  Some (Act (Input dev bytes))
+  Some (Act (Guest (Input dev bytes)))
 
 -- size DEV COLS ROWS
 abbrev pub resize_line : List ℕ → List ℕ → List ℕ → Option Line
@@ -99,13 +100,17 @@ resize_line dev cols rows = do
   dev ← u8_field dev
   cols ← u16_field cols
   rows ← u16_field rows
-  Some (Act (Resize dev cols rows))
+  Some (Act (Guest (Resize dev cols rows)))
 
 -- Each line has its number of words, and among those of one number the first word tells it.
 abbrev pub one_word : List ℕ → Option Line
 one_word verb =
     if bytes_eq verb (codes "console") then Some (Device Console)
     else if bytes_eq verb (codes "entropy") then Some (Device Entropy)
+    else if bytes_eq verb (codes "begin") then Some (Act Begin)
+    else if bytes_eq verb (codes "copy") then Some (Act Copy)
+    else if bytes_eq verb (codes "round") then Some (Act EndRound)
+    else if bytes_eq verb (codes "stop") then Some (Act Stop)
     else None
 
 abbrev pub two_words : List ℕ → List ℕ → Option Line

@@ -1,8 +1,11 @@
--- What a trace that is being read holds so far. Only the private parts of `parse` name these: its own contract does not.
+-- What a trace that is being read holds so far. Only the private parts of `parse` and `parse_events` name these: their own
+-- contracts do not.
 use Rattle.std.specs.Prelude.{◌<◌, IsTrue, ℕ, ◌==◌, nat_lt, ◌&&◌, if◌then◌else◌, List, [], ◌∷◌, ◌++◌, length, Option, Some, None, Bool, true, false}
 use Rattle.machine.specs.declared.machine.TheConstants.{DEVICES_MAX}
 use Rattle.machine.specs.declared.event.Event.{Event}
 use Rattle.machine.specs.declared.shape.Shape.{Shape}
+use Rattle.sender.specs.declared.event.LiveEvent.{LiveEvent}
+use Rattle.sender.specs.declared.event.LiveEvent.TheVariants.{Guest}
 use Rattle.traces.specs.declared.line.Line.{Line}
 use Rattle.traces.specs.declared.line.Line.TheVariants.{Skip, Ram, Device, Act}
 use Rattle.traces.specs.declared.building.Building.{Building}
@@ -13,7 +16,7 @@ use Rattle.traces.specs.Line.{line_says}
 pub record Said : Type 0 where
   pub pages : Option ℕ
   pub shapes : List Shape
-  pub events : List Event
+  pub events : List LiveEvent
 
 abbrev pub nothing : Said
 nothing = record { pages = None; shapes = []; events = [] }
@@ -49,6 +52,15 @@ after_line said line = line_says line >>= with_line said
 unfoldable pub after_lines : Said → List (List ℕ) → Option Said
 after_lines said [] = Some said
 after_lines said (line ∷ lines) = after_line said line >>= λ more. after_lines more lines
+
+-- The events with one line more, where it may stand among events alone.
+abbrev pub with_event : List Event → Line → Option (List Event)
+with_event events Skip = Some events
+with_event events (Act (Guest event)) = Some (events ++ event ∷ [])
+with_event events line = None
+
+abbrev pub after_event : List Event → List ℕ → Option (List Event)
+after_event events line = line_says line >>= with_event events
 
 -- RAM and a device are there
 abbrev pub IsWhole : Said → Type 0

@@ -2,7 +2,8 @@
 
 use crate::line::{Line, line_in};
 use crate::trace::Trace;
-use machine::{DEVICES_MAX, Event, Shape};
+use machine::{DEVICES_MAX, Shape};
+use sender::LiveEvent;
 use std::alloc::{AllocError, Global};
 
 /// What the lines so far say.
@@ -10,7 +11,7 @@ use std::alloc::{AllocError, Global};
 pub struct Building {
     pub pages: Option<u32>,
     pub shapes: Vec<Shape>,
-    pub events: Vec<Event>,
+    pub events: Vec<LiveEvent>,
 }
 
 impl Building {
@@ -71,8 +72,9 @@ impl Building {
     }
 
     /// The trace, or `None` where a line of RAM or of a device is missing.
-    pub fn finish(self) -> Option<Trace>
+    pub fn finish(self, begin_line: u64) -> Option<Trace>
         ensures whole { IfSome result (λ trace. IsWhole (said_in trace) × (said_in trace ≡ said_of self)) }
+        ensures begins { IfSome result (λ trace. trace.begin_line ≡ begin_line) }
         ensures part { IsNone result → IsWhole (said_of self) → ⊥ }
     {
         let Building {
@@ -88,6 +90,7 @@ impl Building {
             pages,
             shapes,
             events,
+            begin_line,
         })
     }
 }

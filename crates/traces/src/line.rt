@@ -2,11 +2,14 @@
 
 ghost use Rattle.std.specs.Prelude.{◌≡◌, IfOk};
 ghost use Rattle.std.specs.List.{slice_split};
+ghost use Rattle.sender.specs.declared.event.LiveEvent.TheVariants.{Guest};
+ghost use Rattle.traces.specs.declared.line.Line.TheVariants.{Act};
 ghost use Rattle.traces.specs.Line.{one_word, two_words, three_words, four_words, five_words, net_line, block_line, register_read_line, memory_read_line, memory_write_line, step_line, input_line, resize_line, words_say, line_says, is_space};
 
 use crate::fields::{bytes, number8, number16, number32, number64, read_only, sized_bytes};
 use crate::words::split_word;
 use machine::{Event, Shape};
+use sender::LiveEvent;
 use std::alloc::{AllocError, Global};
 
 /// What a line says.
@@ -22,7 +25,13 @@ pub enum Line {
     Device(Shape),
 
     /// One event more.
-    Act(Event),
+    Act(LiveEvent),
+}
+
+fn guest(event: Event) -> Line
+    ensures { result ≡ Act (Guest event) }
+{
+    Line::Act(LiveEvent::Guest(event))
 }
 
 fn one(verb: &[u8]) -> Option<Line>
@@ -32,6 +41,14 @@ fn one(verb: &[u8]) -> Option<Line>
         Some(Line::Device(Shape::Console))
     } else if verb == b"entropy".as_slice() {
         Some(Line::Device(Shape::Entropy))
+    } else if verb == b"begin".as_slice() {
+        Some(Line::Act(LiveEvent::Begin))
+    } else if verb == b"copy".as_slice() {
+        Some(Line::Act(LiveEvent::Copy))
+    } else if verb == b"round".as_slice() {
+        Some(Line::Act(LiveEvent::EndRound))
+    } else if verb == b"stop".as_slice() {
+        Some(Line::Act(LiveEvent::Stop))
     } else {
         None
     }
@@ -62,7 +79,7 @@ fn memory_read(a: &[u8], b: &[u8]) -> Option<Line>
 {
     let addr = number64(a)?;
     let len = number32(b)?;
-    Some(Line::Act(Event::MemRead { addr, len }))
+    Some(guest(Event::MemRead { addr, len }))
 }
 
 fn memory_write(alloc: Global, a: &[u8], b: &[u8]) -> Result<Option<Line>, AllocError>
@@ -74,7 +91,7 @@ fn memory_write(alloc: Global, a: &[u8], b: &[u8]) -> Result<Option<Line>, Alloc
     let Some(bytes) = bytes(alloc, b)? else {
         return Ok(None);
     };
-    Ok(Some(Line::Act(Event::MemWrite { addr, bytes })))
+    Ok(Some(guest(Event::MemWrite { addr, bytes })))
 }
 
 fn step(a: &[u8], b: &[u8]) -> Option<Line>
@@ -82,7 +99,7 @@ fn step(a: &[u8], b: &[u8]) -> Option<Line>
 {
     let dev = number8(a)?;
     let pick = number8(b)?;
-    Some(Line::Act(Event::Step { dev, pick }))
+    Some(guest(Event::Step { dev, pick }))
 }
 
 fn input(alloc: Global, a: &[u8], b: &[u8]) -> Result<Option<Line>, AllocError>
@@ -94,7 +111,7 @@ fn input(alloc: Global, a: &[u8], b: &[u8]) -> Result<Option<Line>, AllocError>
     let Some(bytes) = bytes(alloc, b)? else {
         return Ok(None);
     };
-    Ok(Some(Line::Act(Event::Input { dev, bytes })))
+    Ok(Some(guest(Event::Input { dev, bytes })))
 }
 
 fn three(alloc: Global, verb: &[u8], a: &[u8], b: &[u8]) -> Result<Option<Line>, AllocError>
@@ -132,7 +149,7 @@ fn register_read(a: &[u8], b: &[u8], c: &[u8]) -> Option<Line>
     let dev = number8(a)?;
     let off = number32(b)?;
     let width = number8(c)?;
-    Some(Line::Act(Event::RegRead { dev, off, width }))
+    Some(guest(Event::RegRead { dev, off, width }))
 }
 
 fn resize(a: &[u8], b: &[u8], c: &[u8]) -> Option<Line>
@@ -141,7 +158,7 @@ fn resize(a: &[u8], b: &[u8], c: &[u8]) -> Option<Line>
     let dev = number8(a)?;
     let cols = number16(b)?;
     let rows = number16(c)?;
-    Some(Line::Act(Event::Resize { dev, cols, rows }))
+    Some(guest(Event::Resize { dev, cols, rows }))
 }
 
 fn four(verb: &[u8], a: &[u8], b: &[u8], c: &[u8]) -> Option<Line>
@@ -168,7 +185,7 @@ fn five(verb: &[u8], a: &[u8], b: &[u8], c: &[u8], d: &[u8]) -> Option<Line>
     let off = number32(b)?;
     let width = number8(c)?;
     let value = number32(d)?;
-    Some(Line::Act(Event::RegWrite {
+    Some(guest(Event::RegWrite {
         dev,
         off,
         width,

@@ -1,19 +1,30 @@
 //! The whole of a trace.
 
-ghost use Rattle.std.specs.Prelude.{IfOk, IfErr};
-ghost use Rattle.traces.specs.Trace.{IsTrace, contents_of, Refuses};
+ghost use Rattle.std.specs.Prelude.{◌≡◌, ◌==◌, ◌&&◌, IfOk, IfErr, if◌then◌else◌};
+ghost use Rattle.traces.specs.Trace.{IsTrace, contents_of, is_begin, Refuses};
 
 use crate::building::Building;
 use crate::lines::cut_line;
 use crate::trace::{Trace, TraceError};
 use std::alloc::Global;
 
+/// The number of the line of the first `begin`, so far and with one line more.
+fn first_begin(so_far: u64, number: u64, line: &[u8]) -> u64
+    ensures { result ≡ (if so_far == 0 && is_begin line.now then number else so_far) }
+{
+    if so_far == 0 && line == b"begin".as_slice() {
+        number
+    } else {
+        so_far
+    }
+}
+
 /// Reads a trace.
 ///
 /// Lines end with LF, which the last may lack. Empty lines and lines that begin with `#` are skipped. The others are
 /// one `ram PAGES`, then 1 to 16 of `net MAC`, `block SECTORS rw ID`, `block SECTORS ro ID`, `console` and `entropy`, and
 /// then events: `r DEV OFF WIDTH`, `w DEV OFF WIDTH VALUE`, `mr ADDR LEN`, `mw ADDR BYTES`, `s DEV PICK`, `in DEV BYTES`
-/// and `size DEV COLS ROWS`. One space parts two words.
+/// and `size DEV COLS ROWS` of the guest, and `begin`, `copy`, `round` and `stop` of migration. One space parts two words.
 ///
 /// `Line` names the first line that may not stand where it stands, or the one that is missing behind the last;
 /// skipped lines count. `NoMemory` comes only where memory was refused.
@@ -24,6 +35,7 @@ pub fn parse(alloc: Global, text: &[u8]) -> Result<Trace, TraceError>
     let mut trace = Building::new(alloc);
     let mut rest = text;
     let mut number = 0u64;
+    let mut begin_line = 0;
     while !rest.is_empty() {
         let (line, after) = cut_line(rest);
         number += 1;
@@ -31,8 +43,9 @@ pub fn parse(alloc: Global, text: &[u8]) -> Result<Trace, TraceError>
         if !trace.add_line(alloc, line)? {
             return Err(TraceError::Line(number));
         }
+        begin_line = first_begin(begin_line, number, line);
     }
-    match trace.finish() {
+    match trace.finish(begin_line) {
         Some(trace) => Ok(trace),
         None => Err(TraceError::Line(number + 1)),
     }

@@ -3,11 +3,12 @@
 ghost use Rattle.std.specs.Prelude.{◌≡◌};
 ghost use Rattle.traces.specs.declared.trace.TraceError.TheVariants.{NoMemory};
 
-use machine::{Event, Shape};
+use machine::Shape;
+use sender::LiveEvent;
 use std::alloc::{AllocError, AllocFailed};
 use thiserror::Error;
 
-/// A machine's shape, and what happens to it.
+/// A machine's shape, and what happens to it while it may be sent.
 #[derive(Drop)]
 pub struct Trace {
     /// The pages of its RAM, of 4,096 bytes each. Any number may stand in a trace; `Machine::new` tells which it takes.
@@ -17,7 +18,10 @@ pub struct Trace {
     pub shapes: Vec<Shape>,
 
     /// The events, in their order.
-    pub events: Vec<Event>,
+    pub events: Vec<LiveEvent>,
+
+    /// The number of the line of the first `begin`, counted from 1, or 0 where there is none.
+    pub begin_line: u64,
 }
 
 /// Why a text is no trace.

@@ -2,10 +2,11 @@
 
 ghost use Rattle.std.specs.Prelude.{◌++◌, OnOk, OnErr, codes};
 ghost use Rattle.std.specs.Io.KnownBytes.{Appends};
-ghost use Rattle.traces.specs.Replies.{reply_line, checked_line, value_text, bytes_text, newline, AppendsBeginning};
+ghost use Rattle.traces.specs.Replies.{reply_line, live_reply_line, copied_line, pair_line, checked_line, value_text, bytes_text, newline, AppendsBeginning};
 
 use crate::parts::{WriteFault, put, put_both, put_number, put_plain, put_with_digits};
 use machine::Reply;
+use sender::{Item, LiveReply};
 use std::io::Write;
 
 /// Writes `value 0x` and eight digits.
@@ -51,8 +52,32 @@ fn put_bytes<W: Write>(out: &mut W, word: &[u8], bytes: &[u8]) -> Result<(), Wri
     put(out, b"\n")
 }
 
-/// Writes the line of a reply and its LF. After a fault a beginning of that line is written. It takes no memory.
-pub fn write_reply<W: Write>(reply: &Reply, out: &mut W) -> Result<(), WriteFault>
+/// Writes a word, two numbers with a space between them, and LF, or a beginning of these.
+#[tactic(auto, using(crate::proofs::Known::appends_on, crate::proofs::Known::begins_first, crate::proofs::Known::begins_on))]
+fn put_pair<W: Write>(out: &mut W, word: &[u8], first: u64, second: u64) -> Result<(), WriteFault>
+    ensures ok { OnOk result (Appends (W.contents out.old) (W.contents out.new) (pair_line word.now first second)) }
+    ensures err { OnErr result (AppendsBeginning (W.contents out.old) (W.contents out.new) (pair_line word.now first second)) }
+{
+    put_plain(out, word, first)?;
+    put_number(out, b" ", second)
+}
+
+/// Writes the line of an item that was sent.
+fn put_copied<W: Write>(out: &mut W, item: Item) -> Result<(), WriteFault>
+    ensures ok { OnOk result (Appends (W.contents out.old) (W.contents out.new) (copied_line item)) }
+    ensures err { OnErr result (AppendsBeginning (W.contents out.old) (W.contents out.new) (copied_line item)) }
+{
+    match item {
+        Item::Page(number) => put_number(out, b"copied page ", number as u64),
+        Item::Sector { dev, sector } => {
+            put_pair(out, b"copied sector ", dev as u64, sector as u64)
+        }
+    }
+}
+
+/// Writes the line of a reply to the guest's events and its LF. After a fault a beginning of that line is written. It
+/// takes no memory.
+pub fn write_guest_reply<W: Write>(reply: &Reply, out: &mut W) -> Result<(), WriteFault>
     ensures ok { OnOk result (Appends (W.contents out.old) (W.contents out.new) (reply_line reply.now)) }
     ensures err { OnErr result (AppendsBeginning (W.contents out.old) (W.contents out.new) (reply_line reply.now)) }
 {
@@ -73,5 +98,21 @@ pub fn write_reply<W: Write>(reply: &Reply, out: &mut W) -> Result<(), WriteFaul
         Reply::NeedsReset => put(out, b"needsreset\n"),
         Reply::NoMemory => put(out, b"nomemory\n"),
         Reply::Refused(refusal) => put_number(out, b"refused ", refusal.code() as u64),
+    }
+}
+
+/// Writes the line of a reply and its LF. After a fault a beginning of that line is written. It takes no memory.
+pub fn write_reply<W: Write>(reply: &LiveReply, out: &mut W) -> Result<(), WriteFault>
+    ensures ok { OnOk result (Appends (W.contents out.old) (W.contents out.new) (live_reply_line reply.now)) }
+    ensures err { OnErr result (AppendsBeginning (W.contents out.old) (W.contents out.new) (live_reply_line reply.now)) }
+{
+    match reply {
+        LiveReply::Guest(reply) => write_guest_reply(reply, out),
+        LiveReply::Begun(round) => put_number(out, b"begun ", *round as u64),
+        LiveReply::Copied(item) => put_copied(out, *item),
+        LiveReply::RoundDone => put(out, b"rounddone\n"),
+        LiveReply::RoundOpen => put(out, b"roundopen\n"),
+        LiveReply::Stopped { pages, sectors } => put_pair(out, b"stopped ", *pages, *sectors),
+        LiveReply::Mig(error) => put_number(out, b"mig ", error.code() as u64),
     }
 }

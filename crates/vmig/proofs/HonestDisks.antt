@@ -1,5 +1,5 @@
 -- Machines whose disks are honest.
-use Rattle.std.proofs.Common.{◌≡◌, ℕ, List, [], ◌∷◌, map, Option, Some, None, All, IsTrue, refl}
+use Rattle.std.proofs.Common.{ℕ, List, [], ◌∷◌, map, Option, Some, None, All, IsTrue, refl}
 use Rattle.std.specs.List.{AllByRecursion}
 use Rattle.std.proofs.lemmas.List.Elements.{All-from_recursion, recursion_from_All, All-map}
 use Rattle.blk.specs.Disk.{DiskState}
@@ -28,3 +28,6 @@ dealt_honest (shape ∷ shapes) marks h = (given_honest (disk_size_of shape) mar
 pub honest_devices : {D : Type 0} (state : D → DiskState) (shapes : List Shape) (disks : List D) → All (λ d. IsTrue (state d).honest) disks → All IsHonest (dealt_marks shapes (map (λ d. marks_in (state d)) disks))
 honest_devices {D} state shapes disks h =
     All-from_recursion IsHonest _ (dealt_honest shapes (map (λ (d : D). marks_in (state d)) disks) (recursion_from_All IsHonest _ (All-map IsHonest (λ (d : D). marks_in (state d)) disks h)))
+
+pub honest_dealt : (shapes : List Shape) (marks : List Marks) → All IsHonest marks → All IsHonest (dealt_marks shapes marks)
+honest_dealt shapes marks h = All-from_recursion IsHonest _ (dealt_honest shapes marks (recursion_from_All IsHonest marks h))

@@ -1,6 +1,15 @@
 pub mod AllReplies
+pub mod Arriving
+pub mod ByWords
+pub mod ComparingFresh
+pub mod ComparingReplies
+pub mod ComparingSteady
+pub mod ComparingVerdict
 pub mod HonestDisks
+pub mod Likeness
 pub mod MemoryDisks
+pub mod PlayedLines
 pub mod Statuses
+pub mod TakenSteps
 pub mod TakenWords
 pub mod Written

@@ -1,17 +1,19 @@
 -- Disks in memory, as a receiver sees them: they are honest, and never fail.
-use Rattle.std.proofs.Common.{◌≡◌, ◌<◌, ℕ, zero, suc, ◌+◌, List, [], ◌∷◌, ◌++◌, map, length, take, get_or, Option, Some, None, true, false, refl, ap, sym, ◌∙◌}
-use Rattle.std.proofs.lemmas.List.{take_more}
+use Rattle.std.proofs.Common.{◌≡◌, ◌<◌, ℕ, zero, suc, ◌+◌, List, [], ◌∷◌, ◌++◌, map, length, take, get_or, replicate, Option, Some, None, true, false, Result, Ok, Err, IfOk, inl, refl, ap, sym, ◌∙◌}
+use Rattle.std.proofs.lemmas.List.{length-replicate, map-append, take_more}
 use Rattle.std.specs.List.{AllByRecursion}
 use Rattle.std.proofs.lemmas.List.Elements.{All-from_recursion}
 use Rattle.blk.specs.Disk.{DiskState}
-use Rattle.machine.specs.Seen.{Marks, marks_at}
+use Rattle.machine.specs.Seen.{marks_at}
 use Rattle.machine.specs.Shapes.{disk_size_of, disk_sizes, with_size}
 use Rattle.machine.specs.declared.shape.Shape.{Shape}
 use Rattle.receiver.specs.Disks.{AreHonestDisks, IsUnsteady, disk_marks_of, sizes_of}
 use Rattle.receiver.specs.Receiving.{RefusesSlice}
 use Rattle.receiver.specs.declared.recv_error.RecvError.{RecvError}
 use Rattle.receiver.specs.declared.recv_error.RecvError.TheVariants as errors
+use Rattle.wire.proofs.Unique.{cons_same}
 use Rattle.vmig.proofs.HonestDisks.{IsHonest}
+use Rattle.vmig.specs.Checking.{AreSizesOf, TellsSizes, zero_disks}
 
 abbrev pub in_memory : List (List ℕ) → DiskState
 in_memory d = record { sectors = d; failures = 0; honest = true; steady = true }
@@ -55,6 +57,9 @@ refused_steadily disks bytes errors.Trailing h = rw (sizes_are disks) at h
 refused_steadily disks bytes errors.AlreadyFailed h = rw (sizes_are disks) at h
 
 -- The disks of shapes, and of one more.
+abbrev zero_disk : ℕ → List (List ℕ)
+zero_disk size = replicate size (replicate 512 0)
+
 onto_sizes : (size : Option ℕ) (xs ys : List ℕ) → with_size size xs ++ ys ≡ with_size size (xs ++ ys)
 onto_sizes None xs ys = refl
 onto_sizes (Some n) xs ys = refl
@@ -63,6 +68,20 @@ sizes-append : (shapes more : List Shape) → disk_sizes (shapes ++ more) ≡ di
 sizes-append [] more = refl
 sizes-append (shape ∷ shapes) more = ap (with_size (disk_size_of shape)) (sizes-append shapes more) ∙ sym (onto_sizes (disk_size_of shape) (disk_sizes shapes) (disk_sizes more))
 
-pub sizes_more : (shapes : List Shape) (i : ℕ) (shape : Shape) (sizes old : List ℕ) → i < length shapes → old ≡ disk_sizes (take i shapes) → sizes ≡ old ++ disk_sizes (get_or shapes i shape ∷ []) → sizes ≡ disk_sizes (take (i + 1) shapes)
-sizes_more shapes i shape sizes old below is added =
-    added ∙ ap (λ (x : List ℕ). x ++ disk_sizes (get_or shapes i shape ∷ [])) is ∙ sym (ap disk_sizes (take_more shapes i shape below) ∙ sizes-append (take i shapes) (get_or shapes i shape ∷ []))
+pub zeros_more : (shapes : List Shape) (i : ℕ) (shape : Shape) (disks old : List (List (List ℕ))) → i < length shapes → old ≡ zero_disks (take i shapes) → disks ≡ old ++ zero_disks (get_or shapes i shape ∷ []) → disks ≡ zero_disks (take (i + 1) shapes)
+zeros_more shapes i shape disks old below is added =
+    let sizes : disk_sizes (take (i + 1) shapes) ≡ disk_sizes (take i shapes) ++ disk_sizes (get_or shapes i shape ∷ []) = ap disk_sizes (take_more shapes i shape below) ∙ sizes-append (take i shapes) (get_or shapes i shape ∷ []) in
+    added ∙ ap (λ (x : List (List (List ℕ))). x ++ zero_disks (get_or shapes i shape ∷ [])) is
+    ∙ sym (ap (map zero_disk) sizes ∙ map-append zero_disk (disk_sizes (take i shapes)) (disk_sizes (get_or shapes i shape ∷ [])))
+
+-- They have the sizes of the shapes.
+zeros_long : (sizes : List ℕ) → map length (map zero_disk sizes) ≡ sizes
+zeros_long [] = refl
+zeros_long (size ∷ sizes) = cons_same (length-replicate size (replicate 512 0)) (zeros_long sizes)
+
+pub zeros_sized : (shapes : List Shape) (disks : List (List (List ℕ))) → disks ≡ zero_disks shapes → map length disks ≡ disk_sizes shapes
+zeros_sized shapes disks are = ap (map length) are ∙ zeros_long (disk_sizes shapes)
+
+pub sized : {V E : Type 0} (r : Result V E) (items : V → List (List (List ℕ))) (bytes : List ℕ) (shapes : List Shape) → TellsSizes bytes (disk_sizes shapes) → IfOk r (λ v. items v ≡ zero_disks shapes) → IfOk r (λ v. AreSizesOf bytes (map length (items v)))
+sized (Ok v) items bytes shapes told are = rw (zeros_sized shapes (items v) are) (inl told)
+sized (Err refusal) items bytes shapes told are = tt

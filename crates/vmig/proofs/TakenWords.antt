@@ -1,48 +1,178 @@
 -- The lines of the program, as clap takes them.
-use Rattle.std.proofs.Common.{◌≡◌, Option, Some, None, ℕ, List, [], ◌∷◌, ◌==◌, ◌&&◌, Bool, true, false, not, map, find, codes, bytes_eq, if◌then◌else◌, refl, ap, sym, subst, ◌∙◌}
+use Rattle.std.proofs.Common.{◌≡◌, Option, Some, None, ℕ, List, [], ◌∷◌, ◌&&◌, Bool, true, false, map, find, codes, bytes_eq, if◌then◌else◌, refl, ap, sym, subst, ◌∙◌}
 use Rattle.std.specs.Prelude.{slice_get, option_map, option_and_then}
 use Rattle.std.specs.Borrow.{Bor}
 use Rattle.std.proofs.lemmas.Slice.Eq.{bytes_eq-Decides}
 use Rattle.clap.specs.Facts.{Entry}
 use Rattle.clap.specs.Words.{App, HasMatchesOf, Row, takes, first_of, first_value, found_of, matches_of}
-use Rattle.clap.specs.Simple.{is_simple}
-use Rattle.clap.specs.Walk.{row_of}
+use Rattle.clap.specs.Simple.{Shape, argument_words, built, is_simple}
+use Rattle.clap.specs.Takes.{settle_passes}
+use Rattle.clap.specs.Walk.{Held, Walk, finished, nothing_held, row_of}
+use Rattle.clap.specs.Walk.Waiting.{idle, option as awaits}
 use Rattle.clap.specs.declared.parser.matches.ArgMatches.{ArgMatches}
 use Rattle.clap.specs.declared.parser.matches.MatchedArg.{MatchedArg}
 use Rattle.clap.proofs.OnLiterals.{clap_on_literals}
-use Rattle.vmig.specs.Words.{is_check_line, is_name, is_option, is_run_line, named_file, named_image}
-use Rattle.vmig.specs.Commands.{check_command, run_command}
+use Rattle.vmig.specs.Words.{are_run_options, behind, is_name, is_option, is_resume_line, is_run_line, is_verb_and_file, named_file, named_image, named_stream, second_file}
+use Rattle.vmig.specs.Commands.{file_command, resume_command, run_command}
+use Rattle.vmig.proofs.TakenSteps.{Goes, at_first, does_end, goes_nowhere, goes_on, goes_over_name, is_taken, no_option, rows_are, standing, with_option, with_value}
 
-not_true : (b : Bool) → not b ≡ true → b ≡ false
-not_true true h = cc
-not_true false h = refl
-
--- What clap finds in words of a command: it takes them, and these are the file and the image.
-pub record Finds (app : App) (words : List (List ℕ)) : Type 0 where
+-- Words that clap takes.
+pub record IsTaken (app : App) (words : List (List ℕ)) : Type 0 where
   pub simple : is_simple app ≡ true
   pub takes : takes app words ≡ true
-  pub input : first_of (codes "input") (matches_of app words) ≡ Some (named_file words)
-  pub image : first_of (codes "disk") (matches_of app words) ≡ named_image words
 
-checks : (word name : List ℕ) → is_name name ≡ true → Finds check_command (word ∷ name ∷ [])
-unfolding clap_on_literals
-checks word [] h = record { simple = refl; takes = refl; input = refl; image = refl }
-checks word (c ∷ cs) h = let other : (c == 45) ≡ false = not_true (c == 45) h in record { simple = refl; takes = simp other; input = simp other; image = simp other }
+-- What clap finds in words of a command: these are the files.
+pub record FindsFile (words : List (List ℕ)) : Type 0 where
+  pub taken : IsTaken file_command words
+  pub file : first_of (codes "file") (matches_of file_command words) ≡ Some (named_file words)
 
-runs : (word name : List ℕ) → is_name name ≡ true → Finds run_command (word ∷ name ∷ [])
-unfolding clap_on_literals
-runs word [] h = record { simple = refl; takes = refl; input = refl; image = refl }
-runs word (c ∷ cs) h = let other : (c == 45) ≡ false = not_true (c == 45) h in record { simple = refl; takes = simp other; input = simp other; image = simp other }
+pub record FindsRun (words : List (List ℕ)) : Type 0 where
+  pub taken : IsTaken run_command words
+  pub trace : first_of (codes "trace") (matches_of run_command words) ≡ Some (named_file words)
+  pub image : first_of (codes "disk") (matches_of run_command words) ≡ named_image words
+  pub stream : first_of (codes "out") (matches_of run_command words) ≡ named_stream words
 
-runs_over : (word name image : List ℕ) → is_name name ≡ true → is_name image ≡ true → Finds run_command (word ∷ name ∷ codes "--disk" ∷ image ∷ [])
+pub record FindsResume (words : List (List ℕ)) : Type 0 where
+  pub taken : IsTaken resume_command words
+  pub stream : first_of (codes "stream") (matches_of resume_command words) ≡ Some (named_file words)
+  pub trace : first_of (codes "trace") (matches_of resume_command words) ≡ Some (second_file words)
+  pub image : first_of (codes "disk") (matches_of resume_command words) ≡ named_image words
+
+-- The arguments of each command, as clap has filled them in.
+abbrev file_shape : Shape
+file_shape = (built file_command).top
+
+abbrev run_shape : Shape
+run_shape = (built run_command).top
+
+abbrev resume_shape : Shape
+resume_shape = (built resume_command).top
+
+-- An option and its value.
+over_disk : (h : Held) (image : List ℕ) (words : List (List ℕ)) (end : Walk) → is_name image ≡ true → settle_passes run_shape.rules false h ≡ true
+    → Goes run_shape (standing (with_value run_shape.rules h (codes "disk") image) idle 2) words end → Goes run_shape (standing h idle 2) (codes "--disk" ∷ image ∷ words) end
 unfolding clap_on_literals
-runs_over word [] [] h k = record { simple = refl; takes = refl; input = refl; image = refl }
-runs_over word [] (d ∷ ds) h k = let behind : (d == 45) ≡ false = not_true (d == 45) k in record { simple = refl; takes = simp behind; input = simp behind; image = simp behind }
-runs_over word (c ∷ cs) [] h k = let other : (c == 45) ≡ false = not_true (c == 45) h in record { simple = refl; takes = simp other; input = simp other; image = simp other }
-runs_over word (c ∷ cs) (d ∷ ds) h k =
-    let other : (c == 45) ≡ false = not_true (c == 45) h in
-    let behind : (d == 45) ≡ false = not_true (d == 45) k in
-    record { simple = refl; takes = simp (other, behind); input = simp (other, behind); image = simp (other, behind) }
+over_disk h image words end name passes more =
+    goes_on run_shape (standing h idle 2) (standing (with_option run_shape.rules h (codes "disk")) (awaits (codes "disk")) 2) (codes "--disk") (image ∷ words) end (rw passes refl) refl
+    (goes_over_name run_shape (with_option run_shape.rules h (codes "disk")) (awaits (codes "disk")) 2 image words end name refl more)
+
+into_stream : (h : Held) (stream : List ℕ) (words : List (List ℕ)) (end : Walk) → is_name stream ≡ true → settle_passes run_shape.rules false h ≡ true
+    → Goes run_shape (standing (with_value run_shape.rules h (codes "out") stream) idle 2) words end → Goes run_shape (standing h idle 2) (codes "--out" ∷ stream ∷ words) end
+unfolding clap_on_literals
+into_stream h stream words end name passes more =
+    goes_on run_shape (standing h idle 2) (standing (with_option run_shape.rules h (codes "out")) (awaits (codes "out")) 2) (codes "--out") (stream ∷ words) end (rw passes refl) refl
+    (goes_over_name run_shape (with_option run_shape.rules h (codes "out")) (awaits (codes "out")) 2 stream words end name refl more)
+
+onto_disk : (h : Held) (image : List ℕ) (words : List (List ℕ)) (end : Walk) → is_name image ≡ true → settle_passes resume_shape.rules false h ≡ true
+    → Goes resume_shape (standing (with_value resume_shape.rules h (codes "disk") image) idle 3) words end → Goes resume_shape (standing h idle 3) (codes "--disk" ∷ image ∷ words) end
+unfolding clap_on_literals
+onto_disk h image words end name passes more =
+    goes_on resume_shape (standing h idle 3) (standing (with_option resume_shape.rules h (codes "disk")) (awaits (codes "disk")) 3) (codes "--disk") (image ∷ words) end (rw passes refl) refl
+    (goes_over_name resume_shape (with_option resume_shape.rules h (codes "disk")) (awaits (codes "disk")) 3 image words end name refl more)
+
+-- What is held behind the names that stand first.
+abbrev with_file : List ℕ → Held
+with_file name = with_value file_shape.rules nothing_held (codes "file") name
+
+abbrev with_trace : List ℕ → Held
+with_trace name = with_value run_shape.rules nothing_held (codes "trace") name
+
+abbrev with_stream : List ℕ → Held
+with_stream name = with_value resume_shape.rules nothing_held (codes "stream") name
+
+abbrev with_both : List ℕ → List ℕ → Held
+with_both stream trace = with_value resume_shape.rules (with_stream stream) (codes "trace") trace
+
+-- What clap takes and finds, where it stands so at the end.
+finds_file : (words : List (List ℕ)) (end : Walk) → Goes file_shape at_first (argument_words file_command words) end → does_end (built file_command) end ≡ true
+    → first_of (codes "file") (finished file_shape.rules end.held) ≡ Some (named_file words) → FindsFile words
+finds_file words end goes ends file = record {
+  taken = record { simple = refl; takes = is_taken file_command words end refl refl goes ends };
+  file = ap (first_of (codes "file")) (rows_are file_command words end refl goes) ∙ file;
+}
+
+finds_run : (words : List (List ℕ)) (end : Walk) → Goes run_shape at_first (argument_words run_command words) end → does_end (built run_command) end ≡ true
+    → first_of (codes "trace") (finished run_shape.rules end.held) ≡ Some (named_file words) → first_of (codes "disk") (finished run_shape.rules end.held) ≡ named_image words
+    → first_of (codes "out") (finished run_shape.rules end.held) ≡ named_stream words → FindsRun words
+finds_run words end goes ends trace image stream =
+    let rows = rows_are run_command words end refl goes in
+    record {
+      taken = record { simple = refl; takes = is_taken run_command words end refl refl goes ends };
+      trace = ap (first_of (codes "trace")) rows ∙ trace;
+      image = ap (first_of (codes "disk")) rows ∙ image;
+      stream = ap (first_of (codes "out")) rows ∙ stream;
+    }
+
+finds_resume : (words : List (List ℕ)) (end : Walk) → Goes resume_shape at_first (argument_words resume_command words) end → does_end (built resume_command) end ≡ true
+    → first_of (codes "stream") (finished resume_shape.rules end.held) ≡ Some (named_file words) → first_of (codes "trace") (finished resume_shape.rules end.held) ≡ Some (second_file words)
+    → first_of (codes "disk") (finished resume_shape.rules end.held) ≡ named_image words → FindsResume words
+finds_resume words end goes ends stream trace image =
+    let rows = rows_are resume_command words end refl goes in
+    record {
+      taken = record { simple = refl; takes = is_taken resume_command words end refl refl goes ends };
+      stream = ap (first_of (codes "stream")) rows ∙ stream;
+      trace = ap (first_of (codes "trace")) rows ∙ trace;
+      image = ap (first_of (codes "disk")) rows ∙ image;
+    }
+
+one_file : (word name : List ℕ) → is_name name ≡ true → FindsFile (word ∷ name ∷ [])
+unfolding clap_on_literals
+one_file word name h =
+    let end : Walk = standing (with_file name) idle 2 in
+    finds_file (word ∷ name ∷ []) end (goes_over_name file_shape nothing_held idle 1 name [] end h refl (goes_nowhere file_shape end)) refl refl
+
+-- The words behind the trace, and behind both names of a line of `resume`.
+trace_goes : (name : List ℕ) (words : List (List ℕ)) (end : Walk) → is_name name ≡ true → Goes run_shape (standing (with_trace name) idle 2) words end → Goes run_shape at_first (name ∷ words) end
+unfolding clap_on_literals
+trace_goes name words end h more = goes_over_name run_shape nothing_held idle 1 name words end h refl more
+
+both_go : (stream trace : List ℕ) (words : List (List ℕ)) (end : Walk) → is_name stream ≡ true → is_name trace ≡ true → Goes resume_shape (standing (with_both stream trace) idle 3) words end → Goes resume_shape at_first (stream ∷ trace ∷ words) end
+unfolding clap_on_literals
+both_go stream trace words end h k more =
+    goes_over_name resume_shape nothing_held idle 1 stream (trace ∷ words) end h refl (goes_over_name resume_shape (with_stream stream) idle 2 trace words end k refl more)
+
+runs : (word name : List ℕ) → is_name name ≡ true → FindsRun (word ∷ name ∷ [])
+unfolding clap_on_literals behind
+runs word name h =
+    let end : Walk = standing (with_trace name) idle 2 in
+    finds_run (word ∷ name ∷ []) end (trace_goes name [] end h (goes_nowhere run_shape end)) refl refl refl refl
+
+runs_over : (word name image : List ℕ) → is_name name ≡ true → is_name image ≡ true → FindsRun (word ∷ name ∷ codes "--disk" ∷ image ∷ [])
+unfolding clap_on_literals behind
+runs_over word name image h k =
+    let end : Walk = standing (with_value run_shape.rules (with_trace name) (codes "disk") image) idle 2 in
+    let other : bytes_eq image (codes "--out") ≡ false = no_option image _ k in
+    finds_run (word ∷ name ∷ codes "--disk" ∷ image ∷ []) end (trace_goes name _ end h (over_disk (with_trace name) image [] end k refl (goes_nowhere run_shape end))) refl refl refl (rw other refl)
+
+runs_into : (word name stream : List ℕ) → is_name name ≡ true → is_name stream ≡ true → FindsRun (word ∷ name ∷ codes "--out" ∷ stream ∷ [])
+unfolding clap_on_literals behind
+runs_into word name stream h k =
+    let end : Walk = standing (with_value run_shape.rules (with_trace name) (codes "out") stream) idle 2 in
+    let other : bytes_eq stream (codes "--disk") ≡ false = no_option stream _ k in
+    finds_run (word ∷ name ∷ codes "--out" ∷ stream ∷ []) end (trace_goes name _ end h (into_stream (with_trace name) stream [] end k refl (goes_nowhere run_shape end))) refl refl (rw other refl) refl
+
+runs_over_into : (word name image stream : List ℕ) → is_name name ≡ true → is_name image ≡ true → is_name stream ≡ true → FindsRun (word ∷ name ∷ codes "--disk" ∷ image ∷ codes "--out" ∷ stream ∷ [])
+unfolding clap_on_literals behind
+runs_over_into word name image stream h k l =
+    let over : Held = with_value run_shape.rules (with_trace name) (codes "disk") image in
+    let end : Walk = standing (with_value run_shape.rules over (codes "out") stream) idle 2 in
+    let other : bytes_eq image (codes "--out") ≡ false = no_option image _ k in
+    finds_run (word ∷ name ∷ codes "--disk" ∷ image ∷ codes "--out" ∷ stream ∷ []) end
+    (trace_goes name _ end h (over_disk (with_trace name) image _ end k refl (into_stream over stream [] end l refl (goes_nowhere run_shape end)))) refl refl refl (rw other refl)
+
+resumes : (word stream trace : List ℕ) → is_name stream ≡ true → is_name trace ≡ true → FindsResume (word ∷ stream ∷ trace ∷ [])
+unfolding clap_on_literals behind
+resumes word stream trace h k =
+    let end : Walk = standing (with_both stream trace) idle 3 in
+    let other : bytes_eq trace (codes "--disk") ≡ false = no_option trace _ k in
+    finds_resume (word ∷ stream ∷ trace ∷ []) end (both_go stream trace [] end h k (goes_nowhere resume_shape end)) refl refl refl (rw other refl)
+
+resumes_over : (word stream trace image : List ℕ) → is_name stream ≡ true → is_name trace ≡ true → is_name image ≡ true → FindsResume (word ∷ stream ∷ trace ∷ codes "--disk" ∷ image ∷ [])
+unfolding clap_on_literals behind
+resumes_over word stream trace image h k l =
+    let end : Walk = standing (with_value resume_shape.rules (with_both stream trace) (codes "disk") image) idle 3 in
+    let other : bytes_eq trace (codes "--disk") ≡ false = no_option trace _ k in
+    finds_resume (word ∷ stream ∷ trace ∷ codes "--disk" ∷ image ∷ []) end (both_go stream trace _ end h k (onto_disk (with_both stream trace) image [] end l refl (goes_nowhere resume_shape end))) refl refl refl (rw other refl)
 
 -- what `get_str` gives is told by the rows
 first_of_rows : (id : List ℕ) (entries : List Entry) → option_and_then (λ a. option_map (λ s. s.now) (slice_get a.vals.items 0)) (option_map (λ e. e.1) (find (λ e. bytes_eq e.0.now id) entries))
@@ -60,40 +190,77 @@ first_of_rows id (e ∷ entries) =
     first_text [] = refl
     first_text (v ∷ values) = refl
 
-both : (a b : Bool) → a && b ≡ true → (a ≡ true) × (b ≡ true)
+pub both : (a b : Bool) → a && b ≡ true → (a ≡ true) × (b ≡ true)
 both true true h = (refl, refl)
 both true false h = cc
 both false b h = cc
 
--- A line of the program is taken, and its names are what is found.
-pub check_finds : (words : List (List ℕ)) → is_check_line words ≡ true → Finds check_command words
-check_finds [] h = cc
-check_finds (word ∷ []) h = cc
-check_finds (word ∷ name ∷ []) h = checks word name (both (bytes_eq word (codes "check")) (is_name name) h).1
-check_finds (word ∷ name ∷ more ∷ others) h = cc
-
-bytes_same : (a b : List ℕ) → bytes_eq a b ≡ true → a ≡ b
+pub bytes_same : (a b : List ℕ) → bytes_eq a b ≡ true → a ≡ b
 bytes_same a b h = (bytes_eq-Decides a b).0 h
 
-option_finds : (word name option image : List ℕ) → is_name name ≡ true → is_option (codes "--disk") (option ∷ image ∷ []) ≡ true → Finds run_command (word ∷ name ∷ option ∷ image ∷ [])
-option_finds word name option image h k =
-    let parts = both (bytes_eq option (codes "--disk")) (is_name image) k in
-    subst (λ (o : List ℕ). Finds run_command (word ∷ name ∷ o ∷ image ∷ [])) (sym (bytes_same option (codes "--disk") parts.0)) (runs_over word name image h parts.1)
+-- A line of the program is taken, and its names are what is found.
+pub file_finds : (words : List (List ℕ)) → is_verb_and_file words ≡ true → FindsFile words
+file_finds [] h = cc
+file_finds (word ∷ []) h = cc
+file_finds (word ∷ name ∷ []) h = one_file word name h
+file_finds (word ∷ name ∷ more ∷ others) h = cc
 
-pub run_finds : (words : List (List ℕ)) → is_run_line words ≡ true → Finds run_command words
+-- an option and its name, as they stand
+option_is : (named option name : List ℕ) → is_option named (option ∷ name ∷ []) ≡ true → (option ≡ named) × (is_name name ≡ true)
+option_is named option name h = let parts = both (bytes_eq option named) (is_name name) h in (bytes_same option named parts.0, parts.1)
+
+-- the options of a run behind a disk
+run_over : (word name image : List ℕ) (words : List (List ℕ)) → is_name name ≡ true → is_name image ≡ true → is_option (codes "--out") words ≡ true → FindsRun (word ∷ name ∷ codes "--disk" ∷ image ∷ words)
+run_over word name image [] h k o = runs_over word name image h k
+run_over word name image (option ∷ []) h k o = cc
+run_over word name image (option ∷ stream ∷ []) h k o =
+    let is = option_is (codes "--out") option stream o in
+    subst (λ (x : List ℕ). FindsRun (word ∷ name ∷ codes "--disk" ∷ image ∷ x ∷ stream ∷ [])) (sym is.0) (runs_over_into word name image stream h k is.1)
+run_over word name image (option ∷ stream ∷ more ∷ others) h k o = cc
+
+-- the options of a run that has no disk
+run_into : (word name option stream : List ℕ) (words : List (List ℕ)) → is_name name ≡ true → is_option (codes "--out") (option ∷ stream ∷ words) ≡ true → FindsRun (word ∷ name ∷ option ∷ stream ∷ words)
+run_into word name option stream [] h o =
+    let is = option_is (codes "--out") option stream o in
+    subst (λ (x : List ℕ). FindsRun (word ∷ name ∷ x ∷ stream ∷ [])) (sym is.0) (runs_into word name stream h is.1)
+run_into word name option stream (more ∷ others) h o = cc
+
+run_with : (is_disk : Bool) (word name option image : List ℕ) (words : List (List ℕ)) → bytes_eq option (codes "--disk") ≡ is_disk → is_name name ≡ true
+    → (if is_disk then is_name image && is_option (codes "--out") words else is_option (codes "--out") (option ∷ image ∷ words)) ≡ true → FindsRun (word ∷ name ∷ option ∷ image ∷ words)
+run_with true word name option image words disk h o =
+    let parts = both (is_name image) (is_option (codes "--out") words) o in
+    subst (λ (x : List ℕ). FindsRun (word ∷ name ∷ x ∷ image ∷ words)) (sym (bytes_same option (codes "--disk") disk)) (run_over word name image words h parts.0 parts.1)
+run_with false word name option image words disk h o = run_into word name option image words h o
+
+pub run_finds : (words : List (List ℕ)) → is_run_line words ≡ true → FindsRun words
 run_finds [] h = cc
 run_finds (word ∷ []) h = cc
 run_finds (word ∷ name ∷ []) h =
     let front = both (bytes_eq word (codes "run") && is_name name) true h in
     runs word name (both (bytes_eq word (codes "run")) (is_name name) front.0).1
 run_finds (word ∷ name ∷ option ∷ []) h = let none = both (bytes_eq word (codes "run") && is_name name) false h in cc
-run_finds (word ∷ name ∷ option ∷ image ∷ []) h =
-    let parts = both (bytes_eq word (codes "run") && is_name name) (bytes_eq option (codes "--disk") && is_name image) h in
-    option_finds word name option image (both (bytes_eq word (codes "run")) (is_name name) parts.0).1 parts.1
-run_finds (word ∷ name ∷ option ∷ image ∷ more ∷ others) h = let none = both (bytes_eq word (codes "run") && is_name name) false h in cc
+run_finds (word ∷ name ∷ option ∷ image ∷ words) h =
+    let parts = both (bytes_eq word (codes "run") && is_name name) (are_run_options (option ∷ image ∷ words)) h in
+    run_with (bytes_eq option (codes "--disk")) word name option image words refl (both (bytes_eq word (codes "run")) (is_name name) parts.0).1 parts.1
+
+pub resume_finds : (words : List (List ℕ)) → is_resume_line words ≡ true → FindsResume words
+resume_finds [] h = cc
+resume_finds (word ∷ []) h = cc
+resume_finds (word ∷ stream ∷ []) h = cc
+resume_finds (word ∷ stream ∷ trace ∷ []) h =
+    let names = both (bytes_eq word (codes "resume") && is_name stream && is_name trace) true h in
+    let front = both (bytes_eq word (codes "resume") && is_name stream) (is_name trace) names.0 in
+    resumes word stream trace (both (bytes_eq word (codes "resume")) (is_name stream) front.0).1 front.1
+resume_finds (word ∷ stream ∷ trace ∷ option ∷ []) h = let none = both (bytes_eq word (codes "resume") && is_name stream && is_name trace) false h in cc
+resume_finds (word ∷ stream ∷ trace ∷ option ∷ image ∷ []) h =
+    let parts = both (bytes_eq word (codes "resume") && is_name stream && is_name trace) (is_option (codes "--disk") (option ∷ image ∷ [])) h in
+    let front = both (bytes_eq word (codes "resume") && is_name stream) (is_name trace) parts.0 in
+    let is = option_is (codes "--disk") option image parts.1 in
+    subst (λ (x : List ℕ). FindsResume (word ∷ stream ∷ trace ∷ x ∷ image ∷ [])) (sym is.0) (resumes_over word stream trace image (both (bytes_eq word (codes "resume")) (is_name stream) front.0).1 front.1 is.1)
+resume_finds (word ∷ stream ∷ trace ∷ option ∷ image ∷ more ∷ others) h = let none = both (bytes_eq word (codes "resume") && is_name stream && is_name trace) false h in cc
 
 -- What `get_str` reads of the matches is what stands in the rows.
-pub reads : (m : ArgMatches) (app of : App) (words : List (List ℕ)) (id : List ℕ) → app ≡ of → Finds of words → HasMatchesOf app words m → first_value (found_of m) id ≡ first_of id (matches_of of words)
+pub reads : (m : ArgMatches) (app of : App) (words : List (List ℕ)) (id : List ℕ) → app ≡ of → IsTaken of words → HasMatchesOf app words m → first_value (found_of m) id ≡ first_of id (matches_of of words)
 reads m app of words id is finds has =
     let rows = (has (ap is_simple is ∙ finds.simple)).0 in
     first_of_rows id (found_of m).entries.items ∙ ap (first_of id) (rows ∙ ap (λ a. matches_of a words) is)

@@ -1,5 +1,5 @@
 -- What was written, whole or a beginning of it, and what failed.
-use Rattle.std.proofs.Common.{ℕ, List, length, Option, Some, None, Result, Ok, Err, OnOk, OnErr, refl}
+use Rattle.std.proofs.Common.{ℕ, List, [], append-nil, sym, length, Option, Some, None, Result, Ok, Err, OnOk, OnErr, refl}
 use Rattle.std.proofs.Math.Seq.{take-length}
 use Rattle.std.specs.Io.KnownBytes.{Appends, Keeps}
 use Rattle.traces.specs.Replies.{AppendsBeginning}
@@ -9,6 +9,10 @@ use Rattle.traces.specs.declared.parts.WriteFault.{WriteFault}
 pub keeps_same : (o : Option (List ℕ)) → Keeps o o
 keeps_same None = tt
 keeps_same (Some bytes) = refl
+
+pub nothing_more : (o : Option (List ℕ)) → Appends o o []
+nothing_more None = tt
+nothing_more (Some bytes) = sym (append-nil bytes)
 
 -- the whole is a beginning of itself
 pub whole_begun : (a b : Option (List ℕ)) (xs : List ℕ) → Appends a b xs → AppendsBeginning a b xs

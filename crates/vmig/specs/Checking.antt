@@ -1,5 +1,5 @@
 -- What `check` does: a stream is received over disks in memory, and one line says of what machine it is.
-use Rattle.std.specs.Prelude.{◌≡◌, ◌⊎◌, ◌/◌, ℕ, List, [], length}
+use Rattle.std.specs.Prelude.{◌≡◌, ◌⊎◌, ◌/◌, ℕ, List, [], length, map, replicate}
 use Rattle.guestmem.specs.declared.limits.TheConstants.{PAGE_SIZE}
 use Rattle.machine.specs.Shapes.{disk_sizes}
 use Rattle.machine.specs.State.{MachineState}
@@ -11,6 +11,10 @@ use Rattle.wire.specs.Header.{Begins}
 use Rattle.vmig.specs.Faults.{stream_fault}
 use Rattle.vmig.specs.declared.fault.Fault.{Fault}
 use Rattle.vmig.specs.declared.fault.Fault.TheVariants.{NoMemory}
+
+-- Disks of zeros for devices of these shapes, as many as have one.
+abbrev pub zero_disks : List Shape → List (List (List ℕ))
+zero_disks shapes = map (λ size. replicate size (replicate 512 0)) (disk_sizes shapes)
 
 -- The bytes are the stream of a machine, and this is its line.
 pub record IsStreamLine (bytes line : List ℕ) : Type 0 where

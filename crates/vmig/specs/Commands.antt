@@ -3,16 +3,22 @@ use Rattle.std.specs.Prelude.{ℕ, true, List, codes, Some}
 use Rattle.clap.specs.Words.{App, Rule, new_app, new_rule, with_rule}
 use Rattle.clap.specs.declared.builder.ArgAction.TheVariants.{Set}
 
-abbrev pub input_argument : Rule
-input_argument = record (new_rule (codes "input")) { required = true; action = Some Set }
+-- a file that is to be given
+abbrev pub file_argument : List ℕ → Rule
+file_argument id = record (new_rule id) { required = true; action = Some Set }
 
-abbrev pub disk_option : Rule
-disk_option = record (new_rule (codes "disk")) { long = Some (codes "disk"); action = Some Set }
+-- an option with a file
+abbrev pub file_option : List ℕ → Rule
+file_option name = record (new_rule name) { long = Some name; action = Some Set }
 
--- `check`, and the name of a file
-abbrev pub check_command : App
-check_command = with_rule (new_app (codes "check")) input_argument
-
--- `run`, the name of a file, and the image of a disk
+-- `run`, the name of a file, the image of a disk, and a stream
 abbrev pub run_command : App
-run_command = with_rule (with_rule (new_app (codes "run")) input_argument) disk_option
+run_command = with_rule (with_rule (with_rule (new_app (codes "run")) (file_argument (codes "trace"))) (file_option (codes "disk"))) (file_option (codes "out"))
+
+-- `resume`, the names of two files, and the image of a disk
+abbrev pub resume_command : App
+resume_command = with_rule (with_rule (with_rule (new_app (codes "resume")) (file_argument (codes "stream"))) (file_argument (codes "trace"))) (file_option (codes "disk"))
+
+-- a verb, and the name of a file
+abbrev pub file_command : App
+file_command = with_rule (new_app (codes "vmig")) (file_argument (codes "file"))

@@ -1,5 +1,5 @@
 -- The faults of the program: which refusal each stands for, its exit status, and its line on standard error.
-use Rattle.std.specs.Prelude.{◌≡◌, ℕ, List, ◌++◌, codes, decimal}
+use Rattle.std.specs.Prelude.{◌≡◌, ℕ, List, [], ◌++◌, codes, decimal}
 use Rattle.std.specs.Borrow.{Bor}
 use Rattle.std.specs.declared.io.ErrorKind.{ErrorKind}
 use Rattle.std.specs.declared.io.ErrorKind.TheVariants.{OutOfMemory}
@@ -13,7 +13,7 @@ use Rattle.traces.specs.Replies.{newline}
 use Rattle.traces.specs.declared.trace.TraceError.{TraceError}
 use Rattle.traces.specs.declared.trace.TraceError.TheVariants as trace_error
 use Rattle.vmig.specs.declared.fault.Fault.{Fault}
-use Rattle.vmig.specs.declared.fault.Fault.TheVariants.{NoMemory, Usage, File, Line, Shape, Stream}
+use Rattle.vmig.specs.declared.fault.Fault.TheVariants.{NoMemory, Usage, File, Line, Shape, Stream, StreamOut, NotEqual}
 use Rattle.vmig.specs.declared.words.WordsError.{WordsError}
 use Rattle.vmig.specs.declared.words.WordsError.TheVariants as words_error
 
@@ -22,9 +22,9 @@ abbrev pub words_fault : WordsError → Fault
 words_fault words_error.Usage = Usage
 words_fault words_error.NoMemory = NoMemory
 
-abbrev pub read_fault : Bor (List ℕ) → ErrorKind → Fault
-read_fault name OutOfMemory = NoMemory
-read_fault name _ = File name
+abbrev pub file_fault : Bor (List ℕ) → ErrorKind → Fault
+file_fault name OutOfMemory = NoMemory
+file_fault name _ = File name
 
 abbrev pub trace_fault : TraceError → Fault
 trace_fault trace_error.NoMemory = NoMemory
@@ -46,8 +46,10 @@ status_of (File name) = 3
 status_of (Line number) = 4
 status_of (Shape refusal) = 4
 status_of (Stream refusal) = 5
+status_of StreamOut = 5
+status_of NotEqual = 5
 
--- The line on standard error. Numbers are decimal, without leading zeros.
+-- The line on standard error; there is none where standard output tells it. Numbers are decimal, without leading zeros.
 abbrev pub fault_line : Fault → List ℕ
 fault_line NoMemory = codes "vmig: memory" ++ newline
 fault_line Usage = codes "vmig: usage" ++ newline
@@ -55,8 +57,10 @@ fault_line (File name) = codes "vmig: file " ++ name.now ++ newline
 fault_line (Line number) = codes "vmig: trace line " ++ decimal number ++ newline
 fault_line (Shape refusal) = codes "vmig: shape " ++ decimal refusal ++ newline
 fault_line (Stream refusal) = codes "vmig: stream " ++ decimal refusal ++ newline
+fault_line StreamOut = codes "vmig: stream out" ++ newline
+fault_line NotEqual = []
 
--- a file of this name could not be opened or read
+-- a file of this name could not be opened, made or read
 abbrev pub TellsOfFile : List ℕ → Fault → Type 0
 TellsOfFile named NoMemory = Unit {0}
 TellsOfFile named (File name) = name.now ≡ named

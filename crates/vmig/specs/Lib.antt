@@ -3,5 +3,7 @@ pub mod Commands
 pub mod Faults
 pub mod Output
 pub mod Playing
+pub mod Resuming
 pub mod Checking
+pub mod Comparing
 pub mod Run

@@ -1,9 +1,15 @@
--- What was written to standard output, and how a run of the program failed.
-use Rattle.std.specs.Prelude.{◌≡◌, ◌⊎◌, ℕ, List, Option}
+-- What was written to standard output, and how a run of the program failed. An output of some kind comes with an ending: what
+-- is told behind it, if anything is.
+use Rattle.std.specs.Prelude.{◌≡◌, ◌⊎◌, ℕ, List, [], ◌∷◌, Option, Some, None}
 use Rattle.std.specs.Io.KnownBytes.{Appends, Keeps}
 use Rattle.traces.specs.Replies.{AppendsBeginning}
 use Rattle.vmig.specs.Faults.{TellsOfFile, TellsOfOutput}
 use Rattle.vmig.specs.declared.fault.Fault.{Fault}
+
+-- This alone is in the list.
+pub record IsOne {A : Type 0} (list : List A) : Type 0 where
+  pub only : A
+  pub is : list ≡ only ∷ []
 
 -- An output of this kind was written.
 pub record HasWritten (IsOutput : List ℕ → Type 0) (old new : Option (List ℕ)) : Type 0 where
@@ -12,18 +18,24 @@ pub record HasWritten (IsOutput : List ℕ → Type 0) (old new : Option (List �
   pub written : Appends old new output
 
 -- A beginning of an output of this kind was written.
-pub record HasBegun (IsOutput : List ℕ → Type 0) (old new : Option (List ℕ)) : Type 0 where
+pub record HasBegun (IsOutput : Option Fault → List ℕ → Type 0) (old new : Option (List ℕ)) : Type 0 where
+  pub ending : Option Fault
   pub output : List ℕ
-  pub asked : IsOutput output
+  pub asked : IsOutput ending output
   pub begun : AppendsBeginning old new output
 
--- It failed: before anything was written, or where standard output did.
-abbrev pub Fails : (Fault → Type 0) → (List ℕ → Type 0) → Option (List ℕ) → Option (List ℕ) → Fault → Type 0
-Fails Tells IsOutput old new fault = (Tells fault × Keeps old new) ⊎ (TellsOfOutput fault × HasBegun IsOutput old new)
+-- An output behind which nothing is told.
+abbrev pub Silently : (List ℕ → Type 0) → Option Fault → List ℕ → Type 0
+Silently IsOutput None output = IsOutput output
+Silently IsOutput (Some fault) output = ⊥
+
+-- It failed: before anything was written, or where standard output did, or behind its whole output.
+abbrev pub Fails : (Fault → Type 0) → (Option Fault → List ℕ → Type 0) → Option (List ℕ) → Option (List ℕ) → Fault → Type 0
+Fails Tells IsOutput old new fault = (Tells fault × Keeps old new) ⊎ (TellsOfOutput fault × HasBegun IsOutput old new) ⊎ HasWritten (IsOutput (Some fault)) old new
 
 -- The same of the file of this name. No contract says what a file holds, so it is said of some text.
-abbrev pub HasDoneFile : (List ℕ → List ℕ → Type 0) → Option (List ℕ) → Option (List ℕ) → Type 0
-HasDoneFile IsOutput old new = (text : List ℕ) × HasWritten (IsOutput text) old new
+abbrev pub HasDoneFile : (List ℕ → Option Fault → List ℕ → Type 0) → Option (List ℕ) → Option (List ℕ) → Type 0
+HasDoneFile IsOutput old new = (text : List ℕ) × HasWritten (IsOutput text None) old new
 
-abbrev pub FailsOnFile : List ℕ → (List ℕ → Fault → Type 0) → (List ℕ → List ℕ → Type 0) → Option (List ℕ) → Option (List ℕ) → Fault → Type 0
+abbrev pub FailsOnFile : List ℕ → (List ℕ → Fault → Type 0) → (List ℕ → Option Fault → List ℕ → Type 0) → Option (List ℕ) → Option (List ℕ) → Fault → Type 0
 FailsOnFile named Tells IsOutput old new fault = (TellsOfFile named fault × Keeps old new) ⊎ ((text : List ℕ) × Fails (Tells text) (IsOutput text) old new fault)

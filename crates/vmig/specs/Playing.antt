@@ -1,57 +1,96 @@
 -- What `run` does: a trace is played on a fresh machine, and the line of each reply is written.
-use Rattle.std.specs.Prelude.{◌≡◌, ◌⊎◌, ℕ, List, [], ◌∷◌, length, map, flat_map, Option, Some, None, MatchOption}
+use Rattle.std.specs.Prelude.{◌≡◌, ◌≢◌, ◌⊎◌, ℕ, List, [], ◌∷◌, length, flat_map, if◌then◌else◌, Option, Some, None, MatchOption}
+use Rattle.std.specs.List.{list_any}
 use Rattle.blk.specs.Sectors.{Sector}
 use Rattle.machine.specs.State.{MachineState}
 use Rattle.machine.specs.First.{first_machine, new_refusal}
-use Rattle.machine.specs.Outcome.{outcome_of}
-use Rattle.machine.specs.Run.{IsRun}
-use Rattle.machine.specs.declared.reply.Reply.{Reply}
+use Rattle.sender.specs.History.{is_fault}
+use Rattle.sender.specs.Ran.{Ran}
+use Rattle.sender.specs.declared.event.LiveEvent.{LiveEvent}
+use Rattle.sender.specs.declared.event.LiveReply.{LiveReply}
 use Rattle.traces.specs.Trace.{Contents, IsTrace, Refuses as RefusesText}
-use Rattle.traces.specs.Replies.{reply_line}
+use Rattle.traces.specs.Replies.{live_reply_line}
 use Rattle.traces.specs.declared.trace.TraceError.{TraceError}
+use Rattle.wire.specs.Sinks.{SinkState}
 use Rattle.vmig.specs.Faults.{TellsOfFile, trace_fault, shape_fault}
 use Rattle.vmig.specs.declared.fault.Fault.{Fault}
-use Rattle.vmig.specs.declared.fault.Fault.TheVariants.{NoMemory}
+use Rattle.vmig.specs.declared.fault.Fault.TheVariants.{NoMemory, Line, StreamOut}
 
--- These are replies of a fresh machine of the trace's shape, whose disks hold these sectors, to its events, each event with
--- the outcome of its reply.
-pub record AreReplies (c : Contents) (disks : List (List Sector)) (replies : List Reply) : Type 0 where
+-- These are replies of the machine to the events, while it is sent to some writer.
+pub record ArePlayed (m : MachineState) (events : List LiveEvent) (replies : List LiveReply) : Type 0 where
   pub last : MachineState
-  pub run : IsRun (first_machine c.pages c.shapes disks) c.events (map outcome_of replies) replies last
+  pub before : SinkState
+  pub after : SinkState
+  pub ran : Ran m events replies before last after
+
+-- These are replies of a fresh machine of the trace's shape, whose disks hold these sectors, to its events.
+abbrev pub AreReplies : Contents → List (List Sector) → List LiveReply → Type 0
+AreReplies c disks replies = ArePlayed (first_machine c.pages c.shapes disks) c.events replies
+
+-- How a run ends behind its replies: where one says that the writer failed, the stream could not be written.
+abbrev pub ending_of : List LiveReply → Option Fault
+ending_of replies = if list_any is_fault replies then Some StreamOut else None
+
+-- A trace that begins to send its machine needs a stream.
+abbrev pub MayPlay : Option (List ℕ) → Contents → Type 0
+MayPlay None c = c.begin_line ≡ 0
+MayPlay (Some stream) c = Unit {0}
 
 -- The text is a trace, and these are the lines of such replies to it, in order. Its machine has no disk.
-pub record AreReplyLines (text lines : List ℕ) : Type 0 where
+pub record AreReplyLines (stream : Option (List ℕ)) (text : List ℕ) (ending : Option Fault) (lines : List ℕ) : Type 0 where
   pub contents : Contents
   pub trace : IsTrace text contents
-  pub replies : List Reply
+  pub may : MayPlay stream contents
+  pub replies : List LiveReply
   pub answered : AreReplies contents [] replies
-  pub spelled : lines ≡ flat_map reply_line replies
+  pub spelled : lines ≡ flat_map live_reply_line replies
+  pub ends : ending ≡ ending_of replies
 
 -- The text is a trace, and these are the lines of as many replies as it has events. What the file of an image holds, and so what
 -- its machine answers, no contract says.
-pub record AreLinesOverImage (text lines : List ℕ) : Type 0 where
+pub record AreLinesOverImage (stream : Option (List ℕ)) (text : List ℕ) (ending : Option Fault) (lines : List ℕ) : Type 0 where
   pub contents : Contents
   pub trace : IsTrace text contents
-  pub replies : List Reply
+  pub may : MayPlay stream contents
+  pub replies : List LiveReply
   pub each : length replies ≡ length contents.events
-  pub spelled : lines ≡ flat_map reply_line replies
+  pub spelled : lines ≡ flat_map live_reply_line replies
+  pub ends : ending ≡ ending_of replies
 
--- What is written of a text, over the image of this name or over no disk.
-abbrev pub AreLinesOver : Option (List ℕ) → List ℕ → List ℕ → Type 0
-AreLinesOver None text lines = AreReplyLines text lines
-AreLinesOver (Some image) text lines = AreLinesOverImage text lines
+-- What is written of a text, over the image of this name or over no disk, with this stream or none.
+abbrev pub AreLinesOver : Option (List ℕ) → Option (List ℕ) → List ℕ → Option Fault → List ℕ → Type 0
+AreLinesOver None stream text ending lines = AreReplyLines stream text ending lines
+AreLinesOver (Some image) stream text ending lines = AreLinesOverImage stream text ending lines
+
+-- What a fault says of a trace that has no stream: its first line that begins to send the machine.
+abbrev pub TellsOfBegin : Option (List ℕ) → Contents → Fault → Type 0
+TellsOfBegin None c fault = (c.begin_line ≢ 0) × (fault ≡ Line c.begin_line)
+TellsOfBegin (Some stream) c fault = ⊥
 
 -- What a fault says of a trace whose machine was to get disks of these sizes: there is no such machine, or else memory was
 -- refused.
 abbrev pub TellsOfTrace : Contents → List ℕ → Fault → Type 0
 TellsOfTrace c sizes fault = MatchOption (new_refusal c.pages c.shapes sizes) (fault ≡ NoMemory) (λ refusal. fault ≡ shape_fault refusal)
 
--- What a fault says of a trace over an image: it is no image of a disk, or it is one of so many sectors, and there is no such
--- machine.
-abbrev pub TellsOver : Option (List ℕ) → Contents → Fault → Type 0
-TellsOver None c fault = TellsOfTrace c [] fault
-TellsOver (Some image) c fault = TellsOfFile image fault ⊎ ((sectors : ℕ) × TellsOfTrace c (sectors ∷ []) fault)
+-- What a fault says of the stream: it could not be made.
+abbrev pub TellsOfOut : Option (List ℕ) → Fault → Type 0
+TellsOfOut None fault = ⊥
+TellsOfOut (Some stream) fault = TellsOfFile stream fault
 
--- What a fault says of a text: it is no trace, or one that could not be played.
-abbrev pub TellsOfText : Option (List ℕ) → List ℕ → Fault → Type 0
-TellsOfText image text fault = ((refusal : TraceError) × RefusesText text refusal × (fault ≡ trace_fault refusal)) ⊎ ((c : Contents) × IsTrace text c × TellsOver image c fault)
+-- What a fault says of a trace that is to be played with a stream: it tells of its machine, and where there is one, of the
+-- stream.
+abbrev pub TellsOfSending : Option (List ℕ) → Contents → List ℕ → Fault → Type 0
+TellsOfSending stream c sizes fault = TellsOfTrace c sizes fault ⊎ ((new_refusal c.pages c.shapes sizes ≡ None) × TellsOfOut stream fault)
+
+-- What a fault says of a trace over an image: it is no image of a disk, or it is one of so many sectors.
+abbrev pub TellsOver : Option (List ℕ) → Option (List ℕ) → Contents → Fault → Type 0
+TellsOver None stream c fault = TellsOfSending stream c [] fault
+TellsOver (Some image) stream c fault = TellsOfFile image fault ⊎ ((sectors : ℕ) × TellsOfSending stream c (sectors ∷ []) fault)
+
+-- What a fault says of a trace: it has no stream, or it could not be played.
+abbrev pub TellsOfContents : Option (List ℕ) → Option (List ℕ) → Contents → Fault → Type 0
+TellsOfContents image stream c fault = TellsOfBegin stream c fault ⊎ (MayPlay stream c × TellsOver image stream c fault)
+
+-- What a fault says of a text: it is no trace, or it tells of the trace.
+abbrev pub TellsOfText : Option (List ℕ) → Option (List ℕ) → List ℕ → Fault → Type 0
+TellsOfText image stream text fault = ((refusal : TraceError) × RefusesText text refusal × (fault ≡ trace_fault refusal)) ⊎ ((c : Contents) × IsTrace text c × TellsOfContents image stream c fault)

@@ -3,11 +3,10 @@
 ghost use Rattle.std.specs.Prelude.{◌≡◌, ◌∷◌, ◌++◌, [], IfOk, IfErr, OnOk, OnErr, length, map};
 ghost use Rattle.std.specs.Io.KnownBytes.{Appends};
 ghost use Rattle.machine.specs.Seen.{state_of};
-ghost use Rattle.machine.specs.Shapes.{disk_sizes};
 ghost use Rattle.receiver.specs.Receiving.{IsReceived};
 ghost use Rattle.traces.specs.Replies.{checked_line, AppendsBeginning};
-ghost use Rattle.vmig.specs.Checking.{AreSizesOf, IsStreamLine, TellsOfStream};
-ghost use Rattle.vmig.specs.Output.{Fails, FailsOnFile, HasDoneFile, HasWritten};
+ghost use Rattle.vmig.specs.Checking.{AreSizesOf, IsStreamLine, TellsOfStream, zero_disks};
+ghost use Rattle.vmig.specs.Output.{Fails, FailsOnFile, HasDoneFile, HasWritten, Silently};
 
 use crate::fault::Fault;
 use crate::output::{flush, read_file};
@@ -26,8 +25,8 @@ pub fn check_stream<'a, R: Files + AllocGlobal, O: Write>(
     name: &'a str,
     out: &mut O,
 ) -> Result<(), Fault<'a>>
-    ensures done { OnOk result (HasDoneFile IsStreamLine (O.contents out.old) (O.contents out.new)) }
-    ensures failed { IfErr result (FailsOnFile name.entry.now TellsOfStream IsStreamLine (O.contents out.old) (O.contents out.new)) }
+    ensures done { OnOk result (HasDoneFile (λ bytes. Silently (IsStreamLine bytes)) (O.contents out.old) (O.contents out.new)) }
+    ensures failed { IfErr result (FailsOnFile name.entry.now TellsOfStream (λ bytes. Silently (IsStreamLine bytes)) (O.contents out.old) (O.contents out.new)) }
 {
     let bytes = read_file(rt, name)?;
     check_bytes(rt.alloc(), bytes.as_slice(), out)
@@ -36,7 +35,7 @@ pub fn check_stream<'a, R: Files + AllocGlobal, O: Write>(
 /// Reads the stream of a machine, and writes its line.
 fn check_bytes<O: Write>(alloc: Global, bytes: &[u8], out: &mut O) -> Result<(), Fault<'static>>
     ensures done { OnOk result (HasWritten (IsStreamLine bytes.now) (O.contents out.old) (O.contents out.new)) }
-    ensures failed { IfErr result (Fails (TellsOfStream bytes.now) (IsStreamLine bytes.now) (O.contents out.old) (O.contents out.new)) }
+    ensures failed { IfErr result (Fails (TellsOfStream bytes.now) (Silently (IsStreamLine bytes.now)) (O.contents out.old) (O.contents out.new)) }
 {
     let (machine, rounds) = receive_in_memory(alloc, bytes)?;
     let pages = machine.ram().len() / PAGE_SIZE as u64;
@@ -65,8 +64,9 @@ fn memory_disks(alloc: Global, bytes: &[u8]) -> Result<Vec<MemDisk>, NoMemory>
     }
 }
 
-fn disks_of(alloc: Global, shapes: &[Shape]) -> Result<Vec<MemDisk>, NoMemory>
-    ensures { IfOk result (λ disks. map length disks.items ≡ disk_sizes shapes.now) }
+/// Disks of zeros in memory for devices of these shapes.
+pub fn disks_of(alloc: Global, shapes: &[Shape]) -> Result<Vec<MemDisk>, NoMemory>
+    ensures { IfOk result (λ disks. disks.items ≡ zero_disks shapes.now) }
 {
     let mut disks = Vec::new(alloc);
     for i in 0..shapes.len() {
@@ -77,7 +77,7 @@ fn disks_of(alloc: Global, shapes: &[Shape]) -> Result<Vec<MemDisk>, NoMemory>
 
 /// Adds the disk of a device, if it has one.
 fn add_disk(alloc: Global, shape: Shape, disks: &mut Vec<MemDisk>) -> Result<(), NoMemory>
-    ensures { OnOk result (map length disks.new.items ≡ map length disks.old.items ++ disk_sizes (shape ∷ [])) }
+    ensures { OnOk result (disks.new.items ≡ disks.old.items ++ zero_disks (shape ∷ [])) }
 {
     match shape {
         Shape::Block { sectors, .. } => disks.push(MemDisk::new(alloc, sectors)?)?,

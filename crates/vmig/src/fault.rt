@@ -4,7 +4,7 @@ ghost use Rattle.std.specs.Prelude.{◌≡◌, OnOk, OnErr};
 ghost use Rattle.std.specs.Io.KnownBytes.{Appends};
 ghost use Rattle.traces.specs.Replies.{AppendsBeginning};
 ghost use Rattle.vmig.specs.declared.fault.Fault.TheVariants as faults;
-ghost use Rattle.vmig.specs.Faults.{words_fault, read_fault, trace_fault, shape_fault, stream_fault, status_of, fault_line, TellsOfOutput};
+ghost use Rattle.vmig.specs.Faults.{words_fault, file_fault, trace_fault, shape_fault, stream_fault, status_of, fault_line, TellsOfOutput};
 
 use crate::words::WordsError;
 use guestmem::NoMemory;
@@ -25,10 +25,10 @@ pub enum Fault<'a> {
     /// The words are no line of the program.
     Usage,
 
-    /// The file of this name can't be opened or read, or is no image of a disk, or standard output failed.
+    /// The file of this name can't be opened, made or read, or is no image of a disk, or standard output failed.
     File(&'a str),
 
-    /// The first bad line of the trace.
+    /// The first bad line of the trace, or the first that begins to send its machine where there is no stream.
     Line(u64),
 
     /// The refusal of a machine of this shape, by its number.
@@ -36,6 +36,12 @@ pub enum Fault<'a> {
 
     /// The refusal of a stream, by its number.
     Stream(u8),
+
+    /// The stream could not be written.
+    StreamOut,
+
+    /// What was rehearsed did not arrive as an equal machine. Standard output says so.
+    NotEqual,
 }
 
 impl From<NoMemory> for Fault<'_> {
@@ -100,9 +106,9 @@ impl From<WriteFault> for Fault<'_> {
 }
 
 impl<'a> Fault<'a> {
-    /// What a file of this name that can't be opened or read is to the program.
-    pub fn of_read(name: &'a str, kind: ErrorKind) -> Fault<'a>
-        ensures { result ≡ read_fault name.entry kind }
+    /// What a file of this name that can't be opened, made or read is to the program.
+    pub fn of_file(name: &'a str, kind: ErrorKind) -> Fault<'a>
+        ensures { result ≡ file_fault name.entry kind }
     {
         match kind {
             ErrorKind::OutOfMemory => Fault::NoMemory,
@@ -119,11 +125,11 @@ impl<'a> Fault<'a> {
             Fault::Usage => 2,
             Fault::File(_) => 3,
             Fault::Line(_) | Fault::Shape(_) => 4,
-            Fault::Stream(_) => 5,
+            Fault::Stream(_) | Fault::StreamOut | Fault::NotEqual => 5,
         }
     }
 
-    /// Writes its line and LF, or a beginning of it. It takes no memory.
+    /// Writes its line and LF, or a beginning of it; one that standard output told has none. It takes no memory.
     pub fn write<W: Write>(self, out: &mut W) -> Result<(), WriteFault>
         ensures ok { OnOk result (Appends (W.contents out.old) (W.contents out.new) (fault_line self.entry)) }
         ensures err { OnErr result (AppendsBeginning (W.contents out.old) (W.contents out.new) (fault_line self.entry)) }
@@ -135,6 +141,8 @@ impl<'a> Fault<'a> {
             Fault::Line(number) => put_number(out, b"vmig: trace line ", number),
             Fault::Shape(refusal) => put_number(out, b"vmig: shape ", refusal as u64),
             Fault::Stream(refusal) => put_number(out, b"vmig: stream ", refusal as u64),
+            Fault::StreamOut => put(out, b"vmig: stream out\n"),
+            Fault::NotEqual => Ok(()),
         }
     }
 }

@@ -13,7 +13,7 @@ pub use sender::laws::{
     after_is_run, calls_follow, fresh_is_last, replies_settle, stale_is_not_fresh,
     stopped_is_a_stream,
 };
-pub use traces::laws::texts_are_read_in_one_way;
+pub use traces::laws::{events_are_read_in_one_way, texts_are_read_in_one_way};
 pub use wire::laws::{
     a_stream_has_one_count_of_rounds, a_stream_has_one_machine, no_record_begins_another,
     whole_is_a_stream,

@@ -1,35 +1,40 @@
 //! All that an embedder needs, from one crate, and the program `vmig` as a library.
 //!
 //! Machines, their events and their replies are those of `machine`; `Live`, `replay` and `save` are those of `sender`, and
-//! `Receiver` and `receive` those of `receiver`, over the sinks and records of `wire`; `parse`, `write_reply` and what
-//! belongs to them are those of `traces`.
+//! `Receiver` and `receive` those of `receiver`, over the sinks and records of `wire`; `rehearse` is that of `rehearsal`, and
+//! `parse`, `write_reply` and what belongs to them are those of `traces`.
 //! The functions of `laws` are the laws of all of these.
 //!
 //! `execute` is the whole program: its words, the files that they name, what it prints and its exit status. The crate
 //! `vmig_program` is `main` alone.
 //!
 //! What the layer above may rely on: `execute` answers 2 exactly where the words are no line of the program, and 0 only
-//! where it wrote the lines of the replies of a fresh machine to a trace, or the line of a stream, and nothing to standard
+//! where it wrote the lines of the replies of a machine to a trace, or the line of a stream, and nothing to standard
 //! error. With every other status a fault says why, and its line was written to standard error, or a beginning of it where
-//! that failed. Each refusal of a layer below has its fault, and before a fault of anything but standard output nothing was
-//! written to that. The contracts of files say nothing of what a file holds. So that the trace or the stream is the one in the
-//! file is not in its contract, and of a run over an image it says only that there is a line for a reply to each event: the
-//! crate `calls` shows both.
+//! that failed. Each refusal of a layer below has its fault. Nothing was written to standard output before a fault, but where that
+//! failed itself, or where the fault comes behind the whole output: of a stream that could not be written, or of a rehearsal
+//! that did not end in equal machines. `rehearse` writes `equal` only of machines that answered alike and have the same lines, RAM
+//! and sectors, and `differ` only where memory was refused to one of them. The contracts of files say nothing of what a file holds. So that the trace or the stream
+//! is the one in the file, and that what sends a machine is what the new file holds, is not in its contract, and of a run over an
+//! image it says only that there is a line for a reply to each event: the crate `calls` shows all of this.
 //!
 //! The definitions stand in `specs/`: `Words` the program's words, `Faults` which refusal each fault stands for, its status
-//! and its line, `Playing` and `Checking` what `run` and `check` write and what a fault of theirs says, `Output` how much of it
-//! was written, and `Run` all of it by the words. `Commands` is for the private parts of `words` alone.
+//! and its line, `Playing`, `Resuming`, `Checking` and `Comparing` what `run`, `resume`, `check` and `rehearse` write and what a
+//! fault of theirs says, `Output` how much of it was written, and `Run` all of it by the words. `Commands` is for the private
+//! parts of `words` alone.
 //!
 //! It stands on the crates that it hands on, and on `clap` for the words, of which this crate first finds that they are a line of
 //! its own; that clap then refuses them only for want of memory, and finds the names that stand in them, is proved.
 #![tactic(auto)]
 
 mod checking;
+mod comparing;
 mod fault;
 pub mod laws;
 mod output;
 mod playing;
 mod program;
+mod resuming;
 mod words;
 
 pub use dirtylog::BitSet;
@@ -40,11 +45,15 @@ pub use machine::{
 };
 pub use program::execute;
 pub use receiver::{Receiver, RecvError, receive};
+pub use rehearsal::{Rehearsal, rehearse};
 pub use sender::{
     CopyAnswer, End, Item, Live, LiveEvent, LiveReply, MigError, Phase, Remaining, Replay, Stopped,
     replay, save,
 };
-pub use traces::{Trace, TraceError, WriteFault, parse, write_checked, write_reply};
+pub use traces::{
+    Trace, TraceError, WriteFault, parse, parse_events, write_checked, write_guest_reply,
+    write_reply,
+};
 pub use wire::{
     DecodeError, Header, Record, Sink, SinkFault, WriteSink, decode_device, decode_header,
     decode_record, encode_commit, encode_device, encode_header, encode_page, encode_round,

@@ -1,14 +1,17 @@
-//! The files that the program reads, and its standard output.
+//! The files that the program reads and makes, and its standard output.
 
-ghost use Rattle.std.specs.Prelude.{IfErr};
-ghost use Rattle.std.specs.Io.KnownBytes.{Keeps};
+ghost use Rattle.std.specs.Prelude.{IfErr, IfOk, OnOk, OnErr, flat_map};
+ghost use Rattle.std.specs.Io.KnownBytes.{Appends, Keeps};
+ghost use Rattle.traces.specs.Replies.{AppendsBeginning, live_reply_line, reply_line};
 ghost use Rattle.vmig.specs.Faults.{TellsOfFile};
 
 use crate::fault::Fault;
+use machine::Reply;
+use sender::LiveReply;
 use std::fs;
 use std::io::Write;
 use std::rt::Files;
-use traces::WriteFault;
+use traces::{WriteFault, write_guest_reply, write_reply};
 
 /// What the file of this name holds.
 pub fn read_file<'a, R: Files + AllocGlobal>(rt: &R, name: &'a str) -> Result<Vec<u8>, Fault<'a>>
@@ -16,8 +19,80 @@ pub fn read_file<'a, R: Files + AllocGlobal>(rt: &R, name: &'a str) -> Result<Ve
 {
     match fs::read(rt, name) {
         Ok(bytes) => Ok(bytes),
-        Err(error) => Err(Fault::of_read(name, error.kind())),
+        Err(error) => Err(Fault::of_file(name, error.kind())),
     }
+}
+
+/// The file of this name, to be read.
+pub fn open_file<'a, R: Files>(rt: &R, name: &'a str) -> Result<R::File, Fault<'a>>
+    ensures { IfErr result (TellsOfFile name.entry.now) }
+{
+    match fs::open(rt, name) {
+        Ok(file) => Ok(file),
+        Err(error) => Err(Fault::of_file(name, error.kind())),
+    }
+}
+
+/// The file of this name, made anew.
+pub fn create_file<'a, R: Files>(rt: &R, name: &'a str) -> Result<R::File, Fault<'a>>
+    ensures { IfErr result (TellsOfFile name.entry.now) }
+{
+    match fs::create(rt, name) {
+        Ok(file) => Ok(file),
+        Err(error) => Err(Fault::of_file(name, error.kind())),
+    }
+}
+
+/// What is told by a line of its own.
+pub trait Line {
+    ghost use Rattle.std.specs.Prelude.{ℕ, List, OnOk, OnErr};
+    ghost use Rattle.std.specs.Io.KnownBytes.{Appends};
+    ghost use Rattle.traces.specs.Replies.{AppendsBeginning};
+
+    /// The line, with its LF.
+    ghost line: { Self → List ℕ };
+
+    /// Writes the line, or a beginning of it.
+    fn write<O: Write>(&self, out: &mut O) -> Result<(), WriteFault>
+        ensures ok { OnOk result (Appends (O.contents out.old) (O.contents out.new) (line self.now)) }
+        ensures err { OnErr result (AppendsBeginning (O.contents out.old) (O.contents out.new) (line self.now)) };
+}
+
+impl Line for Reply {
+    ghost line = { reply_line };
+
+    fn write<O: Write>(&self, out: &mut O) -> Result<(), WriteFault> {
+        write_guest_reply(self, out)
+    }
+}
+
+impl Line for LiveReply {
+    ghost line = { live_reply_line };
+
+    fn write<O: Write>(&self, out: &mut O) -> Result<(), WriteFault> {
+        write_reply(self, out)
+    }
+}
+
+/// Writes lines, one after another, or a beginning of them.
+pub fn write_each<L: Line, O: Write>(lines: &[L], out: &mut O) -> Result<(), WriteFault>
+    ensures ok { OnOk result (Appends (O.contents out.old) (O.contents out.new) (flat_map L.line lines.now)) }
+    ensures err { OnErr result (AppendsBeginning (O.contents out.old) (O.contents out.new) (flat_map L.line lines.now)) }
+{
+    for line in lines {
+        line.write(out)?;
+    }
+    Ok(())
+}
+
+/// Writes lines, one after another, and flushes them, or a beginning of them.
+#[tactic(auto, using(crate::proofs::Written::flushed, crate::proofs::Written::flush_failed))]
+pub fn write_all<L: Line, O: Write>(lines: &[L], out: &mut O) -> Result<(), WriteFault>
+    ensures ok { OnOk result (Appends (O.contents out.old) (O.contents out.new) (flat_map L.line lines.now)) }
+    ensures err { OnErr result (AppendsBeginning (O.contents out.old) (O.contents out.new) (flat_map L.line lines.now)) }
+{
+    write_each(lines, out)?;
+    flush(out)
 }
 
 /// Flushes standard output.

@@ -1,32 +1,40 @@
 //! A trace that is played.
 
-ghost use Rattle.std.specs.Prelude.{◌≡◌, [], IfOk, IfErr, OnOk, OnErr, All, IsTrue, None, Some, length, map, flat_map, option_map};
-ghost use Rattle.std.specs.Io.KnownBytes.{Appends};
-ghost use Rattle.traces.specs.Replies.{reply_line, AppendsBeginning};
+ghost use Rattle.std.specs.Prelude.{◌≡◌, [], IfOk, IfErr, OnOk, All, IsTrue, None, length, map, Some};
+ghost use Rattle.std.specs.List.{list_any};
+ghost use Rattle.sender.specs.History.{is_fault};
 ghost use Rattle.traces.specs.Trace.{contents_of};
-ghost use Rattle.vmig.specs.Output.{Fails, FailsOnFile, HasDoneFile, HasWritten};
-ghost use Rattle.vmig.specs.Playing.{AreLinesOver, AreReplies, TellsOfText, TellsOfTrace, TellsOver};
+ghost use Rattle.vmig.specs.Output.{Fails, FailsOnFile, HasDoneFile, HasWritten, IsOne};
+ghost use Rattle.vmig.specs.Faults.{TellsOfFile};
+ghost use Rattle.vmig.specs.Playing.{AreLinesOver, ArePlayed, AreReplies, MayPlay, TellsOfBegin, TellsOfSending, TellsOfText, TellsOver};
+ghost use Rattle.machine.specs.Seen.{AreHonest, state_of};
+ghost use Rattle.vmig.specs.declared.fault.Fault.TheVariants as faults;
+ghost use Rattle.vmig.specs.Words.{name_in};
 
 use crate::fault::Fault;
-use crate::output::{flush, read_file};
-use machine::{Disk, FileDisk, Machine, MemDisk, Reply};
+use crate::output::{create_file, read_file, write_all};
+use machine::{Disk, FileDisk, Machine, MemDisk};
+use sender::{LiveEvent, LiveReply, MigError, Replay, replay};
 use std::alloc::Global;
 use std::io::Write;
 use std::rt::Files;
-use traces::{Trace, WriteFault, parse, write_reply};
+use traces::{Trace, parse};
+use wire::WriteSink;
 
-/// Plays the trace in the file of this name on a fresh machine, over the image of a disk or over none.
+/// Plays the trace in the file of this name on a fresh machine, over the image of a disk or over none. What sends the machine
+/// goes to the file of the stream.
 pub fn run_trace<'a, R: Files + AllocGlobal, O: Write>(
     rt: &R,
     name: &'a str,
     image: Option<&'a str>,
+    stream: Option<&'a str>,
     out: &mut O,
 ) -> Result<(), Fault<'a>>
-    ensures done { OnOk result (HasDoneFile (AreLinesOver (option_map (λ image. image.now) image.entry)) (O.contents out.old) (O.contents out.new)) }
-    ensures failed { IfErr result (FailsOnFile name.entry.now (TellsOfText (option_map (λ image. image.now) image.entry)) (AreLinesOver (option_map (λ image. image.now) image.entry)) (O.contents out.old) (O.contents out.new)) }
+    ensures done { OnOk result (HasDoneFile (AreLinesOver (name_in image.entry) (name_in stream.entry)) (O.contents out.old) (O.contents out.new)) }
+    ensures failed { IfErr result (FailsOnFile name.entry.now (TellsOfText (name_in image.entry) (name_in stream.entry)) (AreLinesOver (name_in image.entry) (name_in stream.entry)) (O.contents out.old) (O.contents out.new)) }
 {
     let text = read_file(rt, name)?;
-    play_text(rt, text.as_slice(), image, out)
+    play_text(rt, text.as_slice(), image, stream, out)
 }
 
 /// Plays a trace on a fresh machine, and writes the line of each reply.
@@ -34,15 +42,38 @@ fn play_text<'a, R: Files + AllocGlobal, O: Write>(
     rt: &R,
     text: &[u8],
     image: Option<&'a str>,
+    stream: Option<&'a str>,
     out: &mut O,
 ) -> Result<(), Fault<'a>>
-    ensures done { OnOk result (HasWritten (AreLinesOver (option_map (λ image. image.now) image.entry) text.now) (O.contents out.old) (O.contents out.new)) }
-    ensures failed { IfErr result (Fails (TellsOfText (option_map (λ image. image.now) image.entry) text.now) (AreLinesOver (option_map (λ image. image.now) image.entry) text.now) (O.contents out.old) (O.contents out.new)) }
+    ensures done { OnOk result (HasWritten (AreLinesOver (name_in image.entry) (name_in stream.entry) text.now None) (O.contents out.old) (O.contents out.new)) }
+    ensures failed { IfErr result (Fails (TellsOfText (name_in image.entry) (name_in stream.entry) text.now) (AreLinesOver (name_in image.entry) (name_in stream.entry) text.now) (O.contents out.old) (O.contents out.new)) }
 {
     let trace = parse(rt.alloc(), text)?;
-    let replies = replies_over(rt, &trace, image)?;
-    write_replies(replies.as_slice(), out)?;
+    has_stream(&trace, stream)?;
+    let replies = replies_over(rt, &trace, image, stream)?;
+    write_all(replies.as_slice(), out)?;
+    if has_failed(replies.as_slice()) {
+        return Err(Fault::StreamOut);
+    }
     Ok(())
+}
+
+/// A trace that begins to send its machine needs a stream.
+fn has_stream(trace: &Trace, stream: Option<&str>) -> Result<(), Fault<'static>>
+    ensures may { OnOk result (MayPlay (name_in stream.entry) (contents_of trace.now)) }
+    ensures begins { IfErr result (TellsOfBegin (name_in stream.entry) (contents_of trace.now)) }
+{
+    if stream.is_none() && trace.begin_line != 0 {
+        return Err(Fault::Line(trace.begin_line));
+    }
+    Ok(())
+}
+
+/// Whether the writer failed: then some reply says so.
+fn has_failed(replies: &[LiveReply]) -> bool
+    ensures { result ≡ list_any is_fault replies.now }
+{
+    replies.iter().any(|reply| matches!(reply, LiveReply::Mig(MigError::StreamFailed)))
 }
 
 /// The replies of a fresh machine of the trace's shape to its events, over the image of a disk or over none.
@@ -50,59 +81,83 @@ fn replies_over<'a, R: Files + AllocGlobal>(
     rt: &R,
     trace: &Trace,
     image: Option<&'a str>,
-) -> Result<Vec<Reply>, Fault<'a>>
+    stream: Option<&'a str>,
+) -> Result<Vec<LiveReply>, Fault<'a>>
     ensures each { IfOk result (λ replies. length replies.items ≡ length trace.now.events.items) }
     ensures played { image.entry ≡ None → IfOk result (λ replies. AreReplies (contents_of trace.now) [] replies.items) }
-    ensures failed { IfErr result (TellsOver (option_map (λ image. image.now) image.entry) (contents_of trace.now)) }
+    ensures failed { IfErr result (TellsOver (name_in image.entry) (name_in stream.entry) (contents_of trace.now)) }
 {
     let alloc = rt.alloc();
     let Some(name) = image else {
         let none: Vec<MemDisk> = Vec::new(alloc);
-        return replies_to(alloc, trace, none);
+        return replies_to(rt, trace, none, stream);
     };
-    let Ok(mut disks) = Vec::with_capacity(alloc, 1) else {
+    let disks = image_disks(rt, name)?;
+    replies_to(rt, trace, disks, stream)
+}
+
+/// The disk whose image is in the file of this name.
+pub fn image_disks<'a, R: Files + AllocGlobal>(
+    rt: &R,
+    name: &'a str,
+) -> Result<Vec<FileDisk<R::File>>, Fault<'a>>
+    ensures one { IfOk result (λ disks. IsOne disks.items) }
+    ensures failed { IfErr result (TellsOfFile name.entry.now) }
+{
+    let Ok(mut disks) = Vec::with_capacity(rt.alloc(), 1) else {
         return Err(Fault::NoMemory);
     };
     match FileDisk::open(rt, name) {
         Ok(disk) => disks.push_reserved(disk),
-        Err(error) => return Err(Fault::of_read(name, error.kind())),
+        Err(error) => return Err(Fault::of_file(name, error.kind())),
     }
-    replies_to(alloc, trace, disks)
+    Ok(disks)
 }
 
-/// The replies of a fresh machine of the trace's shape, with these disks, to its events.
-fn replies_to<D: Disk + Drop>(
-    alloc: Global,
+/// The replies of a fresh machine of the trace's shape, with these disks, to its events. The stream is made when the machine
+/// is there.
+fn replies_to<'a, R: Files + AllocGlobal, D: Disk + Drop>(
+    rt: &R,
     trace: &Trace,
     disks: Vec<D>,
-) -> Result<Vec<Reply>, Fault<'static>>
+    stream: Option<&'a str>,
+) -> Result<Vec<LiveReply>, Fault<'a>>
     ensures each { IfOk result (λ replies. length replies.items ≡ length trace.now.events.items) }
     ensures played { All (λ d. IsTrue (D.state d).honest) disks.items → IfOk result (λ replies. AreReplies (contents_of trace.now) (map (λ d. map Some (D.state d).sectors) disks.items) replies.items) }
-    ensures failed { IfErr result (TellsOfTrace (contents_of trace.now) (map (λ d. length (D.state d).sectors) disks.items)) }
+    ensures failed { IfErr result (TellsOfSending (name_in stream.entry) (contents_of trace.now) (map (λ d. length (D.state d).sectors) disks.items)) }
 {
-    let mut machine = Machine::new(alloc, trace.pages, trace.shapes.as_slice(), disks)?;
-    match machine.play(trace.events.as_slice()) {
-        Ok(replies) => Ok(replies),
-        Err(_) => Err(Fault::NoMemory),
+    let alloc = rt.alloc();
+    let machine = Machine::new(alloc, trace.pages, trace.shapes.as_slice(), disks)?;
+    match stream {
+        Some(name) => {
+            let file = create_file(rt, name)?;
+            replies_of(alloc, machine, trace.events.as_slice(), file)
+        }
+        None => {
+            let nowhere: Vec<u8> = Vec::new(alloc);
+            replies_of(alloc, machine, trace.events.as_slice(), nowhere)
+        }
     }
 }
 
-/// Writes the lines of replies, one after another, and flushes them, or a beginning of them.
-#[tactic(auto, using(crate::proofs::Written::flushed, crate::proofs::Written::flush_failed))]
-fn write_replies<O: Write>(replies: &[Reply], out: &mut O) -> Result<(), WriteFault>
-    ensures ok { OnOk result (Appends (O.contents out.old) (O.contents out.new) (flat_map reply_line replies.now)) }
-    ensures err { OnErr result (AppendsBeginning (O.contents out.old) (O.contents out.new) (flat_map reply_line replies.now)) }
+/// The replies of a machine that is sent to a writer, which is let go then.
+fn replies_of<D: Disk + Drop, W: Write + Drop>(
+    alloc: Global,
+    machine: Machine<D>,
+    events: &[LiveEvent],
+    writer: W,
+) -> Result<Vec<LiveReply>, Fault<'static>>
+    ensures each { IfOk result (λ replies. length replies.items ≡ length events.now) }
+    ensures played { AreHonest machine → IfOk result (λ replies. ArePlayed (state_of machine) events.now replies.items) }
+    ensures memory { IfErr result (λ fault. fault ≡ faults.NoMemory) }
 {
-    write_each(replies, out)?;
-    flush(out)
-}
-
-fn write_each<O: Write>(replies: &[Reply], out: &mut O) -> Result<(), WriteFault>
-    ensures ok { OnOk result (Appends (O.contents out.old) (O.contents out.new) (flat_map reply_line replies.now)) }
-    ensures err { OnErr result (AppendsBeginning (O.contents out.old) (O.contents out.new) (flat_map reply_line replies.now)) }
-{
-    for reply in replies {
-        write_reply(reply, out)?;
+    let Replay {
+        machine: _,
+        out: _,
+        replies,
+    } = replay(alloc, machine, events, WriteSink::new(writer));
+    if replies.is_empty() && !events.is_empty() {
+        return Err(Fault::NoMemory);
     }
-    Ok(())
+    Ok(replies)
 }

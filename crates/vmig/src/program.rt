@@ -8,21 +8,32 @@ ghost use Rattle.vmig.specs.Words.{is_program_line};
 ghost use Rattle.vmig.specs.Run.{HasDone, HasTold, HasFailed};
 
 use crate::checking::check_stream;
+use crate::comparing::rehearse_trace;
 use crate::fault::Fault;
 use crate::playing::run_trace;
+use crate::resuming::resume_trace;
 use crate::words::{Request, read_words};
 use std::io::Write;
 use std::rt::Files;
 
-/// Runs the program on the words after its name. `run TRACE` plays the trace in a file, and writes one line a reply;
-/// `run TRACE --disk IMAGE` does so over a disk whose sectors are the bytes of the file IMAGE, which is read and written.
-/// `check STREAM` reads the stream of a machine in a file over disks in memory, and writes `ok P D R`: its pages, its devices,
-/// and how many rounds ended in it.
+/// Runs the program on the words after its name:
+///
+/// - `run TRACE [--disk IMAGE] [--out STREAM]` plays the trace in a file on a fresh machine, and writes one line a reply. The
+///   bytes of the file IMAGE are the sectors of its disk, which is read and written. What sends the machine goes to the file
+///   STREAM, which is made anew before the first event.
+/// - `resume STREAM TRACE [--disk IMAGE]` receives the machine of a stream, its disk in the file IMAGE, and plays the events of
+///   the trace on it.
+/// - `check STREAM` reads a stream over disks in memory, and writes `ok P D R`: the pages and devices of its machine, and how
+///   many rounds ended in it.
+/// - `rehearse TRACE` plays a trace over disks of zeros in memory, moves the machine where the trace stops it, plays the rest on
+///   both machines, and writes the replies of the first, and then `equal`, `differ`, or `no stop`.
 ///
 /// It answers the exit status, and writes what it stands for to `err`: 0 nothing; 1 `vmig: memory`; 2 `vmig: usage`;
 /// 3 `vmig: file NAME`, where NAME is `-` for standard output, and also that of an image whose length is no multiple of 512
-/// bytes; 4 `vmig: trace line N` or `vmig: shape K`; 5 `vmig: stream K`. Faults are looked for in this order: the words, the
-/// file, what it holds, the image, and then the machine's shape.
+/// bytes; 4 `vmig: trace line N` or `vmig: shape K`; 5 `vmig: stream K`, or `vmig: stream out` where the stream could not be
+/// written, or nothing behind `differ` and `no stop`. Faults are looked for in this order: the words, the trace, first its file
+/// and then its lines, the image, the machine's shape or its stream, and then the stream that is to be made. A first `begin`
+/// with no STREAM is a fault of its line, where no line is bad.
 /// `out` is flushed before the status is known.
 pub fn execute<R: Files + AllocGlobal, O: Write, E: Write>(
     rt: &R,
@@ -62,7 +73,17 @@ fn run<'a, R: Files + AllocGlobal, O: Write>(
     ensures failed { IfErr result (HasFailed (map (λ word. word.now) words.entry.now) (O.contents out.old) (O.contents out.new)) }
 {
     match read_words(rt.alloc(), words)? {
-        Request::Run { trace, image } => run_trace(rt, trace, image, out),
+        Request::Run {
+            trace,
+            image,
+            stream,
+        } => run_trace(rt, trace, image, stream, out),
+        Request::Resume {
+            stream,
+            trace,
+            image,
+        } => resume_trace(rt, stream, trace, image, out),
         Request::Check { stream } => check_stream(rt, stream, out),
+        Request::Rehearse { trace } => rehearse_trace(rt, trace, out),
     }
 }

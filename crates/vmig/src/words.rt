@@ -1,28 +1,41 @@
 //! The program's words.
 
-ghost use Rattle.std.specs.Prelude.{◌≡◌, map, true, false, IfOk, IfErr, option_map};
-ghost use Rattle.vmig.specs.Words.{is_check_line, is_name, is_option, is_program_line, is_run_line, named_file, named_image, Asks};
+ghost use Rattle.std.specs.Prelude.{◌≡◌, map, true, false, IfOk, IfErr};
+ghost use Rattle.vmig.specs.Words.{are_run_options, is_check_line, is_name, is_option, is_program_line, is_rehearse_line, is_resume_line, is_run_line, is_verb_and_file, named_file, Asks};
 ghost use Rattle.vmig.specs.declared.words.WordsError.TheVariants.{Usage, NoMemory};
-ghost use Rattle.clap.specs.Words.{kind_of, rule_of};
-ghost use Rattle.vmig.specs.Commands.{input_argument};
+ghost use Rattle.clap.specs.Words.{app_of, kind_of, rule_of};
+ghost use Rattle.vmig.specs.Commands.{file_argument, file_command, file_option, resume_command, run_command};
 ghost use Rattle.clap.specs.declared.error.kind.ErrorKind.TheVariants.{OutOfMemory};
 
 use clap::error::ErrorKind;
 use clap::{Arg, ArgAction, Command, Error};
 use std::alloc::{AllocError, Global};
 
-/// What the words ask for.
+/// What the words ask for. Each name is that of a file.
 #[derive(Clone, Copy, Debug, PartialEq, Eq)]
 pub enum Request<'a> {
-    /// Play the trace in the file of this name, over a disk whose image is in the file of the other name, or over none.
+    /// Play the trace, over the image of a disk or over none, and write to the stream what sends its machine.
     Run {
+        trace: &'a str,
+        image: Option<&'a str>,
+        stream: Option<&'a str>,
+    },
+
+    /// Receive the stream, over the image of a disk or over none, and play the trace on its machine.
+    Resume {
+        stream: &'a str,
         trace: &'a str,
         image: Option<&'a str>,
     },
 
-    /// Check the stream in the file of this name.
+    /// Check the stream.
     Check {
         stream: &'a str,
+    },
+
+    /// Play the trace, move its machine on the way, and compare both machines.
+    Rehearse {
+        trace: &'a str,
     },
 }
 
@@ -73,12 +86,38 @@ fn is_option(option: &str, words: &[&str]) -> bool
     }
 }
 
+/// Whether the words are the disk of a run and its stream, in this order; each may be missing.
+fn are_run_options(words: &[&str]) -> bool
+    ensures { result ≡ are_run_options (map (λ word. word.now) words.now) }
+{
+    match words {
+        [disk, image, stream @ ..] if *disk == "--disk" => {
+            is_file_name(image) && is_option("--out", stream)
+        }
+        _ => is_option("--out", words),
+    }
+}
+
 fn is_run_line(words: &[&str]) -> bool
     ensures { result ≡ is_run_line (map (λ word. word.now) words.now) }
 {
     match words {
-        [verb, trace, rest @ ..] => {
-            *verb == "run" && is_file_name(trace) && is_option("--disk", rest)
+        [verb, trace, options @ ..] => {
+            *verb == "run" && is_file_name(trace) && are_run_options(options)
+        }
+        _ => false,
+    }
+}
+
+fn is_resume_line(words: &[&str]) -> bool
+    ensures { result ≡ is_resume_line (map (λ word. word.now) words.now) }
+{
+    match words {
+        [verb, stream, trace, options @ ..] => {
+            *verb == "resume"
+                && is_file_name(stream)
+                && is_file_name(trace)
+                && is_option("--disk", options)
         }
         _ => false,
     }
@@ -93,6 +132,15 @@ fn is_check_line(words: &[&str]) -> bool
     }
 }
 
+fn is_rehearse_line(words: &[&str]) -> bool
+    ensures { result ≡ is_rehearse_line (map (λ word. word.now) words.now) }
+{
+    match words {
+        [verb, trace] => *verb == "rehearse" && is_file_name(trace),
+        _ => false,
+    }
+}
+
 /// Reads the words that stand after the program's name. Words that are no line of the program are refused before
 /// any memory is asked for, and others only for want of memory.
 pub fn read_words<'a>(alloc: Global, words: &'a [&'a str]) -> Result<Request<'a>, WordsError>
@@ -101,61 +149,125 @@ pub fn read_words<'a>(alloc: Global, words: &'a [&'a str]) -> Result<Request<'a>
     ensures asks { IfOk result (Asks (map (λ word. word.now) words.entry.now)) }
 {
     if is_run_line(words) {
-        let (trace, image) = read_run(alloc, words)?;
-        return Ok(Request::Run { trace, image });
+        return read_run(alloc, words);
+    }
+    if is_resume_line(words) {
+        return read_resume(alloc, words);
     }
     if is_check_line(words) {
-        let stream = read_check(alloc, words)?;
+        let stream = read_file_word(alloc, words)?;
         return Ok(Request::Check { stream });
+    }
+    if is_rehearse_line(words) {
+        let trace = read_file_word(alloc, words)?;
+        return Ok(Request::Rehearse { trace });
     }
     Err(WordsError::Usage)
 }
 
-/// The file that is to be given first.
-fn input(alloc: Global) -> Arg<'static>
-    ensures rule { rule_of result ≡ input_argument }
+/// A file that is to be given.
+fn file<'a>(alloc: Global, id: &'a str) -> Arg<'a>
+    ensures rule { rule_of result ≡ file_argument id.entry.now }
     ensures local { result.global ≡ false }
 {
-    Arg::new(alloc, "input")
-        .required(true)
-        .action(ArgAction::Set)
+    Arg::new(alloc, id).required(true).action(ArgAction::Set)
+}
+
+/// An option with a file.
+fn option<'a>(alloc: Global, name: &'a str) -> Arg<'a>
+    ensures rule { rule_of result ≡ file_option name.entry.now }
+    ensures local { result.global ≡ false }
+{
+    Arg::new(alloc, name).long(name).action(ArgAction::Set)
+}
+
+/// `run` as clap knows it.
+fn run_command<'a>(alloc: Global) -> Result<Command<'a>, AllocError>
+    ensures { IfOk result (λ command. app_of command ≡ run_command) }
+{
+    let named = Command::new(alloc, "run").arg(file(alloc, "trace"))?;
+    let over = named.arg(option(alloc, "disk"))?;
+    let command = over.arg(option(alloc, "out"))?;
+    Ok(command)
+}
+
+/// `resume` as clap knows it.
+fn resume_command<'a>(alloc: Global) -> Result<Command<'a>, AllocError>
+    ensures { IfOk result (λ command. app_of command ≡ resume_command) }
+{
+    let sent = Command::new(alloc, "resume").arg(file(alloc, "stream"))?;
+    let named = sent.arg(file(alloc, "trace"))?;
+    let command = named.arg(option(alloc, "disk"))?;
+    Ok(command)
+}
+
+/// A verb and one file, as clap knows them.
+fn file_command<'a>(alloc: Global) -> Result<Command<'a>, AllocError>
+    ensures { IfOk result (λ command. app_of command ≡ file_command) }
+{
+    let command = Command::new(alloc, "vmig").arg(file(alloc, "file"))?;
+    Ok(command)
 }
 
 /// Reads the words of a line of `run`.
-fn read_run<'a>(
-    alloc: Global,
-    words: &'a [&'a str],
-) -> Result<(&'a str, Option<&'a str>), WordsError>
+fn read_run<'a>(alloc: Global, words: &'a [&'a str]) -> Result<Request<'a>, WordsError>
     requires { is_run_line (map (λ word. word.now) words.now) ≡ true }
     ensures memory { IfErr result (λ refusal. refusal ≡ NoMemory) }
-    ensures trace { IfOk result (λ found. found.0.now ≡ named_file (map (λ word. word.now) words.entry.now)) }
-    ensures image { IfOk result (λ found. option_map (λ name. name.now) found.1 ≡ named_image (map (λ word. word.now) words.entry.now)) }
+    ensures asks { IfOk result (Asks (map (λ word. word.now) words.entry.now)) }
 {
-    let disk = Arg::new(alloc, "disk").long("disk").action(ArgAction::Set);
-    let command = Command::new(alloc, "run").arg(input(alloc))?.arg(disk)?;
+    let command = run_command(alloc)?;
     let matches = match command.try_get_matches_from(words) {
         Ok(matches) => matches,
         Err(error) => return Err(WordsError::from(error)),
     };
-    match matches.get_str("input") {
-        Some(trace) => Ok((trace, matches.get_str("disk"))),
+    match matches.get_str("trace") {
+        Some(trace) => Ok(Request::Run {
+            trace,
+            image: matches.get_str("disk"),
+            stream: matches.get_str("out"),
+        }),
         None => Err(WordsError::Usage),
     }
 }
 
-/// Reads the words of a line of `check`.
-fn read_check<'a>(alloc: Global, words: &'a [&'a str]) -> Result<&'a str, WordsError>
-    requires { is_check_line (map (λ word. word.now) words.now) ≡ true }
+/// Reads the words of a line of `resume`.
+fn read_resume<'a>(alloc: Global, words: &'a [&'a str]) -> Result<Request<'a>, WordsError>
+    requires { is_resume_line (map (λ word. word.now) words.now) ≡ true }
     ensures memory { IfErr result (λ refusal. refusal ≡ NoMemory) }
-    ensures stream { IfOk result (λ name. name.now ≡ named_file (map (λ word. word.now) words.entry.now)) }
+    ensures asks { IfOk result (Asks (map (λ word. word.now) words.entry.now)) }
 {
-    let command = Command::new(alloc, "check").arg(input(alloc))?;
+    let command = resume_command(alloc)?;
     let matches = match command.try_get_matches_from(words) {
         Ok(matches) => matches,
         Err(error) => return Err(WordsError::from(error)),
     };
-    match matches.get_str("input") {
-        Some(stream) => Ok(stream),
+    let Some(stream) = matches.get_str("stream") else {
+        return Err(WordsError::Usage);
+    };
+    let Some(trace) = matches.get_str("trace") else {
+        return Err(WordsError::Usage);
+    };
+    let image = matches.get_str("disk");
+    Ok(Request::Resume {
+        stream,
+        trace,
+        image,
+    })
+}
+
+/// Reads the words of a line of a verb and one file.
+fn read_file_word<'a>(alloc: Global, words: &'a [&'a str]) -> Result<&'a str, WordsError>
+    requires { is_verb_and_file (map (λ word. word.now) words.now) ≡ true }
+    ensures memory { IfErr result (λ refusal. refusal ≡ NoMemory) }
+    ensures named { IfOk result (λ name. name.now ≡ named_file (map (λ word. word.now) words.entry.now)) }
+{
+    let command = file_command(alloc)?;
+    let matches = match command.try_get_matches_from(words) {
+        Ok(matches) => matches,
+        Err(error) => return Err(WordsError::from(error)),
+    };
+    match matches.get_str("file") {
+        Some(name) => Ok(name),
         None => Err(WordsError::Usage),
     }
 }

@@ -1,4 +1,4 @@
-use Rattle.std.proofs.Common.{rules, inr}
+use Rattle.std.proofs.Common.{inr}
 use Rattle.std.proofs.lemmas.Result.{err_from_is_err_and}
 use Rattle.vmig.proofs.MemoryDisks.{honest_disks, refused_steadily}
 use Rattle.vmig.proofs.checking.receive_in_memory.Goals as goal

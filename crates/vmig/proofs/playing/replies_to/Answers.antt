@@ -1,13 +1,13 @@
-use Rattle.std.proofs.Common.{rules, ◌≡◌, All, IsTrue, map, sym, subst}
-use Rattle.machine.specs.Seen.{AreHonest, Marks, state_of}
-use Rattle.machine.specs.State.{MachineState}
-use Rattle.machine.specs.Outcome.{outcome_of}
-use Rattle.machine.specs.Run.{IsRun}
-use Rattle.vmig.proofs.HonestDisks.{IsHonest, honest_devices}
+use Rattle.machine.specs.Seen.{AreHonest}
+use Rattle.vmig.proofs.HonestDisks.{honest_devices}
 use Rattle.vmig.proofs.playing.replies_to.Goals as goal
 
-pub returns-in-Ok-clause-played : goal.returns-in-Ok-clause-played
-returns-in-Ok-clause-played g c = λ honest.
+pub returns-in_ok-file-in-Some-clause-played : goal.returns-in_ok-file-in-Some-clause-played
+returns-in_ok-file-in-Some-clause-played g c = λ honest.
     let marks : AreHonest c.in_ok-machine.machine = rw c.in_ok-machine.ensures.marks (honest_devices g.D.Disk.state c.as_slice.result.now c.args.disks.items honest) in
-    let run = c.in-Ok.ensures.run marks in
-    record { last = _; run = rw (c.in_ok-machine.ensures.made, c.as_slice.ensures.value, c.as_slice-2.ensures.value) at run }
+    rw (c.in_ok-machine.ensures.made, c.as_slice.ensures.value, c.as_slice-in-Some.ensures.value) at c.replies_of.ensures.played marks
+
+pub returns-in-None-clause-played : goal.returns-in-None-clause-played
+returns-in-None-clause-played g c = λ honest.
+    let marks : AreHonest c.in_ok-machine.machine = rw c.in_ok-machine.ensures.marks (honest_devices g.D.Disk.state c.as_slice.result.now c.args.disks.items honest) in
+    rw (c.in_ok-machine.ensures.made, c.as_slice.ensures.value, c.as_slice-in-None.ensures.value) at c.replies_of-in-None.ensures.played marks

@@ -1,3 +1,4 @@
+use Rattle.vmig.proofs.Written.{nothing_more}
 use Rattle.vmig.proofs.fault.Fault.write.Goals as goal
 
 pub returns-in-NoMemory-clause-err : goal.returns-in-NoMemory-clause-err
@@ -26,3 +27,12 @@ returns-in-Stream-clause-ok g c = rw c.in-Stream.is c.put_number-in-Stream.ensur
 
 pub returns-in-Stream-clause-err : goal.returns-in-Stream-clause-err
 returns-in-Stream-clause-err g c = rw c.in-Stream.is c.put_number-in-Stream.ensures.err
+
+pub returns-in-StreamOut-clause-ok : goal.returns-in-StreamOut-clause-ok
+returns-in-StreamOut-clause-ok g c = rw c.in-StreamOut.is c.put-in-StreamOut.ensures.ok
+
+pub returns-in-StreamOut-clause-err : goal.returns-in-StreamOut-clause-err
+returns-in-StreamOut-clause-err g c = rw c.in-StreamOut.is c.put-in-StreamOut.ensures.err
+
+pub returns-in-NotEqual-clause-ok : goal.returns-in-NotEqual-clause-ok
+returns-in-NotEqual-clause-ok g c = rw c.in-NotEqual.is (nothing_more (g.W.Write.contents c.args.out.now))

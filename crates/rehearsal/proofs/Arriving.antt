@@ -1,0 +1,143 @@
+-- A machine that arrives, and what a refusal tells.
+use Rattle.std.proofs.Common.{◌≡◌, ℕ, List, [], ◌∷◌, length, map, Option, Some, None, refl, ap, sym, subst, ◌∙◌}
+use Rattle.std.specs.Prelude.{All, IsTrue}
+use Rattle.std.specs.List.{AllByRecursion}
+use Rattle.std.proofs.lemmas.List.Elements.{All-from_recursion, All-map, All-weaker, recursion_from_All}
+use Rattle.machine.specs.EffectLaws.{IsSameShape}
+use Rattle.machine.specs.First.{dealt_marks, given, left_over}
+use Rattle.machine.specs.Outcome.{Outcome, outcome_of}
+use Rattle.machine.specs.Run.{IsRun}
+use Rattle.machine.specs.Seen.{AreHonest, Marks, Seen, all_marks, no_marks, state_of}
+use Rattle.machine.specs.Shapes.{disk_size_of, disk_sizes}
+use Rattle.machine.specs.Sound.{IsSound, IsSoundDevice, IsSoundShape}
+use Rattle.machine.specs.State.{DeviceState, MachineState}
+use Rattle.machine.specs.declared.reply.Reply.{Reply}
+use Rattle.machine.specs.declared.shape.Shape.{Shape}
+use Rattle.machine.proofs.Agreeing.{runs_same}
+use Rattle.receiver.specs.Disks.{AreHonestDisks}
+use Rattle.receiver.specs.Receiving.{NoFault, RefusesSlice}
+use Rattle.receiver.specs.declared.recv_error.RecvError.{RecvError}
+use Rattle.receiver.specs.declared.recv_error.RecvError.TheVariants as errors
+use Rattle.receiver.proofs.Whole.{stream_quiet}
+use Rattle.sender.specs.declared.event.LiveEvent.{LiveEvent}
+use Rattle.sender.specs.declared.event.LiveReply.{LiveReply}
+use Rattle.wire.specs.Stream.{IsStream, shapes_in}
+use Rattle.wire.proofs.Unique.{one_machine}
+use Rattle.rehearsal.specs.Rehearsing.{DoFit, GoOn, GoesOn, HasPlayed, IsArrival, IsRefused, IsRefusedWith, IsRehearsal, IsSent, TellsWhy, remaining}
+use Rattle.rehearsal.specs.declared.rehearsing.Rehearsal.{Rehearsal}
+use Rattle.rehearsal.specs.declared.rehearsing.Rehearsal.TheVariants.{Arrived, NotStopped, Refused}
+
+pub sound_shapes : (m : MachineState) → IsSound m → All IsSoundShape (map (λ (d : DeviceState). d.shape) m.devices)
+sound_shapes m h = All-map IsSoundShape (λ (d : DeviceState). d.shape) m.devices (All-weaker (IsSoundDevice (length m.ram)) (λ (d : DeviceState). IsSoundShape d.shape) (λ d s. s.shape) m.devices h.devices)
+
+-- The disks do not fit.
+pub mismatched : (machine source : Seen) (events : List LiveEvent) (sizes : List ℕ) (marks : List Marks) (replies : List LiveReply) (bytes : List ℕ) → IsSent machine events source replies bytes → ¬ (DoFit sizes machine) → IsRefused machine events sizes marks source replies errors.ShapeMismatch
+mismatched machine source events sizes marks replies bytes g never = record {
+  stops = g.stops;
+  answered = g.answered;
+  mismatch = λ _. refl;
+  unsteady = λ wrong. cc;
+  why = λ honest. never;
+}
+
+-- What a refusal tells of a stream whose disks fit.
+refusal : (sizes : List ℕ) (marks : List Marks) (bytes : List ℕ) (machine source : Seen) (e : RecvError) → DoFit sizes machine → NoFault sizes bytes → IsStream bytes (state_of source) → RefusesSlice sizes marks bytes e → TellsWhy sizes marks machine e
+refusal sizes marks bytes machine source errors.NoMemory fits quiet stream h = fits
+refusal sizes marks bytes machine source errors.DiskFailed fits quiet stream h = (fits, h)
+refusal sizes marks bytes machine source errors.Truncated fits quiet stream h = absurd (h.1 (state_of source) stream)
+refusal sizes marks bytes machine source errors.ShapeMismatch fits quiet stream h = absurd (quiet errors.ShapeMismatch h.0 h.1)
+refusal sizes marks bytes machine source errors.BadMagic fits quiet stream h = absurd (quiet errors.BadMagic h.0 h.1)
+refusal sizes marks bytes machine source errors.BadVersion fits quiet stream h = absurd (quiet errors.BadVersion h.0 h.1)
+refusal sizes marks bytes machine source errors.BadShape fits quiet stream h = absurd (quiet errors.BadShape h.0 h.1)
+refusal sizes marks bytes machine source errors.BadTag fits quiet stream h = absurd (quiet errors.BadTag h.0 h.1)
+refusal sizes marks bytes machine source errors.BadPage fits quiet stream h = absurd (quiet errors.BadPage h.0 h.1)
+refusal sizes marks bytes machine source errors.BadSector fits quiet stream h = absurd (quiet errors.BadSector h.0 h.1)
+refusal sizes marks bytes machine source errors.BadRound fits quiet stream h = absurd (quiet errors.BadRound h.0 h.1)
+refusal sizes marks bytes machine source errors.BadDevice fits quiet stream h = absurd (quiet errors.BadDevice h.0 h.1)
+refusal sizes marks bytes machine source errors.BadDigest fits quiet stream h = absurd (quiet errors.BadDigest h.0 h.1)
+refusal sizes marks bytes machine source errors.Missing fits quiet stream h = absurd (quiet errors.Missing h.0 h.1)
+refusal sizes marks bytes machine source errors.Trailing fits quiet stream h = absurd (quiet errors.Trailing h.0 h.1)
+refusal sizes marks bytes machine source errors.AlreadyFailed fits quiet stream h = absurd (quiet errors.AlreadyFailed h.0 h.1)
+
+-- Disks that fit the machine fit it at the stop.
+still_fit : (sizes : List ℕ) (machine source : Seen) → IsSameShape (state_of machine) (state_of source) → DoFit sizes machine → sizes ≡ disk_sizes (shapes_in (state_of source).devices)
+still_fit sizes machine source same fits = fits ∙ ap disk_sizes (sym same.devices)
+
+pub refused : (machine source : Seen) (events : List LiveEvent) (sizes : List ℕ) (marks : List Marks) (replies : List LiveReply) (bytes : List ℕ) (e : RecvError) → IsSent machine events source replies bytes → DoFit sizes machine → RefusesSlice sizes marks bytes e → IsRefused machine events sizes marks source replies e
+refused machine source events sizes marks replies bytes e g fits told = record {
+  stops = g.stops;
+  answered = g.answered;
+  mismatch = λ never. absurd (never fits);
+  unsteady = λ is. (let P : RecvError → Type 0 = λ x. RefusesSlice sizes marks bytes x in subst P is told);
+  why = λ honest. refusal sizes marks bytes machine source e fits (stream_quiet sizes bytes (state_of source) (g.stream honest) (still_fit sizes machine source (g.answered.shape honest) fits)) (g.stream honest) told;
+}
+
+-- A machine over honest disks is one with honest disks.
+abbrev IsHonest : Marks → Type 0
+IsHonest m = IsTrue m.honest
+
+given_honest : (size : Option ℕ) (marks : List Marks) → AllByRecursion IsHonest marks → IsHonest (given no_marks size marks)
+given_honest None marks h = refl
+given_honest (Some size) [] h = refl
+given_honest (Some size) (m ∷ marks) h = h.0
+
+left_honest : (size : Option ℕ) (marks : List Marks) → AllByRecursion IsHonest marks → AllByRecursion IsHonest (left_over size marks)
+left_honest None marks h = h
+left_honest (Some size) [] h = tt
+left_honest (Some size) (m ∷ marks) h = h.1
+
+dealt_honest : (shapes : List Shape) (marks : List Marks) → AllByRecursion IsHonest marks → AllByRecursion IsHonest (dealt_marks shapes marks)
+dealt_honest [] marks h = tt
+dealt_honest (shape ∷ shapes) marks h = (given_honest (disk_size_of shape) marks h, dealt_honest shapes (left_over (disk_size_of shape) marks) (left_honest (disk_size_of shape) marks h))
+
+arrives_honest : (machine : Seen) (marks : List Marks) → all_marks machine ≡ dealt_marks (shapes_in (state_of machine).devices) marks → AreHonestDisks marks → AreHonest machine
+arrives_honest machine marks over honest =
+    let P : List Marks → Type 0 = λ ms. All IsHonest ms in
+    subst P (sym over) (All-from_recursion IsHonest _ (dealt_honest (shapes_in (state_of machine).devices) marks (recursion_from_All IsHonest _ honest)))
+
+-- Both machines went on.
+pub arrival : (machine at_stop source as_arrived arrived : Seen) (events : List LiveEvent) (sizes : List ℕ) (marks : List Marks) (bytes : List ℕ) (played replies : List LiveReply) (arrived_replies : List Reply) → IsSent machine events at_stop played bytes → DoFit sizes machine
+    → (AreHonestDisks marks → IsStream bytes (state_of as_arrived)) → all_marks as_arrived ≡ dealt_marks (shapes_in (state_of as_arrived).devices) marks
+    → GoesOn at_stop (remaining events played) played replies source → HasPlayed as_arrived (remaining events played) arrived_replies arrived
+    → IsArrival machine events sizes marks source arrived replies arrived_replies
+arrival machine at_stop source as_arrived arrived events sizes marks bytes played replies arrived_replies g fits received over goes p =
+    let es = remaining events played in
+    let start : AreHonest machine → AreHonestDisks marks → state_of as_arrived ≡ state_of at_stop = λ honest disks. one_machine bytes (state_of as_arrived) (state_of at_stop) (received disks) (g.stream honest) in
+    let run_one : AreHonest machine → IsRun (state_of at_stop) es (map outcome_of goes.rest) goes.rest (state_of source) = λ honest. goes.played.run (g.answered.honest honest) in
+    let P : MachineState → Type 0 = λ m. IsRun m es (map outcome_of arrived_replies) arrived_replies (state_of arrived) in
+    let run_two : AreHonest machine → AreHonestDisks marks → IsRun (state_of at_stop) es (map outcome_of arrived_replies) arrived_replies (state_of arrived) = λ honest disks. subst P (start honest disks) (p.run (arrives_honest as_arrived marks over disks)) in
+    let Q : List Outcome → Type 0 = λ os. IsRun (state_of at_stop) es os goes.rest (state_of source) in
+    record {
+      played = played;
+      rest = goes.rest;
+      at_stop = at_stop;
+      as_arrived = as_arrived;
+      are = goes.are;
+      stops = g.stops;
+      fits = fits;
+      answered = g.answered;
+      source_played = goes.played;
+      over = over;
+      arrived_played = p;
+      same_start = start;
+      source_run = run_one;
+      arrived_run = run_two;
+      same = λ honest disks alike. runs_same (state_of at_stop) es (map outcome_of arrived_replies) arrived_replies goes.rest (state_of arrived) (state_of source) (run_two honest disks) (subst Q (sym alike) (run_one honest));
+    }
+
+-- The same of what is handed out.
+pub refused_with : {D E : Type 0} (machine source : Seen) (events : List LiveEvent) (sizes : List ℕ) (marks : List Marks) (replies : List LiveReply) (error : RecvError) (result : Rehearsal D E) → IsRefusedWith source replies error result → IsRefused machine events sizes marks source replies error → IsRehearsal machine events sizes marks result
+refused_with machine source events sizes marks replies error (Refused s rs e) is g =
+    let P : Seen → Type 0 = λ x. IsRefused machine events sizes marks x replies error in
+    let Q : List LiveReply → Type 0 = λ x. IsRefused machine events sizes marks s x error in
+    let R : RecvError → Type 0 = λ x. IsRefused machine events sizes marks s rs.items x in
+    subst R (sym is.2) (subst Q (sym is.1) (subst P (sym is.0) g))
+refused_with machine source events sizes marks replies error (Arrived s a rs qs) is g = absurd is
+refused_with machine source events sizes marks replies error (NotStopped s rs) is g = absurd is
+
+pub arrived_with : {D E : Type 0} (machine at_stop as_arrived : Seen) (events : List LiveEvent) (sizes : List ℕ) (marks : List Marks) (bytes : List ℕ) (played : List LiveReply) (result : Rehearsal D E) → IsSent machine events at_stop played bytes → DoFit sizes machine
+    → (AreHonestDisks marks → IsStream bytes (state_of as_arrived)) → all_marks as_arrived ≡ dealt_marks (shapes_in (state_of as_arrived).devices) marks
+    → GoOn at_stop played as_arrived events result → IsRehearsal machine events sizes marks result
+arrived_with machine at_stop as_arrived events sizes marks bytes played (Arrived s a rs qs) g fits received over is = arrival machine at_stop s as_arrived a events sizes marks bytes played rs.items qs.items g fits received over is.0 is.1
+arrived_with machine at_stop as_arrived events sizes marks bytes played (Refused s rs e) g fits received over is = absurd is
+arrived_with machine at_stop as_arrived events sizes marks bytes played (NotStopped s rs) g fits received over is = absurd is

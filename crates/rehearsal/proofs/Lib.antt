@@ -1,0 +1,4 @@
+pub mod Pieces
+pub mod GoingOn
+pub mod Sending
+pub mod Arriving

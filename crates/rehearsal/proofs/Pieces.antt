@@ -1,0 +1,60 @@
+-- A receiver that is fed in pieces.
+use Rattle.std.proofs.Common.{◌≡◌, ℕ, ◌<◌, List, [], ◌++◌, length, refl, ap, sym, subst, ◌∙◌, append_assoc, append-nil}
+use Rattle.std.specs.Prelude.{IfErr, Result, Ok, Err}
+use Rattle.machine.specs.Seen.{Marks}
+use Rattle.receiver.specs.Disks.{MarksRefused}
+use Rattle.receiver.specs.Faults.{Fault}
+use Rattle.receiver.specs.Receiving.{HasBeenFed, IsFinish, NoFault, Received, RefusesSlice, TellsFault, TellsNow}
+use Rattle.receiver.specs.declared.recv_error.RecvError.{RecvError}
+use Rattle.receiver.proofs.Counting.{slice_cut, slice_told}
+use Rattle.receiver.proofs.Prefixes.{stays}
+use Rattle.receiver.proofs.Working.{tells_more}
+
+-- All but the rest of the bytes was fed.
+pub record IsFed (r : Received) (bytes rest : List ℕ) : Type 0 where
+  pub so_far : List ℕ
+  pub whole : bytes ≡ so_far ++ rest
+  pub fed : HasBeenFed r so_far
+
+pub fed_first : (r : Received) (bytes : List ℕ) → HasBeenFed r [] → IsFed r bytes bytes
+fed_first r bytes fed = record { so_far = []; whole = refl; fed = fed }
+
+joined : (r : Received) (bytes rest piece others : List ℕ) (f : IsFed r bytes rest) → rest ≡ piece ++ others → bytes ≡ (f.so_far ++ piece) ++ others
+joined r bytes rest piece others f cut = f.whole ∙ ap (λ (x : List ℕ). f.so_far ++ x) cut ∙ sym (append_assoc f.so_far piece others)
+
+pub fed_on : (old new : Received) (bytes rest piece others : List ℕ) → IsFed old bytes rest → rest ≡ piece ++ others → ((b : List ℕ) → HasBeenFed old b → HasBeenFed new (b ++ piece)) → IsFed new bytes others
+fed_on old new bytes rest piece others f cut on = record { so_far = f.so_far ++ piece; whole = joined old bytes rest piece others f cut; fed = on f.so_far f.fed }
+
+-- What is told of a piece is told of all bytes.
+pub told : (sizes : List ℕ) (r : Received) (bytes rest piece others : List ℕ) (e : RecvError) → r.sizes ≡ sizes → IsFed r bytes rest → rest ≡ piece ++ others → ((b : List ℕ) → HasBeenFed r b → TellsNow r.sizes b piece e) → TellsFault sizes bytes e
+told sizes r bytes rest piece others e same f cut tells =
+    let P : List ℕ → Type 0 = λ s. TellsNow s f.so_far piece e in
+    let Q : (at : ℕ) → List ℕ → Type 0 = λ at b. Fault sizes b e at in
+    tells_more ((at : ℕ) × (length f.so_far < at) × Fault sizes (f.so_far ++ piece) e at) ((at : ℕ) × Fault sizes bytes e at) e
+    (λ x. (x.0, subst (Q x.0) (sym (joined r bytes rest piece others f cut)) (stays sizes (f.so_far ++ piece) others e x.0 x.2)))
+    (subst P same (tells f.so_far f.fed))
+
+pub no_others : (rest : List ℕ) → rest ≡ rest ++ []
+no_others rest = sym (append-nil rest)
+
+-- The last piece.
+pub fed_all : (old new : Received) (bytes rest : List ℕ) → IsFed old bytes rest → ((b : List ℕ) → HasBeenFed old b → HasBeenFed new (b ++ rest)) → HasBeenFed new bytes
+fed_all old new bytes rest f on = let P : List ℕ → Type 0 = λ b. HasBeenFed new b in subst P (sym f.whole) (on f.so_far f.fed)
+
+pub quiet_all : (sizes : List ℕ) (old : Received) (bytes rest : List ℕ) → old.sizes ≡ sizes → IsFed old bytes rest → ((b : List ℕ) → HasBeenFed old b → NoFault old.sizes (b ++ rest)) → NoFault sizes bytes
+quiet_all sizes old bytes rest same f quiet =
+    let P : List ℕ → Type 0 = λ b. NoFault old.sizes b in
+    let Q : List ℕ → Type 0 = λ s. NoFault s bytes in
+    subst Q same (subst P (sym f.whole) (quiet f.so_far f.fed))
+
+-- What a refusal says of all bytes, of a piece and in the end.
+pub refused_piece : (sizes : List ℕ) (marks new : List Marks) (r : Received) (bytes rest piece others : List ℕ) (e : RecvError) → r.sizes ≡ sizes → r.marks ≡ marks → IsFed r bytes rest → rest ≡ piece ++ others → MarksRefused r.marks e new → ((b : List ℕ) → HasBeenFed r b → TellsNow r.sizes b piece e)
+    → RefusesSlice sizes marks bytes e
+refused_piece sizes marks new r bytes rest piece others e same same_marks f cut failed tells =
+    let P : List Marks → Type 0 = λ ms. MarksRefused ms e new in
+    slice_told sizes marks new bytes e (subst P same_marks failed) (told sizes r bytes rest piece others e same f cut tells)
+
+pub refused_end : {T : Type 0} (result : Result T RecvError) (sizes : List ℕ) (marks : List Marks) (old new : Received) (bytes rest : List ℕ) → old.sizes ≡ sizes → IsFed old bytes rest → ((b : List ℕ) → HasBeenFed old b → HasBeenFed new (b ++ rest)) → ((b : List ℕ) → HasBeenFed old b → NoFault old.sizes (b ++ rest))
+    → IfErr result (λ e. (b : List ℕ) → HasBeenFed new b → IsFinish b e) → IfErr result (λ e. RefusesSlice sizes marks bytes e)
+refused_end (Ok x) sizes marks old new bytes rest same f on quiet h = tt
+refused_end (Err e) sizes marks old new bytes rest same f on quiet h = slice_cut sizes marks bytes e (h bytes (fed_all old new bytes rest f on)) (quiet_all sizes old bytes rest same f quiet)

@@ -1,0 +1,275 @@
+//! A move of a machine, rehearsed.
+
+ghost use Rattle.std.specs.Prelude.{◌≡◌, ◌↔◌, ◌≤◌, [], All, IfErr, IfOk, IfSome, IsTrue, length, vec_capacity};
+ghost use Rattle.machine.specs.First.{dealt_marks};
+ghost use Rattle.machine.specs.Seen.{all_marks, state_of};
+ghost use Rattle.machine.specs.Shapes.{disk_sizes};
+ghost use Rattle.machine.specs.Sound.{IsSoundShape};
+ghost use Rattle.receiver.specs.Disks.{AreHonestDisks, disk_marks_of, sizes_of};
+ghost use Rattle.receiver.specs.Receiving.{RefusesSlice};
+ghost use Rattle.wire.specs.Stream.{IsStream, shapes_in};
+ghost use Rattle.rehearsal.specs.Rehearsing.{GoOn, IsNotStopped, IsRefusedWith, IsRehearsal, IsSent, is_stopped};
+
+use machine::{Disk, Machine, Reply, Shape};
+use receiver::{Receiver, RecvError};
+use sender::{Live, LiveEvent, LiveReply};
+use std::alloc::Global;
+use wire::WriteSink;
+
+/// What is left of a rehearsed move of a machine.
+#[derive(Drop)]
+pub enum Rehearsal<D: Disk, E: Disk> {
+    /// The machine arrived, and both machines played the events of the guest that remained.
+    Arrived {
+        /// The machine that was sent.
+        source: Machine<D>,
+
+        /// The machine that arrived.
+        arrived: Machine<E>,
+
+        /// All that the machine that was sent answered.
+        replies: Vec<LiveReply>,
+
+        /// What the machine that arrived answered to the events of the guest that remained.
+        arrived_replies: Vec<Reply>,
+    },
+
+    /// No stop answered Ok.
+    NotStopped {
+        /// The machine as it then is.
+        source: Machine<D>,
+
+        /// What each event was answered. There is none where memory was refused.
+        replies: Vec<LiveReply>,
+    },
+
+    /// A stop answered Ok, and the stream was refused.
+    Refused {
+        /// The machine as it was at the stop.
+        source: Machine<D>,
+
+        /// What the events up to and with the stop were answered.
+        replies: Vec<LiveReply>,
+
+        /// Why the stream was refused.
+        error: RecvError,
+    },
+}
+
+/// A machine after a stop that answered Ok, its stream, and room for the replies to come.
+#[derive(Drop)]
+struct Sent<D: Disk> {
+    source: Machine<D>,
+    replies: Vec<LiveReply>,
+    bytes: Vec<u8>,
+    arrived_replies: Vec<Reply>,
+}
+
+/// A machine of which no stop answered Ok.
+#[derive(Drop)]
+struct Unsent<D: Disk> {
+    source: Machine<D>,
+    replies: Vec<LiveReply>,
+}
+
+/// Rehearses a move of a machine: plays the events up to and with the first stop that answers Ok, feeds the stream in pieces of
+/// the sizes of the cuts to a receiver over the disks, and plays the events of the guest that remain on both machines. The other
+/// events that remain are skipped, and have no reply. Room for all replies is made first: where memory is refused, nothing is
+/// played.
+pub fn rehearse<D: Disk + Drop, E: Disk + Drop>(
+    alloc: Global,
+    machine: Machine<D>,
+    events: &[LiveEvent],
+    disks: Vec<E>,
+    cuts: &[usize],
+) -> Rehearsal<D, E>
+    ensures { IsRehearsal machine events.now (sizes_of E.state disks.items) (disk_marks_of E.state disks.items) result }
+{
+    let fits = are_disks_of(machine.shapes(), &disks);
+    let sent = match send(alloc, machine, events) {
+        Ok(sent) => sent,
+        Err(Unsent { source, replies }) => return Rehearsal::NotStopped { source, replies },
+    };
+    if !fits {
+        return sent.refused(RecvError::ShapeMismatch);
+    }
+    match receive_in_pieces(alloc, &sent.bytes, disks, cuts) {
+        Ok(arrived) => sent.go_on(arrived, events),
+        Err(error) => sent.refused(error),
+    }
+}
+
+impl<D: Disk + Drop> Sent<D> {
+    /// The machine at the stop, where its stream is refused.
+    fn refused<E: Disk>(self, error: RecvError) -> Rehearsal<D, E>
+        ensures { IsRefusedWith self.source self.replies.items error result }
+    {
+        let Sent {
+            source,
+            replies,
+            bytes: _,
+            arrived_replies: _,
+        } = self;
+        Rehearsal::Refused {
+            source,
+            replies,
+            error,
+        }
+    }
+
+    /// Plays the events of the guest that remain on both machines.
+    fn go_on<E: Disk>(self, mut arrived: Machine<E>, events: &[LiveEvent]) -> Rehearsal<D, E>
+        requires few { length self.replies.items ≤ length events.now }
+        requires room { length events.now ≤ vec_capacity self.replies }
+        requires arrived_room { length events.now ≤ vec_capacity self.arrived_replies }
+        requires arrived_none { self.arrived_replies.items ≡ [] }
+        ensures { GoOn self.source self.replies.items arrived events.now result }
+    {
+        let Sent {
+            mut source,
+            mut replies,
+            bytes: _,
+            mut arrived_replies,
+        } = self;
+        let (_, rest) = events.split_at(replies.len());
+        for event in rest {
+            let LiveEvent::Guest(event) = event else {
+                continue;
+            };
+            let reply = source.apply(event);
+            replies.push_reserved(LiveReply::Guest(reply));
+            let arrived_reply = arrived.apply(event);
+            arrived_replies.push_reserved(arrived_reply);
+        }
+        Rehearsal::Arrived {
+            source,
+            arrived,
+            replies,
+            arrived_replies,
+        }
+    }
+}
+
+/// Plays the events up to and with the first stop that answers Ok.
+fn send<D: Disk + Drop>(
+    alloc: Global,
+    machine: Machine<D>,
+    events: &[LiveEvent],
+) -> Result<Sent<D>, Unsent<D>>
+    ensures sent { IfOk result (λ s. IsSent machine events.now s.source s.replies.items s.bytes.items) }
+    ensures room { IfOk result (λ s. length events.now ≤ vec_capacity s.replies) }
+    ensures arrived_room { IfOk result (λ s. length events.now ≤ vec_capacity s.arrived_replies) }
+    ensures arrived_none { IfOk result (λ s. s.arrived_replies.items ≡ []) }
+    ensures unsent { IfErr result (λ u. IsNotStopped machine events.now u.source u.replies.items) }
+{
+    let _shapes = machine.shapes();
+    let mut live = match Live::new(alloc, machine, WriteSink::new(Vec::new(alloc))) {
+        Ok(live) => live,
+        Err((_, source, _)) => {
+            return Err(Unsent {
+                source,
+                replies: Vec::new(alloc),
+            });
+        }
+    };
+    let Some((mut replies, arrived_replies)) = make_room(alloc, events.len()) else {
+        return Err(Unsent {
+            source: live.abort(),
+            replies: Vec::new(alloc),
+        });
+    };
+    let mut stopped = false;
+    while !stopped && replies.len() < events.len() {
+        live.recall();
+        let reply = live.serve(&events[replies.len()]);
+        stopped = is_stopped(&reply);
+        replies.push_reserved(reply);
+    }
+    let (source, out) = live.into_parts();
+    if stopped {
+        return Ok(Sent {
+            source,
+            replies,
+            bytes: out.into_inner(),
+            arrived_replies,
+        });
+    }
+    Err(Unsent { source, replies })
+}
+
+/// Room for so many replies of each of the two machines.
+fn make_room(alloc: Global, count: usize) -> Option<(Vec<LiveReply>, Vec<Reply>)>
+    ensures none { IfSome result (λ room. room.0.items ≡ []) }
+    ensures room { IfSome result (λ room. count ≤ vec_capacity room.0) }
+    ensures arrived_none { IfSome result (λ room. room.1.items ≡ []) }
+    ensures arrived_room { IfSome result (λ room. count ≤ vec_capacity room.1) }
+{
+    let Ok(replies) = Vec::with_capacity(alloc, count) else {
+        return None;
+    };
+    let Ok(arrived_replies) = Vec::with_capacity(alloc, count) else {
+        return None;
+    };
+    Some((replies, arrived_replies))
+}
+
+/// Whether a stop answered Ok.
+fn is_stopped(reply: &LiveReply) -> bool
+    ensures { result ≡ is_stopped reply.now }
+{
+    match reply {
+        LiveReply::Stopped { .. } => true,
+        _ => false,
+    }
+}
+
+/// Whether these are the disks of the devices that have one, in their order.
+fn are_disks_of<D: Disk>(shapes: &[Shape], disks: &[D]) -> bool
+    requires { All IsSoundShape shapes.now }
+    ensures { IsTrue result ↔ (sizes_of D.state disks.now ≡ disk_sizes shapes.now) }
+{
+    let mut rest = disks;
+    for shape in shapes {
+        let size = shape.sectors();
+        if size == 0 {
+            continue;
+        }
+        let Some((disk, others)) = rest.split_first() else {
+            return false;
+        };
+        if disk.sectors() != size {
+            return false;
+        }
+        rest = others;
+    }
+    rest.is_empty()
+}
+
+/// The machine whose stream the bytes are, fed in pieces of these sizes. A cut beyond what is left takes what is left; what the
+/// cuts leave is one piece.
+fn receive_in_pieces<E: Disk + Drop>(
+    alloc: Global,
+    bytes: &[u8],
+    disks: Vec<E>,
+    cuts: &[usize],
+) -> Result<Machine<E>, RecvError>
+    ensures received { IfOk result (λ m. AreHonestDisks (disk_marks_of E.state disks.items) → IsStream bytes.now (state_of m)) }
+    ensures marks { IfOk result (λ m. all_marks m ≡ dealt_marks (shapes_in (state_of m).devices) (disk_marks_of E.state disks.items)) }
+    ensures refused { IfErr result (λ e. RefusesSlice (sizes_of E.state disks.items) (disk_marks_of E.state disks.items) bytes.now e) }
+{
+    let mut receiver = Receiver::new(alloc, disks);
+    let mut rest = bytes;
+    for cut in cuts {
+        let (piece, others) = rest.split_at((*cut).min(rest.len()));
+        match receiver.feed(piece) {
+            Ok(()) => {}
+            Err(error) => return Err(error),
+        }
+        rest = others;
+    }
+    match receiver.feed(rest) {
+        Ok(()) => {}
+        Err(error) => return Err(error),
+    }
+    receiver.finish()
+}

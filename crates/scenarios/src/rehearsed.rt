@@ -1,0 +1,168 @@
+//! Machines whose move is rehearsed.
+
+use crate::disks::disks_of;
+use crate::playing::are_lines;
+use crate::recording_disk::{RecordingDisk, SectorWrite};
+use crate::stream::{PIECES, saved};
+use anyhow::{Context, Result, bail, ensure};
+use books::{Book, Scenario, Script, spelled};
+use machine::{Disk, Machine, Reply, SECTOR_SIZE};
+use rehearsal::{Rehearsal, rehearse};
+use sender::LiveReply;
+use std::alloc::Global;
+use traces::{Trace, parse, write_reply};
+
+/// How often a stream is cut: no stream here is longer.
+const CUTS: usize = 8192;
+
+/// How many pieces of odd sizes are cut off: they are 10,000 bytes.
+const ODD_CUTS: usize = 100;
+
+/// Shows a scenario of a book of rehearsals: the lines of a script of a machine with one disk, in which the machine is sent,
+/// and behind a line `written` what is written to the disk of the machine that arrives, a line for each write: the sector, and
+/// its bytes as `spelled` reads them.
+///
+/// The replies are as the lines say, both machines answer alike and are saved alike, and that disk is written to as the lines
+/// say: whatever does without the stream writes otherwise. The stream is fed whole, in pieces of one size, and in
+/// pieces of 1, 3, 5 bytes and so on.
+pub fn show(alloc: Global, book: &Book, scenario: &Scenario) -> Result<()> {
+    let text = book.text(alloc, scenario)?;
+    let (lines, written) = text
+        .as_str()
+        .split_once("written\n")
+        .context("nothing is written")?;
+    let mut script = Script::new(alloc);
+    script.add(lines)?;
+    let written = writes_of(alloc, written)?;
+    is_rehearsed(alloc, &script, &[], written.as_slice())?;
+    for size in PIECES {
+        let cuts = vec![in alloc; size; CUTS]?;
+        is_rehearsed(alloc, &script, cuts.as_slice(), written.as_slice()).context("in pieces")?;
+    }
+    let cuts = odd_cuts(alloc)?;
+    is_rehearsed(alloc, &script, cuts.as_slice(), written.as_slice()).context("in odd pieces")
+}
+
+/// The writes of these lines.
+fn writes_of(alloc: Global, lines: &str) -> Result<Vec<SectorWrite>> {
+    let mut writes = Vec::new(alloc);
+    for line in lines.lines() {
+        let (sector, words) = line.split_once(' ').context("no bytes")?;
+        let sector = sector.parse::<u64>()?;
+        let held = spelled(alloc, words)?;
+        ensure!(held.len() == SECTOR_SIZE, "{line}");
+        let mut bytes = [0; SECTOR_SIZE];
+        for (to, from) in bytes.iter_mut().zip(held.iter()) {
+            *to = *from;
+        }
+        writes.push(SectorWrite { sector, bytes })?;
+    }
+    Ok(writes)
+}
+
+/// The sizes 1, 3, 5 and so on.
+fn odd_cuts(alloc: Global) -> Result<Vec<usize>> {
+    let mut cuts = Vec::new(alloc);
+    for turn in 0..ODD_CUTS {
+        cuts.push(2 * turn + 1)?;
+    }
+    Ok(cuts)
+}
+
+fn is_rehearsed(
+    alloc: Global,
+    script: &Script,
+    cuts: &[usize],
+    written: &[SectorWrite],
+) -> Result<()> {
+    let trace = parse(alloc, script.trace())?;
+    let sectors = sectors_of(&trace)?;
+    let mut writes = Vec::new(alloc);
+    let disks = recording_disks(alloc, sectors, &mut writes)?;
+    arrives(alloc, script, &trace, disks, cuts)?;
+    ensure!(writes.as_slice() == written, "other writes");
+    Ok(())
+}
+
+/// The size of the one disk.
+fn sectors_of(trace: &Trace) -> Result<u64> {
+    for shape in &trace.shapes {
+        if shape.sectors() > 0 {
+            return Ok(shape.sectors());
+        }
+    }
+    bail!("no disk")
+}
+
+/// One disk, whose writes come behind those of the list.
+fn recording_disks<'w>(
+    alloc: Global,
+    sectors: u64,
+    writes: &'w mut Vec<SectorWrite>,
+) -> Result<Vec<RecordingDisk<'w>>> {
+    let mut disks = Vec::new(alloc);
+    disks.push(RecordingDisk::new(alloc, sectors, writes)?)?;
+    Ok(disks)
+}
+
+/// Fails where another machine arrives over these disks.
+fn arrives<E: Disk + Drop>(
+    alloc: Global,
+    script: &Script,
+    trace: &Trace,
+    disks: Vec<E>,
+    cuts: &[usize],
+) -> Result<()> {
+    let shapes = trace.shapes.as_slice();
+    let own = disks_of(alloc, script, shapes)?;
+    let machine = Machine::new(alloc, trace.pages, shapes, own)?;
+    match rehearse(alloc, machine, trace.events.as_slice(), disks, cuts) {
+        Rehearsal::Arrived {
+            source,
+            arrived,
+            replies,
+            arrived_replies,
+        } => {
+            let lines = lines_of(alloc, replies.as_slice())?;
+            are_lines(lines.as_slice(), script.replies())?;
+            answered_alike(replies.as_slice(), arrived_replies.as_slice())?;
+            are_saved_alike(alloc, source, arrived)
+        }
+        Rehearsal::NotStopped { .. } => bail!("no stop"),
+        Rehearsal::Refused { error, .. } => bail!("{error}"),
+    }
+}
+
+fn are_saved_alike<D: Disk + Drop, E: Disk + Drop>(
+    alloc: Global,
+    mut one: Machine<D>,
+    mut other: Machine<E>,
+) -> Result<()> {
+    let stream = saved(alloc, &mut one)?;
+    ensure!(stream == saved(alloc, &mut other)?, "saved otherwise");
+    Ok(())
+}
+
+/// The lines of replies.
+fn lines_of(alloc: Global, replies: &[LiveReply]) -> Result<Vec<u8>> {
+    let mut lines = Vec::new(alloc);
+    for reply in replies {
+        write_reply(reply, &mut lines)?;
+    }
+    Ok(lines)
+}
+
+/// Fails where the last replies of the machine that was sent are not those of the machine that arrived.
+fn answered_alike(replies: &[LiveReply], arrived: &[Reply]) -> Result<()> {
+    let before = replies
+        .len()
+        .checked_sub(arrived.len())
+        .context("more replies")?;
+    for (reply, arrived) in replies.iter().skip(before).zip(arrived) {
+        match reply {
+            LiveReply::Guest(reply) => ensure!(reply == arrived, "another reply"),
+            _ => bail!("a reply of the migration"),
+        }
+    }
+    Ok(())
+}

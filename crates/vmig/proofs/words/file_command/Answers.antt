@@ -1,0 +1,7 @@
+use Rattle.std.proofs.Common.{rules, ap₂, ◌∙◌}
+use Rattle.clap.specs.Words.{with_rule}
+use Rattle.vmig.proofs.words.file_command.Goals as goal
+
+pub returns : goal.returns
+returns c =
+    c.in_ok-command.ensures.shape (search rules) ∙ ap₂ with_rule c.new.ensures.app c.file.ensures.rule

@@ -1,0 +1,76 @@
+-- What `resume` does: a machine arrives from a stream, and the guest's events go on.
+use Rattle.std.specs.Prelude.{◌≡◌, ◌⊎◌, ℕ, List, [], ◌∷◌, length, map, flat_map, Option, Some, None}
+use Rattle.machine.specs.Outcome.{outcome_of}
+use Rattle.machine.specs.Run.{IsRun}
+use Rattle.machine.specs.Seen.{Marks}
+use Rattle.machine.specs.State.{MachineState}
+use Rattle.machine.specs.declared.event.Event.{Event}
+use Rattle.machine.specs.declared.reply.Reply.{Reply}
+use Rattle.receiver.specs.Receiving.{RefusesSlice}
+use Rattle.receiver.specs.declared.recv_error.RecvError.{RecvError}
+use Rattle.traces.specs.Trace.{HoldsEvents, RefusesEvents}
+use Rattle.traces.specs.Replies.{reply_line}
+use Rattle.traces.specs.declared.trace.TraceError.{TraceError}
+use Rattle.wire.specs.Stream.{IsStream}
+use Rattle.vmig.specs.Faults.{TellsOfFile, stream_fault, trace_fault}
+use Rattle.vmig.specs.declared.fault.Fault.{Fault}
+
+-- The machine of some stream. No contract says what the file of a stream holds.
+pub record HasArrived (machine : MachineState) : Type 0 where
+  pub bytes : List ℕ
+  pub stream : IsStream bytes machine
+
+-- These are the replies of such a machine to the events, each event with the outcome of its reply.
+pub record AreResumed (events : List Event) (replies : List Reply) : Type 0 where
+  pub machine : MachineState
+  pub arrived : HasArrived machine
+  pub last : MachineState
+  pub run : IsRun machine events (map outcome_of replies) replies last
+
+-- The text is events, and these are the lines of such replies to them, in order. The machine has no disk.
+pub record AreResumedLines (text lines : List ℕ) : Type 0 where
+  pub events : List Event
+  pub holds : HoldsEvents text events
+  pub replies : List Reply
+  pub answered : AreResumed events replies
+  pub spelled : lines ≡ flat_map reply_line replies
+
+-- The text is events, and these are the lines of as many replies. What the file of an image holds, and so what the machine
+-- answers, no contract says.
+pub record AreLinesOverImage (text lines : List ℕ) : Type 0 where
+  pub events : List Event
+  pub holds : HoldsEvents text events
+  pub replies : List Reply
+  pub each : length replies ≡ length events
+  pub spelled : lines ≡ flat_map reply_line replies
+
+-- What is written of a text, over the image of this name or over no disk.
+abbrev pub AreResumedOver : Option (List ℕ) → List ℕ → List ℕ → Type 0
+AreResumedOver None text lines = AreResumedLines text lines
+AreResumedOver (Some image) text lines = AreLinesOverImage text lines
+
+-- What a fault says of a text of events: it is none.
+pub record TellsOfEvents (text : List ℕ) (fault : Fault) : Type 0 where
+  pub refusal : TraceError
+  pub refused : RefusesEvents text refusal
+  pub is : fault ≡ trace_fault refusal
+
+-- What a fault says of some bytes that were received over disks of these sizes, of which this is known.
+pub record TellsOfPieces (sizes : List ℕ) (marks : List Marks) (fault : Fault) : Type 0 where
+  pub bytes : List ℕ
+  pub refusal : RecvError
+  pub refused : RefusesSlice sizes marks bytes refusal
+  pub is : fault ≡ stream_fault refusal
+
+-- What a fault says of the stream in the file of this name: it could not be read, or it is refused; or memory was.
+abbrev pub TellsOfArrival : List ℕ → List ℕ → List Marks → Fault → Type 0
+TellsOfArrival stream sizes marks fault = TellsOfFile stream fault ⊎ TellsOfPieces sizes marks fault
+
+-- The same over an image: it is no image of a disk, or it is one of so many sectors. Without one there is no disk.
+abbrev pub TellsOfStreamOver : Option (List ℕ) → List ℕ → Fault → Type 0
+TellsOfStreamOver None stream fault = TellsOfArrival stream [] [] fault
+TellsOfStreamOver (Some image) stream fault = TellsOfFile image fault ⊎ ((sectors : ℕ) × (marks : Marks) × TellsOfArrival stream (sectors ∷ []) (marks ∷ []) fault)
+
+-- What a fault says of a text: it is no events, or there is no machine to play them on.
+abbrev pub TellsOfResuming : Option (List ℕ) → List ℕ → List ℕ → Fault → Type 0
+TellsOfResuming image stream text fault = TellsOfEvents text fault ⊎ ((events : List Event) × HoldsEvents text events × TellsOfStreamOver image stream fault)

@@ -1,0 +1,168 @@
+//! A machine that arrives from a stream, and goes on.
+
+ghost use Rattle.std.specs.Prelude.{◌≡◌, [], IfOk, IfErr, OnOk, None, false, length, true};
+ghost use Rattle.machine.specs.First.{dealt_marks};
+ghost use Rattle.machine.specs.Seen.{all_marks, state_of};
+ghost use Rattle.receiver.specs.Disks.{AreHonestDisks, disk_marks_of, sizes_of};
+ghost use Rattle.receiver.specs.Receiving.{NoFault};
+ghost use Rattle.wire.specs.Stream.{shapes_in};
+ghost use Rattle.vmig.specs.Output.{Fails, FailsOnFile, HasDoneFile, HasWritten, Silently};
+ghost use Rattle.vmig.specs.Resuming.{AreResumed, AreResumedOver, HasArrived, TellsOfArrival, TellsOfResuming, TellsOfStreamOver};
+ghost use Rattle.vmig.specs.Words.{name_in};
+
+use crate::fault::Fault;
+use crate::output::{open_file, read_file, write_all};
+use crate::playing::image_disks;
+use machine::{Disk, Event, Machine, MemDisk, Reply};
+use receiver::Receiver;
+use std::alloc::Global;
+use std::io::{ErrorKind, Read, Write};
+use std::rt::Files;
+use traces::parse_events;
+
+/// How much of a stream is read at once.
+const PIECE_SIZE: usize = 65_536;
+
+/// Receives the machine of the stream in the file of this name, over the image of a disk or over none, and plays the trace in
+/// the file of the other name on it.
+pub fn resume_trace<'a, R: Files + AllocGlobal, O: Write>(
+    rt: &R,
+    stream: &'a str,
+    name: &'a str,
+    image: Option<&'a str>,
+    out: &mut O,
+) -> Result<(), Fault<'a>>
+    ensures done { OnOk result (HasDoneFile (λ text. Silently (AreResumedOver (name_in image.entry) text)) (O.contents out.old) (O.contents out.new)) }
+    ensures failed { IfErr result (FailsOnFile name.entry.now (TellsOfResuming (name_in image.entry) stream.entry.now) (λ text. Silently (AreResumedOver (name_in image.entry) text)) (O.contents out.old) (O.contents out.new)) }
+{
+    let text = read_file(rt, name)?;
+    resume_text(rt, stream, text.as_slice(), image, out)
+}
+
+/// Receives the machine of a stream, plays events on it, and writes the line of each reply.
+fn resume_text<'a, R: Files + AllocGlobal, O: Write>(
+    rt: &R,
+    stream: &'a str,
+    text: &[u8],
+    image: Option<&'a str>,
+    out: &mut O,
+) -> Result<(), Fault<'a>>
+    ensures done { OnOk result (HasWritten (AreResumedOver (name_in image.entry) text.now) (O.contents out.old) (O.contents out.new)) }
+    ensures failed { IfErr result (Fails (TellsOfResuming (name_in image.entry) stream.entry.now text.now) (Silently (AreResumedOver (name_in image.entry) text.now)) (O.contents out.old) (O.contents out.new)) }
+{
+    let events = parse_events(rt.alloc(), text)?;
+    let replies = replies_over(rt, stream, events.as_slice(), image)?;
+    write_all(replies.as_slice(), out)?;
+    Ok(())
+}
+
+/// The replies of the machine of a stream to these events, over the image of a disk or over none.
+fn replies_over<'a, R: Files + AllocGlobal>(
+    rt: &R,
+    stream: &'a str,
+    events: &[Event],
+    image: Option<&'a str>,
+) -> Result<Vec<Reply>, Fault<'a>>
+    ensures each { IfOk result (λ replies. length replies.items ≡ length events.now) }
+    ensures played { image.entry ≡ None → IfOk result (λ replies. AreResumed events.now replies.items) }
+    ensures failed { IfErr result (TellsOfStreamOver (name_in image.entry) stream.entry.now) }
+{
+    let Some(name) = image else {
+        let none: Vec<MemDisk> = Vec::new(rt.alloc());
+        return replies_to(rt, stream, events, none);
+    };
+    let disks = image_disks(rt, name)?;
+    replies_to(rt, stream, events, disks)
+}
+
+/// The replies of the machine of a stream, with these disks, to these events.
+fn replies_to<'a, R: Files + AllocGlobal, D: Disk + Drop>(
+    rt: &R,
+    stream: &'a str,
+    events: &[Event],
+    disks: Vec<D>,
+) -> Result<Vec<Reply>, Fault<'a>>
+    ensures each { IfOk result (λ replies. length replies.items ≡ length events.now) }
+    ensures played { AreHonestDisks (disk_marks_of D.state disks.items) → IfOk result (λ replies. AreResumed events.now replies.items) }
+    ensures failed { IfErr result (TellsOfArrival stream.entry.now (sizes_of D.state disks.items) (disk_marks_of D.state disks.items)) }
+{
+    let mut machine = receive_file(rt, stream, disks)?;
+    match machine.play(events) {
+        Ok(replies) => Ok(replies),
+        Err(_) => Err(Fault::NoMemory),
+    }
+}
+
+/// The machine of the stream in the file of this name, with these disks. The file is fed as it is read.
+fn receive_file<'a, R: Files + AllocGlobal, D: Disk + Drop>(
+    rt: &R,
+    name: &'a str,
+    disks: Vec<D>,
+) -> Result<Machine<D>, Fault<'a>>
+    ensures arrived { AreHonestDisks (disk_marks_of D.state disks.items) → IfOk result (λ m. HasArrived (state_of m)) }
+    ensures marks { IfOk result (λ m. all_marks m ≡ dealt_marks (shapes_in (state_of m).devices) (disk_marks_of D.state disks.items)) }
+    ensures failed { IfErr result (TellsOfArrival name.entry.now (sizes_of D.state disks.items) (disk_marks_of D.state disks.items)) }
+{
+    let alloc = rt.alloc();
+    let mut file = open_file(rt, name)?;
+    let Ok(mut piece) = vec![in alloc; 0u8; PIECE_SIZE] else {
+        return Err(Fault::NoMemory);
+    };
+    let mut receiver = Receiver::new(alloc, disks);
+    feed_all(&mut file, name, piece.as_mut_slice(), &mut receiver)?;
+    match receiver.finish() {
+        Ok(machine) => Ok(machine),
+        Err(refusal) => Err(Fault::from(refusal)),
+    }
+}
+
+/// Feeds what is left of a file, which ends once.
+fn feed_all<'a, F: Read, D: Disk + Drop>(
+    file: &mut F,
+    name: &'a str,
+    piece: &mut [u8],
+    receiver: &mut Receiver<D>,
+) -> Result<(), Fault<'a>>
+    requires { receiver.old.failed ≡ false }
+    ensures sizes { receiver.new.sizes ≡ receiver.old.sizes }
+    ensures marks { OnOk result (receiver.new.marks ≡ receiver.old.marks) }
+    ensures goes_on { OnOk result (receiver.new.failed ≡ false) }
+    ensures quiet { OnOk result (NoFault receiver.old.sizes receiver.new.bytes) }
+    ensures failed { IfErr result (TellsOfArrival name.entry.now receiver.old.sizes receiver.old.marks) }
+{
+    for _ in 0..u64::MAX {
+        if feed_piece(file, name, piece, receiver)? {
+            return Ok(());
+        }
+    }
+    Err(Fault::File(name))
+}
+
+/// Feeds the next piece of a file, and answers whether it is the end. The piece that is read there is empty.
+fn feed_piece<'a, F: Read, D: Disk + Drop>(
+    file: &mut F,
+    name: &'a str,
+    piece: &mut [u8],
+    receiver: &mut Receiver<D>,
+) -> Result<bool, Fault<'a>>
+    requires { receiver.old.failed ≡ false }
+    ensures sizes { receiver.new.sizes ≡ receiver.old.sizes }
+    ensures marks { OnOk result (receiver.new.marks ≡ receiver.old.marks) }
+    ensures goes_on { OnOk result (receiver.new.failed ≡ false) }
+    ensures quiet { IfOk result (λ ended. ended ≡ true → NoFault receiver.old.sizes receiver.new.bytes) }
+    ensures failed { IfErr result (TellsOfArrival name.entry.now receiver.old.sizes receiver.old.marks) }
+{
+    let count = match file.read(piece) {
+        Ok(count) => count,
+        Err(error) => {
+            if error.kind() == ErrorKind::Interrupted {
+                return Ok(false);
+            }
+            return Err(Fault::of_file(name, error.kind()));
+        }
+    };
+    match receiver.feed(&piece[..count]) {
+        Ok(()) => Ok(count == 0),
+        Err(refusal) => Err(Fault::from(refusal)),
+    }
+}
