@@ -1,0 +1,40 @@
+-- A handle may go to another thread, since what it owns may.
+use mir.Raw.{raw}
+use base.Fraction.{full_share}
+use base.Shift.{Keyless}
+use denote.Exit.{Exit, unchanged, leaves, hidden, under}
+use denote.Memory.{lone}
+use denote.RawPtr.{Ptr, block_ptr, null_ptr, lies_at}
+use denote.Struct.Struct.{exits_of}
+use denote.Struct.Owning.{shape, fields, to}
+use denote.RattleType.{RattleType}
+use denote.Param.Send.{IsSend, AllSend, Quiet, owning_send, struct_send, sendable, part_keyless}
+use Rattle.std.specs.Prelude.{Option, Some, None}
+use Rattle.std.proofs.Crossing as heap
+use Rattle.std.proofs.alloc.Global.TheSendSync as handle
+use Rattle.std.specs.declared.alloc.Global.{Global}
+use Rattle.machine.specs.Seen.{Seen}
+use Rattle.blk.specs.contracts.mem_disk.MemDisk as MemDisk
+use Rattle.blk.specs.contracts.mem_disk.MemDiskDisk.TheImpl.{ghosts as disk}
+use Rattle.blk.proofs.mem_disk.MemDisk.TheSendSync as mem_disk
+use Rattle.machine.proofs.machine.Machine.TheSendSync as machine
+use Rattle.vmig_c.specs.contracts.handle.Handle.{the_row, the_type}
+use Rattle.vmig_c.specs.Owned.{machine_owns, machine_row}
+
+quiet : {D X : Type 0} (to : D → X) (e : Exit X) → Quiet e → Quiet (hidden (under to e))
+quiet to unchanged q = λ x w. tt
+quiet to (leaves L l S s r₀) q = λ d. q (to d)
+
+lies : (R : RattleType) → IsSend R → (p : Ptr) (x : R.Denot) → Keyless (lies_at R full_share p x)
+lies R s (block_ptr b o) x = part_keyless R s full_share x b o
+lies R s null_ptr x = tt
+
+owned : (a : Global) (p : Ptr) (k : Option Seen) → Keyless (machine_owns a p k)
+owned a p None = λ e. tt
+owned a p (Some x) = (lies machine_row (machine.the_send MemDisk.the_row disk mem_disk.the_send) p x, heap.frees.frees a (raw (lone machine_row.mir)) p)
+
+pub send : IsSend the_row
+send =
+    let all : AllSend (fields the_type) = (search sendable, (handle.the_field_send, tt)) in
+    owning_send the_type all (λ d. owned d.alloc d.at d.machine)
+    (λ k. quiet (to the_type) (exits_of k (fields the_type)) ((struct_send (shape the_type) all).leaving k))

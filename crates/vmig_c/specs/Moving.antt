@@ -1,0 +1,112 @@
+-- Machines as bytes.
+use Rattle.std.specs.Prelude.{◌≡◌, ◌⊎◌, ℕ, ◌+◌, nat_lt, Bool, true, false, List, ◌++◌, length, drop, Option, Some, None}
+use Rattle.machine.specs.Seen.{Seen, state_of}
+use Rattle.machine.specs.Shapes.{disk_sizes}
+use Rattle.machine.specs.declared.shape.Shape.{Shape}
+use Rattle.wire.specs.Header.{Begins}
+use Rattle.wire.specs.Stream.{whole}
+use Rattle.receiver.specs.Codes.{recv_code_of}
+use Rattle.receiver.specs.Disks.{disk_marks_of, sizes_of}
+use Rattle.receiver.specs.Receiving.{IsReceived, RefusesSlice}
+use Rattle.receiver.specs.declared.recv_error.RecvError.{RecvError}
+use Rattle.receiver.specs.declared.recv_error.RecvError.TheVariants.{ShapeMismatch, DiskFailed, NoMemory, AlreadyFailed}
+use Rattle.vmig_c.specs.Plain.{ArePlain, mem_state}
+use Rattle.vmig_c.specs.Status.{done, in_use, no_machine, no_memory, too_small}
+
+-- A machine that was read for its stream is the same.
+pub record IsKept (old new : Seen) : Type 0 where
+  pub memory : new.memory ≡ old.memory
+  pub state : state_of new ≡ state_of old
+  pub same : ArePlain old → new ≡ old
+
+-- A stream that goes into a buffer, where it fits, or else leaves it as it was.
+abbrev pub PutIf : Bool → List ℕ → ℕ → List ℕ → List ℕ → Type 0
+PutIf true stream status buf new_buf = (status ≡ too_small) × (new_buf ≡ buf)
+PutIf false stream status buf new_buf = (status ≡ done) × (new_buf ≡ stream ++ drop (length stream) buf)
+
+-- The whole stream of the machine was made; its length is told also where it did not fit.
+pub record IsSaved (m : Seen) (status len : ℕ) (buf new_buf : List ℕ) : Type 0 where
+  pub stream : List ℕ
+  pub is_whole : ArePlain m → stream ≡ whole (state_of m)
+  pub len_is : len ≡ length stream
+  pub put : PutIf (nat_lt (length buf) (length stream)) stream status buf new_buf
+
+-- Memory was refused, and nothing changed.
+pub record IsUnsaved (status len old_len : ℕ) (buf new_buf : List ℕ) : Type 0 where
+  pub status_is : status ≡ no_memory
+  pub len_same : len ≡ old_len
+  pub buf_same : new_buf ≡ buf
+
+pub record Saves (m : Seen) (status len old_len : ℕ) (buf new_buf : List ℕ) (next : Seen) : Type 0 where
+  pub kept : IsKept m next
+  pub told : IsSaved m status len buf new_buf ⊎ IsUnsaved status len old_len buf new_buf
+
+pub record HasSaved (m : Seen) (status len old_len : ℕ) (buf new_buf : List ℕ) (after : Option Seen) : Type 0 where
+  pub next : Seen
+  pub is_next : after ≡ Some next
+  pub saves : Saves m status len old_len buf new_buf next
+
+-- The machine behind a handle was saved. Where there is none, nothing changed.
+abbrev pub Saved : Option Seen → ℕ → ℕ → ℕ → List ℕ → List ℕ → Option Seen → Type 0
+Saved None status len old_len buf new_buf after = (status ≡ no_machine) × (len ≡ old_len) × (new_buf ≡ buf) × (after ≡ None)
+Saved (Some m) status len old_len buf new_buf after = HasSaved m status len old_len buf new_buf after
+
+-- Disks are of the sizes that the header says, if the bytes begin with one.
+pub record HasHeader (bytes sizes : List ℕ) : Type 0 where
+  pub pages : ℕ
+  pub shapes : List Shape
+  pub rest : List ℕ
+  pub begins : Begins bytes pages shapes rest
+  pub sizes_are : sizes ≡ disk_sizes shapes
+
+abbrev pub HasNoHeader : List ℕ → Type 0
+HasNoHeader bytes = (pages : ℕ) (shapes : List Shape) (rest : List ℕ) → ¬ (Begins bytes pages shapes rest)
+
+abbrev pub AreFitting : List ℕ → List ℕ → Type 0
+AreFitting bytes sizes = HasHeader bytes sizes ⊎ HasNoHeader bytes
+
+-- The bytes are a stream of this machine, in which so many rounds ended. Its disks lie in memory.
+pub record IsReceivedAs (bytes : List ℕ) (m : Seen) (n : ℕ) : Type 0 where
+  pub received : IsReceived bytes (state_of m) n
+  pub plain : ArePlain m
+
+-- The status of a refusal of a stream.
+abbrev pub refusal_status : RecvError → ℕ
+refusal_status NoMemory = no_memory
+refusal_status error = 32 + recv_code_of error
+
+-- A refusal that disks in memory that fit leave possible.
+abbrev pub IsPossible : RecvError → Type 0
+IsPossible ShapeMismatch = ⊥
+IsPossible DiskFailed = ⊥
+IsPossible AlreadyFailed = ⊥
+IsPossible error = Unit {0}
+
+-- A receiver over disks in memory that fit refuses the bytes, and the status names its reason.
+pub record IsRefused (bytes : List ℕ) (status : ℕ) : Type 0 where
+  pub error : RecvError
+  pub disks : List (List (List ℕ))
+  pub fit : AreFitting bytes (sizes_of mem_state disks)
+  pub refuses : RefusesSlice (sizes_of mem_state disks) (disk_marks_of mem_state disks) bytes error
+  pub possible : IsPossible error
+  pub status_is : status ≡ refusal_status error
+
+abbrev pub RefusedBy : List ℕ → ℕ → Type 0
+RefusedBy bytes status = IsRefused bytes status ⊎ (status ≡ no_memory)
+
+pub record HasReceived (bytes : List ℕ) (status n : ℕ) (after : Option Seen) : Type 0 where
+  pub machine : Seen
+  pub is_there : after ≡ Some machine
+  pub is_received : IsReceivedAs bytes machine n
+  pub status_is : status ≡ done
+
+-- Nothing changed.
+pub record HasRefused (bytes : List ℕ) (status n old_n : ℕ) (after : Option Seen) : Type 0 where
+  pub refused : RefusedBy bytes status
+  pub number_same : n ≡ old_n
+  pub same : after ≡ None
+
+-- A machine was received into a handle, or it is told why not.
+abbrev pub Received : Option Seen → List ℕ → ℕ → ℕ → ℕ → Option Seen → Type 0
+Received (Some m) bytes status n old_n after = (status ≡ in_use) × (n ≡ old_n) × (after ≡ Some m)
+Received None bytes status n old_n after = HasReceived bytes status n after ⊎ HasRefused bytes status n old_n after

@@ -1,0 +1,62 @@
+-- What C is told of a step, and what a device sends.
+use Rattle.std.specs.Prelude.{◌≡◌, ℕ, ◌-◌, nat_lt, List, [], ◌++◌, Bool, true, false, Option, Some, None, length, drop, slice_get}
+use Rattle.chains.specs.declared.transmitting.MessageForm.{MessageForm}
+use Rattle.machine.specs.Applied.{IsApplied}
+use Rattle.machine.specs.DeviceStep.{message_form}
+use Rattle.machine.specs.Seen.{Seen, state_of}
+use Rattle.machine.specs.State.{DeviceState}
+use Rattle.machine.specs.declared.event.Event.TheVariants.{Step}
+use Rattle.machine.specs.declared.reply.Reply.{Reply}
+use Rattle.machine.specs.declared.reply.Reply.TheVariants.{Sent}
+use Rattle.vmig_c.specs.Status.{status_of, no_machine, too_small}
+use Rattle.vmig_c.specs.Told.{number_of}
+
+-- How many bytes a message of this form has at most.
+abbrev pub most_of : Option MessageForm → ℕ
+most_of None = 0
+most_of (Some form) = form.most - form.header
+
+-- How many bytes a step of this pick may send: 1,514 of a network device, 65,536 of a console, and none of others.
+abbrev pub most_sent : Option DeviceState → ℕ → ℕ
+most_sent None pick = 0
+most_sent (Some d) pick = most_of (message_form d.own pick)
+
+abbrev pub most_sent_by : Seen → ℕ → ℕ → ℕ
+most_sent_by m dev pick = most_sent (slice_get (state_of m).devices dev) pick
+
+-- The bytes that a reply sends.
+abbrev pub sent_in : Reply → List ℕ
+sent_in (Sent bytes) = bytes
+sent_in _ = []
+
+-- A device did one piece of its work. What it sends stands at the front of the buffer, and all behind it is as it was.
+pub record IsStepped (m : Seen) (dev pick status number before : ℕ) (buf new_buf : List ℕ) (after : Seen) : Type 0 where
+  pub reply : Reply
+  pub applied : IsApplied m (Step dev pick) reply after
+  pub status_is : status ≡ status_of reply
+  pub number_is : number ≡ number_of reply before
+  pub sent : new_buf ≡ sent_in reply ++ drop (length (sent_in reply)) buf
+
+-- A step that may send more than the buffer holds is not done.
+pub record IsTooSmall (m : Seen) (status number before : ℕ) (buf new_buf : List ℕ) (after : Seen) : Type 0 where
+  pub status_is : status ≡ too_small
+  pub number_same : number ≡ before
+  pub buf_same : new_buf ≡ buf
+  pub same : after ≡ m
+
+abbrev pub SteppedIf : Bool → Seen → ℕ → ℕ → ℕ → ℕ → ℕ → List ℕ → List ℕ → Seen → Type 0
+SteppedIf true m dev pick status number before buf new_buf after = IsTooSmall m status number before buf new_buf after
+SteppedIf false m dev pick status number before buf new_buf after = IsStepped m dev pick status number before buf new_buf after
+
+abbrev pub Steps : Seen → ℕ → ℕ → ℕ → ℕ → ℕ → List ℕ → List ℕ → Seen → Type 0
+Steps m dev pick status number before buf new_buf after = SteppedIf (nat_lt (length buf) (most_sent_by m dev pick)) m dev pick status number before buf new_buf after
+
+pub record HasStepped (m : Seen) (dev pick status number before : ℕ) (buf new_buf : List ℕ) (after : Option Seen) : Type 0 where
+  pub next : Seen
+  pub is_next : after ≡ Some next
+  pub steps : Steps m dev pick status number before buf new_buf next
+
+-- A step of the machine behind a handle. Where there is none, nothing changed.
+abbrev pub Stepped : Option Seen → ℕ → ℕ → ℕ → ℕ → ℕ → List ℕ → List ℕ → Option Seen → Type 0
+Stepped None dev pick status number before buf new_buf after = (status ≡ no_machine) × (number ≡ before) × (new_buf ≡ buf) × (after ≡ None)
+Stepped (Some m) dev pick status number before buf new_buf after = HasStepped m dev pick status number before buf new_buf after

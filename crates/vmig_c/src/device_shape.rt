@@ -1,0 +1,68 @@
+//! Devices as C names them.
+
+ghost use Rattle.std.specs.Prelude.{◌≡◌};
+ghost use Rattle.vmig_c.specs.Making.{shape_of, is_plain, is_known};
+
+use machine::{SECTORS_MAX, Shape};
+
+/// A device that C asks for. What a kind does not need is not read.
+#[derive(Clone, Copy)]
+#[repr(C)]
+pub struct DeviceShape {
+    /// Its number in the standard (VIRTIO 1.2, 5): 1 a network device, 2 a block device, 3 a console, 4 an entropy device.
+    pub kind: u8,
+
+    /// Of a block device: whether the driver may only read it. 0 is no, and all else yes.
+    pub read_only: u8,
+
+    /// Of a network device: its MAC.
+    pub mac: [u8; 6],
+
+    /// Of a block device: how many sectors of 512 bytes it has.
+    pub sectors: u64,
+
+    /// Of a block device: what it answers to a driver that asks for its id.
+    pub id: [u8; 20],
+}
+
+impl DeviceShape {
+    /// The shape of the machine's device.
+    pub(crate) fn shape(self) -> Shape
+        ensures { result ≡ shape_of self }
+    {
+        let DeviceShape {
+            kind,
+            read_only,
+            mac,
+            sectors,
+            id,
+        } = self;
+        let read_only = read_only != 0;
+        match kind {
+            1 => Shape::Net { mac },
+            2 => Shape::Block {
+                sectors,
+                read_only,
+                id,
+            },
+            3 => Shape::Console,
+            _ => Shape::Entropy,
+        }
+    }
+
+    /// Whether there can be such a device.
+    pub(crate) fn is_plain(self) -> bool
+        ensures { result ≡ is_plain self }
+    {
+        match self.kind {
+            2 => self.sectors != 0 && self.sectors <= SECTORS_MAX,
+            kind => is_known(kind),
+        }
+    }
+}
+
+fn is_known(kind: u8) -> bool
+    ensures { result ≡ is_known kind }
+{
+    kind == 1 || kind == 2 || kind == 3 || kind == 4
+}

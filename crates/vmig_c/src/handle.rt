@@ -1,0 +1,103 @@
+//! A handle of a machine: the one type of this crate that C holds.
+
+ghost use Rattle.std.specs.Prelude.{◌≡◌, IsSome, IsNone, Some, None, is_some, Option};
+ghost use Rattle.std.specs.Borrow.{sem};
+ghost use Rattle.machine.specs.Seen.{Seen};
+ghost use Rattle.vmig_c.specs.Owned.{machine_owns, machine_coded};
+
+use machine::{Machine, MemDisk};
+use raw_box::OpenBox;
+use std::alloc::Global;
+use std::marker::Model;
+use std::ptr;
+
+/// A machine, or none. C keeps it where it likes and passes its address; all bytes 0 are a handle of no machine.
+#[repr(C)]
+pub struct Handle {
+    at: *mut u8,
+    alloc: Global,
+    pub ghost machine: { Option Seen } by { machine_coded },
+}
+
+impl Model for Handle {
+    ghost also_owns = { λ h. machine_owns h.alloc h.at h.machine };
+}
+
+impl Handle {
+    ghost use Rattle.std.specs.Prelude.{◌≡◌, IsSome, IsNone, Some, None, is_some};
+    ghost use Rattle.std.specs.Borrow.{sem};
+    ghost use Rattle.vmig_c.specs.Lending.{LendsMachine};
+
+    /// A handle of no machine.
+    pub(crate) fn none(alloc: Global) -> Handle
+        ensures { result.machine ≡ None }
+    {
+        Handle {
+            at: ptr::null_mut(),
+            alloc,
+        }
+    }
+
+    /// A handle of the machine in a box.
+    pub(crate) fn of(machine: Box<Machine<MemDisk>>) -> Handle
+        ensures { result.machine ≡ Some machine.value }
+    {
+        Handle::of_open(OpenBox::open(machine))
+    }
+
+    /// The machine in a box.
+    pub(crate) fn into_box(self) -> Box<Machine<MemDisk>>
+        requires { IsSome self.machine }
+        ensures { Some result.value ≡ self.machine }
+    {
+        self.into_open().close()
+    }
+
+    fn of_open(open: OpenBox<Machine<MemDisk>, Global>) -> Handle
+        ensures { result.machine ≡ Some open.held }
+    {
+        let OpenBox { address, heap } = open;
+        Handle {
+            at: address as *mut u8,
+            alloc: heap,
+        }
+    }
+
+    fn into_open(self) -> OpenBox<Machine<MemDisk>, Global>
+        requires { IsSome self.machine }
+        ensures { Some result.held ≡ self.machine }
+    {
+        let Handle { at, alloc } = self;
+        OpenBox {
+            address: at as *mut Machine<MemDisk>,
+            heap: alloc,
+        }
+    }
+
+    /// Lets a handle of no machine go.
+    pub(crate) fn gone(self)
+        requires { IsNone self.machine }
+    {
+        let Handle { at: _, alloc: _ } = self;
+    }
+
+    /// Whether there is a machine.
+    pub(crate) fn is_made(&mut self) -> bool
+        ensures same { self.new ≡ self.old }
+        ensures made { result ≡ is_some self.old.machine }
+    {
+        self.at != ptr::null_mut()
+    }
+
+    /// The machine.
+    pub(crate) fn get_mut(&mut self) -> &mut Machine<MemDisk>
+        requires { IsSome self.old.machine }
+        ensures* writes_back { sem 𝓛 (LendsMachine self.entry result) }
+        ensures value { Some result.now ≡ self.old.machine }
+    {
+        unsafe { &mut *(self.at as *mut Machine<MemDisk>) }
+    }
+}
+
+// All that a handle owns is its machine.
+unsafe impl Send for Handle {}

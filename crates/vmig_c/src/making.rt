@@ -1,0 +1,73 @@
+//! Machines that C asks for.
+
+ghost use Rattle.std.specs.Prelude.{◌≡◌, map, replicate, IfOk};
+ghost use Rattle.machine.specs.Shapes.{disk_sizes};
+ghost use Rattle.vmig_c.specs.Making.{IsMade, are_beyond_limits, are_plain, shapes_of};
+
+use crate::device_shape::DeviceShape;
+use guestmem::{NoMemory, PAGES_MAX};
+use machine::{DEVICES_MAX, Machine, MemDisk, Shape};
+use std::alloc::Global;
+
+/// Whether no machine can have so many pages and these devices.
+pub(crate) fn are_beyond_limits(pages: u32, shapes: &[DeviceShape]) -> bool
+    ensures { result ≡ are_beyond_limits pages shapes.now }
+{
+    if pages == 0 || pages > PAGES_MAX || shapes.is_empty() || shapes.len() > DEVICES_MAX {
+        return true;
+    }
+    !are_plain(shapes)
+}
+
+fn are_plain(shapes: &[DeviceShape]) -> bool
+    ensures { result ≡ are_plain shapes.now }
+{
+    for shape in shapes {
+        if !shape.is_plain() {
+            return false;
+        }
+    }
+    true
+}
+
+/// A machine in a box, over disks of zeros. The limits were tested, so its only error is want of memory.
+#[tactic(auto, using(crate::proofs::Zeros::made))]
+pub(crate) fn machine_of(
+    alloc: Global,
+    pages: u32,
+    shapes: &[DeviceShape],
+) -> Result<Box<Machine<MemDisk>>, NoMemory>
+    ensures { IfOk result (λ m. IsMade pages (shapes_of shapes.now) m.value) }
+{
+    let shapes = shapes_of(alloc, shapes)?;
+    let disks = zero_disks(alloc, &shapes)?;
+    let Ok(machine) = Machine::new(alloc, pages, &shapes, disks) else {
+        return Err(NoMemory);
+    };
+    let boxed = Box::new(alloc, machine)?;
+    Ok(boxed)
+}
+
+fn shapes_of(alloc: Global, shapes: &[DeviceShape]) -> Result<Vec<Shape>, NoMemory>
+    ensures { IfOk result (λ made. made.items ≡ shapes_of shapes.now) }
+{
+    let mut made = Vec::with_capacity(alloc, shapes.len())?;
+    for shape in shapes {
+        made.push_reserved(shape.shape());
+    }
+    Ok(made)
+}
+
+/// A disk of zeros for each device that has one, in their order.
+pub(crate) fn zero_disks(alloc: Global, shapes: &[Shape]) -> Result<Vec<MemDisk>, NoMemory>
+    ensures { IfOk result (λ disks. disks.items ≡ map (λ n. replicate n (replicate 512 0)) (disk_sizes shapes.now)) }
+{
+    let mut disks = Vec::new(alloc);
+    for shape in shapes {
+        let Shape::Block { sectors, .. } = *shape else {
+            continue;
+        };
+        disks.push(MemDisk::new(alloc, sectors)?)?;
+    }
+    Ok(disks)
+}

@@ -1,0 +1,97 @@
+//! Machines as bytes.
+
+ghost use Rattle.std.specs.Prelude.{◌≡◌, ◌≤◌, ◌++◌, IfOk, IfErr, length, drop};
+ghost use Rattle.machine.specs.Seen.{state_of};
+ghost use Rattle.wire.specs.Stream.{whole};
+ghost use Rattle.receiver.specs.Disks.{sizes_of};
+ghost use Rattle.vmig_c.specs.Moving.{AreFitting, IsKept, IsReceivedAs, RefusedBy, Saves, refusal_status};
+ghost use Rattle.vmig_c.specs.Plain.{ArePlain, mem_state};
+
+use crate::making::zero_disks;
+use crate::status::{DONE, NO_MEMORY, TOO_SMALL};
+use guestmem::NoMemory;
+use machine::{Machine, MemDisk};
+use receiver::{RecvError, receive};
+use sender::save;
+use std::alloc::Global;
+use wire::{WriteSink, decode_header};
+
+/// Saves a machine into a buffer. How long its stream is goes out as the length, also where the buffer is too small.
+#[tactic(auto, using(crate::proofs::Streams::put, crate::proofs::Streams::not_put, crate::proofs::Streams::not_made))]
+pub(crate) fn save_told(
+    alloc: Global,
+    machine: &mut Machine<MemDisk>,
+    buf: &mut [u8],
+    len: &mut usize,
+) -> u32
+    ensures { Saves machine.old result len.new len.old buf.old buf.new machine.new }
+{
+    let Ok(stream) = stream_of(alloc, machine) else {
+        return NO_MEMORY;
+    };
+    *len = stream.len();
+    if buf.len() < stream.len() {
+        return TOO_SMALL;
+    }
+    put_front(&stream, buf);
+    DONE
+}
+
+fn put_front(bytes: &[u8], buf: &mut [u8])
+    requires { length bytes.now ≤ length buf.old }
+    ensures { buf.new ≡ bytes.now ++ drop (length bytes.now) buf.old }
+{
+    buf[..bytes.len()].copy_from_slice(bytes);
+}
+
+/// The stream of a machine, in memory.
+#[tactic(auto, using(crate::proofs::Streams::kept))]
+fn stream_of(alloc: Global, machine: &mut Machine<MemDisk>) -> Result<Vec<u8>, NoMemory>
+    ensures stream { IfOk result (λ bytes. ArePlain machine.old → bytes.items ≡ whole (state_of machine.old)) }
+    ensures kept { IsKept machine.old machine.new }
+{
+    let mut sink = WriteSink::new(Vec::new(alloc));
+    match save(machine, &mut sink) {
+        Ok(()) => Ok(sink.into_inner()),
+        Err(_) => Err(NoMemory),
+    }
+}
+
+/// The machine of a stream in a box, and how many rounds ended in it; or the status that says why there is none.
+#[tactic(auto, using(crate::proofs::Streams::was_received, crate::proofs::Streams::was_refused, crate::proofs::Streams::was_full))]
+pub(crate) fn machine_in(alloc: Global, bytes: &[u8]) -> Result<(Box<Machine<MemDisk>>, u32), u32>
+    ensures received { IfOk result (λ x. IsReceivedAs bytes.now x.0.value x.1) }
+    ensures refused { IfErr result (λ status. RefusedBy bytes.now status) }
+{
+    let Ok(disks) = disks_of(alloc, bytes) else {
+        return Err(NO_MEMORY);
+    };
+    match receive(alloc, bytes, disks) {
+        Ok((machine, rounds)) => match Box::new(alloc, machine) {
+            Ok(boxed) => Ok((boxed, rounds)),
+            Err(_) => Err(NO_MEMORY),
+        },
+        Err(error) => Err(refused(error)),
+    }
+}
+
+/// Disks of zeros for the devices that the header names. Where there is no header the receiver tells its fault.
+#[tactic(auto, using(crate::proofs::Streams::fitting, crate::proofs::Streams::without_header))]
+fn disks_of(alloc: Global, bytes: &[u8]) -> Result<Vec<MemDisk>, NoMemory>
+    ensures { IfOk result (λ disks. AreFitting bytes.now (sizes_of mem_state disks.items)) }
+{
+    match decode_header(alloc, bytes)? {
+        Some(header) => zero_disks(alloc, &header.shapes),
+        None => Ok(Vec::new(alloc)),
+    }
+}
+
+/// The status of a refusal.
+fn refused(error: RecvError) -> u32
+    ensures { result ≡ refusal_status error }
+{
+    match error {
+        RecvError::NoMemory => NO_MEMORY,
+        _ => 32 + error.code() as u32,
+    }
+}

@@ -1,0 +1,84 @@
+//! The numbers of `specs/Status`, and those of answers.
+
+ghost use Rattle.std.specs.Prelude.{◌≡◌, ◌≤◌, length, List, ℕ};
+ghost use Rattle.machine.specs.Direct.{value_reply, done_reply, bytes_reply, accepted_reply, written_result};
+ghost use Rattle.machine.specs.Refusal.{code_of};
+ghost use Rattle.vmig_c.specs.Status.{status_of};
+ghost use Rattle.vmig_c.specs.Told.{number_of};
+
+use machine::Refusal;
+
+pub(crate) const DONE: u32 = 0;
+
+pub(crate) const NO_MACHINE: u32 = 8;
+
+pub(crate) const IN_USE: u32 = 9;
+
+pub(crate) const NO_MEMORY: u32 = 10;
+
+pub(crate) const TOO_SMALL: u32 = 11;
+
+pub(crate) const BAD_SHAPE: u32 = 12;
+
+pub(crate) const OUT_BYTE: u32 = 64;
+
+/// The status of an event that was refused.
+pub(crate) fn refused(refusal: Refusal) -> u32
+    ensures { result ≡ code_of refusal }
+{
+    refusal.code() as u32
+}
+
+/// The status of a register that was read, whose value goes out as the number.
+pub(crate) fn value_told(answer: Result<u32, Refusal>, number: &mut u32) -> u32
+    ensures status { result ≡ status_of (value_reply answer) }
+    ensures number { number.new ≡ number_of (value_reply answer) number.old }
+{
+    match answer {
+        Ok(value) => {
+            *number = value;
+            DONE
+        }
+        Err(refusal) => refused(refusal),
+    }
+}
+
+/// The status of a register that was written. The byte that came out, if any, goes out as the number.
+pub(crate) fn written_told(answer: Result<Option<u8>, Refusal>, number: &mut u32) -> u32
+    ensures status { result ≡ status_of (written_result answer) }
+    ensures number { number.new ≡ number_of (written_result answer) number.old }
+{
+    match answer {
+        Ok(Some(byte)) => {
+            *number = byte as u32;
+            OUT_BYTE
+        }
+        Ok(None) => DONE,
+        Err(refusal) => refused(refusal),
+    }
+}
+
+/// The status of an input. How many bytes were kept goes out as the number.
+pub(crate) fn accepted_told(answer: Result<u32, Refusal>, number: &mut u32) -> u32
+    ensures status { result ≡ status_of (accepted_reply answer) }
+    ensures number { number.new ≡ number_of (accepted_reply answer) number.old }
+{
+    match answer {
+        Ok(count) => {
+            *number = count;
+            DONE
+        }
+        Err(refusal) => refused(refusal),
+    }
+}
+
+/// The status of what has no number.
+pub(crate) fn done_told(answer: Result<(), Refusal>) -> u32
+    ensures done { result ≡ status_of (done_reply answer) }
+    ensures bytes { (bytes : List ℕ) → result ≡ status_of (bytes_reply answer bytes) }
+{
+    match answer {
+        Ok(()) => DONE,
+        Err(refusal) => refused(refusal),
+    }
+}

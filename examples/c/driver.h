@@ -1,0 +1,102 @@
+/* What the programs share: checks of what they get, and the parts of a guest's driver that each of them needs. */
+#ifndef DRIVER_H
+#define DRIVER_H
+
+#include <stdio.h>
+#include "vmig.h"
+
+static int failures;
+
+static inline void expect(const char *what, uint64_t got, uint64_t wanted)
+{
+    if (got != wanted) {
+        printf("%s: got 0x%llx, wanted 0x%llx\n", what, (unsigned long long)got, (unsigned long long)wanted);
+        failures++;
+    }
+}
+
+/* Tells how the program ended, and gives its exit status. */
+static inline int ended(const char *name)
+{
+    if (failures == 0) printf("%s: all as expected\n", name);
+    else printf("%s: %d not as expected\n", name, failures);
+    return failures != 0;
+}
+
+static inline uint32_t read_reg(vmig_machine *m, uint32_t off)
+{
+    uint32_t value = 0xdeadbeef;
+    expect("status of a register read", vmig_reg_read(m, 0, off, 4, &value), VMIG_OK);
+    return value;
+}
+
+static inline void write_reg(vmig_machine *m, uint32_t off, uint32_t value)
+{
+    uint32_t out = 0;
+    expect("status of a register write", vmig_reg_write(m, 0, off, 4, value, &out), VMIG_OK);
+}
+
+/* The guest writes a number of up to 8 bytes into its RAM, the lowest byte first. */
+static inline void put(vmig_machine *m, uint64_t addr, uint64_t value, size_t width)
+{
+    uint8_t bytes[8];
+    for (size_t i = 0; i < width; i++) bytes[i] = (uint8_t)(value >> (8 * i));
+    expect("status of a RAM write", vmig_ram_write(m, addr, bytes, width), VMIG_OK);
+}
+
+static inline uint64_t get(vmig_machine *m, uint64_t addr, size_t width)
+{
+    uint8_t bytes[8] = {0};
+    uint64_t value = 0;
+    expect("status of a RAM read", vmig_ram_read(m, addr, bytes, width), VMIG_OK);
+    for (size_t i = width; i-- > 0;) value = value << 8 | bytes[i];
+    return value;
+}
+
+/* Where the driver of device 0 keeps a queue (VIRTIO 1.2, 2.7). Queue q lies so many bytes behind queue 0. */
+enum { DESC = 0x1000, AVAIL = 0x2000, USED = 0x2800, DATA = 0x8000, NEXT_QUEUE = 0x2000, SIZE = 16 };
+
+/* Flags of a descriptor. */
+enum { HAS_NEXT = 1, WRITABLE = 2 };
+
+static inline void describe(vmig_machine *m, uint32_t queue, uint32_t number, uint64_t addr, uint32_t len, uint32_t flags, uint32_t next)
+{
+    uint64_t at = DESC + (uint64_t)queue * NEXT_QUEUE + 16u * number;
+    put(m, at, addr, 8);
+    put(m, at + 8, len, 4);
+    put(m, at + 12, flags, 2);
+    put(m, at + 14, next, 2);
+}
+
+/* The driver makes the chain that begins at this descriptor available as its `count`-th, and notifies the device. */
+static inline void offer(vmig_machine *m, uint32_t queue, uint32_t count, uint32_t head)
+{
+    uint64_t at = AVAIL + (uint64_t)queue * NEXT_QUEUE;
+    put(m, at + 4 + 2u * ((count - 1) % SIZE), head, 2);
+    put(m, at + 2, count, 2);
+    write_reg(m, 0x050, queue);
+}
+
+/* The driver takes the device over, with the feature VERSION_1 alone, and makes its queues ready (VIRTIO 1.2, 3.1.1). */
+static inline void set_up(vmig_machine *m, uint32_t queues)
+{
+    write_reg(m, 0x070, 0);
+    write_reg(m, 0x070, 1);
+    write_reg(m, 0x070, 3);
+    write_reg(m, 0x024, 1);
+    write_reg(m, 0x020, 1);
+    write_reg(m, 0x070, 0xb);
+    expect("features accepted", read_reg(m, 0x070), 0xb);
+    for (uint32_t q = 0; q < queues; q++) {
+        write_reg(m, 0x030, q);
+        write_reg(m, 0x038, SIZE);
+        write_reg(m, 0x080, DESC + q * NEXT_QUEUE);
+        write_reg(m, 0x090, AVAIL + q * NEXT_QUEUE);
+        write_reg(m, 0x0a0, USED + q * NEXT_QUEUE);
+        write_reg(m, 0x044, 1);
+        expect("queue ready", read_reg(m, 0x044), 1);
+    }
+    write_reg(m, 0x070, 0xf);
+}
+
+#endif

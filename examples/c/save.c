@@ -1,0 +1,79 @@
+/* A machine is saved and received into another handle. Both go on with equal replies, and end as equal machines. */
+#include <stdlib.h>
+#include <string.h>
+#include "driver.h"
+
+/* The whole stream of a machine, which the caller frees. */
+static uint8_t *stream_of(vmig_machine *m, size_t *len)
+{
+    uint8_t none[1];
+    size_t written = 0;
+
+    expect("length asked for", vmig_save(m, none, 0, len), VMIG_TOO_SMALL);
+    uint8_t *stream = malloc(*len);
+    if (stream == NULL) exit(2);
+    expect("save", vmig_save(m, stream, *len, &written), VMIG_OK);
+    expect("its length", written, *len);
+    return stream;
+}
+
+/* The driver asks for 16 bytes of entropy. Gives the used length. */
+static uint32_t ask(vmig_machine *m, uint32_t count)
+{
+    uint8_t none[1];
+    uint32_t len = 77;
+
+    describe(m, 0, 0, DATA, 16, WRITABLE, 0);
+    offer(m, 0, count, 0);
+    expect("step", vmig_step(m, 0, 0, none, 0, &len), VMIG_COMPLETED);
+    return len;
+}
+
+static void refuses(uint8_t *stream, size_t len)
+{
+    vmig_machine m = VMIG_NONE;
+    uint32_t rounds = 77;
+
+    stream[len / 2] ^= 1;
+    expect("damaged", vmig_receive(stream, len, &m, &rounds), VMIG_STREAM_BAD_DIGEST);
+    stream[len / 2] ^= 1;
+    expect("cut off", vmig_receive(stream, len - 1, &m, &rounds), VMIG_STREAM_TRUNCATED);
+    expect("no stream", vmig_receive(stream + 1, len - 1, &m, &rounds), VMIG_STREAM_BAD_MAGIC);
+    expect("its rounds", rounds, 77);
+    expect("no machine", vmig_lines(&m) | (m.at != NULL), 0);
+}
+
+int main(void)
+{
+    static const vmig_shape shapes[] = {{.kind = VMIG_ENTROPY}, {.kind = VMIG_BLOCK, .sectors = 2}};
+    static const uint8_t entropy[36] = {9, 8, 7, 6, 5, 4, 3, 2, 1};
+    vmig_machine source = VMIG_NONE, target = VMIG_NONE;
+    uint32_t number = 77, rounds = 77;
+    size_t len = 0, source_len = 0, target_len = 0;
+
+    expect("make", vmig_make(16, shapes, 2, &source), VMIG_OK);
+    set_up(&source, 1);
+    expect("input", vmig_input(&source, 0, entropy, sizeof entropy, &number), VMIG_OK);
+    expect("used length", ask(&source, 1), 16);
+
+    uint8_t *stream = stream_of(&source, &len);
+    expect("receive", vmig_receive(stream, len, &target, &rounds), VMIG_OK);
+    expect("rounds", rounds, 0);
+    expect("receive over it", vmig_receive(stream, len, &target, &rounds), VMIG_IN_USE);
+    refuses(stream, len);
+
+    expect("lines", vmig_lines(&target), vmig_lines(&source));
+    expect("its driver goes on", ask(&target, 2), ask(&source, 2));
+    expect("with what is left", ask(&target, 3), 4);
+    expect("in both", ask(&source, 3), 4);
+
+    uint8_t *one = stream_of(&source, &source_len), *other = stream_of(&target, &target_len);
+    expect("equal lengths", target_len, source_len);
+    expect("equal machines", (uint64_t)memcmp(one, other, source_len), 0);
+    free(one);
+    free(other);
+    free(stream);
+    vmig_free(&source);
+    vmig_free(&target);
+    return ended("save");
+}
