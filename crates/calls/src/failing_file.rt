@@ -180,18 +180,7 @@ fn trace_fails(rt: &HostRuntime) -> Result<()> {
     let words = ["run", "some.trace"];
     let files = [("some.trace", TEXT)];
     for after in 0..=TEXT.len() {
-        let named: End = (3, b"vmig: file some.trace\n");
-        is_told(
-            &failing_files(rt, &files, after, ErrorKind::PermissionDenied),
-            &words,
-            named,
-        )?;
-        let memory: End = (1, b"vmig: memory\n");
-        is_told(
-            &failing_files(rt, &files, after, ErrorKind::OutOfMemory),
-            &words,
-            memory,
-        )?;
+        both_told(rt, &files, after, &words, b"vmig: file some.trace\n")?;
     }
     Ok(())
 }
@@ -208,18 +197,7 @@ fn stream_fails(rt: &HostRuntime) -> Result<()> {
         if after % SELDOM != 0 && after != stream.len() {
             continue;
         }
-        let named: End = (3, b"vmig: file some.stream\n");
-        is_told(
-            &failing_files(rt, &files, after, ErrorKind::PermissionDenied),
-            &words,
-            named,
-        )?;
-        let memory: End = (1, b"vmig: memory\n");
-        is_told(
-            &failing_files(rt, &files, after, ErrorKind::OutOfMemory),
-            &words,
-            memory,
-        )?;
+        both_told(rt, &files, after, &words, b"vmig: file some.stream\n")?;
     }
     Ok(())
 }
@@ -235,6 +213,26 @@ fn image_fails(rt: &HostRuntime) -> Result<()> {
     ];
     let files = failing_files(rt, &files, usize::MAX, ErrorKind::PermissionDenied);
     is_told(&files, &words, (5, b"vmig: stream 14\n"))
+}
+
+/// A read that fails behind so many bytes is told by this line, and one that was refused memory by that of memory.
+fn both_told(
+    rt: &HostRuntime,
+    files: &[(&str, &[u8])],
+    after: usize,
+    words: &[&str],
+    line: &'static [u8],
+) -> Result<()> {
+    is_told(
+        &failing_files(rt, files, after, ErrorKind::PermissionDenied),
+        words,
+        (3, line),
+    )?;
+    is_told(
+        &failing_files(rt, files, after, ErrorKind::OutOfMemory),
+        words,
+        (1, b"vmig: memory\n"),
+    )
 }
 
 /// How a call ends: its exit status, and what it writes to standard error.

@@ -1,10 +1,10 @@
 -- A machine as it begins is sound.
 use Rattle.std.proofs.Common.{◌≡◌, ℕ, zero, suc, ◌+◌, ◌*◌, ◌^◌, ◌<◌, ◌≤◌, List, [], ◌∷◌, length, map, replicate, get_or, Bool, true, false, cond, Some, None, refl, ap, sym, ◌∙◌, arith, eqb, ltb}
-use Rattle.std.specs.Prelude.{◌||◌, ◌&&◌, not}
+use Rattle.std.specs.Prelude.{◌||◌, not}
 use Rattle.std.specs.List.{All}
 use Rattle.std.proofs.lemmas.List.{length-map, length-replicate}
 use Rattle.std.proofs.lemmas.List.Elements.{All-map, All-nil}
-use Rattle.std.proofs.lemmas.Bool.{eqb-false, eqb-true}
+use Rattle.std.proofs.lemmas.Bool.{eqb-false}
 use borrow.Author.Tests.{ltb-false}
 use Rattle.blk.proofs.Zeros.{zero_bytes}
 use Rattle.blk.specs.Disk.{DiskState}
@@ -21,6 +21,7 @@ use Rattle.machine.specs.declared.new_error.NewError.TheVariants.{BadShape, Disk
 use Rattle.machine.specs.declared.shape.Shape.{Shape}
 use Rattle.machine.specs.declared.shape.Shape.TheVariants.{Net, Block, Console, Entropy}
 use Rattle.machine.proofs.Dealt.{are_marks, good_content, good_marks, is_held, is_made}
+use Rattle.machine.proofs.Disks.{same_sizes}
 use Rattle.machine.proofs.Numbering.{shape_counts}
 
 -- What holds where no machine is refused.
@@ -129,18 +130,6 @@ first_device_sound bytes (Block sectors false id) fits within id_is =
     }
 
 -- Disks of the right sizes, dealt to devices: each device has as many sectors as it is to have.
-sizes_by : (a b : ℕ) (as_ bs : List ℕ) (t : Bool) → eqb a b ≡ t → (t && are_same as_ bs) ≡ true → (a ≡ b) × (are_same as_ bs ≡ true)
-sizes_by a b as_ bs true e is = (eqb-true a b e, is)
-sizes_by a b as_ bs false e is = cc
-
-pub same_sizes : (as_ bs : List ℕ) → are_same as_ bs ≡ true → as_ ≡ bs
-same_sizes [] [] is = refl
-same_sizes [] (b ∷ bs) is = cc
-same_sizes (a ∷ as_) [] is = cc
-same_sizes (a ∷ as_) (b ∷ bs) is =
-    let both = sizes_by a b as_ bs (eqb a b) refl is in
-    rw (both.0, same_sizes as_ bs both.1) refl
-
 dealt_counts : (shapes : List Shape) (disks : List (List Sector)) → disk_sizes shapes ≡ map length disks → map length (dealt_sectors shapes disks) ≡ map sector_count shapes
 dealt_counts [] disks is = refl
 dealt_counts (Net mac ∷ shapes) disks is = ap (λ xs. 0 ∷ xs) (dealt_counts shapes disks is)

@@ -15,6 +15,7 @@ pub mod At
 pub mod Raised
 pub mod Running
 pub mod Disks
+pub mod Dealing
 pub mod Dealt
 pub mod Reading
 pub mod Numbering

@@ -16,7 +16,7 @@
 //!
 //! The disk under a block device is any type that keeps the contract of the trait `Disk`. What a step makes of it is said of
 //! honest disks, which give what was written; whatever a disk does, the machine stays sound, and each failure shows in the
-//! reply and in the count of that disk.
+//! reply and in the count of that disk. `are_disks_of` tells whether disks are those of some devices, in their order.
 //!
 //! It stands on `guestmem` (RAM), `mmio` (registers), the rings, `blk` and `console`, and trusts nothing else. Streams of machines stand
 //! on it, in `wire`, `sender` and `receiver`; an embedder takes all of it from the crate `vmig`.
@@ -25,6 +25,7 @@
 mod any_ring;
 mod device;
 mod event;
+mod fitting;
 pub mod laws;
 mod machine;
 mod new_error;
@@ -36,6 +37,7 @@ mod state;
 
 pub use blk::{Disk, DiskFault, FaultDisk, FileDisk, MemDisk, SECTOR_SIZE};
 pub use event::Event;
+pub use fitting::are_disks_of;
 pub use guestmem::Bytes;
 pub use machine::{DEVICES_MAX, Machine};
 pub use new_error::NewError;

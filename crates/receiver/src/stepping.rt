@@ -1,11 +1,10 @@
 //! From one stage to the next.
 
-ghost use Rattle.std.specs.Prelude.{◌≡◌, ◌≤◌, ◌++◌, ◌↔◌, [], ℕ, List, IfOk, IsTrue, All, false, map, replicate, take, length};
+ghost use Rattle.std.specs.Prelude.{◌≡◌, ◌≤◌, ◌++◌, [], ℕ, List, IfOk, false, map, replicate, take, length};
 ghost use Rattle.blk.specs.Disk.{DiskState};
 ghost use Rattle.wire.specs.Header.{header, Begins, IsHeader};
 ghost use Rattle.wire.specs.Records as records;
 ghost use Rattle.machine.specs.Layout.{firsts_of, layout_by, size_of};
-ghost use Rattle.machine.specs.Sound.{IsSoundShape};
 ghost use Rattle.machine.specs.declared.shape.Shape as shapes;
 ghost use Rattle.machine.specs.Shapes.{disk_sizes};
 ghost use Rattle.receiver.specs.Disks.{sizes_in, sizes_of};
@@ -18,7 +17,7 @@ use crate::recv_error::RecvError;
 use crate::stage::Stage;
 use dirtylog::BitSet;
 use guestmem::{NoMemory, Ram};
-use machine::{Disk, Shape};
+use machine::{Disk, Shape, are_disks_of};
 use std::alloc::Global;
 
 /// The number of the first sector of each device, and how many items there are.
@@ -71,28 +70,6 @@ fn new_intake<D: Disk>(
         rounds: 0,
         devices,
     })
-}
-
-/// Whether these are the disks of the devices that have one, in their order.
-fn are_disks_of<D: Disk>(shapes: &[Shape], disks: &[D]) -> bool
-    requires { All IsSoundShape shapes.now }
-    ensures { IsTrue result ↔ (sizes_of D.state disks.now ≡ disk_sizes shapes.now) }
-{
-    let mut rest = disks;
-    for shape in shapes {
-        let size = shape.sectors();
-        if size == 0 {
-            continue;
-        }
-        let Some((disk, others)) = rest.split_first() else {
-            return false;
-        };
-        if disk.sectors() != size {
-            return false;
-        }
-        rest = others;
-    }
-    rest.is_empty()
 }
 
 /// Takes the whole records that stand from a place on.

@@ -1,19 +1,16 @@
 -- A machine that arrives, and what a refusal tells.
-use Rattle.std.proofs.Common.{◌≡◌, ℕ, List, [], ◌∷◌, length, map, Option, Some, None, refl, ap, sym, subst, ◌∙◌}
+use Rattle.std.proofs.Common.{◌≡◌, ℕ, List, map, refl, ap, sym, subst, ◌∙◌}
 use Rattle.std.specs.Prelude.{All, IsTrue}
-use Rattle.std.specs.List.{AllByRecursion}
-use Rattle.std.proofs.lemmas.List.Elements.{All-from_recursion, All-map, All-weaker, recursion_from_All}
 use Rattle.machine.specs.EffectLaws.{IsSameShape}
-use Rattle.machine.specs.First.{dealt_marks, given, left_over}
+use Rattle.machine.specs.First.{dealt_marks}
 use Rattle.machine.specs.Outcome.{Outcome, outcome_of}
 use Rattle.machine.specs.Run.{IsRun}
-use Rattle.machine.specs.Seen.{AreHonest, Marks, Seen, all_marks, no_marks, state_of}
-use Rattle.machine.specs.Shapes.{disk_size_of, disk_sizes}
-use Rattle.machine.specs.Sound.{IsSound, IsSoundDevice, IsSoundShape}
-use Rattle.machine.specs.State.{DeviceState, MachineState}
+use Rattle.machine.specs.Seen.{AreHonest, Marks, Seen, all_marks, state_of}
+use Rattle.machine.specs.Shapes.{disk_sizes}
+use Rattle.machine.specs.State.{MachineState}
 use Rattle.machine.specs.declared.reply.Reply.{Reply}
-use Rattle.machine.specs.declared.shape.Shape.{Shape}
 use Rattle.machine.proofs.Agreeing.{runs_same}
+use Rattle.machine.proofs.Dealing.{dealt_all}
 use Rattle.receiver.specs.Disks.{AreHonestDisks}
 use Rattle.receiver.specs.Receiving.{NoFault, RefusesSlice}
 use Rattle.receiver.specs.declared.recv_error.RecvError.{RecvError}
@@ -26,9 +23,6 @@ use Rattle.wire.proofs.Unique.{one_machine}
 use Rattle.rehearsal.specs.Rehearsing.{DoFit, GoOn, GoesOn, HasPlayed, IsArrival, IsRefused, IsRefusedWith, IsRehearsal, IsSent, TellsWhy, remaining}
 use Rattle.rehearsal.specs.declared.rehearsing.Rehearsal.{Rehearsal}
 use Rattle.rehearsal.specs.declared.rehearsing.Rehearsal.TheVariants.{Arrived, NotStopped, Refused}
-
-pub sound_shapes : (m : MachineState) → IsSound m → All IsSoundShape (map (λ (d : DeviceState). d.shape) m.devices)
-sound_shapes m h = All-map IsSoundShape (λ (d : DeviceState). d.shape) m.devices (All-weaker (IsSoundDevice (length m.ram)) (λ (d : DeviceState). IsSoundShape d.shape) (λ d s. s.shape) m.devices h.devices)
 
 -- The disks do not fit.
 pub mismatched : (machine source : Seen) (events : List LiveEvent) (sizes : List ℕ) (marks : List Marks) (replies : List LiveReply) (bytes : List ℕ) → IsSent machine events source replies bytes → ¬ (DoFit sizes machine) → IsRefused machine events sizes marks source replies errors.ShapeMismatch
@@ -76,24 +70,10 @@ refused machine source events sizes marks replies bytes e g fits told = record {
 abbrev IsHonest : Marks → Type 0
 IsHonest m = IsTrue m.honest
 
-given_honest : (size : Option ℕ) (marks : List Marks) → AllByRecursion IsHonest marks → IsHonest (given no_marks size marks)
-given_honest None marks h = refl
-given_honest (Some size) [] h = refl
-given_honest (Some size) (m ∷ marks) h = h.0
-
-left_honest : (size : Option ℕ) (marks : List Marks) → AllByRecursion IsHonest marks → AllByRecursion IsHonest (left_over size marks)
-left_honest None marks h = h
-left_honest (Some size) [] h = tt
-left_honest (Some size) (m ∷ marks) h = h.1
-
-dealt_honest : (shapes : List Shape) (marks : List Marks) → AllByRecursion IsHonest marks → AllByRecursion IsHonest (dealt_marks shapes marks)
-dealt_honest [] marks h = tt
-dealt_honest (shape ∷ shapes) marks h = (given_honest (disk_size_of shape) marks h, dealt_honest shapes (left_over (disk_size_of shape) marks) (left_honest (disk_size_of shape) marks h))
-
 arrives_honest : (machine : Seen) (marks : List Marks) → all_marks machine ≡ dealt_marks (shapes_in (state_of machine).devices) marks → AreHonestDisks marks → AreHonest machine
 arrives_honest machine marks over honest =
     let P : List Marks → Type 0 = λ ms. All IsHonest ms in
-    subst P (sym over) (All-from_recursion IsHonest _ (dealt_honest (shapes_in (state_of machine).devices) marks (recursion_from_All IsHonest _ honest)))
+    subst P (sym over) (dealt_all IsHonest refl (shapes_in (state_of machine).devices) marks honest)
 
 -- Both machines went on.
 pub arrival : (machine at_stop source as_arrived arrived : Seen) (events : List LiveEvent) (sizes : List ℕ) (marks : List Marks) (bytes : List ℕ) (played replies : List LiveReply) (arrived_replies : List Reply) → IsSent machine events at_stop played bytes → DoFit sizes machine

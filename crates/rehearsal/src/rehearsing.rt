@@ -1,16 +1,14 @@
 //! A move of a machine, rehearsed.
 
-ghost use Rattle.std.specs.Prelude.{◌≡◌, ◌↔◌, ◌≤◌, [], All, IfErr, IfOk, IfSome, IsTrue, length, vec_capacity};
+ghost use Rattle.std.specs.Prelude.{◌≡◌, ◌≤◌, [], IfErr, IfOk, IfSome, length, vec_capacity};
 ghost use Rattle.machine.specs.First.{dealt_marks};
 ghost use Rattle.machine.specs.Seen.{all_marks, state_of};
-ghost use Rattle.machine.specs.Shapes.{disk_sizes};
-ghost use Rattle.machine.specs.Sound.{IsSoundShape};
 ghost use Rattle.receiver.specs.Disks.{AreHonestDisks, disk_marks_of, sizes_of};
 ghost use Rattle.receiver.specs.Receiving.{RefusesSlice};
 ghost use Rattle.wire.specs.Stream.{IsStream, shapes_in};
 ghost use Rattle.rehearsal.specs.Rehearsing.{GoOn, IsNotStopped, IsRefusedWith, IsRehearsal, IsSent, is_stopped};
 
-use machine::{Disk, Machine, Reply, Shape};
+use machine::{Disk, Machine, Reply, are_disks_of};
 use receiver::{Receiver, RecvError};
 use sender::{Live, LiveEvent, LiveReply};
 use std::alloc::Global;
@@ -221,28 +219,6 @@ fn is_stopped(reply: &LiveReply) -> bool
         LiveReply::Stopped { .. } => true,
         _ => false,
     }
-}
-
-/// Whether these are the disks of the devices that have one, in their order.
-fn are_disks_of<D: Disk>(shapes: &[Shape], disks: &[D]) -> bool
-    requires { All IsSoundShape shapes.now }
-    ensures { IsTrue result ↔ (sizes_of D.state disks.now ≡ disk_sizes shapes.now) }
-{
-    let mut rest = disks;
-    for shape in shapes {
-        let size = shape.sectors();
-        if size == 0 {
-            continue;
-        }
-        let Some((disk, others)) = rest.split_first() else {
-            return false;
-        };
-        if disk.sectors() != size {
-            return false;
-        }
-        rest = others;
-    }
-    rest.is_empty()
 }
 
 /// The machine whose stream the bytes are, fed in pieces of these sizes. A cut beyond what is left takes what is left; what the

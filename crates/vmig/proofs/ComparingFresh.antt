@@ -1,7 +1,6 @@
 -- The fresh machine of a trace, of which a machine without disks tells whether there is one.
 use Rattle.std.proofs.Common.{◌≡◌, ℕ, ◌||◌, Bool, true, false, not, if◌then◌else◌, List, [], ◌∷◌, length, map, replicate, Option, Some, None, Result, Ok, Err, IfSome, IfErr, MatchOption, refl, ap, sym, subst, ◌∙◌}
 use Rattle.std.specs.Prelude.{◌==◌, nat_lt}
-use Rattle.std.proofs.lemmas.Bool.{eq-eqb}
 use Rattle.std.specs.List.{AllByRecursion}
 use Rattle.std.proofs.lemmas.List.Elements.{All-from_recursion}
 use Rattle.guestmem.specs.declared.limits.TheConstants.{PAGES_MAX}
@@ -13,6 +12,7 @@ use Rattle.machine.specs.declared.machine.TheConstants.{DEVICES_MAX}
 use Rattle.machine.specs.declared.new_error.NewError.{NewError}
 use Rattle.machine.specs.declared.new_error.NewError.TheVariants.{BadShape, DiskMismatch, NoMemory}
 use Rattle.machine.specs.declared.shape.Shape.{Shape}
+use Rattle.machine.proofs.Disks.{same_self}
 use Rattle.receiver.specs.Disks.{disk_marks_of, sizes_of}
 use Rattle.rehearsal.specs.Rehearsing.{IsRehearsal}
 use Rattle.rehearsal.specs.declared.rehearsing.Rehearsal.{Rehearsal}
@@ -32,10 +32,6 @@ refusal_by beyond same = if beyond then Some BadShape else if not same then Some
 
 abbrev is_beyond_limits : ℕ → List Shape → Bool
 is_beyond_limits pages shapes = pages == 0 || nat_lt PAGES_MAX pages || length shapes == 0 || nat_lt DEVICES_MAX (length shapes) || are_beyond shapes
-
-same_self : (sizes : List ℕ) → are_same sizes sizes ≡ true
-same_self [] = refl
-same_self (size ∷ sizes) = rw (eq-eqb size size refl, same_self sizes) refl
 
 none_same : (sizes : List ℕ) → are_same sizes [] ≡ true → sizes ≡ []
 none_same [] same = refl

@@ -1,17 +1,17 @@
 -- Disks that are honest and steady stay so.
-use Rattle.std.proofs.Common.{◌≡◌, ℕ, zero, suc, List, [], ◌∷◌, get_or, cond, Bool, true, false, Option, Some, None, All, IsTrue, refl, ap, sym, ◌∙◌, arith}
+use Rattle.std.proofs.Common.{◌≡◌, ℕ, zero, suc, List, [], ◌∷◌, get_or, cond, Bool, true, false, All, IsTrue, refl, ap, sym, ◌∙◌, arith}
 use Rattle.std.specs.List.{AllByRecursion}
-use Rattle.std.proofs.lemmas.List.Elements.{All-from_recursion, All-set, recursion_from_All}
+use Rattle.std.proofs.lemmas.List.Elements.{All-from_recursion, All-set}
 use Rattle.std.proofs.lemmas.Option.{slice_get-get_or}
 use Rattle.machine.specs.Applied.{marks_after, marks_run}
-use Rattle.machine.specs.First.{dealt_marks, given, left_over}
+use Rattle.machine.specs.First.{dealt_marks}
 use Rattle.machine.specs.Outcome.{is_failure}
-use Rattle.machine.specs.Seen.{Marks, Seen, all_marks, failed_at, failed_once, marks_at, no_marks, or_no_marks}
-use Rattle.machine.specs.Shapes.{disk_size_of}
+use Rattle.machine.specs.Seen.{Marks, Seen, all_marks, failed_at, failed_once, marks_at, or_no_marks}
 use Rattle.machine.specs.declared.event.Event.{Event}
 use Rattle.machine.specs.declared.event.Event.TheVariants.{RegRead, RegWrite, MemRead, MemWrite, Step, Input, Resize}
 use Rattle.machine.specs.declared.reply.Reply.{Reply}
 use Rattle.machine.specs.declared.shape.Shape.{Shape}
+use Rattle.machine.proofs.Dealing.{dealt_all}
 use Rattle.receiver.specs.Disks.{IsUnsteady, disk_marks_of}
 use Rattle.rehearsal.specs.Rehearsing.{HasAnswered, HasPlayed}
 use Rattle.sender.specs.declared.event.LiveEvent.{LiveEvent}
@@ -68,22 +68,8 @@ pub answered_stays : (machine source : Seen) (events : List LiveEvent) (replies 
 answered_stays machine source events replies answered are = both_stay (all_marks machine) (all_marks source) (answered.honest (honest_if (all_marks machine) are)) answered.steady are
 
 -- A machine over such disks has such disks.
-given_steady : (size : Option ℕ) (marks : List Marks) → AllByRecursion IsSteady marks → IsSteady (given no_marks size marks)
-given_steady None marks h = (refl, refl)
-given_steady (Some size) [] h = (refl, refl)
-given_steady (Some size) (m ∷ marks) h = h.0
-
-left_steady : (size : Option ℕ) (marks : List Marks) → AllByRecursion IsSteady marks → AllByRecursion IsSteady (left_over size marks)
-left_steady None marks h = h
-left_steady (Some size) [] h = tt
-left_steady (Some size) (m ∷ marks) h = h.1
-
-dealt_each : (shapes : List Shape) (marks : List Marks) → AllByRecursion IsSteady marks → AllByRecursion IsSteady (dealt_marks shapes marks)
-dealt_each [] marks h = tt
-dealt_each (shape ∷ shapes) marks h = (given_steady (disk_size_of shape) marks h, dealt_each shapes (left_over (disk_size_of shape) marks) (left_steady (disk_size_of shape) marks h))
-
 pub dealt_steady : (shapes : List Shape) (marks : List Marks) → AreSteady marks → AreSteady (dealt_marks shapes marks)
-dealt_steady shapes marks are = All-from_recursion IsSteady _ (dealt_each shapes marks (recursion_from_All IsSteady marks are))
+dealt_steady shapes marks are = dealt_all IsSteady (refl, refl) shapes marks are
 
 each_in_memory : (disks : List (List (List ℕ))) → AllByRecursion IsSteady (disk_marks_of in_memory disks)
 each_in_memory [] = tt

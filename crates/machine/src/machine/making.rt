@@ -3,12 +3,13 @@
 ghost use Rattle.std.specs.Prelude.{◌≡◌, ◌≤◌, length, map, All, Err, None, Some, IfOk, IfErr, IfSome};
 ghost use Rattle.blk.specs.Sectors.{AreWhole};
 ghost use Rattle.machine.specs.Seen.{state_of, all_marks};
-ghost use Rattle.machine.specs.Shapes.{disk_size_of, disk_sizes, first_device, is_beyond};
-ghost use Rattle.machine.specs.First.{AreMarksOf, HasBytes, are_beyond, are_same, dealt_marks, first_machine, good_sectors, marked, marked_sectors, marks_in, saved_machine, seen_devices, new_refusal};
+ghost use Rattle.machine.specs.Shapes.{first_device, is_beyond};
+ghost use Rattle.machine.specs.First.{AreMarksOf, HasBytes, are_beyond, dealt_marks, first_machine, good_sectors, marked, marked_sectors, marks_in, saved_machine, seen_devices, new_refusal};
 ghost use Rattle.machine.specs.Sound.{IsSound};
 ghost use Rattle.machine.specs.declared.new_error.NewError.TheVariants as new_error;
 
 use crate::device::Device;
+use crate::fitting::{are_disks_of, disk_size};
 use crate::machine::{DEVICES_MAX, Machine};
 use crate::new_error::NewError;
 use crate::shape::{SECTORS_MAX, Shape};
@@ -148,36 +149,6 @@ fn refusal<D: Disk>(pages: u32, shapes: &[Shape], disks: &[D]) -> Option<NewErro
         return Some(NewError::DiskMismatch);
     }
     None
-}
-
-/// Whether these are the disks of these devices, in their order: as many sectors each, and none too few or too many.
-fn are_disks_of<D: Disk>(shapes: &[Shape], disks: &[D]) -> bool
-    ensures { result ≡ are_same (disk_sizes shapes.now) (map (λ d. length (D.state d).sectors) disks.now) }
-{
-    let mut rest = disks;
-    for shape in shapes {
-        let Some(size) = disk_size(*shape) else {
-            continue;
-        };
-        let Some((disk, others)) = rest.split_first() else {
-            return false;
-        };
-        if disk.sectors() != size {
-            return false;
-        }
-        rest = others;
-    }
-    rest.is_empty()
-}
-
-/// How many sectors the disk of a device has, if it has one.
-fn disk_size(shape: Shape) -> Option<u64>
-    ensures { result ≡ disk_size_of shape }
-{
-    match shape {
-        Shape::Block { sectors, .. } => Some(sectors),
-        Shape::Net { .. } | Shape::Console | Shape::Entropy => None,
-    }
 }
 
 fn new_states(alloc: Global, shapes: &[Shape], ram_len: u64) -> Result<Vec<DeviceState>, NoMemory>

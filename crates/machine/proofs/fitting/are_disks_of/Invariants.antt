@@ -1,7 +1,7 @@
 use Rattle.std.proofs.Common.{◌≡◌, drop, length, map}
 use Rattle.machine.specs.First.{are_same}
 use Rattle.machine.specs.Shapes.{disk_sizes}
-use Rattle.machine.proofs.machine.making.are_disks_of.Given as goal
+use Rattle.machine.proofs.fitting.are_disks_of.Given as goal
 
 abbrev pub invariant-loop-shape : goal.invariant-loop-shape
 invariant-loop-shape g l =
