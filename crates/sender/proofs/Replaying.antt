@@ -87,7 +87,7 @@ so_far_more m out es i e d replies reply old new below is long places s g =
     }
 
 -- Where a stop answered Ok no writer failed.
-not_faulty : (m : MachineState) (h : History) (out : SinkState) (s : LiveSeen) → Relates m h out s → phase_of h ≡ phases.Stopped → has_fault h ≡ false
+pub not_faulty : (m : MachineState) (h : History) (out : SinkState) (s : LiveSeen) → Relates m h out s → phase_of h ≡ phases.Stopped → has_fault h ≡ false
 not_faulty m h out s g is = elim (either_way (has_fault h)) as (λ _. has_fault h ≡ false)
     [ inl b ↦ (let failed : phase_of h ≡ phases.Failed = sym g.follows.phase ∙ g.fault b in let wrong = sym is ∙ failed in cc) | inr b ↦ b ]
 

@@ -8,3 +8,4 @@ pub mod History
 pub mod HistoryLaws
 pub mod Follows
 pub mod Ran
+pub mod Taking

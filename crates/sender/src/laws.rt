@@ -2,6 +2,7 @@
 
 ghost use Rattle.sender.specs.Follows.{CallsFollow};
 ghost use Rattle.sender.specs.HistoryLaws.{AfterIsRun, FreshIsLast, OneHistory, StaleIsNotFresh, StoppedIsStream};
+ghost use Rattle.sender.specs.Taking.{CallsIgnoreTaken, TakenAreWhole, TakenFollow};
 
 /// Whatever happened, an item that is not stale, a page or a sector, is as the last record that names it says.
 pub fn fresh_is_last()
@@ -32,4 +33,19 @@ pub fn after_is_run()
 /// Events and replies settle all of a history: what was written, what is stale, and the machine.
 pub fn replies_settle()
     ensures { OneHistory }
+{}
+
+/// No call looks at what the writer holds: each does the same where some of it was taken out by `Live::replace_writer`.
+pub fn calls_ignore_what_was_taken()
+    ensures { CallsIgnoreTaken }
+{}
+
+/// So a machine of whose stream some was taken is what its history makes of it, as if nothing had been taken.
+pub fn taken_follows_the_history()
+    ensures { TakenFollow }
+{}
+
+/// Once a stop answered Ok, what was taken and what is left behind it are a stream of the machine.
+pub fn taken_is_whole()
+    ensures { TakenAreWhole }
 {}

@@ -89,6 +89,13 @@ impl<D: Disk, W: Sink> Live<D, W> {
         &self.source
     }
 
+    /// How far its migration has come.
+    pub fn phase(&self) -> Phase
+        ensures { result ≡ self.now.phase }
+    {
+        self.stage
+    }
+
     /// How many items are due, and how many are dirty. It takes constant time.
     pub fn remaining(&self) -> Remaining
         ensures due { result.due ≡ member_count self.now.due }
@@ -125,6 +132,15 @@ impl<D: Disk, W: Sink> Live<D, W> {
             changed: _,
         } = self;
         (source, writer)
+    }
+
+    /// Puts another writer in the place of the writer, which comes out. All else is the same. No call looks at what a writer
+    /// holds (`laws::calls_ignore_what_was_taken`), so a caller may take that out between two calls.
+    pub fn replace_writer(&mut self, writer: W) -> W
+        ensures out { W.state result ≡ self.old.out }
+        ensures rest { self.new ≡ record self.old { out = W.state writer } }
+    {
+        mem::replace(&mut self.writer, writer)
     }
 
     /// Tells a proof that the sets have a place for each item (see the page of `guestmem`).
