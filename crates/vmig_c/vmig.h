@@ -18,11 +18,35 @@
  * - malloc, realloc and free belong to one allocator, and what they give is aligned to each power of two up to 16 that
  *   divides its size.
  *
- * WHO OWNS WHAT: a machine is made by vmig_make or vmig_receive and lives until vmig_free; a handle that is dropped without
- * it leaks. The library keeps no pointer of yours behind a call: what you pass is copied.
+ * WHO OWNS WHAT: a machine is made by vmig_make, vmig_make_with or vmig_receive, or arrives by vmig_feed, and lives until
+ * vmig_free; a handle that is dropped without it leaks. The library keeps no pointer of yours behind a call: what you pass is
+ * copied.
  *
- * WHAT TAKES MEMORY from malloc: vmig_make and vmig_receive (RAM, disks, devices), vmig_save (the whole stream, for the time
- * of the call), and vmig_step for a chain of many descriptors or a message of the guest. No other call does.
+ * WHAT TAKES MEMORY from malloc: vmig_make, vmig_make_with and vmig_receive (RAM, disks, devices), vmig_save (the whole
+ * stream, for the time of the call), and vmig_step for a chain of many descriptors or a message of the guest; vmig_begin,
+ * vmig_copy, vmig_end_round and vmig_stop for what they write, which waits until it is taken; vmig_feed, for all bytes of the
+ * stream until vmig_finish, and for RAM and disks as soon as the header is whole; vmig_finish; and, of a machine that is being
+ * sent, vmig_ram_write and vmig_input for a copy of the bytes, and vmig_push for a copy of one page. No other call does.
+ *
+ * A MACHINE IS SENT WHILE IT RUNS: vmig_begin, then vmig_copy until VMIG_ROUND_DONE and vmig_end_round, as often as you like,
+ * then vmig_stop. All the other calls go on between these, but for vmig_save and vmig_sector_read. What is written waits
+ * inside, and vmig_take hands it out when you like. The bytes that were taken, in their order, are one stream after
+ * vmig_stop. After vmig_stop the guest stands still: its events are VMIG_STOPPED, and RAM and the lines can be read, until
+ * vmig_abort or vmig_free. After vmig_abort the machine goes on as one that was never sent.
+ *
+ * A MACHINE ARRIVES: vmig_feed on a handle of no machine, with the bytes of the stream in any pieces, as they come over the
+ * wire, and vmig_finish behind the last; or vmig_receive with all of them at once. Until vmig_finish the handle has no machine
+ * for any other call but vmig_rounds and vmig_free, and is in use for vmig_make, vmig_make_with and vmig_receive.
+ *
+ * A GUEST WHOSE RAM IS YOURS, as under hardware virtualization, runs on memory of your own. The machine has RAM beside it,
+ * and you mirror the one into the other: uint8_t ram[4096 * pages], and uint64_t seen[pages], which notes of each page the
+ * version at which you had it. Begin with VMIG_UNSEEN in each entry of seen: you have seen no page. Where the machine's RAM
+ * is the one to begin with, as after vmig_receive, let vmig_pull fill yours; where yours is, hand in every page with
+ * vmig_push. From then on, with the guest standing still from the first to the last of these: hand in the pages that the
+ * guest has written since; tell its register writes; step until VMIG_IDLE; read the lines; and let vmig_pull bring what the
+ * devices wrote. Then ram is the machine's RAM, byte for byte. What the guest writes into a page between the push and the
+ * pull is lost where a device writes into that page too; and a page that the guest wrote and you did not hand in is not seen
+ * by the devices, and lost once one writes into it. Only vmig_push and vmig_pull write seen.
  *
  * WHAT A GUEST CAN DO: whatever it writes into RAM and registers, each call stays defined and ends.
  */
@@ -44,7 +68,8 @@ typedef struct vmig_machine {
 #define VMIG_NONE {0}
 
 /* STATUSES. Each number stands for one thing. From 1 to 63 the call was refused: the machine, the handle and all that the
- * call could have written are as they were, but for *len of vmig_save at VMIG_TOO_SMALL. 0 and from 64 on it was done. */
+ * call could have written are as they were, but for *len of vmig_save at VMIG_TOO_SMALL, for what VMIG_WRITER_FAILED says
+ * below, and for a stream that vmig_feed or vmig_finish refuses, which stays refused. 0 and from 64 on it was done. */
 enum {
     VMIG_OK = 0,
 
@@ -56,13 +81,28 @@ enum {
     VMIG_BAD_FRAME = 5,    /* a frame of fewer than 14 or more than 1,514 bytes */
 
     /* The call is refused. */
-    VMIG_NO_MACHINE = 8,   /* the handle has no machine */
-    VMIG_IN_USE = 9,       /* vmig_make, vmig_receive: the handle has a machine already */
+    VMIG_NO_SECTOR = 7,    /* vmig_sector_read: the disk has no such sector */
+    VMIG_NO_MACHINE = 8,   /* the handle has no machine, or one that still arrives */
+    VMIG_IN_USE = 9,       /* vmig_make, vmig_make_with, vmig_receive: the handle has a machine already, or one arrives; vmig_feed,
+                            * vmig_finish, vmig_rounds: it has a machine that does not arrive */
     VMIG_NO_MEMORY = 10,   /* malloc or realloc gave none */
-    VMIG_TOO_SMALL = 11,   /* vmig_step, vmig_save: your buffer */
-    VMIG_BAD_SHAPE = 12,   /* vmig_make: pages, count of devices or a device beyond the limits, or an unknown kind */
+    VMIG_TOO_SMALL = 11,   /* vmig_step, vmig_save, vmig_push, vmig_pull, vmig_sector_read: your buffer */
+    VMIG_BAD_SHAPE = 12,   /* vmig_make, vmig_make_with: pages, count of devices, or a device beyond the limits or of an unknown
+                            * kind */
+    VMIG_MOVING = 13,      /* vmig_save, vmig_sector_read: the machine is being sent */
+    VMIG_BAD_IMAGES = 15,  /* vmig_make_with: the images' length is not that of the disks */
 
-    /* vmig_receive refuses the stream: 32 and the number of its first fault. */
+    /* A migration refuses the call: 16 and the number of its reason. VMIG_WRITER_FAILED alone changes something: the migration
+     * has failed for good, and each of its later calls but vmig_take and vmig_abort gets the same status. The machine is as it
+     * was, and goes on. */
+    VMIG_NOT_BEGUN = 17,       /* the machine is not being sent */
+    VMIG_BEGUN_ALREADY = 18,   /* vmig_begin */
+    VMIG_READ_FAILED = 19,     /* a disk failed as a sector was read to be sent; disks in memory never do */
+    VMIG_WRITER_FAILED = 20,   /* there was no memory for what waits to be taken, now or before */
+    VMIG_STOPPED = 21,         /* the machine was stopped, and its stream is closed */
+    VMIG_NO_ROUND_LEFT = 22,   /* vmig_end_round: 4,294,967,294 rounds have ended */
+
+    /* vmig_receive, vmig_feed or vmig_finish refuses the stream: 32 and the number of its first fault. */
     VMIG_STREAM_BAD_MAGIC = 33,      /* it does not begin with "VMIG" */
     VMIG_STREAM_BAD_VERSION = 34,    /* a stream of another version */
     VMIG_STREAM_BAD_SHAPE = 35,      /* the machine that it tells of is beyond the limits */
@@ -74,12 +114,14 @@ enum {
     VMIG_STREAM_BAD_DIGEST = 42,     /* the digest is another */
     VMIG_STREAM_MISSING = 43,        /* a page, a sector or a device is missing */
     VMIG_STREAM_TRAILING = 44,       /* bytes behind its end */
-    VMIG_STREAM_TRUNCATED = 45,      /* it is cut off */
+    VMIG_STREAM_TRUNCATED = 45,      /* vmig_receive, vmig_finish: it is cut off */
+    VMIG_STREAM_NO_MEMORY = 47,      /* vmig_feed, vmig_finish: malloc or realloc gave none for what arrives */
+    VMIG_STREAM_FAILED = 48,         /* vmig_feed, vmig_finish: it was refused before */
 
     /* vmig_reg_write: done, and a console gave out a byte. */
     VMIG_OUT_BYTE = 64,
 
-    /* vmig_step: what the device did. */
+    /* vmig_step: what the device did. VMIG_BAD_SECTOR is also told by vmig_sector_read. */
     VMIG_IDLE = 65,        /* it found nothing to do */
     VMIG_TAKEN = 66,       /* a block device took a request */
     VMIG_MOVED = 67,       /* a request went on by a sector, a flush or the id */
@@ -88,7 +130,13 @@ enum {
     VMIG_COMPLETED = 70,   /* a chain was given back; *len is its used length */
     VMIG_SENT = 71,        /* a message of the guest was taken: *len bytes at the front of the buffer */
     VMIG_DROPPED = 72,     /* a frame did not fit into the guest's buffer, and is gone */
-    VMIG_NEEDS_RESET = 73  /* the guest's chain is malformed; the device asks its driver for a reset */
+    VMIG_NEEDS_RESET = 73, /* the guest's chain is malformed; the device asks its driver for a reset */
+
+    /* vmig_copy, vmig_end_round. */
+    VMIG_PAGE = 74,        /* a page was sent; *number is its number */
+    VMIG_SECTOR = 75,      /* a sector was sent, of the disk of device *dev; *number is its number there */
+    VMIG_ROUND_DONE = 76,  /* nothing is due any more in this round */
+    VMIG_ROUND_OPEN = 77   /* something is still due: the round does not end */
 };
 
 /* Kinds of devices, by the numbers of the standard. */
@@ -101,6 +149,9 @@ enum {
 
 /* The most bytes that a step can put into your buffer: a console's message. */
 #define VMIG_SENT_MAX 65536
+
+/* What stands in seen for a page that you have not seen. */
+#define VMIG_UNSEEN UINT64_MAX
 
 /* A device. What its kind does not need is not read. */
 typedef struct vmig_shape {
@@ -116,6 +167,12 @@ typedef struct vmig_shape {
  * VMIG_IN_USE, then VMIG_BAD_SHAPE, then VMIG_NO_MEMORY, and no others. */
 uint32_t vmig_make(uint32_t pages, const vmig_shape *shapes, size_t count, vmig_machine *machine);
 
+/* The same, but the disks hold the images: the sectors of the first block device, from sector 0 on, then those of the second,
+ * and so on, in the order of the devices. len is 512 times the sectors of all block devices, and 0 where there is none.
+ * VMIG_IN_USE, then VMIG_BAD_SHAPE, then VMIG_BAD_IMAGES, then VMIG_NO_MEMORY, and no others. */
+uint32_t vmig_make_with(uint32_t pages, const vmig_shape *shapes, size_t count, const uint8_t *images, size_t len,
+                        vmig_machine *machine);
+
 /* Frees the machine, if there is one. The handle is VMIG_NONE again. */
 void vmig_free(vmig_machine *machine);
 
@@ -130,10 +187,25 @@ uint32_t vmig_reg_read(vmig_machine *machine, uint8_t dev, uint32_t off, uint8_t
  * VMIG_NO_MACHINE, VMIG_NO_DEVICE. */
 uint32_t vmig_reg_write(vmig_machine *machine, uint8_t dev, uint32_t off, uint8_t width, uint32_t value, uint32_t *out);
 
-/* The guest reads or writes up to 4,096 bytes of RAM, from an address on. Address 0 is the first byte of RAM.
- * VMIG_NO_MACHINE, VMIG_TOO_LONG, VMIG_OUT_OF_RAM. */
+/* The guest reads or writes up to 4,096 bytes of RAM, from an address on. Address 0 is the first byte of RAM. What is written
+ * to a machine that is being sent is copied once more.
+ * VMIG_NO_MACHINE, VMIG_TOO_LONG, VMIG_OUT_OF_RAM; the write of a machine that is being sent also VMIG_NO_MEMORY. */
 uint32_t vmig_ram_read(vmig_machine *machine, uint64_t addr, uint8_t *buf, size_t len);
 uint32_t vmig_ram_write(vmig_machine *machine, uint64_t addr, const uint8_t *bytes, size_t len);
+
+/* Hands in pages, one for each of the count numbers, in their order: the machine's page n becomes the 4,096 bytes at
+ * ram + 4096 * n, as if the guest wrote it whole, so a machine that is being sent sends it anew; and seen[n] becomes its
+ * version. ram has len bytes and seen has seen_len entries, at least as many as RAM has bytes and pages: else VMIG_TOO_SMALL.
+ * A number that is no page is VMIG_OUT_OF_RAM, and a machine that was stopped VMIG_STOPPED, also where count is 0.
+ * VMIG_NO_MACHINE, VMIG_TOO_SMALL, VMIG_OUT_OF_RAM; of a machine that is being sent also VMIG_STOPPED, VMIG_NO_MEMORY. */
+uint32_t vmig_push(vmig_machine *machine, const uint32_t *pages, size_t count, const uint8_t *ram, size_t len,
+                   uint64_t *seen, size_t seen_len);
+
+/* Hands out each page whose version is not seen[n], and each whose version is the greatest, UINT64_MAX, at which the count of
+ * versions stands still: it goes to ram + 4096 * n, and seen[n] becomes its version. All else of ram and seen is as it was.
+ * *count is how many pages went out. Sizes are as for vmig_push. The machine is as it was; it may have been stopped.
+ * VMIG_NO_MACHINE, VMIG_TOO_SMALL. */
+uint32_t vmig_pull(vmig_machine *machine, uint8_t *ram, size_t len, uint64_t *seen, size_t seen_len, uint32_t *count);
 
 /* A device does one piece of its work, which the pick names. A block device: pick 0 takes the next request, and pick k, from
  * 1 to 8, brings the k-th request that it has taken one unit on. An entropy device: pick 0 fills the next buffer. A network
@@ -149,7 +221,8 @@ uint32_t vmig_step(vmig_machine *machine, uint8_t dev, uint8_t pick, uint8_t *bu
 
 /* The host puts bytes in: entropy, text for a console, or one frame of 14 to 1,514 bytes. *accepted is how many were kept:
  * the first ones, or a frame whole or not at all. Entropy devices and consoles hold 4,096 bytes, network devices 64 frames.
- * VMIG_NO_MACHINE, VMIG_NO_DEVICE, VMIG_WRONG_KIND (a block device), VMIG_BAD_FRAME. */
+ * VMIG_NO_MACHINE, VMIG_NO_DEVICE, VMIG_WRONG_KIND (a block device), VMIG_BAD_FRAME; of a machine that is being sent, for
+ * which the bytes are copied once more, also VMIG_NO_MEMORY. */
 uint32_t vmig_input(vmig_machine *machine, uint8_t dev, const uint8_t *bytes, size_t len, uint32_t *accepted);
 
 /* The host sets the size of a console, in characters.
@@ -160,9 +233,15 @@ uint32_t vmig_resize(vmig_machine *machine, uint8_t dev, uint16_t cols, uint16_t
  * call that may change it: a register write, a step, a resize. 0 where there is no machine. */
 uint16_t vmig_lines(vmig_machine *machine);
 
+/* Reads a sector of the disk of a device, numbered from 0: its 512 bytes go to the front of buf, which has size bytes, at
+ * least 512. A bad sector has no bytes: the status is VMIG_BAD_SECTOR, and buf is as it was. The machine is as it was. Nothing
+ * but the guest writes a disk.
+ * VMIG_NO_MACHINE, VMIG_MOVING, VMIG_NO_DEVICE, VMIG_WRONG_KIND (it has no disk), VMIG_NO_SECTOR, VMIG_TOO_SMALL. */
+uint32_t vmig_sector_read(vmig_machine *machine, uint8_t dev, uint64_t sector, uint8_t *buf, size_t size);
+
 /* Saves the machine: its whole stream goes to the front of buf. *len is how many bytes the stream has, also at
  * VMIG_TOO_SMALL, where buf is as it was: a first call with a size of 0 asks for the length. The machine goes on as it was.
- * VMIG_NO_MACHINE, VMIG_NO_MEMORY, VMIG_TOO_SMALL. */
+ * VMIG_NO_MACHINE, VMIG_MOVING, VMIG_NO_MEMORY, VMIG_TOO_SMALL. */
 uint32_t vmig_save(vmig_machine *machine, uint8_t *buf, size_t size, size_t *len);
 
 /* Makes the machine whose stream the bytes are, also one that was sent in rounds; *rounds is how many rounds ended in it. Its
@@ -170,6 +249,55 @@ uint32_t vmig_save(vmig_machine *machine, uint8_t *buf, size_t size, size_t *len
  * of 16 disks, before more than its header is read.
  * VMIG_IN_USE, VMIG_NO_MEMORY, or a VMIG_STREAM status. */
 uint32_t vmig_receive(const uint8_t *bytes, size_t len, vmig_machine *machine, uint32_t *rounds);
+
+/* The machine begins to be sent: the head of its stream is written, and every page and sector is due in round 1.
+ * VMIG_NO_MACHINE, VMIG_NO_MEMORY, and of a machine that is being sent VMIG_BEGUN_ALREADY, VMIG_WRITER_FAILED, VMIG_STOPPED. */
+uint32_t vmig_begin(vmig_machine *machine);
+
+/* Sends the due page or sector of the least number, pages first: VMIG_PAGE or VMIG_SECTOR. *dev is set with VMIG_SECTOR alone,
+ * *number with both, and they are as they were with any other status.
+ * VMIG_ROUND_DONE, VMIG_NO_MACHINE, VMIG_NOT_BEGUN, VMIG_WRITER_FAILED, VMIG_STOPPED. */
+uint32_t vmig_copy(vmig_machine *machine, uint8_t *dev, uint32_t *number);
+
+/* Ends the round, if nothing is due in it: what the guest and the devices touched since it was sent is due in the next, whose
+ * number *round then is. Else *round is as it was.
+ * VMIG_ROUND_OPEN, VMIG_NO_MACHINE, VMIG_NOT_BEGUN, VMIG_WRITER_FAILED, VMIG_STOPPED, VMIG_NO_ROUND_LEFT. */
+uint32_t vmig_end_round(vmig_machine *machine, uint32_t *round);
+
+/* Sends all that is due or was touched since, then the devices, and closes the stream. *pages and *sectors are how many it
+ * sent, and are as they were where it is refused.
+ * VMIG_NO_MACHINE, VMIG_NOT_BEGUN, VMIG_WRITER_FAILED, VMIG_STOPPED. */
+uint32_t vmig_stop(vmig_machine *machine, uint64_t *pages, uint64_t *sectors);
+
+/* The machine stands still again, as it is, also after vmig_stop. What was written and not taken is gone.
+ * VMIG_NO_MACHINE, VMIG_NOT_BEGUN. */
+uint32_t vmig_abort(vmig_machine *machine);
+
+/* How many pages and sectors are due in this round, and how many were touched since they were sent or it began. They are as
+ * they were where it is refused.
+ * VMIG_NO_MACHINE, VMIG_NOT_BEGUN. */
+uint32_t vmig_remaining(vmig_machine *machine, uint64_t *due, uint64_t *dirty);
+
+/* Takes the first of the bytes that wait, as many as buf holds: *got of them go to the front of buf, and 0 says that none
+ * waits. The others move up inside, so take often. After VMIG_WRITER_FAILED the end of what waits may be any part of a record.
+ * VMIG_NO_MACHINE, VMIG_NOT_BEGUN. */
+uint32_t vmig_take(vmig_machine *machine, uint8_t *buf, size_t size, size_t *got);
+
+/* The next bytes of a stream arrive, in pieces of any size. Behind a handle of no machine one begins to arrive. VMIG_OK says
+ * that no fault stands in all bytes so far; a piece that brings one is refused, and the stream with it: each later vmig_feed
+ * and vmig_finish is VMIG_STREAM_FAILED, until vmig_free. What a stream can ask for is as with vmig_receive. VMIG_NO_MEMORY
+ * comes with the first piece alone, and changes nothing.
+ * VMIG_IN_USE, VMIG_NO_MEMORY, or a VMIG_STREAM status. */
+uint32_t vmig_feed(vmig_machine *machine, const uint8_t *bytes, size_t len);
+
+/* All bytes have arrived: the handle has the machine, which stands still, with its disks in memory. A stream that is not
+ * whole is refused, as by vmig_feed.
+ * VMIG_NO_MACHINE, VMIG_IN_USE, VMIG_STREAM_TRUNCATED, VMIG_STREAM_NO_MEMORY, VMIG_STREAM_FAILED. */
+uint32_t vmig_finish(vmig_machine *machine);
+
+/* How many rounds ended in the bytes so far; none of a stream that was refused.
+ * VMIG_NO_MACHINE, VMIG_IN_USE. */
+uint32_t vmig_rounds(vmig_machine *machine, uint32_t *rounds);
 
 #ifdef __cplusplus
 }

@@ -3,6 +3,7 @@
 #define DRIVER_H
 
 #include <stdio.h>
+#include <string.h>
 #include "vmig.h"
 
 static int failures;
@@ -97,6 +98,29 @@ static inline void set_up(vmig_machine *m, uint32_t queues)
         expect("queue ready", read_reg(m, 0x044), 1);
     }
     write_reg(m, 0x070, 0xf);
+}
+
+/* The driver of an entropy device asks for 16 bytes, as its `count`-th chain. Gives the used length. */
+static inline uint32_t ask(vmig_machine *m, uint32_t count)
+{
+    uint8_t none[1];
+    uint32_t len = 77;
+
+    describe(m, 0, 0, DATA, 16, WRITABLE, 0);
+    offer(m, 0, count, 0);
+    expect("step", vmig_step(m, 0, 0, none, 0, &len), VMIG_COMPLETED);
+    return len;
+}
+
+static inline void equal_ram(vmig_machine *one, vmig_machine *other, uint64_t pages)
+{
+    uint8_t a[4096], b[4096];
+
+    for (uint64_t page = 0; page < pages; page++) {
+        expect("read", vmig_ram_read(one, page * 4096, a, 4096), VMIG_OK);
+        expect("read", vmig_ram_read(other, page * 4096, b, 4096), VMIG_OK);
+        expect("equal pages", (uint64_t)memcmp(a, b, 4096), 0);
+    }
 }
 
 #endif

@@ -17,18 +17,6 @@ static uint8_t *stream_of(vmig_machine *m, size_t *len)
     return stream;
 }
 
-/* The driver asks for 16 bytes of entropy. Gives the used length. */
-static uint32_t ask(vmig_machine *m, uint32_t count)
-{
-    uint8_t none[1];
-    uint32_t len = 77;
-
-    describe(m, 0, 0, DATA, 16, WRITABLE, 0);
-    offer(m, 0, count, 0);
-    expect("step", vmig_step(m, 0, 0, none, 0, &len), VMIG_COMPLETED);
-    return len;
-}
-
 static void refuses(uint8_t *stream, size_t len)
 {
     vmig_machine m = VMIG_NONE;

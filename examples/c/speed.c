@@ -129,6 +129,40 @@ static uint64_t sector_reads(vmig_machine *m, uint64_t turns)
     return took;
 }
 
+/* A host that mirrors 64 MiB of RAM. Nothing to hand out is the case of a pull between two requests. */
+static void mirror(uint64_t turns, int is_long)
+{
+    enum { PAGES = 16384, PAGE = 4096 };
+    static const vmig_shape entropy[] = {{.kind = VMIG_ENTROPY}};
+    static const uint32_t one[] = {PAGES - 1};
+    size_t len = (size_t)PAGES * PAGE;
+    uint8_t *ram = malloc(len);
+    uint64_t *seen = malloc(PAGES * sizeof *seen), pulls = 0, pushes = 0;
+    uint32_t count = 77, all = 0;
+    vmig_machine m = VMIG_NONE;
+
+    if (ram == NULL || seen == NULL) exit(2);
+    for (uint32_t page = 0; page < PAGES; page++) seen[page] = VMIG_UNSEEN;
+    expect("make", vmig_make(PAGES, entropy, 1, &m), VMIG_OK);
+    expect("pull", vmig_pull(&m, ram, len, seen, PAGES, &count), VMIG_OK);
+    expect("all pages", count, PAGES);
+    for (uint64_t turn = 0; turn < turns; turn++) {
+        uint64_t begun = now();
+        vmig_push(&m, one, 1, ram, len, seen, PAGES);
+        uint64_t between = now();
+        vmig_pull(&m, ram, len, seen, PAGES, &count);
+        pushes += between - begun;
+        pulls += now() - between;
+        all += count;
+    }
+    expect("nothing to hand out", all, 0);
+    tell("a push of one page", pushes, turns, is_long);
+    tell("a pull of 64 MiB, none of which changed", pulls, turns, is_long);
+    vmig_free(&m);
+    free(seen);
+    free(ram);
+}
+
 int main(int argc, char **argv)
 {
     static const vmig_shape entropy[] = {{.kind = VMIG_ENTROPY}}, disk[] = {{.kind = VMIG_BLOCK, .sectors = 8}};
@@ -145,5 +179,6 @@ int main(int argc, char **argv)
     expect("make", vmig_make(16, disk, 1, &m), VMIG_OK);
     tell("a read of a sector, three steps", sector_reads(&m, turns), turns, argc > 1);
     vmig_free(&m);
+    mirror(turns / RING, argc > 1);
     return ended("speed");
 }

@@ -1,99 +1,81 @@
 -- What C is told, by cases on the handle.
 use Rattle.std.proofs.Common.{◌≡◌, ℕ, true, false, List, refl, sym, subst, inl, inr, true≢false}
-use Rattle.std.specs.Prelude.{Option, Some, None, is_some, Result, Ok, Err, OnErr, length}
-use Rattle.machine.specs.Applied.{IsApplied}
-use Rattle.machine.specs.Direct.{bytes_reply, done_reply}
-use Rattle.machine.specs.Lines.{lines_of}
-use Rattle.machine.specs.Seen.{Seen, state_of}
+use Rattle.std.specs.Prelude.{Option, Some, None, is_some}
+use Rattle.vmig_c.specs.declared.kept.Kept.{Kept}
 use Rattle.machine.specs.declared.event.Event.{Event}
-use Rattle.machine.specs.declared.event.Event.TheVariants.{MemRead}
-use Rattle.machine.specs.declared.reply.Refusal.{Refusal}
-use Rattle.machine.specs.declared.reply.Reply.{Reply}
-use Rattle.vmig_c.specs.Status.{status_of}
-use Rattle.vmig_c.specs.Making.{IsMade, Makes, are_beyond_limits, shapes_of}
-use Rattle.vmig_c.specs.Moving.{IsReceivedAs, Received, RefusedBy, Saved, Saves}
-use Rattle.vmig_c.specs.Stepped.{Steps, Stepped}
+use Rattle.vmig_c.specs.Making.{KeepsMade, Makes, are_beyond_limits, shapes_of}
+use Rattle.vmig_c.specs.Moving.{KeepsReceived, Received, RefusedBy, Saved, SavesKept}
+use Rattle.vmig_c.specs.Stepped.{StepsKept, Stepped}
 use Rattle.vmig_c.specs.declared.device_shape.DeviceShape.{DeviceShape}
-use Rattle.vmig_c.specs.Told.{Told, ToldSo, Read, lines_told, number_of}
+use Rattle.vmig_c.specs.Told.{Told, Tells, Read, ReadsKept, lines_in, lines_told}
 
-pub told_none : (k after : Option Seen) (e : Event) (n : ℕ) → is_some k ≡ false → after ≡ k → Told k e 8 n n after
+pub told_none : (k after : Option Kept) (e : Event) (n : ℕ) → is_some k ≡ false → after ≡ k → Told k e 8 n n after
 told_none None after e n is same = (refl, refl, same)
 told_none (Some m) after e n is same = absurd (true≢false is)
 
-pub told_some : (k after : Option Seen) (m next : Seen) (e : Event) (reply : Reply) (n status number : ℕ) → Some m ≡ k → after ≡ Some next
-    → IsApplied m e reply next → status ≡ status_of reply → number ≡ number_of reply n → Told k e status number n after
-told_some k after m next e reply n status number is becomes applied told counted =
-    subst (λ (o : Option Seen). Told o e status number n after) is
-    (record { reply = reply; next = next; is_next = becomes; applied = applied; status_is = told; number_is = counted })
+pub told_some : (k after : Option Kept) (m next : Kept) (e : Event) (n status number : ℕ) → Some m ≡ k → after ≡ Some next
+    → Tells m e status number n next → Told k e status number n after
+told_some k after m next e n status number is becomes tells =
+    subst (λ (o : Option Kept). Told o e status number n after) is (record { next = next; is_next = becomes; tells = tells })
 
-no_number : (answer : Result (Unit {0}) Refusal) → 0 ≡ number_of (done_reply answer) 0
-no_number (Ok u) = refl
-no_number (Err refusal) = refl
-
-pub so_some : (k after : Option Seen) (m next : Seen) (e : Event) (answer : Result (Unit {0}) Refusal) (status : ℕ) → Some m ≡ k → after ≡ Some next
-    → IsApplied m e (done_reply answer) next → status ≡ status_of (done_reply answer) → ToldSo k e status after
-so_some k after m next e answer status is becomes applied told = told_some k after m next e (done_reply answer) 0 status 0 is becomes applied told (no_number answer)
-
-pub read_none : (k : Option Seen) (addr : ℕ) (before after : List ℕ) → is_some k ≡ false → after ≡ before → Read k addr 8 before after
+pub read_none : (k : Option Kept) (addr : ℕ) (before after : List ℕ) → is_some k ≡ false → after ≡ before → Read k addr 8 before after
 read_none None addr before after is same = (refl, same)
 read_none (Some m) addr before after is same = absurd (true≢false is)
 
-pub read_some : (k : Option Seen) (m : Seen) (addr status : ℕ) (before after : List ℕ) (answer : Result (Unit {0}) Refusal) → Some m ≡ k
-    → IsApplied m (MemRead addr (length before)) (bytes_reply answer after) m → status ≡ status_of (bytes_reply answer after) → OnErr answer (after ≡ before) → Read k addr status before after
-read_some k m addr status before after answer is applied told kept =
-    subst (λ (o : Option Seen). Read o addr status before after) is
-    (record { answer = answer; applied = applied; status_is = told; kept = kept })
+pub read_some : (k : Option Kept) (m : Kept) (addr status : ℕ) (before after : List ℕ) → Some m ≡ k
+    → ReadsKept m addr status before after → Read k addr status before after
+read_some k m addr status before after is reads = subst (λ (o : Option Kept). Read o addr status before after) is reads
 
-pub lines_none : (k : Option Seen) → is_some k ≡ false → 0 ≡ lines_told k
+pub lines_none : (k : Option Kept) → is_some k ≡ false → 0 ≡ lines_told k
 lines_none None is = refl
 lines_none (Some m) is = absurd (true≢false is)
 
-pub lines_some : (k : Option Seen) (m : Seen) (lines : ℕ) → Some m ≡ k → lines ≡ lines_of (state_of m).devices → lines ≡ lines_told k
-lines_some k m lines is told = subst (λ (o : Option Seen). lines ≡ lines_told o) is told
+pub lines_some : (k : Option Kept) (m : Kept) (lines : ℕ) → Some m ≡ k → lines ≡ lines_in m → lines ≡ lines_told k
+lines_some k m lines is told = subst (λ (o : Option Kept). lines ≡ lines_told o) is told
 
-pub stepped_none : (k after : Option Seen) (dev pick n : ℕ) (buf : List ℕ) → is_some k ≡ false → after ≡ k → Stepped k dev pick 8 n n buf buf after
+pub stepped_none : (k after : Option Kept) (dev pick n : ℕ) (buf : List ℕ) → is_some k ≡ false → after ≡ k → Stepped k dev pick 8 n n buf buf after
 stepped_none None after dev pick n buf is same = (refl, refl, refl, same)
 stepped_none (Some m) after dev pick n buf is same = absurd (true≢false is)
 
-pub stepped_some : (k after : Option Seen) (m next : Seen) (dev pick status number n : ℕ) (buf new_buf : List ℕ) → Some m ≡ k → after ≡ Some next
-    → Steps m dev pick status number n buf new_buf next → Stepped k dev pick status number n buf new_buf after
+pub stepped_some : (k after : Option Kept) (m next : Kept) (dev pick status number n : ℕ) (buf new_buf : List ℕ) → Some m ≡ k → after ≡ Some next
+    → StepsKept m dev pick status number n buf new_buf next → Stepped k dev pick status number n buf new_buf after
 stepped_some k after m next dev pick status number n buf new_buf is becomes steps =
-    subst (λ (o : Option Seen). Stepped o dev pick status number n buf new_buf after) is (record { next = next; is_next = becomes; steps = steps })
+    subst (λ (o : Option Kept). Stepped o dev pick status number n buf new_buf after) is (record { next = next; is_next = becomes; steps = steps })
 
-pub make_used : (k after : Option Seen) (pages : ℕ) (shapes : List DeviceShape) → is_some k ≡ true → after ≡ k → Makes k pages shapes 9 after
+pub make_used : (k after : Option Kept) (pages : ℕ) (shapes : List DeviceShape) → is_some k ≡ true → after ≡ k → Makes k pages shapes 9 after
 make_used None after pages shapes is same = absurd (true≢false (sym is))
 make_used (Some m) after pages shapes is same = (refl, same)
 
-pub make_beyond : (k after : Option Seen) (pages : ℕ) (shapes : List DeviceShape) → is_some k ≡ false → are_beyond_limits pages shapes ≡ true → after ≡ k → Makes k pages shapes 12 after
+pub make_beyond : (k after : Option Kept) (pages : ℕ) (shapes : List DeviceShape) → is_some k ≡ false → are_beyond_limits pages shapes ≡ true → after ≡ k → Makes k pages shapes 12 after
 make_beyond None after pages shapes is beyond same = rw beyond (refl, same)
 make_beyond (Some m) after pages shapes is beyond same = absurd (true≢false is)
 
-pub make_full : (k after : Option Seen) (pages : ℕ) (shapes : List DeviceShape) → is_some k ≡ false → are_beyond_limits pages shapes ≡ false → after ≡ k → Makes k pages shapes 10 after
+pub make_full : (k after : Option Kept) (pages : ℕ) (shapes : List DeviceShape) → is_some k ≡ false → are_beyond_limits pages shapes ≡ false → after ≡ k → Makes k pages shapes 10 after
 make_full None after pages shapes is within same = rw within (inr (record { status_is = refl; same = same }))
 make_full (Some m) after pages shapes is within same = absurd (true≢false is)
 
-pub make_done : (k after : Option Seen) (m : Seen) (pages : ℕ) (shapes : List DeviceShape) → is_some k ≡ false → are_beyond_limits pages shapes ≡ false
-    → after ≡ Some m → IsMade pages (shapes_of shapes) m → Makes k pages shapes 0 after
-make_done None after m pages shapes is within becomes made = rw within (inl (record { machine = m; is_there = becomes; is_made = made; status_is = refl }))
+pub make_done : (k after : Option Kept) (m : Kept) (pages : ℕ) (shapes : List DeviceShape) → is_some k ≡ false → are_beyond_limits pages shapes ≡ false
+    → after ≡ Some m → KeepsMade pages (shapes_of shapes) m → Makes k pages shapes 0 after
+make_done None after m pages shapes is within becomes made = rw within (inl (record { kept = m; is_there = becomes; is_made = made; status_is = refl }))
 make_done (Some old) after m pages shapes is within becomes made = absurd (true≢false is)
 
-pub saved_none : (k after : Option Seen) (n : ℕ) (buf : List ℕ) → is_some k ≡ false → after ≡ k → Saved k 8 n n buf buf after
+pub saved_none : (k after : Option Kept) (n : ℕ) (buf : List ℕ) → is_some k ≡ false → after ≡ k → Saved k 8 n n buf buf after
 saved_none None after n buf is same = (refl, refl, refl, same)
 saved_none (Some m) after n buf is same = absurd (true≢false is)
 
-pub saved_some : (k after : Option Seen) (m next : Seen) (status len n : ℕ) (buf new_buf : List ℕ) → Some m ≡ k → after ≡ Some next → Saves m status len n buf new_buf next
+pub saved_some : (k after : Option Kept) (m next : Kept) (status len n : ℕ) (buf new_buf : List ℕ) → Some m ≡ k → after ≡ Some next → SavesKept m status len n buf new_buf next
     → Saved k status len n buf new_buf after
 saved_some k after m next status len n buf new_buf is becomes saves =
-    subst (λ (o : Option Seen). Saved o status len n buf new_buf after) is (record { next = next; is_next = becomes; saves = saves })
+    subst (λ (o : Option Kept). Saved o status len n buf new_buf after) is (record { next = next; is_next = becomes; saves = saves })
 
-pub received_used : (k after : Option Seen) (bytes : List ℕ) (n : ℕ) → is_some k ≡ true → after ≡ k → Received k bytes 9 n n after
+pub received_used : (k after : Option Kept) (bytes : List ℕ) (n : ℕ) → is_some k ≡ true → after ≡ k → Received k bytes 9 n n after
 received_used None after bytes n is same = absurd (true≢false (sym is))
 received_used (Some m) after bytes n is same = (refl, refl, same)
 
-pub received_done : (k after : Option Seen) (m : Seen) (bytes : List ℕ) (ended n : ℕ) → is_some k ≡ false → after ≡ Some m → IsReceivedAs bytes m ended → Received k bytes 0 ended n after
-received_done None after m bytes ended n is becomes received = inl (record { machine = m; is_there = becomes; is_received = received; status_is = refl })
+pub received_done : (k after : Option Kept) (m : Kept) (bytes : List ℕ) (ended n : ℕ) → is_some k ≡ false → after ≡ Some m → KeepsReceived bytes m ended → Received k bytes 0 ended n after
+received_done None after m bytes ended n is becomes received = inl (record { kept = m; is_there = becomes; is_received = received; status_is = refl })
 received_done (Some old) after m bytes ended n is becomes received = absurd (true≢false is)
 
-pub received_not : (k after : Option Seen) (bytes : List ℕ) (status n : ℕ) → is_some k ≡ false → after ≡ k → RefusedBy bytes status → Received k bytes status n n after
+pub received_not : (k after : Option Kept) (bytes : List ℕ) (status n : ℕ) → is_some k ≡ false → after ≡ k → RefusedBy bytes status → Received k bytes status n n after
 received_not None after bytes status n is same refused = inr (record { refused = refused; number_same = refl; same = same })
 received_not (Some m) after bytes status n is same refused = absurd (true≢false is)

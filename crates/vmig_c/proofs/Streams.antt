@@ -27,7 +27,8 @@ use Rattle.receiver.specs.Disks.{AreHonestDisks, disk_marks_of, sizes_of}
 use Rattle.receiver.specs.Receiving.{IsReceived, RefusesSlice}
 use Rattle.receiver.specs.declared.recv_error.RecvError.{RecvError}
 use Rattle.vmig_c.proofs.Zeros.{alike}
-use Rattle.vmig_c.specs.Moving.{IsKept, Saves, AreFitting, HasNoHeader, IsPossible, IsReceivedAs, RefusedBy, refusal_status}
+use Rattle.vmig_c.specs.Headed.{AreFitting, HasNoHeader}
+use Rattle.vmig_c.specs.Moving.{IsKept, Saves, IsPossible, IsReceivedAs, RefusedBy, refusal_status}
 use Rattle.vmig_c.specs.Plain.{ArePlain, mem_state}
 use Rattle.vmig_c.proofs.Plain.{plain_at, as_many, are_honest}
 
@@ -47,7 +48,7 @@ same_devices (d ∷ ds) (e ∷ es) states sectors marks =
     let first : d ≡ e = (λ i. record { state = state i; sectors = sector i; marks = mark i }) in
     rw (first, rest) refl
 
-same_seen : (s t : Seen) → s.memory ≡ t.memory → state_of s ≡ state_of t → all_marks s ≡ all_marks t → s ≡ t
+pub same_seen : (s t : Seen) → s.memory ≡ t.memory → state_of s ≡ state_of t → all_marks s ≡ all_marks t → s ≡ t
 same_seen s t memory state marks =
     let devices = same_devices s.devices t.devices (ap (λ (m : _). m.devices) state) (ap (λ (m : _). m.disks) state) marks in
     (λ i. record { memory = memory i; devices = devices i })
@@ -91,6 +92,9 @@ zero_sizes : (sizes : List ℕ) → sizes_of mem_state (map (λ (n : ℕ). repli
 zero_sizes [] = refl
 zero_sizes (n ∷ sizes) = rw (length-replicate n (replicate {A = ℕ} 512 0), zero_sizes sizes) refl
 
+pub zero_fit : (disks : List (List (List ℕ))) (sizes : List ℕ) → disks ≡ map (λ (n : ℕ). replicate n (replicate 512 0)) sizes → sizes_of mem_state disks ≡ sizes
+zero_fit disks sizes are = ap (λ (ds : List (List (List ℕ))). sizes_of mem_state ds) are ∙ zero_sizes sizes
+
 pub fitting : (bytes : List ℕ) (disks : List (List (List ℕ))) (pages : ℕ) (shapes : List Shape) (rest : List ℕ) → Begins bytes pages shapes rest
     → disks ≡ map (λ (n : ℕ). replicate n (replicate 512 0)) (disk_sizes shapes) → AreFitting bytes (sizes_of mem_state disks)
 fitting bytes disks pages shapes rest begins are =
@@ -100,7 +104,7 @@ pub without_header : (bytes sizes : List ℕ) → HasNoHeader bytes → AreFitti
 without_header bytes sizes none = inr none
 
 -- What is found among what is alike.
-of_found : {D : Type 0} (found : Option D) → (or_no_marks (option_map (λ (d : D). no_marks) found)).steady ≡ true
+pub of_found : {D : Type 0} (found : Option D) → (or_no_marks (option_map (λ (d : D). no_marks) found)).steady ≡ true
 of_found None = refl
 of_found (Some d) = refl
 

@@ -1,15 +1,15 @@
 -- What becomes of a handle whose machine is lent.
 use Rattle.std.specs.Prelude.{Some}
 use Rattle.std.specs.Borrow.{Lends, MutBor, Fml}
-use Rattle.machine.specs.Seen.{Seen}
-use Rattle.vmig_c.specs.Owned.{machine_row}
+use Rattle.vmig_c.specs.declared.kept.Kept.{Kept}
+use Rattle.vmig_c.specs.Owned.{kept_row}
 use Rattle.vmig_c.specs.declared.handle.Handle.{Handle}
 use Rattle.vmig_c.specs.contracts.handle.Handle.{the_row}
 
 -- The handle with another machine behind it.
-abbrev pub with_machine : Handle → Seen → Handle
+abbrev pub with_machine : Handle → Kept → Handle
 with_machine h m = record h { machine = Some m }
 
 -- The handle ends with the last machine behind r.
-abbrev pub LendsMachine : MutBor Handle → MutBor Seen → Fml
-LendsMachine s r = Lends the_row machine_row s r (with_machine s.now)
+abbrev pub LendsMachine : MutBor Handle → MutBor Kept → Fml
+LendsMachine s r = Lends the_row kept_row s r (with_machine s.now)

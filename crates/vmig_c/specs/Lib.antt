@@ -1,8 +1,16 @@
+pub mod Arriving
+pub mod Awaited
+pub mod Headed
+pub mod Images
 pub mod Lending
 pub mod Making
+pub mod Migrated
+pub mod Mirror
 pub mod Moving
 pub mod Owned
 pub mod Plain
+pub mod Refused
+pub mod Sent
 pub mod Status
 pub mod Stepped
 pub mod Told

@@ -11,6 +11,8 @@ use Rattle.machine.specs.declared.shape.Shape.{Shape}
 use Rattle.machine.specs.declared.shape.Shape.TheVariants.{Net, Block, Console, Entropy}
 use Rattle.vmig_c.specs.Plain.{ArePlain}
 use Rattle.vmig_c.specs.Status.{done, in_use, no_memory, bad_shape}
+use Rattle.vmig_c.specs.declared.kept.Kept.{Kept}
+use Rattle.vmig_c.specs.declared.kept.Kept.TheVariants.{Still}
 use Rattle.vmig_c.specs.declared.device_shape.DeviceShape.{DeviceShape}
 
 -- The kinds are the standard's numbers (VIRTIO 1.2, 5): 1 a network device, 2 a block device, 3 a console, 4 an entropy
@@ -37,7 +39,7 @@ abbrev pub are_beyond_limits : ℕ → List DeviceShape → Bool
 are_beyond_limits pages shapes = pages == 0 || nat_lt PAGES_MAX pages || length shapes == 0 || nat_lt DEVICES_MAX (length shapes) || not (are_plain shapes)
 
 -- Why no machine is made, want of memory aside.
-abbrev pub make_refusal : Option Seen → ℕ → List DeviceShape → Option ℕ
+abbrev pub make_refusal : Option Kept → ℕ → List DeviceShape → Option ℕ
 make_refusal (Some m) pages shapes = Some in_use
 make_refusal None pages shapes = if are_beyond_limits pages shapes then Some bad_shape else None
 
@@ -51,21 +53,26 @@ pub record IsMade (pages : ℕ) (shapes : List Shape) (m : Seen) : Type 0 where
   pub plain : ArePlain m
   pub sound : IsSound (state_of m)
 
-pub record HasMade (pages : ℕ) (shapes : List DeviceShape) (status : ℕ) (after : Option Seen) : Type 0 where
-  pub machine : Seen
-  pub is_there : after ≡ Some machine
-  pub is_made : IsMade pages (shapes_of shapes) machine
+-- It stands still.
+abbrev pub KeepsMade : ℕ → List Shape → Kept → Type 0
+KeepsMade pages shapes (Still m) = IsMade pages shapes m
+KeepsMade pages shapes _ = ⊥
+
+pub record HasMade (pages : ℕ) (shapes : List DeviceShape) (status : ℕ) (after : Option Kept) : Type 0 where
+  pub kept : Kept
+  pub is_there : after ≡ Some kept
+  pub is_made : KeepsMade pages (shapes_of shapes) kept
   pub status_is : status ≡ done
 
 -- Memory was refused, and nothing changed.
-pub record HasNoMemory (old : Option Seen) (status : ℕ) (after : Option Seen) : Type 0 where
+pub record HasNoMemory (old : Option Kept) (status : ℕ) (after : Option Kept) : Type 0 where
   pub status_is : status ≡ no_memory
   pub same : after ≡ old
 
-abbrev pub MakesBy : Option ℕ → Option Seen → ℕ → List DeviceShape → ℕ → Option Seen → Type 0
+abbrev pub MakesBy : Option ℕ → Option Kept → ℕ → List DeviceShape → ℕ → Option Kept → Type 0
 MakesBy (Some refusal) old pages shapes status after = (status ≡ refusal) × (after ≡ old)
 MakesBy None old pages shapes status after = HasMade pages shapes status after ⊎ HasNoMemory old status after
 
 -- A machine was made, or it is told why not, and nothing changed.
-abbrev pub Makes : Option Seen → ℕ → List DeviceShape → ℕ → Option Seen → Type 0
+abbrev pub Makes : Option Kept → ℕ → List DeviceShape → ℕ → Option Kept → Type 0
 Makes old pages shapes status after = MakesBy (make_refusal old pages shapes) old pages shapes status after

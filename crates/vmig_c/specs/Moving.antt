@@ -1,17 +1,19 @@
 -- Machines as bytes.
 use Rattle.std.specs.Prelude.{◌≡◌, ◌⊎◌, ℕ, ◌+◌, nat_lt, Bool, true, false, List, ◌++◌, length, drop, Option, Some, None}
 use Rattle.machine.specs.Seen.{Seen, state_of}
-use Rattle.machine.specs.Shapes.{disk_sizes}
-use Rattle.machine.specs.declared.shape.Shape.{Shape}
-use Rattle.wire.specs.Header.{Begins}
+use Rattle.sender.specs.LiveState.{LiveSeen}
 use Rattle.wire.specs.Stream.{whole}
 use Rattle.receiver.specs.Codes.{recv_code_of}
 use Rattle.receiver.specs.Disks.{disk_marks_of, sizes_of}
 use Rattle.receiver.specs.Receiving.{IsReceived, RefusesSlice}
 use Rattle.receiver.specs.declared.recv_error.RecvError.{RecvError}
 use Rattle.receiver.specs.declared.recv_error.RecvError.TheVariants.{ShapeMismatch, DiskFailed, NoMemory, AlreadyFailed}
+use Rattle.vmig_c.specs.Headed.{AreFitting}
 use Rattle.vmig_c.specs.Plain.{ArePlain, mem_state}
-use Rattle.vmig_c.specs.Status.{done, in_use, no_machine, no_memory, too_small}
+use Rattle.vmig_c.specs.Status.{done, in_use, is_moving, no_machine, no_memory, too_small}
+use Rattle.vmig_c.specs.Told.{IsNotThere}
+use Rattle.vmig_c.specs.declared.kept.Kept.{Kept}
+use Rattle.vmig_c.specs.declared.kept.Kept.TheVariants.{Still, Moving, Arriving}
 
 -- A machine that was read for its stream is the same.
 pub record IsKept (old new : Seen) : Type 0 where
@@ -41,34 +43,37 @@ pub record Saves (m : Seen) (status len old_len : ℕ) (buf new_buf : List ℕ) 
   pub kept : IsKept m next
   pub told : IsSaved m status len buf new_buf ⊎ IsUnsaved status len old_len buf new_buf
 
-pub record HasSaved (m : Seen) (status len old_len : ℕ) (buf new_buf : List ℕ) (after : Option Seen) : Type 0 where
-  pub next : Seen
+-- A machine that is sent is not saved, and nothing changed.
+pub record IsNotSaved (l : LiveSeen) (status len old_len : ℕ) (buf new_buf : List ℕ) (next : LiveSeen) : Type 0 where
+  pub status_is : status ≡ is_moving
+  pub len_same : len ≡ old_len
+  pub buf_same : new_buf ≡ buf
+  pub same : next ≡ l
+
+abbrev pub SavesKept : Kept → ℕ → ℕ → ℕ → List ℕ → List ℕ → Kept → Type 0
+SavesKept (Still m) status len old_len buf new_buf (Still next) = Saves m status len old_len buf new_buf next
+SavesKept (Moving l) status len old_len buf new_buf (Moving next) = IsNotSaved l status len old_len buf new_buf next
+SavesKept (Arriving r) status len old_len buf new_buf (Arriving next) = IsNotThere r status next × (len ≡ old_len) × (new_buf ≡ buf)
+SavesKept _ status len old_len buf new_buf _ = ⊥
+
+pub record HasSaved (k : Kept) (status len old_len : ℕ) (buf new_buf : List ℕ) (after : Option Kept) : Type 0 where
+  pub next : Kept
   pub is_next : after ≡ Some next
-  pub saves : Saves m status len old_len buf new_buf next
+  pub saves : SavesKept k status len old_len buf new_buf next
 
 -- The machine behind a handle was saved. Where there is none, nothing changed.
-abbrev pub Saved : Option Seen → ℕ → ℕ → ℕ → List ℕ → List ℕ → Option Seen → Type 0
+abbrev pub Saved : Option Kept → ℕ → ℕ → ℕ → List ℕ → List ℕ → Option Kept → Type 0
 Saved None status len old_len buf new_buf after = (status ≡ no_machine) × (len ≡ old_len) × (new_buf ≡ buf) × (after ≡ None)
-Saved (Some m) status len old_len buf new_buf after = HasSaved m status len old_len buf new_buf after
-
--- Disks are of the sizes that the header says, if the bytes begin with one.
-pub record HasHeader (bytes sizes : List ℕ) : Type 0 where
-  pub pages : ℕ
-  pub shapes : List Shape
-  pub rest : List ℕ
-  pub begins : Begins bytes pages shapes rest
-  pub sizes_are : sizes ≡ disk_sizes shapes
-
-abbrev pub HasNoHeader : List ℕ → Type 0
-HasNoHeader bytes = (pages : ℕ) (shapes : List Shape) (rest : List ℕ) → ¬ (Begins bytes pages shapes rest)
-
-abbrev pub AreFitting : List ℕ → List ℕ → Type 0
-AreFitting bytes sizes = HasHeader bytes sizes ⊎ HasNoHeader bytes
+Saved (Some k) status len old_len buf new_buf after = HasSaved k status len old_len buf new_buf after
 
 -- The bytes are a stream of this machine, in which so many rounds ended. Its disks lie in memory.
 pub record IsReceivedAs (bytes : List ℕ) (m : Seen) (n : ℕ) : Type 0 where
   pub received : IsReceived bytes (state_of m) n
   pub plain : ArePlain m
+
+abbrev pub KeepsReceived : List ℕ → Kept → ℕ → Type 0
+KeepsReceived bytes (Still m) n = IsReceivedAs bytes m n
+KeepsReceived bytes _ n = ⊥
 
 -- The status of a refusal of a stream.
 abbrev pub refusal_status : RecvError → ℕ
@@ -94,19 +99,19 @@ pub record IsRefused (bytes : List ℕ) (status : ℕ) : Type 0 where
 abbrev pub RefusedBy : List ℕ → ℕ → Type 0
 RefusedBy bytes status = IsRefused bytes status ⊎ (status ≡ no_memory)
 
-pub record HasReceived (bytes : List ℕ) (status n : ℕ) (after : Option Seen) : Type 0 where
-  pub machine : Seen
-  pub is_there : after ≡ Some machine
-  pub is_received : IsReceivedAs bytes machine n
+pub record HasReceived (bytes : List ℕ) (status n : ℕ) (after : Option Kept) : Type 0 where
+  pub kept : Kept
+  pub is_there : after ≡ Some kept
+  pub is_received : KeepsReceived bytes kept n
   pub status_is : status ≡ done
 
 -- Nothing changed.
-pub record HasRefused (bytes : List ℕ) (status n old_n : ℕ) (after : Option Seen) : Type 0 where
+pub record HasRefused (bytes : List ℕ) (status n old_n : ℕ) (after : Option Kept) : Type 0 where
   pub refused : RefusedBy bytes status
   pub number_same : n ≡ old_n
   pub same : after ≡ None
 
 -- A machine was received into a handle, or it is told why not.
-abbrev pub Received : Option Seen → List ℕ → ℕ → ℕ → ℕ → Option Seen → Type 0
+abbrev pub Received : Option Kept → List ℕ → ℕ → ℕ → ℕ → Option Kept → Type 0
 Received (Some m) bytes status n old_n after = (status ≡ in_use) × (n ≡ old_n) × (after ≡ Some m)
 Received None bytes status n old_n after = HasReceived bytes status n after ⊎ HasRefused bytes status n old_n after

@@ -8,19 +8,17 @@ use base.Fml.{Fml, ftrue, fex}
 use base.Stored.{Coded}
 use denote.RawPtr.{Ptr, null_ptr}
 use denote.RattleType.{RattleType}
-use Rattle.machine.specs.Seen.{Seen}
-use Rattle.machine.specs.contracts.machine.Machine as Machine
-use Rattle.blk.specs.contracts.mem_disk.MemDisk as MemDisk
-use Rattle.blk.specs.contracts.mem_disk.MemDiskDisk.TheImpl.{ghosts}
+use Rattle.vmig_c.specs.declared.kept.Kept.{Kept}
+use Rattle.vmig_c.specs.contracts.kept.Kept as contracts
 
--- The type of the machines behind handles: their disks lie in memory.
-abbrev pub machine_row : RattleType
-machine_row = Machine.the_row MemDisk.the_row ghosts
+-- The type of what lies behind handles.
+abbrev pub kept_row : RattleType
+kept_row = contracts.the_row
 
 -- The pointer of a handle is null, or the machine lies there in a block of the C library's heap.
-abbrev pub machine_owns : Global → Ptr → Option Seen → Fml
+abbrev pub machine_owns : Global → Ptr → Option Kept → Fml
 machine_owns alloc at None = fex (at ≡ null_ptr) (λ _. ftrue)
-machine_owns alloc at (Some m) = box_owns (global.dealloc_token alloc) machine_row at m
+machine_owns alloc at (Some m) = box_owns (global.dealloc_token alloc) kept_row at m
 
-abbrev pub machine_coded : Coded (Option Seen)
-machine_coded = coded_option machine_row.coded
+abbrev pub machine_coded : Coded (Option Kept)
+machine_coded = coded_option kept_row.coded

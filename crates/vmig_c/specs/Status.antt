@@ -1,20 +1,29 @@
--- The numbers that C gets as statuses: one for each thing. Where a status is from 1 to 63 nothing has changed.
+-- The numbers that C gets as statuses: one for each thing. Where a status is from 1 to 63 nothing has changed, but for 20,
+-- and for the refusal of a stream on its way.
 --
 --      0         done
 --      1 to  5   the machine refused an event, by the numbers of its reply lines
---      8 to 12   a call was refused before the machine was asked, or memory was
---     33 to 48   a stream was refused: 32 and the number of its fault
+--      7 to 15   a call was refused before the machine was asked, or memory was
+--     17 to 22   a call of a migration was refused: 16 and the number of its reason. 20 is that memory for what waits to be
+--                taken was refused: the migration has failed then, and the machine is as it was
+--     33 to 48   a stream was refused: 32 and the number of its fault. No more of it is taken: 48 is told from then on
 --     64         a register was written, and a byte came out
 --     65 to 73   what a step did
-use Rattle.std.specs.Prelude.{ℕ}
+--     74 to 77   what a call of a migration did
+use Rattle.std.specs.Prelude.{ℕ, ◌+◌}
 use Rattle.machine.specs.Refusal.{code_of}
+use Rattle.sender.specs.Saving.{mig_code_of}
+use Rattle.sender.specs.declared.event.Item.TheVariants.{Page, Sector}
+use Rattle.sender.specs.declared.event.LiveReply.{LiveReply}
+use Rattle.sender.specs.declared.event.LiveReply.TheVariants as live
+use Rattle.sender.specs.declared.mig_error.MigError.{MigError}
 use Rattle.machine.specs.declared.reply.Reply.{Reply}
 use Rattle.machine.specs.declared.reply.Reply.TheVariants.{Value, Done, OutByte, Bytes, Idle, Taken, Moved, BadSector, DiskFailed, Completed, Sent, Dropped, Accepted, NeedsReset, NoMemory, Refused}
 
 abbrev pub done : ℕ
 done = 0
 
--- The handle has no machine, or has one already.
+-- The handle has no machine, also while one arrives; or has one already.
 abbrev pub no_machine : ℕ
 no_machine = 8
 
@@ -31,6 +40,22 @@ too_small = 11
 -- No machine is made of such pages and devices.
 abbrev pub bad_shape : ℕ
 bad_shape = 12
+
+-- A machine that is sent is not saved.
+abbrev pub is_moving : ℕ
+is_moving = 13
+
+-- The disk has no such sector.
+abbrev pub no_sector : ℕ
+no_sector = 7
+
+-- The images are not as long as the disks.
+abbrev pub bad_images : ℕ
+bad_images = 15
+
+-- The sector is bad.
+abbrev pub bad_sector : ℕ
+bad_sector = 68
 
 -- The status of a reply.
 abbrev pub status_of : Reply → ℕ
@@ -50,3 +75,18 @@ status_of (Completed len) = 70
 status_of (Sent bytes) = 71
 status_of Dropped = 72
 status_of NeedsReset = 73
+
+-- The status of a call of a migration that was refused.
+abbrev pub mig_status : MigError → ℕ
+mig_status error = 16 + mig_code_of error
+
+-- The status of what a machine that is sent answers.
+abbrev pub live_status : LiveReply → ℕ
+live_status (live.Guest reply) = status_of reply
+live_status (live.Begun round) = 0
+live_status (live.Copied (Page n)) = 74
+live_status (live.Copied (Sector dev n)) = 75
+live_status live.RoundDone = 76
+live_status live.RoundOpen = 77
+live_status (live.Stopped pages sectors) = 0
+live_status (live.Mig error) = mig_status error

@@ -8,8 +8,16 @@ use Rattle.machine.specs.State.{DeviceState}
 use Rattle.machine.specs.declared.event.Event.TheVariants.{Step}
 use Rattle.machine.specs.declared.reply.Reply.{Reply}
 use Rattle.machine.specs.declared.reply.Reply.TheVariants.{Sent}
-use Rattle.vmig_c.specs.Status.{status_of, no_machine, too_small}
-use Rattle.vmig_c.specs.Told.{number_of}
+use Rattle.sender.specs.Calls.{Serves}
+use Rattle.sender.specs.LiveState.{LiveSeen}
+use Rattle.sender.specs.Stopping.{HasPlaces}
+use Rattle.sender.specs.declared.event.LiveEvent.TheVariants.{Guest}
+use Rattle.sender.specs.declared.event.LiveReply.{LiveReply}
+use Rattle.sender.specs.declared.event.LiveReply.TheVariants as live
+use Rattle.vmig_c.specs.Status.{status_of, live_status, no_machine, too_small}
+use Rattle.vmig_c.specs.Told.{IsNotThere, live_number, number_of}
+use Rattle.vmig_c.specs.declared.kept.Kept.{Kept}
+use Rattle.vmig_c.specs.declared.kept.Kept.TheVariants.{Still, Moving, Arriving}
 
 -- How many bytes a message of this form has at most.
 abbrev pub most_of : Option MessageForm → ℕ
@@ -51,12 +59,44 @@ SteppedIf false m dev pick status number before buf new_buf after = IsStepped m 
 abbrev pub Steps : Seen → ℕ → ℕ → ℕ → ℕ → ℕ → List ℕ → List ℕ → Seen → Type 0
 Steps m dev pick status number before buf new_buf after = SteppedIf (nat_lt (length buf) (most_sent_by m dev pick)) m dev pick status number before buf new_buf after
 
-pub record HasStepped (m : Seen) (dev pick status number before : ℕ) (buf new_buf : List ℕ) (after : Option Seen) : Type 0 where
-  pub next : Seen
+-- The same of a machine that is sent.
+abbrev pub live_sent_in : LiveReply → List ℕ
+live_sent_in (live.Guest reply) = sent_in reply
+live_sent_in _ = []
+
+pub record IsLiveStepped (l : LiveSeen) (dev pick status number before : ℕ) (buf new_buf : List ℕ) (after : LiveSeen) : Type 0 where
+  pub reply : LiveReply
+  pub places : HasPlaces l
+  pub serves : Serves l (Guest (Step dev pick)) reply after
+  pub status_is : status ≡ live_status reply
+  pub number_is : number ≡ live_number reply before
+  pub sent : new_buf ≡ live_sent_in reply ++ drop (length (live_sent_in reply)) buf
+
+pub record IsLiveTooSmall (l : LiveSeen) (status number before : ℕ) (buf new_buf : List ℕ) (after : LiveSeen) : Type 0 where
+  pub status_is : status ≡ too_small
+  pub number_same : number ≡ before
+  pub buf_same : new_buf ≡ buf
+  pub same : after ≡ l
+
+abbrev pub LiveSteppedIf : Bool → LiveSeen → ℕ → ℕ → ℕ → ℕ → ℕ → List ℕ → List ℕ → LiveSeen → Type 0
+LiveSteppedIf true l dev pick status number before buf new_buf after = IsLiveTooSmall l status number before buf new_buf after
+LiveSteppedIf false l dev pick status number before buf new_buf after = IsLiveStepped l dev pick status number before buf new_buf after
+
+abbrev pub LiveSteps : LiveSeen → ℕ → ℕ → ℕ → ℕ → ℕ → List ℕ → List ℕ → LiveSeen → Type 0
+LiveSteps l dev pick status number before buf new_buf after = LiveSteppedIf (nat_lt (length buf) (most_sent_by l.machine dev pick)) l dev pick status number before buf new_buf after
+
+abbrev pub StepsKept : Kept → ℕ → ℕ → ℕ → ℕ → ℕ → List ℕ → List ℕ → Kept → Type 0
+StepsKept (Still m) dev pick status number before buf new_buf (Still after) = Steps m dev pick status number before buf new_buf after
+StepsKept (Moving l) dev pick status number before buf new_buf (Moving after) = LiveSteps l dev pick status number before buf new_buf after
+StepsKept (Arriving r) dev pick status number before buf new_buf (Arriving next) = IsNotThere r status next × (number ≡ before) × (new_buf ≡ buf)
+StepsKept _ dev pick status number before buf new_buf _ = ⊥
+
+pub record HasStepped (k : Kept) (dev pick status number before : ℕ) (buf new_buf : List ℕ) (after : Option Kept) : Type 0 where
+  pub next : Kept
   pub is_next : after ≡ Some next
-  pub steps : Steps m dev pick status number before buf new_buf next
+  pub steps : StepsKept k dev pick status number before buf new_buf next
 
 -- A step of the machine behind a handle. Where there is none, nothing changed.
-abbrev pub Stepped : Option Seen → ℕ → ℕ → ℕ → ℕ → ℕ → List ℕ → List ℕ → Option Seen → Type 0
+abbrev pub Stepped : Option Kept → ℕ → ℕ → ℕ → ℕ → ℕ → List ℕ → List ℕ → Option Kept → Type 0
 Stepped None dev pick status number before buf new_buf after = (status ≡ no_machine) × (number ≡ before) × (new_buf ≡ buf) × (after ≡ None)
-Stepped (Some m) dev pick status number before buf new_buf after = HasStepped m dev pick status number before buf new_buf after
+Stepped (Some k) dev pick status number before buf new_buf after = HasStepped k dev pick status number before buf new_buf after

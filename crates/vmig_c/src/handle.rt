@@ -2,10 +2,10 @@
 
 ghost use Rattle.std.specs.Prelude.{◌≡◌, IsSome, IsNone, Some, None, is_some, Option};
 ghost use Rattle.std.specs.Borrow.{sem};
-ghost use Rattle.machine.specs.Seen.{Seen};
+ghost use Rattle.vmig_c.specs.declared.kept.Kept.{Kept};
 ghost use Rattle.vmig_c.specs.Owned.{machine_owns, machine_coded};
 
-use machine::{Machine, MemDisk};
+use crate::kept::Kept;
 use raw_box::OpenBox;
 use std::alloc::Global;
 use std::marker::Model;
@@ -16,7 +16,7 @@ use std::ptr;
 pub struct Handle {
     at: *mut u8,
     alloc: Global,
-    pub ghost machine: { Option Seen } by { machine_coded },
+    pub ghost machine: { Option Kept } by { machine_coded },
 }
 
 impl Model for Handle {
@@ -39,21 +39,21 @@ impl Handle {
     }
 
     /// A handle of the machine in a box.
-    pub(crate) fn of(machine: Box<Machine<MemDisk>>) -> Handle
+    pub(crate) fn of(machine: Box<Kept>) -> Handle
         ensures { result.machine ≡ Some machine.value }
     {
         Handle::of_open(OpenBox::open(machine))
     }
 
     /// The machine in a box.
-    pub(crate) fn into_box(self) -> Box<Machine<MemDisk>>
+    pub(crate) fn into_box(self) -> Box<Kept>
         requires { IsSome self.machine }
         ensures { Some result.value ≡ self.machine }
     {
         self.into_open().close()
     }
 
-    fn of_open(open: OpenBox<Machine<MemDisk>, Global>) -> Handle
+    fn of_open(open: OpenBox<Kept, Global>) -> Handle
         ensures { result.machine ≡ Some open.held }
     {
         let OpenBox { address, heap } = open;
@@ -63,13 +63,13 @@ impl Handle {
         }
     }
 
-    fn into_open(self) -> OpenBox<Machine<MemDisk>, Global>
+    fn into_open(self) -> OpenBox<Kept, Global>
         requires { IsSome self.machine }
         ensures { Some result.held ≡ self.machine }
     {
         let Handle { at, alloc } = self;
         OpenBox {
-            address: at as *mut Machine<MemDisk>,
+            address: at as *mut Kept,
             heap: alloc,
         }
     }
@@ -90,12 +90,12 @@ impl Handle {
     }
 
     /// The machine.
-    pub(crate) fn get_mut(&mut self) -> &mut Machine<MemDisk>
+    pub(crate) fn get_mut(&mut self) -> &mut Kept
         requires { IsSome self.old.machine }
         ensures* writes_back { sem 𝓛 (LendsMachine self.entry result) }
         ensures value { Some result.now ≡ self.old.machine }
     {
-        unsafe { &mut *(self.at as *mut Machine<MemDisk>) }
+        unsafe { &mut *(self.at as *mut Kept) }
     }
 }
 

@@ -1,35 +1,52 @@
 //! A machine as C sees it: `vmig.h` says the same to its reader, and what C owes.
 //!
-//! `Handle` is the one type that C holds; all raw pointers are behind it, in `handle`. Every export is an ordinary function,
-//! and its clause is the step of the machine with the outcome that its status tells of (`specs/Told`). The numbers stand in
-//! one table, `specs/Status`.
+//! `Handle` is the one type that C holds; all raw pointers are behind it, in `handle`. Behind it lies a machine that stands
+//! still, is sent or arrives (`kept`). Every export is an ordinary function, and its clause is the step of the machine with the
+//! outcome that its status tells of (`specs/Told`), or the call of a migration (`specs/Migrated`) or of an arrival
+//! (`specs/Arriving`). The numbers stand in one table, `specs/Status`. What follows from the clauses stands in `laws`: what was
+//! taken of a machine that was stopped is its stream, and what arrives of that is the machine.
 #![tactic(auto)]
 
 ghost use Rattle.std.specs.Prelude.{◌≡◌, None};
 ghost use Rattle.machine.specs.declared.event.Event.TheVariants as events;
+ghost use Rattle.vmig_c.specs.Arriving.{Counted, Fed, Finished};
+ghost use Rattle.vmig_c.specs.Images.{MakesWith, SectorRead};
 ghost use Rattle.vmig_c.specs.Making.{Makes};
+ghost use Rattle.vmig_c.specs.Migrated.{Aborted, Begun, Copied, EndedRound, HasBeenStopped, Remaining, Taken};
+ghost use Rattle.vmig_c.specs.Mirror.{Pulled, Pushed};
 ghost use Rattle.vmig_c.specs.Moving.{Received, Saved};
 ghost use Rattle.vmig_c.specs.Stepped.{Stepped};
 ghost use Rattle.vmig_c.specs.Told.{Told, ToldSo, Read, lines_told};
 
+mod arrival;
+mod arriving;
 mod device_shape;
 mod handle;
+mod images;
+mod kept;
 pub mod laws;
 mod making;
+mod migrating;
+mod mirror;
 mod moving;
+mod serving;
 mod status;
 mod stepping;
 
+use arrival::Arrival;
+use arriving::{feed, finish, rounds};
 pub use device_shape::DeviceShape;
 pub use handle::Handle;
+use images::{are_images, machine_with, read_sector};
+use kept::Kept;
 use making::{are_beyond_limits, machine_of};
-use moving::{machine_in, save_told};
-use status::{
-    BAD_SHAPE, DONE, IN_USE, NO_MACHINE, NO_MEMORY, accepted_told, done_told, value_told,
-    written_told,
-};
+use migrating::{abort, begin, copy, end_round, remaining, stop, take};
+use mirror::{pull, push};
+use moving::{machine_in, save_kept};
+use serving::{input, lines, read_ram, read_register, resize, write_ram, write_register};
+use status::{BAD_IMAGES, BAD_SHAPE, DONE, IN_USE, NO_MACHINE, NO_MEMORY};
 use std::alloc::Global;
-use stepping::step_told;
+use stepping::step_kept;
 
 /// Makes a machine of so many pages of zeros and of these devices, whose disks are zeros in memory.
 #[unsafe(no_mangle)]
@@ -49,6 +66,34 @@ pub extern "C" fn vmig_make(
         return BAD_SHAPE;
     }
     let Ok(made) = machine_of(alloc, pages, shapes) else {
+        return NO_MEMORY;
+    };
+    std::mem::replace(machine, Handle::of(made)).gone();
+    DONE
+}
+
+/// Makes such a machine, whose disks hold the images: their sectors one behind another, in the order of the devices.
+#[unsafe(no_mangle)]
+#[tactic(auto, using(crate::proofs::Imaging::with_used, crate::proofs::Imaging::with_beyond, crate::proofs::Imaging::with_others, crate::proofs::Imaging::with_full, crate::proofs::Imaging::with_done))]
+pub extern "C" fn vmig_make_with(
+    alloc: Global,
+    pages: u32,
+    shapes: &[DeviceShape],
+    images: &[u8],
+    machine: &mut Handle,
+) -> u32
+    ensures { MakesWith machine.old.machine pages shapes.now images.now result machine.new.machine }
+{
+    if machine.is_made() {
+        return IN_USE;
+    }
+    if are_beyond_limits(pages, shapes) {
+        return BAD_SHAPE;
+    }
+    if !are_images(images.len(), shapes) {
+        return BAD_IMAGES;
+    }
+    let Ok(made) = machine_with(alloc, pages, shapes, images) else {
         return NO_MEMORY;
     };
     std::mem::replace(machine, Handle::of(made)).gone();
@@ -81,8 +126,7 @@ pub extern "C" fn vmig_reg_read(
     if !machine.is_made() {
         return NO_MACHINE;
     }
-    let answer = machine.get_mut().read_register(dev, off, width);
-    value_told(answer, value)
+    read_register(machine.get_mut(), dev, off, width, value)
 }
 
 /// The driver writes a register.
@@ -101,11 +145,10 @@ pub extern "C" fn vmig_reg_write(
     if !machine.is_made() {
         return NO_MACHINE;
     }
-    let answer = machine.get_mut().write_register(dev, off, width, value);
-    written_told(answer, out)
+    write_register(machine.get_mut(), dev, off, width, value, out)
 }
 
-/// The guest reads RAM. It takes no memory.
+/// The guest reads RAM. It takes no memory, and reads also a machine that was stopped.
 #[unsafe(no_mangle)]
 #[tactic(auto, using(crate::proofs::ByHandle::read_none, crate::proofs::ByHandle::read_some))]
 pub extern "C" fn vmig_ram_read(machine: &mut Handle, addr: u64, buf: &mut [u8]) -> u32
@@ -115,21 +158,61 @@ pub extern "C" fn vmig_ram_read(machine: &mut Handle, addr: u64, buf: &mut [u8])
     if !machine.is_made() {
         return NO_MACHINE;
     }
-    let answer = machine.get_mut().read_ram(addr, buf);
-    done_told(answer)
+    read_ram(machine.get_mut(), addr, buf)
 }
 
-/// The guest writes RAM. It takes no memory.
+/// The guest writes RAM. It takes no memory where the machine stands still.
 #[unsafe(no_mangle)]
-#[tactic(auto, using(crate::proofs::ByHandle::told_none, crate::proofs::ByHandle::so_some))]
-pub extern "C" fn vmig_ram_write(machine: &mut Handle, addr: u64, bytes: &[u8]) -> u32
+#[tactic(auto, using(crate::proofs::ByHandle::told_none, crate::proofs::ByHandle::told_some))]
+pub extern "C" fn vmig_ram_write(
+    alloc: Global,
+    machine: &mut Handle,
+    addr: u64,
+    bytes: &[u8],
+) -> u32
     ensures { ToldSo machine.old.machine (events.MemWrite addr bytes.now) result machine.new.machine }
 {
     if !machine.is_made() {
         return NO_MACHINE;
     }
-    let answer = machine.get_mut().write_ram(addr, bytes);
-    done_told(answer)
+    write_ram(alloc, machine.get_mut(), addr, bytes)
+}
+
+/// The pages of these numbers become those of the caller's RAM, and their versions are noted. It takes no memory where the
+/// machine stands still.
+#[unsafe(no_mangle)]
+#[tactic(auto, using(crate::proofs::Mirroring::pushed_none, crate::proofs::Mirroring::pushed_some))]
+pub extern "C" fn vmig_push(
+    alloc: Global,
+    machine: &mut Handle,
+    pages: &[u32],
+    ram: &[u8],
+    seen: &mut [u64],
+) -> u32
+    ensures { Pushed machine.old.machine pages.now ram.now result seen.old seen.new machine.new.machine }
+{
+    if !machine.is_made() {
+        return NO_MACHINE;
+    }
+    push(alloc, machine.get_mut(), pages, ram, seen)
+}
+
+/// Each page that the caller has not as it is goes into its RAM, and its version is noted. It takes no memory.
+#[unsafe(no_mangle)]
+#[tactic(auto, using(crate::proofs::Mirroring::pulled_none, crate::proofs::Mirroring::pulled_some))]
+pub extern "C" fn vmig_pull(
+    machine: &mut Handle,
+    ram: &mut [u8],
+    seen: &mut [u64],
+    count: &mut u32,
+) -> u32
+    ensures pulled { Pulled machine.old.machine result ram.old ram.new seen.old seen.new count.new count.old }
+    ensures same { machine.new.machine ≡ machine.old.machine }
+{
+    if !machine.is_made() {
+        return NO_MACHINE;
+    }
+    pull(machine.get_mut(), ram, seen, count)
 }
 
 /// A device does one piece of its work. What it sends goes to the front of the buffer; a step that may send more than the
@@ -148,33 +231,37 @@ pub extern "C" fn vmig_step(
     if !machine.is_made() {
         return NO_MACHINE;
     }
-    step_told(machine.get_mut(), dev, pick, buf, len)
+    step_kept(machine.get_mut(), dev, pick, buf, len)
 }
 
-/// The host puts bytes in. It takes no memory.
+/// The host puts bytes in. It takes no memory where the machine stands still.
 #[unsafe(no_mangle)]
 #[tactic(auto, using(crate::proofs::ByHandle::told_none, crate::proofs::ByHandle::told_some))]
-pub extern "C" fn vmig_input(machine: &mut Handle, dev: u8, bytes: &[u8], accepted: &mut u32) -> u32
+pub extern "C" fn vmig_input(
+    alloc: Global,
+    machine: &mut Handle,
+    dev: u8,
+    bytes: &[u8],
+    accepted: &mut u32,
+) -> u32
     ensures { Told machine.old.machine (events.Input dev bytes.now) result accepted.new accepted.old machine.new.machine }
 {
     if !machine.is_made() {
         return NO_MACHINE;
     }
-    let answer = machine.get_mut().input(dev, bytes);
-    accepted_told(answer, accepted)
+    input(alloc, machine.get_mut(), dev, bytes, accepted)
 }
 
 /// The host sets the size of a console, in characters.
 #[unsafe(no_mangle)]
-#[tactic(auto, using(crate::proofs::ByHandle::told_none, crate::proofs::ByHandle::so_some))]
+#[tactic(auto, using(crate::proofs::ByHandle::told_none, crate::proofs::ByHandle::told_some))]
 pub extern "C" fn vmig_resize(machine: &mut Handle, dev: u8, cols: u16, rows: u16) -> u32
     ensures { ToldSo machine.old.machine (events.Resize dev cols rows) result machine.new.machine }
 {
     if !machine.is_made() {
         return NO_MACHINE;
     }
-    let answer = machine.get_mut().resize(dev, cols, rows);
-    done_told(answer)
+    resize(machine.get_mut(), dev, cols, rows)
 }
 
 /// The interrupt lines, one bit a device.
@@ -187,7 +274,24 @@ pub extern "C" fn vmig_lines(machine: &mut Handle) -> u16
     if !machine.is_made() {
         return 0;
     }
-    machine.get_mut().lines()
+    lines(machine.get_mut())
+}
+
+/// A sector of a disk goes to the front of a buffer.
+#[unsafe(no_mangle)]
+#[tactic(auto, using(crate::proofs::Imaging::sector_none, crate::proofs::Imaging::sector_some))]
+pub extern "C" fn vmig_sector_read(
+    machine: &mut Handle,
+    dev: u8,
+    sector: u64,
+    buf: &mut [u8],
+) -> u32
+    ensures { SectorRead machine.old.machine dev sector result buf.old buf.new machine.new.machine }
+{
+    if !machine.is_made() {
+        return NO_MACHINE;
+    }
+    read_sector(machine.get_mut(), dev, sector, buf)
 }
 
 /// Saves the machine into a buffer. `len` says how many bytes its stream has, also where the buffer is too small for them.
@@ -204,7 +308,7 @@ pub extern "C" fn vmig_save(
     if !machine.is_made() {
         return NO_MACHINE;
     }
-    save_told(alloc, machine.get_mut(), buf, len)
+    save_kept(alloc, machine.get_mut(), buf, len)
 }
 
 /// Makes the machine that a stream tells of, over disks in memory.
@@ -229,4 +333,134 @@ pub extern "C" fn vmig_receive(
         }
         Err(status) => status,
     }
+}
+
+/// The machine begins to be sent. What is written of it waits until it is taken.
+#[unsafe(no_mangle)]
+#[tactic(auto, using(crate::proofs::MigrationCalls::begun_none, crate::proofs::MigrationCalls::begun_some))]
+pub extern "C" fn vmig_begin(alloc: Global, machine: &mut Handle) -> u32
+    ensures { Begun machine.old.machine result machine.new.machine }
+{
+    if !machine.is_made() {
+        return NO_MACHINE;
+    }
+    begin(alloc, machine.get_mut())
+}
+
+/// Sends the least due item, and tells which it is.
+#[unsafe(no_mangle)]
+#[tactic(auto, using(crate::proofs::MigrationCalls::copied_none, crate::proofs::MigrationCalls::copied_some))]
+pub extern "C" fn vmig_copy(machine: &mut Handle, dev: &mut u8, number: &mut u32) -> u32
+    ensures { Copied machine.old.machine result dev.new dev.old number.new number.old machine.new.machine }
+{
+    if !machine.is_made() {
+        return NO_MACHINE;
+    }
+    copy(machine.get_mut(), dev, number)
+}
+
+/// Ends a round: what was touched since becomes due.
+#[unsafe(no_mangle)]
+#[tactic(auto, using(crate::proofs::MigrationCalls::ended_round_none, crate::proofs::MigrationCalls::ended_round_some))]
+pub extern "C" fn vmig_end_round(machine: &mut Handle, round: &mut u32) -> u32
+    ensures { EndedRound machine.old.machine result round.new round.old machine.new.machine }
+{
+    if !machine.is_made() {
+        return NO_MACHINE;
+    }
+    end_round(machine.get_mut(), round)
+}
+
+/// Sends what is left, and closes the stream.
+#[unsafe(no_mangle)]
+#[tactic(auto, using(crate::proofs::MigrationCalls::has_been_stopped_none, crate::proofs::MigrationCalls::has_been_stopped_some))]
+pub extern "C" fn vmig_stop(machine: &mut Handle, pages: &mut u64, sectors: &mut u64) -> u32
+    ensures { HasBeenStopped machine.old.machine result pages.new pages.old sectors.new sectors.old machine.new.machine }
+{
+    if !machine.is_made() {
+        return NO_MACHINE;
+    }
+    stop(machine.get_mut(), pages, sectors)
+}
+
+/// The machine stands still again, as it is.
+#[unsafe(no_mangle)]
+#[tactic(auto, using(crate::proofs::MigrationCalls::aborted_none, crate::proofs::MigrationCalls::aborted_some))]
+pub extern "C" fn vmig_abort(alloc: Global, machine: &mut Handle) -> u32
+    ensures { Aborted machine.old.machine result machine.new.machine }
+{
+    if !machine.is_made() {
+        return NO_MACHINE;
+    }
+    abort(alloc, machine.get_mut())
+}
+
+/// How many items are due, and how many are dirty.
+#[unsafe(no_mangle)]
+#[tactic(auto, using(crate::proofs::MigrationCalls::remaining_none, crate::proofs::MigrationCalls::remaining_some))]
+pub extern "C" fn vmig_remaining(machine: &mut Handle, due: &mut u64, dirty: &mut u64) -> u32
+    ensures counts { Remaining machine.old.machine result due.new due.old dirty.new dirty.old }
+    ensures same { machine.new.machine ≡ machine.old.machine }
+{
+    if !machine.is_made() {
+        return NO_MACHINE;
+    }
+    remaining(machine.get_mut(), due, dirty)
+}
+
+/// Takes the first of the bytes that wait.
+#[unsafe(no_mangle)]
+#[tactic(auto, using(crate::proofs::MigrationCalls::taken_none, crate::proofs::MigrationCalls::taken_some))]
+pub extern "C" fn vmig_take(
+    alloc: Global,
+    machine: &mut Handle,
+    buf: &mut [u8],
+    got: &mut usize,
+) -> u32
+    ensures { Taken machine.old.machine result got.new got.old buf.old buf.new machine.new.machine }
+{
+    if !machine.is_made() {
+        return NO_MACHINE;
+    }
+    take(alloc, machine.get_mut(), buf, got)
+}
+
+/// The next piece of a stream arrives. A machine begins to arrive behind a handle of none.
+#[unsafe(no_mangle)]
+#[tactic(auto, using(crate::proofs::ArrivalCalls::fed_first, crate::proofs::ArrivalCalls::fed_full, crate::proofs::ArrivalCalls::fed_some))]
+pub extern "C" fn vmig_feed(alloc: Global, machine: &mut Handle, bytes: &[u8]) -> u32
+    ensures { Fed machine.old.machine bytes.now result machine.new.machine }
+{
+    if !machine.is_made() {
+        let Ok(boxed) = Box::new(alloc, Kept::Arriving(Arrival::new(alloc))) else {
+            return NO_MEMORY;
+        };
+        std::mem::replace(machine, Handle::of(boxed)).gone();
+    }
+    feed(machine.get_mut(), bytes)
+}
+
+/// All pieces have arrived: the machine is there, or its stream is refused.
+#[unsafe(no_mangle)]
+#[tactic(auto, using(crate::proofs::ArrivalCalls::finished_none, crate::proofs::ArrivalCalls::finished_some))]
+pub extern "C" fn vmig_finish(alloc: Global, machine: &mut Handle) -> u32
+    ensures { Finished machine.old.machine result machine.new.machine }
+{
+    if !machine.is_made() {
+        return NO_MACHINE;
+    }
+    finish(alloc, machine.get_mut())
+}
+
+/// How many rounds ended in what arrived.
+#[unsafe(no_mangle)]
+#[tactic(auto, using(crate::proofs::ArrivalCalls::counted_none, crate::proofs::ArrivalCalls::counted_some))]
+pub extern "C" fn vmig_rounds(machine: &mut Handle, ended: &mut u32) -> u32
+    ensures rounds { Counted machine.old.machine result ended.new ended.old }
+    ensures same { machine.new.machine ≡ machine.old.machine }
+{
+    if !machine.is_made() {
+        return NO_MACHINE;
+    }
+    rounds(machine.get_mut(), ended)
 }

@@ -2,9 +2,10 @@
 
 ghost use Rattle.std.specs.Prelude.{◌≡◌, map, replicate, IfOk};
 ghost use Rattle.machine.specs.Shapes.{disk_sizes};
-ghost use Rattle.vmig_c.specs.Making.{IsMade, are_beyond_limits, are_plain, shapes_of};
+ghost use Rattle.vmig_c.specs.Making.{KeepsMade, are_beyond_limits, are_plain, shapes_of};
 
 use crate::device_shape::DeviceShape;
+use crate::kept::Kept;
 use guestmem::{NoMemory, PAGES_MAX};
 use machine::{DEVICES_MAX, Machine, MemDisk, Shape};
 use std::alloc::Global;
@@ -36,19 +37,20 @@ pub(crate) fn machine_of(
     alloc: Global,
     pages: u32,
     shapes: &[DeviceShape],
-) -> Result<Box<Machine<MemDisk>>, NoMemory>
-    ensures { IfOk result (λ m. IsMade pages (shapes_of shapes.now) m.value) }
+) -> Result<Box<Kept>, NoMemory>
+    ensures { IfOk result (λ k. KeepsMade pages (shapes_of shapes.now) k.value) }
 {
     let shapes = shapes_of(alloc, shapes)?;
     let disks = zero_disks(alloc, &shapes)?;
     let Ok(machine) = Machine::new(alloc, pages, &shapes, disks) else {
         return Err(NoMemory);
     };
-    let boxed = Box::new(alloc, machine)?;
+    let boxed = Box::new(alloc, Kept::Still(machine))?;
     Ok(boxed)
 }
 
-fn shapes_of(alloc: Global, shapes: &[DeviceShape]) -> Result<Vec<Shape>, NoMemory>
+/// The shapes of the machine's devices.
+pub(crate) fn shapes_of(alloc: Global, shapes: &[DeviceShape]) -> Result<Vec<Shape>, NoMemory>
     ensures { IfOk result (λ made. made.items ≡ shapes_of shapes.now) }
 {
     let mut made = Vec::with_capacity(alloc, shapes.len())?;

@@ -4,11 +4,13 @@ ghost use Rattle.std.specs.Prelude.{◌≡◌, ◌≤◌, ◌++◌, IfOk, IfErr,
 ghost use Rattle.machine.specs.Seen.{state_of};
 ghost use Rattle.wire.specs.Stream.{whole};
 ghost use Rattle.receiver.specs.Disks.{sizes_of};
-ghost use Rattle.vmig_c.specs.Moving.{AreFitting, IsKept, IsReceivedAs, RefusedBy, Saves, refusal_status};
+ghost use Rattle.vmig_c.specs.Moving.{IsKept, KeepsReceived, RefusedBy, Saves, SavesKept, refusal_status};
+ghost use Rattle.vmig_c.specs.Headed.{AreFitting};
 ghost use Rattle.vmig_c.specs.Plain.{ArePlain, mem_state};
 
+use crate::kept::Kept;
 use crate::making::zero_disks;
-use crate::status::{DONE, NO_MEMORY, TOO_SMALL};
+use crate::status::{DONE, IS_MOVING, NO_MACHINE, NO_MEMORY, TOO_SMALL};
 use guestmem::NoMemory;
 use machine::{Machine, MemDisk};
 use receiver::{RecvError, receive};
@@ -16,14 +18,20 @@ use sender::save;
 use std::alloc::Global;
 use wire::{WriteSink, decode_header};
 
+/// Saves what lies behind a handle, if it stands still.
+pub(crate) fn save_kept(alloc: Global, kept: &mut Kept, buf: &mut [u8], len: &mut usize) -> u32
+    ensures { SavesKept kept.old result len.new len.old buf.old buf.new kept.new }
+{
+    match kept {
+        Kept::Still(machine) => save_told(alloc, machine, buf, len),
+        Kept::Moving(_) => IS_MOVING,
+        Kept::Arriving(_) => NO_MACHINE,
+    }
+}
+
 /// Saves a machine into a buffer. How long its stream is goes out as the length, also where the buffer is too small.
 #[tactic(auto, using(crate::proofs::Streams::put, crate::proofs::Streams::not_put, crate::proofs::Streams::not_made))]
-pub(crate) fn save_told(
-    alloc: Global,
-    machine: &mut Machine<MemDisk>,
-    buf: &mut [u8],
-    len: &mut usize,
-) -> u32
+fn save_told(alloc: Global, machine: &mut Machine<MemDisk>, buf: &mut [u8], len: &mut usize) -> u32
     ensures { Saves machine.old result len.new len.old buf.old buf.new machine.new }
 {
     let Ok(stream) = stream_of(alloc, machine) else {
@@ -37,7 +45,7 @@ pub(crate) fn save_told(
     DONE
 }
 
-fn put_front(bytes: &[u8], buf: &mut [u8])
+pub(crate) fn put_front(bytes: &[u8], buf: &mut [u8])
     requires { length bytes.now ≤ length buf.old }
     ensures { buf.new ≡ bytes.now ++ drop (length bytes.now) buf.old }
 {
@@ -59,15 +67,15 @@ fn stream_of(alloc: Global, machine: &mut Machine<MemDisk>) -> Result<Vec<u8>, N
 
 /// The machine of a stream in a box, and how many rounds ended in it; or the status that says why there is none.
 #[tactic(auto, using(crate::proofs::Streams::was_received, crate::proofs::Streams::was_refused, crate::proofs::Streams::was_full))]
-pub(crate) fn machine_in(alloc: Global, bytes: &[u8]) -> Result<(Box<Machine<MemDisk>>, u32), u32>
-    ensures received { IfOk result (λ x. IsReceivedAs bytes.now x.0.value x.1) }
+pub(crate) fn machine_in(alloc: Global, bytes: &[u8]) -> Result<(Box<Kept>, u32), u32>
+    ensures received { IfOk result (λ x. KeepsReceived bytes.now x.0.value x.1) }
     ensures refused { IfErr result (λ status. RefusedBy bytes.now status) }
 {
     let Ok(disks) = disks_of(alloc, bytes) else {
         return Err(NO_MEMORY);
     };
     match receive(alloc, bytes, disks) {
-        Ok((machine, rounds)) => match Box::new(alloc, machine) {
+        Ok((machine, rounds)) => match Box::new(alloc, Kept::Still(machine)) {
             Ok(boxed) => Ok((boxed, rounds)),
             Err(_) => Err(NO_MEMORY),
         },

@@ -3,12 +3,21 @@
 ghost use Rattle.std.specs.Prelude.{◌≡◌, ◌≤◌, length, List, ℕ};
 ghost use Rattle.machine.specs.Direct.{value_reply, done_reply, bytes_reply, accepted_reply, written_result};
 ghost use Rattle.machine.specs.Refusal.{code_of};
-ghost use Rattle.vmig_c.specs.Status.{status_of};
+ghost use Rattle.vmig_c.specs.Status.{mig_status, status_of};
 ghost use Rattle.vmig_c.specs.Told.{number_of};
 
 use machine::Refusal;
+use sender::MigError;
 
 pub(crate) const DONE: u32 = 0;
+
+pub(crate) const NO_DEVICE: u32 = 1;
+
+pub(crate) const OUT_OF_RAM: u32 = 2;
+
+pub(crate) const WRONG_KIND: u32 = 4;
+
+pub(crate) const NO_SECTOR: u32 = 7;
 
 pub(crate) const NO_MACHINE: u32 = 8;
 
@@ -20,13 +29,32 @@ pub(crate) const TOO_SMALL: u32 = 11;
 
 pub(crate) const BAD_SHAPE: u32 = 12;
 
+pub(crate) const IS_MOVING: u32 = 13;
+
+pub(crate) const BAD_IMAGES: u32 = 15;
+
+pub(crate) const NOT_BEGUN: u32 = 17;
+
+pub(crate) const STOPPED: u32 = 21;
+
 pub(crate) const OUT_BYTE: u32 = 64;
+
+pub(crate) const BAD_SECTOR: u32 = 68;
+
+pub(crate) const DISK_FAILED: u32 = 69;
 
 /// The status of an event that was refused.
 pub(crate) fn refused(refusal: Refusal) -> u32
     ensures { result ≡ code_of refusal }
 {
     refusal.code() as u32
+}
+
+/// The status of a call of a migration that was refused.
+pub(crate) fn mig_told(error: MigError) -> u32
+    ensures { result ≡ mig_status error }
+{
+    16 + error.code() as u32
 }
 
 /// The status of a register that was read, whose value goes out as the number.

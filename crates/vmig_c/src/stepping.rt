@@ -4,21 +4,20 @@ ghost use Rattle.std.specs.Prelude.{◌≡◌, ◌≤◌, ◌++◌, length, drop
 ghost use Rattle.machine.specs.DeviceStep.{message_form};
 ghost use Rattle.machine.specs.Seen.{state_of};
 ghost use Rattle.vmig_c.specs.Status.{status_of};
-ghost use Rattle.vmig_c.specs.Stepped.{Steps, most_of, most_sent_by, sent_in};
+ghost use Rattle.vmig_c.specs.Stepped.{LiveSteps, Steps, StepsKept, most_of, most_sent_by, sent_in};
 ghost use Rattle.vmig_c.specs.Told.{number_of};
 
-use crate::status::{DONE, NO_MEMORY, OUT_BYTE, TOO_SMALL, refused};
-use machine::{Machine, MemDisk, Own, Reply};
+use crate::kept::{Kept, Moving};
+use crate::status::{
+    BAD_SECTOR, DISK_FAILED, DONE, NO_MACHINE, NO_MEMORY, OUT_BYTE, TOO_SMALL, mig_told, refused,
+};
+use machine::{Event, Machine, MemDisk, Own, Reply};
 
 const IDLE: u32 = 65;
 
 const TAKEN: u32 = 66;
 
 const MOVED: u32 = 67;
-
-const BAD_SECTOR: u32 = 68;
-
-const DISK_FAILED: u32 = 69;
 
 const COMPLETED: u32 = 70;
 
@@ -28,9 +27,40 @@ const DROPPED: u32 = 72;
 
 const NEEDS_RESET: u32 = 73;
 
+/// A device behind a handle does one piece of its work, if the buffer holds all that it may send.
+#[tactic(auto, using(crate::proofs::ByKept::still_steps, crate::proofs::ByKept::moving_steps))]
+pub(crate) fn step_kept(kept: &mut Kept, dev: u8, pick: u8, buf: &mut [u8], number: &mut u32) -> u32
+    ensures { StepsKept kept.old dev pick result number.new number.old buf.old buf.new kept.new }
+{
+    match kept {
+        Kept::Still(machine) => step_told(machine, dev, pick, buf, number),
+        Kept::Moving(live) => live_step_told(live, dev, pick, buf, number),
+        Kept::Arriving(_) => NO_MACHINE,
+    }
+}
+
+/// The same of a machine that is sent.
+#[tactic(auto, using(crate::proofs::ByKept::live_stepped, crate::proofs::ByKept::live_not_stepped))]
+fn live_step_told(live: &mut Moving, dev: u8, pick: u8, buf: &mut [u8], number: &mut u32) -> u32
+    ensures { LiveSteps live.old dev pick result number.new number.old buf.old buf.new live.new }
+{
+    if buf.len() < room_for(live.machine(), dev, pick) {
+        return TOO_SMALL;
+    }
+    live.recall();
+    match live.apply(&Event::Step { dev, pick }) {
+        Ok(reply) => {
+            hand_out(&reply, buf);
+            *number = number_told(&reply, *number);
+            status_told(&reply)
+        }
+        Err(error) => mig_told(error),
+    }
+}
+
 /// A device does one piece of its work, if the buffer holds all that it may send.
 #[tactic(auto, using(crate::proofs::Sending::stepped, crate::proofs::Sending::not_stepped))]
-pub(crate) fn step_told(
+fn step_told(
     machine: &mut Machine<MemDisk>,
     dev: u8,
     pick: u8,
@@ -79,7 +109,8 @@ fn hand_out(reply: &Reply, buf: &mut [u8])
     }
 }
 
-fn number_told(reply: &Reply, before: u32) -> u32
+/// The number that a reply tells, or what was told before.
+pub(crate) fn number_told(reply: &Reply, before: u32) -> u32
     requires { length (sent_in reply.now) ≤ 65536 }
     ensures { result ≡ number_of reply.now before }
 {
@@ -93,7 +124,8 @@ fn number_told(reply: &Reply, before: u32) -> u32
     }
 }
 
-fn status_told(reply: &Reply) -> u32
+/// The status of a reply.
+pub(crate) fn status_told(reply: &Reply) -> u32
     ensures { result ≡ status_of reply.now }
 {
     match reply {

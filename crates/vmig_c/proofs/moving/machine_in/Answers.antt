@@ -1,6 +1,6 @@
 use Rattle.std.proofs.Common.{sym, subst}
-use Rattle.machine.specs.Seen.{Seen}
-use Rattle.vmig_c.specs.Moving.{IsReceivedAs}
+use Rattle.vmig_c.specs.declared.kept.Kept.{Kept}
+use Rattle.vmig_c.specs.Moving.{IsReceivedAs, KeepsReceived}
 use Rattle.vmig_c.proofs.Streams.{was_received, was_refused}
 use Rattle.vmig_c.proofs.moving.machine_in.Goals as goal
 
@@ -9,7 +9,7 @@ returns-in-Ok-new-clause-received c =
     let bytes = c.args.bytes.now in
     let got = c.in-Ok-receive in
     let received : IsReceivedAs bytes got.machine got.rounds = was_received bytes c.in-Ok.disks.items got.machine got.rounds got.ensures.received got.ensures.marks in
-    subst (λ (s : Seen). IsReceivedAs bytes s got.rounds) (sym c.in-Ok-new.ensures.ok) received
+    subst (λ (k : Kept). KeepsReceived bytes k got.rounds) (sym c.in-Ok-new.ensures.ok) received
 
 pub returns-clause-refused : goal.returns-clause-refused
 returns-clause-refused c = was_refused c.args.bytes.now c.in-Ok.disks.items c.in-Err.error c.refused.result c.in-Ok.ensures c.in-Err.ensures.refused c.refused.ensures

@@ -13,13 +13,10 @@ use Rattle.std.specs.Prelude.{Option, Some, None}
 use Rattle.std.proofs.Crossing as heap
 use Rattle.std.proofs.alloc.Global.TheSendSync as handle
 use Rattle.std.specs.declared.alloc.Global.{Global}
-use Rattle.machine.specs.Seen.{Seen}
-use Rattle.blk.specs.contracts.mem_disk.MemDisk as MemDisk
-use Rattle.blk.specs.contracts.mem_disk.MemDiskDisk.TheImpl.{ghosts as disk}
-use Rattle.blk.proofs.mem_disk.MemDisk.TheSendSync as mem_disk
-use Rattle.machine.proofs.machine.Machine.TheSendSync as machine
+use Rattle.vmig_c.specs.declared.kept.Kept.{Kept}
+use Rattle.vmig_c.proofs.kept.Kept.TheSendSync as kept
 use Rattle.vmig_c.specs.contracts.handle.Handle.{the_row, the_type}
-use Rattle.vmig_c.specs.Owned.{machine_owns, machine_row}
+use Rattle.vmig_c.specs.Owned.{machine_owns, kept_row}
 
 quiet : {D X : Type 0} (to : D → X) (e : Exit X) → Quiet e → Quiet (hidden (under to e))
 quiet to unchanged q = λ x w. tt
@@ -29,9 +26,9 @@ lies : (R : RattleType) → IsSend R → (p : Ptr) (x : R.Denot) → Keyless (li
 lies R s (block_ptr b o) x = part_keyless R s full_share x b o
 lies R s null_ptr x = tt
 
-owned : (a : Global) (p : Ptr) (k : Option Seen) → Keyless (machine_owns a p k)
+owned : (a : Global) (p : Ptr) (k : Option Kept) → Keyless (machine_owns a p k)
 owned a p None = λ e. tt
-owned a p (Some x) = (lies machine_row (machine.the_send MemDisk.the_row disk mem_disk.the_send) p x, heap.frees.frees a (raw (lone machine_row.mir)) p)
+owned a p (Some x) = (lies kept_row kept.the_send p x, heap.frees.frees a (raw (lone kept_row.mir)) p)
 
 pub send : IsSend the_row
 send =

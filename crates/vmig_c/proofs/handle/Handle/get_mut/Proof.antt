@@ -36,9 +36,9 @@ use Rattle.std.proofs.BoxSteps.Form.{D, B, R, τ, word, handle}
 use Rattle.std.proofs.BoxSteps.Steps.{box_out, box_in}
 use Rattle.std.specs.declared.alloc.Global.{Global}
 use Rattle.vmig_c.proofs.AsBox.{E}
-use Rattle.machine.specs.Seen.{Seen}
+use Rattle.vmig_c.specs.declared.kept.Kept.{Kept}
 use Rattle.vmig_c.specs.declared.handle.Handle.{Handle}
-use Rattle.vmig_c.specs.Owned.{machine_row}
+use Rattle.vmig_c.specs.Owned.{kept_row}
 use Rattle.vmig_c.specs.contracts.handle.Handle as held
 use Rattle.vmig_c.specs.Lending.{with_machine}
 use Rattle.vmig_c.specs.contracts.handle.Handle.get_mut as f
@@ -49,7 +49,7 @@ abbrev Row : RattleType
 Row = held.the_row
 
 abbrev In : RattleType
-In = machine_row
+In = kept_row
 
 abbrev stayed : Stays (f.ended).signature.params (f.ended).kept
 stayed = (stay_dropped (mut_ref_to (0 ∷ []) tt (plain (λ _. Row))) no, tt)
@@ -60,20 +60,20 @@ module _ {M : Type 1} {𝓤 : Ura M} (𝓛 : Logic 𝓤) (at_mem : Memory → SP
   abbrev c : Clauses 𝓤 f.ended
   c = f.clauses 𝓛 at_mem run
 
-  abbrev bound : Option Seen → (walk_of 𝓛 f.ended stayed c).Ghost
+  abbrev bound : Option Kept → (walk_of 𝓛 f.ended stayed c).Ghost
   bound k = (((κ, tt), (q, tt), tt, (record { ref_ptr = (rb, ro); ghost_name = γ; now = record { at = p; alloc = al; machine = k } }, tt), (vptr rb ro ∷ [], tt)), tt)
 
-  abbrev Post : Option Seen → Val → SProp 𝓤
+  abbrev Post : Option Kept → Val → SProp 𝓤
   Post k = (walk_of 𝓛 f.ended stayed c).post (bound k)
 
-  abbrev Entry : Option Seen → SProp 𝓤
+  abbrev Entry : Option Kept → SProp 𝓤
   Entry k = on_entry 𝓛 (f.ended).signature (κ, tt) (q, tt) (bound k).0.3 (vptr rb ro ∷ [], tt)
 
-  module _ (x : Seen) where
+  module _ (x : Kept) where
     abbrev d : Handle
     d = record { at = p; alloc = al; machine = Some x }
 
-    abbrev v : Seen → D E
+    abbrev v : Kept → D E
     v w = record { ptr = p; alloc = al; value = w }
 
     module _ (b o : ℕ) (hv : Val) where
@@ -81,7 +81,7 @@ module _ {M : Type 1} {𝓤 : Ura M} (𝓛 : Logic 𝓤) (at_mem : Memory → SP
       abbrev Rest : Fml
       Rest = fsep (fsep (token E.al al (bare (τ E)) (block_ptr b o)) (handle E al hv)) (cell_at full_share Row.mir (word E hv b o ∷ []) rb ro)
 
-      back : p ≡ block_ptr b o → (w : Seen) → ent 𝓤 (sep 𝓤 (sem 𝓛 ((mem In).own_at w b o)) (sem 𝓛 Rest)) (sem 𝓛 ((mem Row).own_at (with_machine d w) rb ro))
+      back : p ≡ block_ptr b o → (w : Kept) → ent 𝓤 (sep 𝓤 (sem 𝓛 ((mem In).own_at w b o)) (sem 𝓛 Rest)) (sem 𝓛 ((mem Row).own_at (with_machine d w) rb ro))
       unfolding part_of
       back at_b w =
           qed 𝓛 (‵ (part_at (R E) full_share w b o) ∷ ‵ Rest ∷ []) ∵ move ! (1 ∷ []) $ fsplit ! $ fsplit ! $ move ! (3 ∷ []) $
@@ -119,9 +119,9 @@ module _ {M : Type 1} {𝓤 : Ura M} (𝓛 : Logic 𝓤) (at_mem : Memory → SP
           keep ! (0 ∷ []) $ by ! (exits b o hv γ')))))
 
   module _ (C : Calls 𝓤 H) (Λ : Loops 𝓤 H) where
-    at_each : (k : Option Seen) → ent 𝓤 (sep 𝓤 (Entry k) (fact 𝓤 (IsSome k))) (WpFn 𝓤 H C Λ code.function (vptr rb ro ∷ []) (Post k))
-    at_each None = qed 𝓛 (raw (Entry None) ∷ raw (fact 𝓤 (IsSome {T = Seen} None)) ∷ []) ∵ move ! (1 ∷ []) $ heard ! (IsSome {T = Seen} None) (λ s. absurd (true≢false (sym s)))
-    at_each (Some x) = via 𝓤 _ (fst∗ 𝓤 (Entry (Some x)) (fact 𝓤 (IsSome {T = Seen} (Some x)))) (walk x C Λ)
+    at_each : (k : Option Kept) → ent 𝓤 (sep 𝓤 (Entry k) (fact 𝓤 (IsSome k))) (WpFn 𝓤 H C Λ code.function (vptr rb ro ∷ []) (Post k))
+    at_each None = qed 𝓛 (raw (Entry None) ∷ raw (fact 𝓤 (IsSome {T = Kept} None)) ∷ []) ∵ move ! (1 ∷ []) $ heard ! (IsSome {T = Kept} None) (λ s. absurd (true≢false (sym s)))
+    at_each (Some x) = via 𝓤 _ (fst∗ 𝓤 (Entry (Some x)) (fact 𝓤 (IsSome {T = Kept} (Some x)))) (walk x C Λ)
 
 pub get_mut_spec : {M : Type 1} → statement M
 get_mut_spec 𝓤 𝓛 𝓜 𝓡 wired =

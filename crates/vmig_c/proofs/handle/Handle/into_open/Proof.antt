@@ -3,7 +3,7 @@ use mathlib.Core.Path.{refl, sym, subst}
 use Rattle.std.specs.Prelude.{Option, IsSome}
 use contract.Monad.{fact}
 use denote.Steps.{heard}
-use Rattle.machine.specs.Seen.{Seen}
+use Rattle.vmig_c.specs.declared.kept.Kept.{Kept}
 use Rattle.vmig_c.specs.contracts.handle.Handle as Handle
 use Rattle.vmig_c.proofs.Options.{some_of, some_is}
 use mathlib.Core.List.{List, [], ◌∷◌, ◌++◌}
@@ -48,12 +48,12 @@ module _ {M : Type 1} {𝓤 : Ura M} (𝓛 : Logic 𝓤) (at_mem : Memory → SP
       let Post = (walk_of 𝓛 F.ended stayed (F.clauses 𝓛 at_mem run)).post z in
       let d = z.0.3.0 in
       qed 𝓛 ((‵ ftrue ⊛ ‵ (fsep ((Handle.the_row).own_val d z.0.4.0) ftrue)) ∷ raw (fact 𝓤 (IsSome d.machine)) ∷ []) ∵ move ! (1 ∷ []) $ heard ! (IsSome d.machine) (λ s.
-      let x : Seen = some_of d.machine s in
+      let x : Kept = some_of d.machine s in
       let v : D E = record { ptr = d.at; alloc = d.alloc; value = x } in
       let To = type_at (F.signature).result tt in
       let made : To.Denot = record { address = v.ptr; heap = v.alloc; held = v.value } in
       split ! $ drop ! $ fsplit ! $
-      rewrite ! 0 (λ (k : Option Seen). ‵ ((Handle.the_row).own_val (record { at = d.at; alloc = d.alloc; machine = k }) z.0.4.0)) (some_is d.machine s) refl $
+      rewrite ! 0 (λ (k : Option Kept). ‵ ((Handle.the_row).own_val (record { at = d.at; alloc = d.alloc; machine = k }) z.0.4.0)) (some_is d.machine s) refl $
       use1 𝓛 (‵ ((B E).own_val v z.0.4.0)) (id⊢ 𝓤 _) $
       box_out E ! v z.0.4.0 (λ b o hv e ws fa. box_in E ! v b o v.value e refl $ use1 𝓛 (‵ (To.own_val made (word E hv b o ∷ []))) (id⊢ 𝓤 _) $ move ! (1 ∷ []) $ drop ! $
       let w = word E hv b o in

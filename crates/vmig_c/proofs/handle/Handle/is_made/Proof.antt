@@ -37,7 +37,7 @@ use Rattle.std.proofs.BoxSteps.Steps.{box_out, box_in}
 use Rattle.std.proofs.alloc.Calls.{token}
 use Rattle.std.proofs.mem.Facts.{says_two}
 use Rattle.vmig_c.proofs.AsBox.{E}
-use Rattle.machine.specs.Seen.{Seen}
+use Rattle.vmig_c.specs.declared.kept.Kept.{Kept}
 use Rattle.vmig_c.specs.declared.handle.Handle.{Handle}
 use Rattle.vmig_c.specs.contracts.handle.Handle as held
 use Rattle.vmig_c.proofs.handle.Handle.TheLaws.{lowers}
@@ -60,7 +60,7 @@ typed (block_ptr b o) = (tt, tt)
 typed null_ptr = (tt, record { fits = lit< tt })
 
 -- What the pointer of a handle can be.
-abbrev Points : Ptr → Option Seen → Type 0
+abbrev Points : Ptr → Option Kept → Type 0
 Points p k = (s : Ptr) × (p ≡ s) × T (ptr_eq_ok (ptr_val s) vnull) × ((answer s).0 ≡ is_some k)
 
 module _ {M : Type 1} {𝓤 : Ura M} (𝓛 : Logic 𝓤) (at_mem : Memory → SProp 𝓤) (run : Routine → Fun 𝓤) (κ : Lft) (q : Share) (rb ro : ℕ) (γ : GName) (p : Ptr) (al : Global) where
@@ -69,22 +69,22 @@ module _ {M : Type 1} {𝓤 : Ura M} (𝓛 : Logic 𝓤) (at_mem : Memory → SP
   abbrev c : Clauses 𝓤 f.ended
   c = f.clauses 𝓛 at_mem run
 
-  abbrev at_k : Option Seen → Handle
+  abbrev at_k : Option Kept → Handle
   at_k k = record { at = p; alloc = al; machine = k }
 
-  abbrev bound : Option Seen → (walk_of 𝓛 f.ended stayed c).Ghost
+  abbrev bound : Option Kept → (walk_of 𝓛 f.ended stayed c).Ghost
   bound k = (((κ, tt), (q, tt), tt, (record { ref_ptr = (rb, ro); ghost_name = γ; now = at_k k }, tt), (vptr rb ro ∷ [], tt)), tt)
 
-  abbrev Pre : Option Seen → SProp 𝓤
+  abbrev Pre : Option Kept → SProp 𝓤
   Pre k = (walk_of 𝓛 f.ended stayed c).pre (bound k)
 
-  abbrev Post : Option Seen → Val → SProp 𝓤
+  abbrev Post : Option Kept → Val → SProp 𝓤
   Post k = (walk_of 𝓛 f.ended stayed c).post (bound k)
 
   tested : (b o : ℕ) → ent 𝓤 (sem 𝓛 (token E.al al (bare (τ E)) (block_ptr b o))) (guard 𝓤 (Testable (block_ptr b o)) (sem 𝓛 (token E.al al (bare (τ E)) (block_ptr b o))))
   tested b o = fact_use 𝓤 (Testable (block_ptr b o)) (dealloc_token-Testable 𝓛 al (bare (τ E)) (block_ptr b o)) (guard_i 𝓤 (Testable (block_ptr b o)) (sem 𝓛 (token E.al al (bare (τ E)) (block_ptr b o))))
 
-  tells : (k : Option Seen) (us : List Val) → ent 𝓤 (sem 𝓛 (Row.own_val (at_k k) us)) (guard 𝓤 (Points p k) (sem 𝓛 (Row.own_val (at_k k) us)))
+  tells : (k : Option Kept) (us : List Val) → ent 𝓤 (sem 𝓛 (Row.own_val (at_k k) us)) (guard 𝓤 (Points p k) (sem 𝓛 (Row.own_val (at_k k) us)))
   unfolding answer
   tells None us =
       qed 𝓛 (‵ (Row.own_val (at_k None) us) ∷ []) ∵ fsplit ! $ move ! (1 ∷ []) $ fpick ! (λ e. check ! (null_ptr, e, tt, refl) $
@@ -97,7 +97,7 @@ module _ {M : Type 1} {𝓤 : Ura M} (𝓛 : Logic 𝓤) (at_mem : Memory → SP
       use1 𝓛 (‵ (Row.own_val (at_k (Some x)) us)) (id⊢ 𝓤 _) $ done !))
 
   module _ (C : Calls 𝓤 H) (Λ : Loops 𝓤 H) where
-    at_each : (k : Option Seen) → ent 𝓤 (Pre k) (WpFn 𝓤 H C Λ code.function (vptr rb ro ∷ []) (Post k))
+    at_each : (k : Option Kept) → ent 𝓤 (Pre k) (WpFn 𝓤 H C Λ code.function (vptr rb ro ∷ []) (Post k))
     at_each k =
         let d : Handle = at_k k in
         let Cell = λ (ws : List Val). ‵ (cell_at full_share Row.mir ws rb ro) in

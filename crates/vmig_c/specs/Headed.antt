@@ -1,0 +1,20 @@
+-- The header at the beginning of bytes, and disks of the sizes that it says.
+use Rattle.std.specs.Prelude.{◌≡◌, ◌⊎◌, ℕ, List}
+use Rattle.machine.specs.Shapes.{disk_sizes}
+use Rattle.machine.specs.declared.shape.Shape.{Shape}
+use Rattle.wire.specs.Header.{Begins}
+
+-- The bytes begin with a header, and the disks are of the sizes that it says.
+pub record HasHeader (bytes sizes : List ℕ) : Type 0 where
+  pub pages : ℕ
+  pub shapes : List Shape
+  pub rest : List ℕ
+  pub begins : Begins bytes pages shapes rest
+  pub sizes_are : sizes ≡ disk_sizes shapes
+
+abbrev pub HasNoHeader : List ℕ → Type 0
+HasNoHeader bytes = (pages : ℕ) (shapes : List Shape) (rest : List ℕ) → ¬ (Begins bytes pages shapes rest)
+
+-- Disks are of the sizes that the header says, if the bytes begin with one.
+abbrev pub AreFitting : List ℕ → List ℕ → Type 0
+AreFitting bytes sizes = HasHeader bytes sizes ⊎ HasNoHeader bytes

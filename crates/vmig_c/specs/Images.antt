@@ -1,0 +1,117 @@
+-- Disks whose sectors the caller gives, and sectors that go out.
+use Rattle.std.specs.Prelude.{◌≡◌, ◌⊎◌, ℕ, ◌+◌, ◌*◌, ◌==◌, not, nat_lt, if◌then◌else◌, List, [], ◌∷◌, ◌++◌, All, length, map, drop, Option, Some, None, slice_get}
+use Rattle.std.specs.List.{concat, flat_map}
+use Rattle.blk.specs.Disk.{AreSectors}
+use Rattle.blk.specs.Sectors.{Sector}
+use Rattle.machine.specs.EffectLaws.{sector_on, sectors_on}
+use Rattle.machine.specs.First.{first_machine}
+use Rattle.machine.specs.Refusal.{code_of}
+use Rattle.machine.specs.Seen.{Seen, state_of}
+use Rattle.machine.specs.Shapes.{disk_size_of, disk_sizes, sector_count}
+use Rattle.machine.specs.Sound.{IsSound}
+use Rattle.machine.specs.State.{DeviceState}
+use Rattle.machine.specs.declared.reply.Refusal.TheVariants.{NoDevice, WrongKind}
+use Rattle.machine.specs.declared.shape.Shape.{Shape}
+use Rattle.vmig_c.specs.Making.{HasNoMemory, make_refusal, shapes_of}
+use Rattle.vmig_c.specs.Moving.{IsKept}
+use Rattle.vmig_c.specs.Plain.{ArePlain}
+use Rattle.vmig_c.specs.Status.{bad_images, bad_sector, done, is_moving, no_machine, no_sector, too_small}
+use Rattle.vmig_c.specs.declared.device_shape.DeviceShape.{DeviceShape}
+use Rattle.vmig_c.specs.declared.kept.Kept.{Kept}
+use Rattle.vmig_c.specs.declared.kept.Kept.TheVariants.{Still, Moving, Arriving}
+
+-- How many sectors the disks of these devices have, and how many bytes: a sector is 512.
+abbrev pub sectors_in : List Shape → ℕ
+sectors_in [] = 0
+sectors_in (shape ∷ shapes) = sector_count shape + sectors_in shapes
+
+abbrev pub image_size : List Shape → ℕ
+image_size shapes = 512 * sectors_in shapes
+
+-- Disks of these sizes whose sectors, of 512 bytes each, are the images one behind another.
+pub record AreImages (images sizes : List ℕ) (disks : List (List (List ℕ))) : Type 0 where
+  pub sizes_are : map length disks ≡ sizes
+  pub sectors : All AreSectors disks
+  pub bytes : flat_map concat disks ≡ images
+
+-- The first machine of these, over these disks.
+pub record IsMadeWith (pages : ℕ) (shapes : List Shape) (images : List ℕ) (m : Seen) : Type 0 where
+  pub disks : List (List (List ℕ))
+  pub are : AreImages images (disk_sizes shapes) disks
+  pub first : state_of m ≡ first_machine pages shapes (map (λ d. map Some d) disks)
+  pub plain : ArePlain m
+  pub sound : IsSound (state_of m)
+
+abbrev pub KeepsMadeWith : ℕ → List Shape → List ℕ → Kept → Type 0
+KeepsMadeWith pages shapes images (Still m) = IsMadeWith pages shapes images m
+KeepsMadeWith pages shapes images _ = ⊥
+
+pub record HasMadeWith (pages : ℕ) (shapes : List DeviceShape) (images : List ℕ) (status : ℕ) (after : Option Kept) : Type 0 where
+  pub kept : Kept
+  pub is_there : after ≡ Some kept
+  pub is_made : KeepsMadeWith pages (shapes_of shapes) images kept
+  pub status_is : status ≡ done
+
+-- Why no machine is made, want of memory aside: the images are the last of what is looked at.
+abbrev pub image_refusal : Option ℕ → List DeviceShape → ℕ → Option ℕ
+image_refusal (Some refusal) shapes bytes = Some refusal
+image_refusal None shapes bytes = if bytes == image_size (shapes_of shapes) then None else Some bad_images
+
+abbrev pub MakesWithBy : Option ℕ → Option Kept → ℕ → List DeviceShape → List ℕ → ℕ → Option Kept → Type 0
+MakesWithBy (Some refusal) old pages shapes images status after = (status ≡ refusal) × (after ≡ old)
+MakesWithBy None old pages shapes images status after = HasMadeWith pages shapes images status after ⊎ HasNoMemory old status after
+
+-- A machine was made over disks that hold the images, or it is told why not, and nothing changed.
+abbrev pub MakesWith : Option Kept → ℕ → List DeviceShape → List ℕ → ℕ → Option Kept → Type 0
+MakesWith old pages shapes images status after = MakesWithBy (image_refusal (make_refusal old pages shapes) shapes (length images)) old pages shapes images status after
+
+-- Why a sector does not go out.
+abbrev pub disk_refusal : Option ℕ → ℕ → ℕ → Option ℕ
+disk_refusal None n room = Some (code_of WrongKind)
+disk_refusal (Some sectors) n room = if not (nat_lt n sectors) then Some no_sector else if nat_lt room 512 then Some too_small else None
+
+abbrev pub sector_refusal_of : Option DeviceState → ℕ → ℕ → Option ℕ
+sector_refusal_of None n room = Some (code_of NoDevice)
+sector_refusal_of (Some d) n room = disk_refusal (disk_size_of d.shape) n room
+
+abbrev pub sector_refusal : Kept → ℕ → ℕ → ℕ → Option ℕ
+sector_refusal (Moving l) dev n room = Some is_moving
+sector_refusal (Arriving r) dev n room = Some no_machine
+sector_refusal (Still m) dev n room = sector_refusal_of (slice_get (state_of m).devices dev) n room
+
+-- A sector went to the front of the buffer. A bad one did not, and the buffer is as it was.
+abbrev pub SectorTold : Option Sector → ℕ → List ℕ → List ℕ → Type 0
+SectorTold None status buf new_buf = ⊥
+SectorTold (Some None) status buf new_buf = (status ≡ bad_sector) × (new_buf ≡ buf)
+SectorTold (Some (Some bytes)) status buf new_buf = (status ≡ done) × (new_buf ≡ bytes ++ drop 512 buf)
+
+pub record ReadsOut (m : Seen) (dev n status : ℕ) (buf new_buf : List ℕ) (next : Seen) : Type 0 where
+  pub kept : IsKept m next
+  pub told : ArePlain m → SectorTold (sector_on (sectors_on (state_of m) dev) n) status buf new_buf
+
+-- It was refused, and nothing changed.
+pub record IsUnread {K : Type 0} (k : K) (refusal status : ℕ) (buf new_buf : List ℕ) (next : K) : Type 0 where
+  pub status_is : status ≡ refusal
+  pub buf_same : new_buf ≡ buf
+  pub same : next ≡ k
+
+abbrev pub ReadsOpen : Kept → ℕ → ℕ → ℕ → List ℕ → List ℕ → Kept → Type 0
+ReadsOpen (Still m) dev n status buf new_buf (Still next) = ReadsOut m dev n status buf new_buf next
+ReadsOpen _ dev n status buf new_buf _ = ⊥
+
+abbrev pub ReadsBy : Option ℕ → Kept → ℕ → ℕ → ℕ → List ℕ → List ℕ → Kept → Type 0
+ReadsBy (Some refusal) k dev n status buf new_buf next = IsUnread k refusal status buf new_buf next
+ReadsBy None k dev n status buf new_buf next = ReadsOpen k dev n status buf new_buf next
+
+abbrev pub ReadsKept : Kept → ℕ → ℕ → ℕ → List ℕ → List ℕ → Kept → Type 0
+ReadsKept k dev n status buf new_buf next = ReadsBy (sector_refusal k dev n (length buf)) k dev n status buf new_buf next
+
+pub record DoesRead (k : Kept) (dev n status : ℕ) (buf new_buf : List ℕ) (after : Option Kept) : Type 0 where
+  pub next : Kept
+  pub is_next : after ≡ Some next
+  pub does : ReadsKept k dev n status buf new_buf next
+
+-- A sector of a disk of the machine behind a handle went out. Where there is none, nothing changed.
+abbrev pub SectorRead : Option Kept → ℕ → ℕ → ℕ → List ℕ → List ℕ → Option Kept → Type 0
+SectorRead None dev n status buf new_buf after = IsUnread {K = Option Kept} None no_machine status buf new_buf after
+SectorRead (Some k) dev n status buf new_buf after = DoesRead k dev n status buf new_buf after

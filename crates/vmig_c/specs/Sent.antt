@@ -1,0 +1,57 @@
+-- The migration of a machine out of a handle, from its first call on: its history, and the bytes that C has taken. What C has
+-- taken and what waits behind it are together what a machine that is sent has written, so they are its whole stream after a
+-- stop, and what is made of them on the other side is the machine.
+use Rattle.std.specs.Prelude.{◌≡◌, ◌++◌, ℕ, List, [], Some, false, take}
+use Rattle.machine.specs.Effect.{Effect}
+use Rattle.machine.specs.Seen.{AreHonest, Seen, state_of}
+use Rattle.machine.specs.Sound.{IsSound}
+use Rattle.machine.specs.State.{MachineState}
+use Rattle.receiver.specs.Receiving.{Received}
+use Rattle.sender.specs.Calls.{Serves}
+use Rattle.sender.specs.Follows.{Relates}
+use Rattle.sender.specs.History.{History, has_fault, nothing, phase_of, then_came}
+use Rattle.sender.specs.LiveState.{LiveSeen, now}
+use Rattle.sender.specs.Stopping.{HasPlaces}
+use Rattle.sender.specs.Taking.{untaken}
+use Rattle.sender.specs.declared.event.LiveEvent.{LiveEvent}
+use Rattle.sender.specs.declared.event.LiveReply.{LiveReply}
+use Rattle.sender.specs.declared.phase.Phase.TheVariants as phases
+use Rattle.wire.specs.Sinks.{over_writer}
+use Rattle.wire.specs.Stream.{IsStream}
+use Rattle.vmig_c.specs.Awaited.{HasArrived}
+use Rattle.vmig_c.specs.Migrated.{HasTaken, IsFresh}
+use Rattle.vmig_c.specs.Moving.{IsReceivedAs}
+
+-- This happened to the machine since it began to be sent, and these bytes were taken.
+abbrev pub IsSent : MachineState → History → List ℕ → LiveSeen → Type 0
+IsSent m h taken l = Relates m h (over_writer (Some []) 0) (untaken taken l)
+
+-- So it is at first, with no history, and nothing taken.
+abbrev pub FirstIsSent : Type 0
+FirstIsSent = (m : Seen) (l : LiveSeen) → AreHonest m → IsFresh m l → IsSent (state_of m) nothing [] l
+
+-- So it stays: each call that answers adds to the history,
+pub record StaysSent (m : MachineState) (h : History) (taken : List ℕ) (e : LiveEvent) (reply : LiveReply) (next : LiveSeen) : Type 0 where
+  pub effect : Effect
+  pub is_sent : IsSent m (then_came h e reply effect) taken next
+
+abbrev pub CallsStaySent : Type 0
+CallsStaySent = (m : MachineState) (h : History) (taken : List ℕ) (e : LiveEvent) (reply : LiveReply) (l next : LiveSeen) → IsSent m h taken l → HasPlaces l → Serves l e reply next → StaysSent m h taken e reply next
+
+-- and each taking, while there was memory for what waits, adds to what was taken.
+abbrev pub TakingsStaySent : Type 0
+TakingsStaySent = (m : MachineState) (h : History) (taken buf new_buf : List ℕ) (status got : ℕ) (l next : LiveSeen) → IsSent m h taken l → has_fault h ≡ false → HasTaken l status got buf new_buf next
+    → IsSent m h (taken ++ take got new_buf) next
+
+-- After a stop what was taken, and what waits behind it, are the stream of the machine.
+abbrev pub StoppedIsWhole : Type 0
+StoppedIsWhole = (m : MachineState) (h : History) (taken : List ℕ) (l : LiveSeen) → IsSent m h taken l → IsSound m → phase_of h ≡ phases.Stopped → IsStream (taken ++ l.out.held) (now l)
+
+-- What arrives, or is received, of these bytes is the machine.
+abbrev pub ArrivedIsSent : Type 0
+ArrivedIsSent = (m : MachineState) (h : History) (taken : List ℕ) (l : LiveSeen) (r : Received) (arrived : Seen) → IsSent m h taken l → IsSound m → phase_of h ≡ phases.Stopped → r.bytes ≡ taken ++ l.out.held → HasArrived r arrived
+    → state_of arrived ≡ now l
+
+abbrev pub ReceivedIsSent : Type 0
+ReceivedIsSent = (m : MachineState) (h : History) (taken : List ℕ) (l : LiveSeen) (received : Seen) (rounds : ℕ) → IsSent m h taken l → IsSound m → phase_of h ≡ phases.Stopped → IsReceivedAs (taken ++ l.out.held) received rounds
+    → state_of received ≡ now l

@@ -1,0 +1,186 @@
+//! A machine whose stream arrives in pieces.
+
+ghost use Rattle.std.specs.Prelude.{◌≡◌, ◌++◌, IfErr, IfOk, true, false};
+ghost use Rattle.machine.specs.Shapes.{disk_sizes};
+ghost use Rattle.receiver.specs.Disks.{sizes_of};
+ghost use Rattle.vmig_c.specs.Awaited.{GoesOnWith, IsComing, IsFed, IsFedTo, TellsOf, awaited_by};
+ghost use Rattle.vmig_c.specs.Headed.{AreFitting};
+ghost use Rattle.vmig_c.specs.Plain.{mem_state};
+
+use crate::making::zero_disks;
+use machine::{Machine, MemDisk, Shape};
+use receiver::{Receiver, RecvError};
+use std::alloc::Global;
+use std::marker::Model;
+use std::mem;
+use wire::decode_header;
+
+/// How far a machine that arrives has come.
+#[derive(Drop)]
+pub enum Progress {
+    /// The header is not whole: these are the bytes so far.
+    Head(Vec<u8>),
+
+    /// The header was read, and the disks are of its sizes.
+    Body(Receiver<MemDisk>),
+
+    /// The stream was refused.
+    Failed,
+}
+
+/// A machine whose stream arrives in pieces. Its disks lie in memory, and are made as soon as the header says their sizes.
+#[derive(Drop)]
+pub struct Arrival {
+    alloc: Global,
+    progress: Progress,
+}
+
+impl Model for Arrival {
+    ghost use Rattle.receiver.specs.Receiving.{Received};
+    ghost use Rattle.vmig_c.specs.Awaited.{IsComing, awaited_by};
+
+    ghost Value = { Received };
+
+    ghost view = { λ a. awaited_by a.progress };
+
+    ghost invariant = { λ a. IsComing a.progress };
+}
+
+impl Arrival {
+    ghost use Rattle.std.specs.Prelude.{◌≡◌, ◌++◌, IfErr, IfOk, true};
+    ghost use Rattle.vmig_c.specs.Awaited.{CountsRounds, HasArrived, IsFed, TellsEnd, TellsOf, nothing_fed, refused_for_good};
+
+    /// Nothing was fed yet. It takes no memory.
+    #[tactic(auto, using(crate::proofs::Awaited::empty_head))]
+    pub(crate) fn new(alloc: Global) -> Arrival
+        ensures { result ≡ nothing_fed }
+    {
+        Arrival {
+            alloc,
+            progress: Progress::Head(Vec::new(alloc)),
+        }
+    }
+
+    /// The arrival of a stream that was refused. It takes no memory.
+    pub(crate) fn failed(alloc: Global) -> Arrival
+        ensures { result ≡ refused_for_good }
+    {
+        Arrival {
+            alloc,
+            progress: Progress::Failed,
+        }
+    }
+
+    /// Takes the next piece.
+    pub(crate) fn feed(&mut self, piece: &[u8]) -> Result<(), RecvError>
+        ensures fed { IfOk result (λ x. IsFed self.old piece.now self.new) }
+        ensures refused { IfErr result (λ e. TellsOf self.old.failed (self.old.bytes ++ piece.now) e × (self.new.failed ≡ true)) }
+    {
+        let before = mem::replace(&mut self.progress, Progress::Failed);
+        match go_on(self.alloc, before, piece) {
+            Ok(progress) => {
+                self.progress = progress;
+                Ok(())
+            }
+            Err(error) => Err(error),
+        }
+    }
+
+    /// How many rounds ended in what was fed.
+    #[tactic(auto, using(crate::proofs::Awaited::counts, crate::proofs::Awaited::head_counts))]
+    pub(crate) fn rounds(&self) -> u32
+        ensures { CountsRounds self.now.failed self.now result }
+    {
+        match &self.progress {
+            Progress::Body(receiver) => receiver.rounds(),
+            Progress::Head(_) | Progress::Failed => 0,
+        }
+    }
+
+    /// The machine whose stream was fed.
+    #[tactic(auto, using(crate::proofs::Awaited::arrived, crate::proofs::Awaited::not_arrived, crate::proofs::Awaited::head_ends))]
+    pub(crate) fn finish(self) -> Result<Machine<MemDisk>, RecvError>
+        ensures arrived { IfOk result (λ m. HasArrived self m) }
+        ensures refused { IfErr result (λ e. TellsEnd self.failed self.bytes e) }
+    {
+        let Arrival { alloc: _, progress } = self;
+        match progress {
+            Progress::Head(_) => Err(RecvError::Truncated),
+            Progress::Body(receiver) => receiver.finish(),
+            Progress::Failed => Err(RecvError::AlreadyFailed),
+        }
+    }
+}
+
+/// Takes the next piece.
+#[tactic(auto, using(crate::proofs::Awaited::more_begun, crate::proofs::Awaited::more_fed, crate::proofs::Awaited::more_refused, crate::proofs::Awaited::head_fed))]
+fn go_on(alloc: Global, progress: Progress, piece: &[u8]) -> Result<Progress, RecvError>
+    requires { IsComing progress }
+    ensures coming { IfOk result (λ next. IsComing next) }
+    ensures fed { IfOk result (λ next. IsFed (awaited_by progress) piece.now (awaited_by next)) }
+    ensures refused { IfErr result (λ e. TellsOf (awaited_by progress).failed ((awaited_by progress).bytes ++ piece.now) e) }
+{
+    match progress {
+        Progress::Head(held) => {
+            let mut held = held;
+            if held.extend_from_slice(piece).is_err() {
+                return Err(RecvError::NoMemory);
+            }
+            begin(alloc, held)
+        }
+        Progress::Body(receiver) => {
+            let mut receiver = receiver;
+            match receiver.feed(piece) {
+                Ok(()) => Ok(Progress::Body(receiver)),
+                Err(error) => Err(error),
+            }
+        }
+        Progress::Failed => Err(RecvError::AlreadyFailed),
+    }
+}
+
+/// Looks for the header. What is wrong in one that is not whole a receiver without disks tells.
+#[tactic(auto, using(crate::proofs::Awaited::begun_coming, crate::proofs::Awaited::begun_goes_on, crate::proofs::Awaited::fits_header, crate::proofs::Awaited::head_goes_on))]
+fn begin(alloc: Global, held: Vec<u8>) -> Result<Progress, RecvError>
+    ensures coming { IfOk result (λ next. IsComing next) }
+    ensures goes_on { IfOk result (λ next. GoesOnWith held.items (awaited_by next)) }
+    ensures refused { IfErr result (λ e. TellsOf false held.items e) }
+{
+    let Ok(found) = decode_header(alloc, &held) else {
+        return Err(RecvError::NoMemory);
+    };
+    match found {
+        Some(header) => match begun(alloc, &header.shapes, &held) {
+            Ok(receiver) => Ok(Progress::Body(receiver)),
+            Err(error) => Err(error),
+        },
+        None => match fed(alloc, Vec::new(alloc), &held) {
+            Ok(_receiver) => Ok(Progress::Head(held)),
+            Err(error) => Err(error),
+        },
+    }
+}
+
+/// A receiver over zeros for these devices, which was fed the bytes.
+fn begun(alloc: Global, shapes: &[Shape], bytes: &[u8]) -> Result<Receiver<MemDisk>, RecvError>
+    ensures begun { IfOk result (λ r. IsFedTo (disk_sizes shapes.now) bytes.now r) }
+    ensures refused { AreFitting bytes.now (disk_sizes shapes.now) → IfErr result (λ e. TellsOf false bytes.now e) }
+{
+    let Ok(disks) = zero_disks(alloc, shapes) else {
+        return Err(RecvError::NoMemory);
+    };
+    fed(alloc, disks, bytes)
+}
+
+/// A receiver over these disks, which was fed the bytes.
+#[tactic(auto, using(crate::proofs::Awaited::all_fed, crate::proofs::Awaited::all_refused, crate::proofs::Awaited::memory_disks))]
+fn fed(alloc: Global, disks: Vec<MemDisk>, bytes: &[u8]) -> Result<Receiver<MemDisk>, RecvError>
+    ensures fed { IfOk result (λ r. IsFedTo (sizes_of mem_state disks.items) bytes.now r) }
+    ensures refused { AreFitting bytes.now (sizes_of mem_state disks.items) → IfErr result (λ e. TellsOf false bytes.now e) }
+{
+    let mut receiver = Receiver::new(alloc, disks);
+    match receiver.feed(bytes) {
+        Ok(()) => Ok(receiver),
+        Err(error) => Err(error),
+    }
+}

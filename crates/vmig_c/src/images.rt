@@ -1,0 +1,177 @@
+//! Disks whose sectors the caller gives, and sectors that go out.
+
+ghost use Rattle.std.specs.Prelude.{◌≡◌, ◌==◌, ◌+◌, ◌*◌, ◌<◌, ◌≤◌, ◌++◌, take, drop, length, slice_set, None, IfOk};
+ghost use Rattle.std.specs.List.{concat};
+ghost use Rattle.blk.specs.Disk.{AreSectors};
+ghost use Rattle.machine.specs.Shapes.{disk_size_of, disk_sizes, sector_count};
+ghost use Rattle.vmig_c.specs.Images.{AreImages, KeepsMadeWith, ReadsKept, ReadsOut, disk_refusal, image_size, sector_refusal};
+ghost use Rattle.vmig_c.specs.Making.{shape_of, shapes_of};
+ghost use Rattle.vmig_c.specs.declared.kept.Kept.TheVariants as kepts;
+
+use crate::device_shape::DeviceShape;
+use crate::kept::Kept;
+use crate::making::shapes_of;
+use crate::moving::put_front;
+use crate::status::{
+    BAD_SECTOR, DISK_FAILED, DONE, IS_MOVING, NO_DEVICE, NO_MACHINE, NO_SECTOR, TOO_SMALL,
+    WRONG_KIND,
+};
+use guestmem::NoMemory;
+use machine::{Disk, Machine, MemDisk, SECTOR_SIZE, Shape};
+use std::alloc::Global;
+
+/// Whether so many bytes are those of the disks of these devices.
+#[tactic(auto, using(crate::proofs::Imaging::not_whole, crate::proofs::Imaging::whole_count))]
+pub(crate) fn are_images(bytes: usize, shapes: &[DeviceShape]) -> bool
+    ensures { result ≡ (bytes == image_size (shapes_of shapes.now)) }
+{
+    if bytes % SECTOR_SIZE != 0 {
+        return false;
+    }
+    let mut left = (bytes / SECTOR_SIZE) as u64;
+    for shape in shapes {
+        let sectors = count_in(shape.shape());
+        if left < sectors {
+            return false;
+        }
+        left -= sectors;
+    }
+    left == 0
+}
+
+/// How many sectors the disk of a device has.
+fn count_in(shape: Shape) -> u64
+    ensures { result ≡ sector_count shape }
+{
+    match shape {
+        Shape::Block { sectors, .. } => sectors,
+        Shape::Net { .. } | Shape::Console | Shape::Entropy => 0,
+    }
+}
+
+/// A machine in a box, over disks that hold the images. The limits and the images' length were tested, so its only error is
+/// want of memory.
+pub(crate) fn machine_with(
+    alloc: Global,
+    pages: u32,
+    shapes: &[DeviceShape],
+    images: &[u8],
+) -> Result<Box<Kept>, NoMemory>
+    requires { length images.now ≡ image_size (shapes_of shapes.now) }
+    ensures { IfOk result (λ k. KeepsMadeWith pages (shapes_of shapes.now) images.now k.value) }
+{
+    let shapes = shapes_of(alloc, shapes)?;
+    let disks = image_disks(alloc, &shapes, images)?;
+    let Ok(machine) = Machine::new(alloc, pages, &shapes, disks) else {
+        return Err(NoMemory);
+    };
+    let boxed = Box::new(alloc, Kept::Still(machine))?;
+    Ok(boxed)
+}
+
+/// A disk for each device that has one, in their order, that hold the images one behind another.
+fn image_disks(alloc: Global, shapes: &[Shape], images: &[u8]) -> Result<Vec<MemDisk>, NoMemory>
+    requires { length images.now ≡ image_size shapes.now }
+    ensures { IfOk result (λ disks. AreImages images.now (disk_sizes shapes.now) disks.items) }
+{
+    let mut disks = Vec::new(alloc);
+    let mut rest = images;
+    for shape in shapes {
+        let Shape::Block { sectors, .. } = *shape else {
+            continue;
+        };
+        let (image, others) = rest.split_at(SECTOR_SIZE * sectors as usize);
+        disks.push(disk_of(alloc, sectors, image)?)?;
+        rest = others;
+    }
+    Ok(disks)
+}
+
+/// The disk that holds an image.
+fn disk_of(alloc: Global, sectors: u64, image: &[u8]) -> Result<MemDisk, NoMemory>
+    requires { length image.now ≡ 512 * sectors }
+    ensures count { IfOk result (λ disk. length disk ≡ sectors) }
+    ensures sectors { IfOk result (λ disk. AreSectors disk) }
+    ensures bytes { IfOk result (λ disk. concat disk ≡ image.now) }
+{
+    let mut disk = MemDisk::new(alloc, sectors)?;
+    for n in 0..sectors {
+        put_sector(&mut disk, n, image);
+    }
+    let _sectors = disk.sectors();
+    Ok(disk)
+}
+
+/// A sector of the disk becomes that of the image.
+fn put_sector(disk: &mut MemDisk, n: u64, image: &[u8])
+    requires there { n < length disk.old }
+    requires image { 512 * n + 512 ≤ length image.now }
+    ensures { disk.new ≡ slice_set disk.old n (take 512 (drop (512 * n) image.now)) }
+{
+    let at = SECTOR_SIZE * n as usize;
+    let Ok(bytes) = <&[u8; SECTOR_SIZE]>::try_from(&image[at..at + SECTOR_SIZE]) else {
+        return;
+    };
+    let _done = disk.write(n, bytes);
+}
+
+/// A sector of a machine that stands still goes to the front of the buffer.
+pub(crate) fn read_sector(kept: &mut Kept, dev: u8, sector: u64, buf: &mut [u8]) -> u32
+    ensures { ReadsKept kept.old dev sector result buf.old buf.new kept.new }
+{
+    if let Some(status) = sector_refusal(kept, dev, sector, buf.len()) {
+        return status;
+    }
+    match kept {
+        Kept::Still(machine) => read_out(machine, dev, sector, buf),
+        Kept::Moving(_) => IS_MOVING,
+        Kept::Arriving(_) => NO_MACHINE,
+    }
+}
+
+/// Why a sector does not go out.
+fn sector_refusal(kept: &Kept, dev: u8, sector: u64, room: usize) -> Option<u32>
+    ensures { result ≡ sector_refusal kept.now dev sector room }
+{
+    let machine = match kept {
+        Kept::Still(machine) => machine,
+        Kept::Moving(_) => return Some(IS_MOVING),
+        Kept::Arriving(_) => return Some(NO_MACHINE),
+    };
+    if dev as usize >= machine.shapes().len() {
+        return Some(NO_DEVICE);
+    }
+    disk_refusal(machine.state(dev).shape(), sector, room)
+}
+
+fn disk_refusal(shape: Shape, sector: u64, room: usize) -> Option<u32>
+    ensures { result ≡ disk_refusal (disk_size_of shape) sector room }
+{
+    let Shape::Block { sectors, .. } = shape else {
+        return Some(WRONG_KIND);
+    };
+    if sector >= sectors {
+        return Some(NO_SECTOR);
+    }
+    if room < SECTOR_SIZE {
+        return Some(TOO_SMALL);
+    }
+    None
+}
+
+/// The machine is read for the sector, which goes out where it is good.
+fn read_out(machine: &mut Machine<MemDisk>, dev: u8, sector: u64, buf: &mut [u8]) -> u32
+    requires { sector_refusal (kepts.Still machine.old) dev sector (length buf.old) ≡ None }
+    ensures { ReadsOut machine.old dev sector result buf.old buf.new machine.new }
+{
+    let _shapes = machine.shapes();
+    let mut bytes = [0; SECTOR_SIZE];
+    match machine.read_sector(dev, sector, &mut bytes) {
+        Ok(true) => {
+            put_front(&bytes, buf);
+            DONE
+        }
+        Ok(false) => BAD_SECTOR,
+        Err(_) => DISK_FAILED,
+    }
+}
