@@ -1,10 +1,11 @@
 -- Disks as they are dealt to devices, one after another.
-use Rattle.std.proofs.Common.{◌≡◌, ℕ, List, [], ◌∷◌, ◌++◌, length, map, replicate, Bool, false, Option, Some, None, refl, ap, sym, ◌∙◌}
+use Rattle.std.proofs.Common.{◌≡◌, ℕ, ◌+◌, ◌<◌, List, [], ◌∷◌, ◌++◌, length, map, replicate, take, get_or, Bool, false, Option, Some, None, refl, ap, sym, ◌∙◌}
 use Rattle.std.specs.Option.{option_to_list}
+use Rattle.std.proofs.lemmas.List.{length-replicate, map-append, take_more}
 use Rattle.guestmem.specs.Memory.{Memory}
 use Rattle.blk.specs.Disk.{DiskState}
-use Rattle.blk.specs.Sectors.{SectorsState, seen_of, sectors_of}
-use Rattle.machine.specs.First.{AreMarksOf, dealt_sectors, dealt_marks, given, good_sectors, marked, marks_in, next_disk, left_over, saved_machine, seen_with, seen_devices}
+use Rattle.blk.specs.Sectors.{SectorsState, sectors_of}
+use Rattle.machine.specs.First.{AreMarksOf, dealt_sectors, dealt_marks, given, good_marks, marked, marked_sectors, marks_in, next_disk, left_over, saved_machine, seen_with, seen_devices}
 use Rattle.machine.specs.Held.{IsHeld}
 use Rattle.machine.specs.Seen.{DeviceSeen, Marks, disk_marks, marks_of, no_marks, sectors_of as content_of, state_of}
 use Rattle.machine.specs.Shapes.{disk_size_of}
@@ -21,14 +22,11 @@ all_seen : (content : List (List ℕ)) → sectors_of content (replicate (length
 all_seen [] = refl
 all_seen (s ∷ content) = ap (λ xs. Some s ∷ xs) (all_seen content)
 
-pub all_good_seen : (d : DiskState) → seen_of d (replicate (length d.sectors) false) ≡ good_sectors d
-all_good_seen d = rw (all_seen d.sectors) refl
-
-pub one_good : {A : Type 0} (state : A → DiskState) (all pushed : List SectorsState) (x : A) (left rest : List A) (sectors : SectorsState) (whole : List SectorsState)
-    → left ≡ x ∷ rest → sectors ≡ seen_of (state x) (replicate (length (state x).sectors) false) → pushed ≡ all ++ sectors ∷ []
-    → all ++ map (λ d. good_sectors (state d)) left ≡ whole → pushed ++ map (λ d. good_sectors (state d)) rest ≡ whole
-one_good state all pushed x left rest sectors whole left_is sectors_are pushed_is so_far =
-    rw (pushed_is, behind all sectors (map (λ d. good_sectors (state d)) rest), sectors_are, all_good_seen (state x)) (rw left_is at so_far)
+pub one_good : {A : Type 0} (state : A → DiskState) (xs : List A) (i : ℕ) (x : A) (bad pushed : List (List Bool)) (marks : List Bool) → i < length xs → x ≡ get_or xs i x → marks ≡ replicate (length (state x).sectors) false
+    → pushed ≡ bad ++ marks ∷ [] → bad ≡ good_marks (map state (take i xs)) → pushed ≡ good_marks (map state (take (i + 1) xs))
+one_good state xs i x bad pushed marks below is marks_are pushed_is so_far =
+    let more : take (i + 1) xs ≡ take i xs ++ x ∷ [] = rw (← is) at (take_more xs i x below) in
+    rw (more, map-append state (take i xs) (x ∷ []), map-append (λ (d : DiskState). replicate (length d.sectors) false) (map state (take i xs)) (state x ∷ []), pushed_is, so_far, marks_are) refl
 
 -- A device without a disk, and one that gets the next.
 pub next_without : (all pushed : List DeviceSeen) (d : DeviceState) (left rest : List DeviceState) (disks others : List SectorsState) (disk : Option SectorsState) (device : DeviceSeen) (whole : List DeviceSeen)
@@ -107,13 +105,13 @@ pub are_marks : (shapes : List Shape) (states : List DeviceState) (disks : List 
 are_marks shapes states disks marks ds is same marks_are = ap (map (λ (x : DeviceSeen). x.marks)) is ∙ seen_marks states disks ∙ rw (same, marks_are) refl
 
 -- The marks and the sectors of disks.
-pub good_marks : {A : Type 0} (state : A → DiskState) (xs : List A) → map disk_marks (map (λ x. good_sectors (state x)) xs) ≡ map (λ x. marks_in (state x)) xs
-good_marks state [] = refl
-good_marks state (x ∷ xs) = ap (λ ms. marks_in (state x) ∷ ms) (good_marks state xs)
-
-pub good_content : {A : Type 0} (state : A → DiskState) (xs : List A) → map (λ (s : SectorsState). s.content) (map (λ x. good_sectors (state x)) xs) ≡ map (λ x. map Some (state x).sectors) xs
+pub good_content : {A : Type 0} (state : A → DiskState) (xs : List A) → marked_sectors (map state xs) (good_marks (map state xs)) ≡ map (λ x. map Some (state x).sectors) xs
 good_content state [] = refl
-good_content state (x ∷ xs) = ap (λ ss. map Some (state x).sectors ∷ ss) (good_content state xs)
+good_content state (x ∷ xs) = rw (all_seen (state x).sectors, good_content state xs) refl
+
+pub good_are_marks : (disks : List DiskState) → AreMarksOf disks (good_marks disks)
+good_are_marks [] = refl
+good_are_marks (d ∷ disks) = rw (length-replicate (length d.sectors) false, good_are_marks disks) refl
 
 pub marked_marks : {A : Type 0} (state : A → DiskState) (xs : List A) (bad : List (List Bool)) → AreMarksOf (map state xs) bad → map disk_marks (marked (map state xs) bad) ≡ map (λ x. marks_in (state x)) xs
 marked_marks state [] bad are = refl

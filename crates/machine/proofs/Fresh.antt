@@ -7,20 +7,18 @@ use Rattle.std.proofs.lemmas.List.Elements.{All-map, All-nil}
 use Rattle.std.proofs.lemmas.Bool.{eqb-false}
 use borrow.Author.Tests.{ltb-false}
 use Rattle.blk.proofs.Zeros.{zero_bytes}
-use Rattle.blk.specs.Disk.{DiskState}
-use Rattle.blk.specs.Sectors.{Sector, SectorsState, AreWhole, IsWhole}
-use Rattle.guestmem.specs.Memory.{Memory}
+use Rattle.blk.specs.Disk.{AreSectors, DiskState}
+use Rattle.blk.specs.Sectors.{Sector, AreWhole, IsWhole}
 use Rattle.mmio.proofs.StayingSound.{first_sound}
-use Rattle.machine.specs.First.{HasBytes, are_beyond, are_same, dealt_marks, dealt_sectors, first_machine, good_sectors, marks_in, new_refusal, saved_machine, seen_devices}
-use Rattle.machine.specs.Held.{IsHeld}
-use Rattle.machine.specs.Seen.{DeviceSeen, disk_marks, state_of}
+use Rattle.machine.specs.First.{HasBytes, are_beyond, are_same, dealt_sectors, first_machine, good_marks, marked_sectors, new_refusal, saved_machine}
+use Rattle.machine.specs.Parts.{ArePartsFor, PartsSeen, machine_of}
 use Rattle.machine.specs.Shapes.{disk_sizes, first_device, is_beyond, sector_count}
 use Rattle.machine.specs.Sound.{IsSound, IsSoundDevice}
 use Rattle.machine.specs.State.{DeviceState}
 use Rattle.machine.specs.declared.new_error.NewError.TheVariants.{BadShape, DiskMismatch}
 use Rattle.machine.specs.declared.shape.Shape.{Shape}
 use Rattle.machine.specs.declared.shape.Shape.TheVariants.{Net, Block, Console, Entropy}
-use Rattle.machine.proofs.Dealt.{are_marks, good_content, good_marks, is_held, is_made}
+use Rattle.machine.proofs.Dealt.{good_are_marks, good_content}
 use Rattle.machine.proofs.Disks.{same_sizes}
 use Rattle.machine.proofs.Numbering.{shape_counts}
 
@@ -198,33 +196,29 @@ first_is_saved pages shapes disks bytes states zeros are =
     rw (are, first_shapes (length bytes) shapes, long, zeros) refl
 
 -- The sectors of good disks.
-pub good_sizes : {A : Type 0} (state : A → DiskState) (xs : List A) → map length (map (λ x. map Some (state x).sectors) xs) ≡ map (λ x. length (state x).sectors) xs
+good_sizes : {A : Type 0} (state : A → DiskState) (xs : List A) → map length (map (λ x. map Some (state x).sectors) xs) ≡ map (λ x. length (state x).sectors) xs
 good_sizes state [] = refl
 good_sizes state (x ∷ xs) = rw (length-map, good_sizes state xs) refl
 
-pub good_whole : {A : Type 0} (state : A → DiskState) (xs : List A) (all : List SectorsState) → all ≡ map (λ x. good_sectors (state x)) xs → All (λ (s : SectorsState). AreWhole s.content) all
-    → All AreWhole (map (λ x. map Some (state x).sectors) xs)
-good_whole state xs all are whole =
-    let one : All AreWhole (map (λ (s : SectorsState). s.content) all) = All-map AreWhole (λ (s : SectorsState). s.content) all whole in
-    rw (are, good_content state xs) at one
+good_whole : {A : Type 0} (state : A → DiskState) (xs : List A) → All (λ x. AreSectors (state x).sectors) xs → All AreWhole (map (λ x. map Some (state x).sectors) xs)
+good_whole state xs whole = All-map AreWhole (λ x. map Some (state x).sectors) xs (λ k d below. All-map IsWhole Some (state (get_or xs k d)).sectors (whole k d below))
 
--- What a machine that was made is, and that it is held.
-pub record IsFresh {A : Type 0} (state : A → DiskState) (pages : ℕ) (shapes kept : List Shape) (xs : List A) (m : Memory) (ds : List DeviceSeen) : Type 0 where
-  pub made : state_of (record { memory = m; devices = ds }) ≡ first_machine pages shapes (map (λ x. map Some (state x).sectors) xs)
-  pub marks : map (λ (x : DeviceSeen). x.marks) ds ≡ dealt_marks shapes (map (λ x. marks_in (state x)) xs)
-  pub held : IsHeld kept (record { memory = m; devices = ds })
+-- The parts of a new machine: they are parts for its disks, and make it with them.
+pub record AreFirst {A : Type 0} (state : A → DiskState) (pages : ℕ) (shapes : List Shape) (xs : List A) (p : PartsSeen) : Type 0 where
+  pub parts : ArePartsFor (map state xs) p
+  pub made : machine_of p (map state xs) ≡ first_machine pages shapes (map (λ x. map Some (state x).sectors) xs)
 
-pub is_fresh : {A : Type 0} (state : A → DiskState) (pages : ℕ) (shapes held : List Shape) (xs : List A) (m : Memory) (states : List DeviceState) (sectors : List SectorsState) (ds : List DeviceSeen)
-    → new_refusal pages shapes (map (λ x. length (state x).sectors) xs) ≡ None → All HasBytes shapes → m.bytes ≡ replicate (4096 * pages) 0 → states ≡ map (first_device (length m.bytes)) shapes
-    → sectors ≡ map (λ x. good_sectors (state x)) xs → All (λ (s : SectorsState). AreWhole s.content) sectors → ds ≡ seen_devices states sectors → held ≡ shapes → IsFresh state pages shapes held xs m ds
-is_fresh state pages shapes held xs m states sectors ds none ids zeros states_are good whole ds_are same =
+pub are_first : {A : Type 0} (state : A → DiskState) (pages : ℕ) (shapes : List Shape) (xs : List A) (p : PartsSeen) → new_refusal pages shapes (map (λ x. length (state x).sectors) xs) ≡ None → All HasBytes shapes
+    → All (λ x. AreSectors (state x).sectors) xs → p.ram ≡ replicate (4096 * pages) 0 → p.shapes ≡ shapes → p.states ≡ map (first_device (length p.ram)) shapes → p.bad ≡ good_marks (map state xs) → AreFirst state pages shapes xs p
+are_first state pages shapes xs p none ids whole zeros same states_are bad_are =
     let disks : List (List Sector) = map (λ x. map Some (state x).sectors) xs in
-    let content : map (λ (s : SectorsState). s.content) sectors ≡ disks = ap (map (λ (s : SectorsState). s.content)) good ∙ good_content state xs in
-    let first : saved_machine m.bytes states disks ≡ first_machine pages shapes disks = first_is_saved pages shapes disks m.bytes states zeros states_are in
-    let sound : IsSound (first_machine pages shapes disks) = first_machine_sound pages shapes (map (λ x. length (state x).sectors) xs) disks none ids (good_sizes state xs) (good_whole state xs sectors good whole) in
-    let shapes_are : map (λ (d : DeviceState). d.shape) states ≡ shapes = ap (map (λ (d : DeviceState). d.shape)) states_are ∙ first_shapes (length m.bytes) shapes in
+    let content : marked_sectors (map state xs) p.bad ≡ disks = ap (marked_sectors (map state xs)) bad_are ∙ good_content state xs in
+    let made : machine_of p (map state xs) ≡ first_machine pages shapes disks = ap (saved_machine p.ram p.states) content ∙ first_is_saved pages shapes disks p.ram p.states zeros states_are in
     record {
-      made = is_made m states sectors ds ds_are ∙ ap (saved_machine m.bytes states) content ∙ first;
-      marks = are_marks shapes states sectors (map (λ x. marks_in (state x)) xs) ds ds_are (sym shapes_are) (ap (map disk_marks) good ∙ good_marks state xs);
-      held = is_held held m states sectors ds ds_are (rw (content, first) sound) (same ∙ sym shapes_are);
+      parts = record {
+        sound = rw made (first_machine_sound pages shapes (map (λ x. length (state x).sectors) xs) disks none ids (good_sizes state xs) (good_whole state xs whole));
+        shapes = same ∙ sym (ap (map (λ (d : DeviceState). d.shape)) states_are ∙ first_shapes (length p.ram) shapes);
+        marks = rw bad_are (good_are_marks (map state xs));
+      };
+      made = made;
     }

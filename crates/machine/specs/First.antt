@@ -76,10 +76,11 @@ HasBytes _ = Unit {0}
 abbrev pub marks_in : DiskState → Marks
 marks_in d = record { failures = d.failures; honest = d.honest; steady = d.steady }
 
--- A disk whose sectors are all good, and disks of whose sectors these are bad.
-abbrev pub good_sectors : DiskState → SectorsState
-good_sectors d = record { content = map Some d.sectors; failures = d.failures; honest = d.honest; steady = d.steady }
+-- Marks of disks none of whose sectors is bad.
+abbrev pub good_marks : List DiskState → List (List Bool)
+good_marks disks = map (λ d. replicate (length d.sectors) false) disks
 
+-- Disks of whose sectors these are bad.
 abbrev pub marked : List DiskState → List (List Bool) → List SectorsState
 marked [] bad = []
 marked (d ∷ ds) [] = []

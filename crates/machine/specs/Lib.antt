@@ -11,6 +11,7 @@ pub mod Layout
 pub mod Lines
 pub mod Looked
 pub mod Outcome
+pub mod Parts
 pub mod QueuePositions
 pub mod Refusal
 pub mod Run

@@ -13,7 +13,7 @@ use std::marker::Model;
 
 /// A device with the disk that belongs to it, if its shape has one.
 #[derive(Drop)]
-pub(crate) struct Device<D: Disk> {
+pub struct Device<D: Disk> {
     state: DeviceState,
     disk: Option<Sectors<D>>,
 }
@@ -38,7 +38,7 @@ impl<D: Disk> Device<D> {
     ghost use Rattle.machine.specs.Shapes.{sector_count};
 
     /// A device, and the disk that belongs to it.
-    pub fn new(state: DeviceState, disk: Option<Sectors<D>>) -> Device<D>
+    pub(crate) fn new(state: DeviceState, disk: Option<Sectors<D>>) -> Device<D>
         ensures { result ≡ record { state = state; sectors = sectors_of disk; marks = marks_of disk } }
     {
         Device { state, disk }
@@ -51,34 +51,43 @@ impl<D: Disk> Device<D> {
         &self.state
     }
 
-    pub fn read_register(&self, offset: u32, width: u8) -> u32
+    /// The sectors of its disk, if it has one.
+    pub fn into_sectors(self) -> Option<Sectors<D>>
+        ensures sectors { self.sectors ≡ sectors_of result }
+        ensures marks { self.marks ≡ marks_of result }
+    {
+        let Device { state: _, disk } = self;
+        disk
+    }
+
+    pub(crate) fn read_register(&self, offset: u32, width: u8) -> u32
         ensures { result ≡ register_value_of self.now.state offset width }
     {
         self.state.read_register(offset, width)
     }
 
-    pub fn write_register(&mut self, offset: u32, width: u8, value: u32) -> Option<u8>
+    pub(crate) fn write_register(&mut self, offset: u32, width: u8, value: u32) -> Option<u8>
         ensures device { self.new ≡ record self.old { state = register_set self.old.state offset width value } }
         ensures out { result ≡ written_out self.old.state.own offset width value }
     {
         self.state.write_register(offset, width, value)
     }
 
-    pub fn resize(&mut self, size: ConsoleSize) -> Result<(), Refusal>
+    pub(crate) fn resize(&mut self, size: ConsoleSize) -> Result<(), Refusal>
         ensures state { ResizesDevice self.old.state size result self.new.state }
         ensures disk { self.new ≡ record self.old { state = self.new.state } }
     {
         self.state.resize(size)
     }
 
-    pub fn input(&mut self, bytes: &[u8]) -> Result<u32, Refusal>
+    pub(crate) fn input(&mut self, bytes: &[u8]) -> Result<u32, Refusal>
         ensures count { result ≡ input_of self.old.state.own bytes.now }
         ensures device { self.new ≡ record self.old { state = with_input self.old.state bytes.now } }
     {
         self.state.input(bytes)
     }
 
-    pub fn step<L: TouchLog>(
+    pub(crate) fn step<L: TouchLog>(
         &mut self,
         alloc: Global,
         number: u8,
@@ -118,7 +127,7 @@ impl<D: Disk> Device<D> {
     }
 
     /// Reads a sector of the disk, unless it is bad. Where it is not read, the buffer may hold anything.
-    pub fn read_sector(&mut self, n: u64, buf: &mut [u8; 512]) -> Fetched
+    pub(crate) fn read_sector(&mut self, n: u64, buf: &mut [u8; 512]) -> Fetched
         requires { n < length self.old.sectors }
         ensures state { self.new.state ≡ self.old.state }
         ensures sectors { self.new.sectors ≡ self.old.sectors }

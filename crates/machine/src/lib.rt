@@ -36,6 +36,7 @@ mod shape;
 mod state;
 
 pub use blk::{Disk, DiskFault, FaultDisk, FileDisk, MemDisk, SECTOR_SIZE};
+pub use device::Device;
 pub use event::Event;
 pub use fitting::are_disks_of;
 pub use guestmem::Bytes;

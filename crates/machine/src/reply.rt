@@ -102,3 +102,28 @@ pub enum Reply {
     /// The event was refused. Nothing has changed.
     Refused(Refusal),
 }
+
+impl Reply {
+    ghost use Rattle.std.specs.Prelude.{◌≡◌};
+    ghost use Rattle.machine.specs.Direct.{accepted_reply, done_reply};
+
+    /// The reply to an event that is done, or is refused.
+    pub fn from_done(answer: Result<(), Refusal>) -> Reply
+        ensures { result ≡ done_reply answer }
+    {
+        match answer {
+            Ok(()) => Reply::Done,
+            Err(refusal) => Reply::Refused(refusal),
+        }
+    }
+
+    /// The reply to an input, of which so many bytes were kept, or which is refused.
+    pub fn from_accepted(answer: Result<u32, Refusal>) -> Reply
+        ensures { result ≡ accepted_reply answer }
+    {
+        match answer {
+            Ok(count) => Reply::Accepted(count),
+            Err(refusal) => Reply::Refused(refusal),
+        }
+    }
+}

@@ -3,7 +3,7 @@
 ghost use Rattle.std.specs.Prelude.{◌≡◌, map, length, IfOk, OnErr};
 ghost use Rattle.guestmem.specs.Later.{IsLater};
 ghost use Rattle.machine.specs.Applied.{FailOnlyUnsteady, IsApplied, IsAppliedLogged, MayItems, marks_run};
-ghost use Rattle.machine.specs.Direct.{value_reply, done_reply, accepted_reply, written_result};
+ghost use Rattle.machine.specs.Direct.{value_reply, written_result};
 ghost use Rattle.machine.specs.Outcome.{outcome_of};
 ghost use Rattle.machine.specs.Run.{IsRun};
 ghost use Rattle.machine.specs.Seen.{AreHonest, state_of, all_marks};
@@ -39,11 +39,15 @@ impl<D: Disk> Machine<D> {
             } => written(self.write_register(*dev, *off, *width, *value)),
             Event::MemRead { addr, len } => self.read_bytes(*addr, *len),
             Event::MemWrite { addr, bytes } => {
-                done(self.write_ram_logged(*addr, bytes.as_slice(), log))
+                Reply::from_done(self.write_ram_logged(*addr, bytes.as_slice(), log))
             }
             Event::Step { dev, pick } => self.step_logged(*dev, *pick, log),
-            Event::Input { dev, bytes } => accepted(self.input(*dev, bytes.as_slice())),
-            Event::Resize { dev, cols, rows } => done(self.resize(*dev, *cols, *rows)),
+            Event::Input { dev, bytes } => {
+                Reply::from_accepted(self.input(*dev, bytes.as_slice()))
+            }
+            Event::Resize { dev, cols, rows } => {
+                Reply::from_done(self.resize(*dev, *cols, *rows))
+            }
         }
     }
 
@@ -98,24 +102,6 @@ fn written(answer: Result<Option<u8>, Refusal>) -> Reply
     match answer {
         Ok(Some(byte)) => Reply::OutByte(byte),
         Ok(None) => Reply::Done,
-        Err(refusal) => Reply::Refused(refusal),
-    }
-}
-
-fn done(answer: Result<(), Refusal>) -> Reply
-    ensures { result ≡ done_reply answer }
-{
-    match answer {
-        Ok(()) => Reply::Done,
-        Err(refusal) => Reply::Refused(refusal),
-    }
-}
-
-fn accepted(answer: Result<u32, Refusal>) -> Reply
-    ensures { result ≡ accepted_reply answer }
-{
-    match answer {
-        Ok(count) => Reply::Accepted(count),
         Err(refusal) => Reply::Refused(refusal),
     }
 }

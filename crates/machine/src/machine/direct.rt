@@ -97,7 +97,8 @@ impl<D: Disk> Machine<D> {
         self.step_logged(dev, pick, &mut NoLog)
     }
 
-    pub(super) fn write_ram_logged<L: TouchLog>(
+    /// Does what `write_ram` does, and tells the log each page that is written, also with what was there.
+    pub fn write_ram_logged<L: TouchLog>(
         &mut self,
         addr: u64,
         bytes: &[u8],

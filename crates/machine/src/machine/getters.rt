@@ -8,6 +8,7 @@ ghost use Rattle.machine.specs.Seen.{state_of};
 ghost use Rattle.machine.specs.Lines.{lines_of};
 ghost use Rattle.machine.specs.Sound.{IsSound};
 
+use crate::device::Device;
 use crate::machine::Machine;
 use crate::shape::Shape;
 use crate::state::DeviceState;
@@ -61,6 +62,19 @@ impl<D: Disk> Machine<D> {
             Fetched::Bad => Ok(false),
             Fetched::Failed => Err(DiskFault),
         }
+    }
+
+    /// The devices, in order, each with its disk. The RAM is let go of.
+    pub fn into_devices(self) -> Vec<Device<D>>
+        ensures { result.items ≡ self.devices }
+    {
+        let Machine {
+            alloc: _,
+            ram: _,
+            shapes: _,
+            devices,
+        } = self;
+        devices
     }
 
     /// The RAM.

@@ -1,20 +1,21 @@
 //! Machines that are made, or were saved.
 
 ghost use Rattle.std.specs.Prelude.{◌≡◌, ◌≤◌, length, map, All, Err, None, Some, IfOk, IfErr, IfSome};
-ghost use Rattle.blk.specs.Sectors.{AreWhole};
+ghost use Rattle.blk.specs.Disk.{AreSectors};
+ghost use Rattle.machine.specs.Parts.{ArePartsFor, machine_of};
 ghost use Rattle.machine.specs.Seen.{state_of, all_marks};
 ghost use Rattle.machine.specs.Shapes.{first_device, is_beyond};
-ghost use Rattle.machine.specs.First.{AreMarksOf, HasBytes, are_beyond, dealt_marks, first_machine, good_sectors, marked, marked_sectors, marks_in, saved_machine, seen_devices, new_refusal};
+ghost use Rattle.machine.specs.First.{AreMarksOf, HasBytes, are_beyond, dealt_marks, first_machine, good_marks, marked_sectors, marks_in, saved_machine, new_refusal};
 ghost use Rattle.machine.specs.Sound.{IsSound};
 ghost use Rattle.machine.specs.declared.new_error.NewError.TheVariants as new_error;
 
-use crate::device::Device;
-use crate::fitting::{are_disks_of, disk_size};
+use crate::fitting::are_disks_of;
+use crate::machine::parts::Parts;
 use crate::machine::{DEVICES_MAX, Machine};
 use crate::new_error::NewError;
 use crate::shape::{SECTORS_MAX, Shape};
 use crate::state::DeviceState;
-use blk::{Disk, Sectors};
+use blk::Disk;
 use dirtylog::BitSet;
 use guestmem::{NoMemory, PAGES_MAX, Ram, recall_bytes};
 use std::alloc::Global;
@@ -36,21 +37,34 @@ impl<D: Disk + Drop> Machine<D> {
         ensures refused { IfSome (new_refusal ram_pages shapes.now (map (λ d. length (D.state d).sectors) disks.items)) (λ error. result ≡ Err error) }
         ensures memory { new_refusal ram_pages shapes.now (map (λ d. length (D.state d).sectors) disks.items) ≡ None → IfErr result (λ error. error ≡ new_error.NoMemory) }
     {
-        if let Some(error) = refusal(ram_pages, shapes, disks.as_slice()) {
-            return Err(error);
+        match Machine::new_or_back(alloc, ram_pages, shapes, disks) {
+            Ok(machine) => Ok(machine),
+            Err((error, _disks)) => Err(error),
         }
-        recall_all(shapes);
-        let ram = Ram::new(alloc, ram_pages)?;
-        let states = new_states(alloc, shapes, ram.len())?;
-        let sectors = all_good(alloc, disks)?;
-        let devices = with_disks(alloc, states, sectors)?;
-        let shapes = Vec::from_slice(alloc, shapes)?;
-        Ok(Machine {
-            alloc,
-            ram,
-            shapes,
-            devices,
-        })
+    }
+
+    /// Such a machine (as `new` makes); a refusal gives the disks back, as they were.
+    pub fn new_or_back(
+        alloc: Global,
+        ram_pages: u32,
+        shapes: &[Shape],
+        disks: Vec<D>,
+    ) -> Result<Machine<D>, (NewError, Vec<D>)>
+        ensures made { IfOk result (λ m. state_of m ≡ first_machine ram_pages shapes.now (map (λ d. map Some (D.state d).sectors) disks.items)) }
+        ensures marks { IfOk result (λ m. all_marks m ≡ dealt_marks shapes.now (map (λ d. marks_in (D.state d)) disks.items)) }
+        ensures sound { IfOk result (λ m. IsSound (state_of m)) }
+        ensures back { IfErr result (λ x. x.1.items ≡ disks.items) }
+        ensures refused { IfSome (new_refusal ram_pages shapes.now (map (λ d. length (D.state d).sectors) disks.items)) (λ error. result ≡ Err (error, disks)) }
+        ensures memory { new_refusal ram_pages shapes.now (map (λ d. length (D.state d).sectors) disks.items) ≡ None → IfErr result (λ x. x.0 ≡ new_error.NoMemory) }
+    {
+        if let Some(error) = refusal(ram_pages, shapes, disks.as_slice()) {
+            return Err((error, disks));
+        }
+        // All memory is got before the first disk is moved out of its list.
+        match first_parts(alloc, ram_pages, shapes, disks.as_slice()) {
+            Ok(parts) => Ok(parts.with_disks(disks)),
+            Err(NoMemory) => Err((NewError::NoMemory, disks)),
+        }
     }
 
     /// A machine as it was saved, whose block devices get the disks in order, and their marks of bad sectors. The caller has
@@ -70,69 +84,9 @@ impl<D: Disk + Drop> Machine<D> {
         ensures marks { IfOk result (λ m. all_marks m ≡ dealt_marks shapes.items (map (λ d. marks_in (D.state d)) disks.items)) }
         ensures sound { IfOk result (λ m. IsSound (state_of m)) }
     {
-        let sectors = all_marked(alloc, disks, bad)?;
-        let devices = with_disks(alloc, states, sectors)?;
-        Ok(Machine {
-            alloc,
-            ram,
-            shapes,
-            devices,
-        })
+        let parts = Parts::new(alloc, ram, shapes, states, bad)?;
+        Ok(parts.with_disks(disks))
     }
-}
-
-/// The disks with all their sectors good.
-fn all_good<D: Disk + Drop>(alloc: Global, disks: Vec<D>) -> Result<Vec<Sectors<D>>, NoMemory>
-    ensures good { IfOk result (λ all. all.items ≡ map (λ d. good_sectors (D.state d)) disks.items) }
-    ensures whole { IfOk result (λ all. All (λ s. AreWhole s.content) all.items) }
-{
-    let mut all = Vec::with_capacity(alloc, disks.len())?;
-    for disk in disks {
-        let sectors = Sectors::new(alloc, disk)?;
-        sectors.recall();
-        all.push(sectors)?;
-    }
-    Ok(all)
-}
-
-/// The disks with these marks of bad sectors.
-fn all_marked<D: Disk + Drop>(
-    alloc: Global,
-    disks: Vec<D>,
-    bad: Vec<BitSet>,
-) -> Result<Vec<Sectors<D>>, NoMemory>
-    requires { AreMarksOf (map D.state disks.items) bad.items }
-    ensures { IfOk result (λ all. all.items ≡ marked (map D.state disks.items) bad.items) }
-{
-    let mut all = Vec::with_capacity(alloc, disks.len())?;
-    let mut bad = bad.into_iter();
-    for disk in disks {
-        let Some(marks) = bad.next() else {
-            break;
-        };
-        all.push(Sectors::with_marks(disk, marks))?;
-    }
-    Ok(all)
-}
-
-/// The devices, of which those with a disk get the next of these.
-fn with_disks<D: Disk + Drop>(
-    alloc: Global,
-    states: Vec<DeviceState>,
-    sectors: Vec<Sectors<D>>,
-) -> Result<Vec<Device<D>>, NoMemory>
-    ensures { IfOk result (λ devices. devices.items ≡ seen_devices states.items sectors.items) }
-{
-    let mut devices = Vec::with_capacity(alloc, states.len())?;
-    let mut sectors = sectors.into_iter();
-    for state in states {
-        let disk = match disk_size(state.shape()) {
-            Some(_) => sectors.next(),
-            None => None,
-        };
-        devices.push(Device::new(state, disk))?;
-    }
-    Ok(devices)
 }
 
 /// Why no machine is made of so many pages, these devices and these disks, if there is a reason.
@@ -149,6 +103,38 @@ fn refusal<D: Disk>(pages: u32, shapes: &[Shape], disks: &[D]) -> Option<NewErro
         return Some(NewError::DiskMismatch);
     }
     None
+}
+
+/// The parts of a new machine for these disks. Its only error is want of memory.
+fn first_parts<D: Disk + Drop>(
+    alloc: Global,
+    ram_pages: u32,
+    shapes: &[Shape],
+    disks: &[D],
+) -> Result<Parts<D>, NoMemory>
+    requires { new_refusal ram_pages shapes.now (map (λ d. length (D.state d).sectors) disks.now) ≡ None }
+    ensures parts { IfOk result (λ parts. ArePartsFor (map D.state disks.now) parts) }
+    ensures made { IfOk result (λ parts. machine_of parts (map D.state disks.now) ≡ first_machine ram_pages shapes.now (map (λ d. map Some (D.state d).sectors) disks.now)) }
+    ensures shapes { IfOk result (λ parts. parts.shapes ≡ shapes.now) }
+{
+    recall_all(shapes);
+    let ram = Ram::new(alloc, ram_pages)?;
+    let states = new_states(alloc, shapes, ram.len())?;
+    let bad = good_marks(alloc, disks)?;
+    let shapes = Vec::from_slice(alloc, shapes)?;
+    Parts::new(alloc, ram, shapes, states, bad)
+}
+
+/// Marks for each disk, by which none of its sectors is bad. It also tells a proof that the sectors are whole.
+fn good_marks<D: Disk>(alloc: Global, disks: &[D]) -> Result<Vec<BitSet>, NoMemory>
+    ensures good { IfOk result (λ bad. bad.items ≡ good_marks (map D.state disks.now)) }
+    ensures whole { IfOk result (λ _. All (λ d. AreSectors (D.state d).sectors) disks.now) }
+{
+    let mut bad = Vec::with_capacity(alloc, disks.len())?;
+    for disk in disks {
+        bad.push_reserved(BitSet::new(alloc, disk.sectors())?);
+    }
+    Ok(bad)
 }
 
 fn new_states(alloc: Global, shapes: &[Shape], ram_len: u64) -> Result<Vec<DeviceState>, NoMemory>

@@ -1,0 +1,136 @@
+//! What a machine is made of beside its disks.
+
+ghost use Rattle.std.specs.Prelude.{◌≡◌, ◌≤◌, [], IfOk, length, map, vec_capacity};
+ghost use Rattle.machine.specs.First.{AreMarksOf, dealt_marks, marked, marks_in, seen_devices};
+ghost use Rattle.machine.specs.Parts.{ArePartsFor, machine_of};
+ghost use Rattle.machine.specs.Seen.{all_marks, state_of};
+ghost use Rattle.machine.specs.Sound.{IsSound};
+
+use crate::device::Device;
+use crate::fitting::disk_size;
+use crate::machine::Machine;
+use crate::shape::Shape;
+use crate::state::DeviceState;
+use blk::{Disk, Sectors};
+use dirtylog::BitSet;
+use guestmem::{NoMemory, Ram};
+use std::alloc::Global;
+use std::marker::Model;
+
+/// All that a machine takes beside its disks, the marks of their bad sectors among it. Once it is there, disks make a machine of
+/// it, and nothing can fail.
+#[derive(Drop)]
+pub struct Parts<D: Disk> {
+    alloc: Global,
+    ram: Ram,
+    shapes: Vec<Shape>,
+    states: Vec<DeviceState>,
+    bad: Vec<BitSet>,
+    // Empty lists, of which one has room for each disk, and the other for each device.
+    sectors: Vec<Sectors<D>>,
+    devices: Vec<Device<D>>,
+}
+
+impl<D: Disk> Model for Parts<D> {
+    ghost use Rattle.std.specs.Prelude.{length, vec_capacity};
+    ghost use Rattle.machine.specs.Parts.{HasRoom, PartsSeen};
+
+    ghost Value = { PartsSeen };
+
+    ghost view = { λ p. record { ram = p.ram.bytes; shapes = p.shapes.items; states = p.states.items; bad = p.bad.items } };
+
+    ghost invariant = { λ p. HasRoom (length p.bad.items) p.sectors.items (vec_capacity p.sectors) × HasRoom (length p.states.items) p.devices.items (vec_capacity p.devices) };
+}
+
+impl<D: Disk + Drop> Parts<D> {
+    /// These parts. Its only error is want of memory.
+    pub fn new(
+        alloc: Global,
+        ram: Ram,
+        shapes: Vec<Shape>,
+        states: Vec<DeviceState>,
+        bad: Vec<BitSet>,
+    ) -> Result<Parts<D>, NoMemory>
+        ensures { IfOk result (λ p. p ≡ record { ram = ram.bytes; shapes = shapes.items; states = states.items; bad = bad.items }) }
+    {
+        let sectors = Vec::with_capacity(alloc, bad.len())?;
+        let devices = Vec::with_capacity(alloc, states.len())?;
+        Ok(Parts {
+            alloc,
+            ram,
+            shapes,
+            states,
+            bad,
+            sectors,
+            devices,
+        })
+    }
+
+    /// The machine that they make with these disks.
+    pub fn with_disks(self, disks: Vec<D>) -> Machine<D>
+        requires { ArePartsFor (map D.state disks.items) self }
+        ensures made { state_of result ≡ machine_of self (map D.state disks.items) }
+        ensures marks { all_marks result ≡ dealt_marks self.shapes (map (λ d. marks_in (D.state d)) disks.items) }
+        ensures sound { IsSound (state_of result) }
+    {
+        let Parts {
+            alloc,
+            ram,
+            shapes,
+            states,
+            bad,
+            sectors,
+            devices,
+        } = self;
+        let sectors = all_marked(disks, bad, sectors);
+        let devices = with_sectors(states, sectors, devices);
+        Machine {
+            alloc,
+            ram,
+            shapes,
+            devices,
+        }
+    }
+}
+
+/// The disks with these marks of bad sectors, in a list that has room for them.
+fn all_marked<D: Disk + Drop>(
+    disks: Vec<D>,
+    bad: Vec<BitSet>,
+    mut all: Vec<Sectors<D>>,
+) -> Vec<Sectors<D>>
+    requires bad { AreMarksOf (map D.state disks.items) bad.items }
+    requires none { all.items ≡ [] }
+    requires room { length bad.items ≤ vec_capacity all }
+    ensures { result.items ≡ marked (map D.state disks.items) bad.items }
+{
+    let mut bad = bad.into_iter();
+    for disk in disks {
+        let Some(marks) = bad.next() else {
+            break;
+        };
+        all.push_reserved(Sectors::with_marks(disk, marks));
+    }
+    all
+}
+
+/// The devices, of which those with a disk get the next of these, in a list that has room for them.
+fn with_sectors<D: Disk + Drop>(
+    states: Vec<DeviceState>,
+    sectors: Vec<Sectors<D>>,
+    mut devices: Vec<Device<D>>,
+) -> Vec<Device<D>>
+    requires none { devices.items ≡ [] }
+    requires room { length states.items ≤ vec_capacity devices }
+    ensures { result.items ≡ seen_devices states.items sectors.items }
+{
+    let mut sectors = sectors.into_iter();
+    for state in states {
+        let disk = match disk_size(state.shape()) {
+            Some(_) => sectors.next(),
+            None => None,
+        };
+        devices.push_reserved(Device::new(state, disk));
+    }
+    devices
+}
