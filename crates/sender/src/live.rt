@@ -3,6 +3,7 @@
 ghost use Rattle.std.specs.Prelude.{◌≡◌, ◌<◌, ◌^◌, ◌-◌, IfOk, IfErr, []};
 ghost use Rattle.dirtylog.specs.Members.{HasNone, member_count};
 ghost use Rattle.sha2.specs.Hashers.{Holds256};
+ghost use Rattle.machine.specs.declared.event.Event.TheVariants as events;
 ghost use Rattle.machine.specs.Layout.{layout_of, size_of};
 ghost use Rattle.sender.specs.LiveState.{now, refusal_for};
 ghost use Rattle.sender.specs.Calls.{Serves, begun_reply, copied_reply, ended_reply, guest_reply, in_either, stopped_reply};
@@ -181,6 +182,29 @@ impl<D: Disk, W: Sink> Live<D, W> {
             _ => {}
         }
         Ok(self.source.apply_logged(event, &mut self.changed))
+    }
+
+    /// The guest writes bytes into RAM from an address on. It is `apply` of that event, whose bytes need not be copied.
+    pub fn write_ram(&mut self, addr: u64, bytes: &[u8]) -> Result<Reply, MigError>
+        ensures { Serves self.old (LiveEvent.Guest (events.MemWrite addr bytes.now)) (guest_reply result) self.new }
+    {
+        match self.stage {
+            Phase::Stopped => return Err(MigError::AlreadyStopped),
+            _ => {}
+        }
+        let answer = self.source.write_ram_logged(addr, bytes, &mut self.changed);
+        Ok(Reply::from_done(answer))
+    }
+
+    /// The host puts bytes in. It is `apply` of that event, whose bytes need not be copied.
+    pub fn input(&mut self, dev: u8, bytes: &[u8]) -> Result<Reply, MigError>
+        ensures { Serves self.old (LiveEvent.Guest (events.Input dev bytes.now)) (guest_reply result) self.new }
+    {
+        match self.stage {
+            Phase::Stopped => return Err(MigError::AlreadyStopped),
+            _ => {}
+        }
+        Ok(Reply::from_accepted(self.source.input(dev, bytes)))
     }
 
     /// Begins: the header is written, and every item is due.
