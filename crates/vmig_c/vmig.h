@@ -18,15 +18,20 @@
  * - malloc, realloc and free belong to one allocator, and what they give is aligned to each power of two up to 16 that
  *   divides its size.
  *
- * WHO OWNS WHAT: a machine is made by vmig_make, vmig_make_with or vmig_receive, or arrives by vmig_feed, and lives until
- * vmig_free; a handle that is dropped without it leaks. The library keeps no pointer of yours behind a call: what you pass is
- * copied.
+ * WHO OWNS WHAT: a machine is made by vmig_make, vmig_make_with, vmig_make_mapped or vmig_receive, or arrives by vmig_feed,
+ * and lives until vmig_free or vmig_unmap; a handle that is dropped without one of these leaks. What you pass is copied, and
+ * the library keeps no pointer of yours behind a call, but for the images of vmig_make_mapped.
  *
- * WHAT TAKES MEMORY from malloc: vmig_make, vmig_make_with and vmig_receive (RAM, disks, devices), vmig_save (the whole
- * stream, for the time of the call), and vmig_step for a chain of many descriptors or a message of the guest; vmig_begin,
- * vmig_copy, vmig_end_round and vmig_stop for what they write, which waits until it is taken; vmig_feed, for all bytes of the
- * stream until vmig_finish, and for RAM and disks as soon as the header is whole; vmig_finish; and, of a machine that is being
- * sent, vmig_ram_write and vmig_input for a copy of the bytes, and vmig_push for a copy of one page. No other call does.
+ * DISKS IN YOUR MEMORY, as in a file that you mapped: a vmig_image says where the sectors of a disk lie, and vmig_make_mapped
+ * makes a machine whose disks are such images. What the guest writes stands there at once. From that call until vmig_unmap or
+ * vmig_free the bytes are the machine's: nothing else reads or writes them, and they stay mapped, at their address. A guest's
+ * flush does not reach the file behind them: it calls no msync, which is yours to do, and between two calls you may.
+ *
+ * WHAT TAKES MEMORY from malloc: vmig_make, vmig_make_with and vmig_receive (RAM, disks, devices), vmig_make_mapped (RAM,
+ * devices, and a bit for each sector), vmig_save (the whole stream, for the time of the call), and vmig_step for a chain of
+ * many descriptors or a message of the guest; vmig_begin, vmig_copy, vmig_end_round and vmig_stop for what they write, which
+ * waits until it is taken; vmig_feed, for all bytes of the stream until vmig_finish, and for RAM and disks as soon as the
+ * header is whole; and vmig_finish. No other call does.
  *
  * A MACHINE IS SENT WHILE IT RUNS: vmig_begin, then vmig_copy until VMIG_ROUND_DONE and vmig_end_round, as often as you like,
  * then vmig_stop. All the other calls go on between these, but for vmig_save and vmig_sector_read. What is written waits
@@ -36,7 +41,8 @@
  *
  * A MACHINE ARRIVES: vmig_feed on a handle of no machine, with the bytes of the stream in any pieces, as they come over the
  * wire, and vmig_finish behind the last; or vmig_receive with all of them at once. Until vmig_finish the handle has no machine
- * for any other call but vmig_rounds and vmig_free, and is in use for vmig_make, vmig_make_with and vmig_receive.
+ * for any other call but vmig_rounds and vmig_free, and is in use for vmig_make, vmig_make_with, vmig_make_mapped and
+ * vmig_receive.
  *
  * A GUEST WHOSE RAM IS YOURS, as under hardware virtualization, runs on memory of your own. The machine has RAM beside it,
  * and you mirror the one into the other: uint8_t ram[4096 * pages], and uint64_t seen[pages], which notes of each page the
@@ -83,14 +89,17 @@ enum {
     /* The call is refused. */
     VMIG_NO_SECTOR = 7,    /* vmig_sector_read: the disk has no such sector */
     VMIG_NO_MACHINE = 8,   /* the handle has no machine, or one that still arrives */
-    VMIG_IN_USE = 9,       /* vmig_make, vmig_make_with, vmig_receive: the handle has a machine already, or one arrives; vmig_feed,
-                            * vmig_finish, vmig_rounds: it has a machine that does not arrive */
+    VMIG_IN_USE = 9,       /* vmig_make, vmig_make_with, vmig_make_mapped, vmig_receive: the handle has a machine already, or
+                            * one arrives; vmig_feed, vmig_finish, vmig_rounds: it has a machine that does not arrive */
     VMIG_NO_MEMORY = 10,   /* malloc or realloc gave none */
-    VMIG_TOO_SMALL = 11,   /* vmig_step, vmig_save, vmig_push, vmig_pull, vmig_sector_read: your buffer */
-    VMIG_BAD_SHAPE = 12,   /* vmig_make, vmig_make_with: pages, count of devices, or a device beyond the limits or of an unknown
-                            * kind */
+    VMIG_TOO_SMALL = 11,   /* vmig_step, vmig_save, vmig_push, vmig_pull, vmig_sector_read: your buffer;
+                            * vmig_unmap: your slots */
+    VMIG_BAD_SHAPE = 12,   /* vmig_make, vmig_make_with, vmig_make_mapped: pages, count of devices, or a device beyond the
+                            * limits or of an unknown kind */
     VMIG_MOVING = 13,      /* vmig_save, vmig_sector_read: the machine is being sent */
-    VMIG_BAD_IMAGES = 15,  /* vmig_make_with: the images' length is not that of the disks */
+    VMIG_NOT_MAPPED = 14,  /* vmig_unmap: the disks lie in memory of the library */
+    VMIG_BAD_IMAGES = 15,  /* vmig_make_with, vmig_make_mapped: the images' length or counts are not those of the disks;
+                            * vmig_unmap: a slot is not VMIG_NO_IMAGE */
 
     /* A migration refuses the call: 16 and the number of its reason. VMIG_WRITER_FAILED alone changes something: the migration
      * has failed for good, and each of its later calls but vmig_take and vmig_abort gets the same status. The machine is as it
@@ -162,6 +171,15 @@ typedef struct vmig_shape {
     uint8_t id[20];     /* of a block device: what it answers to a driver that asks for its id */
 } vmig_shape;
 
+/* The sectors of a disk in your memory: 512 * sectors bytes at at, fewer than 2^63, which may be read and written. An image of
+ * no sectors has no bytes, and its pointer may be null. */
+typedef struct vmig_image {
+    uint8_t *at;
+    uint64_t sectors;
+} vmig_image;
+
+#define VMIG_NO_IMAGE {0, 0}
+
 /* Makes a machine of 1 to 16,384 pages of 4,096 bytes of RAM, all zeros, and of 1 to 16 devices. They have the numbers 0, 1
  * and so on, in this order. Block devices get disks of zeros in memory.
  * VMIG_IN_USE, then VMIG_BAD_SHAPE, then VMIG_NO_MEMORY, and no others. */
@@ -173,7 +191,23 @@ uint32_t vmig_make(uint32_t pages, const vmig_shape *shapes, size_t count, vmig_
 uint32_t vmig_make_with(uint32_t pages, const vmig_shape *shapes, size_t count, const uint8_t *images, size_t len,
                         vmig_machine *machine);
 
-/* Frees the machine, if there is one. The handle is VMIG_NONE again. */
+/* The same, but the disks are the images, which lie in your memory: one for each block device, in the order of the devices, of
+ * as many sectors; count_images is 0 where there is none. VMIG_OK takes the images: each of the slots is VMIG_NO_IMAGE then,
+ * and vmig_unmap gives them back. At every other status nothing changed, and the images are in their slots as they were.
+ * VMIG_IN_USE, then VMIG_BAD_SHAPE, then VMIG_BAD_IMAGES, then VMIG_NO_MEMORY, and no others. */
+uint32_t vmig_make_mapped(uint32_t pages, const vmig_shape *shapes, size_t count, vmig_image *images, size_t count_images,
+                          vmig_machine *machine);
+
+/* Frees a machine of vmig_make_mapped, as vmig_free does, and gives its images back: the first of the count slots get those of
+ * its disks, in the order of the devices, with what the guest left there. A sector that VMIG_BAD_SECTOR tells of may hold
+ * anything. The other slots stay VMIG_NO_IMAGE. Each slot is VMIG_NO_IMAGE before the call, else VMIG_BAD_IMAGES, and they are
+ * at least as many as block devices, else VMIG_TOO_SMALL. The machine may be one that is being sent. Where it is refused,
+ * nothing changed.
+ * VMIG_NO_MACHINE, then VMIG_NOT_MAPPED, then VMIG_BAD_IMAGES, then VMIG_TOO_SMALL, and no others. */
+uint32_t vmig_unmap(vmig_machine *machine, vmig_image *images, size_t count);
+
+/* Frees the machine, if there is one. The handle is VMIG_NONE again. The bytes of its images stay where they are, and are
+ * yours again. */
 void vmig_free(vmig_machine *machine);
 
 /* The driver reads a register: 1, 2 or 4 bytes (width) at an offset in the device's window; its configuration begins at
@@ -187,9 +221,8 @@ uint32_t vmig_reg_read(vmig_machine *machine, uint8_t dev, uint32_t off, uint8_t
  * VMIG_NO_MACHINE, VMIG_NO_DEVICE. */
 uint32_t vmig_reg_write(vmig_machine *machine, uint8_t dev, uint32_t off, uint8_t width, uint32_t value, uint32_t *out);
 
-/* The guest reads or writes up to 4,096 bytes of RAM, from an address on. Address 0 is the first byte of RAM. What is written
- * to a machine that is being sent is copied once more.
- * VMIG_NO_MACHINE, VMIG_TOO_LONG, VMIG_OUT_OF_RAM; the write of a machine that is being sent also VMIG_NO_MEMORY. */
+/* The guest reads or writes up to 4,096 bytes of RAM, from an address on. Address 0 is the first byte of RAM.
+ * VMIG_NO_MACHINE, VMIG_TOO_LONG, VMIG_OUT_OF_RAM. */
 uint32_t vmig_ram_read(vmig_machine *machine, uint64_t addr, uint8_t *buf, size_t len);
 uint32_t vmig_ram_write(vmig_machine *machine, uint64_t addr, const uint8_t *bytes, size_t len);
 
@@ -197,7 +230,7 @@ uint32_t vmig_ram_write(vmig_machine *machine, uint64_t addr, const uint8_t *byt
  * ram + 4096 * n, as if the guest wrote it whole, so a machine that is being sent sends it anew; and seen[n] becomes its
  * version. ram has len bytes and seen has seen_len entries, at least as many as RAM has bytes and pages: else VMIG_TOO_SMALL.
  * A number that is no page is VMIG_OUT_OF_RAM, and a machine that was stopped VMIG_STOPPED, also where count is 0.
- * VMIG_NO_MACHINE, VMIG_TOO_SMALL, VMIG_OUT_OF_RAM; of a machine that is being sent also VMIG_STOPPED, VMIG_NO_MEMORY. */
+ * VMIG_NO_MACHINE, VMIG_TOO_SMALL, VMIG_OUT_OF_RAM; of a machine that is being sent also VMIG_STOPPED. */
 uint32_t vmig_push(vmig_machine *machine, const uint32_t *pages, size_t count, const uint8_t *ram, size_t len,
                    uint64_t *seen, size_t seen_len);
 
@@ -221,8 +254,7 @@ uint32_t vmig_step(vmig_machine *machine, uint8_t dev, uint8_t pick, uint8_t *bu
 
 /* The host puts bytes in: entropy, text for a console, or one frame of 14 to 1,514 bytes. *accepted is how many were kept:
  * the first ones, or a frame whole or not at all. Entropy devices and consoles hold 4,096 bytes, network devices 64 frames.
- * VMIG_NO_MACHINE, VMIG_NO_DEVICE, VMIG_WRONG_KIND (a block device), VMIG_BAD_FRAME; of a machine that is being sent, for
- * which the bytes are copied once more, also VMIG_NO_MEMORY. */
+ * VMIG_NO_MACHINE, VMIG_NO_DEVICE, VMIG_WRONG_KIND (a block device), VMIG_BAD_FRAME. */
 uint32_t vmig_input(vmig_machine *machine, uint8_t dev, const uint8_t *bytes, size_t len, uint32_t *accepted);
 
 /* The host sets the size of a console, in characters.

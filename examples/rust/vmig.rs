@@ -21,6 +21,13 @@ pub struct Shape {
     pub id: [u8; 20],
 }
 
+/// The sectors of a disk in the caller's memory.
+#[repr(C)]
+pub struct Image {
+    pub at: *mut u8,
+    pub sectors: u64,
+}
+
 pub const ENTROPY: u8 = 4;
 
 pub const OK: u32 = 0;
@@ -30,6 +37,8 @@ pub const COMPLETED: u32 = 70;
 unsafe extern "C" {
     pub fn vmig_make(pages: u32, shapes: *const Shape, count: usize, machine: *mut Machine) -> u32;
     pub fn vmig_make_with(pages: u32, shapes: *const Shape, count: usize, images: *const u8, len: usize, machine: *mut Machine) -> u32;
+    pub fn vmig_make_mapped(pages: u32, shapes: *const Shape, count: usize, images: *mut Image, count_images: usize, machine: *mut Machine) -> u32;
+    pub fn vmig_unmap(machine: *mut Machine, images: *mut Image, count: usize) -> u32;
     pub fn vmig_free(machine: *mut Machine);
     pub fn vmig_reg_read(machine: *mut Machine, dev: u8, off: u32, width: u8, value: *mut u32) -> u32;
     pub fn vmig_reg_write(machine: *mut Machine, dev: u8, off: u32, width: u8, value: u32, out: *mut u32) -> u32;

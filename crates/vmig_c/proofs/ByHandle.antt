@@ -1,7 +1,7 @@
 -- What C is told, by cases on the handle.
-use Rattle.std.proofs.Common.{◌≡◌, ℕ, true, false, List, refl, sym, subst, inl, inr, true≢false}
+use Rattle.std.proofs.Common.{◌≡◌, ℕ, true, false, List, refl, sym, ap, ◌∙◌, subst, inl, inr, true≢false}
 use Rattle.std.specs.Prelude.{Option, Some, None, is_some}
-use Rattle.vmig_c.specs.declared.kept.Kept.{Kept}
+use Rattle.vmig_c.specs.Kept.{KeptSeen}
 use Rattle.machine.specs.declared.event.Event.{Event}
 use Rattle.vmig_c.specs.Making.{KeepsMade, Makes, are_beyond_limits, shapes_of}
 use Rattle.vmig_c.specs.Moving.{KeepsReceived, Received, RefusedBy, Saved, SavesKept}
@@ -9,73 +9,73 @@ use Rattle.vmig_c.specs.Stepped.{StepsKept, Stepped}
 use Rattle.vmig_c.specs.declared.device_shape.DeviceShape.{DeviceShape}
 use Rattle.vmig_c.specs.Told.{Told, Tells, Read, ReadsKept, lines_in, lines_told}
 
-pub told_none : (k after : Option Kept) (e : Event) (n : ℕ) → is_some k ≡ false → after ≡ k → Told k e 8 n n after
+pub told_none : (k after : Option KeptSeen) (e : Event) (n : ℕ) → is_some k ≡ false → after ≡ k → Told k e 8 n n after
 told_none None after e n is same = (refl, refl, same)
 told_none (Some m) after e n is same = absurd (true≢false is)
 
-pub told_some : (k after : Option Kept) (m next : Kept) (e : Event) (n status number : ℕ) → Some m ≡ k → after ≡ Some next
-    → Tells m e status number n next → Told k e status number n after
-told_some k after m next e n status number is becomes tells =
-    subst (λ (o : Option Kept). Told o e status number n after) is (record { next = next; is_next = becomes; tells = tells })
+pub told_some : (k after : Option KeptSeen) (m next : KeptSeen) (e : Event) (n status number : ℕ) → Some m ≡ k → after ≡ Some next → next ≡ record m { state = next.state }
+    → Tells m.state e status number n next.state → Told k e status number n after
+told_some k after m next e n status number is becomes kind tells =
+    subst (λ (o : Option KeptSeen). Told o e status number n after) is (record { next = next.state; is_next = becomes ∙ ap Some kind; tells = tells })
 
-pub read_none : (k : Option Kept) (addr : ℕ) (before after : List ℕ) → is_some k ≡ false → after ≡ before → Read k addr 8 before after
+pub read_none : (k : Option KeptSeen) (addr : ℕ) (before after : List ℕ) → is_some k ≡ false → after ≡ before → Read k addr 8 before after
 read_none None addr before after is same = (refl, same)
 read_none (Some m) addr before after is same = absurd (true≢false is)
 
-pub read_some : (k : Option Kept) (m : Kept) (addr status : ℕ) (before after : List ℕ) → Some m ≡ k
-    → ReadsKept m addr status before after → Read k addr status before after
-read_some k m addr status before after is reads = subst (λ (o : Option Kept). Read o addr status before after) is reads
+pub read_some : (k : Option KeptSeen) (m : KeptSeen) (addr status : ℕ) (before after : List ℕ) → Some m ≡ k
+    → ReadsKept m.state addr status before after → Read k addr status before after
+read_some k m addr status before after is reads = subst (λ (o : Option KeptSeen). Read o addr status before after) is reads
 
-pub lines_none : (k : Option Kept) → is_some k ≡ false → 0 ≡ lines_told k
+pub lines_none : (k : Option KeptSeen) → is_some k ≡ false → 0 ≡ lines_told k
 lines_none None is = refl
 lines_none (Some m) is = absurd (true≢false is)
 
-pub lines_some : (k : Option Kept) (m : Kept) (lines : ℕ) → Some m ≡ k → lines ≡ lines_in m → lines ≡ lines_told k
-lines_some k m lines is told = subst (λ (o : Option Kept). lines ≡ lines_told o) is told
+pub lines_some : (k : Option KeptSeen) (m : KeptSeen) (lines : ℕ) → Some m ≡ k → lines ≡ lines_in m.state → lines ≡ lines_told k
+lines_some k m lines is told = subst (λ (o : Option KeptSeen). lines ≡ lines_told o) is told
 
-pub stepped_none : (k after : Option Kept) (dev pick n : ℕ) (buf : List ℕ) → is_some k ≡ false → after ≡ k → Stepped k dev pick 8 n n buf buf after
+pub stepped_none : (k after : Option KeptSeen) (dev pick n : ℕ) (buf : List ℕ) → is_some k ≡ false → after ≡ k → Stepped k dev pick 8 n n buf buf after
 stepped_none None after dev pick n buf is same = (refl, refl, refl, same)
 stepped_none (Some m) after dev pick n buf is same = absurd (true≢false is)
 
-pub stepped_some : (k after : Option Kept) (m next : Kept) (dev pick status number n : ℕ) (buf new_buf : List ℕ) → Some m ≡ k → after ≡ Some next
-    → StepsKept m dev pick status number n buf new_buf next → Stepped k dev pick status number n buf new_buf after
-stepped_some k after m next dev pick status number n buf new_buf is becomes steps =
-    subst (λ (o : Option Kept). Stepped o dev pick status number n buf new_buf after) is (record { next = next; is_next = becomes; steps = steps })
+pub stepped_some : (k after : Option KeptSeen) (m next : KeptSeen) (dev pick status number n : ℕ) (buf new_buf : List ℕ) → Some m ≡ k → after ≡ Some next → next ≡ record m { state = next.state }
+    → StepsKept m.state dev pick status number n buf new_buf next.state → Stepped k dev pick status number n buf new_buf after
+stepped_some k after m next dev pick status number n buf new_buf is becomes kind steps =
+    subst (λ (o : Option KeptSeen). Stepped o dev pick status number n buf new_buf after) is (record { next = next.state; is_next = becomes ∙ ap Some kind; steps = steps })
 
-pub make_used : (k after : Option Kept) (pages : ℕ) (shapes : List DeviceShape) → is_some k ≡ true → after ≡ k → Makes k pages shapes 9 after
+pub make_used : (k after : Option KeptSeen) (pages : ℕ) (shapes : List DeviceShape) → is_some k ≡ true → after ≡ k → Makes k pages shapes 9 after
 make_used None after pages shapes is same = absurd (true≢false (sym is))
 make_used (Some m) after pages shapes is same = (refl, same)
 
-pub make_beyond : (k after : Option Kept) (pages : ℕ) (shapes : List DeviceShape) → is_some k ≡ false → are_beyond_limits pages shapes ≡ true → after ≡ k → Makes k pages shapes 12 after
+pub make_beyond : (k after : Option KeptSeen) (pages : ℕ) (shapes : List DeviceShape) → is_some k ≡ false → are_beyond_limits pages shapes ≡ true → after ≡ k → Makes k pages shapes 12 after
 make_beyond None after pages shapes is beyond same = rw beyond (refl, same)
 make_beyond (Some m) after pages shapes is beyond same = absurd (true≢false is)
 
-pub make_full : (k after : Option Kept) (pages : ℕ) (shapes : List DeviceShape) → is_some k ≡ false → are_beyond_limits pages shapes ≡ false → after ≡ k → Makes k pages shapes 10 after
+pub make_full : (k after : Option KeptSeen) (pages : ℕ) (shapes : List DeviceShape) → is_some k ≡ false → are_beyond_limits pages shapes ≡ false → after ≡ k → Makes k pages shapes 10 after
 make_full None after pages shapes is within same = rw within (inr (record { status_is = refl; same = same }))
 make_full (Some m) after pages shapes is within same = absurd (true≢false is)
 
-pub make_done : (k after : Option Kept) (m : Kept) (pages : ℕ) (shapes : List DeviceShape) → is_some k ≡ false → are_beyond_limits pages shapes ≡ false
+pub make_done : (k after : Option KeptSeen) (m : KeptSeen) (pages : ℕ) (shapes : List DeviceShape) → is_some k ≡ false → are_beyond_limits pages shapes ≡ false
     → after ≡ Some m → KeepsMade pages (shapes_of shapes) m → Makes k pages shapes 0 after
 make_done None after m pages shapes is within becomes made = rw within (inl (record { kept = m; is_there = becomes; is_made = made; status_is = refl }))
 make_done (Some old) after m pages shapes is within becomes made = absurd (true≢false is)
 
-pub saved_none : (k after : Option Kept) (n : ℕ) (buf : List ℕ) → is_some k ≡ false → after ≡ k → Saved k 8 n n buf buf after
+pub saved_none : (k after : Option KeptSeen) (n : ℕ) (buf : List ℕ) → is_some k ≡ false → after ≡ k → Saved k 8 n n buf buf after
 saved_none None after n buf is same = (refl, refl, refl, same)
 saved_none (Some m) after n buf is same = absurd (true≢false is)
 
-pub saved_some : (k after : Option Kept) (m next : Kept) (status len n : ℕ) (buf new_buf : List ℕ) → Some m ≡ k → after ≡ Some next → SavesKept m status len n buf new_buf next
+pub saved_some : (k after : Option KeptSeen) (m next : KeptSeen) (status len n : ℕ) (buf new_buf : List ℕ) → Some m ≡ k → after ≡ Some next → next ≡ record m { state = next.state } → SavesKept m.state status len n buf new_buf next.state
     → Saved k status len n buf new_buf after
-saved_some k after m next status len n buf new_buf is becomes saves =
-    subst (λ (o : Option Kept). Saved o status len n buf new_buf after) is (record { next = next; is_next = becomes; saves = saves })
+saved_some k after m next status len n buf new_buf is becomes kind saves =
+    subst (λ (o : Option KeptSeen). Saved o status len n buf new_buf after) is (record { next = next.state; is_next = becomes ∙ ap Some kind; saves = saves })
 
-pub received_used : (k after : Option Kept) (bytes : List ℕ) (n : ℕ) → is_some k ≡ true → after ≡ k → Received k bytes 9 n n after
+pub received_used : (k after : Option KeptSeen) (bytes : List ℕ) (n : ℕ) → is_some k ≡ true → after ≡ k → Received k bytes 9 n n after
 received_used None after bytes n is same = absurd (true≢false (sym is))
 received_used (Some m) after bytes n is same = (refl, refl, same)
 
-pub received_done : (k after : Option Kept) (m : Kept) (bytes : List ℕ) (ended n : ℕ) → is_some k ≡ false → after ≡ Some m → KeepsReceived bytes m ended → Received k bytes 0 ended n after
+pub received_done : (k after : Option KeptSeen) (m : KeptSeen) (bytes : List ℕ) (ended n : ℕ) → is_some k ≡ false → after ≡ Some m → KeepsReceived bytes m ended → Received k bytes 0 ended n after
 received_done None after m bytes ended n is becomes received = inl (record { kept = m; is_there = becomes; is_received = received; status_is = refl })
 received_done (Some old) after m bytes ended n is becomes received = absurd (true≢false is)
 
-pub received_not : (k after : Option Kept) (bytes : List ℕ) (status n : ℕ) → is_some k ≡ false → after ≡ k → RefusedBy bytes status → Received k bytes status n n after
+pub received_not : (k after : Option KeptSeen) (bytes : List ℕ) (status n : ℕ) → is_some k ≡ false → after ≡ k → RefusedBy bytes status → Received k bytes status n n after
 received_not None after bytes status n is same refused = inr (record { refused = refused; number_same = refl; same = same })
 received_not (Some m) after bytes status n is same refused = absurd (true≢false is)

@@ -1,6 +1,6 @@
 -- What is told of what lies behind a handle, by whether it is sent.
-use Rattle.std.proofs.Common.{◌≡◌, ◌≤◌, ℕ, true, false, nat_lt, List, refl, sym, subst, arith, length, drop, ◌++◌, inl, inr}
-use Rattle.std.specs.Prelude.{Option, Some, None, MatchOption, Result, Ok, Err, slice_get}
+use Rattle.std.proofs.Common.{◌≡◌, ◌≤◌, ℕ, true, false, nat_lt, List, refl, sym, subst, arith, length, drop, ◌++◌}
+use Rattle.std.specs.Prelude.{Option, Some, None, MatchOption, Result, Ok, Err, IfOk, slice_get}
 use Rattle.guestmem.specs.Write.{refusal_of}
 use Rattle.guestmem.specs.declared.error.RamError.{RamError}
 use Rattle.console.specs.declared.size.ConsoleSize.{ConsoleSize}
@@ -26,9 +26,8 @@ use Rattle.sender.specs.declared.event.LiveReply.TheVariants as live
 use Rattle.sender.specs.declared.mig_error.MigError.{MigError}
 use Rattle.vmig_c.specs.Status.{live_status, status_of}
 use Rattle.vmig_c.specs.Stepped.{LiveSteps, Steps, StepsKept, live_sent_in, most_sent_by, sent_in}
-use Rattle.vmig_c.specs.Told.{IsServed, Tells, TellsSo, has_bytes, live_number, number_of}
-use Rattle.vmig_c.specs.declared.kept.Kept.{Kept}
-use Rattle.vmig_c.specs.declared.kept.Kept.TheVariants.{Still, Moving}
+use Rattle.vmig_c.specs.Told.{IsServed, Tells, TellsSo, live_number, number_of}
+use Rattle.vmig_c.specs.Kept.{State, Still, Moving}
 use Rattle.vmig_c.proofs.Sending.{few_sent, sends_within}
 
 -- Events other than steps send nothing.
@@ -97,6 +96,10 @@ few l next e reply serves = few_by l.machine next.machine e reply (applied_in l 
 pub few_in : (l next : LiveSeen) (e : Event) (answer : Result Reply MigError) (reply : Reply) → answer ≡ Ok reply → Serves l (Guest e) (guest_reply answer) next → length (sent_in reply) ≤ 65536
 few_in l next e answer reply is serves = few l next e reply (subst (λ (r : Result Reply MigError). Serves l (Guest e) (guest_reply r) next) is serves)
 
+pub few_told : (l next : LiveSeen) (e : Event) (answer : Result Reply MigError) → Serves l (Guest e) (guest_reply answer) next → IfOk answer (λ reply. length (sent_in reply) ≤ 65536)
+few_told l next e (Ok reply) serves = few l next e reply serves
+few_told l next e (Err error) serves = tt
+
 pub few_for : (l next : LiveSeen) (dev pick : ℕ) (answer : Result Reply MigError) (reply : Reply) → answer ≡ Ok reply → Serves l (Guest (Step dev pick)) (guest_reply answer) next → length (sent_in reply) ≤ most_sent_by l.machine dev pick
 few_for l next dev pick answer reply is serves = sends_within l.machine next.machine dev pick reply (applied_in l next (Step dev pick) reply (subst (λ (r : Result Reply MigError). Serves l (Guest (Step dev pick)) (guest_reply r) next) is serves))
 
@@ -104,22 +107,19 @@ pub served : (l next : LiveSeen) (e : LiveEvent) (reply : LiveReply) (status num
 served l next e reply status number n places serves told counted = record { reply = reply; places = places; serves = serves; status_is = told; number_is = counted }
 
 -- By what lies behind the handle.
-pub still : (k : Kept) (m next : Seen) (e : Event) (reply : Reply) (status number n : ℕ) → k ≡ Still m → IsApplied m e reply next → status ≡ status_of reply → number ≡ number_of reply n → Tells k e status number n (Still next)
+pub still : (k : State) (m next : Seen) (e : Event) (reply : Reply) (status number n : ℕ) → k ≡ Still m → IsApplied m e reply next → status ≡ status_of reply → number ≡ number_of reply n → Tells k e status number n (Still next)
 still k m next e reply status number n is applied told counted =
-    subst (λ (x : Kept). Tells x e status number n (Still next)) (sym is) (record { reply = reply; applied = applied; status_is = told; number_is = counted })
+    subst (λ (x : State). Tells x e status number n (Still next)) (sym is) (record { reply = reply; applied = applied; status_is = told; number_is = counted })
 
 no_number : (answer : Result (Unit {0}) Refusal) → 0 ≡ number_of (done_reply answer) 0
 no_number (Ok u) = refl
 no_number (Err refusal) = refl
 
-pub still_so : (k : Kept) (m next : Seen) (e : Event) (answer : Result (Unit {0}) Refusal) (status : ℕ) → k ≡ Still m → IsApplied m e (done_reply answer) next → status ≡ status_of (done_reply answer) → TellsSo k e status (Still next)
+pub still_so : (k : State) (m next : Seen) (e : Event) (answer : Result (Unit {0}) Refusal) (status : ℕ) → k ≡ Still m → IsApplied m e (done_reply answer) next → status ≡ status_of (done_reply answer) → TellsSo k e status (Still next)
 still_so k m next e answer status is applied told = still k m next e (done_reply answer) status 0 0 is applied told (no_number answer)
 
-pub moving : (k : Kept) (l next : LiveSeen) (e : Event) (status number n : ℕ) → k ≡ Moving l → IsServed l (Guest e) status number n next → Tells k e status number n (Moving next)
-moving k l next e status number n is is_served = subst (λ (x : Kept). Tells x e status number n (Moving next)) (sym is) (inl is_served)
-
-pub uncopied : (k : Kept) (l : LiveSeen) (e : Event) (n : ℕ) → k ≡ Moving l → has_bytes e ≡ true → Tells k e 10 n n (Moving l)
-uncopied k l e n is copied = subst (λ (x : Kept). Tells x e 10 n n (Moving l)) (sym is) (inr (record { copied = copied; status_is = refl; number_same = refl; same = refl }))
+pub moving : (k : State) (l next : LiveSeen) (e : Event) (status number n : ℕ) → k ≡ Moving l → IsServed l (Guest e) status number n next → Tells k e status number n (Moving next)
+moving k l next e status number n is is_served = subst (λ (x : State). Tells x e status number n (Moving next)) (sym is) is_served
 
 -- A write of RAM and a size have no number.
 ram_number : (addr : ℕ) (bytes : List ℕ) (e : Option RamError) → 0 ≡ number_of (write_ram addr bytes e).reply 0
@@ -147,24 +147,35 @@ without None l next e (live.Stopped pages sectors) quiet after = refl
 without None l next e (live.Mig x) quiet after = refl
 without (Some x) l next e reply quiet after = rw (after.0) refl
 
-so : (k : Kept) (l next : LiveSeen) (e : Event) (status number : ℕ) → k ≡ Moving l → ((r : Reply) → IsApplied l.machine e r next.machine → 0 ≡ number_of r 0) → IsServed l (Guest e) status number 0 next → TellsSo k e status (Moving next)
-so k l next e status number is quiet was =
-    moving k l next e status 0 0 is (record { reply = was.reply; places = was.places; serves = was.serves; status_is = was.status_is; number_is = without (refusal_for l.phase (Guest e)) l next e was.reply quiet was.serves })
+pub written : (l next : LiveSeen) (addr : ℕ) (bytes : List ℕ) (answer : Result Reply MigError) (status : ℕ) → HasPlaces l → Serves l (Guest (MemWrite addr bytes)) (guest_reply answer) next → status ≡ live_status (guest_reply answer)
+    → IsServed l (Guest (MemWrite addr bytes)) status 0 0 next
+written l next addr bytes answer status places serves told = record {
+  reply = guest_reply answer;
+  places = places;
+  serves = serves;
+  status_is = told;
+  number_is =
+      without (refusal_for l.phase (Guest (MemWrite addr bytes))) l next (MemWrite addr bytes) (guest_reply answer)
+      (λ r applied. rw (applied.has.reply_is) (ram_number addr bytes (refusal_of (length (state_of l.machine).ram) addr (length bytes)))) serves;
+}
 
-pub written : (k : Kept) (l next : LiveSeen) (addr : ℕ) (bytes : List ℕ) (status number : ℕ) → k ≡ Moving l → IsServed l (Guest (MemWrite addr bytes)) status number 0 next → TellsSo k (MemWrite addr bytes) status (Moving next)
-written k l next addr bytes status number is was =
-    so k l next (MemWrite addr bytes) status number is (λ r applied. rw (applied.has.reply_is) (ram_number addr bytes (refusal_of (length (state_of l.machine).ram) addr (length bytes)))) was
-
-pub resized : (k : Kept) (l next : LiveSeen) (dev cols rows status number : ℕ) → k ≡ Moving l → IsServed l (Guest (Resize dev cols rows)) status number 0 next → TellsSo k (Resize dev cols rows) status (Moving next)
-resized k l next dev cols rows status number is was =
-    so k l next (Resize dev cols rows) status number is (λ r applied. rw (applied.has.reply_is) (size_number dev (slice_get (state_of l.machine).devices dev) (record { columns = cols; rows = rows }))) was
+pub resized : (l next : LiveSeen) (dev cols rows status number : ℕ) → IsServed l (Guest (Resize dev cols rows)) status number 0 next → IsServed l (Guest (Resize dev cols rows)) status 0 0 next
+resized l next dev cols rows status number was = record {
+  reply = was.reply;
+  places = was.places;
+  serves = was.serves;
+  status_is = was.status_is;
+  number_is =
+      without (refusal_for l.phase (Guest (Resize dev cols rows))) l next (Resize dev cols rows) was.reply
+      (λ r applied. rw (applied.has.reply_is) (size_number dev (slice_get (state_of l.machine).devices dev) (record { columns = cols; rows = rows }))) was.serves;
+}
 
 -- Steps.
-pub still_steps : (k : Kept) (m next : Seen) (dev pick status number n : ℕ) (buf new_buf : List ℕ) → k ≡ Still m → Steps m dev pick status number n buf new_buf next → StepsKept k dev pick status number n buf new_buf (Still next)
-still_steps k m next dev pick status number n buf new_buf is steps = subst (λ (x : Kept). StepsKept x dev pick status number n buf new_buf (Still next)) (sym is) steps
+pub still_steps : (k : State) (m next : Seen) (dev pick status number n : ℕ) (buf new_buf : List ℕ) → k ≡ Still m → Steps m dev pick status number n buf new_buf next → StepsKept k dev pick status number n buf new_buf (Still next)
+still_steps k m next dev pick status number n buf new_buf is steps = subst (λ (x : State). StepsKept x dev pick status number n buf new_buf (Still next)) (sym is) steps
 
-pub moving_steps : (k : Kept) (l next : LiveSeen) (dev pick status number n : ℕ) (buf new_buf : List ℕ) → k ≡ Moving l → LiveSteps l dev pick status number n buf new_buf next → StepsKept k dev pick status number n buf new_buf (Moving next)
-moving_steps k l next dev pick status number n buf new_buf is steps = subst (λ (x : Kept). StepsKept x dev pick status number n buf new_buf (Moving next)) (sym is) steps
+pub moving_steps : (k : State) (l next : LiveSeen) (dev pick status number n : ℕ) (buf new_buf : List ℕ) → k ≡ Moving l → LiveSteps l dev pick status number n buf new_buf next → StepsKept k dev pick status number n buf new_buf (Moving next)
+moving_steps k l next dev pick status number n buf new_buf is steps = subst (λ (x : State). StepsKept x dev pick status number n buf new_buf (Moving next)) (sym is) steps
 
 pub live_not_stepped : (l : LiveSeen) (dev pick n : ℕ) (buf : List ℕ) → nat_lt (length buf) (most_sent_by l.machine dev pick) ≡ true → LiveSteps l dev pick 11 n n buf buf l
 live_not_stepped l dev pick n buf small = rw small (record { status_is = refl; number_same = refl; buf_same = refl; same = refl })

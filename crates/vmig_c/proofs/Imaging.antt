@@ -19,44 +19,43 @@ use Rattle.machine.specs.declared.shape.Shape.{Shape}
 use Rattle.vmig_c.specs.Images.{AreImages, IsMadeWith, KeepsMadeWith, MakesWith, ReadsKept, ReadsOut, SectorRead, SectorTold, disk_refusal, image_size, sector_refusal, sector_refusal_of, sectors_in}
 use Rattle.vmig_c.specs.Making.{are_beyond_limits, shape_of, shapes_of}
 use Rattle.vmig_c.specs.declared.device_shape.DeviceShape.{DeviceShape}
-use Rattle.vmig_c.specs.declared.kept.Kept.{Kept}
-use Rattle.vmig_c.specs.declared.kept.Kept.TheVariants.{Still}
+use Rattle.vmig_c.specs.Kept.{KeptSeen, Still}
 use Rattle.vmig_c.specs.Moving.{IsKept}
 use Rattle.vmig_c.specs.Plain.{ArePlain}
 use Rattle.vmig_c.proofs.Plain.{as_many, plain_at}
 use Rattle.vmig_c.proofs.Streams.{same_seen}
 use Rattle.vmig_c.proofs.Zeros.{alike}
 
-pub with_used : (k after : Option Kept) (pages : ℕ) (shapes : List DeviceShape) (images : List ℕ) → is_some k ≡ true → after ≡ k → MakesWith k pages shapes images 9 after
+pub with_used : (k after : Option KeptSeen) (pages : ℕ) (shapes : List DeviceShape) (images : List ℕ) → is_some k ≡ true → after ≡ k → MakesWith k pages shapes images 9 after
 with_used None after pages shapes images is same = absurd (true≢false (sym is))
 with_used (Some m) after pages shapes images is same = (refl, same)
 
-pub with_beyond : (k after : Option Kept) (pages : ℕ) (shapes : List DeviceShape) (images : List ℕ) → is_some k ≡ false → are_beyond_limits pages shapes ≡ true → after ≡ k → MakesWith k pages shapes images 12 after
+pub with_beyond : (k after : Option KeptSeen) (pages : ℕ) (shapes : List DeviceShape) (images : List ℕ) → is_some k ≡ false → are_beyond_limits pages shapes ≡ true → after ≡ k → MakesWith k pages shapes images 12 after
 with_beyond None after pages shapes images is beyond same = rw beyond (refl, same)
 with_beyond (Some m) after pages shapes images is beyond same = absurd (true≢false is)
 
-pub with_others : (k after : Option Kept) (pages : ℕ) (shapes : List DeviceShape) (images : List ℕ) → is_some k ≡ false → are_beyond_limits pages shapes ≡ false
+pub with_others : (k after : Option KeptSeen) (pages : ℕ) (shapes : List DeviceShape) (images : List ℕ) → is_some k ≡ false → are_beyond_limits pages shapes ≡ false
     → (length images == image_size (shapes_of shapes)) ≡ false → after ≡ k → MakesWith k pages shapes images 15 after
 with_others None after pages shapes images is within other same = rw (within, other) (refl, same)
 with_others (Some m) after pages shapes images is within other same = absurd (true≢false is)
 
-pub with_full : (k after : Option Kept) (pages : ℕ) (shapes : List DeviceShape) (images : List ℕ) → is_some k ≡ false → are_beyond_limits pages shapes ≡ false
+pub with_full : (k after : Option KeptSeen) (pages : ℕ) (shapes : List DeviceShape) (images : List ℕ) → is_some k ≡ false → are_beyond_limits pages shapes ≡ false
     → (length images == image_size (shapes_of shapes)) ≡ true → after ≡ k → MakesWith k pages shapes images 10 after
 with_full None after pages shapes images is within fits same = rw (within, fits) (inr (record { status_is = refl; same = same }))
 with_full (Some m) after pages shapes images is within fits same = absurd (true≢false is)
 
-pub with_done : (k after : Option Kept) (m : Kept) (pages : ℕ) (shapes : List DeviceShape) (images : List ℕ) → is_some k ≡ false → are_beyond_limits pages shapes ≡ false
+pub with_done : (k after : Option KeptSeen) (m : KeptSeen) (pages : ℕ) (shapes : List DeviceShape) (images : List ℕ) → is_some k ≡ false → are_beyond_limits pages shapes ≡ false
     → (length images == image_size (shapes_of shapes)) ≡ true → after ≡ Some m → KeepsMadeWith pages (shapes_of shapes) images m → MakesWith k pages shapes images 0 after
 with_done None after m pages shapes images is within fits becomes made = rw (within, fits) (inl (record { kept = m; is_there = becomes; is_made = made; status_is = refl }))
 with_done (Some old) after m pages shapes images is within fits becomes made = absurd (true≢false is)
 
-pub sector_none : (k after : Option Kept) (dev n : ℕ) (buf : List ℕ) → is_some k ≡ false → after ≡ k → SectorRead k dev n 8 buf buf after
+pub sector_none : (k after : Option KeptSeen) (dev n : ℕ) (buf : List ℕ) → is_some k ≡ false → after ≡ k → SectorRead k dev n 8 buf buf after
 sector_none None after dev n buf is same = record { status_is = refl; buf_same = refl; same = same }
 sector_none (Some m) after dev n buf is same = absurd (true≢false is)
 
-pub sector_some : (k after : Option Kept) (m next : Kept) (dev n status : ℕ) (buf new_buf : List ℕ) → Some m ≡ k → after ≡ Some next → ReadsKept m dev n status buf new_buf next → SectorRead k dev n status buf new_buf after
-sector_some k after m next dev n status buf new_buf is becomes reads =
-    subst (λ (o : Option Kept). SectorRead o dev n status buf new_buf after) is (record { next = next; is_next = becomes; does = reads })
+pub sector_some : (k after : Option KeptSeen) (m next : KeptSeen) (dev n status : ℕ) (buf new_buf : List ℕ) → Some m ≡ k → after ≡ Some next → next ≡ record m { state = next.state } → ReadsKept m.state dev n status buf new_buf next.state → SectorRead k dev n status buf new_buf after
+sector_some k after m next dev n status buf new_buf is becomes kind reads =
+    subst (λ (o : Option KeptSeen). SectorRead o dev n status buf new_buf after) is (record { next = next.state; is_next = becomes ∙ ap Some kind; does = reads })
 
 -- Counting sectors off.
 tests_same : (r s : Bool) → (r ≡ true → s ≡ true) → (s ≡ true → r ≡ true) → r ≡ s
@@ -64,10 +63,10 @@ tests_same true s to from = sym (to refl)
 tests_same false true to from = from refl
 tests_same false false to from = refl
 
-eq_of : (a b : ℕ) → (a == b) ≡ true → a ≡ b
+pub eq_of : (a b : ℕ) → (a == b) ≡ true → a ≡ b
 eq_of a b is = grind (arith, nat_tests)
 
-same_numbers : (a b c d : ℕ) → (a ≡ b → c ≡ d) → (c ≡ d → a ≡ b) → (a == b) ≡ (c == d)
+pub same_numbers : (a b c d : ℕ) → (a ≡ b → c ≡ d) → (c ≡ d → a ≡ b) → (a == b) ≡ (c == d)
 same_numbers a b c d to from = tests_same (a == b) (c == d) (λ is. eq-eqb c d (to (eq_of a b is))) (λ is. eq-eqb a b (from (eq_of c d is)))
 
 pub not_whole : (bytes n : ℕ) → bytes % 512 ≢ 0 → false ≡ (bytes == 512 * n)
@@ -139,7 +138,7 @@ two_tests true false is = (refl, refl)
 tested_below : (a b : ℕ) → nat_lt a b ≡ true → a < b
 tested_below a b is = grind (arith, nat_tests)
 
-tested_from : (a b : ℕ) → nat_lt a b ≡ false → b ≤ a
+pub tested_from : (a b : ℕ) → nat_lt a b ≡ false → b ≤ a
 tested_from a b is = grind (arith, nat_tests)
 
 on_disk : (size : Option ℕ) (n room : ℕ) → disk_refusal size n room ≡ None → (n < or_zero size) × (512 ≤ room)

@@ -4,7 +4,9 @@ pub mod AsBox
 pub mod Awaited
 pub mod ByHandle
 pub mod ByKept
+pub mod Handing
 pub mod Imaging
+pub mod MappingImages
 pub mod Migration
 pub mod MigrationCalls
 pub mod Mirrored

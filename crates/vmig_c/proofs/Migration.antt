@@ -10,11 +10,10 @@ use Rattle.sender.specs.declared.event.LiveReply.{LiveReply}
 use Rattle.sender.specs.declared.event.LiveReply.TheVariants as live
 use Rattle.sender.specs.declared.mig_error.MigError.{MigError}
 use Rattle.sender.specs.declared.mig_error.MigError.TheVariants as errors
-use Rattle.vmig_c.specs.Migrated.{AbortsKept, BeginsKept, CopiesKept, EndsKept, HasCopied, HasStopped, HasTaken, StopsKept, TakesKept, copied_dev, copied_number, stopped_pages, stopped_sectors}
+use Rattle.vmig_c.specs.Migrated.{CopiesKept, EndsKept, HasCopied, HasStopped, HasTaken, IsAnswered, StopsKept, TakesKept, copied_dev, copied_number, stopped_pages, stopped_sectors}
 use Rattle.vmig_c.specs.Status.{live_status}
 use Rattle.vmig_c.specs.Told.{IsServed}
-use Rattle.vmig_c.specs.declared.kept.Kept.{Kept}
-use Rattle.vmig_c.specs.declared.kept.Kept.TheVariants.{Still, Moving}
+use Rattle.vmig_c.specs.Kept.{State, Still, Moving}
 
 same_machine : (o : Option MigError) (l next : LiveSeen) (error : MigError) → MatchOption o (Does l events.Begin (live.Mig error) next) (λ x. (live.Mig error ≡ live.Mig x) × (next ≡ l)) → next.machine ≡ l.machine
 same_machine None l next errors.StreamFailed after = after.machine
@@ -25,43 +24,40 @@ same_machine None l next errors.AlreadyStopped after = absurd after
 same_machine None l next errors.RoundsEnded after = absurd after
 same_machine (Some x) l next error after = ap (λ (s : LiveSeen). s.machine) after.1
 
-pub not_begun : (m last : Seen) (fresh l : LiveSeen) (error : MigError) → fresh.machine ≡ m → Serves fresh events.Begin (live.Mig error) l → last ≡ l.machine → BeginsKept (Still m) 10 (Still last)
-not_begun m last fresh l error is serves gave = (refl, gave ∙ same_machine (refusal_for fresh.phase events.Begin) fresh l error serves ∙ is)
+pub not_begun : (m last : Seen) (fresh l : LiveSeen) (error : MigError) → fresh.machine ≡ m → Serves fresh events.Begin (live.Mig error) l → last ≡ l.machine → last ≡ m
+not_begun m last fresh l error is serves gave = gave ∙ same_machine (refusal_for fresh.phase events.Begin) fresh l error serves ∙ is
 
-pub begun_again : (k : Kept) (l next : LiveSeen) (reply : LiveReply) (status : ℕ) → k ≡ Moving l → HasPlaces l → Serves l events.Begin reply next → status ≡ live_status reply → BeginsKept k status (Moving next)
-begun_again k l next reply status is places serves told = subst (λ (x : Kept). BeginsKept x status (Moving next)) (sym is) (record { reply = reply; places = places; serves = serves; status_is = told })
+pub begun_again : (l next : LiveSeen) (reply : LiveReply) (status : ℕ) → HasPlaces l → Serves l events.Begin reply next → status ≡ live_status reply → IsAnswered l status next
+begun_again l next reply status places serves told = record { reply = reply; places = places; serves = serves; status_is = told }
 
 pub copied : (l next : LiveSeen) (reply : LiveReply) (status dev old_dev number old_number : ℕ) → HasPlaces l → Serves l events.Copy reply next → status ≡ live_status reply → dev ≡ copied_dev reply old_dev → number ≡ copied_number reply old_number
     → HasCopied l status dev old_dev number old_number next
 copied l next reply status dev old_dev number old_number places serves told devs numbers = record { reply = reply; places = places; serves = serves; status_is = told; dev_is = devs; number_is = numbers }
 
-pub still_copies : (k : Kept) (m : Seen) (dev number : ℕ) → k ≡ Still m → CopiesKept k 17 dev dev number number (Still m)
-still_copies k m dev number is = subst (λ (x : Kept). CopiesKept x 17 dev dev number number (Still m)) (sym is) ((refl, refl), refl, refl)
+pub still_copies : (k : State) (m : Seen) (dev number : ℕ) → k ≡ Still m → CopiesKept k 17 dev dev number number (Still m)
+still_copies k m dev number is = subst (λ (x : State). CopiesKept x 17 dev dev number number (Still m)) (sym is) ((refl, refl), refl, refl)
 
-pub moving_copies : (k : Kept) (l next : LiveSeen) (status dev old_dev number old_number : ℕ) → k ≡ Moving l → HasCopied l status dev old_dev number old_number next → CopiesKept k status dev old_dev number old_number (Moving next)
-moving_copies k l next status dev old_dev number old_number is was = subst (λ (x : Kept). CopiesKept x status dev old_dev number old_number (Moving next)) (sym is) was
+pub moving_copies : (k : State) (l next : LiveSeen) (status dev old_dev number old_number : ℕ) → k ≡ Moving l → HasCopied l status dev old_dev number old_number next → CopiesKept k status dev old_dev number old_number (Moving next)
+moving_copies k l next status dev old_dev number old_number is was = subst (λ (x : State). CopiesKept x status dev old_dev number old_number (Moving next)) (sym is) was
 
-pub still_ends : (k : Kept) (m : Seen) (round : ℕ) → k ≡ Still m → EndsKept k 17 round round (Still m)
-still_ends k m round is = subst (λ (x : Kept). EndsKept x 17 round round (Still m)) (sym is) ((refl, refl), refl)
+pub still_ends : (k : State) (m : Seen) (round : ℕ) → k ≡ Still m → EndsKept k 17 round round (Still m)
+still_ends k m round is = subst (λ (x : State). EndsKept x 17 round round (Still m)) (sym is) ((refl, refl), refl)
 
-pub moving_ends : (k : Kept) (l next : LiveSeen) (status round before : ℕ) → k ≡ Moving l → IsServed l events.EndRound status round before next → EndsKept k status round before (Moving next)
-moving_ends k l next status round before is was = subst (λ (x : Kept). EndsKept x status round before (Moving next)) (sym is) was
+pub moving_ends : (k : State) (l next : LiveSeen) (status round before : ℕ) → k ≡ Moving l → IsServed l events.EndRound status round before next → EndsKept k status round before (Moving next)
+moving_ends k l next status round before is was = subst (λ (x : State). EndsKept x status round before (Moving next)) (sym is) was
 
 pub stopped : (l next : LiveSeen) (reply : LiveReply) (status pages old_pages sectors old_sectors : ℕ) → HasPlaces l → Serves l events.Stop reply next → status ≡ live_status reply → pages ≡ stopped_pages reply old_pages → sectors ≡ stopped_sectors reply old_sectors
     → HasStopped l status pages old_pages sectors old_sectors next
 stopped l next reply status pages old_pages sectors old_sectors places serves told p s = record { reply = reply; places = places; serves = serves; status_is = told; pages_are = p; sectors_are = s }
 
-pub still_stops : (k : Kept) (m : Seen) (pages sectors : ℕ) → k ≡ Still m → StopsKept k 17 pages pages sectors sectors (Still m)
-still_stops k m pages sectors is = subst (λ (x : Kept). StopsKept x 17 pages pages sectors sectors (Still m)) (sym is) ((refl, refl), refl, refl)
+pub still_stops : (k : State) (m : Seen) (pages sectors : ℕ) → k ≡ Still m → StopsKept k 17 pages pages sectors sectors (Still m)
+still_stops k m pages sectors is = subst (λ (x : State). StopsKept x 17 pages pages sectors sectors (Still m)) (sym is) ((refl, refl), refl, refl)
 
-pub moving_stops : (k : Kept) (l next : LiveSeen) (status pages old_pages sectors old_sectors : ℕ) → k ≡ Moving l → HasStopped l status pages old_pages sectors old_sectors next → StopsKept k status pages old_pages sectors old_sectors (Moving next)
-moving_stops k l next status pages old_pages sectors old_sectors is was = subst (λ (x : Kept). StopsKept x status pages old_pages sectors old_sectors (Moving next)) (sym is) was
+pub moving_stops : (k : State) (l next : LiveSeen) (status pages old_pages sectors old_sectors : ℕ) → k ≡ Moving l → HasStopped l status pages old_pages sectors old_sectors next → StopsKept k status pages old_pages sectors old_sectors (Moving next)
+moving_stops k l next status pages old_pages sectors old_sectors is was = subst (λ (x : State). StopsKept x status pages old_pages sectors old_sectors (Moving next)) (sym is) was
 
-pub still_aborts : (k : Kept) (m : Seen) → k ≡ Still m → AbortsKept k 17 (Still m)
-still_aborts k m is = subst (λ (x : Kept). AbortsKept x 17 (Still m)) (sym is) (refl, refl)
+pub still_takes : (k : State) (m : Seen) (got : ℕ) (buf : List ℕ) → k ≡ Still m → TakesKept k 17 got got buf buf (Still m)
+still_takes k m got buf is = subst (λ (x : State). TakesKept x 17 got got buf buf (Still m)) (sym is) ((refl, refl), refl, refl)
 
-pub still_takes : (k : Kept) (m : Seen) (got : ℕ) (buf : List ℕ) → k ≡ Still m → TakesKept k 17 got got buf buf (Still m)
-still_takes k m got buf is = subst (λ (x : Kept). TakesKept x 17 got got buf buf (Still m)) (sym is) ((refl, refl), refl, refl)
-
-pub moving_takes : (k : Kept) (l next : LiveSeen) (got old_got : ℕ) (buf new_buf : List ℕ) → k ≡ Moving l → HasTaken l 0 got buf new_buf next → TakesKept k 0 got old_got buf new_buf (Moving next)
-moving_takes k l next got old_got buf new_buf is was = subst (λ (x : Kept). TakesKept x 0 got old_got buf new_buf (Moving next)) (sym is) was
+pub moving_takes : (k : State) (l next : LiveSeen) (status got old_got : ℕ) (buf new_buf : List ℕ) → k ≡ Moving l → HasTaken l status got buf new_buf next → TakesKept k status got old_got buf new_buf (Moving next)
+moving_takes k l next status got old_got buf new_buf is was = subst (λ (x : State). TakesKept x status got old_got buf new_buf (Moving next)) (sym is) was

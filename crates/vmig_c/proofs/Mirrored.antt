@@ -1,5 +1,5 @@
 -- Mirrors of a machine's RAM.
-use Rattle.std.proofs.Common.{◌≡◌, ◌≢◌, ◌≤◌, ◌<◌, ◌*◌, ◌+◌, ◌-◌, ◌/◌, ◌++◌, ◌==◌, ◌&&◌, ℕ, Bool, true, false, nat_lt, List, [], ◌∷◌, refl, sym, ap, subst, ◌∙◌, arith, length, drop, get_or, take, inl, inr, true≢false, append_assoc, get_or-set_other, get_or-set_same}
+use Rattle.std.proofs.Common.{◌≡◌, ◌≢◌, ◌≤◌, ◌<◌, ◌*◌, ◌+◌, ◌-◌, ◌/◌, ◌++◌, ◌==◌, ◌&&◌, ℕ, Bool, true, false, nat_lt, List, [], ◌∷◌, refl, sym, ap, subst, ◌∙◌, arith, length, drop, get_or, take, true≢false, append_assoc, get_or-set_other, get_or-set_same}
 use Rattle.std.specs.Prelude.{◌||◌, not, Option, Some, None, MatchOption, slice_index, slice_set, if◌then◌else◌}
 use Rattle.std.proofs.lemmas.Bool.Decides.{nat_tests}
 use Rattle.std.proofs.lemmas.Grind.{same_number_lists}
@@ -28,8 +28,7 @@ use Rattle.sender.specs.declared.mig_error.MigError.{MigError}
 use Rattle.vmig_c.specs.Mirror.{AppliedMirrors, ArePushed, IsPushed, Mirrors, MirrorsPage, PulledMirrors, PushedMirrors, UnseenMirrors, are_pages, is_among, is_coming, is_noted, is_short, is_stopped, machine_in, memory_in, push_refusal, unseen}
 use Rattle.vmig_c.specs.Status.{live_status, status_of}
 use Rattle.vmig_c.specs.Told.{TellsSo}
-use Rattle.vmig_c.specs.declared.kept.Kept.{Kept}
-use Rattle.vmig_c.specs.declared.kept.Kept.TheVariants.{Still, Moving, Arriving}
+use Rattle.vmig_c.specs.Kept.{State, Still, Moving, Arriving}
 
 -- What is noted, as tests and as facts.
 tested_same : (a b c : ℕ) → (a == b && nat_lt b c) ≡ true → a ≡ b
@@ -114,9 +113,9 @@ noted_now : (m : Memory) (seen new_seen : List ℕ) (n : ℕ) → new_seen ≡ m
 noted_now m seen new_seen n is below = ap (λ (l : List ℕ). slice_index l n) is ∙ get_or_append_left m.versions (drop (length m.versions) seen) 0 n below
 
 pub pulled_mirrors : PulledMirrors
-pulled_mirrors m ram new_ram seen new_seen count sound mirrors pulled =
+pulled_mirrors m ram new_ram seen new_seen count mirrors pulled =
     let same : (n : ℕ) → n < length m.versions → page_of new_ram n ≡ page_of m.bytes n = λ n below. pulled_page (is_noted m seen n) m ram new_ram seen n refl (mirrors n below) (pulled.pages n below) in (
-      same_pages new_ram m.bytes (length m.versions) sound.some sound.pages same,
+      same_pages new_ram m.bytes (length m.versions) pulled.sound.some pulled.sound.pages same,
       λ n below. record {
         not_ahead = λ small. omega (arith, noted_now m seen new_seen n pulled.noted below);
         same = λ noted. same n below;
@@ -140,10 +139,9 @@ fine_by None l next addr bytes (live.Stopped pages sectors) told after = absurd 
 fine_by None l next addr bytes (live.Mig x) told after = absurd after
 fine_by (Some x) l next addr bytes reply told after = let is : live_status reply ≡ live_status (live.Mig x) = ap live_status after.0 in absurd (omega (arith, is, told))
 
-pub written_in : (k next : Kept) (addr : ℕ) (bytes : List ℕ) → TellsSo k (MemWrite addr bytes) 0 next → Written (machine_in k) addr bytes (machine_in next)
+pub written_in : (k next : State) (addr : ℕ) (bytes : List ℕ) → TellsSo k (MemWrite addr bytes) 0 next → Written (machine_in k) addr bytes (machine_in next)
 written_in (Still m) (Still next) addr bytes told = record { reply = told.reply; applied = told.applied; status = told.status_is }
-written_in (Moving l) (Moving next) addr bytes (inl served) = fine_by (refusal_for l.phase (Guest (MemWrite addr bytes))) l next addr bytes served.reply served.status_is served.serves
-written_in (Moving l) (Moving next) addr bytes (inr uncopied) = absurd (omega (arith, uncopied.status_is))
+written_in (Moving l) (Moving next) addr bytes served = fine_by (refusal_for l.phase (Guest (MemWrite addr bytes))) l next addr bytes served.reply served.status_is served.serves
 written_in (Arriving r) (Arriving next) addr bytes told = absurd (omega (arith, told.0.0))
 written_in (Still m) (Moving next) addr bytes told = absurd told
 written_in (Still m) (Arriving next) addr bytes told = absurd told
@@ -230,13 +228,13 @@ sound_later m next sound later = record {
   few = omega (arith, sound.few, later.versions);
 }
 
-pushed_all : (k next : Kept) (pages ram seen new_seen : List ℕ) → IsMemory (memory_in k) → length (memory_in k).bytes ≤ length ram → length (memory_in k).versions ≤ length seen
+pushed_all : (k next : State) (pages ram seen new_seen : List ℕ) → IsMemory (memory_in k) → length (memory_in k).bytes ≤ length ram → length (memory_in k).versions ≤ length seen
     → are_pages (length (memory_in k).versions) pages ≡ true → ((n : ℕ) → n < length (memory_in k).versions → is_among pages n ≡ false → MirrorsPage (memory_in k) ram seen n)
     → ArePushed k pages ram seen new_seen next → Mirrors (memory_in next) ram new_seen
 pushed_all k next [] ram seen new_seen sound long room are others pushed =
-    subst (λ (x : Kept). Mirrors (memory_in x) ram new_seen) (sym pushed.0) (subst (λ (s : List ℕ). Mirrors (memory_in k) ram s) (sym pushed.1) (λ n below. others n below refl))
+    subst (λ (x : State). Mirrors (memory_in x) ram new_seen) (sym pushed.0) (subst (λ (s : List ℕ). Mirrors (memory_in k) ram s) (sym pushed.1) (λ n below. others n below refl))
 pushed_all k next (p ∷ pages) ram seen new_seen sound long room are others pushed =
-    let mid : Kept = pushed.0 in
+    let mid : State = pushed.0 in
     let one : IsPushed k p ram seen pushed.1 mid = pushed.2 in
     let w : Written (machine_in k) (4096 * p) (page_of ram p) (machine_in mid) = written_in k mid (4096 * p) (page_of ram p) one.written in
     let later : IsLater (memory_in k) (memory_in mid) = w.applied.later in
@@ -252,7 +250,7 @@ pushed_all k next (p ∷ pages) ram seen new_seen sound long room are others pus
     pushed.3
 
 -- What no refusal means.
-pub record IsReady (k : Kept) (pages : List ℕ) (bytes entries : ℕ) : Type 0 where
+pub record IsReady (k : State) (pages : List ℕ) (bytes entries : ℕ) : Type 0 where
   pub room : length (memory_in k).bytes ≤ bytes
   pub places : length (memory_in k).versions ≤ entries
   pub are : are_pages (length (memory_in k).versions) pages ≡ true
@@ -271,7 +269,7 @@ long_left a b c d is = grind (arith, nat_tests)
 pub long_right : (a b c d : ℕ) → (nat_lt a b || nat_lt c d) ≡ false → d ≤ c
 long_right a b c d is = grind (arith, nat_tests)
 
-pub ready : (k : Kept) (pages : List ℕ) (bytes entries : ℕ) → push_refusal k pages bytes entries ≡ None → IsReady k pages bytes entries
+pub ready : (k : State) (pages : List ℕ) (bytes entries : ℕ) → push_refusal k pages bytes entries ≡ None → IsReady k pages bytes entries
 ready k pages bytes entries none =
     let are = ready_by (is_coming k) (is_short (memory_in k) bytes entries) (are_pages (length (memory_in k).versions) pages) (is_stopped k) none in
     record {

@@ -1,5 +1,5 @@
 -- Pages handed in and out, by cases on the handle and on what lies behind it.
-use Rattle.std.proofs.Common.{◌≡◌, ◌≤◌, ◌<◌, ◌*◌, ◌+◌, ◌-◌, ℕ, zero, suc, true, false, nat_lt, List, [], ◌∷◌, refl, sym, ap, ◌∙◌, subst, arith, length, drop, get_or, take, inl, true≢false}
+use Rattle.std.proofs.Common.{◌≡◌, ◌≤◌, ◌<◌, ◌*◌, ◌+◌, ◌-◌, ℕ, zero, suc, true, false, nat_lt, List, [], ◌∷◌, refl, sym, ap, ◌∙◌, subst, arith, length, drop, get_or, take, true≢false}
 use Rattle.std.specs.Prelude.{MatchOption, Option, Some, None, is_some, Result, Ok, Err, slice_index, slice_set}
 use Rattle.std.proofs.lemmas.Bool.Decides.{nat_tests}
 use Rattle.std.proofs.lemmas.List.{drop_all, drop_more}
@@ -24,27 +24,26 @@ use Rattle.sender.specs.declared.phase.Phase.{Phase}
 use Rattle.sender.specs.declared.phase.Phase.TheVariants as phases
 use Rattle.vmig_c.specs.Mirror.{ArePushed, IsPushed, Pulled, PullsKept, Pushed, PushesKept, are_pages, is_closed}
 use Rattle.vmig_c.specs.Told.{IsServed}
-use Rattle.vmig_c.specs.declared.kept.Kept.{Kept}
-use Rattle.vmig_c.specs.declared.kept.Kept.TheVariants.{Still, Moving}
+use Rattle.vmig_c.specs.Kept.{KeptSeen, State, Still, Moving}
 use Rattle.vmig_c.proofs.Mirrored.{both_left, both_right, is_page, whole_page}
 
-pub pushed_none : (k after : Option Kept) (pages ram seen : List ℕ) → is_some k ≡ false → after ≡ k → Pushed k pages ram 8 seen seen after
+pub pushed_none : (k after : Option KeptSeen) (pages ram seen : List ℕ) → is_some k ≡ false → after ≡ k → Pushed k pages ram 8 seen seen after
 pushed_none None after pages ram seen is same = (refl, refl, same)
 pushed_none (Some m) after pages ram seen is same = absurd (true≢false is)
 
-pub pushed_some : (k after : Option Kept) (m next : Kept) (pages ram : List ℕ) (status : ℕ) (seen new_seen : List ℕ) → Some m ≡ k → after ≡ Some next
-    → PushesKept m pages ram status seen new_seen next → Pushed k pages ram status seen new_seen after
-pushed_some k after m next pages ram status seen new_seen is becomes does =
-    subst (λ (o : Option Kept). Pushed o pages ram status seen new_seen after) is (record { next = next; is_next = becomes; does = does })
+pub pushed_some : (k after : Option KeptSeen) (m next : KeptSeen) (pages ram : List ℕ) (status : ℕ) (seen new_seen : List ℕ) → Some m ≡ k → after ≡ Some next → next ≡ record m { state = next.state }
+    → PushesKept m.state pages ram status seen new_seen next.state → Pushed k pages ram status seen new_seen after
+pushed_some k after m next pages ram status seen new_seen is becomes kind does =
+    subst (λ (o : Option KeptSeen). Pushed o pages ram status seen new_seen after) is (record { next = next.state; is_next = becomes ∙ ap Some kind; does = does })
 
-pub pulled_none : (k : Option Kept) (ram seen : List ℕ) (n : ℕ) → is_some k ≡ false → Pulled k 8 ram ram seen seen n n
+pub pulled_none : (k : Option KeptSeen) (ram seen : List ℕ) (n : ℕ) → is_some k ≡ false → Pulled k 8 ram ram seen seen n n
 pulled_none None ram seen n is = record { status_is = refl; ram_same = refl; seen_same = refl; count_same = refl }
 pulled_none (Some m) ram seen n is = absurd (true≢false is)
 
-pub pulled_some : (k : Option Kept) (m : Kept) (status : ℕ) (ram new_ram seen new_seen : List ℕ) (count n : ℕ) → Some m ≡ k
-    → PullsKept m status ram new_ram seen new_seen count n → Pulled k status ram new_ram seen new_seen count n
+pub pulled_some : (k : Option KeptSeen) (m : KeptSeen) (status : ℕ) (ram new_ram seen new_seen : List ℕ) (count n : ℕ) → Some m ≡ k
+    → PullsKept m.state status ram new_ram seen new_seen count n → Pulled k status ram new_ram seen new_seen count n
 pulled_some k m status ram new_ram seen new_seen count n is pulls =
-    subst (λ (o : Option Kept). Pulled o status ram new_ram seen new_seen count n) is pulls
+    subst (λ (o : Option KeptSeen). Pulled o status ram new_ram seen new_seen count n) is pulls
 
 -- A write of a whole page that there is: it is done.
 pub none_inside : (len at count : ℕ) → count ≡ 4096 → at + 4096 ≤ len → refusal_of len at count ≡ None
@@ -104,19 +103,19 @@ served_page l next n bytes ram answer going places was is inside long =
 
 pub pushed_live : (l next : LiveSeen) (n : ℕ) (ram seen new_seen : List ℕ) → IsServedPage l (MemWrite (4096 * n) (page_of ram n)) next → new_seen ≡ slice_set seen n (slice_index next.machine.memory.versions n)
     → IsPushed (Moving l) n ram seen new_seen (Moving next)
-pushed_live l next n ram seen new_seen was noted = record { written = inl was.served; noted = noted }
+pushed_live l next n ram seen new_seen was noted = record { written = was.served; noted = noted }
 
 -- One page after another: what is pushed of the rest is pushed of all.
-abbrev pub IsOnWay : Kept → List ℕ → List ℕ → List ℕ → Kept → List ℕ → List ℕ → Type 0
-IsOnWay k pages ram seen now rest seen_now = (next : Kept) (new_seen : List ℕ) → ArePushed now rest ram seen_now new_seen next → ArePushed k pages ram seen new_seen next
+abbrev pub IsOnWay : State → List ℕ → List ℕ → List ℕ → State → List ℕ → List ℕ → Type 0
+IsOnWay k pages ram seen now rest seen_now = (next : State) (new_seen : List ℕ) → ArePushed now rest ram seen_now new_seen next → ArePushed k pages ram seen new_seen next
 
-pub goes_on : (k now mid : Kept) (pages ram seen seen_now mid_seen : List ℕ) (i n : ℕ) → i < length pages → n ≡ get_or pages i 0 → IsOnWay k pages ram seen now (drop i pages) seen_now
+pub goes_on : (k now mid : State) (pages ram seen seen_now mid_seen : List ℕ) (i n : ℕ) → i < length pages → n ≡ get_or pages i 0 → IsOnWay k pages ram seen now (drop i pages) seen_now
     → IsPushed now n ram seen_now mid_seen mid → IsOnWay k pages ram seen mid (drop (i + 1) pages) mid_seen
 goes_on k now mid pages ram seen seen_now mid_seen i n below is way pushed next new_seen rest =
     let at : drop i pages ≡ n ∷ drop (i + 1) pages = rw is (drop_more pages i 0 below) in
     way next new_seen (subst (λ (l : List ℕ). ArePushed now l ram seen_now new_seen next) (sym at) (mid, mid_seen, pushed, rest))
 
-pub at_end : (k now : Kept) (pages ram seen seen_now : List ℕ) (i : ℕ) → length pages ≤ i → IsOnWay k pages ram seen now (drop i pages) seen_now → ArePushed k pages ram seen seen_now now
+pub at_end : (k now : State) (pages ram seen seen_now : List ℕ) (i : ℕ) → length pages ≤ i → IsOnWay k pages ram seen now (drop i pages) seen_now → ArePushed k pages ram seen seen_now now
 at_end k now pages ram seen seen_now i end way =
     way now seen_now (subst (λ (l : List ℕ). ArePushed now l ram seen_now seen_now now) (sym (drop_all i pages end)) (refl, refl))
 

@@ -118,6 +118,7 @@ pub all_pulled : (m : Memory) (ram now seen seen_now : List ℕ) (count n : ℕ)
 all_pulled m ram now seen seen_now count n sound end are =
     let all : 4096 * n ≡ length m.bytes = omega (arith, end, sound.pages) in
     record {
+      sound = sound;
       pages = λ k below. are.pages k (omega (arith, below, end));
       rest = rw all at are.rest;
       noted = are.noted ∙ rw (end, take_all (length m.versions) m.versions (omega arith)) refl;

@@ -1,5 +1,5 @@
 -- Events that were refused, whatever lies behind the handle.
-use Rattle.std.proofs.Common.{◌≡◌, ◌≤◌, ◌<◌, ℕ, refl, ◌∙◌, arith, inl, inr}
+use Rattle.std.proofs.Common.{◌≡◌, ◌≤◌, ◌<◌, ℕ, refl, ◌∙◌, arith}
 use Rattle.std.specs.Prelude.{MatchOption, Option, Some, None}
 use Rattle.machine.specs.declared.event.Event.{Event}
 use Rattle.machine.specs.declared.reply.Reply.{Reply}
@@ -14,7 +14,7 @@ use Rattle.vmig_c.specs.Plain.{ArePlain}
 use Rattle.vmig_c.specs.Refused.{IsSameSent, RefusedTellsNothing}
 use Rattle.vmig_c.specs.Status.{live_status, status_of}
 use Rattle.vmig_c.specs.Told.{IsServed, live_number, number_of}
-use Rattle.vmig_c.specs.declared.kept.Kept.TheVariants.{Still, Moving, Arriving}
+use Rattle.vmig_c.specs.Kept.{Still, Moving, Arriving}
 use Rattle.vmig_c.proofs.Plain.{refused_quiet}
 
 no_number : (reply : Reply) (before : ℕ) → 1 ≤ status_of reply → status_of reply < 64 → number_of reply before ≡ before
@@ -58,8 +58,7 @@ refused_tells_nothing (Still m) (Still next) e status number before plain told s
     let more : 1 ≤ status_of told.reply = omega (arith, some, told.status_is) in
     let less : status_of told.reply < 64 = omega (arith, few, told.status_is) in
     (refused_quiet m next e told.reply plain told.applied more less, told.number_is ∙ no_number told.reply before more less)
-refused_tells_nothing (Moving l) (Moving next) e status number before plain (inl served) some few = quiet_sent l next e status number before plain served some few
-refused_tells_nothing (Moving l) (Moving next) e status number before plain (inr uncopied) some few = (rw (uncopied.same) (record { machine = refl; rest = refl }), uncopied.number_same)
+refused_tells_nothing (Moving l) (Moving next) e status number before plain served some few = quiet_sent l next e status number before plain served some few
 refused_tells_nothing (Arriving r) (Arriving next) e status number before plain told some few = (told.0.1, told.1)
 refused_tells_nothing (Still m) (Moving next) e status number before plain told some few = absurd told
 refused_tells_nothing (Still m) (Arriving next) e status number before plain told some few = absurd told

@@ -5,8 +5,7 @@ use Rattle.receiver.specs.Receiving.{Received}
 use Rattle.receiver.specs.declared.recv_error.RecvError.{RecvError}
 use Rattle.vmig_c.specs.Awaited.{CountsRounds, HasArrived, IsFed, TellsEnd, TellsOf, nothing_fed, stream_status}
 use Rattle.vmig_c.specs.Status.{done, in_use, no_machine, no_memory}
-use Rattle.vmig_c.specs.declared.kept.Kept.{Kept}
-use Rattle.vmig_c.specs.declared.kept.Kept.TheVariants.{Still, Moving, Arriving}
+use Rattle.vmig_c.specs.Kept.{KeptSeen, own, State, Still, Moving, Arriving}
 
 -- A piece was taken.
 pub record HasFed (r : Received) (piece : List ℕ) (status : ℕ) (next : Received) : Type 0 where
@@ -27,20 +26,20 @@ Feeds r piece status next = HasFed r piece status next ⊎ HasNotFed r piece sta
 abbrev pub IsThere : {K : Type 0} → K → ℕ → K → Type 0
 IsThere k status next = (status ≡ in_use) × (next ≡ k)
 
-abbrev pub FeedsKept : Kept → List ℕ → ℕ → Kept → Type 0
+abbrev pub FeedsKept : State → List ℕ → ℕ → State → Type 0
 FeedsKept (Arriving r) piece status (Arriving next) = Feeds r piece status next
 FeedsKept (Still m) piece status (Still next) = IsThere m status next
 FeedsKept (Moving l) piece status (Moving next) = IsThere l status next
 FeedsKept _ piece status _ = ⊥
 
-pub record DoesFed (k : Kept) (piece : List ℕ) (status : ℕ) (after : Option Kept) : Type 0 where
-  pub next : Kept
-  pub is_next : after ≡ Some next
-  pub does : FeedsKept k piece status next
+pub record DoesFed (k : KeptSeen) (piece : List ℕ) (status : ℕ) (after : Option KeptSeen) : Type 0 where
+  pub next : State
+  pub is_next : after ≡ Some (record k { state = next })
+  pub does : FeedsKept k.state piece status next
 
 -- A piece was fed to what lies behind a handle. Where nothing does a machine begins to arrive, if there is memory for it.
-abbrev pub Fed : Option Kept → List ℕ → ℕ → Option Kept → Type 0
-Fed None piece status after = DoesFed (Arriving nothing_fed) piece status after ⊎ ((status ≡ no_memory) × (after ≡ None))
+abbrev pub Fed : Option KeptSeen → List ℕ → ℕ → Option KeptSeen → Type 0
+Fed None piece status after = DoesFed (own (Arriving nothing_fed)) piece status after ⊎ ((status ≡ no_memory) × (after ≡ None))
 Fed (Some k) piece status after = DoesFed k piece status after
 
 -- The machine has arrived.
@@ -55,28 +54,28 @@ pub record HasNotFinished (r : Received) (status : ℕ) (next : Received) : Type
   pub status_is : status ≡ stream_status error
   pub failed : next.failed ≡ true
 
-abbrev pub FinishesKept : Kept → ℕ → Kept → Type 0
+abbrev pub FinishesKept : State → ℕ → State → Type 0
 FinishesKept (Arriving r) status (Still m) = HasFinished r status m
 FinishesKept (Arriving r) status (Arriving next) = HasNotFinished r status next
 FinishesKept (Still m) status (Still next) = IsThere m status next
 FinishesKept (Moving l) status (Moving next) = IsThere l status next
 FinishesKept _ status _ = ⊥
 
-pub record DoesFinished (k : Kept) (status : ℕ) (after : Option Kept) : Type 0 where
-  pub next : Kept
-  pub is_next : after ≡ Some next
-  pub does : FinishesKept k status next
+pub record DoesFinished (k : KeptSeen) (status : ℕ) (after : Option KeptSeen) : Type 0 where
+  pub next : State
+  pub is_next : after ≡ Some (record k { state = next })
+  pub does : FinishesKept k.state status next
 
 -- The machine behind a handle is to be there. Where nothing was fed, nothing changed.
-abbrev pub Finished : Option Kept → ℕ → Option Kept → Type 0
+abbrev pub Finished : Option KeptSeen → ℕ → Option KeptSeen → Type 0
 Finished None status after = (status ≡ no_machine) × (after ≡ None)
 Finished (Some k) status after = DoesFinished k status after
 
-abbrev pub CountsKept : Kept → ℕ → ℕ → ℕ → Type 0
+abbrev pub CountsKept : State → ℕ → ℕ → ℕ → Type 0
 CountsKept (Arriving r) status rounds old_rounds = (status ≡ done) × CountsRounds r.failed r rounds
 CountsKept _ status rounds old_rounds = (status ≡ in_use) × (rounds ≡ old_rounds)
 
 -- How many rounds ended in what was fed.
-abbrev pub Counted : Option Kept → ℕ → ℕ → ℕ → Type 0
+abbrev pub Counted : Option KeptSeen → ℕ → ℕ → ℕ → Type 0
 Counted None status rounds old_rounds = (status ≡ no_machine) × (rounds ≡ old_rounds)
-Counted (Some k) status rounds old_rounds = CountsKept k status rounds old_rounds
+Counted (Some k) status rounds old_rounds = CountsKept k.state status rounds old_rounds

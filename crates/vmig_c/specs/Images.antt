@@ -1,5 +1,5 @@
 -- Disks whose sectors the caller gives, and sectors that go out.
-use Rattle.std.specs.Prelude.{◌≡◌, ◌⊎◌, ℕ, ◌+◌, ◌*◌, ◌==◌, not, nat_lt, if◌then◌else◌, List, [], ◌∷◌, ◌++◌, All, length, map, drop, Option, Some, None, slice_get}
+use Rattle.std.specs.Prelude.{◌≡◌, false, ◌⊎◌, ℕ, ◌+◌, ◌*◌, ◌==◌, not, nat_lt, if◌then◌else◌, List, [], ◌∷◌, ◌++◌, All, length, map, drop, Option, Some, None, slice_get}
 use Rattle.std.specs.List.{concat, flat_map}
 use Rattle.blk.specs.Disk.{AreSectors}
 use Rattle.blk.specs.Sectors.{Sector}
@@ -17,8 +17,7 @@ use Rattle.vmig_c.specs.Moving.{IsKept}
 use Rattle.vmig_c.specs.Plain.{ArePlain}
 use Rattle.vmig_c.specs.Status.{bad_images, bad_sector, done, is_moving, no_machine, no_sector, too_small}
 use Rattle.vmig_c.specs.declared.device_shape.DeviceShape.{DeviceShape}
-use Rattle.vmig_c.specs.declared.kept.Kept.{Kept}
-use Rattle.vmig_c.specs.declared.kept.Kept.TheVariants.{Still, Moving, Arriving}
+use Rattle.vmig_c.specs.Kept.{KeptSeen, State, Still, Moving, Arriving}
 
 -- How many sectors the disks of these devices have, and how many bytes: a sector is 512.
 abbrev pub sectors_in : List Shape → ℕ
@@ -42,12 +41,15 @@ pub record IsMadeWith (pages : ℕ) (shapes : List Shape) (images : List ℕ) (m
   pub plain : ArePlain m
   pub sound : IsSound (state_of m)
 
-abbrev pub KeepsMadeWith : ℕ → List Shape → List ℕ → Kept → Type 0
-KeepsMadeWith pages shapes images (Still m) = IsMadeWith pages shapes images m
-KeepsMadeWith pages shapes images _ = ⊥
+abbrev pub StandsMadeWith : ℕ → List Shape → List ℕ → State → Type 0
+StandsMadeWith pages shapes images (Still m) = IsMadeWith pages shapes images m
+StandsMadeWith pages shapes images _ = ⊥
 
-pub record HasMadeWith (pages : ℕ) (shapes : List DeviceShape) (images : List ℕ) (status : ℕ) (after : Option Kept) : Type 0 where
-  pub kept : Kept
+abbrev pub KeepsMadeWith : ℕ → List Shape → List ℕ → KeptSeen → Type 0
+KeepsMadeWith pages shapes images k = (k.is_mapped ≡ false) × StandsMadeWith pages shapes images k.state
+
+pub record HasMadeWith (pages : ℕ) (shapes : List DeviceShape) (images : List ℕ) (status : ℕ) (after : Option KeptSeen) : Type 0 where
+  pub kept : KeptSeen
   pub is_there : after ≡ Some kept
   pub is_made : KeepsMadeWith pages (shapes_of shapes) images kept
   pub status_is : status ≡ done
@@ -57,12 +59,12 @@ abbrev pub image_refusal : Option ℕ → List DeviceShape → ℕ → Option �
 image_refusal (Some refusal) shapes bytes = Some refusal
 image_refusal None shapes bytes = if bytes == image_size (shapes_of shapes) then None else Some bad_images
 
-abbrev pub MakesWithBy : Option ℕ → Option Kept → ℕ → List DeviceShape → List ℕ → ℕ → Option Kept → Type 0
+abbrev pub MakesWithBy : Option ℕ → Option KeptSeen → ℕ → List DeviceShape → List ℕ → ℕ → Option KeptSeen → Type 0
 MakesWithBy (Some refusal) old pages shapes images status after = (status ≡ refusal) × (after ≡ old)
 MakesWithBy None old pages shapes images status after = HasMadeWith pages shapes images status after ⊎ HasNoMemory old status after
 
 -- A machine was made over disks that hold the images, or it is told why not, and nothing changed.
-abbrev pub MakesWith : Option Kept → ℕ → List DeviceShape → List ℕ → ℕ → Option Kept → Type 0
+abbrev pub MakesWith : Option KeptSeen → ℕ → List DeviceShape → List ℕ → ℕ → Option KeptSeen → Type 0
 MakesWith old pages shapes images status after = MakesWithBy (image_refusal (make_refusal old pages shapes) shapes (length images)) old pages shapes images status after
 
 -- Why a sector does not go out.
@@ -74,7 +76,7 @@ abbrev pub sector_refusal_of : Option DeviceState → ℕ → ℕ → Option ℕ
 sector_refusal_of None n room = Some (code_of NoDevice)
 sector_refusal_of (Some d) n room = disk_refusal (disk_size_of d.shape) n room
 
-abbrev pub sector_refusal : Kept → ℕ → ℕ → ℕ → Option ℕ
+abbrev pub sector_refusal : State → ℕ → ℕ → ℕ → Option ℕ
 sector_refusal (Moving l) dev n room = Some is_moving
 sector_refusal (Arriving r) dev n room = Some no_machine
 sector_refusal (Still m) dev n room = sector_refusal_of (slice_get (state_of m).devices dev) n room
@@ -95,23 +97,23 @@ pub record IsUnread {K : Type 0} (k : K) (refusal status : ℕ) (buf new_buf : L
   pub buf_same : new_buf ≡ buf
   pub same : next ≡ k
 
-abbrev pub ReadsOpen : Kept → ℕ → ℕ → ℕ → List ℕ → List ℕ → Kept → Type 0
+abbrev pub ReadsOpen : State → ℕ → ℕ → ℕ → List ℕ → List ℕ → State → Type 0
 ReadsOpen (Still m) dev n status buf new_buf (Still next) = ReadsOut m dev n status buf new_buf next
 ReadsOpen _ dev n status buf new_buf _ = ⊥
 
-abbrev pub ReadsBy : Option ℕ → Kept → ℕ → ℕ → ℕ → List ℕ → List ℕ → Kept → Type 0
+abbrev pub ReadsBy : Option ℕ → State → ℕ → ℕ → ℕ → List ℕ → List ℕ → State → Type 0
 ReadsBy (Some refusal) k dev n status buf new_buf next = IsUnread k refusal status buf new_buf next
 ReadsBy None k dev n status buf new_buf next = ReadsOpen k dev n status buf new_buf next
 
-abbrev pub ReadsKept : Kept → ℕ → ℕ → ℕ → List ℕ → List ℕ → Kept → Type 0
+abbrev pub ReadsKept : State → ℕ → ℕ → ℕ → List ℕ → List ℕ → State → Type 0
 ReadsKept k dev n status buf new_buf next = ReadsBy (sector_refusal k dev n (length buf)) k dev n status buf new_buf next
 
-pub record DoesRead (k : Kept) (dev n status : ℕ) (buf new_buf : List ℕ) (after : Option Kept) : Type 0 where
-  pub next : Kept
-  pub is_next : after ≡ Some next
-  pub does : ReadsKept k dev n status buf new_buf next
+pub record DoesRead (k : KeptSeen) (dev n status : ℕ) (buf new_buf : List ℕ) (after : Option KeptSeen) : Type 0 where
+  pub next : State
+  pub is_next : after ≡ Some (record k { state = next })
+  pub does : ReadsKept k.state dev n status buf new_buf next
 
 -- A sector of a disk of the machine behind a handle went out. Where there is none, nothing changed.
-abbrev pub SectorRead : Option Kept → ℕ → ℕ → ℕ → List ℕ → List ℕ → Option Kept → Type 0
-SectorRead None dev n status buf new_buf after = IsUnread {K = Option Kept} None no_machine status buf new_buf after
+abbrev pub SectorRead : Option KeptSeen → ℕ → ℕ → ℕ → List ℕ → List ℕ → Option KeptSeen → Type 0
+SectorRead None dev n status buf new_buf after = IsUnread {K = Option KeptSeen} None no_machine status buf new_buf after
 SectorRead (Some k) dev n status buf new_buf after = DoesRead k dev n status buf new_buf after

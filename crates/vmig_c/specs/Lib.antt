@@ -2,8 +2,10 @@ pub mod Arriving
 pub mod Awaited
 pub mod Headed
 pub mod Images
+pub mod Kept
 pub mod Lending
 pub mod Making
+pub mod Mapping
 pub mod Migrated
 pub mod Mirror
 pub mod Moving
@@ -14,3 +16,4 @@ pub mod Sent
 pub mod Status
 pub mod Stepped
 pub mod Told
+pub mod Unmapping

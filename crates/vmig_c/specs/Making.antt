@@ -1,5 +1,5 @@
 -- Machines that C asks for.
-use Rattle.std.specs.Prelude.{◌≡◌, ◌⊎◌, ℕ, ◌==◌, ◌||◌, ◌&&◌, not, nat_lt, Bool, true, List, [], ◌∷◌, length, map, replicate, Option, Some, None, if◌then◌else◌}
+use Rattle.std.specs.Prelude.{◌≡◌, ◌⊎◌, ℕ, ◌==◌, ◌||◌, ◌&&◌, not, nat_lt, Bool, true, false, List, [], ◌∷◌, length, map, replicate, Option, Some, None, if◌then◌else◌}
 use Rattle.guestmem.specs.declared.limits.TheConstants.{PAGES_MAX}
 use Rattle.blk.specs.Sectors.{Sector}
 use Rattle.machine.specs.First.{first_machine}
@@ -11,8 +11,7 @@ use Rattle.machine.specs.declared.shape.Shape.{Shape}
 use Rattle.machine.specs.declared.shape.Shape.TheVariants.{Net, Block, Console, Entropy}
 use Rattle.vmig_c.specs.Plain.{ArePlain}
 use Rattle.vmig_c.specs.Status.{done, in_use, no_memory, bad_shape}
-use Rattle.vmig_c.specs.declared.kept.Kept.{Kept}
-use Rattle.vmig_c.specs.declared.kept.Kept.TheVariants.{Still}
+use Rattle.vmig_c.specs.Kept.{KeptSeen, State, Still}
 use Rattle.vmig_c.specs.declared.device_shape.DeviceShape.{DeviceShape}
 
 -- The kinds are the standard's numbers (VIRTIO 1.2, 5): 1 a network device, 2 a block device, 3 a console, 4 an entropy
@@ -39,7 +38,7 @@ abbrev pub are_beyond_limits : ℕ → List DeviceShape → Bool
 are_beyond_limits pages shapes = pages == 0 || nat_lt PAGES_MAX pages || length shapes == 0 || nat_lt DEVICES_MAX (length shapes) || not (are_plain shapes)
 
 -- Why no machine is made, want of memory aside.
-abbrev pub make_refusal : Option Kept → ℕ → List DeviceShape → Option ℕ
+abbrev pub make_refusal : Option KeptSeen → ℕ → List DeviceShape → Option ℕ
 make_refusal (Some m) pages shapes = Some in_use
 make_refusal None pages shapes = if are_beyond_limits pages shapes then Some bad_shape else None
 
@@ -53,26 +52,29 @@ pub record IsMade (pages : ℕ) (shapes : List Shape) (m : Seen) : Type 0 where
   pub plain : ArePlain m
   pub sound : IsSound (state_of m)
 
--- It stands still.
-abbrev pub KeepsMade : ℕ → List Shape → Kept → Type 0
-KeepsMade pages shapes (Still m) = IsMade pages shapes m
-KeepsMade pages shapes _ = ⊥
+-- It stands still, and its disks lie in memory of the library.
+abbrev pub StandsMade : ℕ → List Shape → State → Type 0
+StandsMade pages shapes (Still m) = IsMade pages shapes m
+StandsMade pages shapes _ = ⊥
 
-pub record HasMade (pages : ℕ) (shapes : List DeviceShape) (status : ℕ) (after : Option Kept) : Type 0 where
-  pub kept : Kept
+abbrev pub KeepsMade : ℕ → List Shape → KeptSeen → Type 0
+KeepsMade pages shapes k = (k.is_mapped ≡ false) × StandsMade pages shapes k.state
+
+pub record HasMade (pages : ℕ) (shapes : List DeviceShape) (status : ℕ) (after : Option KeptSeen) : Type 0 where
+  pub kept : KeptSeen
   pub is_there : after ≡ Some kept
   pub is_made : KeepsMade pages (shapes_of shapes) kept
   pub status_is : status ≡ done
 
 -- Memory was refused, and nothing changed.
-pub record HasNoMemory (old : Option Kept) (status : ℕ) (after : Option Kept) : Type 0 where
+pub record HasNoMemory (old : Option KeptSeen) (status : ℕ) (after : Option KeptSeen) : Type 0 where
   pub status_is : status ≡ no_memory
   pub same : after ≡ old
 
-abbrev pub MakesBy : Option ℕ → Option Kept → ℕ → List DeviceShape → ℕ → Option Kept → Type 0
+abbrev pub MakesBy : Option ℕ → Option KeptSeen → ℕ → List DeviceShape → ℕ → Option KeptSeen → Type 0
 MakesBy (Some refusal) old pages shapes status after = (status ≡ refusal) × (after ≡ old)
 MakesBy None old pages shapes status after = HasMade pages shapes status after ⊎ HasNoMemory old status after
 
 -- A machine was made, or it is told why not, and nothing changed.
-abbrev pub Makes : Option Kept → ℕ → List DeviceShape → ℕ → Option Kept → Type 0
+abbrev pub Makes : Option KeptSeen → ℕ → List DeviceShape → ℕ → Option KeptSeen → Type 0
 Makes old pages shapes status after = MakesBy (make_refusal old pages shapes) old pages shapes status after

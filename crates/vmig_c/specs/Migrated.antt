@@ -15,8 +15,7 @@ use Rattle.sender.specs.declared.phase.Phase.TheVariants as phases
 use Rattle.wire.specs.Sinks.{over_writer}
 use Rattle.vmig_c.specs.Status.{done, live_status, mig_status, no_machine, no_memory}
 use Rattle.vmig_c.specs.Told.{IsNotThere, IsServed}
-use Rattle.vmig_c.specs.declared.kept.Kept.{Kept}
-use Rattle.vmig_c.specs.declared.kept.Kept.TheVariants.{Still, Moving, Arriving}
+use Rattle.vmig_c.specs.Kept.{KeptSeen, State, Still, Moving, Arriving}
 
 -- What a machine that stands still is told by every call of a migration but its begin: nothing changed.
 abbrev pub IsNotBegun : Seen → ℕ → Seen → Type 0
@@ -49,7 +48,7 @@ pub record IsAnswered (l : LiveSeen) (status : ℕ) (next : LiveSeen) : Type 0 w
   pub status_is : status ≡ live_status reply
 
 -- A machine that stands still begins to be sent. One that is sent refuses it.
-abbrev pub BeginsKept : Kept → ℕ → Kept → Type 0
+abbrev pub BeginsKept : State → ℕ → State → Type 0
 BeginsKept (Still m) status (Still next) = IsFull m status next
 BeginsKept (Still m) status (Moving next) = HasBegun m status next
 BeginsKept (Moving l) status (Moving next) = IsAnswered l status next
@@ -74,13 +73,13 @@ pub record HasCopied (l : LiveSeen) (status dev old_dev number old_number : ℕ)
   pub dev_is : dev ≡ copied_dev reply old_dev
   pub number_is : number ≡ copied_number reply old_number
 
-abbrev pub CopiesKept : Kept → ℕ → ℕ → ℕ → ℕ → ℕ → Kept → Type 0
+abbrev pub CopiesKept : State → ℕ → ℕ → ℕ → ℕ → ℕ → State → Type 0
 CopiesKept (Still m) status dev old_dev number old_number (Still next) = IsNotBegun m status next × (dev ≡ old_dev) × (number ≡ old_number)
 CopiesKept (Moving l) status dev old_dev number old_number (Moving next) = HasCopied l status dev old_dev number old_number next
 CopiesKept (Arriving r) status dev old_dev number old_number (Arriving next) = IsNotThere r status next × (dev ≡ old_dev) × (number ≡ old_number)
 CopiesKept _ status dev old_dev number old_number _ = ⊥
 
-abbrev pub EndsKept : Kept → ℕ → ℕ → ℕ → Kept → Type 0
+abbrev pub EndsKept : State → ℕ → ℕ → ℕ → State → Type 0
 EndsKept (Still m) status round before (Still next) = IsNotBegun m status next × (round ≡ before)
 EndsKept (Moving l) status round before (Moving next) = IsServed l events.EndRound status round before next
 EndsKept (Arriving r) status round before (Arriving next) = IsNotThere r status next × (round ≡ before)
@@ -103,21 +102,21 @@ pub record HasStopped (l : LiveSeen) (status pages old_pages sectors old_sectors
   pub pages_are : pages ≡ stopped_pages reply old_pages
   pub sectors_are : sectors ≡ stopped_sectors reply old_sectors
 
-abbrev pub StopsKept : Kept → ℕ → ℕ → ℕ → ℕ → ℕ → Kept → Type 0
+abbrev pub StopsKept : State → ℕ → ℕ → ℕ → ℕ → ℕ → State → Type 0
 StopsKept (Still m) status pages old_pages sectors old_sectors (Still next) = IsNotBegun m status next × (pages ≡ old_pages) × (sectors ≡ old_sectors)
 StopsKept (Moving l) status pages old_pages sectors old_sectors (Moving next) = HasStopped l status pages old_pages sectors old_sectors next
 StopsKept (Arriving r) status pages old_pages sectors old_sectors (Arriving next) = IsNotThere r status next × (pages ≡ old_pages) × (sectors ≡ old_sectors)
 StopsKept _ status pages old_pages sectors old_sectors _ = ⊥
 
 -- The machine stands still again, as it is. What was written and not taken is gone.
-abbrev pub AbortsKept : Kept → ℕ → Kept → Type 0
+abbrev pub AbortsKept : State → ℕ → State → Type 0
 AbortsKept (Still m) status (Still next) = IsNotBegun m status next
 AbortsKept (Moving l) status (Still next) = (status ≡ done) × (next ≡ l.machine)
 AbortsKept (Arriving r) status (Arriving next) = IsNotThere r status next
 AbortsKept _ status _ = ⊥
 
 -- How many items are due, and how many are dirty.
-abbrev pub RemainsKept : Kept → ℕ → ℕ → ℕ → ℕ → ℕ → Type 0
+abbrev pub RemainsKept : State → ℕ → ℕ → ℕ → ℕ → ℕ → Type 0
 RemainsKept (Still m) status due old_due dirty old_dirty = (status ≡ mig_status NotBegun) × (due ≡ old_due) × (dirty ≡ old_dirty)
 RemainsKept (Arriving r) status due old_due dirty old_dirty = (status ≡ no_machine) × (due ≡ old_due) × (dirty ≡ old_dirty)
 RemainsKept (Moving l) status due old_due dirty old_dirty = (status ≡ done) × (due ≡ count_by (λ b. b) l.due) × (dirty ≡ count_by (λ b. b) l.dirty)
@@ -129,73 +128,73 @@ pub record HasTaken (l : LiveSeen) (status got : ℕ) (buf new_buf : List ℕ) (
   pub bytes : new_buf ≡ take got l.out.held ++ drop got buf
   pub rest : next ≡ record l { out = over_writer (Some (drop got l.out.held)) 0 }
 
-abbrev pub TakesKept : Kept → ℕ → ℕ → ℕ → List ℕ → List ℕ → Kept → Type 0
+abbrev pub TakesKept : State → ℕ → ℕ → ℕ → List ℕ → List ℕ → State → Type 0
 TakesKept (Still m) status got old_got buf new_buf (Still next) = IsNotBegun m status next × (got ≡ old_got) × (new_buf ≡ buf)
 TakesKept (Moving l) status got old_got buf new_buf (Moving next) = HasTaken l status got buf new_buf next
 TakesKept (Arriving r) status got old_got buf new_buf (Arriving next) = IsNotThere r status next × (got ≡ old_got) × (new_buf ≡ buf)
 TakesKept _ status got old_got buf new_buf _ = ⊥
 
-pub record DoesBegun (k : Kept) (status : ℕ) (after : Option Kept) : Type 0 where
-  pub next : Kept
-  pub is_next : after ≡ Some next
-  pub does : BeginsKept k status next
+pub record DoesBegun (k : KeptSeen) (status : ℕ) (after : Option KeptSeen) : Type 0 where
+  pub next : State
+  pub is_next : after ≡ Some (record k { state = next })
+  pub does : BeginsKept k.state status next
 
 -- The machine behind a handle begins to be sent. Where there is none, nothing changed; so below.
-abbrev pub Begun : Option Kept → ℕ → Option Kept → Type 0
+abbrev pub Begun : Option KeptSeen → ℕ → Option KeptSeen → Type 0
 Begun None status after = (status ≡ no_machine) × (after ≡ None)
 Begun (Some k) status after = DoesBegun k status after
 
-pub record DoesCopied (k : Kept) (status dev old_dev number old_number : ℕ) (after : Option Kept) : Type 0 where
-  pub next : Kept
-  pub is_next : after ≡ Some next
-  pub does : CopiesKept k status dev old_dev number old_number next
+pub record DoesCopied (k : KeptSeen) (status dev old_dev number old_number : ℕ) (after : Option KeptSeen) : Type 0 where
+  pub next : State
+  pub is_next : after ≡ Some (record k { state = next })
+  pub does : CopiesKept k.state status dev old_dev number old_number next
 
 -- Its least due item is sent.
-abbrev pub Copied : Option Kept → ℕ → ℕ → ℕ → ℕ → ℕ → Option Kept → Type 0
+abbrev pub Copied : Option KeptSeen → ℕ → ℕ → ℕ → ℕ → ℕ → Option KeptSeen → Type 0
 Copied None status dev old_dev number old_number after = (status ≡ no_machine) × (dev ≡ old_dev) × (number ≡ old_number) × (after ≡ None)
 Copied (Some k) status dev old_dev number old_number after = DoesCopied k status dev old_dev number old_number after
 
-pub record DoesEndedRound (k : Kept) (status round old_round : ℕ) (after : Option Kept) : Type 0 where
-  pub next : Kept
-  pub is_next : after ≡ Some next
-  pub does : EndsKept k status round old_round next
+pub record DoesEndedRound (k : KeptSeen) (status round old_round : ℕ) (after : Option KeptSeen) : Type 0 where
+  pub next : State
+  pub is_next : after ≡ Some (record k { state = next })
+  pub does : EndsKept k.state status round old_round next
 
 -- Its round is ended.
-abbrev pub EndedRound : Option Kept → ℕ → ℕ → ℕ → Option Kept → Type 0
+abbrev pub EndedRound : Option KeptSeen → ℕ → ℕ → ℕ → Option KeptSeen → Type 0
 EndedRound None status round old_round after = (status ≡ no_machine) × (round ≡ old_round) × (after ≡ None)
 EndedRound (Some k) status round old_round after = DoesEndedRound k status round old_round after
 
-pub record DoesHasBeenStopped (k : Kept) (status pages old_pages sectors old_sectors : ℕ) (after : Option Kept) : Type 0 where
-  pub next : Kept
-  pub is_next : after ≡ Some next
-  pub does : StopsKept k status pages old_pages sectors old_sectors next
+pub record DoesHasBeenStopped (k : KeptSeen) (status pages old_pages sectors old_sectors : ℕ) (after : Option KeptSeen) : Type 0 where
+  pub next : State
+  pub is_next : after ≡ Some (record k { state = next })
+  pub does : StopsKept k.state status pages old_pages sectors old_sectors next
 
 -- It is stopped.
-abbrev pub HasBeenStopped : Option Kept → ℕ → ℕ → ℕ → ℕ → ℕ → Option Kept → Type 0
+abbrev pub HasBeenStopped : Option KeptSeen → ℕ → ℕ → ℕ → ℕ → ℕ → Option KeptSeen → Type 0
 HasBeenStopped None status pages old_pages sectors old_sectors after = (status ≡ no_machine) × (pages ≡ old_pages) × (sectors ≡ old_sectors) × (after ≡ None)
 HasBeenStopped (Some k) status pages old_pages sectors old_sectors after = DoesHasBeenStopped k status pages old_pages sectors old_sectors after
 
-pub record DoesAborted (k : Kept) (status : ℕ) (after : Option Kept) : Type 0 where
-  pub next : Kept
-  pub is_next : after ≡ Some next
-  pub does : AbortsKept k status next
+pub record DoesAborted (k : KeptSeen) (status : ℕ) (after : Option KeptSeen) : Type 0 where
+  pub next : State
+  pub is_next : after ≡ Some (record k { state = next })
+  pub does : AbortsKept k.state status next
 
 -- It stands still again.
-abbrev pub Aborted : Option Kept → ℕ → Option Kept → Type 0
+abbrev pub Aborted : Option KeptSeen → ℕ → Option KeptSeen → Type 0
 Aborted None status after = (status ≡ no_machine) × (after ≡ None)
 Aborted (Some k) status after = DoesAborted k status after
 
 -- How many items of it are due, and how many are dirty.
-abbrev pub Remaining : Option Kept → ℕ → ℕ → ℕ → ℕ → ℕ → Type 0
+abbrev pub Remaining : Option KeptSeen → ℕ → ℕ → ℕ → ℕ → ℕ → Type 0
 Remaining None status due old_due dirty old_dirty = (status ≡ no_machine) × (due ≡ old_due) × (dirty ≡ old_dirty)
-Remaining (Some k) status due old_due dirty old_dirty = RemainsKept k status due old_due dirty old_dirty
+Remaining (Some k) status due old_due dirty old_dirty = RemainsKept k.state status due old_due dirty old_dirty
 
-pub record DoesTaken (k : Kept) (status got old_got : ℕ) (buf new_buf : List ℕ) (after : Option Kept) : Type 0 where
-  pub next : Kept
-  pub is_next : after ≡ Some next
-  pub does : TakesKept k status got old_got buf new_buf next
+pub record DoesTaken (k : KeptSeen) (status got old_got : ℕ) (buf new_buf : List ℕ) (after : Option KeptSeen) : Type 0 where
+  pub next : State
+  pub is_next : after ≡ Some (record k { state = next })
+  pub does : TakesKept k.state status got old_got buf new_buf next
 
 -- C takes of what waits.
-abbrev pub Taken : Option Kept → ℕ → ℕ → ℕ → List ℕ → List ℕ → Option Kept → Type 0
+abbrev pub Taken : Option KeptSeen → ℕ → ℕ → ℕ → List ℕ → List ℕ → Option KeptSeen → Type 0
 Taken None status got old_got buf new_buf after = (status ≡ no_machine) × (got ≡ old_got) × (new_buf ≡ buf) × (after ≡ None)
 Taken (Some k) status got old_got buf new_buf after = DoesTaken k status got old_got buf new_buf after

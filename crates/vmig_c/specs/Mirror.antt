@@ -1,6 +1,6 @@
 -- A caller who keeps the guest's RAM in memory of its own, and mirrors it into the machine: whole pages are handed in and
 -- out, and a list of the caller's notes the version at which it had each page.
-use Rattle.std.specs.Prelude.{◌≡◌, ◌⊎◌, ℕ, ◌*◌, ◌-◌, ◌^◌, ◌<◌, ◌≤◌, ◌==◌, ◌&&◌, ◌||◌, ◌++◌, not, nat_lt, if◌then◌else◌, Bool, true, false, List, [], ◌∷◌, Option, Some, None, length, take, drop, slice_index, slice_set}
+use Rattle.std.specs.Prelude.{◌≡◌, ℕ, ◌*◌, ◌-◌, ◌^◌, ◌<◌, ◌≤◌, ◌==◌, ◌&&◌, ◌||◌, ◌++◌, not, nat_lt, if◌then◌else◌, Bool, true, false, List, [], ◌∷◌, Option, Some, None, length, take, drop, slice_index, slice_set}
 use Rattle.guestmem.specs.declared.limits.TheConstants.{PAGE_SIZE}
 use Rattle.guestmem.specs.Memory.{IsMemory, Memory}
 use Rattle.guestmem.specs.Page.{page_of}
@@ -8,31 +8,30 @@ use Rattle.machine.specs.Applied.{IsApplied}
 use Rattle.machine.specs.Refusal.{code_of}
 use Rattle.machine.specs.Seen.{Seen}
 use Rattle.machine.specs.declared.event.Event.{Event}
-use Rattle.machine.specs.declared.event.Event.TheVariants.{Input, MemWrite}
+use Rattle.machine.specs.declared.event.Event.TheVariants.{MemWrite}
 use Rattle.machine.specs.declared.reply.Refusal.TheVariants.{OutOfRam}
 use Rattle.machine.specs.declared.reply.Reply.{Reply}
 use Rattle.sender.specs.LiveState.{how_many}
 use Rattle.sender.specs.declared.mig_error.MigError.TheVariants.{AlreadyStopped}
 use Rattle.sender.specs.declared.phase.Phase.{Phase}
 use Rattle.sender.specs.declared.phase.Phase.TheVariants as phases
-use Rattle.vmig_c.specs.Status.{done, mig_status, no_machine, no_memory, too_small}
+use Rattle.vmig_c.specs.Status.{done, mig_status, no_machine, too_small}
 use Rattle.vmig_c.specs.Told.{TellsSo}
-use Rattle.vmig_c.specs.declared.kept.Kept.{Kept}
-use Rattle.vmig_c.specs.declared.kept.Kept.TheVariants.{Still, Moving, Arriving}
+use Rattle.vmig_c.specs.Kept.{KeptSeen, State, Still, Moving, Arriving}
 
 -- What arrives is no machine yet.
-abbrev pub is_coming : Kept → Bool
+abbrev pub is_coming : State → Bool
 is_coming (Still m) = false
 is_coming (Moving l) = false
 is_coming (Arriving r) = true
 
 -- The machine behind a handle, be it sent or not; of one that arrives, nothing.
-abbrev pub machine_in : Kept → Seen
+abbrev pub machine_in : State → Seen
 machine_in (Still m) = m
 machine_in (Moving l) = l.machine
 machine_in (Arriving r) = record { memory = record { bytes = []; versions = [] }; devices = [] }
 
-abbrev pub memory_in : Kept → Memory
+abbrev pub memory_in : State → Memory
 memory_in k = (machine_in k).memory
 
 -- The greatest number of 64 bits: the caller notes it of a page that it has not seen, and the count of versions stands still
@@ -54,13 +53,13 @@ abbrev pub is_closed : Phase → Bool
 is_closed phases.Stopped = true
 is_closed _ = false
 
-abbrev pub is_stopped : Kept → Bool
+abbrev pub is_stopped : State → Bool
 is_stopped (Still m) = false
 is_stopped (Moving l) = is_closed l.phase
 is_stopped (Arriving r) = false
 
--- Why pages are not handed in, want of memory aside.
-abbrev pub push_refusal : Kept → List ℕ → ℕ → ℕ → Option ℕ
+-- Why pages are not handed in.
+abbrev pub push_refusal : State → List ℕ → ℕ → ℕ → Option ℕ
 push_refusal k pages bytes entries =
     if is_coming k then Some no_machine
     else if is_short (memory_in k) bytes entries then Some too_small
@@ -68,52 +67,40 @@ push_refusal k pages bytes entries =
     else if is_stopped k then Some (mig_status AlreadyStopped)
     else None
 
--- The bytes of an event.
-abbrev pub bytes_in : Event → List ℕ
-bytes_in (MemWrite addr bytes) = bytes
-bytes_in (Input dev bytes) = bytes
-bytes_in _ = []
-
 -- A page was handed in: the guest wrote it whole, and its version after that is noted.
-pub record IsPushed (k : Kept) (n : ℕ) (ram seen new_seen : List ℕ) (next : Kept) : Type 0 where
+pub record IsPushed (k : State) (n : ℕ) (ram seen new_seen : List ℕ) (next : State) : Type 0 where
   pub written : TellsSo k (MemWrite (PAGE_SIZE * n) (page_of ram n)) done next
   pub noted : new_seen ≡ slice_set seen n (slice_index (memory_in next).versions n)
 
 -- Pages were handed in one after another.
-abbrev pub ArePushed : Kept → List ℕ → List ℕ → List ℕ → List ℕ → Kept → Type 0
+abbrev pub ArePushed : State → List ℕ → List ℕ → List ℕ → List ℕ → State → Type 0
 ArePushed k [] ram seen new_seen next = (next ≡ k) × (new_seen ≡ seen)
-ArePushed k (n ∷ pages) ram seen new_seen next = (mid : Kept) × (mid_seen : List ℕ) × IsPushed k n ram seen mid_seen mid × ArePushed mid pages ram mid_seen new_seen next
+ArePushed k (n ∷ pages) ram seen new_seen next = (mid : State) × (mid_seen : List ℕ) × IsPushed k n ram seen mid_seen mid × ArePushed mid pages ram mid_seen new_seen next
 
-pub record HasPushed (k : Kept) (pages ram : List ℕ) (status : ℕ) (seen new_seen : List ℕ) (next : Kept) : Type 0 where
+pub record HasPushed (k : State) (pages ram : List ℕ) (status : ℕ) (seen new_seen : List ℕ) (next : State) : Type 0 where
   pub pushed : ArePushed k pages ram seen new_seen next
   pub status_is : status ≡ done
 
 -- It was refused, and nothing changed.
-pub record IsUnpushed (k : Kept) (refusal status : ℕ) (seen new_seen : List ℕ) (next : Kept) : Type 0 where
+pub record IsUnpushed (k : State) (refusal status : ℕ) (seen new_seen : List ℕ) (next : State) : Type 0 where
   pub status_is : status ≡ refusal
   pub seen_same : new_seen ≡ seen
   pub same : next ≡ k
 
--- A machine that is sent gets the bytes of a page as those of an event, for which memory may be refused.
-abbrev pub PushesOpen : Kept → List ℕ → List ℕ → ℕ → List ℕ → List ℕ → Kept → Type 0
-PushesOpen (Still m) pages ram status seen new_seen next = HasPushed (Still m) pages ram status seen new_seen next
-PushesOpen (Arriving r) pages ram status seen new_seen next = ⊥
-PushesOpen (Moving l) pages ram status seen new_seen next = HasPushed (Moving l) pages ram status seen new_seen next ⊎ IsUnpushed (Moving l) no_memory status seen new_seen next
-
-abbrev pub PushesBy : Option ℕ → Kept → List ℕ → List ℕ → ℕ → List ℕ → List ℕ → Kept → Type 0
+abbrev pub PushesBy : Option ℕ → State → List ℕ → List ℕ → ℕ → List ℕ → List ℕ → State → Type 0
 PushesBy (Some refusal) k pages ram status seen new_seen next = IsUnpushed k refusal status seen new_seen next
-PushesBy None k pages ram status seen new_seen next = PushesOpen k pages ram status seen new_seen next
+PushesBy None k pages ram status seen new_seen next = HasPushed k pages ram status seen new_seen next
 
-abbrev pub PushesKept : Kept → List ℕ → List ℕ → ℕ → List ℕ → List ℕ → Kept → Type 0
+abbrev pub PushesKept : State → List ℕ → List ℕ → ℕ → List ℕ → List ℕ → State → Type 0
 PushesKept k pages ram status seen new_seen next = PushesBy (push_refusal k pages (length ram) (length seen)) k pages ram status seen new_seen next
 
-pub record DoesPushed (k : Kept) (pages ram : List ℕ) (status : ℕ) (seen new_seen : List ℕ) (after : Option Kept) : Type 0 where
-  pub next : Kept
-  pub is_next : after ≡ Some next
-  pub does : PushesKept k pages ram status seen new_seen next
+pub record DoesPushed (k : KeptSeen) (pages ram : List ℕ) (status : ℕ) (seen new_seen : List ℕ) (after : Option KeptSeen) : Type 0 where
+  pub next : State
+  pub is_next : after ≡ Some (record k { state = next })
+  pub does : PushesKept k.state pages ram status seen new_seen next
 
 -- Pages were handed in to the machine behind a handle. Where there is none, nothing changed.
-abbrev pub Pushed : Option Kept → List ℕ → List ℕ → ℕ → List ℕ → List ℕ → Option Kept → Type 0
+abbrev pub Pushed : Option KeptSeen → List ℕ → List ℕ → ℕ → List ℕ → List ℕ → Option KeptSeen → Type 0
 Pushed None pages ram status seen new_seen after = (status ≡ no_machine) × (new_seen ≡ seen) × (after ≡ None)
 Pushed (Some k) pages ram status seen new_seen after = DoesPushed k pages ram status seen new_seen after
 
@@ -124,6 +111,7 @@ is_noted m seen n = slice_index seen n == slice_index m.versions n && nat_lt (sl
 -- Each page that the caller has not as it is was handed out; the others are as they were, and so is all behind the last.
 -- Every version is noted. So many pages were handed out.
 pub record HasPulled (m : Memory) (ram new_ram seen new_seen : List ℕ) (count : ℕ) : Type 0 where
+  pub sound : IsMemory m
   pub pages : (n : ℕ) → n < length m.versions → page_of new_ram n ≡ (if is_noted m seen n then page_of ram n else page_of m.bytes n)
   pub rest : drop (length m.bytes) new_ram ≡ drop (length m.bytes) ram
   pub noted : new_seen ≡ m.versions ++ drop (length m.versions) seen
@@ -143,17 +131,17 @@ PullsIf false m status ram new_ram seen new_seen count before = (status ≡ done
 abbrev pub Pulls : Memory → ℕ → List ℕ → List ℕ → List ℕ → List ℕ → ℕ → ℕ → Type 0
 Pulls m status ram new_ram seen new_seen count before = PullsIf (is_short m (length ram) (length seen)) m status ram new_ram seen new_seen count before
 
-abbrev pub PullsUnless : Bool → Kept → ℕ → List ℕ → List ℕ → List ℕ → List ℕ → ℕ → ℕ → Type 0
+abbrev pub PullsUnless : Bool → State → ℕ → List ℕ → List ℕ → List ℕ → List ℕ → ℕ → ℕ → Type 0
 PullsUnless true k status ram new_ram seen new_seen count before = IsUnpulled no_machine status ram new_ram seen new_seen count before
 PullsUnless false k status ram new_ram seen new_seen count before = Pulls (memory_in k) status ram new_ram seen new_seen count before
 
-abbrev pub PullsKept : Kept → ℕ → List ℕ → List ℕ → List ℕ → List ℕ → ℕ → ℕ → Type 0
+abbrev pub PullsKept : State → ℕ → List ℕ → List ℕ → List ℕ → List ℕ → ℕ → ℕ → Type 0
 PullsKept k status ram new_ram seen new_seen count before = PullsUnless (is_coming k) k status ram new_ram seen new_seen count before
 
 -- Pages of the machine behind a handle were handed out.
-abbrev pub Pulled : Option Kept → ℕ → List ℕ → List ℕ → List ℕ → List ℕ → ℕ → ℕ → Type 0
+abbrev pub Pulled : Option KeptSeen → ℕ → List ℕ → List ℕ → List ℕ → List ℕ → ℕ → ℕ → Type 0
 Pulled None status ram new_ram seen new_seen count before = IsUnpulled no_machine status ram new_ram seen new_seen count before
-Pulled (Some k) status ram new_ram seen new_seen count before = PullsKept k status ram new_ram seen new_seen count before
+Pulled (Some k) status ram new_ram seen new_seen count before = PullsKept k.state status ram new_ram seen new_seen count before
 
 -- What the caller noted of a page is not ahead of its version, and a page that it noted as it is is the machine's.
 pub record MirrorsPage (m : Memory) (ram seen : List ℕ) (n : ℕ) : Type 0 where
@@ -174,7 +162,7 @@ AppliedMirrors = (m next : Seen) (e : Event) (reply : Reply) (ram seen : List �
 
 -- A mirror into which the pages are handed out is the machine's RAM, and stays a mirror.
 abbrev pub PulledMirrors : Type 0
-PulledMirrors = (m : Memory) (ram new_ram seen new_seen : List ℕ) (count : ℕ) → IsMemory m → Mirrors m ram seen → HasPulled m ram new_ram seen new_seen count
+PulledMirrors = (m : Memory) (ram new_ram seen new_seen : List ℕ) (count : ℕ) → Mirrors m ram seen → HasPulled m ram new_ram seen new_seen count
     → (take (length m.bytes) new_ram ≡ m.bytes) × Mirrors m new_ram new_seen
 
 -- The number is one of these.
@@ -184,6 +172,6 @@ is_among (k ∷ pages) n = n == k || is_among pages n
 
 -- Once pages were handed in, they are mirrored, and so is each other page that was before.
 abbrev pub PushedMirrors : Type 0
-PushedMirrors = (k next : Kept) (pages ram seen new_seen : List ℕ) → IsMemory (memory_in k) → push_refusal k pages (length ram) (length seen) ≡ None
+PushedMirrors = (k next : State) (pages ram seen new_seen : List ℕ) → IsMemory (memory_in k) → push_refusal k pages (length ram) (length seen) ≡ None
     → ((n : ℕ) → n < length (memory_in k).versions → is_among pages n ≡ false → MirrorsPage (memory_in k) ram seen n)
     → ArePushed k pages ram seen new_seen next → Mirrors (memory_in next) ram new_seen

@@ -12,8 +12,7 @@ use Rattle.vmig_c.specs.Headed.{AreFitting}
 use Rattle.vmig_c.specs.Plain.{ArePlain, mem_state}
 use Rattle.vmig_c.specs.Status.{done, in_use, is_moving, no_machine, no_memory, too_small}
 use Rattle.vmig_c.specs.Told.{IsNotThere}
-use Rattle.vmig_c.specs.declared.kept.Kept.{Kept}
-use Rattle.vmig_c.specs.declared.kept.Kept.TheVariants.{Still, Moving, Arriving}
+use Rattle.vmig_c.specs.Kept.{KeptSeen, State, Still, Moving, Arriving}
 
 -- A machine that was read for its stream is the same.
 pub record IsKept (old new : Seen) : Type 0 where
@@ -50,19 +49,19 @@ pub record IsNotSaved (l : LiveSeen) (status len old_len : ℕ) (buf new_buf : L
   pub buf_same : new_buf ≡ buf
   pub same : next ≡ l
 
-abbrev pub SavesKept : Kept → ℕ → ℕ → ℕ → List ℕ → List ℕ → Kept → Type 0
+abbrev pub SavesKept : State → ℕ → ℕ → ℕ → List ℕ → List ℕ → State → Type 0
 SavesKept (Still m) status len old_len buf new_buf (Still next) = Saves m status len old_len buf new_buf next
 SavesKept (Moving l) status len old_len buf new_buf (Moving next) = IsNotSaved l status len old_len buf new_buf next
 SavesKept (Arriving r) status len old_len buf new_buf (Arriving next) = IsNotThere r status next × (len ≡ old_len) × (new_buf ≡ buf)
 SavesKept _ status len old_len buf new_buf _ = ⊥
 
-pub record HasSaved (k : Kept) (status len old_len : ℕ) (buf new_buf : List ℕ) (after : Option Kept) : Type 0 where
-  pub next : Kept
-  pub is_next : after ≡ Some next
-  pub saves : SavesKept k status len old_len buf new_buf next
+pub record HasSaved (k : KeptSeen) (status len old_len : ℕ) (buf new_buf : List ℕ) (after : Option KeptSeen) : Type 0 where
+  pub next : State
+  pub is_next : after ≡ Some (record k { state = next })
+  pub saves : SavesKept k.state status len old_len buf new_buf next
 
 -- The machine behind a handle was saved. Where there is none, nothing changed.
-abbrev pub Saved : Option Kept → ℕ → ℕ → ℕ → List ℕ → List ℕ → Option Kept → Type 0
+abbrev pub Saved : Option KeptSeen → ℕ → ℕ → ℕ → List ℕ → List ℕ → Option KeptSeen → Type 0
 Saved None status len old_len buf new_buf after = (status ≡ no_machine) × (len ≡ old_len) × (new_buf ≡ buf) × (after ≡ None)
 Saved (Some k) status len old_len buf new_buf after = HasSaved k status len old_len buf new_buf after
 
@@ -71,9 +70,12 @@ pub record IsReceivedAs (bytes : List ℕ) (m : Seen) (n : ℕ) : Type 0 where
   pub received : IsReceived bytes (state_of m) n
   pub plain : ArePlain m
 
-abbrev pub KeepsReceived : List ℕ → Kept → ℕ → Type 0
-KeepsReceived bytes (Still m) n = IsReceivedAs bytes m n
-KeepsReceived bytes _ n = ⊥
+abbrev pub StandsReceived : List ℕ → State → ℕ → Type 0
+StandsReceived bytes (Still m) n = IsReceivedAs bytes m n
+StandsReceived bytes _ n = ⊥
+
+abbrev pub KeepsReceived : List ℕ → KeptSeen → ℕ → Type 0
+KeepsReceived bytes k n = (k.is_mapped ≡ false) × StandsReceived bytes k.state n
 
 -- The status of a refusal of a stream.
 abbrev pub refusal_status : RecvError → ℕ
@@ -99,19 +101,19 @@ pub record IsRefused (bytes : List ℕ) (status : ℕ) : Type 0 where
 abbrev pub RefusedBy : List ℕ → ℕ → Type 0
 RefusedBy bytes status = IsRefused bytes status ⊎ (status ≡ no_memory)
 
-pub record HasReceived (bytes : List ℕ) (status n : ℕ) (after : Option Kept) : Type 0 where
-  pub kept : Kept
+pub record HasReceived (bytes : List ℕ) (status n : ℕ) (after : Option KeptSeen) : Type 0 where
+  pub kept : KeptSeen
   pub is_there : after ≡ Some kept
   pub is_received : KeepsReceived bytes kept n
   pub status_is : status ≡ done
 
 -- Nothing changed.
-pub record HasRefused (bytes : List ℕ) (status n old_n : ℕ) (after : Option Kept) : Type 0 where
+pub record HasRefused (bytes : List ℕ) (status n old_n : ℕ) (after : Option KeptSeen) : Type 0 where
   pub refused : RefusedBy bytes status
   pub number_same : n ≡ old_n
   pub same : after ≡ None
 
 -- A machine was received into a handle, or it is told why not.
-abbrev pub Received : Option Kept → List ℕ → ℕ → ℕ → ℕ → Option Kept → Type 0
+abbrev pub Received : Option KeptSeen → List ℕ → ℕ → ℕ → ℕ → Option KeptSeen → Type 0
 Received (Some m) bytes status n old_n after = (status ≡ in_use) × (n ≡ old_n) × (after ≡ Some m)
 Received None bytes status n old_n after = HasReceived bytes status n after ⊎ HasRefused bytes status n old_n after

@@ -8,7 +8,7 @@ use base.Fml.{Fml, ftrue, fex}
 use base.Stored.{Coded}
 use denote.RawPtr.{Ptr, null_ptr}
 use denote.RattleType.{RattleType}
-use Rattle.vmig_c.specs.declared.kept.Kept.{Kept}
+use Rattle.vmig_c.specs.Kept.{KeptSeen}
 use Rattle.vmig_c.specs.contracts.kept.Kept as contracts
 
 -- The type of what lies behind handles.
@@ -16,9 +16,9 @@ abbrev pub kept_row : RattleType
 kept_row = contracts.the_row
 
 -- The pointer of a handle is null, or the machine lies there in a block of the C library's heap.
-abbrev pub machine_owns : Global → Ptr → Option Kept → Fml
+abbrev pub machine_owns : Global → Ptr → Option KeptSeen → Fml
 machine_owns alloc at None = fex (at ≡ null_ptr) (λ _. ftrue)
 machine_owns alloc at (Some m) = box_owns (global.dealloc_token alloc) kept_row at m
 
-abbrev pub machine_coded : Coded (Option Kept)
+abbrev pub machine_coded : Coded (Option KeptSeen)
 machine_coded = coded_option kept_row.coded

@@ -6,11 +6,10 @@ use Rattle.machine.specs.declared.event.Event.{Event}
 use Rattle.sender.specs.LiveState.{LiveSeen, now}
 use Rattle.vmig_c.specs.Plain.{ArePlain}
 use Rattle.vmig_c.specs.Told.{Tells}
-use Rattle.vmig_c.specs.declared.kept.Kept.{Kept}
-use Rattle.vmig_c.specs.declared.kept.Kept.TheVariants.{Still, Moving, Arriving}
+use Rattle.vmig_c.specs.Kept.{State, Still, Moving, Arriving}
 
 -- The disks of the machine behind a handle lie in memory.
-abbrev pub ArePlainIn : Kept → Type 0
+abbrev pub ArePlainIn : State → Type 0
 ArePlainIn (Still m) = ArePlain m
 ArePlainIn (Moving l) = ArePlain l.machine
 ArePlainIn (Arriving r) = Unit {0}
@@ -19,7 +18,7 @@ pub record IsSameSent (l next : LiveSeen) : Type 0 where
   pub machine : now next ≡ now l
   pub rest : next ≡ record l { machine = next.machine; dirty = next.dirty }
 
-abbrev pub IsSameKept : Kept → Kept → Type 0
+abbrev pub IsSameKept : State → State → Type 0
 IsSameKept (Still m) (Still next) = state_of next ≡ state_of m
 IsSameKept (Moving l) (Moving next) = IsSameSent l next
 IsSameKept (Arriving r) (Arriving next) = next ≡ r
@@ -27,4 +26,4 @@ IsSameKept _ _ = ⊥
 
 -- A status from 1 to 63 says that the event was refused, or that memory was: nothing changed, and no number is told.
 abbrev pub RefusedTellsNothing : Type 0
-RefusedTellsNothing = (k next : Kept) (e : Event) (status number before : ℕ) → ArePlainIn k → Tells k e status number before next → 1 ≤ status → status < 64 → IsSameKept k next × (number ≡ before)
+RefusedTellsNothing = (k next : State) (e : Event) (status number before : ℕ) → ArePlainIn k → Tells k e status number before next → 1 ≤ status → status < 64 → IsSameKept k next × (number ≡ before)

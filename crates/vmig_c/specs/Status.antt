@@ -49,6 +49,10 @@ is_moving = 13
 abbrev pub no_sector : ℕ
 no_sector = 7
 
+-- The disks lie in memory of the library.
+abbrev pub not_mapped : ℕ
+not_mapped = 14
+
 -- The images are not as long as the disks.
 abbrev pub bad_images : ℕ
 bad_images = 15

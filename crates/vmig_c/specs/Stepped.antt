@@ -16,8 +16,7 @@ use Rattle.sender.specs.declared.event.LiveReply.{LiveReply}
 use Rattle.sender.specs.declared.event.LiveReply.TheVariants as live
 use Rattle.vmig_c.specs.Status.{status_of, live_status, no_machine, too_small}
 use Rattle.vmig_c.specs.Told.{IsNotThere, live_number, number_of}
-use Rattle.vmig_c.specs.declared.kept.Kept.{Kept}
-use Rattle.vmig_c.specs.declared.kept.Kept.TheVariants.{Still, Moving, Arriving}
+use Rattle.vmig_c.specs.Kept.{KeptSeen, State, Still, Moving, Arriving}
 
 -- How many bytes a message of this form has at most.
 abbrev pub most_of : Option MessageForm → ℕ
@@ -85,18 +84,18 @@ LiveSteppedIf false l dev pick status number before buf new_buf after = IsLiveSt
 abbrev pub LiveSteps : LiveSeen → ℕ → ℕ → ℕ → ℕ → ℕ → List ℕ → List ℕ → LiveSeen → Type 0
 LiveSteps l dev pick status number before buf new_buf after = LiveSteppedIf (nat_lt (length buf) (most_sent_by l.machine dev pick)) l dev pick status number before buf new_buf after
 
-abbrev pub StepsKept : Kept → ℕ → ℕ → ℕ → ℕ → ℕ → List ℕ → List ℕ → Kept → Type 0
+abbrev pub StepsKept : State → ℕ → ℕ → ℕ → ℕ → ℕ → List ℕ → List ℕ → State → Type 0
 StepsKept (Still m) dev pick status number before buf new_buf (Still after) = Steps m dev pick status number before buf new_buf after
 StepsKept (Moving l) dev pick status number before buf new_buf (Moving after) = LiveSteps l dev pick status number before buf new_buf after
 StepsKept (Arriving r) dev pick status number before buf new_buf (Arriving next) = IsNotThere r status next × (number ≡ before) × (new_buf ≡ buf)
 StepsKept _ dev pick status number before buf new_buf _ = ⊥
 
-pub record HasStepped (k : Kept) (dev pick status number before : ℕ) (buf new_buf : List ℕ) (after : Option Kept) : Type 0 where
-  pub next : Kept
-  pub is_next : after ≡ Some next
-  pub steps : StepsKept k dev pick status number before buf new_buf next
+pub record HasStepped (k : KeptSeen) (dev pick status number before : ℕ) (buf new_buf : List ℕ) (after : Option KeptSeen) : Type 0 where
+  pub next : State
+  pub is_next : after ≡ Some (record k { state = next })
+  pub steps : StepsKept k.state dev pick status number before buf new_buf next
 
 -- A step of the machine behind a handle. Where there is none, nothing changed.
-abbrev pub Stepped : Option Kept → ℕ → ℕ → ℕ → ℕ → ℕ → List ℕ → List ℕ → Option Kept → Type 0
+abbrev pub Stepped : Option KeptSeen → ℕ → ℕ → ℕ → ℕ → ℕ → List ℕ → List ℕ → Option KeptSeen → Type 0
 Stepped None dev pick status number before buf new_buf after = (status ≡ no_machine) × (number ≡ before) × (new_buf ≡ buf) × (after ≡ None)
 Stepped (Some k) dev pick status number before buf new_buf after = HasStepped k dev pick status number before buf new_buf after

@@ -1,11 +1,11 @@
 -- What C is told of an event.
-use Rattle.std.specs.Prelude.{◌≡◌, ◌⊎◌, ℕ, Bool, true, false, List, Option, Some, None, length, Result, OnErr}
+use Rattle.std.specs.Prelude.{◌≡◌, ℕ, List, Option, Some, None, length, Result, OnErr}
 use Rattle.machine.specs.Applied.{IsApplied}
 use Rattle.machine.specs.Direct.{bytes_reply}
 use Rattle.machine.specs.Lines.{lines_of}
 use Rattle.machine.specs.Seen.{Seen, state_of}
 use Rattle.machine.specs.declared.event.Event.{Event}
-use Rattle.machine.specs.declared.event.Event.TheVariants.{MemRead, MemWrite, Input}
+use Rattle.machine.specs.declared.event.Event.TheVariants.{MemRead}
 use Rattle.machine.specs.declared.reply.Refusal.{Refusal}
 use Rattle.machine.specs.declared.reply.Reply.{Reply}
 use Rattle.machine.specs.declared.reply.Reply.TheVariants.{Value, OutByte, Completed, Sent, Accepted}
@@ -16,9 +16,8 @@ use Rattle.sender.specs.declared.event.LiveEvent.{LiveEvent}
 use Rattle.sender.specs.declared.event.LiveEvent.TheVariants.{Guest}
 use Rattle.sender.specs.declared.event.LiveReply.{LiveReply}
 use Rattle.sender.specs.declared.event.LiveReply.TheVariants as live
-use Rattle.vmig_c.specs.Status.{status_of, live_status, no_machine, no_memory}
-use Rattle.vmig_c.specs.declared.kept.Kept.{Kept}
-use Rattle.vmig_c.specs.declared.kept.Kept.TheVariants.{Still, Moving, Arriving}
+use Rattle.vmig_c.specs.Status.{status_of, live_status, no_machine}
+use Rattle.vmig_c.specs.Kept.{KeptSeen, State, Still, Moving, Arriving}
 
 -- The number of a reply. Where it has none, what stood there stays.
 abbrev pub number_of : Reply → ℕ → ℕ
@@ -51,44 +50,32 @@ pub record IsServed (l : LiveSeen) (e : LiveEvent) (status number before : ℕ) 
   pub status_is : status ≡ live_status reply
   pub number_is : number ≡ live_number reply before
 
--- The events with bytes: a machine that is sent gets a copy of them, for which memory may be refused. Nothing changes then.
-abbrev pub has_bytes : Event → Bool
-has_bytes (MemWrite addr bytes) = true
-has_bytes (Input dev bytes) = true
-has_bytes _ = false
-
-pub record IsUncopied (l : LiveSeen) (e : Event) (status number before : ℕ) (next : LiveSeen) : Type 0 where
-  pub copied : has_bytes e ≡ true
-  pub status_is : status ≡ no_memory
-  pub number_same : number ≡ before
-  pub same : next ≡ l
-
 -- What arrives is no machine yet: nothing changed.
 abbrev pub IsNotThere : {K : Type 0} → K → ℕ → K → Type 0
 IsNotThere k status next = (status ≡ no_machine) × (next ≡ k)
 
 -- An event was applied to what lies behind a handle, which stays one that stands still, or one that is sent.
-abbrev pub Tells : Kept → Event → ℕ → ℕ → ℕ → Kept → Type 0
+abbrev pub Tells : State → Event → ℕ → ℕ → ℕ → State → Type 0
 Tells (Still m) e status number before (Still next) = IsTold m e status number before next
-Tells (Moving l) e status number before (Moving next) = IsServed l (Guest e) status number before next ⊎ IsUncopied l e status number before next
+Tells (Moving l) e status number before (Moving next) = IsServed l (Guest e) status number before next
 Tells (Arriving r) e status number before (Arriving next) = IsNotThere r status next × (number ≡ before)
 Tells _ e status number before _ = ⊥
 
-pub record HasTold (k : Kept) (e : Event) (status number before : ℕ) (after : Option Kept) : Type 0 where
-  pub next : Kept
-  pub is_next : after ≡ Some next
-  pub tells : Tells k e status number before next
+pub record HasTold (k : KeptSeen) (e : Event) (status number before : ℕ) (after : Option KeptSeen) : Type 0 where
+  pub next : State
+  pub is_next : after ≡ Some (record k { state = next })
+  pub tells : Tells k.state e status number before next
 
 -- An event was applied to the machine behind a handle. Where there is none, nothing changed.
-abbrev pub Told : Option Kept → Event → ℕ → ℕ → ℕ → Option Kept → Type 0
+abbrev pub Told : Option KeptSeen → Event → ℕ → ℕ → ℕ → Option KeptSeen → Type 0
 Told None e status number before after = (status ≡ no_machine) × (number ≡ before) × (after ≡ None)
 Told (Some k) e status number before after = HasTold k e status number before after
 
 -- The same of an event whose replies have no number: none is told.
-abbrev pub TellsSo : Kept → Event → ℕ → Kept → Type 0
+abbrev pub TellsSo : State → Event → ℕ → State → Type 0
 TellsSo k e status next = Tells k e status 0 0 next
 
-abbrev pub ToldSo : Option Kept → Event → ℕ → Option Kept → Type 0
+abbrev pub ToldSo : Option KeptSeen → Event → ℕ → Option KeptSeen → Type 0
 ToldSo before e status after = Told before e status 0 0 after
 
 -- RAM was read into a buffer, which is as it was where that is refused. It takes no memory.
@@ -99,21 +86,21 @@ pub record IsRead (m : Seen) (addr status : ℕ) (before after : List ℕ) : Typ
   pub kept : OnErr answer (after ≡ before)
 
 -- A machine is read, be it sent or not.
-abbrev pub ReadsKept : Kept → ℕ → ℕ → List ℕ → List ℕ → Type 0
+abbrev pub ReadsKept : State → ℕ → ℕ → List ℕ → List ℕ → Type 0
 ReadsKept (Still m) addr status before after = IsRead m addr status before after
 ReadsKept (Moving l) addr status before after = IsRead l.machine addr status before after
 ReadsKept (Arriving r) addr status before after = (status ≡ no_machine) × (after ≡ before)
 
-abbrev pub Read : Option Kept → ℕ → ℕ → List ℕ → List ℕ → Type 0
+abbrev pub Read : Option KeptSeen → ℕ → ℕ → List ℕ → List ℕ → Type 0
 Read None addr status before after = (status ≡ no_machine) × (after ≡ before)
-Read (Some k) addr status before after = ReadsKept k addr status before after
+Read (Some k) addr status before after = ReadsKept k.state addr status before after
 
 -- The interrupt lines behind a handle. Of no machine none is set.
-abbrev pub lines_in : Kept → ℕ
+abbrev pub lines_in : State → ℕ
 lines_in (Still m) = lines_of (state_of m).devices
 lines_in (Moving l) = lines_of (state_of l.machine).devices
 lines_in (Arriving r) = 0
 
-abbrev pub lines_told : Option Kept → ℕ
+abbrev pub lines_told : Option KeptSeen → ℕ
 lines_told None = 0
-lines_told (Some k) = lines_in k
+lines_told (Some k) = lines_in k.state

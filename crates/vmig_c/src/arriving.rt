@@ -5,7 +5,7 @@ ghost use Rattle.vmig_c.specs.Arriving.{CountsKept, Feeds, FeedsKept, FinishesKe
 ghost use Rattle.vmig_c.specs.Awaited.{stream_status};
 
 use crate::arrival::Arrival;
-use crate::kept::Kept;
+use crate::kept::{Contents, Kept};
 use crate::migrating::taken_out;
 use crate::status::{DONE, IN_USE};
 use receiver::RecvError;
@@ -15,11 +15,12 @@ use std::mem;
 /// The next piece of a stream arrives.
 #[tactic(auto, using(crate::proofs::Arrivals::fed))]
 pub(crate) fn feed(kept: &mut Kept, piece: &[u8]) -> u32
-    ensures { FeedsKept kept.old piece.now result kept.new }
+    ensures feeds { FeedsKept kept.old.state piece.now result kept.new.state }
+    ensures kind { kept.new ≡ record kept.old { state = kept.new.state } }
 {
-    match kept {
-        Kept::Arriving(arrival) => feed_told(arrival, piece),
-        Kept::Still(_) | Kept::Moving(_) => IN_USE,
+    match &mut kept.contents {
+        Contents::Arriving(arrival) => feed_told(arrival, piece),
+        _ => IN_USE,
     }
 }
 
@@ -35,7 +36,8 @@ fn feed_told(arrival: &mut Arrival, piece: &[u8]) -> u32
 
 /// All pieces have arrived.
 pub(crate) fn finish(alloc: Global, kept: &mut Kept) -> u32
-    ensures { FinishesKept kept.old result kept.new }
+    ensures finishes { FinishesKept kept.old.state result kept.new.state }
+    ensures kind { kept.new ≡ record kept.old { state = kept.new.state } }
 {
     let (next, status) = finished(alloc, taken_out(alloc, kept));
     drop(mem::replace(kept, next));
@@ -44,28 +46,31 @@ pub(crate) fn finish(alloc: Global, kept: &mut Kept) -> u32
 
 #[tactic(auto, using(crate::proofs::Arrivals::was_finished, crate::proofs::Arrivals::was_not_finished))]
 fn finished(alloc: Global, old: Kept) -> (Kept, u32)
-    ensures { FinishesKept old result.1 result.0 }
+    ensures finishes { FinishesKept old.state result.1 result.0.state }
+    ensures kind { result.0 ≡ record old { state = result.0.state } }
 {
-    match old {
-        Kept::Arriving(arrival) => match arrival.finish() {
-            Ok(machine) => (Kept::Still(machine), DONE),
-            Err(error) => (Kept::Arriving(Arrival::failed(alloc)), stream_told(error)),
+    match old.contents {
+        Contents::Arriving(arrival) => match arrival.finish() {
+            Ok(machine) => (Kept::new(Contents::Still(machine)), DONE),
+            Err(error) => {
+                let failed = Contents::Arriving(Arrival::failed(alloc));
+                (Kept::new(failed), stream_told(error))
+            }
         },
-        Kept::Still(machine) => (Kept::Still(machine), IN_USE),
-        Kept::Moving(live) => (Kept::Moving(live), IN_USE),
+        contents => (Kept::new(contents), IN_USE),
     }
 }
 
 /// How many rounds ended in what arrived.
 pub(crate) fn rounds(kept: &Kept, rounds: &mut u32) -> u32
-    ensures { CountsKept kept.now result rounds.new rounds.old }
+    ensures { CountsKept kept.now.state result rounds.new rounds.old }
 {
-    match kept {
-        Kept::Arriving(arrival) => {
+    match &kept.contents {
+        Contents::Arriving(arrival) => {
             *rounds = arrival.rounds();
             DONE
         }
-        Kept::Still(_) | Kept::Moving(_) => IN_USE,
+        _ => IN_USE,
     }
 }
 

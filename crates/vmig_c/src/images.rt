@@ -1,15 +1,16 @@
 //! Disks whose sectors the caller gives, and sectors that go out.
 
-ghost use Rattle.std.specs.Prelude.{◌≡◌, ◌==◌, ◌+◌, ◌*◌, ◌<◌, ◌≤◌, ◌++◌, take, drop, length, slice_set, None, IfOk};
+ghost use Rattle.std.specs.Prelude.{◌≡◌, ◌==◌, ◌+◌, ◌*◌, ◌<◌, ◌≤◌, ◌++◌, take, drop, length, slice_get, slice_set, None, IfOk};
 ghost use Rattle.std.specs.List.{concat};
 ghost use Rattle.blk.specs.Disk.{AreSectors};
+ghost use Rattle.machine.specs.Seen.{state_of};
 ghost use Rattle.machine.specs.Shapes.{disk_size_of, disk_sizes, sector_count};
-ghost use Rattle.vmig_c.specs.Images.{AreImages, KeepsMadeWith, ReadsKept, ReadsOut, disk_refusal, image_size, sector_refusal};
+ghost use Rattle.vmig_c.specs.Images.{AreImages, KeepsMadeWith, ReadsKept, ReadsOut, disk_refusal, image_size, sector_refusal, sector_refusal_of};
 ghost use Rattle.vmig_c.specs.Making.{shape_of, shapes_of};
-ghost use Rattle.vmig_c.specs.declared.kept.Kept.TheVariants as kepts;
+ghost use Rattle.vmig_c.specs.Kept.{Still};
 
 use crate::device_shape::DeviceShape;
-use crate::kept::Kept;
+use crate::kept::{Contents, Kept};
 use crate::making::shapes_of;
 use crate::moving::put_front;
 use crate::status::{
@@ -65,7 +66,7 @@ pub(crate) fn machine_with(
     let Ok(machine) = Machine::new(alloc, pages, &shapes, disks) else {
         return Err(NoMemory);
     };
-    let boxed = Box::new(alloc, Kept::Still(machine))?;
+    let boxed = Box::new(alloc, Kept::new(Contents::Still(machine)))?;
     Ok(boxed)
 }
 
@@ -117,27 +118,35 @@ fn put_sector(disk: &mut MemDisk, n: u64, image: &[u8])
 
 /// A sector of a machine that stands still goes to the front of the buffer.
 pub(crate) fn read_sector(kept: &mut Kept, dev: u8, sector: u64, buf: &mut [u8]) -> u32
-    ensures { ReadsKept kept.old dev sector result buf.old buf.new kept.new }
+    ensures reads { ReadsKept kept.old.state dev sector result buf.old buf.new kept.new.state }
+    ensures kind { kept.new ≡ record kept.old { state = kept.new.state } }
 {
     if let Some(status) = sector_refusal(kept, dev, sector, buf.len()) {
         return status;
     }
-    match kept {
-        Kept::Still(machine) => read_out(machine, dev, sector, buf),
-        Kept::Moving(_) => IS_MOVING,
-        Kept::Arriving(_) => NO_MACHINE,
+    match &mut kept.contents {
+        Contents::Still(machine) => read_out(machine, dev, sector, buf),
+        Contents::StillMapped(machine) => read_out(machine, dev, sector, buf),
+        Contents::Moving(_) | Contents::MovingMapped(_) => IS_MOVING,
+        Contents::Arriving(_) => NO_MACHINE,
     }
 }
 
 /// Why a sector does not go out.
 fn sector_refusal(kept: &Kept, dev: u8, sector: u64, room: usize) -> Option<u32>
-    ensures { result ≡ sector_refusal kept.now dev sector room }
+    ensures { result ≡ sector_refusal kept.now.state dev sector room }
 {
-    let machine = match kept {
-        Kept::Still(machine) => machine,
-        Kept::Moving(_) => return Some(IS_MOVING),
-        Kept::Arriving(_) => return Some(NO_MACHINE),
-    };
+    match &kept.contents {
+        Contents::Still(machine) => device_refusal(machine, dev, sector, room),
+        Contents::StillMapped(machine) => device_refusal(machine, dev, sector, room),
+        Contents::Moving(_) | Contents::MovingMapped(_) => Some(IS_MOVING),
+        Contents::Arriving(_) => Some(NO_MACHINE),
+    }
+}
+
+fn device_refusal<D: Disk>(machine: &Machine<D>, dev: u8, sector: u64, room: usize) -> Option<u32>
+    ensures { result ≡ sector_refusal_of (slice_get (state_of machine.now).devices dev) sector room }
+{
     if dev as usize >= machine.shapes().len() {
         return Some(NO_DEVICE);
     }
@@ -160,8 +169,8 @@ fn disk_refusal(shape: Shape, sector: u64, room: usize) -> Option<u32>
 }
 
 /// The machine is read for the sector, which goes out where it is good.
-fn read_out(machine: &mut Machine<MemDisk>, dev: u8, sector: u64, buf: &mut [u8]) -> u32
-    requires { sector_refusal (kepts.Still machine.old) dev sector (length buf.old) ≡ None }
+fn read_out<D: Disk>(machine: &mut Machine<D>, dev: u8, sector: u64, buf: &mut [u8]) -> u32
+    requires { sector_refusal (Still machine.old) dev sector (length buf.old) ≡ None }
     ensures { ReadsOut machine.old dev sector result buf.old buf.new machine.new }
 {
     let _shapes = machine.shapes();

@@ -12,10 +12,12 @@ ghost use Rattle.machine.specs.declared.event.Event.TheVariants as events;
 ghost use Rattle.vmig_c.specs.Arriving.{Counted, Fed, Finished};
 ghost use Rattle.vmig_c.specs.Images.{MakesWith, SectorRead};
 ghost use Rattle.vmig_c.specs.Making.{Makes};
+ghost use Rattle.vmig_c.specs.Mapping.{Maps};
 ghost use Rattle.vmig_c.specs.Migrated.{Aborted, Begun, Copied, EndedRound, HasBeenStopped, Remaining, Taken};
 ghost use Rattle.vmig_c.specs.Mirror.{Pulled, Pushed};
 ghost use Rattle.vmig_c.specs.Moving.{Received, Saved};
 ghost use Rattle.vmig_c.specs.Stepped.{Stepped};
+ghost use Rattle.vmig_c.specs.Unmapping.{Unmaps};
 ghost use Rattle.vmig_c.specs.Told.{Told, ToldSo, Read, lines_told};
 
 mod arrival;
@@ -26,27 +28,32 @@ mod images;
 mod kept;
 pub mod laws;
 mod making;
+mod mapping;
 mod migrating;
 mod mirror;
 mod moving;
 mod serving;
 mod status;
 mod stepping;
+mod unmapping;
 
 use arrival::Arrival;
 use arriving::{feed, finish, rounds};
 pub use device_shape::DeviceShape;
 pub use handle::Handle;
 use images::{are_images, machine_with, read_sector};
-use kept::Kept;
+use kept::{Contents, Kept};
 use making::{are_beyond_limits, machine_of};
-use migrating::{abort, begin, copy, end_round, remaining, stop, take};
+use mapped_disk::Image;
+use mapping::{are_counted, machine_over};
+use migrating::{abort, begin, copy, end_round, remaining, stop, take, taken_out};
 use mirror::{pull, push};
 use moving::{machine_in, save_kept};
 use serving::{input, lines, read_ram, read_register, resize, write_ram, write_register};
 use status::{BAD_IMAGES, BAD_SHAPE, DONE, IN_USE, NO_MACHINE, NO_MEMORY};
 use std::alloc::Global;
 use stepping::step_kept;
+use unmapping::{unmap, unmap_refusal};
 
 /// Makes a machine of so many pages of zeros and of these devices, whose disks are zeros in memory.
 #[unsafe(no_mangle)]
@@ -97,6 +104,55 @@ pub extern "C" fn vmig_make_with(
         return NO_MEMORY;
     };
     std::mem::replace(machine, Handle::of(made)).gone();
+    DONE
+}
+
+/// Makes such a machine, whose disks lie in the images, in the order of the devices. The images are taken: what is left of each is
+/// one of no sectors. Where memory is refused the images are as they were, or all of no sectors, and their bytes are the
+/// caller's again.
+#[unsafe(no_mangle)]
+#[tactic(auto, using(crate::proofs::MappingImages::maps_used, crate::proofs::MappingImages::maps_beyond, crate::proofs::MappingImages::maps_others, crate::proofs::MappingImages::maps_full, crate::proofs::MappingImages::maps_done))]
+pub extern "C" fn vmig_make_mapped(
+    alloc: Global,
+    pages: u32,
+    shapes: &[DeviceShape],
+    images: &mut [Image],
+    machine: &mut Handle,
+) -> u32
+    ensures { Maps machine.old.machine pages shapes.now images.old images.new result machine.new.machine }
+{
+    if machine.is_made() {
+        return IN_USE;
+    }
+    if are_beyond_limits(pages, shapes) {
+        return BAD_SHAPE;
+    }
+    if !are_counted(images, shapes) {
+        return BAD_IMAGES;
+    }
+    let Ok(made) = machine_over(alloc, pages, shapes, images) else {
+        return NO_MEMORY;
+    };
+    std::mem::replace(machine, Handle::of(made)).gone();
+    DONE
+}
+
+/// Frees the machine, and its images go into the slots, which are of no sectors: those of its disks that lie in memory of the
+/// caller, in the order of the devices. The slots behind them stay as they are.
+#[unsafe(no_mangle)]
+#[tactic(auto, using(crate::proofs::Handing::unmaps_none, crate::proofs::Handing::unmaps_not, crate::proofs::Handing::unmaps_done))]
+pub extern "C" fn vmig_unmap(alloc: Global, machine: &mut Handle, images: &mut [Image]) -> u32
+    ensures { Unmaps machine.old.machine images.old images.new result machine.new.machine }
+{
+    if !machine.is_made() {
+        return NO_MACHINE;
+    }
+    if let Some(status) = unmap_refusal(machine.get_mut(), images) {
+        return status;
+    }
+    let kept = taken_out(alloc, machine.get_mut());
+    drop(std::mem::replace(machine, Handle::none(alloc)).into_box());
+    unmap(kept, images);
     DONE
 }
 
@@ -161,29 +217,22 @@ pub extern "C" fn vmig_ram_read(machine: &mut Handle, addr: u64, buf: &mut [u8])
     read_ram(machine.get_mut(), addr, buf)
 }
 
-/// The guest writes RAM. It takes no memory where the machine stands still.
+/// The guest writes RAM. It takes no memory.
 #[unsafe(no_mangle)]
 #[tactic(auto, using(crate::proofs::ByHandle::told_none, crate::proofs::ByHandle::told_some))]
-pub extern "C" fn vmig_ram_write(
-    alloc: Global,
-    machine: &mut Handle,
-    addr: u64,
-    bytes: &[u8],
-) -> u32
+pub extern "C" fn vmig_ram_write(machine: &mut Handle, addr: u64, bytes: &[u8]) -> u32
     ensures { ToldSo machine.old.machine (events.MemWrite addr bytes.now) result machine.new.machine }
 {
     if !machine.is_made() {
         return NO_MACHINE;
     }
-    write_ram(alloc, machine.get_mut(), addr, bytes)
+    write_ram(machine.get_mut(), addr, bytes)
 }
 
-/// The pages of these numbers become those of the caller's RAM, and their versions are noted. It takes no memory where the
-/// machine stands still.
+/// The pages of these numbers become those of the caller's RAM, and their versions are noted. It takes no memory.
 #[unsafe(no_mangle)]
 #[tactic(auto, using(crate::proofs::Mirroring::pushed_none, crate::proofs::Mirroring::pushed_some))]
 pub extern "C" fn vmig_push(
-    alloc: Global,
     machine: &mut Handle,
     pages: &[u32],
     ram: &[u8],
@@ -194,7 +243,7 @@ pub extern "C" fn vmig_push(
     if !machine.is_made() {
         return NO_MACHINE;
     }
-    push(alloc, machine.get_mut(), pages, ram, seen)
+    push(machine.get_mut(), pages, ram, seen)
 }
 
 /// Each page that the caller has not as it is goes into its RAM, and its version is noted. It takes no memory.
@@ -234,22 +283,16 @@ pub extern "C" fn vmig_step(
     step_kept(machine.get_mut(), dev, pick, buf, len)
 }
 
-/// The host puts bytes in. It takes no memory where the machine stands still.
+/// The host puts bytes in. It takes no memory.
 #[unsafe(no_mangle)]
 #[tactic(auto, using(crate::proofs::ByHandle::told_none, crate::proofs::ByHandle::told_some))]
-pub extern "C" fn vmig_input(
-    alloc: Global,
-    machine: &mut Handle,
-    dev: u8,
-    bytes: &[u8],
-    accepted: &mut u32,
-) -> u32
+pub extern "C" fn vmig_input(machine: &mut Handle, dev: u8, bytes: &[u8], accepted: &mut u32) -> u32
     ensures { Told machine.old.machine (events.Input dev bytes.now) result accepted.new accepted.old machine.new.machine }
 {
     if !machine.is_made() {
         return NO_MACHINE;
     }
-    input(alloc, machine.get_mut(), dev, bytes, accepted)
+    input(machine.get_mut(), dev, bytes, accepted)
 }
 
 /// The host sets the size of a console, in characters.
@@ -432,7 +475,8 @@ pub extern "C" fn vmig_feed(alloc: Global, machine: &mut Handle, bytes: &[u8]) -
     ensures { Fed machine.old.machine bytes.now result machine.new.machine }
 {
     if !machine.is_made() {
-        let Ok(boxed) = Box::new(alloc, Kept::Arriving(Arrival::new(alloc))) else {
+        let arriving = Kept::new(Contents::Arriving(Arrival::new(alloc)));
+        let Ok(boxed) = Box::new(alloc, arriving) else {
             return NO_MEMORY;
         };
         std::mem::replace(machine, Handle::of(boxed)).gone();

@@ -5,7 +5,7 @@ ghost use Rattle.machine.specs.Shapes.{disk_sizes};
 ghost use Rattle.vmig_c.specs.Making.{KeepsMade, are_beyond_limits, are_plain, shapes_of};
 
 use crate::device_shape::DeviceShape;
-use crate::kept::Kept;
+use crate::kept::{Contents, Kept};
 use guestmem::{NoMemory, PAGES_MAX};
 use machine::{DEVICES_MAX, Machine, MemDisk, Shape};
 use std::alloc::Global;
@@ -45,7 +45,7 @@ pub(crate) fn machine_of(
     let Ok(machine) = Machine::new(alloc, pages, &shapes, disks) else {
         return Err(NoMemory);
     };
-    let boxed = Box::new(alloc, Kept::Still(machine))?;
+    let boxed = Box::new(alloc, Kept::new(Contents::Still(machine)))?;
     Ok(boxed)
 }
 

@@ -1,15 +1,15 @@
 //! The migration of what lies behind a handle.
 
-ghost use Rattle.std.specs.Prelude.{◌≡◌, ◌++◌, drop, length, min, take};
-ghost use Rattle.vmig_c.specs.Migrated.{AbortsKept, BeginsKept, CopiesKept, EndsKept, HasCopied, HasStopped, HasTaken, RemainsKept, StopsKept, TakesKept};
+ghost use Rattle.std.specs.Prelude.{◌≡◌, ◌++◌, IfErr, IfOk, drop, length, min, take};
+ghost use Rattle.vmig_c.specs.Migrated.{AbortsKept, BeginsKept, CopiesKept, EndsKept, HasBegun, HasCopied, HasStopped, IsAnswered, HasTaken, RemainsKept, StopsKept, TakesKept};
+ghost use Rattle.vmig_c.specs.Kept as states;
 ghost use Rattle.vmig_c.specs.Told.{IsServed};
 ghost use Rattle.sender.specs.declared.event.LiveEvent.TheVariants as live_events;
-ghost use Rattle.vmig_c.specs.declared.kept.Kept.TheVariants as kepts;
 
 use crate::arrival::Arrival;
-use crate::kept::{Kept, Moving};
+use crate::kept::{Contents, Kept, Moving};
 use crate::status::{DONE, NO_MACHINE, NO_MEMORY, NOT_BEGUN, mig_told};
-use machine::{Machine, MemDisk};
+use machine::{Disk, Machine};
 use sender::{CopyAnswer, End, Item, Live, Stopped};
 use std::alloc::Global;
 use std::mem;
@@ -25,7 +25,8 @@ const ROUND_OPEN: u32 = 77;
 
 /// A machine that stands still begins to be sent.
 pub(crate) fn begin(alloc: Global, kept: &mut Kept) -> u32
-    ensures { BeginsKept kept.old result kept.new }
+    ensures begins { BeginsKept kept.old.state result kept.new.state }
+    ensures kind { kept.new ≡ record kept.old { state = kept.new.state } }
 {
     let (next, status) = begun(alloc, taken_out(alloc, kept));
     drop(mem::replace(kept, next));
@@ -36,30 +37,40 @@ pub(crate) fn begin(alloc: Global, kept: &mut Kept) -> u32
 pub(crate) fn taken_out(alloc: Global, kept: &mut Kept) -> Kept
     ensures { result ≡ kept.old }
 {
-    mem::replace(kept, Kept::Arriving(Arrival::new(alloc)))
+    mem::replace(kept, Kept::new(Contents::Arriving(Arrival::new(alloc))))
 }
 
-#[tactic(auto, using(crate::proofs::Migration::begun_again))]
 fn begun(alloc: Global, old: Kept) -> (Kept, u32)
-    ensures { BeginsKept old result.1 result.0 }
+    ensures begins { BeginsKept old.state result.1 result.0.state }
+    ensures kind { result.0 ≡ record old { state = result.0.state } }
 {
-    match old {
-        Kept::Still(machine) => begun_of(alloc, machine),
-        Kept::Moving(live) => {
-            let mut live = live;
-            live.recall();
-            match live.begin() {
-                Ok(_) => (Kept::Moving(live), DONE),
-                Err(error) => (Kept::Moving(live), mig_told(error)),
-            }
+    let (contents, status) = match old.contents {
+        Contents::Still(machine) => match begun_of(alloc, machine) {
+            Ok(live) => (Contents::Moving(live), DONE),
+            Err(machine) => (Contents::Still(machine), NO_MEMORY),
+        },
+        Contents::StillMapped(machine) => match begun_of(alloc, machine) {
+            Ok(live) => (Contents::MovingMapped(live), DONE),
+            Err(machine) => (Contents::StillMapped(machine), NO_MEMORY),
+        },
+        Contents::Moving(live) => {
+            let (live, status) = begun_again(live);
+            (Contents::Moving(live), status)
         }
-        Kept::Arriving(arrival) => (Kept::Arriving(arrival), NO_MACHINE),
-    }
+        Contents::MovingMapped(live) => {
+            let (live, status) = begun_again(live);
+            (Contents::MovingMapped(live), status)
+        }
+        Contents::Arriving(arrival) => (Contents::Arriving(arrival), NO_MACHINE),
+    };
+    (Kept::new(contents), status)
 }
 
+/// A machine begins to be sent, or is there as it was: there was no memory for it.
 #[tactic(auto, using(crate::proofs::Migration::not_begun))]
-fn begun_of(alloc: Global, machine: Machine<MemDisk>) -> (Kept, u32)
-    ensures { BeginsKept (kepts.Still machine) result.1 result.0 }
+fn begun_of<D: Disk>(alloc: Global, machine: Machine<D>) -> Result<Moving<D>, Machine<D>>
+    ensures begun { IfOk result (λ live. HasBegun machine 0 live) }
+    ensures same { IfErr result (λ left. left ≡ machine) }
 {
     let sink = WriteSink::new(Vec::new(alloc));
     match Live::new(alloc, machine, sink) {
@@ -67,28 +78,43 @@ fn begun_of(alloc: Global, machine: Machine<MemDisk>) -> (Kept, u32)
             let mut live = live;
             live.recall();
             match live.begin() {
-                Ok(_) => (Kept::Moving(live), DONE),
-                Err(_) => (Kept::Still(live.abort()), NO_MEMORY),
+                Ok(_) => Ok(live),
+                Err(_) => Err(live.abort()),
             }
         }
-        Err((_, machine, _sink)) => (Kept::Still(machine), NO_MEMORY),
+        Err((_, machine, _sink)) => Err(machine),
+    }
+}
+
+/// A machine that is sent already is asked to begin.
+#[tactic(auto, using(crate::proofs::Migration::begun_again))]
+fn begun_again<D: Disk>(live: Moving<D>) -> (Moving<D>, u32)
+    ensures { IsAnswered live result.1 result.0 }
+{
+    let mut live = live;
+    live.recall();
+    match live.begin() {
+        Ok(_) => (live, DONE),
+        Err(error) => (live, mig_told(error)),
     }
 }
 
 /// Sends the least due item.
 #[tactic(auto, using(crate::proofs::Migration::still_copies, crate::proofs::Migration::moving_copies))]
 pub(crate) fn copy(kept: &mut Kept, dev: &mut u8, number: &mut u32) -> u32
-    ensures { CopiesKept kept.old result dev.new dev.old number.new number.old kept.new }
+    ensures copies { CopiesKept kept.old.state result dev.new dev.old number.new number.old kept.new.state }
+    ensures kind { kept.new ≡ record kept.old { state = kept.new.state } }
 {
-    match kept {
-        Kept::Still(_) => NOT_BEGUN,
-        Kept::Moving(live) => copy_told(live, dev, number),
-        Kept::Arriving(_) => NO_MACHINE,
+    match &mut kept.contents {
+        Contents::Still(_) | Contents::StillMapped(_) => NOT_BEGUN,
+        Contents::Moving(live) => copy_told(live, dev, number),
+        Contents::MovingMapped(live) => copy_told(live, dev, number),
+        Contents::Arriving(_) => NO_MACHINE,
     }
 }
 
 #[tactic(auto, using(crate::proofs::Migration::copied))]
-fn copy_told(live: &mut Moving, dev: &mut u8, number: &mut u32) -> u32
+fn copy_told<D: Disk>(live: &mut Moving<D>, dev: &mut u8, number: &mut u32) -> u32
     ensures { HasCopied live.old result dev.new dev.old number.new number.old live.new }
 {
     live.recall();
@@ -110,17 +136,19 @@ fn copy_told(live: &mut Moving, dev: &mut u8, number: &mut u32) -> u32
 /// Ends a round.
 #[tactic(auto, using(crate::proofs::Migration::still_ends, crate::proofs::Migration::moving_ends))]
 pub(crate) fn end_round(kept: &mut Kept, round: &mut u32) -> u32
-    ensures { EndsKept kept.old result round.new round.old kept.new }
+    ensures ends { EndsKept kept.old.state result round.new round.old kept.new.state }
+    ensures kind { kept.new ≡ record kept.old { state = kept.new.state } }
 {
-    match kept {
-        Kept::Still(_) => NOT_BEGUN,
-        Kept::Moving(live) => end_told(live, round),
-        Kept::Arriving(_) => NO_MACHINE,
+    match &mut kept.contents {
+        Contents::Still(_) | Contents::StillMapped(_) => NOT_BEGUN,
+        Contents::Moving(live) => end_told(live, round),
+        Contents::MovingMapped(live) => end_told(live, round),
+        Contents::Arriving(_) => NO_MACHINE,
     }
 }
 
 #[tactic(auto, using(crate::proofs::ByKept::served))]
-fn end_told(live: &mut Moving, round: &mut u32) -> u32
+fn end_told<D: Disk>(live: &mut Moving<D>, round: &mut u32) -> u32
     ensures { IsServed live.old live_events.EndRound result round.new round.old live.new }
 {
     live.recall();
@@ -137,17 +165,19 @@ fn end_told(live: &mut Moving, round: &mut u32) -> u32
 /// Sends what is left, and closes the stream.
 #[tactic(auto, using(crate::proofs::Migration::still_stops, crate::proofs::Migration::moving_stops))]
 pub(crate) fn stop(kept: &mut Kept, pages: &mut u64, sectors: &mut u64) -> u32
-    ensures { StopsKept kept.old result pages.new pages.old sectors.new sectors.old kept.new }
+    ensures stops { StopsKept kept.old.state result pages.new pages.old sectors.new sectors.old kept.new.state }
+    ensures kind { kept.new ≡ record kept.old { state = kept.new.state } }
 {
-    match kept {
-        Kept::Still(_) => NOT_BEGUN,
-        Kept::Moving(live) => stop_told(live, pages, sectors),
-        Kept::Arriving(_) => NO_MACHINE,
+    match &mut kept.contents {
+        Contents::Still(_) | Contents::StillMapped(_) => NOT_BEGUN,
+        Contents::Moving(live) => stop_told(live, pages, sectors),
+        Contents::MovingMapped(live) => stop_told(live, pages, sectors),
+        Contents::Arriving(_) => NO_MACHINE,
     }
 }
 
 #[tactic(auto, using(crate::proofs::Migration::stopped))]
-fn stop_told(live: &mut Moving, pages: &mut u64, sectors: &mut u64) -> u32
+fn stop_told<D: Disk>(live: &mut Moving<D>, pages: &mut u64, sectors: &mut u64) -> u32
     ensures { HasStopped live.old result pages.new pages.old sectors.new sectors.old live.new }
 {
     live.recall();
@@ -168,64 +198,73 @@ fn stop_told(live: &mut Moving, pages: &mut u64, sectors: &mut u64) -> u32
 
 /// A machine that is sent stands still again.
 pub(crate) fn abort(alloc: Global, kept: &mut Kept) -> u32
-    ensures { AbortsKept kept.old result kept.new }
+    ensures aborts { AbortsKept kept.old.state result kept.new.state }
+    ensures kind { kept.new ≡ record kept.old { state = kept.new.state } }
 {
     let (next, status) = aborted(taken_out(alloc, kept));
     drop(mem::replace(kept, next));
     status
 }
 
-#[tactic(auto, using(crate::proofs::Migration::still_aborts))]
 fn aborted(old: Kept) -> (Kept, u32)
-    ensures { AbortsKept old result.1 result.0 }
+    ensures aborts { AbortsKept old.state result.1 result.0.state }
+    ensures kind { result.0 ≡ record old { state = result.0.state } }
 {
-    match old {
-        Kept::Still(machine) => (Kept::Still(machine), NOT_BEGUN),
-        Kept::Moving(live) => (Kept::Still(live.abort()), DONE),
-        Kept::Arriving(arrival) => (Kept::Arriving(arrival), NO_MACHINE),
-    }
+    let (contents, status) = match old.contents {
+        Contents::Still(machine) => (Contents::Still(machine), NOT_BEGUN),
+        Contents::StillMapped(machine) => (Contents::StillMapped(machine), NOT_BEGUN),
+        Contents::Moving(live) => (Contents::Still(live.abort()), DONE),
+        Contents::MovingMapped(live) => (Contents::StillMapped(live.abort()), DONE),
+        Contents::Arriving(arrival) => (Contents::Arriving(arrival), NO_MACHINE),
+    };
+    (Kept::new(contents), status)
 }
 
 /// How many items are due, and how many are dirty.
 pub(crate) fn remaining(kept: &Kept, due: &mut u64, dirty: &mut u64) -> u32
-    ensures { RemainsKept kept.now result due.new due.old dirty.new dirty.old }
+    ensures { RemainsKept kept.now.state result due.new due.old dirty.new dirty.old }
 {
-    match kept {
-        Kept::Still(_) => NOT_BEGUN,
-        Kept::Moving(live) => {
-            let left = live.remaining();
-            *due = left.due;
-            *dirty = left.dirty;
-            DONE
-        }
-        Kept::Arriving(_) => NO_MACHINE,
+    match &kept.contents {
+        Contents::Still(_) | Contents::StillMapped(_) => NOT_BEGUN,
+        Contents::Moving(live) => remaining_told(live, due, dirty),
+        Contents::MovingMapped(live) => remaining_told(live, due, dirty),
+        Contents::Arriving(_) => NO_MACHINE,
     }
+}
+
+fn remaining_told<D: Disk>(live: &Moving<D>, due: &mut u64, dirty: &mut u64) -> u32
+    ensures { RemainsKept (states.Moving live.now) result due.new due.old dirty.new dirty.old }
+{
+    let left = live.remaining();
+    *due = left.due;
+    *dirty = left.dirty;
+    DONE
 }
 
 /// The first of the bytes that wait go to the front of the buffer.
 #[tactic(auto, using(crate::proofs::Migration::still_takes, crate::proofs::Migration::moving_takes))]
 pub(crate) fn take(alloc: Global, kept: &mut Kept, buf: &mut [u8], got: &mut usize) -> u32
-    ensures { TakesKept kept.old result got.new got.old buf.old buf.new kept.new }
+    ensures takes { TakesKept kept.old.state result got.new got.old buf.old buf.new kept.new.state }
+    ensures kind { kept.new ≡ record kept.old { state = kept.new.state } }
 {
-    match kept {
-        Kept::Still(_) => NOT_BEGUN,
-        Kept::Moving(live) => {
-            *got = take_of(alloc, live, buf);
-            DONE
-        }
-        Kept::Arriving(_) => NO_MACHINE,
+    match &mut kept.contents {
+        Contents::Still(_) | Contents::StillMapped(_) => NOT_BEGUN,
+        Contents::Moving(live) => take_told(alloc, live, buf, got),
+        Contents::MovingMapped(live) => take_told(alloc, live, buf, got),
+        Contents::Arriving(_) => NO_MACHINE,
     }
 }
 
-fn take_of(alloc: Global, live: &mut Moving, buf: &mut [u8]) -> usize
-    ensures { HasTaken live.old 0 result buf.old buf.new live.new }
+fn take_told<D: Disk>(alloc: Global, live: &mut Moving<D>, buf: &mut [u8], got: &mut usize) -> u32
+    ensures { HasTaken live.old result got.new buf.old buf.new live.new }
 {
     let mut waiting = live
         .replace_writer(WriteSink::new(Vec::new(alloc)))
         .into_inner();
     let count = take_front(&mut waiting, buf);
     let _empty = live.replace_writer(WriteSink::new(waiting));
-    count
+    *got = count;
+    DONE
 }
 
 fn take_front(waiting: &mut Vec<u8>, buf: &mut [u8]) -> usize

@@ -1,49 +1,39 @@
 //! Whole pages of RAM, handed in and out: for a caller who keeps the guest's RAM in memory of its own.
 
-ghost use Rattle.std.specs.Prelude.{◌≡◌, ◌*◌, ◌<◌, ◌≤◌, length, slice_set, slice_index, if◌then◌else◌, MatchOption, None, false, true, OnOk, OnErr};
+ghost use Rattle.std.specs.Prelude.{◌≡◌, ◌*◌, ◌<◌, ◌≤◌, length, slice_set, slice_index, if◌then◌else◌, MatchOption, None, false, true};
 ghost use Rattle.guestmem.specs.Memory.{IsMemory};
 ghost use Rattle.guestmem.specs.Page.{page_of};
 ghost use Rattle.guestmem.specs.Write.{put_at};
-ghost use Rattle.vmig_c.specs.Mirror.{ArePushed, HasPulled, IsPushed, PullsKept, PushesKept, are_pages, bytes_in, is_closed, is_coming, is_noted, is_short, is_stopped, memory_in, push_refusal};
-ghost use Rattle.vmig_c.specs.Told.{has_bytes};
-ghost use Rattle.vmig_c.specs.declared.kept.Kept.TheVariants as kepts;
+ghost use Rattle.vmig_c.specs.Mirror.{ArePushed, HasPulled, IsPushed, PullsKept, PushesKept, are_pages, is_closed, is_coming, is_noted, is_short, is_stopped, memory_in, push_refusal};
+ghost use Rattle.vmig_c.specs.Status.{done};
+ghost use Rattle.vmig_c.specs.Kept as states;
 
-use crate::kept::{Kept, Moving};
-use crate::status::{DONE, NO_MACHINE, NO_MEMORY, OUT_OF_RAM, STOPPED, TOO_SMALL};
-use guestmem::{Bytes, NoMemory, PAGE_SIZE, Ram};
-use machine::{Event, Machine, MemDisk};
+use crate::kept::{Contents, Kept, Moving};
+use crate::status::{DONE, NO_MACHINE, OUT_OF_RAM, STOPPED, TOO_SMALL};
+use guestmem::{PAGE_SIZE, Ram};
+use machine::{Disk, Machine};
 use sender::Phase;
-use std::alloc::Global;
 
 /// The pages of these numbers become those of the caller's RAM, one after another.
-pub(crate) fn push(
-    alloc: Global,
-    kept: &mut Kept,
-    pages: &[u32],
-    ram: &[u8],
-    seen: &mut [u64],
-) -> u32
-    ensures { PushesKept kept.old pages.now ram.now result seen.old seen.new kept.new }
+pub(crate) fn push(kept: &mut Kept, pages: &[u32], ram: &[u8], seen: &mut [u64]) -> u32
+    ensures pushes { PushesKept kept.old.state pages.now ram.now result seen.old seen.new kept.new.state }
+    ensures kind { kept.new ≡ record kept.old { state = kept.new.state } }
 {
     if let Some(status) = push_refusal(kept, pages, ram.len(), seen.len()) {
         return status;
     }
-    match kept {
-        Kept::Still(machine) => {
-            push_still(machine, pages, ram, seen);
-            DONE
-        }
-        Kept::Moving(live) => match push_moving(alloc, live, pages, ram, seen) {
-            Ok(()) => DONE,
-            Err(_) => NO_MEMORY,
-        },
-        Kept::Arriving(_) => NO_MACHINE,
+    match &mut kept.contents {
+        Contents::Still(machine) => push_still(machine, pages, ram, seen),
+        Contents::StillMapped(machine) => push_still(machine, pages, ram, seen),
+        Contents::Moving(live) => push_moving(live, pages, ram, seen),
+        Contents::MovingMapped(live) => push_moving(live, pages, ram, seen),
+        Contents::Arriving(_) => NO_MACHINE,
     }
 }
 
-/// Why pages are not handed in, want of memory aside.
+/// Why pages are not handed in.
 fn push_refusal(kept: &Kept, pages: &[u32], bytes: usize, entries: usize) -> Option<u32>
-    ensures { result ≡ push_refusal kept.now pages.now bytes entries }
+    ensures { result ≡ push_refusal kept.now.state pages.now bytes entries }
 {
     let Some(memory) = ram_of(kept) else {
         return Some(NO_MACHINE);
@@ -61,12 +51,12 @@ fn push_refusal(kept: &Kept, pages: &[u32], bytes: usize, entries: usize) -> Opt
 }
 
 fn is_stopped(kept: &Kept) -> bool
-    ensures { result ≡ is_stopped kept.now }
+    ensures { result ≡ is_stopped kept.now.state }
 {
-    match kept {
-        Kept::Still(_) => false,
-        Kept::Moving(live) => matches!(live.phase(), Phase::Stopped),
-        Kept::Arriving(_) => false,
+    match &kept.contents {
+        Contents::Moving(live) => matches!(live.phase(), Phase::Stopped),
+        Contents::MovingMapped(live) => matches!(live.phase(), Phase::Stopped),
+        Contents::Still(_) | Contents::StillMapped(_) | Contents::Arriving(_) => false,
     }
 }
 
@@ -98,30 +88,34 @@ fn are_pages(count: u64, pages: &[u32]) -> bool
 
 /// The RAM of the machine, if there is one.
 fn ram_of(kept: &Kept) -> Option<&Ram>
-    ensures { MatchOption result (is_coming kept.now ≡ true) (λ ram. (is_coming kept.now ≡ false) × (ram.now ≡ memory_in kept.now)) }
+    ensures { MatchOption result (is_coming kept.now.state ≡ true) (λ ram. (is_coming kept.now.state ≡ false) × (ram.now ≡ memory_in kept.now.state)) }
 {
-    match kept {
-        Kept::Still(machine) => Some(machine.ram()),
-        Kept::Moving(live) => Some(live.machine().ram()),
-        Kept::Arriving(_) => None,
+    match &kept.contents {
+        Contents::Still(machine) => Some(machine.ram()),
+        Contents::StillMapped(machine) => Some(machine.ram()),
+        Contents::Moving(live) => Some(live.machine().ram()),
+        Contents::MovingMapped(live) => Some(live.machine().ram()),
+        Contents::Arriving(_) => None,
     }
 }
 
 /// Pages go into a machine that stands still. It takes no memory.
-fn push_still(machine: &mut Machine<MemDisk>, pages: &[u32], ram: &[u8], seen: &mut [u64])
-    requires { push_refusal (kepts.Still machine.old) pages.now (length ram.now) (length seen.old) ≡ None }
-    ensures { ArePushed (kepts.Still machine.old) pages.now ram.now seen.old seen.new (kepts.Still machine.new) }
+fn push_still<D: Disk>(machine: &mut Machine<D>, pages: &[u32], ram: &[u8], seen: &mut [u64]) -> u32
+    requires { push_refusal (states.Still machine.old) pages.now (length ram.now) (length seen.old) ≡ None }
+    ensures pushed { ArePushed (states.Still machine.old) pages.now ram.now seen.old seen.new (states.Still machine.new) }
+    ensures done { result ≡ done }
 {
     for n in pages {
         push_page(machine, *n, ram, seen);
     }
+    DONE
 }
 
-fn push_page(machine: &mut Machine<MemDisk>, n: u32, ram: &[u8], seen: &mut [u64])
+fn push_page<D: Disk>(machine: &mut Machine<D>, n: u32, ram: &[u8], seen: &mut [u64])
     requires page { n < length machine.old.memory.versions }
     requires bytes { length machine.old.memory.bytes ≤ length ram.now }
     requires entries { length machine.old.memory.versions ≤ length seen.old }
-    ensures pushed { IsPushed (kepts.Still machine.old) n ram.now seen.old seen.new (kepts.Still machine.new) }
+    ensures pushed { IsPushed (states.Still machine.old) n ram.now seen.old seen.new (states.Still machine.new) }
     ensures bytes { length machine.new.memory.bytes ≡ length machine.old.memory.bytes }
     ensures versions { length machine.new.memory.versions ≡ length machine.old.memory.versions }
 {
@@ -131,66 +125,38 @@ fn push_page(machine: &mut Machine<MemDisk>, n: u32, ram: &[u8], seen: &mut [u64
     seen[n as usize] = machine.ram().version(n as u64);
 }
 
-/// Pages go into a machine that is sent. One page of memory serves for the bytes of all.
-fn push_moving(
-    alloc: Global,
-    live: &mut Moving,
-    pages: &[u32],
-    ram: &[u8],
-    seen: &mut [u64],
-) -> Result<(), NoMemory>
-    requires { push_refusal (kepts.Moving live.old) pages.now (length ram.now) (length seen.old) ≡ None }
-    ensures pushed { OnOk result (ArePushed (kepts.Moving live.old) pages.now ram.now seen.old seen.new (kepts.Moving live.new)) }
-    ensures same { OnErr result (live.new ≡ live.old) }
-    ensures seen { OnErr result (seen.new ≡ seen.old) }
+/// So they do into one that is sent.
+fn push_moving<D: Disk>(live: &mut Moving<D>, pages: &[u32], ram: &[u8], seen: &mut [u64]) -> u32
+    requires { push_refusal (states.Moving live.old) pages.now (length ram.now) (length seen.old) ≡ None }
+    ensures pushed { ArePushed (states.Moving live.old) pages.now ram.now seen.old seen.new (states.Moving live.new) }
+    ensures done { result ≡ done }
 {
-    let mut page = vec![in alloc; 0u8; PAGE_SIZE]?;
     for n in pages {
-        page = push_live_page(live, *n, ram, page, seen);
+        push_live_page(live, *n, ram, seen);
     }
-    Ok(())
+    DONE
 }
 
-fn push_live_page(live: &mut Moving, n: u32, ram: &[u8], page: Vec<u8>, seen: &mut [u64]) -> Vec<u8>
+fn push_live_page<D: Disk>(live: &mut Moving<D>, n: u32, ram: &[u8], seen: &mut [u64])
     requires page { n < length live.old.machine.memory.versions }
     requires bytes { length live.old.machine.memory.bytes ≤ length ram.now }
     requires entries { length live.old.machine.memory.versions ≤ length seen.old }
     requires going { is_closed live.old.phase ≡ false }
-    requires size { length page.items ≡ PAGE_SIZE }
-    ensures pushed { IsPushed (kepts.Moving live.old) n ram.now seen.old seen.new (kepts.Moving live.new) }
+    ensures pushed { IsPushed (states.Moving live.old) n ram.now seen.old seen.new (states.Moving live.new) }
     ensures bytes { length live.new.machine.memory.bytes ≡ length live.old.machine.memory.bytes }
     ensures versions { length live.new.machine.memory.versions ≡ length live.old.machine.memory.versions }
     ensures going { is_closed live.new.phase ≡ false }
-    ensures size { length result.items ≡ PAGE_SIZE }
 {
     live.recall();
     live.machine().ram().recall();
-    let mut page = page;
     let at = PAGE_SIZE * n as usize;
-    page.copy_from_slice(&ram[at..at + PAGE_SIZE]);
-    let event = Event::MemWrite {
-        addr: at as u64,
-        bytes: Bytes::from_vec(page),
-    };
-    let _done = live.apply(&event);
+    let _done = live.write_ram(at as u64, &ram[at..at + PAGE_SIZE]);
     seen[n as usize] = live.machine().ram().version(n as u64);
-    bytes_back(event)
-}
-
-/// The bytes of an event, which are not copied.
-fn bytes_back(event: Event) -> Vec<u8>
-    requires { has_bytes event ≡ true }
-    ensures { result.items ≡ bytes_in event }
-{
-    match event {
-        Event::MemWrite { bytes, .. } | Event::Input { bytes, .. } => bytes.into_vec(),
-        _ => unreachable!(),
-    }
 }
 
 /// Each page that the caller has not as it is goes out.
 pub(crate) fn pull(kept: &Kept, ram: &mut [u8], seen: &mut [u64], count: &mut u32) -> u32
-    ensures { PullsKept kept.now result ram.old ram.new seen.old seen.new count.new count.old }
+    ensures { PullsKept kept.now.state result ram.old ram.new seen.old seen.new count.new count.old }
 {
     let Some(memory) = ram_of(kept) else {
         return NO_MACHINE;

@@ -8,11 +8,11 @@ ghost use Rattle.vmig_c.specs.Moving.{IsKept, KeepsReceived, RefusedBy, Saves, S
 ghost use Rattle.vmig_c.specs.Headed.{AreFitting};
 ghost use Rattle.vmig_c.specs.Plain.{ArePlain, mem_state};
 
-use crate::kept::Kept;
+use crate::kept::{Contents, Kept};
 use crate::making::zero_disks;
 use crate::status::{DONE, IS_MOVING, NO_MACHINE, NO_MEMORY, TOO_SMALL};
 use guestmem::NoMemory;
-use machine::{Machine, MemDisk};
+use machine::{Disk, Machine, MemDisk};
 use receiver::{RecvError, receive};
 use sender::save;
 use std::alloc::Global;
@@ -20,18 +20,25 @@ use wire::{WriteSink, decode_header};
 
 /// Saves what lies behind a handle, if it stands still.
 pub(crate) fn save_kept(alloc: Global, kept: &mut Kept, buf: &mut [u8], len: &mut usize) -> u32
-    ensures { SavesKept kept.old result len.new len.old buf.old buf.new kept.new }
+    ensures saves { SavesKept kept.old.state result len.new len.old buf.old buf.new kept.new.state }
+    ensures kind { kept.new ≡ record kept.old { state = kept.new.state } }
 {
-    match kept {
-        Kept::Still(machine) => save_told(alloc, machine, buf, len),
-        Kept::Moving(_) => IS_MOVING,
-        Kept::Arriving(_) => NO_MACHINE,
+    match &mut kept.contents {
+        Contents::Still(machine) => save_told(alloc, machine, buf, len),
+        Contents::StillMapped(machine) => save_told(alloc, machine, buf, len),
+        Contents::Moving(_) | Contents::MovingMapped(_) => IS_MOVING,
+        Contents::Arriving(_) => NO_MACHINE,
     }
 }
 
 /// Saves a machine into a buffer. How long its stream is goes out as the length, also where the buffer is too small.
 #[tactic(auto, using(crate::proofs::Streams::put, crate::proofs::Streams::not_put, crate::proofs::Streams::not_made))]
-fn save_told(alloc: Global, machine: &mut Machine<MemDisk>, buf: &mut [u8], len: &mut usize) -> u32
+fn save_told<D: Disk>(
+    alloc: Global,
+    machine: &mut Machine<D>,
+    buf: &mut [u8],
+    len: &mut usize,
+) -> u32
     ensures { Saves machine.old result len.new len.old buf.old buf.new machine.new }
 {
     let Ok(stream) = stream_of(alloc, machine) else {
@@ -54,7 +61,7 @@ pub(crate) fn put_front(bytes: &[u8], buf: &mut [u8])
 
 /// The stream of a machine, in memory.
 #[tactic(auto, using(crate::proofs::Streams::kept))]
-fn stream_of(alloc: Global, machine: &mut Machine<MemDisk>) -> Result<Vec<u8>, NoMemory>
+fn stream_of<D: Disk>(alloc: Global, machine: &mut Machine<D>) -> Result<Vec<u8>, NoMemory>
     ensures stream { IfOk result (λ bytes. ArePlain machine.old → bytes.items ≡ whole (state_of machine.old)) }
     ensures kept { IsKept machine.old machine.new }
 {
@@ -75,7 +82,7 @@ pub(crate) fn machine_in(alloc: Global, bytes: &[u8]) -> Result<(Box<Kept>, u32)
         return Err(NO_MEMORY);
     };
     match receive(alloc, bytes, disks) {
-        Ok((machine, rounds)) => match Box::new(alloc, Kept::Still(machine)) {
+        Ok((machine, rounds)) => match Box::new(alloc, Kept::new(Contents::Still(machine))) {
             Ok(boxed) => Ok((boxed, rounds)),
             Err(_) => Err(NO_MEMORY),
         },

@@ -1,43 +1,39 @@
-//! Events, applied to what lies behind a handle. Where that is a machine that is sent, an event with bytes gets a copy of them.
+//! Events, applied to what lies behind a handle. Bytes are taken from the caller's slice, and not copied before.
 
-ghost use Rattle.std.specs.Prelude.{◌≡◌, IfOk};
+ghost use Rattle.std.specs.Prelude.{◌≡◌};
 ghost use Rattle.machine.specs.declared.event.Event.TheVariants as events;
 ghost use Rattle.sender.specs.declared.event.LiveEvent.TheVariants as live_events;
 ghost use Rattle.vmig_c.specs.Told.{IsServed, ReadsKept, Tells, TellsSo, lines_in};
 
-use crate::kept::{Kept, Moving};
-use crate::status::{
-    NO_MACHINE, NO_MEMORY, accepted_told, done_told, mig_told, value_told, written_told,
-};
-use crate::stepping::{number_told, status_told};
-use guestmem::{Bytes, NoMemory};
-use machine::Event;
-use std::alloc::Global;
+use crate::kept::{Contents, Kept, Moving};
+use crate::status::{NO_MACHINE, answer_told, done_told, written_told};
+use crate::stepping::reply_told;
+use machine::{Disk, Event};
 
 /// A machine that is sent gets an event.
-#[tactic(auto, using(crate::proofs::ByKept::served))]
-fn apply_told(live: &mut Moving, event: &Event, number: &mut u32) -> u32
+#[tactic(auto, using(crate::proofs::ByKept::served, crate::proofs::ByKept::few_told))]
+fn apply_told<D: Disk>(live: &mut Moving<D>, event: &Event, number: &mut u32) -> u32
     ensures { IsServed live.old (live_events.Guest event.now) result number.new number.old live.new }
 {
     live.recall();
-    match live.apply(event) {
-        Ok(reply) => {
-            *number = number_told(&reply, *number);
-            status_told(&reply)
-        }
-        Err(error) => mig_told(error),
-    }
+    reply_told(live.apply(event), number)
 }
 
 /// The driver reads a register.
 #[tactic(auto, using(crate::proofs::ByKept::still, crate::proofs::ByKept::moving))]
 pub(crate) fn read_register(kept: &mut Kept, dev: u8, off: u32, width: u8, value: &mut u32) -> u32
-    ensures { Tells kept.old (events.RegRead dev off width) result value.new value.old kept.new }
+    ensures told { Tells kept.old.state (events.RegRead dev off width) result value.new value.old kept.new.state }
+    ensures kind { kept.new ≡ record kept.old { state = kept.new.state } }
 {
-    match kept {
-        Kept::Still(machine) => value_told(machine.read_register(dev, off, width), value),
-        Kept::Moving(live) => apply_told(live, &Event::RegRead { dev, off, width }, value),
-        Kept::Arriving(_) => NO_MACHINE,
+    let event = Event::RegRead { dev, off, width };
+    match &mut kept.contents {
+        Contents::Still(machine) => answer_told(machine.read_register(dev, off, width), value),
+        Contents::StillMapped(machine) => {
+            answer_told(machine.read_register(dev, off, width), value)
+        }
+        Contents::Moving(live) => apply_told(live, &event, value),
+        Contents::MovingMapped(live) => apply_told(live, &event, value),
+        Contents::Arriving(_) => NO_MACHINE,
     }
 }
 
@@ -51,104 +47,123 @@ pub(crate) fn write_register(
     value: u32,
     out: &mut u32,
 ) -> u32
-    ensures { Tells kept.old (events.RegWrite dev off width value) result out.new out.old kept.new }
+    ensures told { Tells kept.old.state (events.RegWrite dev off width value) result out.new out.old kept.new.state }
+    ensures kind { kept.new ≡ record kept.old { state = kept.new.state } }
 {
-    match kept {
-        Kept::Still(machine) => written_told(machine.write_register(dev, off, width, value), out),
-        Kept::Moving(live) => {
-            let event = Event::RegWrite {
-                dev,
-                off,
-                width,
-                value,
-            };
-            apply_told(live, &event, out)
+    let event = Event::RegWrite {
+        dev,
+        off,
+        width,
+        value,
+    };
+    match &mut kept.contents {
+        Contents::Still(machine) => {
+            written_told(machine.write_register(dev, off, width, value), out)
         }
-        Kept::Arriving(_) => NO_MACHINE,
+        Contents::StillMapped(machine) => {
+            written_told(machine.write_register(dev, off, width, value), out)
+        }
+        Contents::Moving(live) => apply_told(live, &event, out),
+        Contents::MovingMapped(live) => apply_told(live, &event, out),
+        Contents::Arriving(_) => NO_MACHINE,
     }
 }
 
 /// The guest reads RAM. It takes no memory, also of a machine that is sent.
 pub(crate) fn read_ram(kept: &Kept, addr: u64, buf: &mut [u8]) -> u32
-    ensures { ReadsKept kept.now addr result buf.old buf.new }
+    ensures { ReadsKept kept.now.state addr result buf.old buf.new }
 {
-    match kept {
-        Kept::Still(machine) => done_told(machine.read_ram(addr, buf)),
-        Kept::Moving(live) => done_told(live.machine().read_ram(addr, buf)),
-        Kept::Arriving(_) => NO_MACHINE,
+    match &kept.contents {
+        Contents::Still(machine) => done_told(machine.read_ram(addr, buf)),
+        Contents::StillMapped(machine) => done_told(machine.read_ram(addr, buf)),
+        Contents::Moving(live) => done_told(live.machine().read_ram(addr, buf)),
+        Contents::MovingMapped(live) => done_told(live.machine().read_ram(addr, buf)),
+        Contents::Arriving(_) => NO_MACHINE,
     }
 }
 
 /// The interrupt lines.
 pub(crate) fn lines(kept: &Kept) -> u16
-    ensures { result ≡ lines_in kept.now }
+    ensures { result ≡ lines_in kept.now.state }
 {
-    match kept {
-        Kept::Still(machine) => machine.lines(),
-        Kept::Moving(live) => live.machine().lines(),
-        Kept::Arriving(_) => 0,
+    match &kept.contents {
+        Contents::Still(machine) => machine.lines(),
+        Contents::StillMapped(machine) => machine.lines(),
+        Contents::Moving(live) => live.machine().lines(),
+        Contents::MovingMapped(live) => live.machine().lines(),
+        Contents::Arriving(_) => 0,
     }
 }
 
 /// The guest writes RAM.
-#[tactic(auto, using(crate::proofs::ByKept::still_so, crate::proofs::ByKept::written, crate::proofs::ByKept::uncopied))]
-pub(crate) fn write_ram(alloc: Global, kept: &mut Kept, addr: u64, bytes: &[u8]) -> u32
-    ensures { TellsSo kept.old (events.MemWrite addr bytes.now) result kept.new }
+#[tactic(auto, using(crate::proofs::ByKept::still_so, crate::proofs::ByKept::moving))]
+pub(crate) fn write_ram(kept: &mut Kept, addr: u64, bytes: &[u8]) -> u32
+    ensures told { TellsSo kept.old.state (events.MemWrite addr bytes.now) result kept.new.state }
+    ensures kind { kept.new ≡ record kept.old { state = kept.new.state } }
 {
-    match kept {
-        Kept::Still(machine) => done_told(machine.write_ram(addr, bytes)),
-        Kept::Moving(live) => {
-            let Ok(bytes) = copy_of(alloc, bytes) else {
-                return NO_MEMORY;
-            };
-            let mut none = 0;
-            apply_told(live, &Event::MemWrite { addr, bytes }, &mut none)
-        }
-        Kept::Arriving(_) => NO_MACHINE,
+    match &mut kept.contents {
+        Contents::Still(machine) => done_told(machine.write_ram(addr, bytes)),
+        Contents::StillMapped(machine) => done_told(machine.write_ram(addr, bytes)),
+        Contents::Moving(live) => write_told(live, addr, bytes),
+        Contents::MovingMapped(live) => write_told(live, addr, bytes),
+        Contents::Arriving(_) => NO_MACHINE,
     }
+}
+
+/// The same of a machine that is sent.
+#[tactic(auto, using(crate::proofs::ByKept::written, crate::proofs::ByKept::few_told))]
+fn write_told<D: Disk>(live: &mut Moving<D>, addr: u64, bytes: &[u8]) -> u32
+    ensures { IsServed live.old (live_events.Guest (events.MemWrite addr bytes.now)) result 0 0 live.new }
+{
+    let mut none = 0;
+    live.recall();
+    reply_told(live.write_ram(addr, bytes), &mut none)
 }
 
 /// The host puts bytes in.
-#[tactic(auto, using(crate::proofs::ByKept::still, crate::proofs::ByKept::moving, crate::proofs::ByKept::uncopied))]
-pub(crate) fn input(
-    alloc: Global,
-    kept: &mut Kept,
-    dev: u8,
-    bytes: &[u8],
-    accepted: &mut u32,
-) -> u32
-    ensures { Tells kept.old (events.Input dev bytes.now) result accepted.new accepted.old kept.new }
+#[tactic(auto, using(crate::proofs::ByKept::still, crate::proofs::ByKept::moving))]
+pub(crate) fn input(kept: &mut Kept, dev: u8, bytes: &[u8], accepted: &mut u32) -> u32
+    ensures told { Tells kept.old.state (events.Input dev bytes.now) result accepted.new accepted.old kept.new.state }
+    ensures kind { kept.new ≡ record kept.old { state = kept.new.state } }
 {
-    match kept {
-        Kept::Still(machine) => accepted_told(machine.input(dev, bytes), accepted),
-        Kept::Moving(live) => {
-            let Ok(bytes) = copy_of(alloc, bytes) else {
-                return NO_MEMORY;
-            };
-            apply_told(live, &Event::Input { dev, bytes }, accepted)
-        }
-        Kept::Arriving(_) => NO_MACHINE,
+    match &mut kept.contents {
+        Contents::Still(machine) => answer_told(machine.input(dev, bytes), accepted),
+        Contents::StillMapped(machine) => answer_told(machine.input(dev, bytes), accepted),
+        Contents::Moving(live) => input_told(live, dev, bytes, accepted),
+        Contents::MovingMapped(live) => input_told(live, dev, bytes, accepted),
+        Contents::Arriving(_) => NO_MACHINE,
     }
+}
+
+/// The same of a machine that is sent.
+#[tactic(auto, using(crate::proofs::ByKept::served, crate::proofs::ByKept::few_told))]
+fn input_told<D: Disk>(live: &mut Moving<D>, dev: u8, bytes: &[u8], accepted: &mut u32) -> u32
+    ensures { IsServed live.old (live_events.Guest (events.Input dev bytes.now)) result accepted.new accepted.old live.new }
+{
+    live.recall();
+    reply_told(live.input(dev, bytes), accepted)
 }
 
 /// The host sets the size of a console.
-#[tactic(auto, using(crate::proofs::ByKept::still_so, crate::proofs::ByKept::resized))]
+#[tactic(auto, using(crate::proofs::ByKept::still_so, crate::proofs::ByKept::moving))]
 pub(crate) fn resize(kept: &mut Kept, dev: u8, cols: u16, rows: u16) -> u32
-    ensures { TellsSo kept.old (events.Resize dev cols rows) result kept.new }
+    ensures told { TellsSo kept.old.state (events.Resize dev cols rows) result kept.new.state }
+    ensures kind { kept.new ≡ record kept.old { state = kept.new.state } }
 {
-    match kept {
-        Kept::Still(machine) => done_told(machine.resize(dev, cols, rows)),
-        Kept::Moving(live) => {
-            let mut none = 0;
-            apply_told(live, &Event::Resize { dev, cols, rows }, &mut none)
-        }
-        Kept::Arriving(_) => NO_MACHINE,
+    match &mut kept.contents {
+        Contents::Still(machine) => done_told(machine.resize(dev, cols, rows)),
+        Contents::StillMapped(machine) => done_told(machine.resize(dev, cols, rows)),
+        Contents::Moving(live) => resize_told(live, dev, cols, rows),
+        Contents::MovingMapped(live) => resize_told(live, dev, cols, rows),
+        Contents::Arriving(_) => NO_MACHINE,
     }
 }
 
-fn copy_of(alloc: Global, bytes: &[u8]) -> Result<Bytes, NoMemory>
-    ensures { IfOk result (λ copy. copy ≡ bytes.now) }
+/// The same of a machine that is sent.
+#[tactic(auto, using(crate::proofs::ByKept::resized))]
+fn resize_told<D: Disk>(live: &mut Moving<D>, dev: u8, cols: u16, rows: u16) -> u32
+    ensures { IsServed live.old (live_events.Guest (events.Resize dev cols rows)) result 0 0 live.new }
 {
-    let copy = bytes.to_vec(alloc)?;
-    Ok(Bytes::from_vec(copy))
+    let mut none = 0;
+    apply_told(live, &Event::Resize { dev, cols, rows }, &mut none)
 }

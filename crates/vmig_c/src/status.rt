@@ -31,6 +31,8 @@ pub(crate) const BAD_SHAPE: u32 = 12;
 
 pub(crate) const IS_MOVING: u32 = 13;
 
+pub(crate) const NOT_MAPPED: u32 = 14;
+
 pub(crate) const BAD_IMAGES: u32 = 15;
 
 pub(crate) const NOT_BEGUN: u32 = 17;
@@ -57,14 +59,17 @@ pub(crate) fn mig_told(error: MigError) -> u32
     16 + error.code() as u32
 }
 
-/// The status of a register that was read, whose value goes out as the number.
-pub(crate) fn value_told(answer: Result<u32, Refusal>, number: &mut u32) -> u32
-    ensures status { result ≡ status_of (value_reply answer) }
-    ensures number { number.new ≡ number_of (value_reply answer) number.old }
+/// The status of a register that was read, whose value goes out as the number, or of an input, of which that is how many bytes
+/// were kept.
+pub(crate) fn answer_told(answer: Result<u32, Refusal>, number: &mut u32) -> u32
+    ensures value_status { result ≡ status_of (value_reply answer) }
+    ensures value { number.new ≡ number_of (value_reply answer) number.old }
+    ensures accepted_status { result ≡ status_of (accepted_reply answer) }
+    ensures accepted { number.new ≡ number_of (accepted_reply answer) number.old }
 {
     match answer {
-        Ok(value) => {
-            *number = value;
+        Ok(told) => {
+            *number = told;
             DONE
         }
         Err(refusal) => refused(refusal),
@@ -82,20 +87,6 @@ pub(crate) fn written_told(answer: Result<Option<u8>, Refusal>, number: &mut u32
             OUT_BYTE
         }
         Ok(None) => DONE,
-        Err(refusal) => refused(refusal),
-    }
-}
-
-/// The status of an input. How many bytes were kept goes out as the number.
-pub(crate) fn accepted_told(answer: Result<u32, Refusal>, number: &mut u32) -> u32
-    ensures status { result ≡ status_of (accepted_reply answer) }
-    ensures number { number.new ≡ number_of (accepted_reply answer) number.old }
-{
-    match answer {
-        Ok(count) => {
-            *number = count;
-            DONE
-        }
         Err(refusal) => refused(refusal),
     }
 }

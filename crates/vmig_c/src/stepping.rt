@@ -1,17 +1,19 @@
 //! Steps of devices, and what they send.
 
-ghost use Rattle.std.specs.Prelude.{◌≡◌, ◌≤◌, ◌++◌, length, drop};
+ghost use Rattle.std.specs.Prelude.{◌≡◌, ◌≤◌, ◌++◌, IfOk, length, drop};
 ghost use Rattle.machine.specs.DeviceStep.{message_form};
 ghost use Rattle.machine.specs.Seen.{state_of};
-ghost use Rattle.vmig_c.specs.Status.{status_of};
+ghost use Rattle.sender.specs.Calls.{guest_reply};
+ghost use Rattle.vmig_c.specs.Status.{live_status, status_of};
 ghost use Rattle.vmig_c.specs.Stepped.{LiveSteps, Steps, StepsKept, most_of, most_sent_by, sent_in};
-ghost use Rattle.vmig_c.specs.Told.{number_of};
+ghost use Rattle.vmig_c.specs.Told.{live_number, number_of};
 
-use crate::kept::{Kept, Moving};
+use crate::kept::{Contents, Kept, Moving};
 use crate::status::{
     BAD_SECTOR, DISK_FAILED, DONE, NO_MACHINE, NO_MEMORY, OUT_BYTE, TOO_SMALL, mig_told, refused,
 };
-use machine::{Event, Machine, MemDisk, Own, Reply};
+use machine::{Disk, Event, Machine, Own, Reply};
+use sender::MigError;
 
 const IDLE: u32 = 65;
 
@@ -30,18 +32,27 @@ const NEEDS_RESET: u32 = 73;
 /// A device behind a handle does one piece of its work, if the buffer holds all that it may send.
 #[tactic(auto, using(crate::proofs::ByKept::still_steps, crate::proofs::ByKept::moving_steps))]
 pub(crate) fn step_kept(kept: &mut Kept, dev: u8, pick: u8, buf: &mut [u8], number: &mut u32) -> u32
-    ensures { StepsKept kept.old dev pick result number.new number.old buf.old buf.new kept.new }
+    ensures steps { StepsKept kept.old.state dev pick result number.new number.old buf.old buf.new kept.new.state }
+    ensures kind { kept.new ≡ record kept.old { state = kept.new.state } }
 {
-    match kept {
-        Kept::Still(machine) => step_told(machine, dev, pick, buf, number),
-        Kept::Moving(live) => live_step_told(live, dev, pick, buf, number),
-        Kept::Arriving(_) => NO_MACHINE,
+    match &mut kept.contents {
+        Contents::Still(machine) => step_told(machine, dev, pick, buf, number),
+        Contents::StillMapped(machine) => step_told(machine, dev, pick, buf, number),
+        Contents::Moving(live) => live_step_told(live, dev, pick, buf, number),
+        Contents::MovingMapped(live) => live_step_told(live, dev, pick, buf, number),
+        Contents::Arriving(_) => NO_MACHINE,
     }
 }
 
 /// The same of a machine that is sent.
 #[tactic(auto, using(crate::proofs::ByKept::live_stepped, crate::proofs::ByKept::live_not_stepped))]
-fn live_step_told(live: &mut Moving, dev: u8, pick: u8, buf: &mut [u8], number: &mut u32) -> u32
+fn live_step_told<D: Disk>(
+    live: &mut Moving<D>,
+    dev: u8,
+    pick: u8,
+    buf: &mut [u8],
+    number: &mut u32,
+) -> u32
     ensures { LiveSteps live.old dev pick result number.new number.old buf.old buf.new live.new }
 {
     if buf.len() < room_for(live.machine(), dev, pick) {
@@ -60,8 +71,8 @@ fn live_step_told(live: &mut Moving, dev: u8, pick: u8, buf: &mut [u8], number: 
 
 /// A device does one piece of its work, if the buffer holds all that it may send.
 #[tactic(auto, using(crate::proofs::Sending::stepped, crate::proofs::Sending::not_stepped))]
-fn step_told(
-    machine: &mut Machine<MemDisk>,
+fn step_told<D: Disk>(
+    machine: &mut Machine<D>,
     dev: u8,
     pick: u8,
     buf: &mut [u8],
@@ -79,7 +90,7 @@ fn step_told(
 }
 
 /// How many bytes a step may send.
-fn room_for(machine: &Machine<MemDisk>, dev: u8, pick: u8) -> usize
+fn room_for<D: Disk>(machine: &Machine<D>, dev: u8, pick: u8) -> usize
     ensures { result ≡ most_sent_by machine.now dev pick }
 {
     if dev as usize >= machine.shapes().len() {
@@ -109,8 +120,23 @@ fn hand_out(reply: &Reply, buf: &mut [u8])
     }
 }
 
+/// What a machine that is sent answers: its status, and its number if it has one.
+pub(crate) fn reply_told(answer: Result<Reply, MigError>, number: &mut u32) -> u32
+    requires { IfOk answer (λ reply. length (sent_in reply) ≤ 65536) }
+    ensures status { result ≡ live_status (guest_reply answer) }
+    ensures number { number.new ≡ live_number (guest_reply answer) number.old }
+{
+    match answer {
+        Ok(reply) => {
+            *number = number_told(&reply, *number);
+            status_told(&reply)
+        }
+        Err(error) => mig_told(error),
+    }
+}
+
 /// The number that a reply tells, or what was told before.
-pub(crate) fn number_told(reply: &Reply, before: u32) -> u32
+fn number_told(reply: &Reply, before: u32) -> u32
     requires { length (sent_in reply.now) ≤ 65536 }
     ensures { result ≡ number_of reply.now before }
 {
@@ -125,7 +151,7 @@ pub(crate) fn number_told(reply: &Reply, before: u32) -> u32
 }
 
 /// The status of a reply.
-pub(crate) fn status_told(reply: &Reply) -> u32
+fn status_told(reply: &Reply) -> u32
     ensures { result ≡ status_of reply.now }
 {
     match reply {

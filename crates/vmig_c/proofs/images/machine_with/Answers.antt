@@ -1,4 +1,4 @@
-use Rattle.std.proofs.Common.{◌≡◌, List, map, subst, sym, ℕ}
+use Rattle.std.proofs.Common.{◌≡◌, List, map, refl, subst, sym, ◌∙◌, ℕ}
 use Rattle.std.specs.Prelude.{Some}
 use Rattle.machine.specs.First.{dealt_marks, first_machine}
 use Rattle.machine.specs.Seen.{all_marks, no_marks, state_of}
@@ -6,7 +6,7 @@ use Rattle.machine.specs.Shapes.{disk_sizes}
 use Rattle.machine.specs.declared.shape.Shape.{Shape}
 use Rattle.vmig_c.specs.Images.{AreImages, IsMadeWith, KeepsMadeWith}
 use Rattle.vmig_c.specs.Making.{shapes_of}
-use Rattle.vmig_c.specs.declared.kept.Kept.{Kept}
+use Rattle.vmig_c.specs.Kept.{KeptSeen}
 use Rattle.vmig_c.proofs.Imaging.{made_with}
 use Rattle.vmig_c.proofs.images.machine_with.Goals as goal
 
@@ -22,4 +22,4 @@ returns c =
     let marks : all_marks m ≡ dealt_marks shapes (map (λ (d : List (List ℕ)). no_marks) disks) = rw (← c.deref-2.ensures.value) c.in-Ok.ensures.marks in
     let new : IsMadeWith pages shapes images m = made_with pages shapes images disks m are first marks c.in-Ok.ensures.sound in
     let asked : IsMadeWith pages (shapes_of c.args.shapes.now) images m = subst (λ (l : List Shape). IsMadeWith pages l images m) c.in_ok-shapes.ensures new in
-    subst (λ (k : Kept). KeepsMadeWith pages (shapes_of c.args.shapes.now) images k) (sym c.in_ok-boxed.ensures.ok) asked
+    subst (λ (k : KeptSeen). KeepsMadeWith pages (shapes_of c.args.shapes.now) images k) (sym (c.in_ok-boxed.ensures.ok ∙ c.new-2.ensures)) (refl, asked)

@@ -1,11 +1,11 @@
-use Rattle.std.proofs.Common.{◌≡◌, ℕ, List, sym, subst, map, replicate}
+use Rattle.std.proofs.Common.{◌≡◌, ℕ, List, refl, sym, ◌∙◌, subst, map, replicate}
 use Rattle.std.specs.Prelude.{Some}
 use Rattle.machine.specs.First.{dealt_marks, first_machine}
 use Rattle.machine.specs.Seen.{all_marks, no_marks, state_of}
 use Rattle.machine.specs.Shapes.{disk_sizes}
 use Rattle.machine.specs.declared.shape.Shape.{Shape}
 use Rattle.vmig_c.specs.Making.{IsMade, KeepsMade, shapes_of}
-use Rattle.vmig_c.specs.declared.kept.Kept.{Kept}
+use Rattle.vmig_c.specs.Kept.{KeptSeen}
 use Rattle.vmig_c.proofs.Zeros.{made}
 use Rattle.vmig_c.proofs.making.machine_of.Goals as goal
 
@@ -20,4 +20,4 @@ returns c =
     let marks : all_marks m ≡ dealt_marks shapes (map (λ (d : List (List ℕ)). no_marks) disks) = rw (← c.deref-2.ensures.value) c.in-Ok.ensures.marks in
     let new : IsMade pages shapes m = made pages shapes disks m zeros first marks c.in-Ok.ensures.sound in
     let asked : IsMade pages (shapes_of c.args.shapes.now) m = subst (λ (l : List Shape). IsMade pages l m) c.in_ok-shapes.ensures new in
-    subst (λ (k : Kept). KeepsMade pages (shapes_of c.args.shapes.now) k) (sym c.in_ok-boxed.ensures.ok) asked
+    subst (λ (k : KeptSeen). KeepsMade pages (shapes_of c.args.shapes.now) k) (sym (c.in_ok-boxed.ensures.ok ∙ c.new-2.ensures)) (refl, asked)

@@ -1,29 +1,29 @@
 use Rattle.std.proofs.Common.{arith, length, refl}
-use Rattle.vmig_c.specs.declared.kept.Kept.TheVariants.{Moving}
+use Rattle.vmig_c.specs.Kept.{Moving}
 use Rattle.vmig_c.proofs.Mirrored.{IsReady, ready}
 use Rattle.vmig_c.proofs.Mirroring.{page_at}
 use Rattle.vmig_c.proofs.mirror.push_moving.Goals as goal
 
 pub loop-n-init : goal.loop-n-init
-loop-n-init c =
+loop-n-init g c =
     let l = c.args.live.now in
     let are : IsReady (Moving l) c.args.pages.now (length c.args.ram.now) (length c.args.seen.now) = ready (Moving l) c.args.pages.now (length c.args.ram.now) (length c.args.seen.now) c.requires in
-    record { way = λ next new_seen pushed. pushed; bytes = refl; versions = refl; going = are.going; size = omega (arith, c.in_ok-page.ensures.len) }
+    record { way = λ next new_seen pushed. pushed; bytes = refl; versions = refl; going = are.going }
 
-pub push_live_page-page-requires-clause-page : goal.push_live_page-page-requires-clause-page
-push_live_page-page-requires-clause-page c =
+pub push_live_page-requires-clause-page : goal.push_live_page-requires-clause-page
+push_live_page-requires-clause-page g c =
     let l = c.args.live.now in
     let are : IsReady (Moving l) c.args.pages.now (length c.args.ram.now) (length c.args.seen.now) = ready (Moving l) c.args.pages.now (length c.args.ram.now) (length c.args.seen.now) c.requires in
     omega (arith, page_at (length l.machine.memory.versions) c.args.pages.now c.loop-n.n-index are.are c.loop-n-test.true, c.loop-n.invariant.versions)
 
-pub push_live_page-page-requires-clause-bytes : goal.push_live_page-page-requires-clause-bytes
-push_live_page-page-requires-clause-bytes c =
+pub push_live_page-requires-clause-bytes : goal.push_live_page-requires-clause-bytes
+push_live_page-requires-clause-bytes g c =
     let l = c.args.live.now in
     let are : IsReady (Moving l) c.args.pages.now (length c.args.ram.now) (length c.args.seen.now) = ready (Moving l) c.args.pages.now (length c.args.ram.now) (length c.args.seen.now) c.requires in
     omega (arith, are.room, c.loop-n.invariant.bytes)
 
-pub push_live_page-page-requires-clause-entries : goal.push_live_page-page-requires-clause-entries
-push_live_page-page-requires-clause-entries c =
+pub push_live_page-requires-clause-entries : goal.push_live_page-requires-clause-entries
+push_live_page-requires-clause-entries g c =
     let l = c.args.live.now in
     let are : IsReady (Moving l) c.args.pages.now (length c.args.ram.now) (length c.args.seen.now) = ready (Moving l) c.args.pages.now (length c.args.ram.now) (length c.args.seen.now) c.requires in
     omega (arith, are.places, c.loop-n.invariant.versions)

@@ -1,15 +1,13 @@
 use Rattle.std.proofs.Common.{◌≡◌, drop, false, length}
-use Rattle.guestmem.specs.declared.limits.TheConstants.{PAGE_SIZE}
 use Rattle.vmig_c.specs.Mirror.{is_closed}
-use Rattle.vmig_c.specs.declared.kept.Kept.TheVariants.{Moving}
+use Rattle.vmig_c.specs.Kept.{Moving}
 use Rattle.vmig_c.proofs.Mirroring.{IsOnWay}
 use Rattle.vmig_c.proofs.mirror.push_moving.Given as goal
 
 abbrev pub invariant-loop-n : goal.invariant-loop-n
-invariant-loop-n l = record {
+invariant-loop-n g l = record {
   way : IsOnWay (Moving l.fn.live) l.pages l.ram l.fn.seen (Moving l.live) (drop l.n-index l.pages) l.seen;
   bytes : length l.live.machine.memory.bytes ≡ length l.fn.live.machine.memory.bytes;
   versions : length l.live.machine.memory.versions ≡ length l.fn.live.machine.memory.versions;
   going : is_closed l.live.phase ≡ false;
-  size : length l.page.items ≡ PAGE_SIZE;
 }

@@ -5,7 +5,7 @@ use Rattle.vmig_c.proofs.Mirroring.{page_slice, pushed_still}
 use Rattle.vmig_c.proofs.mirror.push_page.Goals as goal
 
 pub returns-clause-pushed : goal.returns-clause-pushed
-returns-clause-pushed c =
+returns-clause-pushed g c =
     let n = c.args.n in
     let m = c.args.machine.now in
     let next = c.write_ram-done.new.self in

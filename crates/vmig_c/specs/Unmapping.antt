@@ -1,0 +1,95 @@
+-- Images that the caller has back.
+use Rattle.std.specs.Prelude.{◌≡◌, ℕ, ◌==◌, ◌&&◌, ◌++◌, not, nat_lt, if◌then◌else◌, Bool, true, List, [], ◌∷◌, All, length, Option, Some, None}
+use Rattle.std.specs.List.{flat_map}
+use Rattle.blk.specs.Sectors.{Sector, sectors_of}
+use Rattle.machine.specs.Seen.{DeviceSeen, Seen}
+use Rattle.machine.specs.Shapes.{disk_size_of}
+use Rattle.mapped_disk.specs.declared.image.Image.{Image}
+use Rattle.vmig_c.specs.Kept.{KeptSeen, State, Still, Moving, Arriving}
+use Rattle.vmig_c.specs.Mapping.{contents, counts}
+use Rattle.vmig_c.specs.Status.{bad_images, done, no_machine, not_mapped, too_small}
+
+-- The sectors of the devices that have a disk, in their order.
+abbrev pub disk_if : Option ℕ → List Sector → List (List Sector)
+disk_if None sectors = []
+disk_if (Some n) sectors = sectors ∷ []
+
+abbrev pub disk_in : DeviceSeen → List (List Sector)
+disk_in d = disk_if (disk_size_of d.state.shape) d.sectors
+
+abbrev pub disks_in : List DeviceSeen → List (List Sector)
+disks_in devices = flat_map disk_in devices
+
+-- As many sectors as the disk has, and the same, but for its bad ones, instead of which anything may stand.
+pub record IsHandedBack (disk : List Sector) (slot : List (List ℕ)) : Type 0 where
+  pub marks : List Bool
+  pub agrees : disk ≡ sectors_of slot marks
+
+-- The slots are those of the disks, in their order.
+abbrev pub AreHandedBack : List (List Sector) → List (List (List ℕ)) → Type 0
+AreHandedBack [] [] = Unit {0}
+AreHandedBack (disk ∷ disks) (slot ∷ slots) = IsHandedBack disk slot × AreHandedBack disks slots
+AreHandedBack _ _ = ⊥
+
+abbrev pub held_by : Option Image → List (List (List ℕ))
+held_by None = []
+held_by (Some image) = image.content ∷ []
+
+-- The first slots have the content of the disks, and the others are of no sectors.
+pub record HasUnmapped (m : Seen) (images new_images : List Image) : Type 0 where
+  pub slots : List (List (List ℕ))
+  pub rest : List (List (List ℕ))
+  pub back : AreHandedBack (disks_in m.devices) slots
+  pub first : contents new_images ≡ slots ++ rest
+  pub empty : All (λ c. c ≡ []) rest
+  pub count : length new_images ≡ length images
+
+abbrev pub are_none : List ℕ → Bool
+are_none [] = true
+are_none (n ∷ ns) = n == 0 && are_none ns
+
+-- Why these are not the slots for so many disks: one has sectors, or they are fewer.
+abbrev pub slots_refusal : ℕ → List Image → Option ℕ
+slots_refusal disks images = if not (are_none (counts images)) then Some bad_images else if nat_lt (length images) disks then Some too_small else None
+
+-- Why no machine is taken apart. What arrives is none yet; disks in memory of the library are not given away.
+abbrev pub mapped_refusal_of : State → List Image → Option ℕ
+mapped_refusal_of (Still m) images = slots_refusal (length (disks_in m.devices)) images
+mapped_refusal_of (Moving l) images = slots_refusal (length (disks_in l.machine.devices)) images
+mapped_refusal_of (Arriving r) images = Some no_machine
+
+abbrev pub own_refusal_of : State → Option ℕ
+own_refusal_of (Arriving r) = Some no_machine
+own_refusal_of _ = Some not_mapped
+
+abbrev pub unmap_refusal_of : KeptSeen → List Image → Option ℕ
+unmap_refusal_of k images = if k.is_mapped then mapped_refusal_of k.state images else own_refusal_of k.state
+
+abbrev pub unmap_refusal : Option KeptSeen → List Image → Option ℕ
+unmap_refusal None images = Some no_machine
+unmap_refusal (Some k) images = unmap_refusal_of k images
+
+abbrev pub HasUnmappedState : State → List Image → List Image → Type 0
+HasUnmappedState (Still m) images new_images = HasUnmapped m images new_images
+HasUnmappedState (Moving l) images new_images = HasUnmapped l.machine images new_images
+HasUnmappedState (Arriving r) images new_images = ⊥
+
+pub record IsUnmapped (k : KeptSeen) (images new_images : List Image) (status : ℕ) (after : Option KeptSeen) : Type 0 where
+  pub status_is : status ≡ done
+  pub gone : after ≡ None
+  pub has : HasUnmappedState k.state images new_images
+
+-- It was refused, and nothing changed.
+pub record IsStillMapped (refusal : ℕ) (old : Option KeptSeen) (images new_images : List Image) (status : ℕ) (after : Option KeptSeen) : Type 0 where
+  pub status_is : status ≡ refusal
+  pub same : after ≡ old
+  pub images_same : new_images ≡ images
+
+abbrev pub UnmapsBy : Option ℕ → Option KeptSeen → List Image → List Image → ℕ → Option KeptSeen → Type 0
+UnmapsBy (Some refusal) old images new_images status after = IsStillMapped refusal old images new_images status after
+UnmapsBy None None images new_images status after = ⊥
+UnmapsBy None (Some k) images new_images status after = IsUnmapped k images new_images status after
+
+-- The machine is gone, and its images are back; or it is told why not.
+abbrev pub Unmaps : Option KeptSeen → List Image → List Image → ℕ → Option KeptSeen → Type 0
+Unmaps old images new_images status after = UnmapsBy (unmap_refusal old images) old images new_images status after

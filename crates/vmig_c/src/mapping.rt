@@ -1,0 +1,88 @@
+//! Machines whose disks lie in memory of the caller.
+
+ghost use Rattle.std.specs.Prelude.{◌≡◌, length, map, IfOk, IfErr};
+ghost use Rattle.machine.specs.First.{are_same};
+ghost use Rattle.machine.specs.Shapes.{disk_sizes};
+ghost use Rattle.vmig_c.specs.Making.{shapes_of};
+ghost use Rattle.vmig_c.specs.Mapping.{AreTaken, KeepsMapped, contents, counts};
+
+use crate::arrival::Arrival;
+use crate::device_shape::DeviceShape;
+use crate::kept::{Contents, Kept};
+use crate::making::shapes_of;
+use guestmem::NoMemory;
+use machine::{Machine, Shape};
+use mapped_disk::{Image, MappedDisk};
+use std::alloc::Global;
+
+/// Whether the images have as many sectors as the disks of these devices, in their order.
+#[tactic(auto, using(crate::proofs::MappingImages::all_counted))]
+pub(crate) fn are_counted(images: &mut [Image], shapes: &[DeviceShape]) -> bool
+    ensures same { images.new ≡ images.old }
+    ensures counted { result ≡ are_same (disk_sizes (shapes_of shapes.now)) (counts images.old) }
+{
+    let mut at = 0;
+    for shape in shapes {
+        let Shape::Block { sectors, .. } = shape.shape() else {
+            continue;
+        };
+        if at == images.len() || images[at].count() != sectors {
+            return false;
+        }
+        at += 1;
+    }
+    at == images.len()
+}
+
+/// A machine in a box, over disks in the images, which are taken. The limits and the images' counts were tested, so its only
+/// error is want of memory: then the images are as they were. The box is there before an image is taken.
+pub(crate) fn machine_over(
+    alloc: Global,
+    pages: u32,
+    shapes: &[DeviceShape],
+    images: &mut [Image],
+) -> Result<Box<Kept>, NoMemory>
+    ensures made { IfOk result (λ k. KeepsMapped pages (shapes_of shapes.now) (contents images.old) k.value) }
+    ensures taken { IfOk result (λ k. AreTaken images.old images.new) }
+    ensures refused { IfErr result (λ e. images.new ≡ images.old) }
+{
+    let shapes = shapes_of(alloc, shapes)?;
+    let mut boxed = Box::new(alloc, Kept::new(Contents::Arriving(Arrival::new(alloc))))?;
+    let disks = mapped_disks(alloc, images)?;
+    match Machine::new_or_back(alloc, pages, &shapes, disks) {
+        Ok(machine) => {
+            *boxed = Kept::new(Contents::StillMapped(machine));
+            Ok(boxed)
+        }
+        Err((_, disks)) => {
+            give_back(disks, images);
+            Err(NoMemory)
+        }
+    }
+}
+
+/// A disk in each image, in their order. The images are taken, if there is memory for the list of disks.
+fn mapped_disks(alloc: Global, images: &mut [Image]) -> Result<Vec<MappedDisk>, NoMemory>
+    ensures disks { IfOk result (λ disks. disks.items ≡ images.old) }
+    ensures taken { IfOk result (λ disks. AreTaken images.old images.new) }
+    ensures refused { IfErr result (λ e. images.new ≡ images.old) }
+{
+    let mut disks = Vec::with_capacity(alloc, images.len())?;
+    for at in 0..images.len() {
+        let image = std::mem::replace(&mut images[at], Image::none());
+        disks.push_reserved(MappedDisk::new(image));
+    }
+    Ok(disks)
+}
+
+/// The images of the disks go back into the slots that they were taken from.
+fn give_back(disks: Vec<MappedDisk>, images: &mut [Image])
+    requires { AreTaken disks.items images.old }
+    ensures { images.new ≡ disks.items }
+{
+    let mut at = 0;
+    for disk in disks {
+        std::mem::replace(&mut images[at], disk.into_image()).gone();
+        at += 1;
+    }
+}

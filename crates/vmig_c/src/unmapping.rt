@@ -1,0 +1,105 @@
+//! Images that the caller has back.
+
+ghost use Rattle.std.specs.Prelude.{◌≡◌, None, Some, length};
+ghost use Rattle.vmig_c.specs.Mapping.{counts};
+ghost use Rattle.vmig_c.specs.Unmapping.{AreHandedBack, HasUnmapped, HasUnmappedState, are_none, disk_in, disks_in, held_by, slots_refusal, unmap_refusal_of};
+
+use crate::kept::{Contents, Kept};
+use crate::status::{BAD_IMAGES, NO_MACHINE, NOT_MAPPED, TOO_SMALL};
+use machine::{Device, Machine, Shape};
+use mapped_disk::{Image, MappedDisk};
+
+/// Why a machine is not taken apart.
+pub(crate) fn unmap_refusal(kept: &Kept, images: &mut [Image]) -> Option<u32>
+    ensures same { images.new ≡ images.old }
+    ensures refusal { result ≡ unmap_refusal_of kept.now images.old }
+{
+    match &kept.contents {
+        Contents::StillMapped(machine) => slots_refusal(disk_count(machine), images),
+        Contents::MovingMapped(live) => slots_refusal(disk_count(live.machine()), images),
+        Contents::Still(_) | Contents::Moving(_) => Some(NOT_MAPPED),
+        Contents::Arriving(_) => Some(NO_MACHINE),
+    }
+}
+
+/// Why these are not the slots for the images of so many disks.
+fn slots_refusal(disks: usize, images: &mut [Image]) -> Option<u32>
+    ensures same { images.new ≡ images.old }
+    ensures refusal { result ≡ slots_refusal disks images.old }
+{
+    if !are_none(images) {
+        return Some(BAD_IMAGES);
+    }
+    if images.len() < disks {
+        return Some(TOO_SMALL);
+    }
+    None
+}
+
+/// Whether no image has a sector.
+fn are_none(images: &mut [Image]) -> bool
+    ensures same { images.new ≡ images.old }
+    ensures none { result ≡ are_none (counts images.old) }
+{
+    for at in 0..images.len() {
+        if images[at].count() != 0 {
+            return false;
+        }
+    }
+    true
+}
+
+/// How many devices have a disk.
+fn disk_count(machine: &Machine<MappedDisk>) -> usize
+    ensures { result ≡ length (disks_in machine.now.devices) }
+{
+    let mut count = 0;
+    for shape in machine.shapes() {
+        if let Shape::Block { .. } = *shape {
+            count += 1;
+        }
+    }
+    count
+}
+
+/// What lies there is taken apart, and its images go into the slots.
+pub(crate) fn unmap(kept: Kept, images: &mut [Image])
+    requires { unmap_refusal_of kept images.old ≡ None }
+    ensures { HasUnmappedState kept.state images.old images.new }
+{
+    match kept.contents {
+        Contents::StillMapped(machine) => hand_back(machine, images),
+        Contents::MovingMapped(live) => hand_back(live.abort(), images),
+        _ => unreachable!(),
+    }
+}
+
+fn hand_back(machine: Machine<MappedDisk>, images: &mut [Image])
+    requires { slots_refusal (length (disks_in machine.devices)) images.old ≡ None }
+    ensures { HasUnmapped machine images.old images.new }
+{
+    let mut at = 0;
+    for device in machine.into_devices() {
+        let Some(image) = image_of(device) else {
+            continue;
+        };
+        std::mem::replace(&mut images[at], image).gone();
+        at += 1;
+    }
+}
+
+/// The image of a device's disk, if it is of those that have one.
+fn image_of(device: Device<MappedDisk>) -> Option<Image>
+    ensures { AreHandedBack (disk_in device) (held_by result) }
+{
+    let Shape::Block { .. } = device.state().shape() else {
+        return None;
+    };
+    match device.into_sectors() {
+        Some(sectors) => {
+            let (disk, _bad) = sectors.into_parts();
+            Some(disk.into_image())
+        }
+        None => Some(Image::none()),
+    }
+}

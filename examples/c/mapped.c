@@ -1,0 +1,135 @@
+/* A disk in a file that is mapped: a machine is made over it, a driver writes a sector, and the file has it. */
+#define _POSIX_C_SOURCE 200809L
+#include <stdlib.h>
+#include <string.h>
+#include <sys/mman.h>
+#include <unistd.h>
+#include "driver.h"
+
+enum { HEADER = 0x7000, OUTCOME = 0x7100, WRITE = 1, SECTORS = 3, SECTOR = 512, LENGTH = SECTORS * SECTOR };
+
+/* One write of one sector, as a driver makes it. Gives the outcome that the device wrote. */
+static uint64_t write_sector(vmig_machine *m, uint64_t sector, const uint8_t *bytes)
+{
+    uint32_t len = 77;
+    uint8_t none[1];
+
+    expect("put", vmig_ram_write(m, DATA, bytes, SECTOR), VMIG_OK);
+    put(m, HEADER, WRITE, 4);
+    put(m, HEADER + 4, 0, 4);
+    put(m, HEADER + 8, sector, 8);
+    put(m, OUTCOME, 0xff, 1);
+    describe(m, 0, 0, HEADER, 16, HAS_NEXT, 1);
+    describe(m, 0, 1, DATA, SECTOR, HAS_NEXT, 2);
+    describe(m, 0, 2, OUTCOME, 1, WRITABLE, 0);
+    offer(m, 0, 1, 0);
+    expect("taken", vmig_step(m, 0, 0, none, 0, &len), VMIG_TAKEN);
+    expect("moved", vmig_step(m, 0, 1, none, 0, &len), VMIG_MOVED);
+    expect("completed", vmig_step(m, 0, 1, none, 0, &len), VMIG_COMPLETED);
+    return get(m, OUTCOME, 1);
+}
+
+static void refuses(const vmig_shape *shapes, uint8_t *at)
+{
+    vmig_machine m = VMIG_NONE;
+    vmig_image few = {at, SECTORS - 1}, right = {at, SECTORS}, none = VMIG_NO_IMAGE;
+
+    expect("a sector too few", vmig_make_mapped(16, shapes, 2, &few, 1, &m), VMIG_BAD_IMAGES);
+    expect("no image", vmig_make_mapped(16, shapes, 2, &none, 1, &m), VMIG_BAD_IMAGES);
+    expect("no slot", vmig_make_mapped(16, shapes, 2, &right, 0, &m), VMIG_BAD_IMAGES);
+    expect("no pages", vmig_make_mapped(0, shapes, 2, &right, 1, &m), VMIG_BAD_SHAPE);
+    expect("nothing taken", right.sectors, SECTORS);
+    expect("and where it was", right.at == at, 1);
+}
+
+/* The image comes back from the machine, which is gone then. */
+static void gives_back(vmig_machine *m, uint8_t *at)
+{
+    vmig_image slots[] = {VMIG_NO_IMAGE, VMIG_NO_IMAGE}, full = {at, SECTORS};
+
+    expect("a slot that is not free", vmig_unmap(m, &full, 1), VMIG_BAD_IMAGES);
+    expect("no slot", vmig_unmap(m, slots, 0), VMIG_TOO_SMALL);
+    expect("unmap", vmig_unmap(m, slots, 2), VMIG_OK);
+    expect("its sectors", slots[0].sectors, SECTORS);
+    expect("where they were", slots[0].at == at, 1);
+    expect("and no more", slots[1].sectors, 0);
+    expect("no machine", vmig_unmap(m, slots, 2), VMIG_NO_MACHINE);
+}
+
+/* A machine over the mapped file, whose guest writes a sector. */
+static void runs(const vmig_shape *shapes, uint8_t *at, const uint8_t *written)
+{
+    vmig_machine m = VMIG_NONE;
+    vmig_image image = {at, SECTORS};
+    uint8_t got[SECTOR];
+
+    expect("make", vmig_make_mapped(16, shapes, 2, &image, 1, &m), VMIG_OK);
+    expect("taken", image.sectors, 0);
+    expect("made already", vmig_make_mapped(16, shapes, 2, &image, 1, &m), VMIG_IN_USE);
+    expect("sector", vmig_sector_read(&m, 0, 1, got, sizeof got), VMIG_OK);
+    expect("of the file", got[0], 41);
+    set_up(&m, 1);
+    expect("write", write_sector(&m, 2, written), 0);
+    expect("sector", vmig_sector_read(&m, 0, 2, got, sizeof got), VMIG_OK);
+    expect("as it was written", (uint64_t)memcmp(got, written, SECTOR), 0);
+    gives_back(&m, at);
+}
+
+/* Two disks, and a machine that is being sent: the images come back all the same, in the order of the devices. A machine whose
+ * disks lie in memory of the library has none to give. */
+static void gives_two_back(uint8_t *at)
+{
+    static const vmig_shape shapes[] = {
+        {.kind = VMIG_BLOCK, .sectors = 1},
+        {.kind = VMIG_CONSOLE},
+        {.kind = VMIG_BLOCK, .sectors = 2},
+    };
+    vmig_machine m = VMIG_NONE, own = VMIG_NONE;
+    vmig_image images[] = {{at, 1}, {at + SECTOR, 2}, VMIG_NO_IMAGE};
+    vmig_image turned[] = {{at + SECTOR, 2}, {at, 1}};
+    uint8_t dev = 0;
+    uint32_t number = 0;
+
+    expect("another order", vmig_make_mapped(1, shapes, 3, turned, 2, &m), VMIG_BAD_IMAGES);
+    expect("make", vmig_make_mapped(1, shapes, 3, images, 2, &m), VMIG_OK);
+    expect("begin", vmig_begin(&m), VMIG_OK);
+    expect("copy", vmig_copy(&m, &dev, &number), VMIG_PAGE);
+    expect("too few slots", vmig_unmap(&m, images, 1), VMIG_TOO_SMALL);
+    expect("unmap", vmig_unmap(&m, images, 3), VMIG_OK);
+    expect("the first", images[0].at == at && images[0].sectors == 1, 1);
+    expect("the second", images[1].at == at + SECTOR && images[1].sectors == 2, 1);
+    expect("no third", images[2].sectors, 0);
+
+    expect("make its own", vmig_make(1, shapes, 3, &own), VMIG_OK);
+    expect("no image in it", vmig_unmap(&own, &images[2], 1), VMIG_NOT_MAPPED);
+    expect("still there", vmig_lines(&own), 0);
+    expect("still there", vmig_begin(&own), VMIG_OK);
+    vmig_free(&own);
+}
+
+int main(void)
+{
+    static const vmig_shape shapes[] = {{.kind = VMIG_BLOCK, .sectors = SECTORS}, {.kind = VMIG_ENTROPY}};
+    static uint8_t first[LENGTH], written[SECTOR], back[LENGTH];
+    char name[] = "/tmp/vmig-mapped-XXXXXX";
+    int file = mkstemp(name);
+    uint8_t *at;
+
+    for (size_t i = 0; i < LENGTH; i++) first[i] = (uint8_t)(40 + i / SECTOR);
+    memset(written, 0x5a, sizeof written);
+    expect("file", (uint64_t)write(file, first, LENGTH), LENGTH);
+    at = mmap(NULL, LENGTH, PROT_READ | PROT_WRITE, MAP_SHARED, file, 0);
+    expect("mapped", at != MAP_FAILED, 1);
+    refuses(shapes, at);
+    runs(shapes, at, written);
+    gives_two_back(at);
+    expect("msync", (uint64_t)msync(at, LENGTH, MS_SYNC), 0);
+    expect("unmapped", (uint64_t)munmap(at, LENGTH), 0);
+
+    expect("the file's length", (uint64_t)pread(file, back, LENGTH, 0), LENGTH);
+    expect("what was not written", (uint64_t)memcmp(back, first, 2 * SECTOR), 0);
+    expect("what was", (uint64_t)memcmp(back + 2 * SECTOR, written, SECTOR), 0);
+    close(file);
+    unlink(name);
+    return ended("mapped");
+}
