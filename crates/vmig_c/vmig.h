@@ -66,6 +66,12 @@
 extern "C" {
 #endif
 
+/* The version of this library. */
+#define VMIG_VERSION "0.9.0"
+#define VMIG_VERSION_MAJOR 0
+#define VMIG_VERSION_MINOR 9
+#define VMIG_VERSION_PATCH 0
+
 /* A machine, or none. */
 typedef struct vmig_machine {
     void *at;
@@ -327,9 +333,9 @@ uint32_t vmig_feed(vmig_machine *machine, const uint8_t *bytes, size_t len);
  * VMIG_NO_MACHINE, VMIG_IN_USE, VMIG_STREAM_TRUNCATED, VMIG_STREAM_NO_MEMORY, VMIG_STREAM_FAILED. */
 uint32_t vmig_finish(vmig_machine *machine);
 
-/* How many rounds ended in the bytes so far; none of a stream that was refused.
+/* *ended is how many rounds ended in the bytes so far, and 0 for a stream that was refused.
  * VMIG_NO_MACHINE, VMIG_IN_USE. */
-uint32_t vmig_rounds(vmig_machine *machine, uint32_t *rounds);
+uint32_t vmig_rounds(vmig_machine *machine, uint32_t *ended);
 
 #ifdef __cplusplus
 }

@@ -28,11 +28,68 @@ pub struct Image {
     pub sectors: u64,
 }
 
+/// Kinds of devices, by the numbers of the standard.
+pub const NETWORK: u8 = 1;
+pub const BLOCK: u8 = 2;
+pub const CONSOLE: u8 = 3;
 pub const ENTROPY: u8 = 4;
 
+/// The most bytes that a step can put into the buffer of its caller.
+pub const SENT_MAX: usize = 65536;
+
+/// The version of a page that the caller has not seen.
+pub const UNSEEN: u64 = u64::MAX;
+
+/// Statuses: each number stands for one thing. `vmig.h` says what.
 pub const OK: u32 = 0;
+pub const NO_DEVICE: u32 = 1;
+pub const OUT_OF_RAM: u32 = 2;
+pub const TOO_LONG: u32 = 3;
+pub const WRONG_KIND: u32 = 4;
+pub const BAD_FRAME: u32 = 5;
+pub const NO_SECTOR: u32 = 7;
+pub const NO_MACHINE: u32 = 8;
+pub const IN_USE: u32 = 9;
+pub const NO_MEMORY: u32 = 10;
+pub const TOO_SMALL: u32 = 11;
+pub const BAD_SHAPE: u32 = 12;
+pub const MOVING: u32 = 13;
+pub const NOT_MAPPED: u32 = 14;
+pub const BAD_IMAGES: u32 = 15;
+pub const NOT_BEGUN: u32 = 17;
+pub const BEGUN_ALREADY: u32 = 18;
+pub const READ_FAILED: u32 = 19;
+pub const WRITER_FAILED: u32 = 20;
+pub const STOPPED: u32 = 21;
+pub const NO_ROUND_LEFT: u32 = 22;
+pub const STREAM_BAD_MAGIC: u32 = 33;
+pub const STREAM_BAD_VERSION: u32 = 34;
+pub const STREAM_BAD_SHAPE: u32 = 35;
+pub const STREAM_BAD_TAG: u32 = 37;
+pub const STREAM_BAD_PAGE: u32 = 38;
+pub const STREAM_BAD_SECTOR: u32 = 39;
+pub const STREAM_BAD_ROUND: u32 = 40;
+pub const STREAM_BAD_DEVICE: u32 = 41;
+pub const STREAM_BAD_DIGEST: u32 = 42;
+pub const STREAM_MISSING: u32 = 43;
+pub const STREAM_TRAILING: u32 = 44;
+pub const STREAM_TRUNCATED: u32 = 45;
+pub const STREAM_NO_MEMORY: u32 = 47;
+pub const STREAM_FAILED: u32 = 48;
+pub const OUT_BYTE: u32 = 64;
 pub const IDLE: u32 = 65;
+pub const TAKEN: u32 = 66;
+pub const MOVED: u32 = 67;
+pub const BAD_SECTOR: u32 = 68;
+pub const DISK_FAILED: u32 = 69;
 pub const COMPLETED: u32 = 70;
+pub const SENT: u32 = 71;
+pub const DROPPED: u32 = 72;
+pub const NEEDS_RESET: u32 = 73;
+pub const PAGE: u32 = 74;
+pub const SECTOR: u32 = 75;
+pub const ROUND_DONE: u32 = 76;
+pub const ROUND_OPEN: u32 = 77;
 
 unsafe extern "C" {
     pub fn vmig_make(pages: u32, shapes: *const Shape, count: usize, machine: *mut Machine) -> u32;
@@ -62,5 +119,5 @@ unsafe extern "C" {
     pub fn vmig_take(machine: *mut Machine, buf: *mut u8, size: usize, got: *mut usize) -> u32;
     pub fn vmig_feed(machine: *mut Machine, bytes: *const u8, len: usize) -> u32;
     pub fn vmig_finish(machine: *mut Machine) -> u32;
-    pub fn vmig_rounds(machine: *mut Machine, rounds: *mut u32) -> u32;
+    pub fn vmig_rounds(machine: *mut Machine, ended: *mut u32) -> u32;
 }

@@ -18,6 +18,9 @@ pub struct FileDisk<F: Drop> {
     file: F,
     count: u64,
     failures: u64,
+
+    /// The sector at which the file's position is, where that is known. A call that begins there needs no seek.
+    next: Option<u64>,
 }
 
 impl<F: Drop> Model for FileDisk<F> {
@@ -47,7 +50,21 @@ impl<F: Read + Write + Seek + OpenFile + Drop> FileDisk<F> {
             file,
             count: len / SECTOR_SIZE as u64,
             failures: 0,
+            next: None,
         })
+    }
+
+    /// Counts how a read or a write of a sector went. After one that failed the file's position is not known.
+    fn moved(&mut self, n: u64, outcome: io::Result<()>) -> Result<(), DiskFault>
+        ensures told { is_ok result ≡ is_ok outcome }
+        ensures counted { Flushes self.old result self.new }
+    {
+        self.next = if outcome.is_ok() {
+            n.checked_add(1)
+        } else {
+            None
+        };
+        self.told(outcome)
     }
 
     /// Counts how a call of the file went.
@@ -63,10 +80,13 @@ impl<F: Read + Write + Seek + OpenFile + Drop> FileDisk<F> {
     }
 }
 
-/// Moves to a sector of the file.
-fn seek_to<F: Seek>(file: &mut F, n: u64) -> io::Result<()>
+/// Moves to a sector of the file, unless its position is there.
+fn seek_to<F: Seek>(file: &mut F, n: u64, next: Option<u64>) -> io::Result<()>
     requires { 512 * n < 2 ^ 64 }
 {
+    if next == Some(n) {
+        return Ok(());
+    }
     let at = n * SECTOR_SIZE as u64;
     if file.seek(SeekFrom::Start(at))? == at {
         return Ok(());
@@ -74,17 +94,27 @@ fn seek_to<F: Seek>(file: &mut F, n: u64) -> io::Result<()>
     Err(io::Error::from(ErrorKind::Other))
 }
 
-fn read_sector<F: Read + Seek>(file: &mut F, n: u64, buf: &mut [u8; SECTOR_SIZE]) -> io::Result<()>
+fn read_sector<F: Read + Seek>(
+    file: &mut F,
+    n: u64,
+    next: Option<u64>,
+    buf: &mut [u8; SECTOR_SIZE],
+) -> io::Result<()>
     requires { 512 * n < 2 ^ 64 }
 {
-    seek_to(file, n)?;
+    seek_to(file, n, next)?;
     file.read_exact(buf)
 }
 
-fn write_sector<F: Write + Seek>(file: &mut F, n: u64, bytes: &[u8; SECTOR_SIZE]) -> io::Result<()>
+fn write_sector<F: Write + Seek>(
+    file: &mut F,
+    n: u64,
+    next: Option<u64>,
+    bytes: &[u8; SECTOR_SIZE],
+) -> io::Result<()>
     requires { 512 * n < 2 ^ 64 }
 {
-    seek_to(file, n)?;
+    seek_to(file, n, next)?;
     file.write_all(bytes)
 }
 
@@ -96,13 +126,13 @@ impl<F: Read + Write + Seek + OpenFile + Drop> Disk for FileDisk<F> {
     }
 
     fn read(&mut self, n: u64, buf: &mut [u8; 512]) -> Result<(), DiskFault> {
-        let outcome = read_sector(&mut self.file, n, buf);
-        self.told(outcome)
+        let outcome = read_sector(&mut self.file, n, self.next, buf);
+        self.moved(n, outcome)
     }
 
     fn write(&mut self, n: u64, bytes: &[u8; 512]) -> Result<(), DiskFault> {
-        let outcome = write_sector(&mut self.file, n, bytes);
-        self.told(outcome)
+        let outcome = write_sector(&mut self.file, n, self.next, bytes);
+        self.moved(n, outcome)
     }
 
     fn flush(&mut self) -> Result<(), DiskFault> {

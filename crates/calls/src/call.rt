@@ -5,10 +5,12 @@ use crate::text::{read_events, read_trace, text_of};
 use anyhow::{Context, Result, bail, ensure};
 use books::spelled;
 use std::fs;
+use std::os::unix::fs::symlink;
 use vmig::execute;
 
 /// Goes through the lines of a scenario. `FILE NAME TEXT` writes a file, `STREAM NAME WORDS` and `IMAGE NAME WORDS` one of
-/// the bytes that these words spell, `FOLDER NAME` makes a folder, and `LOCK NAME` a file that may only be read. `CALL WORDS
+/// the bytes that these words spell, `FOLDER NAME` makes a folder, and `LOCK NAME` a file that may only be read. `LINK NAME
+/// FILE` gives a file one more name, and `POINT NAME FILE` makes a symbolic link to it. `CALL WORDS
 /// -> STATUS; OUT; ERR` calls the program on these words; it must end so, and write these texts to standard output and
 /// standard error. `PLAY NAME` runs the trace NAME.trace, whose replies must be NAME.replies, and `PLAY NAME IMAGE` does so
 /// over an image. `HOLDS NAME WORDS` finds the bytes that these words spell in a file, and no others. `TRACE TEXT -> NUMBER`
@@ -28,6 +30,8 @@ fn make_call(rt: &HostRuntime, line: &str) -> Result<()> {
         "STREAM" | "IMAGE" => write_bytes(rt, words),
         "FOLDER" => make_folder(rt, words),
         "LOCK" => lock(rt, words),
+        "LINK" => link(rt, words),
+        "POINT" => point(rt, words),
         "HOLDS" => holds(rt, words),
         "CALL" => call(rt, words),
         "PLAY" => play(rt, words),
@@ -61,6 +65,18 @@ fn lock(rt: &HostRuntime, name: &str) -> Result<()> {
     let mut permissions = fs::metadata(rt, name)?.permissions();
     permissions.set_readonly(true);
     fs::set_permissions(rt, name, permissions)?;
+    Ok(())
+}
+
+fn link(rt: &HostRuntime, words: &str) -> Result<()> {
+    let (name, file) = words.split_once(' ').context("one name")?;
+    fs::hard_link(rt, file, name)?;
+    Ok(())
+}
+
+fn point(rt: &HostRuntime, words: &str) -> Result<()> {
+    let (name, file) = words.split_once(' ').context("one name")?;
+    symlink(rt, file, name)?;
     Ok(())
 }
 

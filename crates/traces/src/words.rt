@@ -4,6 +4,8 @@ ghost use Rattle.std.specs.Prelude.{◌≡◌, ◌∷◌, [], MatchOption, posit
 ghost use Rattle.std.specs.List.{slice_split};
 ghost use Rattle.traces.specs.Line.{is_space};
 
+/// The place of the first space. It is compiled once: three copies of its loop in a caller were slower.
+#[inline(never)]
 fn word_end(line: &[u8]) -> Option<usize>
     ensures { result ≡ position is_space line.now }
 {

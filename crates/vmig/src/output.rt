@@ -10,6 +10,7 @@ use machine::Reply;
 use sender::LiveReply;
 use std::fs;
 use std::io::Write;
+use std::os::unix::fs::MetadataExt;
 use std::rt::Files;
 use traces::{WriteFault, write_guest_reply, write_reply};
 
@@ -41,6 +42,30 @@ pub fn create_file<'a, R: Files>(rt: &R, name: &'a str) -> Result<R::File, Fault
         Ok(file) => Ok(file),
         Err(error) => Err(Fault::of_file(name, error.kind())),
     }
+}
+
+/// The file of this name, made anew, unless it is one of those that are read: then nothing is made.
+pub fn create_apart<'a, R: Files>(
+    rt: &R,
+    name: &'a str,
+    inputs: &[&str],
+) -> Result<R::File, Fault<'a>>
+    ensures { IfErr result (TellsOfFile name.entry.now) }
+{
+    for input in inputs {
+        if is_same_file(rt, name, input) {
+            return Err(Fault::File(name));
+        }
+    }
+    create_file(rt, name)
+}
+
+/// Whether both names are names of one file that is there, also where one of them is a link.
+pub fn is_same_file<R: Files>(rt: &R, one: &str, other: &str) -> bool {
+    let (Ok(one), Ok(other)) = (fs::metadata(rt, one), fs::metadata(rt, other)) else {
+        return false;
+    };
+    one.dev() == other.dev() && one.ino() == other.ino()
 }
 
 /// What is told by a line of its own.

@@ -12,7 +12,7 @@ ghost use Rattle.vmig.specs.declared.fault.Fault.TheVariants as faults;
 ghost use Rattle.vmig.specs.Words.{name_in};
 
 use crate::fault::Fault;
-use crate::output::{create_file, read_file, write_all};
+use crate::output::{create_apart, read_file, write_all};
 use machine::{Disk, FileDisk, Machine, MemDisk};
 use sender::{LiveEvent, LiveReply, MigError, Replay, replay};
 use std::alloc::Global;
@@ -34,12 +34,13 @@ pub fn run_trace<'a, R: Files + AllocGlobal, O: Write>(
     ensures failed { IfErr result (FailsOnFile name.entry.now (TellsOfText (name_in image.entry) (name_in stream.entry)) (AreLinesOver (name_in image.entry) (name_in stream.entry)) (O.contents out.old) (O.contents out.new)) }
 {
     let text = read_file(rt, name)?;
-    play_text(rt, text.as_slice(), image, stream, out)
+    play_text(rt, name, text.as_slice(), image, stream, out)
 }
 
-/// Plays a trace on a fresh machine, and writes the line of each reply.
+/// Plays the trace of a file on a fresh machine, and writes the line of each reply.
 fn play_text<'a, R: Files + AllocGlobal, O: Write>(
     rt: &R,
+    name: &str,
     text: &[u8],
     image: Option<&'a str>,
     stream: Option<&'a str>,
@@ -50,7 +51,7 @@ fn play_text<'a, R: Files + AllocGlobal, O: Write>(
 {
     let trace = parse(rt.alloc(), text)?;
     has_stream(&trace, stream)?;
-    let replies = replies_over(rt, &trace, image, stream)?;
+    let replies = replies_over(rt, name, &trace, image, stream)?;
     write_all(replies.as_slice(), out)?;
     if has_failed(replies.as_slice()) {
         return Err(Fault::StreamOut);
@@ -76,9 +77,11 @@ fn has_failed(replies: &[LiveReply]) -> bool
     replies.iter().any(|reply| matches!(reply, LiveReply::Mig(MigError::StreamFailed)))
 }
 
-/// The replies of a fresh machine of the trace's shape to its events, over the image of a disk or over none.
+/// The replies of a fresh machine of the trace's shape to its events, over the image of a disk or over none. The trace is that of
+/// the file of this name.
 fn replies_over<'a, R: Files + AllocGlobal>(
     rt: &R,
+    trace_name: &str,
     trace: &Trace,
     image: Option<&'a str>,
     stream: Option<&'a str>,
@@ -90,10 +93,10 @@ fn replies_over<'a, R: Files + AllocGlobal>(
     let alloc = rt.alloc();
     let Some(name) = image else {
         let none: Vec<MemDisk> = Vec::new(alloc);
-        return replies_to(rt, trace, none, stream);
+        return replies_to(rt, trace, none, stream, &[trace_name]);
     };
     let disks = image_disks(rt, name)?;
-    replies_to(rt, trace, disks, stream)
+    replies_to(rt, trace, disks, stream, &[trace_name, name])
 }
 
 /// The disk whose image is in the file of this name.
@@ -114,13 +117,14 @@ pub fn image_disks<'a, R: Files + AllocGlobal>(
     Ok(disks)
 }
 
-/// The replies of a fresh machine of the trace's shape, with these disks, to its events. The stream is made when the machine
-/// is there.
+/// The replies of a fresh machine of the trace's shape, with these disks, to its events. The stream is made once the machine
+/// is there, and is none of the files of `inputs`, which it would destroy.
 fn replies_to<'a, R: Files + AllocGlobal, D: Disk + Drop>(
     rt: &R,
     trace: &Trace,
     disks: Vec<D>,
     stream: Option<&'a str>,
+    inputs: &[&str],
 ) -> Result<Vec<LiveReply>, Fault<'a>>
     ensures each { IfOk result (λ replies. length replies.items ≡ length trace.now.events.items) }
     ensures played { All (λ d. IsTrue (D.state d).honest) disks.items → IfOk result (λ replies. AreReplies (contents_of trace.now) (map (λ d. map Some (D.state d).sectors) disks.items) replies.items) }
@@ -130,7 +134,7 @@ fn replies_to<'a, R: Files + AllocGlobal, D: Disk + Drop>(
     let machine = Machine::new(alloc, trace.pages, trace.shapes.as_slice(), disks)?;
     match stream {
         Some(name) => {
-            let file = create_file(rt, name)?;
+            let file = create_apart(rt, name, inputs)?;
             replies_of(alloc, machine, trace.events.as_slice(), file)
         }
         None => {

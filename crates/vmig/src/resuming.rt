@@ -11,7 +11,7 @@ ghost use Rattle.vmig.specs.Resuming.{AreResumed, AreResumedOver, HasArrived, Te
 ghost use Rattle.vmig.specs.Words.{name_in};
 
 use crate::fault::Fault;
-use crate::output::{open_file, read_file, write_all};
+use crate::output::{is_same_file, open_file, read_file, write_all};
 use crate::playing::image_disks;
 use machine::{Disk, Event, Machine, MemDisk, Reply};
 use receiver::Receiver;
@@ -72,6 +72,10 @@ fn replies_over<'a, R: Files + AllocGlobal>(
         return replies_to(rt, stream, events, none);
     };
     let disks = image_disks(rt, name)?;
+    // The sectors of the stream would be written over the stream itself.
+    if is_same_file(rt, stream, name) {
+        return Err(Fault::File(stream));
+    }
     replies_to(rt, stream, events, disks)
 }
 
