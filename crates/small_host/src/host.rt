@@ -1,89 +1,98 @@
 //! The loop around a machine.
 
 use crate::driver::Exit;
+use crate::guest::Guest;
 use crate::migration::migrate;
 use anyhow::{Result, bail};
 use std::io::Write;
-use vmig::{Machine, MemDisk, Refusal, Reply, Shape, WriteSink, receive, save};
+use vmig::{
+    Event, Machine, MemDisk, Refusal, Reply, Shape, Work, WriteSink, receive, save,
+};
 
-/// The one device.
-const DEVICE: u8 = 0;
+/// Sectors of the guest's disk.
+pub const SECTORS: u64 = 8;
 
-/// The pick that serves the one queue that it has.
-const PICK: u8 = 0;
+/// The most steps of one turn. A guest can give its devices work without end, so a host makes so many at a time, and lets its
+/// guest run between two turns.
+const STEPS: u32 = 1000;
 
-/// The register whose writes are kicks (VIRTIO 1.2, 4.2.2).
-const QUEUE_NOTIFY: u32 = 0x050;
-
-/// More steps than there is work for: each that completes takes a byte of the host's, of which 4,096 fit.
-const STEPS: u32 = 4097;
-
-/// A machine, and its interrupt lines as the guest has them. No device has a disk, so any type of disk serves.
-#[derive(Drop)]
-pub struct Host {
-    machine: Machine<MemDisk>,
+/// A machine, and its interrupt lines as the guest has them.
+pub struct Host<G: Guest> {
+    guest: G,
     lines: u16,
 }
 
-impl Host {
-    /// A host of a new machine: one page of RAM, and an entropy device.
-    pub fn new(rt: &HostRuntime) -> Result<Host> {
-        let machine = Machine::new(rt.alloc(), 1, &[Shape::Entropy], Vec::new(rt.alloc()))?;
-        Ok(Host { machine, lines: 0 })
+impl<G: Guest> Host<G> {
+    /// A host of this machine, whose guest sees no interrupt yet.
+    pub fn of(guest: G) -> Host<G> {
+        Host { guest, lines: 0 }
+    }
+
+    /// The machine.
+    pub fn guest(&mut self) -> &mut G {
+        &mut self.guest
+    }
+
+    /// Gives the machine back.
+    pub fn into_guest(self) -> G {
+        let Host { guest, lines: _ } = self;
+        guest
     }
 
     /// Answers each exit of the guest before the next one.
     pub fn run(&mut self, rt: &HostRuntime, exits: &[Exit]) -> Result<()> {
         for exit in exits {
-            match *exit {
-                Exit::Read(offset) => {
-                    let value = done(self.machine.read_register(DEVICE, offset, 4))?;
-                    println!(rt; "guest: register {offset:#05x} is {value}")?;
-                }
-                Exit::Write(offset, value) => {
-                    done(self.machine.write_register(DEVICE, offset, 4, value))?;
-                    self.set_lines(rt)?;
-                    if offset == QUEUE_NOTIFY {
-                        println!(rt; "guest: kicks")?;
-                        self.work(rt)?;
-                    }
-                }
-                Exit::Store(address, bytes) => done(self.machine.write_ram(address, bytes))?,
+            let reply = self.guest.apply(&exit.event(rt)?)?;
+            match reply {
+                Reply::Value(value) => println!(rt; "guest: reads {value:#x}")?,
+                Reply::Done => {}
+                reply => bail!("an exit was answered {reply:?}"),
+            }
+            self.set_lines(rt)?;
+            if exit.is_kick() {
+                println!(rt; "guest: kicks")?;
+                self.work(rt)?;
             }
         }
         Ok(())
     }
 
-    /// Puts bytes in, and steps the device: its driver does not kick again for what waits.
-    pub fn give(&mut self, rt: &HostRuntime, bytes: &[u8]) -> Result<()> {
-        let kept = done(self.machine.input(DEVICE, bytes))?;
+    /// Puts bytes in, and steps the devices: a driver need not kick again for a buffer that waits.
+    pub fn give(&mut self, rt: &HostRuntime, dev: u8, bytes: &[u8]) -> Result<()> {
+        let kept = self.guest.input(dev, bytes)?;
         println!(rt; "host: puts in {kept} bytes")?;
         self.work(rt)
     }
 
-    /// Steps the device until it has nothing to do, and reads the lines after each step.
-    fn work(&mut self, rt: &HostRuntime) -> Result<()> {
+    /// Makes the steps that have something to do, one device after another, and reads the lines after each.
+    pub fn work(&mut self, rt: &HostRuntime) -> Result<()> {
+        let mut last = Work { dev: 0, pick: 0 };
         for _ in 0..STEPS {
-            let reply = self.machine.step(DEVICE, PICK);
+            let Some(work) = self.guest.machine().next_work(last) else {
+                return Ok(());
+            };
+            let step = Event::Step {
+                dev: work.dev,
+                pick: work.pick,
+            };
+            let reply = self.guest.apply(&step)?;
+            println!(rt; "device {}: {reply:?}", work.dev)?;
             self.set_lines(rt)?;
-            match reply {
-                Reply::Completed(count) => println!(rt; "device: gave {count} bytes")?,
-                Reply::NoMemory => bail!("no memory for a step, which changed nothing"),
-                reply => {
-                    println!(rt; "device: {reply:?}")?;
-                    return Ok(());
-                }
+            if let Reply::NoMemory = reply {
+                bail!("no memory for a step, which changed nothing");
             }
+            last = work;
         }
+        println!(rt; "host: the rest of the work waits for the next turn")?;
         Ok(())
     }
 
     /// Tells the guest its interrupt lines where they have changed.
     fn set_lines(&mut self, rt: &HostRuntime) -> Result<()> {
-        let lines = self.machine.lines();
+        let lines = self.guest.machine().lines();
         if lines != self.lines {
             self.lines = lines;
-            println!(rt; "host: lines {lines}")?;
+            println!(rt; "host: lines {lines:#04b}")?;
         }
         Ok(())
     }
@@ -91,38 +100,62 @@ impl Host {
     /// Shows what the guest has in a buffer.
     pub fn show(&self, rt: &HostRuntime, address: u64) -> Result<()> {
         let mut bytes = [0u8; 4];
-        done(self.machine.read_ram(address, &mut bytes))?;
+        if self.guest.machine().read_ram(address, &mut bytes).is_err() {
+            bail!("{address:#x} is not in RAM");
+        }
         println!(rt; "guest: has {bytes:?} at {address:#x}")?;
         Ok(())
+    }
+}
+
+impl Host<Machine<MemDisk>> {
+    /// A host of a new machine: two pages of RAM, an entropy device and a disk.
+    pub fn new(rt: &HostRuntime) -> Result<Host<Machine<MemDisk>>> {
+        let disk = Shape::Block {
+            sectors: SECTORS,
+            read_only: false,
+            id: *b"the small host\0\0\0\0\0\0",
+        };
+        let machine = Machine::new(rt.alloc(), 2, &[Shape::Entropy, disk], disks(rt)?)?;
+        Ok(Host::of(machine))
     }
 
     /// The stream of the machine, in memory.
     pub fn save(&mut self, rt: &HostRuntime) -> Result<Vec<u8>> {
         let mut sink = WriteSink::new(Vec::new(rt.alloc()));
-        save(&mut self.machine, &mut sink)?;
+        save(&mut self.guest, &mut sink)?;
         Ok(sink.into_inner())
     }
 
-    /// Moves the machine to another host, while its guest comes to these exits. It goes on there as one that was saved.
-    pub fn migrate(self, rt: &HostRuntime, exits: &[Exit]) -> Result<Host> {
-        let machine = migrate(rt, self.machine, exits)?;
-        let mut host = Host { machine, lines: 0 };
-        host.work(rt)?;
-        Ok(host)
+    /// Continues with a machine that was saved. Kicks and interrupts came with it: before the guest continues the devices do
+    /// their work, and the lines are read.
+    pub fn receive(rt: &HostRuntime, stream: &[u8]) -> Result<Host<Machine<MemDisk>>> {
+        let (machine, _) = receive(rt.alloc(), stream, disks(rt)?)?;
+        Host::resume(rt, machine)
     }
 
-    /// Goes on with a machine that was saved. Kicks and interrupts came with it: before the guest goes on each queue is
-    /// stepped, and the lines are read.
-    pub fn receive(rt: &HostRuntime, stream: &[u8]) -> Result<Host> {
-        let (machine, _) = receive(rt.alloc(), stream, Vec::new(rt.alloc()))?;
-        let mut host = Host { machine, lines: 0 };
+    /// Moves the machine to another host, while its guest comes to these exits.
+    pub fn migrate(self, rt: &HostRuntime, exits: &[Exit]) -> Result<Host<Machine<MemDisk>>> {
+        let machine = migrate(rt, self, exits)?;
+        Host::resume(rt, machine)
+    }
+
+    fn resume(rt: &HostRuntime, machine: Machine<MemDisk>) -> Result<Host<Machine<MemDisk>>> {
+        let mut host = Host::of(machine);
+        host.set_lines(rt)?;
         host.work(rt)?;
         Ok(host)
     }
 }
 
+/// The disk of a machine, of zeros. A stream's sectors are written over them.
+pub fn disks(rt: &HostRuntime) -> Result<Vec<MemDisk>> {
+    let disk = MemDisk::new(rt.alloc(), SECTORS)?;
+    Ok(Vec::from_array(rt.alloc(), [disk])?)
+}
+
 /// An answer to a script that names the device and lies in RAM is no refusal.
-fn done<T: Drop>(answer: std::result::Result<T, Refusal>) -> Result<T> {
+pub fn done<T: Drop>(answer: std::result::Result<T, Refusal>) -> Result<T> {
     match answer {
         Ok(value) => Ok(value),
         Err(refusal) => bail!("refused {}", refusal.code()),

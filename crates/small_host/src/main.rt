@@ -1,35 +1,40 @@
-//! A small host: the loop that a host writes around the library, whole. A scripted driver stands in place of a VCPU. The
-//! machine is saved while a buffer of the driver's still waits, is received again, and goes on there; then it moves to a
-//! third host while its guest runs.
+//! A small host: the loop that a host writes around the library, whole. A scripted driver takes the place of a VCPU. The machine
+//! is saved while a buffer of the driver still waits, is received again, and continues there; then it moves to a third host
+//! while its guest reads its disk.
 #![tactic(auto)]
 
 mod driver;
+mod guest;
 mod host;
 mod migration;
 
 use anyhow::Result;
-use driver::{ASK_TWICE, BRING_UP, GO_ON, HANDLE_INTERRUPT};
+use driver::{
+    ASK_TWICE, DISK, DISK_AREAS, ENTROPY, ENTROPY_AREAS, HANDLE_INTERRUPT, READ_SECTOR,
+    WRITE_SECTOR, bring_up,
+};
 use host::Host;
 use std::io::Write;
 
 fn main(rt: HostRuntime) -> Result<()> {
     let mut here = Host::new(&rt)?;
-    here.run(&rt, &BRING_UP)?;
+    here.run(&rt, &bring_up(ENTROPY, ENTROPY_AREAS))?;
     here.run(&rt, &ASK_TWICE)?;
-    here.give(&rt, b"abcd")?;
+    here.give(&rt, ENTROPY, b"abcd")?;
     here.run(&rt, &HANDLE_INTERRUPT)?;
     here.show(&rt, 0x800)?;
+    here.run(&rt, &bring_up(DISK, DISK_AREAS))?;
+    here.run(&rt, &WRITE_SECTOR)?;
 
     let stream = here.save(&rt)?;
-    println!(rt; "host: saved {} bytes", stream.len())?;
-    println!(rt; "host: receives them")?;
+    println!(rt; "host: saved {} bytes, and receives them", stream.len())?;
     let mut there = Host::receive(&rt, stream.as_slice())?;
-    there.give(&rt, b"efgh")?;
+    there.give(&rt, ENTROPY, b"efgh")?;
     there.run(&rt, &HANDLE_INTERRUPT)?;
     there.show(&rt, 0x900)?;
 
-    println!(rt; "host: moves it while its guest runs")?;
-    let moved = there.migrate(&rt, &GO_ON)?;
+    println!(rt; "host: moves the machine while its guest runs")?;
+    let moved = there.migrate(&rt, &READ_SECTOR)?;
     moved.show(&rt, 0x900)?;
-    moved.show(&rt, 0xa00)
+    moved.show(&rt, 0x1600)
 }

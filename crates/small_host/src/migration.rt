@@ -1,45 +1,42 @@
 //! The loop of a host that moves its guest to another host while it runs.
 
 use crate::driver::Exit;
+use crate::guest::Moving;
+use crate::host::{Host, disks};
 use anyhow::{Result, bail};
 use std::io::Write;
-use vmig::{Bytes, CopyAnswer, Event, Live, Machine, MemDisk, Receiver, WriteSink};
+use vmig::{CopyAnswer, Live, Machine, MemDisk, Receiver, WriteSink};
 
-/// The one device.
-const DEVICE: u8 = 0;
-
-/// With so few dirty items the guest is stopped.
+/// With so few dirty items the guest is paused, and the rest is sent.
 const FEW: u64 = 1;
 
-/// After so many rounds it is stopped however many there are: a guest may write faster than its pages are sent.
+/// After so many rounds it is paused however many there are: a guest may write faster than its pages are sent.
 const ROUNDS: u32 = 8;
 
 /// The bytes of the stream that are sent at a time.
 const PIECE: usize = 1000;
 
-/// A machine that is sent, and the bytes that were written of it.
-type Moving = Live<MemDisk, WriteSink<Vec<u8>>>;
-
-/// The machine as it arrives. Its guest runs meanwhile: after each of its exits one item is sent.
+/// The machine as it arrives. Its guest runs meanwhile, and is served as ever: after each of its exits one item is sent.
 pub fn migrate(
     rt: &HostRuntime,
-    machine: Machine<MemDisk>,
+    host: Host<Machine<MemDisk>>,
     exits: &[Exit],
 ) -> Result<Machine<MemDisk>> {
     let sink = WriteSink::new(Vec::new(rt.alloc()));
-    let Ok(mut live) = Live::new(rt.alloc(), machine, sink) else {
+    let Ok(live) = Live::new(rt.alloc(), host.into_guest(), sink) else {
         bail!("no memory to send the machine");
     };
-    live.begin()?;
+    let mut host = Host::of(live);
+    host.guest().begin()?;
     for exit in exits {
-        let reply = live.apply(&event(rt, *exit)?)?;
-        println!(rt; "guest: {reply:?} while it moves")?;
-        let _sent = live.copy()?;
+        host.run(rt, &[*exit])?;
+        let _sent = host.guest().copy()?;
     }
+    let mut live = host.into_guest();
     send_rounds(&mut live)?;
     let stopped = live.stop()?;
-    println!(rt; "host: stopped, and sent {} pages then", stopped.pages)?;
-    // From here on this machine must not go on: the other one does.
+    println!(rt; "host: paused the guest, and sent {} pages and {} sectors then", stopped.pages, stopped.sectors)?;
+    // From here on this machine must not continue: the other one does.
     let (_stopped_machine, sink) = live.into_parts();
     arrive(rt, sink.into_inner().as_slice())
 }
@@ -67,33 +64,11 @@ fn send_due(live: &mut Moving) -> Result<()> {
     Ok(())
 }
 
-/// The machine that a stream gives, fed as it comes.
+/// The machine that a stream gives, fed as it comes, over disks of the same sizes.
 fn arrive(rt: &HostRuntime, stream: &[u8]) -> Result<Machine<MemDisk>> {
-    let mut receiver = Receiver::new(rt.alloc(), Vec::new(rt.alloc()));
+    let mut receiver = Receiver::new(rt.alloc(), disks(rt)?);
     for piece in stream.chunks(PIECE) {
         receiver.feed(piece)?;
     }
     Ok(receiver.finish()?)
-}
-
-/// The event of an exit.
-fn event(rt: &HostRuntime, exit: Exit) -> Result<Event> {
-    let event = match exit {
-        Exit::Read(off) => Event::RegRead {
-            dev: DEVICE,
-            off,
-            width: 4,
-        },
-        Exit::Write(off, value) => Event::RegWrite {
-            dev: DEVICE,
-            off,
-            width: 4,
-            value,
-        },
-        Exit::Store(addr, bytes) => Event::MemWrite {
-            addr,
-            bytes: Bytes::from_vec(bytes.to_vec(rt.alloc())?),
-        },
-    };
-    Ok(event)
 }

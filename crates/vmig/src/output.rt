@@ -25,7 +25,7 @@ pub fn read_file<'a, R: Files + AllocGlobal>(rt: &R, name: &'a str) -> Result<Ve
 }
 
 /// The file of this name, to be read.
-pub fn open_file<'a, R: Files>(rt: &R, name: &'a str) -> Result<R::File, Fault<'a>>
+fn open_file<'a, R: Files>(rt: &R, name: &'a str) -> Result<R::File, Fault<'a>>
     ensures { IfErr result (TellsOfFile name.entry.now) }
 {
     match fs::open(rt, name) {
@@ -34,8 +34,24 @@ pub fn open_file<'a, R: Files>(rt: &R, name: &'a str) -> Result<R::File, Fault<'
     }
 }
 
+/// The file of this name, to be read, unless it is the one that is written meanwhile.
+pub fn open_apart<'a, R: Files>(
+    rt: &R,
+    name: &'a str,
+    written: Option<&str>,
+) -> Result<R::File, Fault<'a>>
+    ensures { IfErr result (TellsOfFile name.entry.now) }
+{
+    if let Some(other) = written
+        && is_same_file(rt, name, other)
+    {
+        return Err(Fault::File(name));
+    }
+    open_file(rt, name)
+}
+
 /// The file of this name, made anew.
-pub fn create_file<'a, R: Files>(rt: &R, name: &'a str) -> Result<R::File, Fault<'a>>
+fn create_file<'a, R: Files>(rt: &R, name: &'a str) -> Result<R::File, Fault<'a>>
     ensures { IfErr result (TellsOfFile name.entry.now) }
 {
     match fs::create(rt, name) {
@@ -61,7 +77,7 @@ pub fn create_apart<'a, R: Files>(
 }
 
 /// Whether both names are names of one file that is there, also where one of them is a link.
-pub fn is_same_file<R: Files>(rt: &R, one: &str, other: &str) -> bool {
+fn is_same_file<R: Files>(rt: &R, one: &str, other: &str) -> bool {
     let (Ok(one), Ok(other)) = (fs::metadata(rt, one), fs::metadata(rt, other)) else {
         return false;
     };

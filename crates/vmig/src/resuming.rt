@@ -11,7 +11,7 @@ ghost use Rattle.vmig.specs.Resuming.{AreResumed, AreResumedOver, HasArrived, Te
 ghost use Rattle.vmig.specs.Words.{name_in};
 
 use crate::fault::Fault;
-use crate::output::{is_same_file, open_file, read_file, write_all};
+use crate::output::{open_apart, read_file, write_all};
 use crate::playing::image_disks;
 use machine::{Disk, Event, Machine, MemDisk, Reply};
 use receiver::Receiver;
@@ -69,20 +69,17 @@ fn replies_over<'a, R: Files + AllocGlobal>(
 {
     let Some(name) = image else {
         let none: Vec<MemDisk> = Vec::new(rt.alloc());
-        return replies_to(rt, stream, events, none);
+        return replies_to(rt, stream, None, events, none);
     };
     let disks = image_disks(rt, name)?;
-    // The sectors of the stream would be written over the stream itself.
-    if is_same_file(rt, stream, name) {
-        return Err(Fault::File(stream));
-    }
-    replies_to(rt, stream, events, disks)
+    replies_to(rt, stream, Some(name), events, disks)
 }
 
-/// The replies of the machine of a stream, with these disks, to these events.
+/// The replies of the machine of a stream, with these disks, to these events. The image is the file of the disk.
 fn replies_to<'a, R: Files + AllocGlobal, D: Disk + Drop>(
     rt: &R,
     stream: &'a str,
+    image: Option<&str>,
     events: &[Event],
     disks: Vec<D>,
 ) -> Result<Vec<Reply>, Fault<'a>>
@@ -90,17 +87,19 @@ fn replies_to<'a, R: Files + AllocGlobal, D: Disk + Drop>(
     ensures played { AreHonestDisks (disk_marks_of D.state disks.items) → IfOk result (λ replies. AreResumed events.now replies.items) }
     ensures failed { IfErr result (TellsOfArrival stream.entry.now (sizes_of D.state disks.items) (disk_marks_of D.state disks.items)) }
 {
-    let mut machine = receive_file(rt, stream, disks)?;
+    let mut machine = receive_file(rt, stream, image, disks)?;
     match machine.play(events) {
         Ok(replies) => Ok(replies),
         Err(_) => Err(Fault::NoMemory),
     }
 }
 
-/// The machine of the stream in the file of this name, with these disks. The file is fed as it is read.
+/// The machine of the stream in the file of this name, with these disks. The file is fed as it is read. It is not the image,
+/// which is written meanwhile.
 fn receive_file<'a, R: Files + AllocGlobal, D: Disk + Drop>(
     rt: &R,
     name: &'a str,
+    image: Option<&str>,
     disks: Vec<D>,
 ) -> Result<Machine<D>, Fault<'a>>
     ensures arrived { AreHonestDisks (disk_marks_of D.state disks.items) → IfOk result (λ m. HasArrived (state_of m)) }
@@ -108,7 +107,7 @@ fn receive_file<'a, R: Files + AllocGlobal, D: Disk + Drop>(
     ensures failed { IfErr result (TellsOfArrival name.entry.now (sizes_of D.state disks.items) (disk_marks_of D.state disks.items)) }
 {
     let alloc = rt.alloc();
-    let mut file = open_file(rt, name)?;
+    let mut file = open_apart(rt, name, image)?;
     let Ok(mut piece) = vec![in alloc; 0u8; PIECE_SIZE] else {
         return Err(Fault::NoMemory);
     };

@@ -1,0 +1,52 @@
+//! What the loop needs of a machine, whether it is sent meanwhile or not. So one loop serves both.
+
+use crate::host::done;
+use anyhow::{Result, bail};
+use vmig::{Event, Live, Machine, MemDisk, Reply, WriteSink};
+
+/// A machine that is sent, and the bytes that were written of it.
+pub type Moving = Live<MemDisk, WriteSink<Vec<u8>>>;
+
+/// A machine whose guest runs.
+pub trait Guest: Drop {
+    /// Applies an event of the guest, or a step.
+    fn apply(&mut self, event: &Event) -> Result<Reply>;
+
+    /// Puts bytes in, and answers how many were kept.
+    fn input(&mut self, dev: u8, bytes: &[u8]) -> Result<u32>;
+
+    /// The machine, to be read.
+    fn machine(&self) -> &Machine<MemDisk>;
+}
+
+impl Guest for Machine<MemDisk> {
+    fn apply(&mut self, event: &Event) -> Result<Reply> {
+        Ok(Machine::apply(self, event))
+    }
+
+    fn input(&mut self, dev: u8, bytes: &[u8]) -> Result<u32> {
+        done(Machine::input(self, dev, bytes))
+    }
+
+    fn machine(&self) -> &Machine<MemDisk> {
+        self
+    }
+}
+
+/// While a machine is sent, what an event writes into is noted, and sent again.
+impl Guest for Moving {
+    fn apply(&mut self, event: &Event) -> Result<Reply> {
+        Ok(Live::apply(self, event)?)
+    }
+
+    fn input(&mut self, dev: u8, bytes: &[u8]) -> Result<u32> {
+        match Live::input(self, dev, bytes)? {
+            Reply::Accepted(kept) => Ok(kept),
+            reply => bail!("an input was answered {reply:?}"),
+        }
+    }
+
+    fn machine(&self) -> &Machine<MemDisk> {
+        Live::machine(self)
+    }
+}
