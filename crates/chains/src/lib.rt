@@ -1,12 +1,39 @@
 //! Chains of buffers, and the rings that they come from.
 //!
-//! A driver hands buffers to a device as chains of descriptors in guest memory, in one of two layouts: split rings
-//! (VIRTIO 1.2, 2.7) and packed rings (VIRTIO 1.2, 2.8). A device sees neither layout. It asks a `Ring` for the next
-//! `Chain`, reads and writes the bytes of the chain's segments by `copy_out` and `copy_in`, and publishes the chain.
+//! A driver hands buffers to a device as chains of descriptors in guest memory, in one of two layouts: split rings (VIRTIO 1.2, 2.7)
+//! and packed rings (VIRTIO 1.2, 2.8). A device sees neither layout. It asks a `Ring` for the next `Chain`, reads and writes the
+//! bytes of the chain's segments by `copy_out` and `copy_in`, and publishes the chain.
 //!
-//! This crate has what both layouts share, and what each of them means. A ring of either layout is a `RingCore`, read in
-//! its way. The contract of the trait `Ring` stands on the definitions alone, for both layouts:
+//! This crate has what both layouts share, and what each of them means. A ring of either layout is a `RingCore`, read in its way.
 //!
+//! # What the layers above may rely on
+//! Every device relies on the contract of the trait `Ring`, which both layouts keep word for word:
+//! - `next(ram)` answers Empty, Malformed or the chain **exactly** as the definition over whole descriptor lists says of the RAM
+//!   handed in, whatever it holds. It changes nothing that the ring means. Every chain is bounded: its segments lie inside RAM, and
+//!   are no more than slots. Its only error is out of memory, and that only at a long queue (`IsLongQueue`): one that is not
+//!   empty, with more than four descriptors in a row at the taking position.
+//! - `take(chain)` moves the taking position on by the chain's slots.
+//! - `publish(id, slots, len, wrote, ram, log)` writes the bytes of `published` and no others; the log takes in exactly their
+//!   pages; the answer is whether an interrupt is due in the RAM after that.
+//! - `note_empty(ram, log)` writes the event note and no other byte.
+//! - The caller's part: the queue's areas are aligned and lie inside RAM (`HasAreas`), as those of every ready queue do (`mmio`),
+//!   and the log may name the pages of RAM.
+//!
+//! And on these functions:
+//! - `copy_out` and `copy_in` read and write the bytes of segments at their places; a later place wins; the log takes in exactly
+//!   the pages written.
+//! - `fill(ring, chain, front, back, ram, log)` gives bytes to a chain: they go to its first writable places, and the chain is
+//!   published with their number. `takes_bytes` says which chains a device may write into.
+//! - `transmit(alloc, ring, form, ram, log)` is `transmit_step` over any `Ring`: it reads the message of the next chain, which a
+//!   `MessageForm` separates from a malformed one, and publishes the chain with nothing written. An error is out of memory, at a long
+//!   chain or where a message waits, and changes nothing.
+//! - The module `laws`: a queue has at most one chain, and so one answer; every chain is bounded, whatever the driver wrote; memory
+//!   is taken only at a queue that is not empty.
+//!
+//! A chain of at most `SHORT_CHAIN_MAX` descriptors takes no memory: `smallvec` keeps short lists of descriptors and of segments
+//! inline.
+//!
+//! # Definitions
 //! - `specs/State`: what a ring means (`RingState`) and where its three areas lie (`HasAreas`);
 //! - `specs/RingCore`: what a ring means by what it keeps;
 //! - `specs/Places`: the addresses of the bytes of segments, in order;
@@ -14,15 +41,12 @@
 //! - `specs/Whole`: the rules that the descriptors of a chain keep in either layout, and their segments;
 //! - `specs/SplitChain` and `specs/PackedChain`: the chain at the taking position, and when there is none;
 //! - `specs/Ring`: the answers of a ring, by its layout;
-//! - `specs/LongQueue`: the queues at which memory may be wanted;
+//! - `specs/LongQueue`: the queues at which memory may be taken;
 //! - `specs/Publish`: what publishing and the event note write, and when an interrupt is due;
 //! - `specs/PlaceLaws`, `EffectLaws`, `SplitLaws`, `PackedLaws` and `ChainLaws`: what follows, for proofs above.
 //!
-//! A chain is a relation on whole lists of descriptors: it says which list is the chain, and not how to find it. What
-//! no list meets is malformed. The module `laws` says that a queue has at most one chain, and so one answer, and that
-//! every chain is bounded, whatever the driver wrote: its segments lie inside RAM, and there are no more than slots.
-//! A chain of at most `SHORT_CHAIN_MAX` descriptors takes no memory: `smallvec` keeps short lists of descriptors and of
-//! segments inline. Nothing is trusted here beside the toolchain and the crates below.
+//! A chain is a relation on whole lists of descriptors: it says which list is the chain, and not how to find it. What no list meets
+//! is malformed. Nothing is trusted here beside the toolchain and the crates below.
 #![tactic(auto)]
 
 mod chain;

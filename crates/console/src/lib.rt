@@ -1,12 +1,14 @@
 //! The steps that serve a console (VIRTIO 1.2, 5.3) and an entropy device (VIRTIO 1.2, 5.4), and what both keep.
 //!
-//! `receive` gives bytes to the next chain of a ring of either layout, as `specs/Receive` says: RAM, ring, bytes held, log
-//! and answer. It serves the receive queue of a console and the queue of an entropy device. `HostBytes` holds at most
-//! 4,096 bytes that the host has put in, in room made with it. `transmit` takes the text of the next chain, at most 65,536
-//! bytes, as `Transmit` of `chains` says with the form of `specs/Transmit`.
-//!
-//! A console has a size besides. `ConsoleSize` tells its configuration, and a change of it is told by the registers
-//! (`specs/Size`). `emergency_byte` says which write of the driver gives out a byte without a queue (`specs/Emergency`).
+//! # What the layers above may rely on
+//! - `receive(ring, bytes, ram, log)` is `receive_step` (`specs/Receive`) over any `Ring`: RAM, ring, bytes held, log and answer
+//!   after it. It serves the receive queue of a console and the queue of an entropy device. An error is out of memory, comes only at
+//!   a long queue, and leaves all four as they were.
+//! - `HostBytes` holds at most 4,096 bytes that the host has put in, in room made with it.
+//! - `transmit` is the step of `chains` that takes a message, with at most 65,536 bytes and no header (`specs/Transmit`).
+//! - `ConsoleSize` has the bytes of the configuration; `resize` reports a size that differs by the registers, and no other
+//!   (`specs/Size`).
+//! - `emergency_byte` is the byte of a write to the emergency register, and `None` of every other write (`specs/Emergency`).
 //!
 //! Nothing is trusted here beside `circular_buffer` and the crates below.
 #![tactic(auto)]

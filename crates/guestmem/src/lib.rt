@@ -1,24 +1,34 @@
-//! Guest memory: one flat list of bytes, whose writes are told page by page.
+//! Guest memory: one flat list of bytes, whose writes are reported page by page.
 //!
-//! A `Ram` is 1 to 16,384 pages of 4,096 bytes at the addresses from 0 up. Code above reads and writes it
-//! at byte addresses; pages occur only as `address / 4096`, where a write is told:
+//! A `Ram` is 1 to 16,384 pages of 4,096 bytes at the addresses from 0 up. Code above reads and writes it at byte addresses; pages
+//! occur only as `address / 4096`, where a write is reported:
 //!
-//! - each page has a version, which rises by one at every write into it and stays at the greatest `u64`
-//!   once there, so that a cache can tell whether what it read still stands;
-//! - whoever follows a migration hands a `TouchLog` to the code that writes, and is told every page and
-//!   sector that was written. `NoLog` is for everybody else, and keeps nothing.
+//! - each page has a version, which rises by one at every write into it and stays at the greatest `u64` once there, so that a cache
+//!   can tell whether what it read is still so;
+//! - whoever follows a migration hands a `TouchLog` to the code that writes, and gets every page and sector that was written.
+//!   `NoLog` is for everybody else, and keeps nothing.
 //!
-//! What the layers above may rely on is in the contracts alone. They speak of the record `Memory` (`specs/Memory`:
-//! the bytes in order of their addresses, and the versions) and of the bytes of a page (`specs/Page`), of the
-//! little-endian number at an address (`specs/Number`), of writes and lists of writes (`specs/Write`, `specs/Writes`), of
-//! one RAM that is another one later (`specs/Later`, and the module `laws`) and of the items that a log takes in
-//! (`specs/Item`, `specs/Laws`). Nothing is trusted here beside the toolchain and `byteorder`.
+//! # What the layers above may rely on
+//! - `Ram::read` and `Ram::write` answer `TooLong` (more than 4,096 bytes), then `OutOfRam`, by `refusal_of` alone. A refusal changes
+//!   nothing, the caller's buffer neither. Else a read gives the bytes, and RAM after a write is `written`.
+//! - `write` answers the pages that it went into. `put` is a write of any length that the caller knows to lie inside RAM; it names
+//!   each page that it touches to a `TouchLog`, which is then what the items make of it.
+//! - Every write makes one copy and takes no memory.
+//! - RAM after a write is a *later* one (`specs/Later`): no version fell, and a byte whose page has kept its version, unless that is
+//!   the greatest, is what it was. By `later_in_turn` this holds through any list of writes. Every call above that writes RAM says
+//!   it, up to `apply`.
+//! - The caller's part: page numbers below the number of pages; for `put`, bytes inside RAM.
+//!
+//! The contracts speak of the record `Memory` (`specs/Memory`: the bytes in order of their addresses, and the versions) and of the
+//! bytes of a page (`specs/Page`), of the little-endian number at an address (`specs/Number`), of writes and lists of writes
+//! (`specs/Write`, `specs/Writes`), of one RAM that is another one later (`specs/Later`, and the module `laws`) and of the items
+//! that a log takes in (`specs/Item`, `specs/Laws`). Nothing is trusted here beside the toolchain and `byteorder`.
 //!
 //! `Bytes` are bytes of any number that are handed on as one value: what was read, or what is to be written.
 //!
-//! A habit of these crates: a method `recall` changes nothing and returns nothing. Its contract is what every value of
-//! its type keeps, of which a proof outside of the type knows nothing until the method is called. So a call of `recall`
-//! is a note to the checker, and the lines after it stand on what it says.
+//! A habit of these crates: a method `recall` changes nothing and returns nothing. Its contract is what every value of its type
+//! keeps, of which a proof outside of the type knows nothing until the method is called. So a call of `recall` is a note to the
+//! checker, and the lines after it rely on what it says.
 #![tactic(auto)]
 
 mod bytes;

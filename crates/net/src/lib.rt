@@ -1,12 +1,17 @@
 //! The steps that serve a network device (VIRTIO 1.2, 5.1), and the frames that the host has put in for it.
 //!
-//! `Inbox` holds at most 64 frames of 14 to 1,514 bytes, in room made with it. `receive` gives the first of them to the next
-//! chain of a ring of either layout, as `specs/Receive` says: RAM, ring, frames, log and answer. `transmit` takes a frame
-//! from the next chain, as `Transmit` of `chains` says with the form of `specs/Transmit`. The configuration of a network
-//! device is its six MAC bytes (VIRTIO 1.2, 5.1.4), and no more.
+//! # What the layers above may rely on
+//! - `Inbox` is a list of at most 64 frames of 14 to 1,514 bytes, the oldest first. Its room is made by `new`, and no other call takes
+//!   memory: a full inbox keeps nothing of a frame and answers 0.
+//! - `receive(ring, inbox, ram, log)` is `receive_step` (`specs/Receive`) over any `Ring`, with a frame waiting: RAM, ring, frames,
+//!   log and answer after it. A frame that does not fit is lost, and its chain stays; a malformed chain keeps the frame. An error is
+//!   out of memory for the chain, and leaves all four as they were.
+//! - `transmit` is the step of `chains` that takes a message, with 26 to 1,526 bytes, of which the first 12 are the header
+//!   (`specs/Transmit`).
+//! - The caller's part: a frame waits in the inbox; a frame put in has 14 to 1,514 bytes, for which `is_frame_len` is the test.
 //!
-//! The device offers neither checksums nor segmentation nor merged buffers, so each frame has one header of 12 bytes, of
-//! which only `num_buffers` is not 0 (`specs/Header`).
+//! The device offers neither checksums nor segmentation nor merged buffers, so each frame has one header of 12 bytes, of which only
+//! `num_buffers` is not 0 (`specs/Header`). Its configuration is its six MAC bytes (VIRTIO 1.2, 5.1.4), and no more.
 //!
 //! Nothing is trusted here beside `circular_buffer` and the crates below.
 #![tactic(auto)]

@@ -1,15 +1,18 @@
 //! Packed rings (VIRTIO 1.2, 2.8): the trait `Ring` of `chains` in the packed layout.
 //!
-//! A packed queue has one ring of descriptors, which the driver and the device both write, and for each of them a small
-//! area that says when it wants to be notified. A wrap counter tells what was written this time round from what is
-//! left of the last one. The ring keeps nothing of what guest memory holds: it reads the chain anew at each call, and a
-//! hostile driver can make it answer nothing but what stands there.
+//! A packed queue has one ring of descriptors, which the driver and the device both write, and for each of them a small area that says
+//! when it wants to be notified. A wrap counter separates what was written this time round from what is left of the last one. The
+//! ring keeps nothing of what guest memory holds: it reads the chain anew at each call, and a hostile driver can make it answer
+//! nothing but what is there.
 //!
-//! Looking for a chain decodes at most one descriptor more than there are slots, whatever RAM claims: a walk stops after
-//! one round, and a table with more entries than slots is refused before it is read.
+//! # What the layers above may rely on
+//! The contracts are those of the trait, over the definitions of `chains` (`PackedChain` and `Publish` among its specs). `new` makes
+//! the ring of a ready queue under the driver's features, at the positions given.
 //!
-//! The contracts are those of the trait, over the definitions of `chains` (`PackedChain` and `Publish` among its
-//! specs). `specs/Walk` has the words of the functions inside. Nothing is trusted here beside the crates below.
+//! Looking for a chain decodes at most one descriptor more than there are slots, whatever RAM holds: a walk stops after one round, and
+//! a table with more entries than slots is refused before it is read. That is argued here, and no contract says it.
+//!
+//! `specs/Walk` has the words of the functions inside. Nothing is trusted here beside the crates below.
 #![tactic(auto)]
 
 mod events;

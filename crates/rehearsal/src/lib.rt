@@ -1,16 +1,25 @@
 //! A move of a machine, rehearsed: what an embedder may try before it trusts a move, and the promise of a move as one contract.
 //!
-//! `rehearse` plays a list of events on a machine that is sent meanwhile, receives its stream over other disks, and plays what
-//! the guest does next on both machines.
+//! `rehearse(machine, events, disks, cuts)` plays the events on a machine that is sent meanwhile, up to and with the first stop that
+//! answers Ok, feeds the stream to a receiver over the disks, in pieces of the sizes of the cuts, and plays the events of the guest
+//! that remain on both machines.
 //!
-//! What the layer above may rely on, in the words of `specs/Rehearsing`: the machine was not sent exactly where no stop answered
-//! Ok, or memory was refused before the first event. The stream is refused only where the disks do not fit, where one of
-//! them failed, or where memory was refused, each told as it is. Else the machine arrived: over honest disks both machines are
-//! runs of the events that remained, from the machine at the stop, and with the same outcomes they are equal and answered alike.
-//! That there is a stream between them is not in the contract, which speaks of machines: a test shows it, over a disk that
-//! keeps the list of its writes.
+//! # What the layers above may rely on
+//! By the cases of what it answers (`specs/Rehearsing`):
+//! - `NotStopped` exactly where no stop answered Ok: the machine after the events and their replies, all or, where memory was refused
+//!   before the first, none, and then it is the opening machine.
+//! - `Refused`: the machine at the stop, and the refusal: `ShapeMismatch` exactly where the disks do not fit, `DiskFailed` only where
+//!   one of them is not steady, or `NoMemory`, and no other.
+//! - `Arrived`: the disks fit. Both machines played what remained, the one that was sent from the stop on, the other as it came out of
+//!   the receiver over these disks. Each answered so that a failed disk is one that is not steady. Where the disks are honest, the
+//!   machine that arrived began as the one at the stop: both are runs from there, and with the same outcomes their replies are the
+//!   same and they are equal.
+//! - In all three the replies up to the stop are those of a `replay`: its promises hold of them, over a writer in memory.
 //!
-//! It stands on `sender` and `receiver`.
+//! That there is a stream between the two machines is not in the contract, which speaks of machines: a test shows it, over a disk
+//! that keeps the list of its writes.
+//!
+//! It uses `sender` and `receiver`.
 #![tactic(auto)]
 
 mod rehearsing;

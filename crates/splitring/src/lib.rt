@@ -1,15 +1,18 @@
 //! Split rings (VIRTIO 1.2, 2.7): the trait `Ring` of `chains` in the split layout.
 //!
-//! A split queue has a table of descriptors, an area that the driver writes (its index, and the heads of the chains
-//! that it makes available) and an area that the device writes (its index, and the chains that it has used). The ring
-//! keeps nothing of what guest memory holds: it reads the chain anew at each call, and a hostile driver can make it
-//! answer nothing but what stands there.
+//! A split queue has a table of descriptors, an area that the driver writes (its index, and the heads of the chains that it makes
+//! available) and an area that the device writes (its index, and the chains that it has used). The ring keeps nothing of what guest
+//! memory holds: it reads the chain anew at each call, and a hostile driver can make it answer nothing but what is there.
 //!
-//! Looking for a chain decodes at most one descriptor more than there are slots, whatever RAM claims: a walk stops after
-//! so many, and a table gets the room that the descriptors before the one that names it left.
+//! # What the layers above may rely on
+//! The contracts are those of the trait, over the definitions of `chains` (`SplitChain` and `Publish` among its specs). `new` makes
+//! the ring of a ready queue under the driver's features, at the positions given.
 //!
-//! The contracts are those of the trait, over the definitions of `chains` (`SplitChain` and `Publish` among its
-//! specs). `specs/Walk` has the words of the functions inside. Nothing is trusted here beside the crates below.
+//! Looking for a chain decodes at most one descriptor more than there are slots, whatever RAM holds: a walk stops after as many as
+//! there are slots, and a table gets the room that the descriptors before the one that names it left. That is argued here, and no
+//! contract says it.
+//!
+//! `specs/Walk` has the words of the functions inside. Nothing is trusted here beside the crates below.
 #![tactic(auto)]
 
 mod ring;
