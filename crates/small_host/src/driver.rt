@@ -59,12 +59,14 @@ pub struct Areas {
     device: u32,
 }
 
+/// Those of the entropy device, in page 0.
 pub const ENTROPY_AREAS: Areas = Areas {
     table: 0,
     driver: 0x40,
     device: 0x80,
 };
 
+/// Those of the disk, in page 1.
 pub const DISK_AREAS: Areas = Areas {
     table: 0x1000,
     driver: 0x1040,

@@ -18,6 +18,7 @@ impl Building {
     ghost use Rattle.std.specs.Prelude.{◌≡◌, IfOk, IfSome, IsNone, Some, None, if◌then◌else◌};
     ghost use Rattle.traces.specs.Reading.{nothing, said_of, said_in, with_line, after_line, IsWhole};
 
+    /// A trace of which no line was read yet. It takes no memory.
     pub fn new(alloc: Global) -> Building
         ensures { said_of result ≡ nothing }
     {

@@ -9,6 +9,7 @@ use hex::{FromHex, FromHexError};
 use machine::Bytes;
 use std::alloc::{AllocError, Global};
 
+/// The number that a word spells, if it fits 8 bits.
 pub fn number8(word: &[u8]) -> Option<u8>
     ensures { result ≡ u8_field word.now }
 {
@@ -20,6 +21,7 @@ pub fn number8(word: &[u8]) -> Option<u8>
     }
 }
 
+/// The number that a word spells, if it fits 16 bits.
 pub fn number16(word: &[u8]) -> Option<u16>
     ensures { result ≡ u16_field word.now }
 {
@@ -31,6 +33,7 @@ pub fn number16(word: &[u8]) -> Option<u16>
     }
 }
 
+/// The number that a word spells, if it fits 32 bits.
 pub fn number32(word: &[u8]) -> Option<u32>
     ensures { result ≡ u32_field word.now }
 {
@@ -42,6 +45,7 @@ pub fn number32(word: &[u8]) -> Option<u32>
     }
 }
 
+/// The number that a word spells, if it fits 64 bits.
 pub fn number64(word: &[u8]) -> Option<u64>
     ensures { result ≡ u64_field word.now }
 {
