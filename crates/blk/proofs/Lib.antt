@@ -3,3 +3,4 @@ pub mod Marks
 pub mod Tasks
 pub mod Ending
 pub mod Units
+pub mod Given

@@ -1,5 +1,6 @@
 -- The sectors of a disk whose marks change.
-use Rattle.std.proofs.Common.{◌≡◌, ℕ, zero, suc, ◌<◌, List, [], ◌∷◌, length, set, get_or, Bool, true, false, Some, None, refl, ap, arith}
+use Rattle.std.proofs.Common.{◌≡◌, ◌∙◌, sym, ℕ, zero, suc, ◌<◌, List, [], ◌∷◌, length, map, set, get_or, Bool, true, false, Some, None, refl, ap, arith}
+use Rattle.std.proofs.lemmas.List.{length-set, map-set}
 use Rattle.blk.specs.Disk.{SameBut, IsSector, AreSectors}
 use Rattle.blk.specs.Sectors.{Sector, sectors_of, sector_if, is_bad, IsWhole, AreWhole}
 
@@ -59,3 +60,15 @@ bad_if false s = refl
 -- A sector is bad where it is marked.
 pub bad_marked : (ss : List (List ℕ)) (bs : List Bool) (n : ℕ) → length bs ≡ length ss → n < length ss → is_bad (get_or (sectors_of ss bs) n None) ≡ get_or bs n false
 bad_marked ss bs n e h = rw (sector_marked ss bs n e h) (bad_if (get_or bs n false) (get_or ss n []))
+
+marks_of : (ss : List (List ℕ)) (bs : List Bool) → length bs ≡ length ss → map is_bad (sectors_of ss bs) ≡ bs
+marks_of [] [] e = refl
+marks_of [] (b ∷ bs) e = absurd (omega (arith, e))
+marks_of (s ∷ ss) [] e = absurd (omega (arith, e))
+marks_of (s ∷ ss) (b ∷ bs) e = rw (bad_if b s, marks_of ss bs (omega (arith, e))) refl
+
+-- Once a sector is marked good it is the only one whose mark may be another, whatever the disk holds.
+pub good_again : (ss ts : List (List ℕ)) (bs : List Bool) (n : ℕ) (x : List ℕ) → length bs ≡ length ss → length ts ≡ length ss → map is_bad (sectors_of ts (set bs n false)) ≡ map is_bad (set (sectors_of ss bs) n (Some x))
+good_again ss ts bs n x e f =
+    let long : length (set bs n false) ≡ length ts = length-set bs n false ∙ e ∙ sym f in
+    rw (marks_of ts (set bs n false) long, map-set is_bad (sectors_of ss bs) n (Some x), marks_of ss bs e) refl

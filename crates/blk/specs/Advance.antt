@@ -1,14 +1,14 @@
 -- The step that advances a request, or ends it (VIRTIO 1.2, 5.2.6).
-use Rattle.std.specs.Prelude.{IsTrue, ◌≡◌, ℕ, ◌+◌, ◌-◌, ◌*◌, ◌==◌, Bool, true, List, [], ◌∷◌, ◌++◌, take, drop, length, slice_set, slice_get, Option, Some, None, if◌then◌else◌}
+use Rattle.std.specs.Prelude.{◌≡◌, ℕ, ◌+◌, ◌-◌, ◌*◌, ◌==◌, Bool, true, List, [], ◌∷◌, ◌++◌, take, drop, length, slice_set, slice_get, Option, Some, None, if◌then◌else◌}
 use Rattle.std.specs.List.{remove}
 use Rattle.guestmem.specs.Item.{Item, after_all}
 use Rattle.guestmem.specs.Writes.{Write, set_all, touched}
 use Rattle.chains.specs.State.{RingState}
 use Rattle.chains.specs.Places.{places, place_writes}
 use Rattle.chains.specs.Publish.{published, is_interrupt_due, after_publish}
-use Rattle.blk.specs.Sectors.{Sector}
+use Rattle.blk.specs.Sectors.{IsGiven, Sector}
 use Rattle.blk.specs.Request.{verdict_byte, is_open}
-use Rattle.blk.specs.Move.{Move, SectorSet, sectors_set, sectors_touched, move_of}
+use Rattle.blk.specs.Move.{AreSet, Move, SectorSet, sectors_touched, move_of}
 use Rattle.blk.specs.declared.disk.TheConstants.{SECTOR_SIZE}
 use Rattle.blk.specs.declared.shape.TheConstants.{ID_SIZE}
 use Rattle.blk.specs.declared.request.Kind.{Kind}
@@ -70,11 +70,14 @@ advance_one shape ram q content requests k is_fine (Some r) =
 abbrev pub advance_step : BlockShape → List ℕ → RingState → List Sector → List Request → ℕ → Bool → AdvanceStep
 advance_step shape ram q content requests k is_fine = advance_one shape ram q content requests k is_fine (slice_get requests k)
 
--- RAM, the ring, the sectors, the requests and a log after such a step. What it moves is what it is to move where the disk
--- is honest; where it goes is so with any disk.
-pub record IsAfterAdvancing {L : Type 0} (after : L → Item → L) (honest : Bool) (device : ℕ) (ram : List ℕ) (content : List Sector) (log : L) (s : AdvanceStep) (new_ram : List ℕ) (new_ring : RingState) (new_content : List Sector) (new_requests : List Request) (new_log : L) : Type 0 where
-  pub ram_is : IsTrue honest → new_ram ≡ set_all ram s.writes
-  pub ring_is : new_ring ≡ s.ring
-  pub content_is : IsTrue honest → new_content ≡ sectors_set content s.sets
-  pub requests_are : new_requests ≡ s.requests
-  pub log_is : new_log ≡ after_all after log (touched s.writes ++ sectors_touched device s.sets)
+-- Such a step was made, with the sectors as the disk gave them: what it answers, and RAM, the ring, the sectors, the requests
+-- and a log after it.
+pub record IsAfterAdvancing {L : Type 0} (after : L → Item → L) (honest : Bool) (device : ℕ) (ram : List ℕ) (content : List Sector) (log : L) (step : List Sector → AdvanceStep) (answer : Advanced) (new_ram : List ℕ) (new_ring : RingState) (new_content : List Sector) (new_requests : List Request) (new_log : L) : Type 0 where
+  pub given : List Sector
+  pub is_given : IsGiven honest content given
+  pub answer_is : answer ≡ (step given).answer
+  pub ram_is : new_ram ≡ set_all ram (step given).writes
+  pub ring_is : new_ring ≡ (step given).ring
+  pub content_is : AreSet honest content (step given).sets new_content
+  pub requests_are : new_requests ≡ (step given).requests
+  pub log_is : new_log ≡ after_all after log (touched (step given).writes ++ sectors_touched device (step given).sets)

@@ -3,7 +3,7 @@ use Rattle.std.specs.Prelude.{◌≡◌, ℕ, ◌+◌, ◌*◌, ◌<◌, Bool, t
 use Rattle.guestmem.specs.Item.{Item, sector, after_all}
 use Rattle.guestmem.specs.Writes.{Write, set_all, touched}
 use Rattle.chains.specs.Places.{places, read_places, place_writes}
-use Rattle.blk.specs.Sectors.{Sector, sector_in, is_bad, bytes_of}
+use Rattle.blk.specs.Sectors.{IsGiven, Sector, sector_in, is_bad, bytes_of}
 use Rattle.blk.specs.Request.{next_sector}
 use Rattle.blk.specs.declared.disk.TheConstants.{SECTOR_SIZE}
 use Rattle.blk.specs.declared.request.TheConstants.{HEADER_SIZE}
@@ -100,13 +100,27 @@ after_unit r BadSector = failed r
 after_unit r DiskFailed = failed r
 after_unit r (Completed len is_due) = r
 
--- Such a move was made. What it moves is what it is to move where the disk is honest; where it goes is so with any disk.
-pub record IsMoved {L : Type 0} (after : L → Item → L) (honest : Bool) (device : ℕ) (ram : List ℕ) (content : List Sector) (log : L) (m : Move) (answer : Advanced) (new_request : Request) (new_ram : List ℕ) (new_content : List Sector) (new_log : L) : Type 0 where
-  pub answer_is : answer ≡ m.answer
-  pub request_is : new_request ≡ m.request
-  pub ram_is : IsTrue honest → new_ram ≡ set_all ram m.writes
-  pub content_is : IsTrue honest → new_content ≡ sectors_set content m.sets
-  pub log_is : new_log ≡ after_all after log (touched m.writes ++ sectors_touched device m.sets)
+-- Sectors are set only as bad ones.
+abbrev pub AreMadeBad : List SectorSet → Type 0
+AreMadeBad [] = Unit {0}
+AreMadeBad (s ∷ ss) = (is_bad s.content ≡ true) × AreMadeBad ss
+
+-- The sectors of a disk after some were set. Which ones are bad is known of any disk, and so is what the sectors hold where
+-- none was written. What a write leaves is known where the disk is honest.
+pub record AreSet (honest : Bool) (content : List Sector) (sets : List SectorSet) (new_content : List Sector) : Type 0 where
+  pub bad : map is_bad new_content ≡ map is_bad (sectors_set content sets)
+  pub unwritten : AreMadeBad sets → new_content ≡ sectors_set content sets
+  pub is : IsTrue honest → new_content ≡ sectors_set content sets
+
+-- Such a move was made, with the sectors as the disk gave them.
+pub record IsMoved {L : Type 0} (after : L → Item → L) (honest : Bool) (device : ℕ) (ram : List ℕ) (content : List Sector) (log : L) (move : List Sector → Move) (answer : Advanced) (new_request : Request) (new_ram : List ℕ) (new_content : List Sector) (new_log : L) : Type 0 where
+  pub given : List Sector
+  pub is_given : IsGiven honest content given
+  pub answer_is : answer ≡ (move given).answer
+  pub request_is : new_request ≡ (move given).request
+  pub ram_is : new_ram ≡ set_all ram (move given).writes
+  pub content_is : AreSet honest content (move given).sets new_content
+  pub log_is : new_log ≡ after_all after log (touched (move given).writes ++ sectors_touched device (move given).sets)
 
 -- Every sector of a disk of so many, under the device of this number, may be named to the log.
 abbrev pub MaySectors : {L : Type 0} → (L → Item → Type 0) → L → ℕ → ℕ → Type 0

@@ -1,5 +1,5 @@
 -- The sectors of a disk, some of which may be bad.
-use Rattle.std.specs.Prelude.{All, ◌≡◌, ℕ, ◌+◌, ◌%◌, ◌^◌, List, [], ◌∷◌, length, Bool, true, false, IsTrue, Option, Some, None, slice_set, slice_index_or, if◌then◌else◌}
+use Rattle.std.specs.Prelude.{All, ◌≡◌, ℕ, ◌+◌, ◌%◌, ◌^◌, List, [], ◌∷◌, length, map, Bool, true, false, IsTrue, Option, Some, None, slice_set, slice_index_or, if◌then◌else◌}
 use Rattle.blk.specs.Disk.{DiskState, IsSector}
 use Rattle.blk.specs.declared.sectors.Fetched.{Fetched}
 use Rattle.blk.specs.declared.sectors.Fetched.TheVariants.{Bad, Failed, Read}
@@ -33,6 +33,13 @@ IsWhole (Some bytes) = IsSector bytes
 
 abbrev pub AreWhole : List Sector → Type 0
 AreWhole content = All IsWhole content
+
+-- The sectors of a disk as it gave them in one step: the same ones are bad, and each good one has 512 bytes. An honest disk
+-- gives what it holds.
+pub record IsGiven (honest : Bool) (content given : List Sector) : Type 0 where
+  pub bad : map is_bad given ≡ map is_bad content
+  pub whole : AreWhole given
+  pub is : IsTrue honest → given ≡ content
 
 abbrev pub sector_in : List Sector → ℕ → Sector
 sector_in content n = slice_index_or content n None

@@ -67,8 +67,7 @@ impl Requests {
         requires sound { AreSound (length ram.old.bytes) (R.state ring.old) shape.now self.old }
         requires may { MayPages L.may log.old (length ram.old.bytes) }
         requires may_sectors { MaySectors L.may log.old device (length sectors.old.content) }
-        ensures answer { result ≡ (advance_step shape.now ram.old.bytes (R.state ring.old) sectors.old.content self.old k (not (is_disk_failed result))).answer }
-        ensures changes { IsAfterAdvancing L.after sectors.old.honest device ram.old.bytes sectors.old.content log.old (advance_step shape.now ram.old.bytes (R.state ring.old) sectors.old.content self.old k (not (is_disk_failed result))) ram.new.bytes (R.state ring.new) sectors.new.content self.new log.new }
+        ensures changes { IsAfterAdvancing L.after sectors.old.honest device ram.old.bytes sectors.old.content log.old (λ given. advance_step shape.now ram.old.bytes (R.state ring.old) given self.old k (not (is_disk_failed result))) result ram.new.bytes (R.state ring.new) sectors.new.content self.new log.new }
         ensures kept { IsKept sectors.old (is_disk_failed result) sectors.new }
         ensures whole { AreWhole sectors.new.content }
         ensures sound { AreSound (length ram.new.bytes) (R.state ring.new) shape.now self.new }

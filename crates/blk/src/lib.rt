@@ -11,8 +11,9 @@
 //! write that fails leaves any bytes behind, and its sector is bad until a write succeeds. Contracts see one list of
 //! sectors, each with its bytes or bad (`specs/Sectors`).
 //!
-//! What is moved is what the definitions say where the disk is honest: a read gives what was written. All else, as where
-//! it goes, that requests stay sound and that failures are counted, is so with any disk.
+//! Of every disk, a step does what the definitions say, with the sectors as the disk gave them in this step (`IsGiven` in
+//! `specs/Sectors`): its answer, RAM, the ring, the requests, the log, and which sectors are bad. An honest disk gives what
+//! was written; of another no contract says which bytes it gives, or which a write leaves.
 //!
 //! Other definitions: `specs/Task` (what a request asks for, by its header), `specs/Move` (one unit of a request),
 //! `specs/Sound` (what every outstanding request keeps; `Requests::are_sound` tests it), `specs/Request`,

@@ -17,7 +17,7 @@ use crate::request::{HEADER_SIZE, Kind, Request, Verdict};
 use crate::sectors::{Fetched, Sectors};
 use crate::shape::{BlockShape, ID_SIZE};
 use chains::{copy_in, copy_out};
-use guestmem::{Ram, TouchLog};
+use guestmem::{Ram, TouchLog, recall_bytes};
 
 /// Reads one sector into the writable places of a request.
 fn move_in<D: Disk, L: TouchLog>(
@@ -34,7 +34,7 @@ fn move_in<D: Disk, L: TouchLog>(
     requires small { length sectors.old.content < 2 ^ 64 }
     requires whole { AreWhole sectors.old.content }
     requires may { MayPages L.may log.old (length ram.old.bytes) }
-    ensures moved { IsMoved L.after sectors.old.honest device ram.old.bytes sectors.old.content log.old (move_in sectors.old.content request.old (not (is_disk_failed result))) result request.new ram.new.bytes sectors.new.content log.new }
+    ensures moved { IsMoved L.after sectors.old.honest device ram.old.bytes sectors.old.content log.old (λ given. move_in given request.old (not (is_disk_failed result))) result request.new ram.new.bytes sectors.new.content log.new }
     ensures request { request.new ≡ after_unit request.old result }
     ensures kept { IsKept sectors.old (is_disk_failed result) sectors.new }
     ensures size { length ram.new.bytes ≡ length ram.old.bytes }
@@ -53,6 +53,7 @@ fn move_in<D: Disk, L: TouchLog>(
             Advanced::DiskFailed
         }
         Fetched::Read => {
+            recall_bytes(&buffer);
             copy_in(
                 ram,
                 request.writable.as_slice(),
@@ -79,9 +80,10 @@ fn move_out<D: Disk, L: TouchLog>(
     requires sector { request.old.first + request.old.done < length sectors.old.content }
     requires open { request.old.done < request.old.units }
     requires small { length sectors.old.content < 2 ^ 64 }
+    requires whole { AreWhole sectors.old.content }
     requires may { MayPages L.may log.old (length ram.old.bytes) }
     requires may_sectors { MaySectors L.may log.old device (length sectors.old.content) }
-    ensures moved { IsMoved L.after sectors.old.honest device ram.old.bytes sectors.old.content log.old (move_out ram.old.bytes request.old (not (is_disk_failed result))) result request.new ram.new.bytes sectors.new.content log.new }
+    ensures moved { IsMoved L.after sectors.old.honest device ram.old.bytes sectors.old.content log.old (λ given. move_out ram.old.bytes request.old (not (is_disk_failed result))) result request.new ram.new.bytes sectors.new.content log.new }
     ensures request { request.new ≡ after_unit request.old result }
     ensures kept { IsKept sectors.old (is_disk_failed result) sectors.new }
     ensures size { length ram.new.bytes ≡ length ram.old.bytes }
@@ -163,7 +165,7 @@ pub(crate) fn move_unit<D: Disk, L: TouchLog>(
     requires writable { AreSegmentsInside (length ram.old.bytes) request.old.writable }
     requires may { MayPages L.may log.old (length ram.old.bytes) }
     requires may_sectors { MaySectors L.may log.old device (length sectors.old.content) }
-    ensures moved { IsMoved L.after sectors.old.honest device ram.old.bytes sectors.old.content log.old (move_of request.old.kind shape.now.id ram.old.bytes sectors.old.content request.old (not (is_disk_failed result))) result request.new ram.new.bytes sectors.new.content log.new }
+    ensures moved { IsMoved L.after sectors.old.honest device ram.old.bytes sectors.old.content log.old (λ given. move_of request.old.kind shape.now.id ram.old.bytes given request.old (not (is_disk_failed result))) result request.new ram.new.bytes sectors.new.content log.new }
     ensures request { request.new ≡ after_unit request.old result }
     ensures sound { IsSoundWork request.new.kind (length (places request.new.readable)) (length (places request.new.writable)) shape.now.sectors shape.now.read_only request.new.verdict request.new.first request.new.units request.new.done }
     ensures kept { IsKept sectors.old (is_disk_failed result) sectors.new }

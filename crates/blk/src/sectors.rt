@@ -1,6 +1,6 @@
 //! The sectors of a block device: a disk, and which of its sectors are bad.
 
-ghost use Rattle.std.specs.Prelude.{◌≡◌, ◌<◌, ◌^◌, length, IfOk, IsTrue, OnOk, OnErr, Some, None, false, replicate, slice_set, is_ok, not};
+ghost use Rattle.std.specs.Prelude.{◌≡◌, ◌<◌, ◌^◌, length, map, IfOk, IsTrue, OnOk, OnErr, Some, None, false, replicate, slice_set, is_ok, not};
 ghost use Rattle.blk.specs.Disk.{AreSectors};
 ghost use Rattle.blk.specs.Sectors.{seen_of, sector_in, is_bad, set_sector, AreWhole, IsKept, IsFetched, is_failed};
 
@@ -122,6 +122,7 @@ impl<D: Disk> Sectors<D> {
         requires { n < length self.old.content }
         ensures kept { IsKept self.old (not (is_ok result)) self.new }
         ensures ok { OnOk result (IsTrue self.old.honest → self.new.content ≡ slice_set self.old.content n (Some bytes.now)) }
+        ensures good { OnOk result (map is_bad self.new.content ≡ map is_bad (slice_set self.old.content n (Some bytes.now))) }
         ensures err { OnErr result (self.new.content ≡ slice_set self.old.content n None) }
     {
         if let Err(fault) = self.disk.write(n, bytes) {

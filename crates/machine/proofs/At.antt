@@ -1,13 +1,14 @@
 -- One device of a machine changes, or its RAM does.
-use Rattle.std.proofs.Common.{◌≡◌, ℕ, zero, suc, ◌<◌, ◌≤◌, Bool, true, false, cond, List, [], ◌∷◌, length, map, set, get_or, Some, None, refl, ap, sym, ◌∙◌, arith, append-nil}
-use Rattle.std.specs.Prelude.{slice_get, IsTrue, Result, Ok, Err}
+use Rattle.std.proofs.Common.{◌≡◌, ℕ, zero, suc, ◌<◌, ◌≤◌, Bool, true, false, cond, List, [], ◌∷◌, length, map, set, get_or, Some, None, refl, ap, sym, subst, ◌∙◌, arith, append-nil}
+use Rattle.std.specs.Prelude.{All, slice_get, IsTrue, Result, Ok, Err}
 use Rattle.std.proofs.lemmas.List.{length-set}
 use Rattle.std.proofs.lemmas.List.Elements.{All-set}
 use Rattle.console.specs.Size.{resized}
 use Rattle.console.specs.declared.size.ConsoleSize.{ConsoleSize}
 use Rattle.net.specs.Inbox.{frames_with, is_frame_len, kept_of}
 use Rattle.blk.specs.Move as blk
-use Rattle.blk.specs.Sectors.{Sector, AreWhole}
+use Rattle.blk.specs.Sectors.{AreWhole, IsGiven, Sector, is_bad}
+use Rattle.blk.proofs.Given.{given_itself}
 use Rattle.guestmem.specs.Number.{IsBytes}
 use Rattle.std.proofs.lemmas.List.{map-set, length-map}
 use Rattle.std.proofs.lemmas.Option.{slice_get-get_or, slice_get_past}
@@ -16,8 +17,9 @@ use Rattle.guestmem.specs.Later.{IsLater}
 use Rattle.guestmem.specs.Memory.{Memory}
 use Rattle.guestmem.specs.Write.{refusal_of}
 use Rattle.guestmem.specs.Writes.{Write, byte_writes, set_all, touched}
+use Rattle.guestmem.specs.declared.error.RamError.{RamError}
 use Rattle.chains.specs.declared.next.Next.TheVariants.{Empty}
-use Rattle.machine.specs.Applied.{FailsOnlyUnsteady, IsApplied, IsAppliedLogged, marks_after}
+use Rattle.machine.specs.Applied.{AreMadeBad, FailsOnlyUnsteady, IsApplied, IsAppliedLogged, IsGivenFor, as_given, bad_on, marks_after}
 use Rattle.machine.specs.DeviceStep.{device_step, looked_at}
 use Rattle.machine.specs.DeviceWork.{IsDeviceStep}
 use Rattle.machine.specs.Direct.{accepted_reply, done_reply}
@@ -26,13 +28,13 @@ use Rattle.machine.specs.Effect.{Effect, applied, no_effect, sets_on}
 use Rattle.machine.specs.EffectLaws.{HasItem, IsSameShape}
 use Rattle.machine.specs.Held.{IsHeld}
 use Rattle.machine.specs.Outcome.{Outcome, is_failure, outcome_of}
-use Rattle.machine.specs.Seen.{DeviceSeen, Seen, state_of, all_marks, failed_at, failed_if, marks_at}
+use Rattle.machine.specs.Seen.{DeviceSeen, Marks, Seen, state_of, all_marks, failed_at, failed_if, marks_at}
 use Rattle.machine.specs.Sound.{IsSound, IsSoundDevice}
 use Rattle.machine.specs.State.{DeviceState, MachineState}
-use Rattle.machine.specs.Step.{HasEffect, IsStep, IsLoggedStep, IsResized, ResizesDevice, input_of, out_reply, own_with_input, refused, size_by, written_out, register_set, with_input}
+use Rattle.machine.specs.Step.{HasEffect, IsStep, IsLoggedStep, IsResized, ResizesDevice, disk_of, disk_or_none, input_of, out_reply, own_with_input, ram_refusal, refused, size_by, written_out, register_set, with_input}
 use Rattle.machine.specs.StepLaws.{Fits}
 use Rattle.machine.specs.declared.event.Event.{Event}
-use Rattle.machine.specs.declared.event.Event.TheVariants.{RegWrite, MemWrite, Step, Input, Resize}
+use Rattle.machine.specs.declared.event.Event.TheVariants.{RegRead, RegWrite, MemRead, MemWrite, Step, Input, Resize}
 use Rattle.machine.specs.declared.reply.Refusal.{Refusal}
 use Rattle.machine.specs.declared.reply.Refusal.TheVariants.{NoDevice, WrongKind, BadFrame}
 use Rattle.machine.specs.declared.own.Own.{Own}
@@ -41,6 +43,7 @@ use Rattle.machine.specs.declared.reply.Reply.{Reply}
 use Rattle.machine.specs.declared.reply.Reply.TheVariants.{Done, Refused}
 use Rattle.machine.specs.declared.shape.Shape.{Shape}
 use Rattle.machine.proofs.Staying.{HasSectors, sound_stepped}
+use Rattle.machine.proofs.Stepping.{none_whole}
 use Rattle.machine.proofs.Within.{has_sectors, shape_at, sound_at, sound_by, step_shape, step_sound}
 
 -- A device at its place, and what it is there.
@@ -197,6 +200,16 @@ stored_step taking m new_m log new_log ds addr bytes none is told = record {
   logged = told ∙ ap (after_all taking log) (sym (append-nil (touched (byte_writes addr bytes))));
 }
 
+-- The bytes lie outside RAM, or are too many.
+pub unstored_step : {L : Type 0} (taking : L → Item → L) (m : Memory) (log : L) (ds : List DeviceSeen) (addr : ℕ) (bytes : List ℕ) (error : RamError) (refusal : Refusal) → refusal_of (length m.bytes) addr (length bytes) ≡ Some error → refusal ≡ ram_refusal error
+    → IsLoggedStep taking (state_of (record { memory = m; devices = ds })) log (MemWrite addr bytes) (Refused refusal) (state_of (record { memory = m; devices = ds })) log
+unstored_step taking m log ds addr bytes error refusal some is = record {
+  effect = no_effect;
+  has = record { seen = Empty; may_see = tt; reply_is = rw (some, is) refl; effect_is = rw some refl; outcome_is = refl };
+  changed = refl;
+  logged = refl;
+}
+
 past : (ds : List DeviceSeen) (dev : ℕ) → length ds ≤ dev → slice_get (map (λ (x : DeviceSeen). x.state) ds) dev ≡ None
 past ds dev h = slice_get_past (map (λ (x : DeviceSeen). x.state) ds) dev (rw length-map h)
 
@@ -235,12 +248,50 @@ plain_step taking m next log new_log e reply h = record { effect = h.effect; has
 step_same : (old new : MachineState) (e : Event) (reply : Reply) (effect : Effect) → HasEffect old e (outcome_of reply) reply effect → new ≡ applied old effect → IsSameShape old new
 step_same old new e reply effect has changed = rw changed (step_shape old e (outcome_of reply) reply effect has)
 
+-- The sectors of the disk that an event calls, as the disk holds them.
+abbrev held_for : MachineState → Event → List Sector
+held_for m (Step dev pick) = disk_of m dev
+held_for m e = []
+
+pub disk_itself : (disks : List (List Sector)) (dev : ℕ) → set disks dev (disk_or_none (slice_get disks dev)) ≡ disks
+disk_itself [] dev = refl
+disk_itself (d ∷ ds) zero = refl
+disk_itself (d ∷ ds) (suc dev) = ap (λ (xs : List (List Sector)). d ∷ xs) (disk_itself ds dev)
+
+as_itself : (m : MachineState) (e : Event) → as_given m e (held_for m e) ≡ m
+as_itself m (RegRead dev off width) = refl
+as_itself m (RegWrite dev off width value) = refl
+as_itself m (MemRead addr len) = refl
+as_itself m (MemWrite addr bytes) = refl
+as_itself m (Step dev pick) = ap (λ (disks : List (List Sector)). record m { disks = disks }) (disk_itself m.disks dev)
+as_itself m (Input dev bytes) = refl
+as_itself m (Resize dev cols rows) = refl
+
+whole_disk : (disks : List (List Sector)) (dev : ℕ) → All AreWhole disks → AreWhole (disk_or_none (slice_get disks dev))
+whole_disk [] dev whole = none_whole
+whole_disk (d ∷ ds) zero whole = whole 0 d (omega arith)
+whole_disk (d ∷ ds) (suc dev) whole = whole_disk ds dev (λ k x below. whole (suc k) x (omega (arith, below)))
+
+given_for : (marks : List Marks) (m : MachineState) (e : Event) → IsSound m → IsGivenFor marks m e (held_for m e)
+given_for marks m (RegRead dev off width) sound = refl
+given_for marks m (RegWrite dev off width value) sound = refl
+given_for marks m (MemRead addr len) sound = refl
+given_for marks m (MemWrite addr bytes) sound = refl
+given_for marks m (Step dev pick) sound = given_itself (marks_at marks dev).honest (disk_of m dev) (whole_disk m.disks dev sound.sectors)
+given_for marks m (Input dev bytes) sound = refl
+given_for marks m (Resize dev cols rows) sound = refl
+
 pub applied_step : (shapes : List Shape) (old new : Seen) (e : Event) (reply : Reply) → IsHeld shapes old → Fits e → IsStep (state_of old) e (outcome_of reply) reply (state_of new) → IsLater old.memory new.memory → all_marks new ≡ marks_after (all_marks old) e reply → FailsOnlyUnsteady (all_marks old) e reply → IsApplied old e reply new
 applied_step shapes old new e reply held fits h later marks unsteady = record {
+  given = held_for (state_of old) e;
+  is_given = given_for (all_marks old) (state_of old) e held.sound;
   effect = h.effect;
-  has = h.has;
-  changed = λ _. h.changed;
+  has = subst (λ (m : MachineState). HasEffect m e (outcome_of reply) reply h.effect) (sym (as_itself (state_of old) e)) h.has;
+  ram = ap (λ (k : MachineState). k.ram) h.changed;
   devices = ap (λ (k : MachineState). k.devices) h.changed;
+  bad = ap (λ (k : MachineState). bad_on k.disks) h.changed;
+  unwritten = λ _. ap (λ (k : MachineState). k.disks) h.changed;
+  changed = λ _. h.changed;
   shape = step_same (state_of old) (state_of new) e reply h.effect h.has h.changed;
   sound = (held_step shapes old new e (outcome_of reply) reply held fits h).sound;
   later = later;
@@ -250,17 +301,10 @@ applied_step shapes old new e reply held fits h later marks unsteady = record {
 
 pub applied_logged : {L : Type 0} (taking : L → Item → L) (shapes : List Shape) (old new : Seen) (log new_log : L) (e : Event) (reply : Reply) → IsHeld shapes old → Fits e → IsLoggedStep taking (state_of old) log e reply (state_of new) new_log → IsLater old.memory new.memory → all_marks new ≡ marks_after (all_marks old) e reply → FailsOnlyUnsteady (all_marks old) e reply
     → IsAppliedLogged taking old log e reply new new_log
+unfolding applied_step plain_step
 applied_logged taking shapes old new log new_log e reply held fits h later marks unsteady = record {
-  effect = h.effect;
-  has = h.has;
-  changed = λ _. h.changed;
+  is_applied = applied_step shapes old new e reply held fits (plain_step taking (state_of old) (state_of new) log new_log e reply h) later marks unsteady;
   logged = h.logged;
-  devices = ap (λ (k : MachineState). k.devices) h.changed;
-  shape = step_same (state_of old) (state_of new) e reply h.effect h.has h.changed;
-  sound = (held_step shapes old new e (outcome_of reply) reply held fits (plain_step taking (state_of old) (state_of new) log new_log e reply h)).sound;
-  later = later;
-  marks = marks;
-  unsteady = unsteady;
 }
 
 lengths_of : (ds : List DeviceSeen) → map length (map (λ (x : DeviceSeen). x.sectors) ds) ≡ map (λ (x : DeviceSeen). length x.sectors) ds
@@ -277,7 +321,7 @@ has_disk m ds dev d at sound = rw (found_disk ds dev d at) at (has_sectors (stat
 worked_shape : {L : Type 0} (taking : L → Item → L) (m new_m : Memory) (log new_log : L) (dev pick : ℕ) (d new : DeviceSeen) (reply : Reply)
     → IsDeviceStep taking dev d.marks.honest m.bytes d.sectors log d.state pick reply new_m.bytes new.sectors new_log new.state → new.state.shape ≡ d.state.shape
 unfolding device_step
-worked_shape taking m new_m log new_log dev pick d new reply h = ap (λ (x : DeviceState). x.shape) h.device_is ∙ shape_at d.state m.bytes d.sectors pick (looked_at d.state pick) (outcome_of reply) h.seen
+worked_shape taking m new_m log new_log dev pick d new reply h = ap (λ (x : DeviceState). x.shape) h.device_is ∙ shape_at d.state m.bytes h.given pick (looked_at d.state pick) (outcome_of reply) h.seen
 
 seen_shapes : {L : Type 0} (taking : L → Item → L) (m new_m : Memory) (log new_log : L) (ds : List DeviceSeen) (dev pick : ℕ) (d new : DeviceSeen) (reply : Reply) → IsAt ds dev d
     → IsDeviceStep taking dev d.marks.honest m.bytes d.sectors log d.state pick reply new_m.bytes new.sectors new_log new.state → map (λ (x : DeviceSeen). x.state.shape) (set ds dev new) ≡ map (λ (x : DeviceSeen). x.state.shape) ds
@@ -292,12 +336,19 @@ same_worked taking m new_m log new_log ds dev pick d new reply at h size count =
   disks = lengths_same ds (set ds dev new) (map-set_same (λ (x : DeviceSeen). length x.sectors) ds dev d new at count);
 }
 
+same_count : (content given : List Sector) → map is_bad given ≡ map is_bad content → length given ≡ length content
+same_count content given same = omega (arith, length-map {A = Sector} {B = Bool}, ap length same)
+
+-- The sectors that a disk gave are as many as the device's.
+has_given : (honest : Bool) (d : DeviceState) (content given : List Sector) → IsGiven honest content given → HasSectors d content → HasSectors d given
+has_given honest d content given is has = record { count = same_count content given is.bad ∙ has.count; whole = is.whole }
+
 pub held_worked : {L : Type 0} (taking : L → Item → L) (shapes : List Shape) (m new_m : Memory) (log new_log : L) (ds : List DeviceSeen) (dev pick : ℕ) (d new : DeviceSeen) (reply : Reply) → IsHeld shapes (record { memory = m; devices = ds }) → IsAt ds dev d
     → IsDeviceStep taking dev d.marks.honest m.bytes d.sectors log d.state pick reply new_m.bytes new.sectors new_log new.state
     → length new_m.bytes ≡ length m.bytes → IsBytes new_m.bytes → AreWhole new.sectors → length new.sectors ≡ length d.sectors → IsHeld shapes (record { memory = new_m; devices = set ds dev new })
 held_worked taking shapes m new_m log new_log ds dev pick d new reply held at h size bytes whole count =
     let old : MachineState = state_of (record { memory = m; devices = ds }) in
-    let sound_new : IsSoundDevice (length m.bytes) new.state = rw h.device_is (sound_stepped d.state m.bytes d.sectors pick (outcome_of reply) h.seen h.may_look held.sound.bytes (sound_device m ds dev d at held.sound) (has_disk m ds dev d at held.sound)) in
+    let sound_new : IsSoundDevice (length m.bytes) new.state = rw h.device_is (sound_stepped d.state m.bytes h.given pick (outcome_of reply) h.seen h.may_look held.sound.bytes (sound_device m ds dev d at held.sound) (has_given d.marks.honest d.state d.sectors h.given h.is_given (has_disk m ds dev d at held.sound))) in
     let states : map (λ (x : DeviceSeen). x.state) (set ds dev new) ≡ set (map (λ (x : DeviceSeen). x.state) ds) dev new.state = map-set (λ (x : DeviceSeen). x.state) ds dev new in
     let disks : map (λ (x : DeviceSeen). x.sectors) (set ds dev new) ≡ set (map (λ (x : DeviceSeen). x.sectors) ds) dev new.sectors = map-set (λ (x : DeviceSeen). x.sectors) ds dev new in
     let same = same_worked taking m new_m log new_log ds dev pick d new reply at h size count in
@@ -313,25 +364,39 @@ failed_marks : (ds : List DeviceSeen) (dev : ℕ) (d new : DeviceSeen) (failed :
 failed_marks ds dev d new true at is = map-set (λ (x : DeviceSeen). x.marks) ds dev new ∙ rw (is, found_marks ds dev d at) refl
 failed_marks ds dev d new false at is = map-set_same (λ (x : DeviceSeen). x.marks) ds dev d new at is
 
+bad_sets : (dev : ℕ) (sets : List blk.SectorSet) → AreMadeBad (sets_on dev sets) → blk.AreMadeBad sets
+bad_sets dev [] bad = tt
+bad_sets dev (s ∷ ss) bad = (bad.0, bad_sets dev ss bad.1)
+
 pub worked : {L : Type 0} (taking : L → Item → L) (shapes : List Shape) (m new_m : Memory) (log new_log : L) (ds : List DeviceSeen) (dev pick : ℕ) (d new : DeviceSeen) (reply : Reply) → IsHeld shapes (record { memory = m; devices = ds }) → IsAt ds dev d
     → IsDeviceStep taking dev d.marks.honest m.bytes d.sectors log d.state pick reply new_m.bytes new.sectors new_log new.state
     → length new_m.bytes ≡ length m.bytes → IsBytes new_m.bytes → AreWhole new.sectors → length new.sectors ≡ length d.sectors → IsLater m new_m → new.marks ≡ failed_if (is_failure reply) d.marks → (is_failure reply ≡ true → d.marks.steady ≡ false)
     → IsAppliedLogged taking (record { memory = m; devices = ds }) log (Step dev pick) reply (record { memory = new_m; devices = set ds dev new }) new_log
 worked taking shapes m new_m log new_log ds dev pick d new reply held at h size bytes whole count later marks unsteady =
-    let s = device_step d.state m.bytes d.sectors pick (outcome_of reply) h.seen in
+    let s = device_step d.state m.bytes h.given pick (outcome_of reply) h.seen in
     let disk = found_disk ds dev d at in
-    let sectors : IsTrue d.marks.honest → map (λ (x : DeviceSeen). x.sectors) (set ds dev new) ≡ effects.sectors_set (map (λ (x : DeviceSeen). x.sectors) ds) (sets_on dev s.sets) =
-    (λ honest. map-set (λ (x : DeviceSeen). x.sectors) ds dev new ∙ ap (λ content. set (map (λ (x : DeviceSeen). x.sectors) ds) dev content) (h.content_is honest) ∙ sym (disk_set (map (λ (x : DeviceSeen). x.sectors) ds) dev d.sectors s.sets disk)) in
+    let disks : List (List Sector) = map (λ (x : DeviceSeen). x.sectors) ds in
+    let is_set = disk_set disks dev d.sectors s.sets disk in
+    let there : slice_get (set disks dev h.given) dev ≡ Some h.given = set_there disks dev d.sectors h.given disk in
+    let sectors : (content : List Sector) → content ≡ blk.sectors_set d.sectors s.sets → set disks dev content ≡ effects.sectors_set disks (sets_on dev s.sets) = (λ content is. ap (set disks dev) is ∙ sym is_set) in
+    let after : map (λ (x : DeviceSeen). x.sectors) (set ds dev new) ≡ set disks dev new.sectors = map-set (λ (x : DeviceSeen). x.sectors) ds dev new in
     let is_honest : IsTrue (marks_at (map (λ (x : DeviceSeen). x.marks) ds) dev).honest → IsTrue d.marks.honest = (λ honest. rw (found_marks ds dev d at) at honest) in
     record {
-      effect = record { writes = s.writes; sectors = sets_on dev s.sets; replaced = Some (record { number = dev; device = new.state }) };
-      has = record { seen = h.seen; may_see = rw (found ds dev d at) h.may_look; reply_is = rw (found ds dev d at, disk) h.reply_is; effect_is = rw (found ds dev d at, disk, h.device_is) refl; outcome_is = refl };
-      changed = λ honest. rw (map-set (λ (x : DeviceSeen). x.state) ds dev new, sectors (is_honest honest), h.ram_is (is_honest honest)) refl;
+      is_applied = record {
+        given = h.given;
+        is_given = rw (found_marks ds dev d at, disk) h.is_given;
+        effect = record { writes = s.writes; sectors = sets_on dev s.sets; replaced = Some (record { number = dev; device = new.state }) };
+        has = record { seen = h.seen; may_see = rw (found ds dev d at) h.may_look; reply_is = rw (found ds dev d at, there) h.reply_is; effect_is = rw (found ds dev d at, there, h.device_is) refl; outcome_is = refl };
+        ram = h.ram_is;
+        devices = map-set (λ (x : DeviceSeen). x.state) ds dev new;
+        bad = ap bad_on after ∙ map-set (map is_bad) disks dev new.sectors ∙ ap (set (bad_on disks) dev) h.content_is.bad ∙ sym (map-set (map is_bad) disks dev (blk.sectors_set d.sectors s.sets)) ∙ sym (ap bad_on is_set);
+        unwritten = λ bad. after ∙ sectors new.sectors (h.content_is.unwritten (bad_sets dev s.sets bad));
+        changed = λ honest. rw (map-set (λ (x : DeviceSeen). x.state) ds dev new, after, sectors new.sectors (h.content_is.is (is_honest honest)), h.ram_is) refl;
+        shape = same_worked taking m new_m log new_log ds dev pick d new reply at h size count;
+        sound = (held_worked taking shapes m new_m log new_log ds dev pick d new reply held at h size bytes whole count).sound;
+        later = later;
+        marks = failed_marks ds dev d new (is_failure reply) at marks;
+        unsteady = λ failed. rw (found_marks ds dev d at) (unsteady failed);
+      };
       logged = rw (touched_on dev s.sets) h.log_is;
-      devices = map-set (λ (x : DeviceSeen). x.state) ds dev new;
-      shape = same_worked taking m new_m log new_log ds dev pick d new reply at h size count;
-      sound = (held_worked taking shapes m new_m log new_log ds dev pick d new reply held at h size bytes whole count).sound;
-      later = later;
-      marks = failed_marks ds dev d new (is_failure reply) at marks;
-      unsteady = λ failed. rw (found_marks ds dev d at) (unsteady failed);
     }

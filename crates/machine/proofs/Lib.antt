@@ -21,3 +21,5 @@ pub mod Reading
 pub mod Numbering
 pub mod Outstanding
 pub mod Fresh
+pub mod Quiet
+pub mod Honest

@@ -7,7 +7,7 @@ use Rattle.guestmem.specs.Item.{Item, after_all}
 use Rattle.guestmem.specs.Writes.{touched}
 use Rattle.blk.specs.Advance.{advance_step, IsAfterAdvancing}
 use Rattle.blk.specs.Move.{is_disk_failed}
-use Rattle.blk.specs.Sectors.{Sector}
+use Rattle.blk.specs.Sectors.{AreWhole, Sector}
 use Rattle.blk.specs.Sound.{AreSound}
 use Rattle.blk.specs.Take.{take_step}
 use Rattle.blk.specs.declared.advancing.Advanced.{Advanced}
@@ -48,6 +48,7 @@ use Rattle.machine.specs.declared.reply.Reply.TheVariants as replies
 use Rattle.machine.specs.declared.served.Served.{Served}
 use Rattle.machine.specs.declared.shape.Shape.{Shape}
 use Rattle.machine.specs.declared.shape.Shape.TheVariants as shapes
+use Rattle.blk.proofs.Given.{given_itself, none_set}
 use Rattle.machine.proofs.Advancing.{advanced_is}
 use Rattle.machine.proofs.Looking.{looked_is, some_looked}
 use Rattle.machine.proofs.Rings.{IsLookedRing, looked_ring, packed_same, positions_long, ready_ring}
@@ -159,16 +160,22 @@ pub made_advanced : (len : ℕ) (shape : Shape) (r : Registers) (held : List Pos
 made_advanced len shape r held own pick qs features sound is some all feature =
     advanced_ring len (held_device shape r held own) pick _ sound (some_advanced len shape r held own pick qs features sound is some all feature)
 
+-- A device without a disk has no sectors.
+pub none_whole : AreWhole []
+none_whole k d below = absurd (omega (arith, below))
+
 -- A step that looks at no queue and advances no request.
-pub idle_step : {L : Type 0} (after : L → Item → L) (number : ℕ) (honest : Bool) (ram : List ℕ) (content : List Sector) (log : L) (d : DeviceState) (pick : ℕ) → looked_at d pick ≡ None → advanced_at d pick ≡ None → IsDeviceStep after number honest ram content log d pick Idle ram content log d
+pub idle_step : {L : Type 0} (after : L → Item → L) (number : ℕ) (honest : Bool) (ram : List ℕ) (content : List Sector) (log : L) (d : DeviceState) (pick : ℕ) → AreWhole content → looked_at d pick ≡ None → advanced_at d pick ≡ None → IsDeviceStep after number honest ram content log d pick Idle ram content log d
 unfolding device_step
-idle_step after number honest ram content log d pick none no_request = record {
+idle_step after number honest ram content log d pick whole none no_request = record {
+  given = content;
+  is_given = given_itself honest content whole;
   seen = next.Empty;
   may_look = rw none tt;
   reply_is = rw (none, no_request) refl;
   device_is = rw (none, no_request) refl;
-  ram_is = λ h. rw (none, no_request) refl;
-  content_is = λ h. rw (none, no_request) refl;
+  ram_is = rw (none, no_request) refl;
+  content_is = rw (none, no_request) (none_set honest content content refl);
   log_is = rw (none, no_request) refl;
 }
 
@@ -227,18 +234,20 @@ no_sets d ram pick q fine seen = refl
 no_sets d ram pick q disk_failed seen = refl
 no_sets d ram pick q no_memory seen = refl
 
-pub looked_device : {L : Type 0} (after : L → Item → L) (number : ℕ) (honest : Bool) (ram : List ℕ) (content : List Sector) (log : L) (d : DeviceState) (pick : ℕ) (q : RingState) (reply : Reply) (new_ram : List ℕ) (new_log : L) (new : DeviceState) → looked_at d pick ≡ Some q
+pub looked_device : {L : Type 0} (after : L → Item → L) (number : ℕ) (honest : Bool) (ram : List ℕ) (content : List Sector) (log : L) (d : DeviceState) (pick : ℕ) (q : RingState) (reply : Reply) (new_ram : List ℕ) (new_log : L) (new : DeviceState) → AreWhole content → looked_at d pick ≡ Some q
     → IsLookedStep after ram log d pick q reply new_ram new_log new → IsDeviceStep after number honest ram content log d pick reply new_ram content new_log new
 unfolding device_step
-looked_device after number honest ram content log d pick q reply new_ram new_log new some h =
+looked_device after number honest ram content log d pick q reply new_ram new_log new whole some h =
     let none = no_sets d ram pick q (outcome_of reply) h.seen in
     record {
+      given = content;
+      is_given = given_itself honest content whole;
       seen = h.seen;
       may_look = rw some h.may_look;
       reply_is = rw some h.reply_is;
       device_is = rw some h.device_is;
-      ram_is = λ x. rw some h.ram_is;
-      content_is = λ x. rw (some, none) refl;
+      ram_is = rw some h.ram_is;
+      content_is = rw (some, none) (none_set honest content content refl);
       log_is = rw (some, none) (h.log_is ∙ ap (after_all after log) (sym (append-nil (touched (looked_step d ram pick q (outcome_of reply) h.seen).writes))));
     }
 
@@ -285,20 +294,21 @@ failure_by advanced.DiskFailed = refl
 failure_by (advanced.Completed len due) = refl
 
 pub advanced_step : {L : Type 0} (after : L → Item → L) (number : ℕ) (honest : Bool) (ram : List ℕ) (content : List Sector) (log : L) (shape : Shape) (r : Registers) (held : List Positions) (own : Own) (pick : ℕ) (q : RingState) (a : Advanced) (new_ram : List ℕ) (new_ring : RingState) (new_content : List Sector) (new_own : Own) (new_log : L) (new_r : Registers)
-    → 0 < length r.queues → a ≡ (advance_step (block_of shape) ram q content (requests_of own) (pick - 1) (not (is_disk_failed a))).answer
-    → IsAfterAdvancing after honest number ram content log (advance_step (block_of shape) ram q content (requests_of own) (pick - 1) (not (is_disk_failed a))) new_ram new_ring new_content (requests_of new_own) new_log
+    → 0 < length r.queues → IsAfterAdvancing after honest number ram content log (λ given. advance_step (block_of shape) ram q given (requests_of own) (pick - 1) (not (is_disk_failed a))) a new_ram new_ring new_content (requests_of new_own) new_log
     → new_own ≡ with_requests own (requests_of new_own) → new_r ≡ cond (is_advance_due a) (with_common r (used_raised r.common)) r → length new_r.queues ≡ length r.queues
     → IsAdvancedStep after number honest ram content log (held_device shape r held own) pick q (reply_to_advance a) new_ram new_content new_log (held_device shape new_r (set held 0 (record { taking = new_ring.taking; used = new_ring.used })) new_own)
-advanced_step after number honest ram content log shape r held own pick q a new_ram new_ring new_content new_own new_log new_r there answer h own_is registers count =
+advanced_step after number honest ram content log shape r held own pick q a new_ram new_ring new_content new_own new_log new_r there h own_is registers count =
     let new : Positions = record { taking = new_ring.taking; used = new_ring.used } in
-    let s = advance_step (block_of shape) ram q content (requests_of own) (pick - 1) (not (is_disk_failed a)) in
+    let s = advance_step (block_of shape) ram q h.given (requests_of own) (pick - 1) (not (is_disk_failed a)) in
     let place : take (length new_r.queues) (set held 0 new) ≡ set (take (length r.queues) held) 0 new = ap (λ n. take n (set held 0 new)) count ∙ take-set-lt (length r.queues) held 0 new there in
     let requests : with_requests own (requests_of new_own) ≡ with_requests own s.requests = ap (with_requests own) h.requests_are in
     record {
-      reply_is = rw (does_by a) (ap reply_to_advance answer);
-      device_is = rw (does_by a, place, registers, h.ring_is, own_is, requests, ← answer) refl;
-      ram_is = λ x. rw (does_by a) (h.ram_is x);
-      content_is = λ x. rw (does_by a) (h.content_is x);
+      given = h.given;
+      is_given = h.is_given;
+      reply_is = rw (does_by a) (ap reply_to_advance h.answer_is);
+      device_is = rw (does_by a, place, registers, h.ring_is, own_is, requests, ← h.answer_is) refl;
+      ram_is = rw (does_by a) h.ram_is;
+      content_is = rw (does_by a) h.content_is;
       log_is = rw (does_by a) h.log_is;
     }
 
@@ -306,11 +316,13 @@ pub advanced_device : {L : Type 0} (after : L → Item → L) (number : ℕ) (ho
     → IsAdvancedStep after number honest ram content log d pick q reply new_ram new_content new_log new → IsDeviceStep after number honest ram content log d pick reply new_ram new_content new_log new
 unfolding device_step
 advanced_device after number honest ram content log d pick q reply new_ram new_content new_log new none some h = record {
+  given = h.given;
+  is_given = h.is_given;
   seen = next.Empty;
   may_look = rw none tt;
   reply_is = rw (none, some) h.reply_is;
   device_is = rw (none, some) h.device_is;
-  ram_is = λ x. rw (none, some) (h.ram_is x);
-  content_is = λ x. rw (none, some) (h.content_is x);
+  ram_is = rw (none, some) h.ram_is;
+  content_is = rw (none, some) h.content_is;
   log_is = rw (none, some) h.log_is;
 }

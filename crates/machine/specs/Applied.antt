@@ -1,15 +1,15 @@
 -- What applying an event does to a machine that is held.
-use Rattle.std.specs.Prelude.{◌≡◌, ℕ, List, [], ◌∷◌, IsTrue, Bool, true, false, Option, Some, None, Result, IfOk, OnOk, OnErr, if◌then◌else◌}
+use Rattle.std.specs.Prelude.{◌≡◌, ℕ, List, [], ◌∷◌, map, slice_set, IsTrue, Bool, true, false, Option, Some, None, Result, IfOk, OnOk, OnErr, if◌then◌else◌}
 use Rattle.guestmem.specs.Item.{Item, after_all}
 use Rattle.guestmem.specs.Later.{IsLater}
-use Rattle.blk.specs.Sectors.{Sector}
-use Rattle.machine.specs.Effect.{Effect, applied, items_of}
+use Rattle.blk.specs.Sectors.{IsGiven, Sector, is_bad}
+use Rattle.machine.specs.Effect.{Effect, SectorSet, applied, items_of}
 use Rattle.machine.specs.EffectLaws.{HasItem, IsSameShape, sector_on, sectors_on}
 use Rattle.machine.specs.Outcome.{is_failure, outcome_of}
 use Rattle.machine.specs.Seen.{Seen, Marks, state_of, all_marks, marks_at, failed_at}
 use Rattle.machine.specs.Sound.{IsSound}
 use Rattle.machine.specs.State.{MachineState}
-use Rattle.machine.specs.Step.{HasEffect}
+use Rattle.machine.specs.Step.{HasEffect, disk_of}
 use Rattle.machine.specs.declared.event.Event.{Event}
 use Rattle.machine.specs.declared.event.Event.TheVariants.{Step}
 use Rattle.machine.specs.declared.reply.Reply.{Reply}
@@ -33,32 +33,49 @@ abbrev pub FailsOnlyUnsteady : List Marks → Event → Reply → Type 0
 FailsOnlyUnsteady marks (Step dev pick) reply = is_failure reply ≡ true → (marks_at marks dev).steady ≡ false
 FailsOnlyUnsteady marks e reply = Unit {0}
 
--- An event was applied: the reply and the effect are those of a step with the outcome that the reply tells of, and the
--- devices are as the effect says. So are RAM and the sectors where the disk that it calls is honest. Whatever its disk does,
--- the machine keeps its shape and is sound, its RAM is one that is later, and the disks' marks tell of each failure.
+-- The sectors of the disk that an event calls, as the disk gave them while it was applied. Other events call none.
+abbrev pub IsGivenFor : List Marks → MachineState → Event → List Sector → Type 0
+IsGivenFor marks m (Step dev pick) given = IsGiven (marks_at marks dev).honest (disk_of m dev) given
+IsGivenFor marks m e given = given ≡ []
+
+-- The machine with that disk as it gave its sectors.
+abbrev pub as_given : MachineState → Event → List Sector → MachineState
+as_given m (Step dev pick) given = record m { disks = slice_set m.disks dev given }
+as_given m e given = m
+
+-- Which sectors of the disks are bad.
+abbrev pub bad_on : List (List Sector) → List (List Bool)
+bad_on disks = map (map is_bad) disks
+
+-- Sectors are set only as bad ones.
+abbrev pub AreMadeBad : List SectorSet → Type 0
+AreMadeBad [] = Unit {0}
+AreMadeBad (s ∷ ss) = (is_bad s.content ≡ true) × AreMadeBad ss
+
+-- An event was applied: the reply and the effect are those of a step with the outcome that the reply tells of, of the machine
+-- with the sectors as the disk gave them. RAM, the devices and which sectors are bad are as the effect says, whatever the disk
+-- does; so is what the sectors hold, where none was written, or where the disk is honest. The machine keeps its shape and is
+-- sound, its RAM is one that is later, and the disks' marks tell of each failure.
 pub record IsApplied (old : Seen) (e : Event) (reply : Reply) (new : Seen) : Type 0 where
+  pub given : List Sector
+  pub is_given : IsGivenFor (all_marks old) (state_of old) e given
   pub effect : Effect
-  pub has : HasEffect (state_of old) e (outcome_of reply) reply effect
-  pub changed : IsHonestFor (all_marks old) e → state_of new ≡ applied (state_of old) effect
+  pub has : HasEffect (as_given (state_of old) e given) e (outcome_of reply) reply effect
+  pub ram : (state_of new).ram ≡ (applied (state_of old) effect).ram
   pub devices : (state_of new).devices ≡ (applied (state_of old) effect).devices
+  pub bad : bad_on (state_of new).disks ≡ bad_on (applied (state_of old) effect).disks
+  pub unwritten : AreMadeBad effect.sectors → (state_of new).disks ≡ (applied (state_of old) effect).disks
+  pub changed : IsHonestFor (all_marks old) e → state_of new ≡ applied (state_of old) effect
   pub shape : IsSameShape (state_of old) (state_of new)
   pub sound : IsSound (state_of new)
   pub later : IsLater old.memory new.memory
   pub marks : all_marks new ≡ marks_after (all_marks old) e reply
   pub unsteady : FailsOnlyUnsteady (all_marks old) e reply
 
--- The same, and a log after it, which took in exactly the items that the effect writes into, whatever the disk does.
+-- The same, and a log after it, which took in exactly the items that the effect writes into.
 pub record IsAppliedLogged {L : Type 0} (taking : L → Item → L) (old : Seen) (log : L) (e : Event) (reply : Reply) (new : Seen) (new_log : L) : Type 0 where
-  pub effect : Effect
-  pub has : HasEffect (state_of old) e (outcome_of reply) reply effect
-  pub changed : IsHonestFor (all_marks old) e → state_of new ≡ applied (state_of old) effect
-  pub logged : new_log ≡ after_all taking log (items_of effect)
-  pub devices : (state_of new).devices ≡ (applied (state_of old) effect).devices
-  pub shape : IsSameShape (state_of old) (state_of new)
-  pub sound : IsSound (state_of new)
-  pub later : IsLater old.memory new.memory
-  pub marks : all_marks new ≡ marks_after (all_marks old) e reply
-  pub unsteady : FailsOnlyUnsteady (all_marks old) e reply
+  pub is_applied : IsApplied old e reply new
+  pub logged : new_log ≡ after_all taking log (items_of is_applied.effect)
 
 -- A sector that is there and not bad.
 abbrev pub IsGood : Option Sector → Type 0

@@ -1,9 +1,9 @@
 -- Steps of devices that were made.
-use Rattle.std.specs.Prelude.{◌≡◌, ◌++◌, ℕ, List, Bool, IsTrue}
+use Rattle.std.specs.Prelude.{◌≡◌, ◌++◌, ℕ, List, Bool}
 use Rattle.guestmem.specs.Item.{Item, after_all}
 use Rattle.guestmem.specs.Writes.{set_all, touched}
-use Rattle.blk.specs.Move.{sectors_set, sectors_touched}
-use Rattle.blk.specs.Sectors.{Sector}
+use Rattle.blk.specs.Move.{AreSet, sectors_touched}
+use Rattle.blk.specs.Sectors.{IsGiven, Sector}
 use Rattle.chains.specs.Ring.{Answers}
 use Rattle.chains.specs.State.{RingState}
 use Rattle.chains.specs.declared.next.Next.{Next}
@@ -35,22 +35,25 @@ pub record IsLookedStep {L : Type 0} (after : L → Item → L) (ram : List ℕ)
   pub ram_is : new_ram ≡ set_all ram (looked_step d ram pick q (outcome_of reply) seen).writes
   pub log_is : new_log ≡ after_all after log (touched (looked_step d ram pick q (outcome_of reply) seen).writes)
 
--- A step that advances a request was made. RAM and the sectors are what they are to be where the disk is
--- honest.
+-- A step that advances a request was made, with the sectors as the disk gave them.
 pub record IsAdvancedStep {L : Type 0} (after : L → Item → L) (number : ℕ) (honest : Bool) (ram : List ℕ) (content : List Sector) (log : L) (d : DeviceState) (pick : ℕ) (q : RingState) (reply : Reply) (new_ram : List ℕ) (new_content : List Sector) (new_log : L) (new : DeviceState) : Type 0 where
-  pub reply_is : reply ≡ (advance_on d ram content pick q (outcome_of reply)).reply
-  pub device_is : new ≡ (advance_on d ram content pick q (outcome_of reply)).device
-  pub ram_is : IsTrue honest → new_ram ≡ set_all ram (advance_on d ram content pick q (outcome_of reply)).writes
-  pub content_is : IsTrue honest → new_content ≡ sectors_set content (advance_on d ram content pick q (outcome_of reply)).sets
-  pub log_is : new_log ≡ after_all after log (touched (advance_on d ram content pick q (outcome_of reply)).writes ++ sectors_touched number (advance_on d ram content pick q (outcome_of reply)).sets)
+  pub given : List Sector
+  pub is_given : IsGiven honest content given
+  pub reply_is : reply ≡ (advance_on d ram given pick q (outcome_of reply)).reply
+  pub device_is : new ≡ (advance_on d ram given pick q (outcome_of reply)).device
+  pub ram_is : new_ram ≡ set_all ram (advance_on d ram given pick q (outcome_of reply)).writes
+  pub content_is : AreSet honest content (advance_on d ram given pick q (outcome_of reply)).sets new_content
+  pub log_is : new_log ≡ after_all after log (touched (advance_on d ram given pick q (outcome_of reply)).writes ++ sectors_touched number (advance_on d ram given pick q (outcome_of reply)).sets)
 
--- A step of the device of a number that was made: its reply, and what is after it. The outcome is read off the reply. RAM and
--- the sectors are what they are to be where the disk is honest.
+-- A step of the device of a number that was made, with the sectors as the disk gave them: its reply, and what is after it. The
+-- outcome is read off the reply.
 pub record IsDeviceStep {L : Type 0} (after : L → Item → L) (number : ℕ) (honest : Bool) (ram : List ℕ) (content : List Sector) (log : L) (d : DeviceState) (pick : ℕ) (reply : Reply) (new_ram : List ℕ) (new_content : List Sector) (new_log : L) (new : DeviceState) : Type 0 where
+  pub given : List Sector
+  pub is_given : IsGiven honest content given
   pub seen : Next
   pub may_look : MayLook (message_form d.own pick) (looked_at d pick) ram (outcome_of reply) seen
-  pub reply_is : reply ≡ (device_step d ram content pick (outcome_of reply) seen).reply
-  pub device_is : new ≡ (device_step d ram content pick (outcome_of reply) seen).device
-  pub ram_is : IsTrue honest → new_ram ≡ set_all ram (device_step d ram content pick (outcome_of reply) seen).writes
-  pub content_is : IsTrue honest → new_content ≡ sectors_set content (device_step d ram content pick (outcome_of reply) seen).sets
-  pub log_is : new_log ≡ after_all after log (touched (device_step d ram content pick (outcome_of reply) seen).writes ++ sectors_touched number (device_step d ram content pick (outcome_of reply) seen).sets)
+  pub reply_is : reply ≡ (device_step d ram given pick (outcome_of reply) seen).reply
+  pub device_is : new ≡ (device_step d ram given pick (outcome_of reply) seen).device
+  pub ram_is : new_ram ≡ set_all ram (device_step d ram given pick (outcome_of reply) seen).writes
+  pub content_is : AreSet honest content (device_step d ram given pick (outcome_of reply) seen).sets new_content
+  pub log_is : new_log ≡ after_all after log (touched (device_step d ram given pick (outcome_of reply) seen).writes ++ sectors_touched number (device_step d ram given pick (outcome_of reply) seen).sets)

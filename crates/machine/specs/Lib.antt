@@ -1,5 +1,6 @@
 pub mod AnyRing
 pub mod Applied
+pub mod AppliedLaws
 pub mod DeviceStep
 pub mod DeviceWork
 pub mod Direct

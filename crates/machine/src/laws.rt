@@ -1,5 +1,6 @@
 //! Laws over the definitions alone. These functions do nothing: their contracts are the laws.
 
+ghost use Rattle.machine.specs.AppliedLaws.{HonestDisksGiveTheirs};
 ghost use Rattle.machine.specs.EffectLaws.{UntouchedStays, TouchedExists, ShapeStays};
 ghost use Rattle.machine.specs.StepLaws.{EffectsAgree, StepsAgree, RunsAgree, StepStaysWithin, StepKeepsShape, StepStaysSound, RefusalsChangeNothing, MalformedIsContained, MalformedAsksForReset};
 
@@ -61,4 +62,9 @@ pub fn malformed_is_contained()
 /// A device asks for a reset exactly where it looks at a queue that is malformed and memory was not refused.
 pub fn malformed_asks_for_reset()
     ensures { MalformedAsksForReset }
+{}
+
+/// An honest disk gives what it holds: an event that calls it has the effect of a step of the machine as it was.
+pub fn honest_disks_give_theirs()
+    ensures { HonestDisksGiveTheirs }
 {}

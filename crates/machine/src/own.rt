@@ -202,8 +202,7 @@ impl Own {
         requires sound { AreSound (length ram.old.bytes) (R.state ring.old) (block_of shape) (requests_of self.old) }
         requires may { MayPages L.may log.old (length ram.old.bytes) }
         requires may_sectors { MaySectors L.may log.old device (length sectors.old.content) }
-        ensures answer { result ≡ (advance_step (block_of shape) ram.old.bytes (R.state ring.old) sectors.old.content (requests_of self.old) k (not (is_disk_failed result))).answer }
-        ensures changes { IsAfterAdvancing L.after sectors.old.honest device ram.old.bytes sectors.old.content log.old (advance_step (block_of shape) ram.old.bytes (R.state ring.old) sectors.old.content (requests_of self.old) k (not (is_disk_failed result))) ram.new.bytes (R.state ring.new) sectors.new.content (requests_of self.new) log.new }
+        ensures changes { IsAfterAdvancing L.after sectors.old.honest device ram.old.bytes sectors.old.content log.old (λ given. advance_step (block_of shape) ram.old.bytes (R.state ring.old) given (requests_of self.old) k (not (is_disk_failed result))) result ram.new.bytes (R.state ring.new) sectors.new.content (requests_of self.new) log.new }
         ensures own { self.new ≡ with_requests self.old (requests_of self.new) }
         ensures kept { IsKept sectors.old (is_disk_failed result) sectors.new }
         ensures whole { AreWhole sectors.new.content }

@@ -205,6 +205,7 @@ impl DeviceState {
         ensures size { length ram.new.bytes ≡ length ram.old.bytes }
         ensures later { IsLater ram.old ram.new }
     {
+        sectors.recall();
         if let Some(ring) = self.looked_ring(alloc, pick) {
             return self.look(alloc, pick, ring, ram, log);
         }

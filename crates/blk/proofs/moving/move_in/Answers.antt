@@ -1,22 +1,41 @@
-use Rattle.std.proofs.Common.{◌*◌, ◌≡◌, length, take, drop, refl, sym, ◌∙◌}
-use Rattle.chains.specs.Places.{places}
-use Rattle.blk.specs.Sectors.{sector_in, bytes_of}
-use Rattle.blk.specs.Request.{next_sector}
-use Rattle.blk.proofs.Units.{told_same, whole_length}
+use Rattle.std.proofs.Common.{◌≡◌, length, refl}
+use Rattle.blk.specs.Disk.{IsSector}
+use Rattle.blk.proofs.Given.{given_itself, none_set, read_in}
 use Rattle.blk.proofs.moving.move_in.Goals as goal
+
+pub returns-in-Bad-clause-moved : goal.returns-in-Bad-clause-moved
+returns-in-Bad-clause-moved g c =
+    let content = c.args.sectors.now.content in
+    let bad = rw c.next_sector-n.ensures at c.in-Bad.ensures.fetched in
+    record {
+      given = content;
+      is_given = given_itself c.args.sectors.now.honest content c.requires.whole;
+      answer_is = rw bad refl;
+      request_is = rw bad refl;
+      ram_is = rw bad refl;
+      content_is = rw bad (none_set c.args.sectors.now.honest content c.read.new.self.content c.read.ensures.same);
+      log_is = rw bad refl;
+    }
+
+pub returns-in-Failed-clause-moved : goal.returns-in-Failed-clause-moved
+returns-in-Failed-clause-moved g c =
+    let content = c.args.sectors.now.content in
+    let good = rw c.next_sector-n.ensures at c.in-Failed.ensures.fetched in
+    record {
+      given = content;
+      is_given = given_itself c.args.sectors.now.honest content c.requires.whole;
+      answer_is = rw good refl;
+      request_is = rw good refl;
+      ram_is = rw good refl;
+      content_is = rw good (none_set c.args.sectors.now.honest content c.read.new.self.content c.read.ensures.same);
+      log_is = rw good refl;
+    }
 
 pub returns-in-Read-clause-moved : goal.returns-in-Read-clause-moved
 returns-in-Read-clause-moved g c =
     let r = c.args.request.now in
-    let s = sector_in c.args.sectors.now.content (next_sector r) in
     let got = rw c.next_sector-n.ensures at c.in-Read.ensures.fetched in
-    let long : length (bytes_of s) ≡ 512 = whole_length s got.0 (c.requires.whole (next_sector r) _ c.requires.sector) in
     let full : length c.read.new.buf ≡ 512 = c.read.array_long in
-    let at = take 512 (drop (512 * r.done) (places r.writable)) in
-    rw got.0 (record {
-      answer_is = refl;
-      request_is = refl;
-      ram_is = λ h. rw (← got.1 h) (rw (c.as_slice.ensures, full) at c.copy_in.ensures.bytes);
-      content_is = λ h. c.read.ensures.same;
-      log_is = told_same g.L.TouchLog.after c.args.log.now c.copy_in.new.log at c.read.new.buf (bytes_of s) (full ∙ sym long) (rw (c.as_slice.ensures, full) at c.copy_in.ensures.log);
-    })
+    let sector : IsSector c.read.new.buf = record { size = full; bytes = c.recall_bytes.ensures } in
+    read_in g.L.TouchLog.after c.args.sectors.now.honest c.args.device c.args.ram.now.bytes c.args.sectors.now.content c.args.log.now r c.read.new.buf c.copy_in.new.ram.bytes c.read.new.self.content c.copy_in.new.log c.requires.sector c.requires.whole sector got.0 got.1
+    (rw (c.as_slice.ensures, full) at c.copy_in.ensures.bytes) c.read.ensures.same (rw (c.as_slice.ensures, full) at c.copy_in.ensures.log)

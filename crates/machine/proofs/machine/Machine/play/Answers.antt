@@ -3,6 +3,7 @@ use Rattle.std.proofs.lemmas.List.{length-take, take_more}
 use Rattle.guestmem.specs.LaterLaws.{later_trans}
 use Rattle.machine.specs.Seen.{all_marks, state_of}
 use Rattle.machine.proofs.Failing.{honest_for, honest_stays, marks_more, unsteady_more}
+use Rattle.machine.proofs.Honest.{honest_step}
 use Rattle.machine.proofs.Running.{run_more}
 use Rattle.machine.proofs.machine.Machine.play.Goals as goal
 
@@ -15,7 +16,6 @@ loop-event-preserved g c =
     let e = c.event-item.result in
     let r = c.apply-reply.result in
     let more : take (i + 1) events ≡ take i events ++ e ∷ [] = rw (take_more events i e c.loop-event-test.true, ← c.event-item.is) refl in
-    let applied = c.apply-reply.ensures in
     let even : length replies ≡ length (take i events) = omega (arith, c.loop-event.invariant.count, length-take i events, c.loop-event-test.true) in
     record {
       room = omega arith;
@@ -26,5 +26,5 @@ loop-event-preserved g c =
       sound = c.apply-reply.ensures.sound;
       so_far = λ honest. rw (more, c.push_reserved.ensures.items)
           (run_more (state_of c.args.self.now) (state_of c.loop-event.self) (state_of c.apply-reply.new.self) (take i events) replies e r (c.loop-event.invariant.so_far honest)
-          (record { effect = applied.effect; has = applied.has; changed = applied.changed (honest_for (all_marks c.loop-event.self) e (honest_stays old (all_marks c.loop-event.self) (take i events) replies c.loop-event.invariant.marks honest)) }));
+          (honest_step c.loop-event.self c.apply-reply.new.self e r c.apply-reply.ensures (honest_for (all_marks c.loop-event.self) e (honest_stays old (all_marks c.loop-event.self) (take i events) replies c.loop-event.invariant.marks honest))));
     }

@@ -1,10 +1,18 @@
-use Rattle.std.proofs.Common.{refl, sym, ◌∙◌}
+use Rattle.std.proofs.Common.{refl, sym, ◌∙◌, arith}
+use Rattle.guestmem.specs.LaterLaws.{later_same}
 use Rattle.machine.specs.Outcome.{fine}
 use Rattle.machine.specs.Seen.{state_of}
 use Rattle.machine.specs.declared.event.Event.TheVariants as events
 use Rattle.machine.specs.declared.reply.Reply.TheVariants as replies
-use Rattle.machine.proofs.At.{stored_step, plain_step, held_step, applied_logged}
+use Rattle.machine.proofs.At.{applied_logged, held_step, plain_step, stored_step, unstored_step}
 use Rattle.machine.proofs.machine.Machine.write_ram_logged.Goals as goal
+
+pub returns-in-Some : goal.returns-in-Some
+returns-in-Some g c =
+    let i = c.self.inside in
+    rw (← c.self.view_is)
+    (applied_logged g.L.TouchLog.after i.shapes.items (record { memory = i.ram; devices = i.devices.items }) _ c.args.log.now c.args.log.now (events.MemWrite c.args.addr c.args.bytes.now) (replies.Refused c.from.result) c.self.invariant (c.ranges.addr.fits, λ k. omega (arith, c.type_inv.bytes k))
+    (unstored_step g.L.TouchLog.after i.ram c.args.log.now i.devices.items c.args.addr c.args.bytes.now c.in-Some.error c.from.result (sym c.refusal.ensures ∙ c.in-Some.is) c.from.ensures) (later_same i.ram) refl tt)
 
 pub invariant_of-self : goal.invariant_of-self
 invariant_of-self g c =

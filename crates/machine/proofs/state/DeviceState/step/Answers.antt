@@ -5,7 +5,7 @@ use Rattle.machine.proofs.state.DeviceState.step.Goals as goal
 pub returns-in-Some-clause-step : goal.returns-in-Some-clause-step
 returns-in-Some-clause-step g c =
     looked_device g.L.TouchLog.after c.args.device c.args.sectors.now.honest c.args.ram.now.bytes c.args.sectors.now.content c.args.log.now c.args.self.now c.args.pick (ring_in c.in-Some.ring) c.look.result c.look.new.ram.bytes c.look.new.log c.look.new.self
-    c.in-Some.ensures.ring c.look.ensures.looked
+    c.recall.ensures.whole c.in-Some.ensures.ring c.look.ensures.looked
 
 pub returns-in-Some-advanced_ring-clause-step : goal.returns-in-Some-advanced_ring-clause-step
 returns-in-Some-advanced_ring-clause-step g c =
@@ -14,4 +14,4 @@ returns-in-Some-advanced_ring-clause-step g c =
 
 pub returns-in-None-clause-step : goal.returns-in-None-clause-step
 returns-in-None-clause-step g c =
-    idle_step g.L.TouchLog.after c.args.device c.args.sectors.now.honest c.args.ram.now.bytes c.args.sectors.now.content c.args.log.now c.args.self.now c.args.pick c.in_default.ensures.ring c.in-None.ensures.ring
+    idle_step g.L.TouchLog.after c.args.device c.args.sectors.now.honest c.args.ram.now.bytes c.args.sectors.now.content c.args.log.now c.args.self.now c.args.pick c.recall.ensures.whole c.in_default.ensures.ring c.in-None.ensures.ring

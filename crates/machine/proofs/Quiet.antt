@@ -1,0 +1,72 @@
+-- Events that write into no page and no sector.
+use Rattle.std.proofs.Common.{◌≡◌, ℕ, List, [], length, Option, Some, None, refl, ap, ◌∙◌}
+use Rattle.std.specs.Prelude.{Result, Ok, Err, slice_get}
+use Rattle.guestmem.specs.Item.{Item}
+use Rattle.guestmem.specs.Write.{refusal_of}
+use Rattle.guestmem.specs.declared.error.RamError.{RamError}
+use Rattle.chains.specs.declared.next.Next.{Next}
+use Rattle.console.specs.declared.size.ConsoleSize.{ConsoleSize}
+use Rattle.machine.specs.Applied.{IsApplied, IsAppliedLogged, as_given}
+use Rattle.machine.specs.Effect.{items_of}
+use Rattle.machine.specs.Outcome.{Outcome, disk_failed, fine, no_memory, outcome_of}
+use Rattle.machine.specs.Seen.{Seen, state_of}
+use Rattle.machine.specs.State.{DeviceState, MachineState}
+use Rattle.machine.specs.Step.{answer, input_of, put_by, put_in, read_ram, read_register, set_size, size_by, write_register}
+use Rattle.machine.specs.declared.event.Event.{Event}
+use Rattle.machine.specs.declared.event.Event.TheVariants.{RegRead, RegWrite, MemRead, MemWrite, Step, Input, Resize}
+use Rattle.machine.specs.declared.own.Own.{Own}
+use Rattle.machine.specs.declared.own.Own.TheVariants.{Network, Block, Console, Entropy}
+use Rattle.machine.specs.declared.reply.Refusal.{Refusal}
+use Rattle.machine.specs.declared.reply.Reply.{Reply}
+
+abbrev pub IsQuiet : Event → Type 0
+IsQuiet (MemWrite addr bytes) = ⊥
+IsQuiet (Step dev pick) = ⊥
+IsQuiet e = Unit {0}
+
+of_read : (d : Option DeviceState) (off width : ℕ) → items_of (read_register d off width).effect ≡ []
+of_read None off width = refl
+of_read (Some d) off width = refl
+
+of_written : (dev : ℕ) (d : Option DeviceState) (off width value : ℕ) → items_of (write_register dev d off width value).effect ≡ []
+of_written dev None off width value = refl
+of_written dev (Some d) off width value = refl
+
+of_ram : (ram : List ℕ) (addr len : ℕ) (e : Option RamError) (o : Outcome) → items_of (read_ram ram addr len e o).effect ≡ []
+of_ram ram addr len (Some error) o = refl
+of_ram ram addr len None no_memory = refl
+of_ram ram addr len None disk_failed = refl
+of_ram ram addr len None fine = refl
+
+of_put : (dev : ℕ) (d : DeviceState) (bytes : List ℕ) (r : Result ℕ Refusal) → items_of (put_by dev d bytes r).effect ≡ []
+of_put dev d bytes (Ok count) = refl
+of_put dev d bytes (Err refusal) = refl
+
+of_input : (dev : ℕ) (d : Option DeviceState) (bytes : List ℕ) → items_of (put_in dev d bytes).effect ≡ []
+of_input dev None bytes = refl
+of_input dev (Some d) bytes = of_put dev d bytes (input_of d.own bytes)
+
+of_own : (dev : ℕ) (d : DeviceState) (own : Own) (size : ConsoleSize) → items_of (size_by dev d own size).effect ≡ []
+of_own dev d (Console old held) size = refl
+of_own dev d (Network frames) size = refl
+of_own dev d (Block requests) size = refl
+of_own dev d (Entropy pool) size = refl
+
+of_size : (dev : ℕ) (d : Option DeviceState) (size : ConsoleSize) → items_of (set_size dev d size).effect ≡ []
+of_size dev None size = refl
+of_size dev (Some d) size = of_own dev d d.own size
+
+no_items : (m : MachineState) (e : Event) (o : Outcome) (seen : Next) → IsQuiet e → items_of (answer m e o seen).effect ≡ []
+no_items m (RegRead dev off width) o seen quiet = of_read (slice_get m.devices dev) off width
+no_items m (RegWrite dev off width value) o seen quiet = of_written dev (slice_get m.devices dev) off width value
+no_items m (MemRead addr len) o seen quiet = of_ram m.ram addr len (refusal_of (length m.ram) addr len) o
+no_items m (MemWrite addr bytes) o seen quiet = absurd quiet
+no_items m (Step dev pick) o seen quiet = absurd quiet
+no_items m (Input dev bytes) o seen quiet = of_input dev (slice_get m.devices dev) bytes
+no_items m (Resize dev cols rows) o seen quiet = of_size dev (slice_get m.devices dev) (record { columns = cols; rows = rows })
+
+-- The log stays as it is.
+pub unlogged : {L : Type 0} (taking : L → Item → L) (old new : Seen) (log : L) (e : Event) (reply : Reply) → IsQuiet e → IsApplied old e reply new → IsAppliedLogged taking old log e reply new log
+unlogged taking old new log e reply quiet h =
+    let none : items_of h.effect ≡ [] = ap items_of h.has.effect_is ∙ no_items (as_given (state_of old) e h.given) e (outcome_of reply) h.has.seen quiet in
+    record { is_applied = h; logged = rw none refl }
