@@ -190,7 +190,7 @@ whole_stream ds held pages shapes i w sound honest =
         last = λ item has.
             let here : IsItemIn (layout_by pages shapes) item = rw layout at has in
             sym (ap (last_named item) h.split ∙ last_entries item 0 h.entries i.devices.items)
-            ∙ rw disks (some_shown (get_or i.named.items (number_of (layout_by pages shapes) item) false) (record_in i.ram.bytes (held_sectors shapes ds i.bad.items) item) (last_named item w.before) (h.taken.last honest item here) (w.complete.items item here));
+            ∙ rw disks (some_shown (get_or i.named (number_of (layout_by pages shapes) item) false) (record_in i.ram.bytes (held_sectors shapes ds i.bad.items) item) (last_named item w.before) (h.taken.last honest item here) (w.complete.items item here));
         sound = sound;
         whole = rw size (w.whole ∙ ap (λ (x : List ℕ). x ++ spelled_record (commit (sha256 x))) front);
       };
