@@ -29,7 +29,7 @@ use Rattle.receiver.specs.Good.{Follows, devices_in}
 use Rattle.receiver.specs.Faults.{IsComplete, IsBadDigest, IsTrailing, IsFault, IsFront}
 use Rattle.receiver.specs.Fed.{HasRead, IsEnded, device_records, held_sectors}
 use Rattle.receiver.specs.Heading.{WaitsHead}
-use Rattle.receiver.specs.Receiving.{IsKnown, IsReading, HasCome, GoesOn, NoFault}
+use Rattle.receiver.specs.Receiving.{IsKnown, IsReading, HasCome, GoesOn, IsWholeFor, NoFault}
 use Rattle.receiver.specs.declared.intake.Intake.{Intake}
 use Rattle.receiver.specs.declared.stage.Stage.{Stage}
 use Rattle.receiver.specs.declared.stage.Stage.TheVariants as stages
@@ -190,8 +190,17 @@ whole_stream ds held pages shapes i w sound honest =
         last = λ item has.
             let here : IsItemIn (layout_by pages shapes) item = rw layout at has in
             sym (ap (last_named item) h.split ∙ last_entries item 0 h.entries i.devices.items)
-            ∙ rw disks (some_shown (get_or i.named.items (number_of (layout_by pages shapes) item) false) (record_in i.ram.bytes (held_sectors shapes ds i.bad.items) item) (last_named item w.before) (h.taken.last honest item here) (w.complete.items item here));
+            ∙ rw disks (some_shown (get_or i.named (number_of (layout_by pages shapes) item) false) (record_in i.ram.bytes (held_sectors shapes ds i.bad.items) item) (last_named item w.before) (h.taken.last honest item here) (w.complete.items item here));
         sound = sound;
         whole = rw size (w.whole ∙ ap (λ (x : List ℕ). x ++ spelled_record (commit (sha256 x))) front);
       };
     }
+
+pub whole_for : (ds : List DiskState) (held : List ℕ) (pages : ℕ) (shapes : List Shape) (i : Intake) → IsEnded ds pages shapes i held → IsWholeFor (sizes_in ds) held
+whole_for ds held pages shapes i w = record {
+  pages = pages;
+  shapes = shapes;
+  before = w.before;
+  front = front_of held (spelled_record (commit (sha256 (header pages shapes ++ texts w.before)))) w.read (w.whole ∙ ap (λ (x : List ℕ). w.front ++ spelled_record (commit (sha256 x))) w.read.whole);
+  complete = w.complete;
+}

@@ -31,7 +31,7 @@ pub record IsThere (ds : List DiskState) (i : Intake) (dev n : ℕ) : Type 0 whe
   pub place : dev < length i.shapes.items
   pub count : (shape : Shape) → n < sector_count (get_or i.shapes.items dev shape)
   pub firsts : dev < length i.firsts.items
-  pub item : get_or i.firsts.items dev 0 + n < length i.named.items
+  pub item : get_or i.firsts.items dev 0 + n < length i.named
   pub marks : disks_before i.shapes.items dev < length i.bad.items
   pub mark : n < length (get_or i.bad.items (disks_before i.shapes.items dev) [])
   pub disk : disks_before i.shapes.items dev < length ds

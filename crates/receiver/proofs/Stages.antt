@@ -28,7 +28,7 @@ new_marks_fit : (sizes : List ℕ) → map length (map (λ n. replicate n false)
 new_marks_fit [] = refl
 new_marks_fit (n ∷ sizes) = rw (length-replicate n false, new_marks_fit sizes) refl
 
-pub new_read : (ds : List DiskState) (bytes rest : List ℕ) (pages : ℕ) (shapes : List Shape) (i : Intake) → Begins bytes pages shapes rest → sizes_in ds ≡ disk_sizes shapes → length i.ram.bytes ≡ 4096 * pages → i.named.items ≡ replicate (size_of (layout_by pages shapes)) false → i.rounds ≡ 0
+pub new_read : (ds : List DiskState) (bytes rest : List ℕ) (pages : ℕ) (shapes : List Shape) (i : Intake) → Begins bytes pages shapes rest → sizes_in ds ≡ disk_sizes shapes → length i.ram.bytes ≡ 4096 * pages → i.named ≡ replicate (size_of (layout_by pages shapes)) false → i.rounds ≡ 0
     → i.shapes.items ≡ shapes → i.devices.items ≡ [] → i.firsts.items ≡ firsts_of (layout_by pages shapes) → i.bad.items ≡ map (λ n. replicate n false) (sizes_in ds) → HasRead ds pages shapes [] i (header pages shapes)
 unfolding AreGood texts rounds device_records
 new_read ds bytes rest pages shapes i b fits size marks ends same none firsts bad = record {
@@ -44,7 +44,7 @@ new_read ds bytes rest pages shapes i b fits size marks ends same none firsts ba
   each = tt;
   numbered = tt;
   rounds_are = ends;
-  taken = new_taken (AreHonestDisks (all_marks_in ds)) i.ram.bytes (held_sectors shapes ds i.bad.items) i.named.items (layout_by pages shapes) size marks;
+  taken = new_taken (AreHonestDisks (all_marks_in ds)) i.ram.bytes (held_sectors shapes ds i.bad.items) i.named (layout_by pages shapes) size marks;
   devices_are = rw none refl;
   sound = rw none tt;
 }

@@ -84,7 +84,7 @@ record IsSame (i j : Intake) : Type 0 where
 
 more_entry : (ds ds2 : List DiskState) (front : List ℕ) (pages : ℕ) (shapes : List Shape) (before : List Record) (i j : Intake) (r : Record) → HasRead ds pages shapes before i front → devices_in before ≡ 0 → Follows pages shapes before r → IsEntry (layout_by pages shapes) r
     → (AreNumbered 1 before → AreNumbered 1 (before ++ r ∷ [])) → j.rounds ≡ rounds (before ++ r ∷ [])
-    → AreTaken (AreHonestDisks (all_marks_in ds2)) j.ram.bytes (held_sectors shapes ds2 j.bad.items) j.named.items (layout_by pages shapes) (before ++ r ∷ []) → sizes_in ds2 ≡ sizes_in ds → AreMarksOf ds2 j.bad.items → IsSame i j
+    → AreTaken (AreHonestDisks (all_marks_in ds2)) j.ram.bytes (held_sectors shapes ds2 j.bad.items) j.named (layout_by pages shapes) (before ++ r ∷ []) → sizes_in ds2 ≡ sizes_in ds → AreMarksOf ds2 j.bad.items → IsSame i j
     → HasRead ds2 pages shapes (before ++ r ∷ []) j (front ++ spelled_record r)
 more_entry ds ds2 front pages shapes before i j r h none follows entry numbers ends taken sizes marks same =
     let are = are_entries h none in
@@ -108,24 +108,24 @@ more_entry ds ds2 front pages shapes before i j r h none follows entry numbers e
     }
 
 pub more_page : (ds : List DiskState) (front : List ℕ) (pages : ℕ) (shapes : List Shape) (before : List Record) (i j : Intake) (n : ℕ) (b : List ℕ) → HasRead ds pages shapes before i front → devices_in before ≡ 0 → HasSpelling (page n b)
-    → 4096 * n + 4096 ≤ length i.ram.bytes → j.ram.bytes ≡ put_page i.ram.bytes n b → j.named.items ≡ set i.named.items n true → j.rounds ≡ i.rounds → j.shapes.items ≡ i.shapes.items → j.devices.items ≡ i.devices.items → j.firsts.items ≡ i.firsts.items → j.bad.items ≡ i.bad.items
+    → 4096 * n + 4096 ≤ length i.ram.bytes → j.ram.bytes ≡ put_page i.ram.bytes n b → j.named ≡ set i.named n true → j.rounds ≡ i.rounds → j.shapes.items ≡ i.shapes.items → j.devices.items ≡ i.devices.items → j.firsts.items ≡ i.firsts.items → j.bad.items ≡ i.bad.items
     → HasRead ds pages shapes (before ++ page n b ∷ []) j (front ++ spelled_record (page n b))
 more_page ds front pages shapes before i j n b h none spells le ram named ends same_shapes same_devices same_firsts same_bad =
     let low : n < pages = omega (arith, le, h.taken.ram_size) in
     let T = AreHonestDisks (all_marks_in ds) in
     more_entry ds ds front pages shapes before i j (page n b) h none (record { spells = spells; may = (low, none) }) (record { spells = spells; stands = low })
     (numbered_page 1 before n b) (ends ∙ h.rounds_are ∙ sym (rounds_page before n b))
-    (rw (ram, named, same_bad) (taken_page T i.ram.bytes b (held_sectors shapes ds i.bad.items) i.named.items (layout_by pages shapes) n before h.taken low le spells.1)) refl (rw same_bad h.marks_are) (record { shapes = same_shapes; firsts = same_firsts; devices = same_devices })
+    (rw (ram, named, same_bad) (taken_page T i.ram.bytes b (held_sectors shapes ds i.bad.items) i.named (layout_by pages shapes) n before h.taken low le spells.1)) refl (rw same_bad h.marks_are) (record { shapes = same_shapes; firsts = same_firsts; devices = same_devices })
 
 pub more_round : (ds : List DiskState) (front : List ℕ) (pages : ℕ) (shapes : List Shape) (before : List Record) (i j : Intake) (n : ℕ) → HasRead ds pages shapes before i front → devices_in before ≡ 0 → n < 2 ^ 32 → n ≡ i.rounds + 1
-    → j.ram.bytes ≡ i.ram.bytes → j.named.items ≡ i.named.items → j.rounds ≡ n → j.shapes.items ≡ i.shapes.items → j.devices.items ≡ i.devices.items → j.firsts.items ≡ i.firsts.items → j.bad.items ≡ i.bad.items
+    → j.ram.bytes ≡ i.ram.bytes → j.named ≡ i.named → j.rounds ≡ n → j.shapes.items ≡ i.shapes.items → j.devices.items ≡ i.devices.items → j.firsts.items ≡ i.firsts.items → j.bad.items ≡ i.bad.items
     → HasRead ds pages shapes (before ++ round_end n ∷ []) j (front ++ spelled_record (round_end n))
 more_round ds front pages shapes before i j n h none fits next ram named ends same_shapes same_devices same_firsts same_bad =
     let is : n ≡ rounds before + 1 = next ∙ ap (λ (x : ℕ). x + 1) h.rounds_are in
     let T = AreHonestDisks (all_marks_in ds) in
     more_entry ds ds front pages shapes before i j (round_end n) h none (record { spells = fits; may = (is, none) }) (record { spells = fits; stands = tt })
     (λ k. numbered_round 1 before n k (omega (arith, is))) (ends ∙ is ∙ sym (rounds_round before n))
-    (rw (ram, named, same_bad) (taken_round T i.ram.bytes (held_sectors shapes ds i.bad.items) i.named.items (layout_by pages shapes) n before h.taken)) refl (rw same_bad h.marks_are) (record { shapes = same_shapes; firsts = same_firsts; devices = same_devices })
+    (rw (ram, named, same_bad) (taken_round T i.ram.bytes (held_sectors shapes ds i.bad.items) i.named (layout_by pages shapes) n before h.taken)) refl (rw same_bad h.marks_are) (record { shapes = same_shapes; firsts = same_firsts; devices = same_devices })
 
 -- A sector, whose disk keeps what it is, and holds it from now on where the disks are trusted.
 numbered_sector : (k : ℕ) (es : List Record) (dev n : ℕ) (o : Sector) → AreNumbered k es → AreNumbered k (es ++ sector dev n o ∷ [])
@@ -140,7 +140,7 @@ pub more_sector : (ds : List DiskState) (d : DiskState) (front : List ℕ) (page
     → HasSpelling (sector dev n o) → IsItemIn (layout_by pages shapes) (items.sector dev n)
     → marks_in d ≡ marks_in (get_or ds (disks_before shapes dev) d) → length d.sectors ≡ length (get_or ds (disks_before shapes dev) d).sectors → length m ≡ length (get_or i.bad.items (disks_before shapes dev) [])
     → (IsTrue (get_or ds (disks_before shapes dev) d).honest → sectors_of d.sectors m ≡ set (sectors_of (get_or ds (disks_before shapes dev) d).sectors (get_or i.bad.items (disks_before shapes dev) [])) n o)
-    → j.bad.items ≡ set i.bad.items (disks_before shapes dev) m → j.named.items ≡ set i.named.items (number_of (layout_by pages shapes) (items.sector dev n)) true
+    → j.bad.items ≡ set i.bad.items (disks_before shapes dev) m → j.named ≡ set i.named (number_of (layout_by pages shapes) (items.sector dev n)) true
     → j.ram.bytes ≡ i.ram.bytes → j.rounds ≡ i.rounds → j.shapes.items ≡ i.shapes.items → j.devices.items ≡ i.devices.items → j.firsts.items ≡ i.firsts.items
     → HasRead (set ds (disks_before shapes dev) d) pages shapes (before ++ sector dev n o ∷ []) j (front ++ spelled_record (sector dev n o))
 more_sector ds d front pages shapes before i j dev n o m h none spells there marks long size content bad named ram ends same_shapes same_devices same_firsts =
@@ -159,7 +159,7 @@ more_sector ds d front pages shapes before i j dev n o m h none spells there mar
     let others : U → (x : Item) → IsItemIn l x → x ≢ items.sector dev n → record_in i.ram.bytes held2 x ≡ record_in i.ram.bytes held x = λ u x has other. ap (λ y. record_in i.ram.bytes y x) (change u).now ∙ record_there i.ram.bytes held dev n o x other in
     more_entry ds ds2 front pages shapes before i j (sector dev n o) h none (record { spells = spells; may = (there, none) }) (record { spells = spells; stands = there })
     (numbered_sector 1 before dev n o) (ends ∙ h.rounds_are ∙ sym (rounds_sector before dev n o))
-    (rw (ram, named, bad) (taken_item T U i.ram.bytes i.ram.bytes held held2 i.named.items l before (sector dev n o) (items.sector dev n) h.taken trust (names_sector dev n o) there refl is others))
+    (rw (ram, named, bad) (taken_item T U i.ram.bytes i.ram.bytes held held2 i.named l before (sector dev n o) (items.sector dev n) h.taken trust (names_sector dev n o) there refl is others))
     (sizes_kept ds k d long) (rw bad (marks_set ds i.bad.items k d m h.marks_are (size ∙ marks_length ds i.bad.items k d h.marks_are low ∙ sym long))) (record { shapes = same_shapes; firsts = same_firsts; devices = same_devices })
 
 -- A device.
@@ -199,7 +199,7 @@ next_shape (s ∷ shapes) (suc n) shape others e =
 
 pub more_device : (ds : List DiskState) (front : List ℕ) (pages : ℕ) (shapes others : List Shape) (shape : Shape) (before : List Record) (i j : Intake) (n : ℕ) (raw : List ℕ) (d : DeviceState) → HasRead ds pages shapes before i front
     → AreNamed (layout_by pages shapes) before → HasSpelling (device n raw) → n ≡ devices_in before → drop n shapes ≡ shape ∷ others → IsBodyOf shape (4096 * pages) raw d
-    → j.ram.bytes ≡ i.ram.bytes → j.named.items ≡ i.named.items → j.rounds ≡ i.rounds → j.shapes.items ≡ i.shapes.items → j.firsts.items ≡ i.firsts.items → j.bad.items ≡ i.bad.items → j.devices.items ≡ i.devices.items ++ d ∷ []
+    → j.ram.bytes ≡ i.ram.bytes → j.named ≡ i.named → j.rounds ≡ i.rounds → j.shapes.items ≡ i.shapes.items → j.firsts.items ≡ i.firsts.items → j.bad.items ≡ i.bad.items → j.devices.items ≡ i.devices.items ++ d ∷ []
     → HasRead ds pages shapes (before ++ device n raw ∷ []) j (front ++ spelled_record (device n raw))
 more_device ds front pages shapes others shape before i j n raw d h named spells next here is ram marks ends same_shapes same_firsts same_bad more =
     let count : n ≡ length i.devices.items = next ∙ devices_are h in
@@ -224,7 +224,7 @@ more_device ds front pages shapes others shape before i j n raw d h named spells
       each = h.each;
       numbered = h.numbered;
       rounds_are = ends ∙ h.rounds_are ∙ sym (rounds_device before n raw);
-      taken = rw (ram, marks, same_bad) (taken_device (AreHonestDisks (all_marks_in ds)) i.ram.bytes (held_sectors shapes ds i.bad.items) i.named.items (layout_by pages shapes) n raw before h.taken);
+      taken = rw (ram, marks, same_bad) (taken_device (AreHonestDisks (all_marks_in ds)) i.ram.bytes (held_sectors shapes ds i.bad.items) i.named (layout_by pages shapes) n raw before h.taken);
       devices_are = rw more (shown ∙ ap (λ (k : ℕ). take k shapes) (sym size));
       sound = rw more (sound-snoc (4096 * pages) i.devices.items d h.sound is.sound);
     }
@@ -245,19 +245,19 @@ tag_there a b tag h e f m =
     let devices = devices_are h in
     record { least = m.least; most = m.most; early = λ low. omega (arith, f, devices, m.early low); missing = λ four. omega (arith, e, f, count, devices, m.missing four) }
 
-pub named_all : {ds : List DiskState} {front : List ℕ} {pages : ℕ} {shapes : List Shape} {before : List Record} {i : Intake} → HasRead ds pages shapes before i front → All (λ (b : Bool). b ≡ true) i.named.items → AreNamed (layout_by pages shapes) before
+pub named_all : {ds : List DiskState} {front : List ℕ} {pages : ℕ} {shapes : List Shape} {before : List Record} {i : Intake} → HasRead ds pages shapes before i front → All (λ (b : Bool). b ≡ true) i.named → AreNamed (layout_by pages shapes) before
 named_all {pages = pages} {shapes = shapes} {i = i} h all item has =
     let l = layout_by pages shapes in
     let low = number_below l item has in
-    h.taken.marks item has ∙ All-get_or (λ (x : Bool). x ≡ true) i.named.items (number_of l item) false (omega (arith, low, h.taken.named_size)) all
+    h.taken.marks item has ∙ All-get_or (λ (x : Bool). x ≡ true) i.named (number_of l item) false (omega (arith, low, h.taken.named_size)) all
 
-pub all_named : {ds : List DiskState} {front : List ℕ} {pages : ℕ} {shapes : List Shape} {before : List Record} {i : Intake} → HasRead ds pages shapes before i front → AreNamed (layout_by pages shapes) before → All (λ (b : Bool). b ≡ true) i.named.items
+pub all_named : {ds : List DiskState} {front : List ℕ} {pages : ℕ} {shapes : List Shape} {before : List Record} {i : Intake} → HasRead ds pages shapes before i front → AreNamed (layout_by pages shapes) before → All (λ (b : Bool). b ≡ true) i.named
 all_named {pages = pages} {shapes = shapes} {i = i} h named =
     let l = layout_by pages shapes in
-    All-from_get_or (λ (b : Bool). b ≡ true) i.named.items false
+    All-from_get_or (λ (b : Bool). b ≡ true) i.named false
     (λ n lt.
     let low : n < size_of l = omega (arith, lt, h.taken.named_size) in
     let item = item_at l n in
     let has = item_there l n low in
-    let at : get_or i.named.items (number_of l item) false ≡ true = sym (h.taken.marks item has) ∙ named item has in
+    let at : get_or i.named (number_of l item) false ≡ true = sym (h.taken.marks item has) ∙ named item has in
     rw (number_back l n low) at at)

@@ -75,7 +75,7 @@ disk_refused F a b e h = rw h.0 (h.1, tt)
 -- One that succeeded.
 pub took_good : {T E : Type 0} (ds : List DiskState) (d : DiskState) (front : List ℕ) (pages : ℕ) (shapes : List Shape) (before : List Record) (i j : Intake) (dev n : ℕ) (b : List ℕ) (spot : Spot) (u : T) → HasRead ds pages shapes before i front → devices_in before ≡ 0
     → HasSpelling (sector dev n (Some b)) → IsSpotOf pages shapes dev n spot → Writes {E = E} (get_or ds spot.disk d) n b (Ok u) d
-    → j.bad.items ≡ set i.bad.items spot.disk (set (get_or i.bad.items spot.disk []) n false) → j.named.items ≡ set i.named.items spot.item true
+    → j.bad.items ≡ set i.bad.items spot.disk (set (get_or i.bad.items spot.disk []) n false) → j.named ≡ set i.named spot.item true
     → j.ram.bytes ≡ i.ram.bytes → j.rounds ≡ i.rounds → j.shapes.items ≡ i.shapes.items → j.devices.items ≡ i.devices.items → j.firsts.items ≡ i.firsts.items
     → AreKept ds (set ds spot.disk d) × HasRead (set ds spot.disk d) pages shapes (before ++ sector dev n (Some b) ∷ []) j (front ++ spelled_record (sector dev n (Some b)))
 took_good {E = E} ds d front pages shapes before i j dev n b spot u h none spells at wrote bad named ram ends same_shapes same_devices same_firsts =
@@ -93,7 +93,7 @@ took_good {E = E} ds d front pages shapes before i j dev n b spot u h none spell
 
 pub took_bad : (ds : List DiskState) (front : List ℕ) (pages : ℕ) (shapes : List Shape) (before : List Record) (i j : Intake) (dev n : ℕ) (spot : Spot) → HasRead ds pages shapes before i front → devices_in before ≡ 0
     → HasSpelling (sector dev n None) → IsSpotOf pages shapes dev n spot
-    → j.bad.items ≡ set i.bad.items spot.disk (set (get_or i.bad.items spot.disk []) n true) → j.named.items ≡ set i.named.items spot.item true
+    → j.bad.items ≡ set i.bad.items spot.disk (set (get_or i.bad.items spot.disk []) n true) → j.named ≡ set i.named spot.item true
     → j.ram.bytes ≡ i.ram.bytes → j.rounds ≡ i.rounds → j.shapes.items ≡ i.shapes.items → j.devices.items ≡ i.devices.items → j.firsts.items ≡ i.firsts.items
     → HasRead ds pages shapes (before ++ sector dev n None ∷ []) j (front ++ spelled_record (sector dev n None))
 took_bad ds front pages shapes before i j dev n spot h none spells at bad named ram ends same_shapes same_devices same_firsts =

@@ -47,7 +47,7 @@ pub record HasRead (disks : List DiskState) (pages : ℕ) (shapes : List Shape) 
   pub each : AllByRecursion (IsEntry (layout_by pages shapes)) entries
   pub numbered : AreNumbered 1 entries
   pub rounds_are : i.rounds ≡ rounds before
-  pub taken : AreTaken (AreHonestDisks (all_marks_in disks)) i.ram.bytes (held_sectors shapes disks i.bad.items) i.named.items (layout_by pages shapes) before
+  pub taken : AreTaken (AreHonestDisks (all_marks_in disks)) i.ram.bytes (held_sectors shapes disks i.bad.items) i.named (layout_by pages shapes) before
   pub devices_are : shapes_in i.devices.items ≡ take (length i.devices.items) shapes
   pub sound : AllByRecursion (IsSoundDevice (4096 * pages)) i.devices.items
 

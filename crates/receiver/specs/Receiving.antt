@@ -1,15 +1,16 @@
 -- What a receiver knows of the bytes that it was fed.
 use Rattle.std.specs.Prelude.{◌≡◌, ◌<◌, ◌≤◌, ℕ, List, ◌++◌, length, take, drop, Result, Ok, Err, Bool, true, false}
-use Rattle.wire.specs.Header.{Begins}
-use Rattle.wire.specs.Records.{Record, spelled_record}
-use Rattle.wire.specs.Stream.{IsStream, rounds}
+use Rattle.sha2.specs.Sha256.{sha256}
+use Rattle.wire.specs.Header.{Begins, header}
+use Rattle.wire.specs.Records.{Record, commit, spelled_record}
+use Rattle.wire.specs.Stream.{IsStream, rounds, texts}
 use Rattle.blk.specs.Disk.{DiskState}
 use Rattle.machine.specs.Seen.{Marks}
 use Rattle.machine.specs.State.{MachineState}
 use Rattle.machine.specs.declared.shape.Shape.{Shape}
 use Rattle.receiver.specs.Disks.{AreKept, AreRefused, IsUnsteady, sizes_in}
 use Rattle.receiver.specs.Good.{Follows}
-use Rattle.receiver.specs.Faults.{Fault, IsFront}
+use Rattle.receiver.specs.Faults.{Fault, IsComplete, IsFront}
 use Rattle.receiver.specs.Fed.{IsOpen, IsEnded, Tells}
 use Rattle.receiver.specs.Heading.{WaitsHead}
 use Rattle.receiver.specs.declared.intake.Intake.{Intake}
@@ -113,3 +114,12 @@ pub record HasRounds (sizes b : List ℕ) (n : ℕ) : Type 0 where
 pub record IsReceived (bytes : List ℕ) (m : MachineState) (n : ℕ) : Type 0 where
   pub stream : IsStream bytes m
   pub rounds_are : rounds stream.entries ≡ n
+
+-- A header for these disks, whole good records that name every item and have every device, the digest of all of them, and
+-- nothing more.
+pub record IsWholeFor (sizes b : List ℕ) : Type 0 where
+  pub pages : ℕ
+  pub shapes : List Shape
+  pub before : List Record
+  pub front : IsFront sizes b pages shapes before (spelled_record (commit (sha256 (header pages shapes ++ texts before))))
+  pub complete : IsComplete pages shapes before 5

@@ -25,7 +25,7 @@ HasSector sizes disk number = number < slice_index_or sizes disk 0
 pub record HasMarks (i : Intake) (number : ℕ) (spot : Spot) : Type 0 where
   pub disk : spot.disk < length i.bad.items
   pub sector : number < length (slice_index_or i.bad.items spot.disk [])
-  pub item : spot.item < length i.named.items
+  pub item : spot.item < length i.named
 
 -- The device has this sector, and it is there.
 pub record IsSpotOf (pages : ℕ) (shapes : List Shape) (dev number : ℕ) (spot : Spot) : Type 0 where

@@ -30,13 +30,13 @@ const BODY_MAX: usize = 131_072;
 /// What was taken of a stream: the devices that there are to be, the pages, the marks of the bad sectors of each disk, how
 /// many rounds ended, and the devices that came. The good sectors went to the disks.
 ///
-/// `named` has a mark for each item in the order of their numbers, and `firsts` the number of the first sector of each
-/// device.
+/// `named` has a mark for each item in the order of their numbers, and keeps a count of those that are named. `firsts` has the
+/// number of the first sector of each device.
 #[derive(Drop)]
 pub struct Intake {
     pub shapes: Vec<Shape>,
     pub ram: Ram,
-    pub named: Vec<bool>,
+    pub named: BitSet,
     pub firsts: Vec<u32>,
     pub bad: Vec<BitSet>,
     pub rounds: u32,
@@ -47,7 +47,7 @@ pub struct Intake {
 #[derive(Clone, Copy)]
 struct Spot {
     disk: usize,
-    item: usize,
+    item: u64,
 }
 
 /// Whether a record of this tag may stand behind so many devices of so many.
@@ -57,11 +57,11 @@ fn may_stand(count: usize, devices: usize, tag: u8) -> bool
     1 <= tag && tag <= 5 && (tag > 3 || devices == 0) && (tag != 4 || devices < count)
 }
 
-/// Whether each item is named.
-fn is_named(named: &[bool]) -> bool
+/// Whether each item is named. It compares two counts, which takes constant time.
+fn is_named(named: &BitSet) -> bool
     ensures { IsTrue result ↔ All (λ b. b ≡ true) named.now }
 {
-    named.iter().all(|b| *b)
+    named.count() == named.len()
 }
 
 /// Whether a record of this tag may stand here.
@@ -89,14 +89,14 @@ fn check_tag(intake: &Intake, tag: u8) -> Result<(), RecvError>
 /// Sets a page, as its record says.
 fn take_page(intake: &mut Intake, number: u32, bytes: &[u8])
     requires within { 4096 * number + 4096 ≤ length intake.old.ram.bytes }
-    requires marked { number < length intake.old.named.items }
+    requires marked { number < length intake.old.named }
     requires spells { HasSpelling (page number bytes.now) }
     ensures { (ds : List DiskState) (front : List ℕ) (pages : ℕ) (shapes : List shapes.Shape) (before : List records.Record) → HasRead ds pages shapes before intake.old front → devices_in before ≡ 0 → HasRead ds pages shapes (before ++ page number bytes.now ∷ []) intake.new (front ++ spelled_record (page number bytes.now)) }
 {
     intake
         .ram
         .put(number as u64 * PAGE_SIZE as u64, bytes, &mut NoLog);
-    intake.named[number as usize] = true;
+    intake.named.insert(number as u64);
 }
 
 /// Takes a page's record, whose tag was seen.
@@ -113,7 +113,7 @@ fn page_part(intake: &mut Intake, rest: &[u8]) -> Result<Part, RecvError>
     if number as u64 >= intake.ram.len() / PAGE_SIZE as u64 {
         return Err(RecvError::BadPage);
     }
-    if number as usize >= intake.named.len() {
+    if number as u64 >= intake.named.len() {
         return Err(RecvError::BadPage);
     }
     if rest.len() < 4 + PAGE_SIZE {
@@ -153,7 +153,7 @@ fn find_sector<D: Disk>(intake: &Intake, disks: &[D], dev: u8, number: u32) -> O
     if place >= intake.firsts.len() {
         return None;
     }
-    let item = intake.firsts[place] as usize + number as usize;
+    let item = intake.firsts[place] as u64 + number as u64;
     if item >= intake.named.len() {
         return None;
     }
@@ -179,7 +179,7 @@ fn take_bad(intake: &mut Intake, spot: Spot, dev: u8, number: u32)
         → HasRead ds pages shapes (before ++ sector dev number None ∷ []) intake.new (front ++ spelled_record (sector dev number None)) }
 {
     intake.bad[spot.disk].insert(number as u64);
-    intake.named[spot.item] = true;
+    intake.named.insert(spot.item);
 }
 
 /// Writes a sector to its disk, as its record says. It is good from now on.
@@ -201,7 +201,7 @@ fn take_good<D: Disk>(
         Err(_) => return Err(RecvError::DiskFailed),
     }
     intake.bad[spot.disk].remove(number as u64);
-    intake.named[spot.item] = true;
+    intake.named.insert(spot.item);
     Ok(())
 }
 

@@ -44,7 +44,7 @@ impl<D: Disk + Drop> Receiver<D> {
     ghost use Rattle.wire.specs.Stream.{IsStream, shapes_in};
     ghost use Rattle.receiver.specs.declared.recv_error.RecvError.TheVariants as errors;
     ghost use Rattle.receiver.specs.Disks.{AreHonestDisks, MarksAfter, disk_marks_of, sizes_of};
-    ghost use Rattle.receiver.specs.Receiving.{HasBeenFed, NoFault, IsFinish, HasRounds, TellsNow};
+    ghost use Rattle.receiver.specs.Receiving.{HasBeenFed, NoFault, IsFinish, HasRounds, IsWholeFor, TellsNow};
 
     /// A receiver that was fed nothing, with these disks. It takes no memory.
     pub fn new(alloc: Global, disks: Vec<D>) -> Receiver<D>
@@ -98,11 +98,17 @@ impl<D: Disk + Drop> Receiver<D> {
     }
 
     /// The machine whose stream was fed. A refusal drops the disks.
+    ///
+    /// An `Ok` says of any disks that the bytes are a whole stream for them: a header for these disks, whole good records that
+    /// name every item and have every device, the digest of all of them, and nothing more. `NoMemory` is returned for such
+    /// a stream only.
     pub fn finish(self) -> Result<Machine<D>, RecvError>
         ensures received { IfOk result (λ m. AreHonestDisks self.marks → (b : List ℕ) → HasBeenFed self b → IsStream b (state_of m)) }
         ensures marks { IfOk result (λ m. all_marks m ≡ dealt_marks (shapes_in (state_of m).devices) self.marks) }
         ensures fits { IfOk result (λ m. self.sizes ≡ disk_sizes (shapes_in (state_of m).devices)) }
         ensures refused { IfErr result (λ e. (b : List ℕ) → HasBeenFed self b → IsFinish b e) }
+        ensures whole { OnOk result ((b : List ℕ) → HasBeenFed self b → IsWholeFor self.sizes b) }
+        ensures memory { result ≡ Err errors.NoMemory → (b : List ℕ) → HasBeenFed self b → IsWholeFor self.sizes b }
         ensures already { self.failed ≡ true → result ≡ Err errors.AlreadyFailed }
     {
         let Receiver {

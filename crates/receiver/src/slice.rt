@@ -1,12 +1,12 @@
 //! A whole stream in one slice.
 
-ghost use Rattle.std.specs.Prelude.{◌≡◌, IfOk, IfErr};
+ghost use Rattle.std.specs.Prelude.{◌≡◌, IfOk, IfErr, OnOk};
 ghost use Rattle.machine.specs.First.{dealt_marks};
 ghost use Rattle.machine.specs.Seen.{all_marks, state_of};
 ghost use Rattle.machine.specs.Shapes.{disk_sizes};
 ghost use Rattle.wire.specs.Stream.{shapes_in};
 ghost use Rattle.receiver.specs.Disks.{AreHonestDisks, disk_marks_of, sizes_of};
-ghost use Rattle.receiver.specs.Receiving.{IsReceived, RefusesSlice};
+ghost use Rattle.receiver.specs.Receiving.{IsReceived, IsWholeFor, RefusesSlice};
 
 use crate::receiver::Receiver;
 use crate::recv_error::RecvError;
@@ -15,6 +15,9 @@ use std::alloc::Global;
 
 /// The machine whose stream the bytes are, with these disks, and how many rounds ended in it: one feed, `rounds` and
 /// `finish`. A refusal drops the disks.
+///
+/// An `Ok` says of any disks that the bytes are a whole stream for them, and of honest disks also that the machine is the one
+/// that was sent.
 pub fn receive<D: Disk + Drop>(
     alloc: Global,
     bytes: &[u8],
@@ -23,6 +26,7 @@ pub fn receive<D: Disk + Drop>(
     ensures received { IfOk result (λ x. AreHonestDisks (disk_marks_of D.state disks.items) → IsReceived bytes.now (state_of x.0) x.1) }
     ensures marks { IfOk result (λ x. all_marks x.0 ≡ dealt_marks (shapes_in (state_of x.0).devices) (disk_marks_of D.state disks.items)) }
     ensures fits { IfOk result (λ x. sizes_of D.state disks.items ≡ disk_sizes (shapes_in (state_of x.0).devices)) }
+    ensures whole { OnOk result (IsWholeFor (sizes_of D.state disks.items) bytes.now) }
     ensures refused { IfErr result (λ e. RefusesSlice (sizes_of D.state disks.items) (disk_marks_of D.state disks.items) bytes.now e) }
 {
     let mut receiver = Receiver::new(alloc, disks);

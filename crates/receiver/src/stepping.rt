@@ -59,7 +59,7 @@ fn new_intake<D: Disk>(
     let (firsts, count) = number_items(alloc, pages, &shapes)?;
     let bad = new_marks(alloc, disks)?;
     let ram = Ram::new(alloc, pages)?;
-    let named = vec![in alloc; false; count as usize]?;
+    let named = BitSet::new(alloc, count as u64)?;
     let devices = Vec::new(alloc);
     Ok(Intake {
         shapes,

@@ -1,6 +1,6 @@
 //! The record of a sector, on its way to a sink.
 
-ghost use Rattle.std.specs.Prelude.{MatchOption, None, OnOk, Some};
+ghost use Rattle.std.specs.Prelude.{◌≡◌, MatchOption, None, OnOk, Some};
 ghost use Rattle.wire.specs.Records.{sector, spelled_record};
 ghost use Rattle.wire.specs.Sinks.{Appends, Takes};
 
@@ -9,6 +9,10 @@ use crate::tally::{NoTally, Tally};
 use crate::writing::put;
 use byteorder::{ByteOrder, LittleEndian};
 use machine::SECTOR_SIZE;
+
+/// How many bytes the record of a good sector has: its tag, the device's and the sector's number, the mark that it is good, and
+/// the sector.
+const SECTOR_RECORD: usize = 519;
 
 /// Writes the record of a sector: its 512 bytes, or none where it is bad.
 pub fn encode_sector<S: Sink>(
@@ -28,7 +32,6 @@ pub fn encode_sector<S: Sink>(
 }
 
 /// The record of a sector that is good.
-#[tactic(auto, unfolding(crate::specs::Records::spelled_record))]
 pub fn write_sector<S: Sink, T: Tally>(
     device: u8,
     number: u32,
@@ -39,10 +42,21 @@ pub fn write_sector<S: Sink, T: Tally>(
     ensures out { Appends (S.state out.old) (spelled_record (sector device number (Some bytes.now))) result (S.state out.new) }
     ensures taken { OnOk result (Takes (T.has_taken tally.old) (spelled_record (sector device number (Some bytes.now))) (T.has_taken tally.new)) }
 {
-    let mut head = [2, device, 0, 0, 0, 0, 1];
-    LittleEndian::write_u32(&mut head[2..], number);
-    put(&head, out, tally)?;
-    put(bytes, out, tally)
+    put(&sector_record(device, number, bytes), out, tally)
+}
+
+/// The whole record of a good sector, so that a sink is called once for it.
+#[tactic(auto, unfolding(crate::specs::Records::spelled_record))]
+fn sector_record(device: u8, number: u32, bytes: &[u8; SECTOR_SIZE]) -> [u8; SECTOR_RECORD]
+    ensures { result ≡ spelled_record (sector device number (Some bytes.now)) }
+{
+    let mut record = [0; SECTOR_RECORD];
+    record[0] = 2;
+    record[1] = device;
+    LittleEndian::write_u32(&mut record[2..], number);
+    record[6] = 1;
+    record[7..].copy_from_slice(bytes);
+    record
 }
 
 /// The record of a sector that is bad.

@@ -26,6 +26,9 @@ const COUNT_END: usize = 1 << 32;
 /// One past the greatest length that the field of a device's record can tell.
 const LEN_END: u64 = 1 << 32;
 
+/// How many bytes the record of a page has: its tag, the page's number, and the page.
+const PAGE_RECORD: usize = 4101;
+
 /// Puts bytes into the sink, and where that succeeds, takes them into the tally.
 pub fn put<S: Sink, T: Tally>(bytes: &[u8], out: &mut S, tally: &mut T) -> Result<(), SinkFault>
     ensures out { Appends (S.state out.old) bytes.now result (S.state out.new) }
@@ -103,7 +106,6 @@ fn write_shape<S: Sink, T: Tally>(shape: Shape, out: &mut S, tally: &mut T) -> R
 }
 
 /// The record of a page.
-#[tactic(auto, unfolding(crate::specs::Records::spelled_record))]
 pub fn write_page<S: Sink, T: Tally>(
     number: u32,
     bytes: &[u8; 4096],
@@ -113,10 +115,19 @@ pub fn write_page<S: Sink, T: Tally>(
     ensures out { Appends (S.state out.old) (spelled_record (page number bytes.now)) result (S.state out.new) }
     ensures taken { OnOk result (Takes (T.has_taken tally.old) (spelled_record (page number bytes.now)) (T.has_taken tally.new)) }
 {
-    let mut head = [1, 0, 0, 0, 0];
-    LittleEndian::write_u32(&mut head[1..], number);
-    put(&head, out, tally)?;
-    put(bytes, out, tally)
+    put(&page_record(number, bytes), out, tally)
+}
+
+/// The whole record of a page, so that a sink is called once for it.
+#[tactic(auto, unfolding(crate::specs::Records::spelled_record))]
+fn page_record(number: u32, bytes: &[u8; 4096]) -> [u8; PAGE_RECORD]
+    ensures { result ≡ spelled_record (page number bytes.now) }
+{
+    let mut record = [0; PAGE_RECORD];
+    record[0] = 1;
+    LittleEndian::write_u32(&mut record[1..], number);
+    record[5..].copy_from_slice(bytes);
+    record
 }
 
 /// The record of the end of a round.

@@ -7,7 +7,7 @@ use Rattle.wire.specs.Stream.{shapes_in}
 use Rattle.receiver.specs.Disks.{AreHonestDisks, disk_marks_of}
 use Rattle.receiver.specs.Receiving.{IsKnown, IsReading, HasCome, Received}
 use Rattle.receiver.proofs.Feeding.{marks_mapped}
-use Rattle.receiver.proofs.Knowing.{read_sound, whole_shapes, whole_stream}
+use Rattle.receiver.proofs.Knowing.{read_sound, whole_for, whole_shapes, whole_stream}
 use Rattle.receiver.proofs.Streams.{no_stream_head, no_stream_reading}
 use Rattle.receiver.proofs.receiver.Receiver.finish.Goals as goal
 
@@ -67,3 +67,11 @@ returns-clause-refused g c = λ b f m s.
     let h = rw c.in-Head.is at known in
     let bytes : c.self.inside.held.items ≡ b = ap (λ (v : Received). v.bytes) c.self.view_is ∙ f.fed in
     no_stream_head c.self.inside.held.items m h.0 (rw bytes s)
+
+pub returns-in-Ok-clause-whole : goal.returns-in-Ok-clause-whole
+returns-in-Ok-clause-whole g c = λ b f.
+    let known : IsKnown (map g.D.Disk.state c.self.inside.disks.items) c.self.inside.held.items c.self.inside.at c.self.inside.stage = c.self.invariant in
+    let h : HasCome (map g.D.Disk.state c.self.inside.disks.items) c.self.inside.held.items c.self.inside.at c.in-Ended.intake = rw c.in-Ended.is at known in
+    let bytes : c.self.inside.held.items ≡ b = ap (λ (v : Received). v.bytes) c.self.view_is ∙ f.fed in
+    let sizes = ap (λ (v : Received). v.sizes) c.self.view_is in
+    rw (← sizes, ← bytes) (whole_for _ c.self.inside.held.items h.pages h.shapes c.in-Ended.intake h.ended)
