@@ -2,8 +2,10 @@ pub mod Advancing
 pub mod Agreeing
 pub mod Effects
 pub mod Failing
+pub mod GettingOn
 pub mod Inside
 pub mod Looking
+pub mod NextWork
 pub mod Rings
 pub mod Serving
 pub mod Staying

@@ -10,6 +10,7 @@ pub mod First
 pub mod Held
 pub mod Layout
 pub mod Lines
+pub mod NextWork
 pub mod Looked
 pub mod Outcome
 pub mod Parts

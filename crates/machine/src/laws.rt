@@ -1,8 +1,12 @@
 //! Laws over the definitions alone. These functions do nothing: their contracts are the laws.
 
+mod work;
+
 ghost use Rattle.machine.specs.AppliedLaws.{HonestDisksGiveTheirs};
 ghost use Rattle.machine.specs.EffectLaws.{UntouchedStays, TouchedExists, ShapeStays};
 ghost use Rattle.machine.specs.StepLaws.{EffectsAgree, StepsAgree, RunsAgree, StepStaysWithin, StepKeepsShape, StepStaysSound, RefusalsChangeNothing, MalformedIsContained, MalformedAsksForReset};
+
+pub use work::{idle_without_work, work_gets_on};
 
 /// What an effect does not touch stays as it was.
 pub fn untouched_stays()

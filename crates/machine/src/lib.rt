@@ -34,6 +34,7 @@ mod reply;
 mod served;
 mod shape;
 mod state;
+mod work;
 
 pub use blk::{Disk, DiskFault, FaultDisk, FileDisk, MemDisk, SECTOR_SIZE};
 pub use device::Device;
@@ -46,3 +47,4 @@ pub use own::Own;
 pub use reply::{Refusal, Reply};
 pub use shape::{SECTORS_MAX, Shape};
 pub use state::{DeviceState, offered};
+pub use work::Work;

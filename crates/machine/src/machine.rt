@@ -4,6 +4,7 @@ mod apply;
 mod direct;
 mod getters;
 mod making;
+mod next_work;
 mod parts;
 
 use crate::device::Device;

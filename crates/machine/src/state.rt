@@ -1,5 +1,7 @@
 //! What a device is, beside its disk.
 
+mod first_pick;
+
 ghost use Rattle.std.specs.Prelude.{◌≡◌, ◌≤◌, ◌<◌, ℕ, IfOk, length, take, if◌then◌else◌};
 ghost use Rattle.mmio.specs.State.{queue_at, with_common};
 ghost use Rattle.mmio.specs.Interrupts.{reset_asked, used_raised};

@@ -41,7 +41,7 @@ pub use dirtylog::BitSet;
 pub use guestmem::{ACCESS_MAX, NoMemory, PAGE_SIZE, PAGES_MAX, Ram, RamError, Touched};
 pub use machine::{
     Bytes, DEVICES_MAX, DeviceState, Disk, DiskFault, Event, FaultDisk, FileDisk, Machine, MemDisk,
-    NewError, Own, Refusal, Reply, SECTOR_SIZE, SECTORS_MAX, Shape,
+    NewError, Own, Refusal, Reply, SECTOR_SIZE, SECTORS_MAX, Shape, Work,
 };
 pub use program::execute;
 pub use receiver::{Receiver, RecvError, receive};

@@ -1,0 +1,219 @@
+-- Steps with work, found in turn.
+use Rattle.std.proofs.Common.{◌≡◌, ℕ, zero, suc, ◌+◌, ◌-◌, ◌*◌, ◌/◌, ◌%◌, ◌<◌, ◌≤◌, ◌⊎◌, get_or, inl, inr, min, Bool, true, false, cond, List, [], ◌∷◌, length, map, Option, Some, None, refl, sym, ap, ◌∙◌, arith}
+use Rattle.std.specs.Prelude.{◌||◌, IfSome, slice_get}
+use Rattle.std.specs.List.{find, range_with_len}
+use Rattle.std.specs.Option.{is_some, option_map, option_or}
+use Rattle.std.proofs.lemmas.List.Folds.{find-append}
+use Rattle.std.proofs.lemmas.Option.{slice_get-get_or, slice_get_past, slice_get_within}
+use Rattle.mmio.specs.State.{first_queue}
+use Rattle.chains.specs.State.{RingState, state_of}
+use Rattle.machine.specs.DeviceStep.{advanced_at, advances, looked_at}
+use Rattle.machine.specs.NextWork.{HaveNoWork, has_work_at, has_work_with, next_work, number_of, picks_from, steps_between, work_of}
+use Rattle.machine.specs.Shapes.{queues_of}
+use Rattle.machine.specs.Sound.{IsSoundDevice}
+use Rattle.machine.specs.State.{DeviceState}
+use Rattle.machine.specs.declared.shape.Shape.{Shape}
+use Rattle.machine.specs.declared.shape.Shape.TheVariants as shapes
+use Rattle.machine.specs.declared.work.Work.{Work}
+use Rattle.machine.proofs.Rings.{positions_long}
+use Rattle.machine.proofs.Stepping.{no_positions}
+
+lt_or_le : (m n : ℕ) → (m < n) ⊎ (n ≤ m)
+lt_or_le m zero = inr (omega arith)
+lt_or_le zero (suc n) = inl (omega arith)
+lt_or_le (suc m) (suc n) = elim (lt_or_le m n) as (λ _. (suc m < suc n) ⊎ (suc n ≤ suc m)) [ inl h ↦ inl (omega arith) | inr h ↦ inr (omega arith) ]
+
+-- The first of some numbers in a row.
+pub none_found : (p : ℕ → Bool) (a n : ℕ) → ((k : ℕ) → a ≤ k → k < a + n → p k ≡ false) → find p (range_with_len a n) ≡ None
+none_found p a zero h = refl
+none_found p a (suc n) h = rw (h a (omega arith) (omega arith)) (none_found p (a + 1) n (λ k above below. h k (omega (arith, above)) (omega (arith, below))))
+
+pub one_found : (p : ℕ → Bool) (a n k : ℕ) → a ≤ k → k < a + n → ((j : ℕ) → a ≤ j → j < k → p j ≡ false) → p k ≡ true → find p (range_with_len a n) ≡ Some k
+one_found p a zero k above below before is = absurd (omega (arith, above, below))
+one_found p a (suc n) k above below before is = elim (lt_or_le a k) as (λ _. cond (p a) (Some a) (find p (range_with_len (a + 1) n)) ≡ Some k) [
+  | inl later ↦ rw (before a (omega arith) later) (one_found p (a + 1) n k (omega (arith, later)) (omega (arith, below)) (λ j from. before j (omega (arith, from))) is)
+  | inr here ↦ let same : a ≡ k = omega (arith, above, here) in rw (same, is) refl
+]
+
+-- What is found first in two parts.
+or_first : (t : Bool) (w : Work) (x y z : Option Work) → x ≡ option_or y z → cond t (Some w) x ≡ option_or (cond t (Some w) y) z
+or_first true w x y z h = refl
+or_first false w x y z h = h
+
+in_two : (p : Work → Bool) (a b m n c : ℕ) → a + m ≡ b → m + n ≡ c → find p (map work_of (range_with_len a c)) ≡ option_or (find p (map work_of (range_with_len a m))) (find p (map work_of (range_with_len b n)))
+in_two p a b zero n c start sum =
+    let same : a ≡ b = omega (arith, start) in
+    let all : c ≡ n = omega (arith, sum) in
+    rw (same, all) refl
+in_two p a b (suc m) n zero start sum = absurd (omega (arith, sum))
+in_two p a b (suc m) n (suc c) start sum =
+    or_first (p (work_of a)) (work_of a) (find p (map work_of (range_with_len (a + 1) c))) (find p (map work_of (range_with_len (a + 1) m))) (find p (map work_of (range_with_len b n))) (in_two p (a + 1) b m n c (omega (arith, start)) (omega (arith, sum)))
+
+pub found_in_two : (p : Work → Bool) (a b c : ℕ) → a ≤ b → b ≤ c → find p (steps_between a c) ≡ option_or (find p (steps_between a b)) (find p (steps_between b c))
+unfolding steps_between
+found_in_two p a b c low high = in_two p a b (b - a) (c - b) (c - a) (omega (arith, low)) (omega (arith, low, high))
+
+pub none_between : (p : Work → Bool) (a b : ℕ) → b ≤ a → find p (steps_between a b) ≡ None
+unfolding steps_between
+none_between p a b h = let none : b - a ≡ 0 = omega (arith, h) in rw none refl
+
+-- The steps of one device.
+pick_first : (t : Bool) (w : Work) (a : ℕ) (f : ℕ → Work) (x : Option Work) (y : Option ℕ) → w ≡ f a → x ≡ option_map f y → cond t (Some w) x ≡ option_map f (cond t (Some a) y)
+pick_first true w a f x y h k = ap Some h
+pick_first false w a f x y h k = k
+
+device_steps : (devices : List DeviceState) (dev : ℕ) (d : DeviceState) (a b n : ℕ) → slice_get devices dev ≡ Some d → 256 * dev + a ≡ b → a + n ≤ 256
+    → find (has_work_at devices) (map work_of (range_with_len b n)) ≡ option_map (λ pick. record { dev = dev; pick = pick }) (find (has_work_with d) (range_with_len a n))
+device_steps devices dev d a b zero there start few = refl
+device_steps devices dev d a b (suc n) there start few =
+    let of : b / 256 ≡ dev = omega (arith, start, few) in
+    let pick : b % 256 ≡ a = omega (arith, start, few) in
+    rw (of, pick, there) (pick_first (has_work_with d a) (record { dev = dev; pick = a }) a (λ (k : ℕ). record { dev = dev; pick = k }) _ _ refl (device_steps devices dev d (a + 1) (b + 1) n there (omega (arith, start)) (omega (arith, few))))
+
+pub found_in_device : (devices : List DeviceState) (dev a : ℕ) (d : DeviceState) → slice_get devices dev ≡ Some d → a ≤ 256
+    → find (has_work_at devices) (steps_between (256 * dev + a) (256 * (dev + 1))) ≡ option_map (λ pick. record { dev = dev; pick = pick }) (find (has_work_with d) (picks_from a))
+unfolding steps_between picks_from
+found_in_device devices dev a d there few =
+    let many : 256 * (dev + 1) - (256 * dev + a) ≡ 256 - a = omega arith in
+    rw many (device_steps devices dev d a (256 * dev + a) (256 - a) there refl (omega (arith, few)))
+
+-- No device, no work.
+past_steps : (devices : List DeviceState) (a n : ℕ) → 256 * length devices ≤ a → find (has_work_at devices) (map work_of (range_with_len a n)) ≡ None
+past_steps devices a zero past = refl
+past_steps devices a (suc n) past = rw (slice_get_past devices (a / 256) (omega (arith, past))) (past_steps devices (a + 1) n (omega (arith, past)))
+
+pub found_past : (devices : List DeviceState) (a b : ℕ) → 256 * length devices ≤ a → find (has_work_at devices) (steps_between a b) ≡ None
+unfolding steps_between
+found_past devices a b past = past_steps devices a (b - a) past
+
+-- What is found has work.
+has_head : (p : Work → Bool) (w : Work) (rest : Option Work) (t : Bool) → p w ≡ t → IfSome rest (λ v. p v ≡ true) → IfSome (cond t (Some w) rest) (λ v. p v ≡ true)
+has_head p w rest true h k = h
+has_head p w rest false h k = k
+
+pub found_has : (p : Work → Bool) (ws : List Work) → IfSome (find p ws) (λ w. p w ≡ true)
+found_has p [] = tt
+found_has p (w ∷ ws) = has_head p w (find p ws) (p w) refl (found_has p ws)
+
+-- Where none is found, none has work.
+left_none : (x y : Option Work) → option_or x y ≡ None → x ≡ None
+left_none None y h = refl
+left_none (Some w) y h = cc
+
+right_none : (x y : Option Work) → option_or x y ≡ None → y ≡ None
+right_none None y h = h
+right_none (Some w) y h = cc
+
+test_false : (t : Bool) (w : Work) → cond t (Some w) None ≡ None → t ≡ false
+test_false true w h = cc
+test_false false w h = refl
+
+alone : (p : Work → Bool) (k : ℕ) → find p (steps_between k (k + 1)) ≡ None → p (work_of k) ≡ false
+unfolding steps_between
+alone p k h =
+    let one : k + 1 - k ≡ 1 = omega arith in
+    test_false (p (work_of k)) (work_of k) (rw one at h)
+
+none_inside : (p : Work → Bool) (a b k : ℕ) → find p (steps_between a b) ≡ None → a ≤ k → k < b → p (work_of k) ≡ false
+none_inside p a b k none above below =
+    let upper = right_none (find p (steps_between a k)) (find p (steps_between k b)) (sym (found_in_two p a k b above (omega (arith, below))) ∙ none) in
+    alone p k (left_none (find p (steps_between k (k + 1))) (find p (steps_between (k + 1) b)) (sym (found_in_two p k (k + 1) b (omega arith) (omega (arith, below))) ∙ upper))
+
+or_false : (x y : Option RingState) → (is_some x || is_some y) ≡ false → (x ≡ None) × (y ≡ None)
+or_false None None h = (refl, refl)
+or_false None (Some q) h = cc
+or_false (Some q) y h = cc
+
+pub none_has : (devices : List DeviceState) (last : Work) → next_work devices last ≡ None → HaveNoWork devices
+none_has devices last none dev pick d there below =
+    let first = number_of last + 1 in
+    let end = 256 * length devices in
+    let k = 256 * dev + pick in
+    let p = has_work_at devices in
+    let within : dev < length devices = slice_get_within devices dev d there in
+    let parts = sym (find-append p (steps_between first end) (steps_between 0 (min first end))) ∙ none in
+    let of : k / 256 ≡ dev = omega (arith, below) in
+    let rest : k % 256 ≡ pick = omega (arith, below) in
+    let here : has_work_at devices (work_of k) ≡ false = elim (lt_or_le k first) as (λ _. has_work_at devices (work_of k) ≡ false) [
+      | inl before ↦ none_inside p 0 (min first end) k (right_none (find p (steps_between first end)) (find p (steps_between 0 (min first end))) parts) (omega arith) (omega (arith, before, within, below))
+      | inr after ↦ none_inside p first end k (left_none (find p (steps_between first end)) (find p (steps_between 0 (min first end))) parts) after (omega (arith, within, below))
+    ] in
+    or_false (looked_at d pick) (advanced_at d pick) (rw (of, rest, there) at here)
+
+-- The three searches in turn.
+or_none : (x : Option Work) → option_or x None ≡ x
+or_none None = refl
+or_none (Some w) = refl
+
+regrouped : (later after before : Option Work) → option_or later (option_or after (option_or before later)) ≡ option_or (option_or later after) before
+regrouped (Some w) after before = refl
+regrouped None after before = ap (λ x. option_or after x) (or_none before)
+
+pub in_turn : (devices : List DeviceState) (last : Work) (end : ℕ) → last.pick < 256 → end ≡ min (last.dev + 1) (length devices)
+    → option_or (find (has_work_at devices) (steps_between (number_of last + 1) (256 * (last.dev + 1)))) (option_or (find (has_work_at devices) (steps_between (256 * (last.dev + 1)) (256 * length devices))) (find (has_work_at devices) (steps_between 0 (256 * end)))) ≡ next_work devices last
+in_turn devices last end small end_is =
+    let first = number_of last + 1 in
+    let next = 256 * (last.dev + 1) in
+    let all = 256 * length devices in
+    let p = has_work_at devices in
+    rw (find-append p (steps_between first all) (steps_between 0 (min first all)))
+    (elim (lt_or_le last.dev (length devices)) as (λ _. option_or (find p (steps_between first next)) (option_or (find p (steps_between next all)) (find p (steps_between 0 (256 * end)))) ≡ option_or (find p (steps_between first all)) (find p (steps_between 0 (min first all)))) [
+      | inl there ↦
+          let low : min first all ≡ first = omega (arith, small, there) in
+          let high : 256 * end ≡ next = omega (arith, end_is, there) in
+          rw (low, high, found_in_two p first next all (omega (arith, small)) (omega (arith, there)), found_in_two p 0 first next (omega arith) (omega (arith, small)))
+          (regrouped (find p (steps_between first next)) (find p (steps_between next all)) (find p (steps_between 0 first)))
+      | inr past ↦
+          let low : min first all ≡ all = omega (arith, past) in
+          let high : 256 * end ≡ all = omega (arith, end_is, past) in
+          rw (low, high, found_past devices first next (omega (arith, past)), none_between p next all (omega (arith, past)), none_between p first all (omega (arith, past))) refl
+    ])
+
+-- One device: its queues and its outstanding requests.
+some_queues : (shape : Shape) → 0 < queues_of shape
+some_queues (shapes.Net mac) = omega arith
+some_queues (shapes.Block sectors read_only id) = omega arith
+some_queues shapes.Console = omega arith
+some_queues shapes.Entropy = omega arith
+
+some_if : {A : Type 0} (b : Bool) (x : A) → is_some (cond b (Some x) None) ≡ b
+some_if true x = refl
+some_if false x = refl
+
+pub advances_some : (len : ℕ) (d : DeviceState) (pick : ℕ) → IsSoundDevice len d → is_some (advanced_at d pick) ≡ advances d pick
+advances_some len d pick sound =
+    let queues : 0 < length d.registers.queues = omega (arith, some_queues d.shape, sound.queues) in
+    let long : length d.positions ≡ length d.registers.queues = positions_long _ d.registers.queues d.positions sound.positions in
+    rw (slice_get-get_or d.registers.queues 0 first_queue queues, slice_get-get_or d.positions 0 no_positions (omega (arith, queues, long)))
+    (some_if (advances d pick) (state_of (get_or d.registers.queues 0 first_queue) d.registers.common.features (get_or d.positions 0 no_positions)))
+
+pub second_of_or : (x y r : Bool) → x ≡ false → r ≡ y → r ≡ (x || y)
+second_of_or true y r none is = cc
+second_of_or false y r none is = is
+
+pub one_more : (p : ℕ → Bool) (from pick : ℕ) → ((k : ℕ) → from ≤ k → k < pick → p k ≡ false) → p pick ≡ false → (k : ℕ) → from ≤ k → k < pick + 1 → p k ≡ false
+one_more p from pick before here k above below = elim (lt_or_le k pick) as (λ _. p k ≡ false) [
+  | inl lower ↦ before k above lower
+  | inr upper ↦ let same : k ≡ pick = omega (arith, upper, below) in rw same here
+]
+
+pub beyond : (p : ℕ → Bool) (from pick end : ℕ) → end ≤ pick → ((k : ℕ) → from ≤ k → k < pick → p k ≡ false) → ((k : ℕ) → end ≤ k → p k ≡ false) → (k : ℕ) → from ≤ k → k < from + (256 - from) → p k ≡ false
+beyond p from pick end reached before after k above below = elim (lt_or_le k pick) as (λ _. p k ≡ false) [ inl lower ↦ before k above lower | inr upper ↦ after k (omega (arith, reached, upper)) ]
+
+pub searched : (devices : List DeviceState) (last : Work) (end : ℕ) (later after before : Option Work) → last.pick < 256 → end ≡ min (last.dev + 1) (length devices)
+    → later ≡ find (has_work_at devices) (steps_between (number_of last + 1) (256 * (last.dev + 1))) → after ≡ find (has_work_at devices) (steps_between (256 * (last.dev + 1)) (256 * length devices)) → before ≡ find (has_work_at devices) (steps_between 0 (256 * end))
+    → option_or later (option_or after before) ≡ next_work devices last
+searched devices last end later after before small end_is x y z = rw (x, y, z) (in_turn devices last end small end_is)
+
+-- One more device was searched.
+pub after_none : (p : Work → Bool) (a b c : ℕ) (next : Option Work) → a ≤ b → b ≤ c → find p (steps_between a b) ≡ None → next ≡ find p (steps_between b c) → next ≡ find p (steps_between a c)
+after_none p a b c next low high none is = rw (found_in_two p a b c low high, none) is
+
+pub found_before : (p : Work → Bool) (a b c : ℕ) (w : Work) → a ≤ b → b ≤ c → Some w ≡ find p (steps_between a b) → Some w ≡ find p (steps_between a c)
+found_before p a b c w low high is = rw (found_in_two p a b c low high, ← is) refl
+
+pub all_searched : (p : Work → Bool) (first end dev : ℕ) → end ≤ dev → (first ≤ end → dev ≤ end) → find p (steps_between (256 * first) (256 * dev)) ≡ None → None ≡ find p (steps_between (256 * first) (256 * end))
+all_searched p first end dev reached not_past none = elim (lt_or_le end first) as (λ _. None ≡ find p (steps_between (256 * first) (256 * end))) [
+  | inl past ↦ sym (none_between p (256 * first) (256 * end) (omega (arith, past)))
+  | inr inside ↦ let last : dev ≤ end = not_past inside in let same : dev ≡ end = omega (arith, reached, last) in sym (rw same at none)
+]
