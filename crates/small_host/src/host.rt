@@ -5,9 +5,7 @@ use crate::guest::Guest;
 use crate::migration::migrate;
 use anyhow::{Result, bail};
 use std::io::Write;
-use vmig::{
-    Event, Machine, MemDisk, Refusal, Reply, Shape, Work, WriteSink, receive, save,
-};
+use vmig::{Event, Machine, MemDisk, Refusal, Reply, Shape, Work, WriteSink, receive, save};
 
 /// Sectors of the guest's disk.
 pub const SECTORS: u64 = 8;
@@ -17,6 +15,7 @@ pub const SECTORS: u64 = 8;
 const STEPS: u32 = 1000;
 
 /// A machine, and its interrupt lines as the guest has them.
+#[derive(Drop)]
 pub struct Host<G: Guest> {
     guest: G,
     lines: u16,

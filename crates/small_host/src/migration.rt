@@ -35,7 +35,10 @@ pub fn migrate(
     let mut live = host.into_guest();
     send_rounds(&mut live)?;
     let stopped = live.stop()?;
-    println!(rt; "host: paused the guest, and sent {} pages and {} sectors then", stopped.pages, stopped.sectors)?;
+    println!(rt;
+        "host: paused the guest, and sent {} pages and {} sectors then",
+        stopped.pages, stopped.sectors
+    )?;
     // From here on this machine must not continue: the other one does.
     let (_stopped_machine, sink) = live.into_parts();
     arrive(rt, sink.into_inner().as_slice())
