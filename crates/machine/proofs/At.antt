@@ -267,7 +267,7 @@ as_itself m (Step dev pick) = ap (λ (disks : List (List Sector)). record m { di
 as_itself m (Input dev bytes) = refl
 as_itself m (Resize dev cols rows) = refl
 
-whole_disk : (disks : List (List Sector)) (dev : ℕ) → All AreWhole disks → AreWhole (disk_or_none (slice_get disks dev))
+pub whole_disk : (disks : List (List Sector)) (dev : ℕ) → All AreWhole disks → AreWhole (disk_or_none (slice_get disks dev))
 whole_disk [] dev whole = none_whole
 whole_disk (d ∷ ds) zero whole = whole 0 d (omega arith)
 whole_disk (d ∷ ds) (suc dev) whole = whole_disk ds dev (λ k x below. whole (suc k) x (omega (arith, below)))

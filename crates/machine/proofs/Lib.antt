@@ -25,3 +25,4 @@ pub mod Outstanding
 pub mod Fresh
 pub mod Quiet
 pub mod Honest
+pub mod Alike

@@ -2,7 +2,7 @@
 
 mod work;
 
-ghost use Rattle.machine.specs.AppliedLaws.{HonestDisksGiveTheirs};
+ghost use Rattle.machine.specs.AppliedLaws.{HonestDisksGiveTheirs, AnyDiskActsAlike};
 ghost use Rattle.machine.specs.EffectLaws.{UntouchedStays, TouchedExists, ShapeStays};
 ghost use Rattle.machine.specs.StepLaws.{EffectsAgree, StepsAgree, RunsAgree, StepStaysWithin, StepKeepsShape, StepStaysSound, RefusalsChangeNothing, MalformedIsContained, MalformedAsksForReset};
 
@@ -71,4 +71,10 @@ pub fn malformed_asks_for_reset()
 /// An honest disk gives what it holds: an event that calls it has the effect of a step of the machine as it was.
 pub fn honest_disks_give_theirs()
     ensures { HonestDisksGiveTheirs }
+{}
+
+/// Whatever bytes a disk gives, the reply is that of a step of the machine as it was, and so is the effect but for the bytes
+/// that it writes.
+pub fn any_disk_acts_alike()
+    ensures { AnyDiskActsAlike }
 {}

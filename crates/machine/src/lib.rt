@@ -14,9 +14,11 @@
 //! is what the definitions of `chains` say of the RAM, so steps with equal outcomes are equal. A malformed chain stops its
 //! own device, and changes nothing else.
 //!
-//! The disk under a block device is any type that keeps the contract of the trait `Disk`. What a step makes of it is said of
-//! honest disks, which give what was written; whatever a disk does, the machine stays sound, and each failure shows in the
-//! reply and in the count of that disk. `are_disks_of` tells whether disks are those of some devices, in their order.
+//! The disk under a block device is any type that keeps the contract of the trait `Disk`. With any disk an event has the reply,
+//! RAM, devices, log and bad sectors of a step of the machine with its sectors as the disk gave them (`specs/Applied`). An
+//! honest disk gives what was written, so there it is a step of the machine itself, sectors and all. Whatever a disk does, the
+//! machine stays sound, and each failure shows in the reply and in the count of that disk. `are_disks_of` tells whether disks
+//! are those of some devices, in their order.
 //!
 //! It stands on `guestmem` (RAM), `mmio` (registers), the rings, `blk` and `console`, and trusts nothing else. Streams of machines stand
 //! on it, in `wire`, `sender` and `receiver`; an embedder takes all of it from the crate `vmig`.

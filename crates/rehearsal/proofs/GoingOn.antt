@@ -6,6 +6,7 @@ use Rattle.machine.specs.Seen.{Seen, all_marks, state_of}
 use Rattle.machine.specs.declared.event.Event.{Event}
 use Rattle.machine.specs.declared.reply.Reply.{Reply}
 use Rattle.machine.proofs.Failing.{honest_for, honest_stays, marks_more, unsteady_more}
+use Rattle.machine.proofs.Honest.{honest_step}
 use Rattle.machine.proofs.Running.{run_more}
 use Rattle.sender.specs.declared.event.LiveEvent.{LiveEvent}
 use Rattle.sender.specs.declared.event.LiveEvent.TheVariants.{Guest, Begin, Copy, EndRound, Stop}
@@ -51,7 +52,7 @@ played_more old now new es rs e reply p a = record {
   marks = marks_more (all_marks old) (all_marks now) es rs e reply p.each p.marks a.marks;
   unsteady = unsteady_more (all_marks old) (all_marks now) es rs e reply p.each p.marks p.unsteady a.unsteady;
   run = λ honest. run_more (state_of old) (state_of now) (state_of new) es rs e reply (p.run honest)
-      (record { effect = a.effect; has = a.has; changed = a.changed (honest_for (all_marks now) e (honest_stays (all_marks old) (all_marks now) es rs p.marks honest)) });
+      (honest_step now new e reply a (honest_for (all_marks now) e (honest_stays (all_marks old) (all_marks now) es rs p.marks honest)));
 }
 
 pub goes_none : (s : Seen) (replies : List LiveReply) → GoesOn s [] replies replies s

@@ -12,6 +12,7 @@ use Rattle.machine.specs.State.{MachineState}
 use Rattle.machine.specs.Step.{HasEffect}
 use Rattle.machine.specs.declared.event.Event.{Event}
 use Rattle.machine.specs.declared.event.Event.TheVariants as events
+use Rattle.machine.proofs.Honest.{honest_effect}
 use Rattle.machine.proofs.Numbering.{same_layout}
 use Rattle.std.specs.Prelude.{All, IsTrue}
 use Rattle.sender.specs.LiveState.{LiveSeen, now, refusal_for, chosen, how_many, item_of, pages_among, sectors_among}
@@ -104,7 +105,8 @@ module _ (m : MachineState) (h : History) (old new : LiveSeen) (f : Follows m h 
   does_guest : (e : Event) (reply : LiveReply) → Guests old e reply new → (c : Effect) × Follows m (then_came h (Guest e) reply c) new × AllowedGuest (machine_after m h) e reply c × IsItsChange (Guest e) reply c
   does_guest e (r.Guest reply) d =
       let a = d.is_applied in
-      let g : IsLogged old e reply new = record { effect = a.effect; has = a.has; changed = a.changed (honest_for (all_marks old.machine) e honest); dirty = d.dirty; phase = ap (λ (x : LiveSeen). x.phase) d.rest } in
+      let calls = honest_for (all_marks old.machine) e honest in
+      let g : IsLogged old e reply new = record { effect = a.effect; has = honest_effect old.machine new.machine e reply a calls; changed = a.changed calls; dirty = d.dirty; phase = ap (λ (x : LiveSeen). x.phase) d.rest } in
       let P : MachineState → Type 0 = λ x. HasEffect x e (outcome_of reply) reply g.effect × IsSound (applied x g.effect) in
       (g.effect, guest_follows m h e reply old new f places g (ap (λ (x : LiveSeen). x.due) d.rest), subst P f.machine (g.has, subst IsSound g.changed d.is_applied.sound), tt)
   does_guest e _ d = absurd d

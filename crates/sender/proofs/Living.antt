@@ -1,21 +1,18 @@
 -- A machine that is sent, and its sets, after each call.
-use Rattle.std.proofs.Common.{◌≡◌, ◌≢◌, ℕ, zero, suc, ◌+◌, ◌<◌, ◌≤◌, ◌^◌, Bool, true, false, List, [], ◌∷◌, inl, inr, ◌⊎◌, length, map, replicate, set, Option, Some, None, slice_get, Result, Ok, Err, refl, sym, ap, subst, ◌∙◌, arith}
+use Rattle.std.proofs.Common.{◌≡◌, ◌≢◌, ℕ, zero, suc, ◌+◌, ◌<◌, ◌≤◌, ◌^◌, Bool, true, false, List, [], ◌∷◌, inl, inr, ◌⊎◌, length, map, replicate, set, Option, None, refl, sym, ap, subst, ◌∙◌, arith}
 use Rattle.std.proofs.lemmas.Bool.{eq-eqb}
 use Rattle.std.proofs.lemmas.List.{get_or-set_same, length-set, length-replicate}
 use Rattle.dirtylog.specs.Members.{HasNone, IsLeast, has}
 use Rattle.sha2.specs.declared.Sha256.{Sha256}
 use Rattle.guestmem.specs.Memory.{Memory}
 use Rattle.guestmem.specs.Item.{Item, after_all, page, sector}
-use Rattle.machine.specs.Applied.{IsApplied, IsAppliedLogged, MayItems}
+use Rattle.machine.specs.Applied.{IsAppliedLogged, MayItems}
 use Rattle.machine.specs.Effect.{items_of}
 use Rattle.machine.specs.Layout.{IsItemIn, firsts_of, layout_of, number_in, number_of, size_of}
 use Rattle.machine.specs.Seen.{DeviceSeen, Marks, Seen, all_marks, state_of}
 use Rattle.machine.specs.Sound.{IsSound}
 use Rattle.machine.specs.State.{DeviceState, MachineState}
-use Rattle.machine.specs.Step.{input_of, put_by, put_in}
 use Rattle.machine.specs.declared.event.Event.{Event}
-use Rattle.machine.specs.declared.event.Event.TheVariants.{Input}
-use Rattle.machine.specs.declared.reply.Refusal.{Refusal}
 use Rattle.machine.specs.declared.reply.Reply.{Reply}
 use Rattle.machine.proofs.Numbering.{in_layout, number_below, same_layout}
 use Rattle.wire.specs.Sinks.{SinkState}
@@ -165,48 +162,19 @@ guest_free (phases.Open k) e open_still = refl
 guest_free phases.Stopped e open_still = absurd (open_still refl)
 guest_free phases.Failed e open_still = refl
 
-plainly : (old new : Seen) (d next : Dirty) (e : Event) (reply : Reply) → IsAppliedLogged after_taking old d e reply new next → IsApplied old e reply new
-plainly old new d next e reply h = record { effect = h.effect; has = h.has; changed = h.changed; devices = h.devices; shape = h.shape; sound = h.sound; later = h.later; marks = h.marks; unsteady = h.unsteady }
-
--- An input writes into no page and no sector.
-put_nothing : (dev : ℕ) (d : DeviceState) (bytes : List ℕ) (r : Result ℕ Refusal) → items_of (put_by dev d bytes r).effect ≡ []
-put_nothing dev d bytes (Ok count) = refl
-put_nothing dev d bytes (Err refusal) = refl
-
-no_items : (dev : ℕ) (found : Option DeviceState) (bytes : List ℕ) → items_of (put_in dev found bytes).effect ≡ []
-no_items dev None bytes = refl
-no_items dev (Some d) bytes = put_nothing dev d bytes (input_of d.own bytes)
-
-pub logged_input : (old new : Seen) (d : Dirty) (dev : ℕ) (bytes : List ℕ) (reply : Reply) → IsApplied old (Input dev bytes) reply new → IsAppliedLogged after_taking old d (Input dev bytes) reply new d
-logged_input old new d dev bytes reply h =
-    let none : items_of h.effect ≡ [] = ap items_of h.has.effect_is ∙ no_items dev (slice_get (state_of old).devices dev) bytes in
-    record {
-      effect = h.effect;
-      has = h.has;
-      changed = h.changed;
-      logged = rw none refl;
-      devices = h.devices;
-      shape = h.shape;
-      sound = h.sound;
-      later = h.later;
-      marks = h.marks;
-      unsteady = h.unsteady;
-    }
-
 module _ (machine next : Seen) (d new : Dirty) (phase : Phase) (due : List Bool) (at : ℕ) (digest : Sha256) (out : SinkState) (e : Event) (reply : Reply) (live : IsLive machine phase due d.set d.firsts.items at) (h : IsAppliedLogged after_taking machine d e reply next new) where
-  noted : new ≡ record d { set = with_items d.firsts.items d.set (items_of h.effect) }
-  noted = h.logged ∙ all_noted d (items_of h.effect)
+  noted : new ≡ record d { set = with_items d.firsts.items d.set (items_of h.is_applied.effect) }
+  noted = h.logged ∙ all_noted d (items_of h.is_applied.effect)
 
   pub live_guest : IsLive next phase due new.set new.firsts.items at
   live_guest =
-      live_next machine next phase phase due due d.set new.set d.firsts.items new.firsts.items at at live h.sound (same_layout (state_of machine) (state_of next) h.shape) refl
-      (ap (λ (x : Dirty). length x.set) noted ∙ length-with_items d.firsts.items d.set (items_of h.effect)) (ap (λ (x : Dirty). x.firsts.items) noted) live.round live.reached live.passed
+      live_next machine next phase phase due due d.set new.set d.firsts.items new.firsts.items at at live h.is_applied.sound (same_layout (state_of machine) (state_of next) h.is_applied.shape) refl
+      (ap (λ (x : Dirty). length x.set) noted ∙ length-with_items d.firsts.items d.set (items_of h.is_applied.effect)) (ap (λ (x : Dirty). x.firsts.items) noted) live.round live.reached live.passed
 
   pub guest_served : phase ≢ phases.Stopped → Serves (record { machine = machine; phase = phase; due = due; dirty = d.set; digest = digest; out = out }) (Guest e) (r.Guest reply) (record { machine = next; phase = phase; due = due; dirty = new.set; digest = digest; out = out })
-  unfolding plainly
   guest_served open_still = rw (guest_free phase e open_still) (record {
-    is_applied = plainly machine next d new e reply h;
-    dirty = ap (λ (x : Dirty). x.set) noted ∙ ap (λ (fs : List ℕ). with_items fs d.set (items_of h.effect)) live.room.firsts_are;
+    is_applied = h.is_applied;
+    dirty = ap (λ (x : Dirty). x.set) noted ∙ ap (λ (fs : List ℕ). with_items fs d.set (items_of h.is_applied.effect)) live.room.firsts_are;
     rest = refl;
   })
 

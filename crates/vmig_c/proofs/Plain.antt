@@ -14,6 +14,7 @@ use Rattle.machine.specs.Outcome.{outcome_of}
 use Rattle.machine.specs.Step.{IsStep}
 use Rattle.machine.specs.StepLaws.{IsRefusal}
 use Rattle.machine.proofs.Containing.{refusals_quiet}
+use Rattle.machine.proofs.Honest.{honest_step}
 use Rattle.machine.specs.declared.reply.Reply.TheVariants.{Value, Done, OutByte, Bytes, Idle, Taken, Moved, BadSector, DiskFailed, Completed, Sent, Dropped, Accepted, NeedsReset, NoMemory, Refused}
 use Rattle.vmig_c.specs.Status.{status_of}
 use Rattle.vmig_c.specs.Plain.{ArePlain, PlainStays, RefusedChangesNothing}
@@ -88,5 +89,5 @@ is_refusal (Refused refusal) some few = tt
 
 pub refused_quiet : RefusedChangesNothing
 refused_quiet m next e reply plain applied some few =
-    let step : IsStep (state_of m) e (outcome_of reply) reply (state_of next) = record { effect = applied.effect; has = applied.has; changed = applied.changed (honest_for m e plain) } in
+    let step : IsStep (state_of m) e (outcome_of reply) reply (state_of next) = honest_step m next e reply applied (honest_for m e plain) in
     refusals_quiet (state_of m) e (outcome_of reply) reply (state_of next) step (is_refusal reply some few)

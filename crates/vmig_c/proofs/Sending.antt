@@ -30,7 +30,7 @@ use Rattle.console.specs.declared.receiving.Received.{Received}
 use Rattle.console.specs.declared.receiving.Received.TheVariants as received
 use Rattle.net.specs.declared.receiving.Received as net
 use Rattle.net.specs.declared.receiving.Received.TheVariants as frames
-use Rattle.machine.specs.Applied.{IsApplied}
+use Rattle.machine.specs.Applied.{IsApplied, as_given}
 use Rattle.machine.specs.DeviceStep.{device_step, step_at, looked_step, advance_at, advanced_at, looked_at, message_form, reply_of, reply_to_advance, serve, served_of, served_taking, served_frame}
 use Rattle.machine.specs.Outcome.{Outcome, fine, disk_failed, no_memory, outcome_of}
 use Rattle.machine.specs.Seen.{Seen, state_of}
@@ -133,7 +133,7 @@ of_device dev (Some d) ram content pick o seen = of_step d ram content pick (loo
 -- What a machine sends in a step.
 pub sends_within : (m after : Seen) (dev pick : ℕ) (reply : Reply) → IsApplied m (Step dev pick) reply after → length (sent_in reply) ≤ most_sent_by m dev pick
 sends_within m after dev pick reply applied =
-    let s = state_of m in let o = outcome_of reply in
+    let s = as_given (state_of m) (Step dev pick) applied.given in let o = outcome_of reply in
     rw (applied.has.reply_is) (of_device dev (slice_get s.devices dev) s.ram (disk_of s dev) pick o applied.has.seen)
 
 -- No step sends more than 65,536 bytes.

@@ -1,8 +1,9 @@
 use Rattle.machine.specs.Applied.{IsAppliedLogged}
 use Rattle.machine.specs.Direct.{accepted_reply}
 use Rattle.machine.specs.declared.event.Event.TheVariants.{Input}
+use Rattle.machine.proofs.Quiet.{unlogged}
 use Rattle.sender.specs.Dirty.{after_taking}
-use Rattle.sender.proofs.Living.{guest_served, live_guest, logged_input}
+use Rattle.sender.proofs.Living.{guest_served, live_guest}
 use Rattle.sender.proofs.live.Live.input.Goals as goal
 
 pub invariant_of-self : goal.invariant_of-self
@@ -11,7 +12,7 @@ invariant_of-self g c =
     let was = c.input in
     let e = Input c.args.dev c.args.bytes.now in
     let reply = accepted_reply was.result in
-    let h : IsAppliedLogged after_taking i.source i.changed e reply was.new.self i.changed = logged_input i.source was.new.self i.changed c.args.dev c.args.bytes.now reply was.ensures in
+    let h : IsAppliedLogged after_taking i.source i.changed e reply was.new.self i.changed = unlogged after_taking i.source was.new.self i.changed e reply tt was.ensures in
     live_guest i.source was.new.self i.changed i.changed i.stage i.left i.at i.taken (g.W.Sink.state i.writer) e reply c.self.invariant h
 
 pub returns : goal.returns
@@ -20,6 +21,6 @@ returns g c =
     let was = c.input in
     let e = Input c.args.dev c.args.bytes.now in
     let reply = accepted_reply was.result in
-    let h : IsAppliedLogged after_taking i.source i.changed e reply was.new.self i.changed = logged_input i.source was.new.self i.changed c.args.dev c.args.bytes.now reply was.ensures in
+    let h : IsAppliedLogged after_taking i.source i.changed e reply was.new.self i.changed = unlogged after_taking i.source was.new.self i.changed e reply tt was.ensures in
     rw (← c.self.view_is, c.from_accepted.ensures)
     (guest_served i.source was.new.self i.changed i.changed i.stage i.left i.at i.taken (g.W.Sink.state i.writer) e reply c.self.invariant h c.in_default.not-Stopped)
