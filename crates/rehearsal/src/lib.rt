@@ -10,9 +10,12 @@
 //! That there is a stream between them is not in the contract, which speaks of machines: a test shows it, over a disk that
 //! keeps the list of its writes.
 //!
+//! `laws` says of a host that makes the calls itself that what arrives is the machine that it stopped (`specs/Moves`).
+//!
 //! It stands on `sender` and `receiver`.
 #![tactic(auto)]
 
+pub mod laws;
 mod rehearsing;
 
 pub use rehearsing::{Rehearsal, rehearse};
