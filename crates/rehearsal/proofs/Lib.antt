@@ -2,3 +2,4 @@ pub mod Pieces
 pub mod GoingOn
 pub mod Sending
 pub mod Arriving
+pub mod Moving

@@ -49,9 +49,9 @@ guests_of (_ ∷ es) = guests_of es
 abbrev pub remaining : List LiveEvent → List LiveReply → List Event
 remaining events replies = guests_of (drop (length replies) events)
 
--- A writer in memory as it begins: it holds nothing, did not fail, and is honest.
+-- A writer in memory as it begins: it holds nothing, did not fail, is honest, and is not flushed yet.
 abbrev pub empty_writer : SinkState
-empty_writer = record { held = []; failures = 0; honest = true }
+empty_writer = record { held = []; failures = 0; honest = true; is_flushed = false }
 
 -- The machine after the events that have these replies, each of which may come after those before it. The writer is in memory:
 -- a reply that says it failed says that it was refused memory.

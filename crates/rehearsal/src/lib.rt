@@ -19,9 +19,12 @@
 //! That there is a stream between the two machines is not in the contract, which speaks of machines: a test shows it, over a disk
 //! that keeps the list of its writes.
 //!
+//! `laws` says of a host that makes the calls itself that what arrives is the machine that it stopped (`specs/Moves`).
+//!
 //! It uses `sender` and `receiver`.
 #![tactic(auto)]
 
+pub mod laws;
 mod rehearsing;
 
 pub use rehearsing::{Rehearsal, rehearse};

@@ -1,5 +1,5 @@
 -- A list of live events.
-use Rattle.std.proofs.Common.{◌≡◌, ℕ, ◌+◌, ◌<◌, ◌≤◌, List, [], ◌∷◌, ◌++◌, length, take, get_or, false, inl, inr, refl, ap, sym, subst, ◌∙◌, arith, append-nil}
+use Rattle.std.proofs.Common.{◌≡◌, ℕ, ◌+◌, ◌<◌, ◌≤◌, List, [], ◌∷◌, ◌++◌, length, take, get_or, true, false, inl, inr, refl, ap, sym, subst, ◌∙◌, arith, append-nil}
 use Rattle.std.specs.Prelude.{IsTrue}
 use Rattle.std.proofs.lemmas.List.{length-take-le, length-append, take_more}
 use Rattle.std.proofs.Math.Seq.{take-length}
@@ -17,9 +17,11 @@ use Rattle.sender.specs.Stopping.{HasPlaces}
 use Rattle.sender.specs.History.{History, has_fault, nothing, onward, phase_of, text, then_came}
 use Rattle.sender.specs.Follows.{Relates}
 use Rattle.sender.specs.Ran.{Ran}
+use Rattle.sender.specs.declared.phase.Phase.{Phase}
 use Rattle.sender.specs.declared.phase.Phase.TheVariants as phases
 use Rattle.sender.specs.declared.event.LiveEvent.{LiveEvent}
 use Rattle.sender.specs.declared.event.LiveReply.{LiveReply}
+use Rattle.sender.proofs.Flushing.{IsFlushedIfStopped, stays_flushed}
 use Rattle.sender.proofs.Relating.{relates_on}
 use Rattle.sender.proofs.Whole.{stopped_is_a_stream}
 
@@ -41,6 +43,7 @@ pub record SoFar (m : MachineState) (out : SinkState) (es : List LiveEvent) (rep
   pub effects : List Effect
   pub as_many : length effects ≡ length replies
   pub relates : Relates m (onward nothing es replies effects) out s
+  pub flushed : IsFlushedIfStopped s
 
 -- Nothing was played.
 pub ran_none : (m n : MachineState) (es : List LiveEvent) (replies : List LiveReply) (old new : SinkState) → replies ≡ [] → n ≡ m → new ≡ old → Ran m es replies old n new
@@ -53,6 +56,7 @@ ran_none m n es replies old new none same out = record {
     count = ap (λ (o : SinkState). o.failures) out;
     held = λ _ honest. (rw out honest, ap (λ (o : SinkState). o.held) out ∙ sym (append-nil old.held));
     stream = λ is. cc;
+    flushed = λ is. cc;
   });
 }
 
@@ -70,6 +74,7 @@ so_far_first s machine out es replies none same phase digest sink honest = rw no
     held = λ _ good. ((let P : SinkState → Type 0 = λ x. IsTrue x.honest in subst P (sym sink) good), ap (λ (o : SinkState). o.held) sink ∙ sym (append-nil out.held));
     taken = λ _ _. digest;
   });
+  flushed = (let P : Phase → Type 0 = λ p. p ≡ phases.Stopped → s.out.is_flushed ≡ true in subst P (sym phase) (λ is. cc));
 })
 
 -- One more event.
@@ -84,6 +89,7 @@ so_far_more m out es i e d replies reply old new below is long places s g =
       effects = g.effects ++ gone.effect ∷ [];
       as_many = omega (arith, g.as_many, length-append g.effects (gone.effect ∷ []), length-append replies (reply ∷ []));
       relates = rw (more, onward_more nothing (take i es) replies g.effects e reply gone.effect same g.as_many) gone.relates;
+      flushed = stays_flushed old new e reply g.flushed s;
     }
 
 -- Where a stop answered Ok no writer failed.
@@ -105,6 +111,7 @@ ran m n es all replies out new s e sound same sink g = rw (← e) (record {
       not_faulty m (onward nothing es replies g.effects) out s g.relates is,
       subst P (sym (same ∙ g.relates.follows.machine)) (stopped_is_a_stream m (onward nothing es replies g.effects) g.relates.allowed sound is),
     );
+    flushed = λ is. ap (λ (o : SinkState). o.is_flushed) sink ∙ g.flushed (g.relates.follows.phase ∙ is);
   };
 })
 

@@ -278,6 +278,7 @@ stops old mid new pages sectors free s c =
       phase = c.phase;
       sets = cleared_on old mid new n s.are_sent.sets c.due c.dirty;
       count = c.count ∙ s.are_sent.wrote.took.count;
+      flushed = c.flushed;
       took = λ disks b held.
           let P : Seen → Type 0 = λ x. Took mid new (closing (state_of x) (b ++ sent)) in
           took_more old mid new sent (closing (now old) (b ++ sent)) s.are_sent.machine s.are_sent.wrote.took (subst P s.are_sent.machine (c.took (b ++ sent) (s.are_sent.wrote.taken disks b held)));

@@ -60,6 +60,7 @@ module _ (taken : List ℕ) where
     phase = s.phase;
     sets = record { gone = s.sets.gone; due = s.sets.due; dirty = s.sets.dirty };
     count = s.count;
+    flushed = s.flushed;
     took = λ honest b holds. took old new _ (s.took honest b holds);
     pages_are = s.pages_are;
     sectors_are = s.sectors_are;

@@ -114,12 +114,14 @@ pub record AreCleared (old : LiveSeen) (to : ℕ) (new : LiveSeen) : Type 0 wher
   pub due : (i : ℕ) → to ≤ i → has new.due i ≡ has old.due i
   pub dirty : (i : ℕ) → to ≤ i → has new.dirty i ≡ has old.dirty i
 
--- The items of the two sets were sent, each once and in order, then the devices and the digest of all.
+-- The items of the two sets were sent, each once and in order, then the devices and the digest of all, and the writer was
+-- flushed after its last byte.
 pub record Stops (old : LiveSeen) (pages sectors : ℕ) (new : LiveSeen) : Type 0 where
   pub machine : new.machine ≡ old.machine
   pub phase : new.phase ≡ phases.Stopped
   pub sets : AreCleared old (size_of (layout_of (now old))) new
   pub count : new.out.failures ≡ old.out.failures
+  pub flushed : new.out.is_flushed ≡ true
   pub took : AreHonest old.machine → (b : List ℕ) → Holds256 old.digest b → (let sent = texts (records_of (now old) (chosen (in_either old) (size_of (layout_of (now old))))) in Took old new (sent ++ closing (now old) (b ++ sent)))
   pub pages_are : pages ≡ pages_among (layout_of (now old)) (in_either old) (size_of (layout_of (now old)))
   pub sectors_are : sectors ≡ sectors_among (layout_of (now old)) (in_either old) (size_of (layout_of (now old)))

@@ -1,5 +1,5 @@
 -- What a list of live events leaves.
-use Rattle.std.specs.Prelude.{◌≡◌, ◌++◌, ◌⊎◌, List, [], ◌∷◌, length, false, IsTrue}
+use Rattle.std.specs.Prelude.{◌≡◌, ◌++◌, ◌⊎◌, List, [], ◌∷◌, length, true, false, IsTrue}
 use Rattle.machine.specs.Applied.{FailsOnlyUnsteady}
 use Rattle.machine.specs.Effect.{Effect}
 use Rattle.machine.specs.Seen.{Marks, marks_at}
@@ -19,13 +19,14 @@ use Rattle.sender.specs.declared.mig_error.MigError.TheVariants as errors
 
 -- What a history leaves of a machine and of a writer: the machine after it, every reply one that may come, the writer's count
 -- of failures, which rose where a reply tells so, and the text of the history, which is a stream of the machine once a stop
--- answered Ok.
+-- answered Ok, after which the writer was flushed.
 pub record Leaves (m : MachineState) (h : History) (old : SinkState) (last : MachineState) (new : SinkState) : Type 0 where
   pub machine : last ≡ machine_after m h
   pub allowed : AllAllowed m h
   pub count : new.failures ≡ count_after old.failures (has_fault h)
   pub held : has_fault h ≡ false → IsTrue old.honest → IsTrue new.honest × (new.held ≡ old.held ++ text m h)
   pub stream : phase_of h ≡ phases.Stopped → (has_fault h ≡ false) × IsStream (text m h) last
+  pub flushed : phase_of h ≡ phases.Stopped → new.is_flushed ≡ true
 
 -- These events were answered so, and each changed in the machine what its step says: there is an effect for each reply.
 pub record Ran (m : MachineState) (events : List LiveEvent) (replies : List LiveReply) (old : SinkState) (last : MachineState) (new : SinkState) : Type 0 where

@@ -1,5 +1,5 @@
 -- The parts of a copy and of a stop.
-use Rattle.std.specs.Prelude.{◌≡◌, ℕ, ◌+◌, ◌<◌, ◌≤◌, ◌^◌, if◌then◌else◌, List, Bool, false, Result, Ok, Err, length}
+use Rattle.std.specs.Prelude.{◌≡◌, ℕ, ◌+◌, ◌<◌, ◌≤◌, ◌^◌, if◌then◌else◌, List, Bool, true, false, Result, Ok, Err, length}
 use Rattle.dirtylog.specs.Members.{has}
 use Rattle.sha2.specs.Hashers.{Holds256}
 use Rattle.guestmem.specs.Item as items
@@ -75,13 +75,14 @@ SendsAll old (Err (errors.DiskFailed dev n)) new = StopsShort old dev n new
 SendsAll old (Err errors.StreamFailed) new = Fails old new
 SendsAll old (Err _) new = ⊥
 
--- The stream was closed.
+-- The stream was closed, and the writer flushed.
 pub record IsClosed (old new : LiveSeen) : Type 0 where
   pub machine : new.machine ≡ old.machine
   pub phase : new.phase ≡ phases.Stopped
   pub due : new.due ≡ old.due
   pub dirty : new.dirty ≡ old.dirty
   pub count : new.out.failures ≡ old.out.failures
+  pub flushed : new.out.is_flushed ≡ true
   pub took : (b : List ℕ) → Holds256 old.digest b → Took old new (closing (now old) b)
 
 abbrev pub Closes : {A : Type 0} → LiveSeen → Result A MigError → LiveSeen → Type 0

@@ -1,6 +1,7 @@
 //! A list of live events, played.
 
-ghost use Rattle.machine.specs.Seen.{AreHonest, all_marks, state_of};
+ghost use Rattle.std.specs.Prelude.{◌≡◌, ℕ};
+ghost use Rattle.machine.specs.Seen.{AreHonest, all_marks, marks_at, state_of};
 ghost use Rattle.sender.specs.Ran.{AllNameUnsteady, AllOrNone, Ran};
 
 use crate::event::LiveEvent;
@@ -12,6 +13,8 @@ use wire::Sink;
 
 /// Plays the events in order on a machine that is sent to a writer, and gives machine, writer and a reply for each event
 /// back. It makes room for the replies first: where memory is refused, nothing is played and there is no reply.
+///
+/// The disks stay as honest and as steady as they were, so the machine that it gives back may be sent again.
 pub fn replay<D: Disk + Drop, W: Sink + Drop>(
     alloc: Global,
     machine: Machine<D>,
@@ -20,6 +23,8 @@ pub fn replay<D: Disk + Drop, W: Sink + Drop>(
 ) -> Replay<D, W>
     ensures each { AllOrNone events.now result.replies.items }
     ensures unsteady { AllNameUnsteady (all_marks machine) events.now result.replies.items }
+    ensures honest { AreHonest machine → AreHonest result.machine }
+    ensures steady { (dev : ℕ) → (marks_at (all_marks result.machine) dev).steady ≡ (marks_at (all_marks machine) dev).steady }
     ensures ran { AreHonest machine → Ran (state_of machine) events.now result.replies.items (W.state out) (state_of result.machine) (W.state result.out) }
 {
     let _shapes = machine.shapes();

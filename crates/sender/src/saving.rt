@@ -1,6 +1,6 @@
 //! A whole machine, saved to a sink.
 
-ghost use Rattle.std.specs.Prelude.{◌≡◌, ◌<◌, ◌++◌, ℕ, List, IfErr, OnOk, length};
+ghost use Rattle.std.specs.Prelude.{◌≡◌, ◌<◌, ◌++◌, ℕ, List, IfErr, OnOk, length, true};
 ghost use Rattle.guestmem.specs.Item.{page, sector};
 ghost use Rattle.machine.specs.EffectLaws.{HasItem};
 ghost use Rattle.machine.specs.Layout.{pages_of};
@@ -27,7 +27,8 @@ use wire::{
 /// failed, and `DiskFailed` exactly where the disk failed that it names. The machine stays as it was. It takes no memory.
 #[tactic(auto, unfolding(wire::specs::Stream::whole))]
 pub fn save<D: Disk, S: Sink>(machine: &mut Machine<D>, out: &mut S) -> Result<(), MigError>
-    ensures { Sends machine.old (S.state out.old) (whole (state_of machine.old)) result machine.new (S.state out.new) }
+    ensures sent { Sends machine.old (S.state out.old) (whole (state_of machine.old)) result machine.new (S.state out.new) }
+    ensures flushed { OnOk result ((S.state out.new).is_flushed ≡ true) }
 {
     let mut digest = Sha256::new();
     write_saved(machine, out, &mut digest)?;
@@ -35,9 +36,10 @@ pub fn save<D: Disk, S: Sink>(machine: &mut Machine<D>, out: &mut S) -> Result<(
     Ok(())
 }
 
-/// The digest, and the flush behind it.
+/// The digest, and the flush after it.
 pub(crate) fn write_end<S: Sink>(digest: &[u8; 32], out: &mut S) -> Result<(), SinkFault>
-    ensures { Appends (S.state out.old) (spelled_record (commit digest.now)) result (S.state out.new) }
+    ensures out { Appends (S.state out.old) (spelled_record (commit digest.now)) result (S.state out.new) }
+    ensures flushed { OnOk result ((S.state out.new).is_flushed ≡ true) }
 {
     encode_commit(digest, out)?;
     out.flush()

@@ -6,10 +6,12 @@ use Rattle.std.proofs.Math.Seq.{take-append_seam}
 use Rattle.std.proofs.lemmas.List.{take-append-drop, length-take-le}
 use Rattle.machine.specs.Seen.{state_of}
 use Rattle.machine.specs.State.{MachineState}
-use Rattle.sender.specs.Follows.{Relates}
-use Rattle.sender.specs.History.{History, has_fault}
+use Rattle.sender.specs.Follows.{AgreesIn, Relates}
+use Rattle.sender.specs.History.{History, has_fault, phase_of}
 use Rattle.sender.specs.LiveState.{LiveSeen, now}
 use Rattle.sender.specs.Taking.{untaken}
+use Rattle.sender.specs.declared.phase.Phase.{Phase}
+use Rattle.sender.specs.declared.phase.Phase.TheVariants as phases
 use Rattle.sender.proofs.Taking.{taken_are_whole, taken_follow}
 use Rattle.wire.specs.Sinks.{SinkState, over_writer}
 use Rattle.wire.specs.Stream.{IsStream}
@@ -22,7 +24,7 @@ first_is_sent m l honest fresh = fresh.relates honest
 
 pub calls_stay_sent : CallsStaySent
 calls_stay_sent m h taken e reply l next is places serves =
-    let more = taken_follow m h (over_writer (Some []) 0) taken e reply l next is places serves in
+    let more = taken_follow m h (over_writer (Some []) 0 false) taken e reply l next is places serves in
     record { effect = more.effect; is_sent = more.relates }
 
 -- The first of the bytes that wait are what stands at the front of the buffer.
@@ -31,11 +33,32 @@ front_of got held buf fits =
     let P : ℕ → Type 0 = λ n. take n (take got held ++ drop got buf) ≡ take got held in
     subst P (length-take-le got held fits) (take-append_seam (take got held) (drop got buf))
 
--- The writer with what was taken in front of what waits.
+-- The writer with what was taken in front of what waits. It was replaced, so it is not flushed.
 abbrev whole_writer : List ℕ → SinkState → SinkState
-whole_writer taken o = record o { held = taken ++ o.held }
+whole_writer taken o = record o { held = taken ++ o.held; is_flushed = false }
 
-takings : (m : MachineState) (h : History) (taken buf new_buf : List ℕ) (status got : ℕ) (l next : LiveSeen) → IsSent m h taken l → has_fault h ≡ false → HasTaken l status got buf new_buf next → untaken (taken ++ take got new_buf) next ≡ untaken taken l
+abbrev unflushed : LiveSeen → LiveSeen
+unflushed s = record s { out = record s.out { is_flushed = false } }
+
+-- What a history says of a machine that is sent says nothing of whether its writer is flushed.
+agrees_still : (p : Phase) (m : MachineState) (h : History) (s : LiveSeen) → AgreesIn p m h s → AgreesIn p m h (unflushed s)
+agrees_still phases.Fresh m h s a = a
+agrees_still (phases.Open k) m h s a = record { due = a.due; stale = a.stale }
+agrees_still phases.Stopped m h s a = tt
+agrees_still phases.Failed m h s a = tt
+
+relates_still : (m : MachineState) (h : History) (out : SinkState) (s : LiveSeen) → Relates m h out s → Relates m h out (unflushed s)
+relates_still m h out s g = record {
+  follows = record { machine = g.follows.machine; shape = g.follows.shape; phase = g.follows.phase; sets = agrees_still (phase_of h) m h s g.follows.sets };
+  allowed = g.allowed;
+  honest = g.honest;
+  fault = g.fault;
+  count = g.count;
+  held = g.held;
+  taken = g.taken;
+}
+
+takings : (m : MachineState) (h : History) (taken buf new_buf : List ℕ) (status got : ℕ) (l next : LiveSeen) → IsSent m h taken l → has_fault h ≡ false → HasTaken l status got buf new_buf next → untaken (taken ++ take got new_buf) next ≡ unflushed (untaken taken l)
 takings m h taken buf new_buf status got l next is quiet took =
     let held = l.out.held in
     let few : got ≤ length held = rw (took.count) (min-le_right (length buf) (length held)) in
@@ -43,18 +66,18 @@ takings m h taken buf new_buf status got l next is quiet took =
     let all : (taken ++ take got new_buf) ++ drop got held ≡ taken ++ held = rw front (append_assoc taken (take got held) (drop got held) ∙ ap (λ (b : List ℕ). taken ++ b) (take-append-drop got held)) in
     let count : 0 ≡ l.out.failures = sym (rw quiet at is.count) in
     let honest : true ≡ l.out.honest = sym (is.held quiet refl).0 in
-    let out : SinkState = record { held = (taken ++ take got new_buf) ++ drop got held; failures = 0; honest = true } in
-    let sinks : out ≡ whole_writer taken l.out = (λ i. record { held = all i; failures = count i; honest = honest i }) in
+    let out : SinkState = record { held = (taken ++ take got new_buf) ++ drop got held; failures = 0; honest = true; is_flushed = false } in
+    let sinks : out ≡ whole_writer taken l.out = (λ i. record { held = all i; failures = count i; honest = honest i; is_flushed = false }) in
     ap (λ (s : LiveSeen). untaken (taken ++ take got new_buf) s) took.rest ∙ ap (λ (o : SinkState). record l { out = o }) sinks
 
 pub takings_stay_sent : TakingsStaySent
 takings_stay_sent m h taken buf new_buf status got l next is quiet took =
-    let P : LiveSeen → Type 0 = λ s. Relates m h (over_writer (Some []) 0) s in
-    subst P (sym (takings m h taken buf new_buf status got l next is quiet took)) is
+    let P : LiveSeen → Type 0 = λ s. Relates m h (over_writer (Some []) 0 false) s in
+    subst P (sym (takings m h taken buf new_buf status got l next is quiet took)) (relates_still m h (over_writer (Some []) 0 false) (untaken taken l) is)
 
 pub stopped_is_whole : StoppedIsWhole
 stopped_is_whole m h taken l is sound stopped =
-    let w = taken_are_whole m h (over_writer (Some []) 0) taken l is sound stopped in
+    let w = taken_are_whole m h (over_writer (Some []) 0 false) taken l is sound stopped in
     let P : List ℕ → Type 0 = λ b. IsStream b (now l) in
     subst P (sym (w.whole refl)) w.is_stream
 

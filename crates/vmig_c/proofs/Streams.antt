@@ -1,5 +1,5 @@
 -- Machines that are saved and received.
-use Rattle.std.proofs.Common.{◌≡◌, ℕ, true, false, nat_lt, List, [], ◌∷◌, ◌++◌, refl, sym, ap, ◌∙◌, subst, map, replicate, length, drop, inl, inr, true≢false}
+use Rattle.std.proofs.Common.{◌≡◌, ℕ, Bool, true, false, nat_lt, List, [], ◌∷◌, ◌++◌, refl, sym, ap, ◌∙◌, subst, map, replicate, length, drop, inl, inr, true≢false}
 use Rattle.std.specs.Prelude.{Result, Ok, Err, IfErr, OnOk}
 use Rattle.machine.specs.Seen.{Seen, AreHonest, DeviceSeen, Marks, all_marks, marks_at, no_marks, state_of}
 use Rattle.sender.specs.Saving.{Sends, marks_after, IsNamed}
@@ -166,14 +166,14 @@ pub was_full : (bytes : List ℕ) → RefusedBy bytes 10
 was_full bytes = inr refl
 
 -- What a sink over a vector holds after the whole stream.
-held_ok : (m : Seen) (bytes : List ℕ) (out new_out : SinkState) (items : List ℕ) (failures : ℕ) → (AreHonest m → IsTrue out.honest → IsTrue new_out.honest × (new_out.held ≡ out.held ++ bytes)) → ArePlain m
-    → out ≡ over_writer (Some []) 0 → new_out ≡ over_writer (Some items) failures → items ≡ bytes
-held_ok m bytes out new_out items failures holds plain was is =
+held_ok : (m : Seen) (bytes : List ℕ) (out new_out : SinkState) (items : List ℕ) (failures : ℕ) (flushed : Bool) → (AreHonest m → IsTrue out.honest → IsTrue new_out.honest × (new_out.held ≡ out.held ++ bytes)) → ArePlain m
+    → out ≡ over_writer (Some []) 0 false → new_out ≡ over_writer (Some items) failures flushed → items ≡ bytes
+held_ok m bytes out new_out items failures flushed holds plain was is =
     let honest : IsTrue out.honest = rw was refl in
     let more = holds (are_honest m plain) honest in
     ap (λ (s : SinkState). s.held) (sym is) ∙ more.1 ∙ ap (λ (s : SinkState). s.held ++ bytes) was
 
 pub held_of : (m next : Seen) (out new_out : SinkState) (bytes items first : List ℕ) (result : Result (Unit {0}) MigError) (x : Unit {0}) → ArePlain m → Sends m out bytes result next new_out → result ≡ Ok x
-    → first ≡ [] → out ≡ over_writer (Some first) 0 → new_out ≡ over_writer (Some items) new_out.failures → items ≡ bytes
+    → first ≡ [] → out ≡ over_writer (Some first) 0 false → new_out ≡ over_writer (Some items) new_out.failures new_out.is_flushed → items ≡ bytes
 held_of m next out new_out bytes items first result x plain sends is empty was now =
-    held_ok m bytes out new_out items new_out.failures (subst (λ (r : Result (Unit {0}) MigError). OnOk r (AreHonest m → IsTrue out.honest → IsTrue new_out.honest × (new_out.held ≡ out.held ++ bytes))) is sends.holds) plain (was ∙ ap (λ (l : List ℕ). over_writer (Some l) 0) empty) now
+    held_ok m bytes out new_out items new_out.failures new_out.is_flushed (subst (λ (r : Result (Unit {0}) MigError). OnOk r (AreHonest m → IsTrue out.honest → IsTrue new_out.honest × (new_out.held ≡ out.held ++ bytes))) is sends.holds) plain (was ∙ ap (λ (l : List ℕ). over_writer (Some l) 0 false) empty) now

@@ -1,5 +1,5 @@
 -- The migration of a machine behind a handle, call by call.
-use Rattle.std.specs.Prelude.{◌≡◌, ℕ, List, [], ◌++◌, count_by, min, length, take, drop, Option, Some, None}
+use Rattle.std.specs.Prelude.{false, ◌≡◌, ℕ, List, [], ◌++◌, count_by, min, length, take, drop, Option, Some, None}
 use Rattle.machine.specs.Seen.{AreHonest, Seen, state_of}
 use Rattle.sender.specs.Calls.{Serves}
 use Rattle.sender.specs.Follows.{Relates}
@@ -25,9 +25,9 @@ IsNotBegun m status next = (status ≡ mig_status NotBegun) × (next ≡ m)
 pub record IsFresh (m : Seen) (l : LiveSeen) : Type 0 where
   pub machine : l.machine ≡ m
   pub phase : l.phase ≡ phases.Fresh
-  pub out : l.out ≡ over_writer (Some []) 0
+  pub out : l.out ≡ over_writer (Some []) 0 false
   pub places : HasPlaces l
-  pub relates : AreHonest m → Relates (state_of m) nothing (over_writer (Some []) 0) l
+  pub relates : AreHonest m → Relates (state_of m) nothing (over_writer (Some []) 0 false) l
 
 pub record HasBegun (m : Seen) (status : ℕ) (l : LiveSeen) : Type 0 where
   pub fresh : LiveSeen
@@ -126,7 +126,7 @@ pub record HasTaken (l : LiveSeen) (status got : ℕ) (buf new_buf : List ℕ) (
   pub status_is : status ≡ done
   pub count : got ≡ min (length buf) (length l.out.held)
   pub bytes : new_buf ≡ take got l.out.held ++ drop got buf
-  pub rest : next ≡ record l { out = over_writer (Some (drop got l.out.held)) 0 }
+  pub rest : next ≡ record l { out = over_writer (Some (drop got l.out.held)) 0 false }
 
 abbrev pub TakesKept : State → ℕ → ℕ → ℕ → List ℕ → List ℕ → State → Type 0
 TakesKept (Still m) status got old_got buf new_buf (Still next) = IsNotBegun m status next × (got ≡ old_got) × (new_buf ≡ buf)

@@ -24,7 +24,7 @@ use Rattle.vmig_c.specs.Moving.{IsReceivedAs}
 
 -- This happened to the machine since it began to be sent, and these bytes were taken.
 abbrev pub IsSent : MachineState → History → List ℕ → LiveSeen → Type 0
-IsSent m h taken l = Relates m h (over_writer (Some []) 0) (untaken taken l)
+IsSent m h taken l = Relates m h (over_writer (Some []) 0 false) (untaken taken l)
 
 -- So it is at first, with no history, and nothing taken.
 abbrev pub FirstIsSent : Type 0

@@ -1,12 +1,14 @@
 -- What a sink means, and what is said of bytes on their way to one.
-use Rattle.std.specs.Prelude.{◌≡◌, ℕ, ◌++◌, List, [], Bool, IsTrue, Option, Some, None, Result, OnOk, is_some}
+use Rattle.std.specs.Prelude.{◌≡◌, ℕ, ◌++◌, List, [], Bool, IsTrue, Option, Some, None, Result, OnOk, is_ok, is_some}
 use Rattle.guestmem.specs.Failures.{counted}
 
--- The bytes that a sink holds, how often it failed (modulo 2^64), and whether it is honest.
+-- The bytes that a sink holds, how often it failed (modulo 2^64), whether it is honest, and whether it is flushed: whether the
+-- last call was a flush that succeeded.
 pub record SinkState : Type 0 where
   pub held : List ℕ
   pub failures : ℕ
   pub honest : Bool
+  pub is_flushed : Bool
 
 -- A call that adds these bytes to a sink: the count of failures rises exactly where it fails, and an honest sink stays so
 -- and holds, where it succeeds, the bytes behind what it held.
@@ -14,10 +16,11 @@ pub record Appends {T E : Type 0} (old : SinkState) (bytes : List ℕ) (result :
   pub count : new.failures ≡ counted old.failures result
   pub holds : OnOk result (IsTrue old.honest → IsTrue new.honest × (new.held ≡ old.held ++ bytes))
 
--- A call that adds nothing.
+-- A call that adds nothing, and flushes the sink exactly where it succeeds.
 pub record Flushes {T E : Type 0} (old : SinkState) (result : Result T E) (new : SinkState) : Type 0 where
   pub count : new.failures ≡ counted old.failures result
   pub holds : OnOk result (IsTrue old.honest → IsTrue new.honest × (new.held ≡ old.held))
+  pub flushed : new.is_flushed ≡ is_ok result
 
 -- What is kept of bytes goes on by these: had it taken some, it has taken them and these now.
 abbrev pub Takes : (List ℕ → Type 0) → List ℕ → (List ℕ → Type 0) → Type 0
@@ -28,5 +31,5 @@ abbrev pub known : Option (List ℕ) → List ℕ
 known None = []
 known (Some bytes) = bytes
 
-abbrev pub over_writer : Option (List ℕ) → ℕ → SinkState
-over_writer contents failures = record { held = known contents; failures = failures; honest = is_some contents }
+abbrev pub over_writer : Option (List ℕ) → ℕ → Bool → SinkState
+over_writer contents failures is_flushed = record { held = known contents; failures = failures; honest = is_some contents; is_flushed = is_flushed }

@@ -8,18 +8,20 @@ use thiserror::Error;
 #[error("the sink failed")]
 pub struct SinkFault;
 
-/// A place for bytes. It holds bytes, it has a count of its failures modulo 2^64, and it is honest or not. An honest one
-/// stays so and holds, after a `put` that succeeds, what it held and then the bytes given. After a failure its bytes and
-/// its honesty are open.
+/// A place for bytes. It holds bytes, it has a count of its failures modulo 2^64, it is honest or not, and it is flushed or not.
+/// An honest one stays so and holds, after a `put` that succeeds, what it held and then the bytes given. After a failure its
+/// bytes and its honesty are open. It is flushed exactly where the last call was a `flush` that succeeded.
 pub trait Sink {
+    ghost use Rattle.std.specs.Prelude.{◌≡◌, false};
     ghost use Rattle.wire.specs.Sinks.{SinkState, Appends, Flushes};
 
-    /// The bytes that it holds, the count of its failures, and whether it is honest.
+    /// The bytes that it holds, the count of its failures, whether it is honest, and whether it is flushed.
     ghost state: { Self → SinkState };
 
     /// Takes all the bytes, behind those that it holds.
     fn put(&mut self, bytes: &[u8]) -> Result<(), SinkFault>
-        ensures { Appends (state self.old) bytes.now result (state self.new) };
+        ensures appends { Appends (state self.old) bytes.now result (state self.new) }
+        ensures unflushed { (state self.new).is_flushed ≡ false };
 
     /// Brings all that it took to where it goes.
     fn flush(&mut self) -> Result<(), SinkFault>
@@ -31,24 +33,33 @@ pub trait Sink {
 pub struct WriteSink<W> {
     writer: W,
     failed: u64,
+    flushed: bool,
 }
 
 impl<W: Write> WriteSink<W> {
-    ghost use Rattle.std.specs.Prelude.{◌≡◌};
+    ghost use Rattle.std.specs.Prelude.{◌≡◌, false};
     ghost use Rattle.wire.specs.Sinks.{over_writer};
 
-    /// A sink over this writer, which has not failed yet. It takes no memory.
+    /// A sink over this writer, which has not failed and is not flushed yet. It takes no memory.
     pub fn new(writer: W) -> WriteSink<W>
-        ensures { ⟦<WriteSink<W> as Sink>⟧.state result ≡ over_writer (W.contents writer) 0 }
+        ensures { ⟦<WriteSink<W> as Sink>⟧.state result ≡ over_writer (W.contents writer) 0 false }
     {
-        WriteSink { writer, failed: 0 }
+        WriteSink {
+            writer,
+            failed: 0,
+            flushed: false,
+        }
     }
 
     /// The writer, with all that was put into it.
     pub fn into_inner(self) -> W
-        ensures { ⟦<WriteSink<W> as Sink>⟧.state self ≡ over_writer (W.contents result) (⟦<WriteSink<W> as Sink>⟧.state self).failures }
+        ensures { ⟦<WriteSink<W> as Sink>⟧.state self ≡ over_writer (W.contents result) (⟦<WriteSink<W> as Sink>⟧.state self).failures (⟦<WriteSink<W> as Sink>⟧.state self).is_flushed }
     {
-        let WriteSink { writer, failed: _ } = self;
+        let WriteSink {
+            writer,
+            failed: _,
+            flushed: _,
+        } = self;
         writer
     }
 }
@@ -56,10 +67,11 @@ impl<W: Write> WriteSink<W> {
 impl<W: Write> Sink for WriteSink<W> {
     ghost use Rattle.wire.specs.Sinks.{over_writer};
 
-    ghost state = { λ s. over_writer (W.contents s.writer) s.failed };
+    ghost state = { λ s. over_writer (W.contents s.writer) s.failed s.flushed };
 
     #[tactic(auto, using(crate::proofs::Sinks::appended, crate::proofs::Sinks::kept))]
     fn put(&mut self, bytes: &[u8]) -> Result<(), SinkFault> {
+        self.flushed = false;
         match self.writer.write_all(bytes) {
             Ok(()) => Ok(()),
             Err(_) => {
@@ -72,8 +84,12 @@ impl<W: Write> Sink for WriteSink<W> {
     #[tactic(auto, using(crate::proofs::Sinks::kept))]
     fn flush(&mut self) -> Result<(), SinkFault> {
         match self.writer.flush() {
-            Ok(()) => Ok(()),
+            Ok(()) => {
+                self.flushed = true;
+                Ok(())
+            }
             Err(_) => {
+                self.flushed = false;
                 self.failed = self.failed.wrapping_add(1);
                 Err(SinkFault)
             }

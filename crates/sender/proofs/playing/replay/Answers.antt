@@ -1,8 +1,8 @@
-use Rattle.std.proofs.Common.{◌<◌, ◌∙◌, ap, length, take, [], arith}
+use Rattle.std.proofs.Common.{◌<◌, ◌∙◌, ap, length, take, [], arith, sym, subst}
 use Rattle.std.proofs.Common.{◌≡◌, ◌+◌, ◌++◌, ◌∷◌, refl}
 use Rattle.std.proofs.lemmas.List.{length-take, take_more}
-use Rattle.machine.specs.Seen.{all_marks, state_of}
-use Rattle.sender.proofs.Steady.{alike_first, keeps_on, no_replies}
+use Rattle.machine.specs.Seen.{AreHonest, Seen, all_marks, marks_at, state_of}
+use Rattle.sender.proofs.Steady.{AreAlike, alike_first, keeps_on, no_replies}
 use Rattle.sender.proofs.Replaying.{ran, ran_none, so_far_first, so_far_more, take_all}
 use Rattle.sender.proofs.playing.replay.Goals as goal
 
@@ -48,3 +48,22 @@ returns-in-Err-clause-unsteady g c = rw c.new-in-Err.ensures.items (no_replies (
 
 pub returns-in_default-clause-unsteady : goal.returns-in_default-clause-unsteady
 returns-in_default-clause-unsteady g c = rw c.new-in_default.ensures.items (no_replies (all_marks c.args.machine) c.args.events.now)
+
+pub returns-in-Err-clause-honest : goal.returns-in-Err-clause-honest
+returns-in-Err-clause-honest g c = λ honest. subst AreHonest (sym c.in-Err.ensures.err.0) honest
+
+pub returns-in_default-clause-honest : goal.returns-in_default-clause-honest
+returns-in_default-clause-honest g c = λ honest. subst AreHonest (sym (c.into_parts-machine.ensures.machine ∙ c.in-Ok.ensures.machine)) honest
+
+pub returns-clause-honest : goal.returns-clause-honest
+returns-clause-honest g c = λ honest. subst AreHonest (sym c.into_parts-machine-2.ensures.machine) (c.loop-event.invariant.so_far honest).relates.honest
+
+pub returns-in-Err-clause-steady : goal.returns-in-Err-clause-steady
+returns-in-Err-clause-steady g c = λ dev. ap (λ (m : Seen). (marks_at (all_marks m) dev).steady) c.in-Err.ensures.err.0
+
+pub returns-in_default-clause-steady : goal.returns-in_default-clause-steady
+returns-in_default-clause-steady g c = λ dev. ap (λ (m : Seen). (marks_at (all_marks m) dev).steady) (c.into_parts-machine.ensures.machine ∙ c.in-Ok.ensures.machine)
+
+pub returns-clause-steady : goal.returns-clause-steady
+unfolding AreAlike
+returns-clause-steady g c = λ dev. ap (λ (m : Seen). (marks_at (all_marks m) dev).steady) c.into_parts-machine-2.ensures.machine ∙ c.loop-event.invariant.alike dev

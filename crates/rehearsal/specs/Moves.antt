@@ -1,0 +1,39 @@
+-- A move that a host makes call by call: a machine that is sent, from its first call on, and what is made of its bytes.
+use Rattle.std.specs.Prelude.{◌≡◌, ◌++◌, ℕ, List, [], IsTrue}
+use Rattle.sha2.specs.Hashers.{Holds256}
+use Rattle.machine.specs.Seen.{AreHonest, Seen, state_of}
+use Rattle.machine.specs.Sound.{IsSound}
+use Rattle.machine.specs.State.{MachineState}
+use Rattle.receiver.specs.Disks.{AreHonestDisks}
+use Rattle.receiver.specs.Receiving.{HasBeenFed, Received}
+use Rattle.sender.specs.Follows.{Relates}
+use Rattle.sender.specs.History.{History, nothing}
+use Rattle.sender.specs.LiveState.{LiveSeen, now}
+use Rattle.sender.specs.Taking.{untaken}
+use Rattle.sender.specs.declared.phase.Phase.TheVariants as phases
+use Rattle.wire.specs.Sinks.{SinkState}
+use Rattle.wire.specs.Stream.{IsStream}
+
+-- This happened to the machine since it began to be sent to this writer, and these bytes were taken out of the writer.
+abbrev pub IsMoving : MachineState → History → SinkState → List ℕ → LiveSeen → Type 0
+IsMoving m h out taken s = Relates m h out (untaken taken s)
+
+-- So it is at first, with no history, and nothing taken.
+abbrev pub FirstIsMoving : Type 0
+FirstIsMoving = (machine : Seen) (s : LiveSeen) → AreHonest machine → s.machine ≡ machine → s.phase ≡ phases.Fresh → Holds256 s.digest [] → IsMoving (state_of machine) nothing s.out [] s
+
+-- Each call keeps it so, and adds to the history. So does a writer that is put in the place of the writer, and holds what was
+-- not taken.
+abbrev pub TakingsStayMoving : Type 0
+TakingsStayMoving = (m : MachineState) (h : History) (out writer : SinkState) (taken more : List ℕ) (s : LiveSeen) → IsMoving m h out taken s
+    → s.out.held ≡ more ++ writer.held → writer.failures ≡ s.out.failures → writer.honest ≡ s.out.honest → IsMoving m h out (taken ++ more) (record s { out = writer })
+
+-- A receiver that was finished gave this machine.
+abbrev pub GivesMachine : Received → Seen → Type 0
+GivesMachine r arrived = AreHonestDisks r.marks → (b : List ℕ) → HasBeenFed r b → IsStream b (state_of arrived)
+
+-- Once a stop answered Ok, a receiver over honest disks that was fed what was taken and what was left, in any pieces, gives the
+-- machine that was stopped. The writer was honest and held nothing at first.
+abbrev pub ArrivedIsMoved : Type 0
+ArrivedIsMoved = (m : MachineState) (h : History) (out : SinkState) (taken : List ℕ) (s : LiveSeen) (r : Received) (arrived : Seen) → IsMoving m h out taken s → IsSound m → IsTrue out.honest → out.held ≡ []
+    → s.phase ≡ phases.Stopped → AreHonestDisks r.marks → HasBeenFed r (taken ++ s.out.held) → GivesMachine r arrived → state_of arrived ≡ now s
