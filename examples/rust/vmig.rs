@@ -33,6 +33,7 @@ pub const ENTROPY: u8 = 4;
 pub const OK: u32 = 0;
 pub const IDLE: u32 = 65;
 pub const COMPLETED: u32 = 70;
+pub const WORK: u32 = 78;
 
 unsafe extern "C" {
     pub fn vmig_make(pages: u32, shapes: *const Shape, count: usize, machine: *mut Machine) -> u32;
@@ -47,6 +48,7 @@ unsafe extern "C" {
     pub fn vmig_push(machine: *mut Machine, pages: *const u32, count: usize, ram: *const u8, len: usize, seen: *mut u64, seen_len: usize) -> u32;
     pub fn vmig_pull(machine: *mut Machine, ram: *mut u8, len: usize, seen: *mut u64, seen_len: usize, count: *mut u32) -> u32;
     pub fn vmig_step(machine: *mut Machine, dev: u8, pick: u8, buf: *mut u8, size: usize, len: *mut u32) -> u32;
+    pub fn vmig_next_work(machine: *mut Machine, dev: *mut u8, pick: *mut u8) -> u32;
     pub fn vmig_input(machine: *mut Machine, dev: u8, bytes: *const u8, len: usize, accepted: *mut u32) -> u32;
     pub fn vmig_resize(machine: *mut Machine, dev: u8, cols: u16, rows: u16) -> u32;
     pub fn vmig_lines(machine: *mut Machine) -> u16;
