@@ -332,7 +332,8 @@ uint32_t vmig_abort(vmig_machine *machine);
 uint32_t vmig_remaining(vmig_machine *machine, uint64_t *due, uint64_t *dirty);
 
 /* Takes the first of the bytes that wait, as many as buf holds: *got of them go to the front of buf, and 0 says that none
- * waits. The others move up inside, so take often. After VMIG_WRITER_FAILED the end of what waits may be any part of a record.
+ * waits. It costs what it gives, so buf may be of any size. After VMIG_WRITER_FAILED the end of what waits may be any part of
+ * a record.
  * VMIG_NO_MACHINE, VMIG_NOT_BEGUN. */
 uint32_t vmig_take(vmig_machine *machine, uint8_t *buf, size_t size, size_t *got);
 

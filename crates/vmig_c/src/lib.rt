@@ -37,6 +37,7 @@ mod serving;
 mod status;
 mod stepping;
 mod unmapping;
+mod waiting;
 mod working;
 
 use arrival::Arrival;
