@@ -49,10 +49,10 @@
  * version at which you had it. Begin with VMIG_UNSEEN in each entry of seen: you have seen no page. Where the machine's RAM
  * is the one to begin with, as after vmig_receive, let vmig_pull fill yours; where yours is, hand in every page with
  * vmig_push. From then on, with the guest standing still from the first to the last of these: hand in the pages that the
- * guest has written since; tell its register writes; step until VMIG_IDLE; read the lines; and let vmig_pull bring what the
- * devices wrote. Then ram is the machine's RAM, byte for byte. What the guest writes into a page between the push and the
- * pull is lost where a device writes into that page too; and a page that the guest wrote and you did not hand in is not seen
- * by the devices, and lost once one writes into it. Only vmig_push and vmig_pull write seen.
+ * guest has written since; tell its register writes; make the steps that vmig_next_work names; read the lines; and let
+ * vmig_pull bring what the devices wrote. Then ram is the machine's RAM, byte for byte. What the guest writes into a page
+ * between the push and the pull is lost where a device writes into that page too; and a page that the guest wrote and you did
+ * not hand in is not seen by the devices, and lost once one writes into it. Only vmig_push and vmig_pull write seen.
  *
  * WHAT A GUEST CAN DO: whatever it writes into RAM and registers, each call stays defined and ends.
  */
@@ -137,7 +137,7 @@ enum {
     VMIG_OUT_BYTE = 64,
 
     /* vmig_step: what the device did. VMIG_BAD_SECTOR is also told by vmig_sector_read. */
-    VMIG_IDLE = 65,        /* it found nothing to do */
+    VMIG_IDLE = 65,        /* it found nothing to do; vmig_next_work: no step has something to do */
     VMIG_TAKEN = 66,       /* a block device took a request */
     VMIG_MOVED = 67,       /* a request went on by a sector, a flush or the id */
     VMIG_BAD_SECTOR = 68,  /* the sector is bad; the request will end with an error */
@@ -151,7 +151,10 @@ enum {
     VMIG_PAGE = 74,        /* a page was sent; *number is its number */
     VMIG_SECTOR = 75,      /* a sector was sent, of the disk of device *dev; *number is its number there */
     VMIG_ROUND_DONE = 76,  /* nothing is due any more in this round */
-    VMIG_ROUND_OPEN = 77   /* something is still due: the round does not end */
+    VMIG_ROUND_OPEN = 77,  /* something is still due: the round does not end */
+
+    /* vmig_next_work, which also answers VMIG_IDLE. */
+    VMIG_WORK = 78         /* the step *pick of device *dev has something to do */
 };
 
 /* Kinds of devices, by the numbers of the standard. */
@@ -223,7 +226,7 @@ uint32_t vmig_reg_read(vmig_machine *machine, uint8_t dev, uint32_t off, uint8_t
 
 /* The driver writes a register. Whether the device takes the value does not show. A console gives out the byte that is
  * written into its emergency register (VIRTIO 1.2, 5.3.5): the status is VMIG_OUT_BYTE, and *out is the byte. Else *out is
- * as it was. After a write at 0x050 (QueueNotify) the device may have work: step it.
+ * as it was. After a write at 0x050 (QueueNotify) the device may have work: ask vmig_next_work.
  * VMIG_NO_MACHINE, VMIG_NO_DEVICE. */
 uint32_t vmig_reg_write(vmig_machine *machine, uint8_t dev, uint32_t off, uint8_t width, uint32_t value, uint32_t *out);
 
@@ -249,7 +252,7 @@ uint32_t vmig_pull(vmig_machine *machine, uint8_t *ram, size_t len, uint64_t *se
 /* A device does one piece of its work, which the pick names. A block device: pick 0 takes the next request, and pick k, from
  * 1 to 8, brings the k-th request that it has taken one unit on. An entropy device: pick 0 fills the next buffer. A network
  * device and a console: pick 0 fills the next receive buffer, and pick 1 takes the next message to be sent. A pick that names
- * nothing is VMIG_IDLE. Step until VMIG_IDLE, then read the lines.
+ * nothing is VMIG_IDLE. Make the steps that vmig_next_work names, then read the lines.
  *
  * A message that is sent goes into buf. A step that may send more than size bytes is not done, and VMIG_TOO_SMALL: 1,514
  * bytes are enough for a network device, 65,536 (VMIG_SENT_MAX) for each device, and 0 for a block or an entropy device and
@@ -257,6 +260,24 @@ uint32_t vmig_pull(vmig_machine *machine, uint8_t *ram, size_t len, uint64_t *se
  * *len is set with VMIG_COMPLETED and VMIG_SENT, and is as it was with any other status.
  * VMIG_NO_MACHINE, VMIG_NO_DEVICE, VMIG_TOO_SMALL, VMIG_NO_MEMORY. */
 uint32_t vmig_step(vmig_machine *machine, uint8_t dev, uint8_t pick, uint8_t *buf, size_t size, uint32_t *len);
+
+/* Names a step that has something to do: *dev and *pick become its numbers. It is the first in turn after the step that they
+ * name before the call, so begin with 0 and 0, and leave them to the next call. In turn are all picks of a device, then those
+ * of the next device, and after the last device the first again: no device keeps the others from their work.
+ *
+ *     uint8_t dev = 0, pick = 0;
+ *     while (vmig_next_work(&machine, &dev, &pick) == VMIG_WORK) {
+ *         uint32_t status = vmig_step(&machine, dev, pick, buf, sizeof buf, &len);
+ *         if (status < 64) break;
+ *     }
+ *
+ * VMIG_WORK, or VMIG_IDLE where no step of any device has something to do. Then, and where it is refused, *dev and *pick are as
+ * they were. The step that it names is not VMIG_IDLE, or it finds a queue empty, and then that queue has nothing to do until
+ * its driver notifies the device anew. A step that is refused, from 1 to 63, leaves its work: end the loop there. A guest can
+ * see to it that there is always something to do, as its chains may name the rings themselves: bound how many steps you make
+ * in a row. It reads no RAM, and takes no memory.
+ * VMIG_NO_MACHINE; of a machine that is being sent also VMIG_STOPPED. */
+uint32_t vmig_next_work(vmig_machine *machine, uint8_t *dev, uint8_t *pick);
 
 /* The host puts bytes in: entropy, text for a console, or one frame of 14 to 1,514 bytes. *accepted is how many were kept:
  * the first ones, or a frame whole or not at all. Entropy devices and consoles hold 4,096 bytes, network devices 64 frames.
@@ -317,7 +338,8 @@ uint32_t vmig_abort(vmig_machine *machine);
 uint32_t vmig_remaining(vmig_machine *machine, uint64_t *due, uint64_t *dirty);
 
 /* Takes the first of the bytes that wait, as many as buf holds: *got of them go to the front of buf, and 0 says that none
- * waits. The others move up inside, so take often. After VMIG_WRITER_FAILED the end of what waits may be any part of a record.
+ * waits. It costs what it gives, so buf may be of any size. After VMIG_WRITER_FAILED the end of what waits may be any part of
+ * a record.
  * VMIG_NO_MACHINE, VMIG_NOT_BEGUN. */
 uint32_t vmig_take(vmig_machine *machine, uint8_t *buf, size_t size, size_t *got);
 

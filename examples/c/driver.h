@@ -55,7 +55,7 @@ static inline uint64_t get(vmig_machine *m, uint64_t addr, size_t width)
 }
 
 /* Where the driver of device 0 keeps a queue (VIRTIO 1.2, 2.7). Queue q lies so many bytes behind queue 0. */
-enum { DESC = 0x1000, AVAIL = 0x2000, USED = 0x2800, DATA = 0x8000, NEXT_QUEUE = 0x2000, SIZE = 16 };
+enum { DESC = 0x1000, AVAIL = 0x2000, USED = 0x2800, DATA = 0x8000, NEXT_QUEUE = 0x2000, SIZE = 64 };
 
 /* Flags of a descriptor. */
 enum { HAS_NEXT = 1, WRITABLE = 2 };
@@ -69,12 +69,18 @@ static inline void describe(vmig_machine *m, uint32_t queue, uint32_t number, ui
     put(m, at + 14, next, 2);
 }
 
-/* The driver makes the chain that begins at this descriptor available as its `count`-th, and notifies the device. */
-static inline void offer(vmig_machine *m, uint32_t queue, uint32_t count, uint32_t head)
+/* The driver makes the chain that begins at this descriptor available as its `count`-th. */
+static inline void make_available(vmig_machine *m, uint32_t queue, uint32_t count, uint32_t head)
 {
     uint64_t at = AVAIL + (uint64_t)queue * NEXT_QUEUE;
     put(m, at + 4 + 2u * ((count - 1) % SIZE), head, 2);
     put(m, at + 2, count, 2);
+}
+
+/* The same, and the driver notifies the device. */
+static inline void offer(vmig_machine *m, uint32_t queue, uint32_t count, uint32_t head)
+{
+    make_available(m, queue, count, head);
     write_reg(m, 0x050, queue);
 }
 
@@ -98,6 +104,24 @@ static inline void set_up(vmig_machine *m, uint32_t queues)
         expect("queue ready", read_reg(m, 0x044), 1);
     }
     write_reg(m, 0x070, 0xf);
+}
+
+/* Makes each step that has something to do, until none has. Gives how many steps it made. */
+static inline uint32_t serve(vmig_machine *m)
+{
+    static uint8_t buf[VMIG_SENT_MAX];
+    uint8_t dev = 0, pick = 0;
+    uint32_t len, steps = 0;
+
+    while (vmig_next_work(m, &dev, &pick) == VMIG_WORK) {
+        uint32_t status = vmig_step(m, dev, pick, buf, sizeof buf, &len);
+        if (status < 64) {
+            expect("a step of its work", status, VMIG_COMPLETED);
+            break;
+        }
+        steps++;
+    }
+    return steps;
 }
 
 /* The driver of an entropy device asks for 16 bytes, as its `count`-th chain. Gives the used length. */

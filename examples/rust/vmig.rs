@@ -90,6 +90,7 @@ pub const PAGE: u32 = 74;
 pub const SECTOR: u32 = 75;
 pub const ROUND_DONE: u32 = 76;
 pub const ROUND_OPEN: u32 = 77;
+pub const WORK: u32 = 78;
 
 unsafe extern "C" {
     pub fn vmig_make(pages: u32, shapes: *const Shape, count: usize, machine: *mut Machine) -> u32;
@@ -104,6 +105,7 @@ unsafe extern "C" {
     pub fn vmig_push(machine: *mut Machine, pages: *const u32, count: usize, ram: *const u8, len: usize, seen: *mut u64, seen_len: usize) -> u32;
     pub fn vmig_pull(machine: *mut Machine, ram: *mut u8, len: usize, seen: *mut u64, seen_len: usize, count: *mut u32) -> u32;
     pub fn vmig_step(machine: *mut Machine, dev: u8, pick: u8, buf: *mut u8, size: usize, len: *mut u32) -> u32;
+    pub fn vmig_next_work(machine: *mut Machine, dev: *mut u8, pick: *mut u8) -> u32;
     pub fn vmig_input(machine: *mut Machine, dev: u8, bytes: *const u8, len: usize, accepted: *mut u32) -> u32;
     pub fn vmig_resize(machine: *mut Machine, dev: u8, cols: u16, rows: u16) -> u32;
     pub fn vmig_lines(machine: *mut Machine) -> u16;

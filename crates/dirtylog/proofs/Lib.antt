@@ -1,1 +1,8 @@
 mod Counts
+mod Changed
+mod Zeros
+mod Rest
+mod All
+mod Flags
+mod Levels
+mod Finding

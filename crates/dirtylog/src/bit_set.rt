@@ -1,44 +1,59 @@
 //! A set of numbers.
 
-ghost use Rattle.std.specs.Prelude.{◌≡◌, ◌<◌, ◌≤◌, ◌↔◌, IsTrue, length, replicate, slice_set, true, false, IfOk};
+ghost use Rattle.std.specs.Prelude.{◌≡◌, ◌<◌, ◌≤◌, ◌↔◌, ◌+◌, ◌*◌, ◌/◌, ◌^◌, IsTrue, length, replicate, slice_set, true, false, IfOk};
 ghost use Rattle.dirtylog.specs.Members.{has, HasNone, IsLeastFrom, member_count};
+ghost use Rattle.dirtylog.specs.Words.{HasRoomFor};
 
+use crate::bits::{WORD_BITS, clear_all, clear_bit, has_bit, set_all, set_bit, unmark, zeros};
+use crate::scan::{Reader, find_bit};
 use std::alloc::{AllocError, Global};
 use std::marker::Model;
 
-/// A set of numbers below a fixed length. Contracts see for each of these numbers whether it is a member. It keeps how many
-/// members it has, so that `count` and `is_empty` look at no mark.
+/// A set of numbers below a fixed length. Contracts see for each of these numbers whether it is a member.
+///
+/// It is kept as one bit a number in words of 64, and as a second level with one bit for each word that is not zero, so that the
+/// next member is found by looking at few words. Beside both is the count of members.
 #[derive(Drop)]
 pub struct BitSet {
-    marks: Vec<bool>,
+    len: u64,
+    words: Vec<u64>,
+    marks: Vec<u64>,
     members: u64,
 }
 
 impl Model for BitSet {
     ghost use Rattle.std.specs.Prelude.{List, Bool};
     ghost use Rattle.dirtylog.specs.Members.{HasCount};
+    ghost use Rattle.dirtylog.specs.Words.{AreLevels, flags_of};
 
     ghost Value = { List Bool };
 
-    ghost view = { λ s. s.marks.items };
+    ghost view = { λ s. flags_of s.words.items s.len };
 
-    ghost invariant = { λ s. HasCount s.marks.items s.members };
+    ghost invariant = { λ s. AreLevels s.words.items s.marks.items s.len × HasCount (flags_of s.words.items s.len) s.members };
 }
 
 impl BitSet {
-    /// A set without members, of the numbers below this length. Its only error is want of memory.
+    /// A set without members, of the numbers below this length. Its only error is out of memory.
     pub fn new(alloc: Global, len: u64) -> Result<BitSet, AllocError>
         ensures { IfOk result (λ set. set ≡ replicate len false) }
     {
-        let marks = vec![in alloc; false; len as usize]?;
-        Ok(BitSet { marks, members: 0 })
+        let count = words_for(len);
+        let words = zeros(alloc, count)?;
+        let marks = zeros(alloc, words_for(count as u64))?;
+        Ok(BitSet {
+            len,
+            words,
+            marks,
+            members: 0,
+        })
     }
 
     /// The length: members are below it.
     pub fn len(&self) -> u64
         ensures { result ≡ length self.now }
     {
-        self.marks.len() as u64
+        self.len
     }
 
     /// Takes in a number.
@@ -46,10 +61,12 @@ impl BitSet {
         requires { n < length self.old }
         ensures { self.new ≡ slice_set self.old n true }
     {
-        if !self.contains(n) {
-            self.marks[n as usize] = true;
-            self.members += 1;
+        if self.contains(n) {
+            return;
         }
+        set_bit(&mut self.words, n);
+        set_bit(&mut self.marks, n / WORD_BITS);
+        self.members += 1;
     }
 
     /// Takes out a number.
@@ -57,10 +74,12 @@ impl BitSet {
         requires { n < length self.old }
         ensures { self.new ≡ slice_set self.old n false }
     {
-        if self.contains(n) {
-            self.marks[n as usize] = false;
-            self.members -= 1;
+        if !self.contains(n) {
+            return;
         }
+        clear_bit(&mut self.words, n);
+        unmark(&self.words, &mut self.marks, n / WORD_BITS);
+        self.members -= 1;
     }
 
     /// Whether a number is a member.
@@ -68,7 +87,7 @@ impl BitSet {
         requires { n < length self.now }
         ensures { result ≡ has self.now n }
     {
-        self.marks[n as usize]
+        has_bit(self.words.as_slice(), n)
     }
 
     /// The least member that is at least this number, if there is one.
@@ -76,12 +95,24 @@ impl BitSet {
         requires { n ≤ length self.now }
         ensures { IsLeastFrom self.now n result }
     {
-        for k in n..self.len() {
-            if self.contains(k) {
-                return Some(k);
-            }
+        self.first_counted(n).0
+    }
+
+    /// What `first_from` answers, and how many words of both levels were looked at.
+    pub fn first_counted(&self, n: u64) -> (Option<u64>, u64)
+        requires { n ≤ length self.now }
+        ensures least { IsLeastFrom self.now n result.0 }
+        ensures few { result.1 ≤ 16 + (length self.now + 4095) / 4096 }
+    {
+        if self.members == 0 {
+            return (None, 0);
         }
-        None
+        if n >= self.len {
+            return (None, 0);
+        }
+        let mut reader = Reader::new();
+        let found = find_bit(self.words.as_slice(), self.marks.as_slice(), n, &mut reader);
+        (found, reader.looked())
     }
 
     /// Whether there is no member.
@@ -113,15 +144,30 @@ impl BitSet {
     pub fn fill(&mut self)
         ensures { self.new ≡ replicate (length self.old) true }
     {
-        self.members = self.len();
-        self.marks.fill(true);
+        let count = self.words.len() as u64;
+        set_all(&mut self.words, self.len);
+        set_all(&mut self.marks, count);
+        self.members = self.len;
     }
 
     /// Takes out every member.
     pub fn clear(&mut self)
         ensures { self.new ≡ replicate (length self.old) false }
     {
-        self.marks.fill(false);
+        clear_all(&mut self.words);
+        clear_all(&mut self.marks);
         self.members = 0;
+    }
+}
+
+/// As many words as bits of this number need.
+fn words_for(bits: u64) -> usize
+    ensures { HasRoomFor bits result }
+{
+    let whole = (bits / WORD_BITS) as usize;
+    if bits % WORD_BITS == 0 {
+        whole
+    } else {
+        whole + 1
     }
 }

@@ -1,5 +1,5 @@
 -- Machines whose streams arrive in pieces.
-use Rattle.std.proofs.Common.{◌≡◌, ℕ, true, false, List, [], ◌∷◌, ◌++◌, refl, sym, ap, ◌∙◌, subst, map, length, inl, inr, append_assoc, arith, true≢false}
+use Rattle.std.proofs.Common.{◌≡◌, ℕ, true, false, List, [], ◌∷◌, ◌++◌, refl, sym, ap, ◌∙◌, subst, map, length, inl, inr, append_assoc, append-nil, arith, true≢false}
 use Rattle.std.specs.Prelude.{IsTrue, IfOk, Result, Ok, Err, slice_get}
 use Rattle.std.proofs.lemmas.List.{length-append}
 use Rattle.std.proofs.lemmas.List.Elements.{All-map}
@@ -17,7 +17,8 @@ use Rattle.receiver.specs.Disks.{AreHonestDisks, HasFailed, MarksRefused, disk_m
 use Rattle.receiver.specs.Receiving.{HasBeenFed, HasRounds, IsFinish, NoFault, Received, TellsNow}
 use Rattle.receiver.specs.declared.recv_error.RecvError.{RecvError}
 use Rattle.receiver.specs.declared.recv_error.RecvError.TheVariants.{BadMagic, BadVersion, BadShape, ShapeMismatch, BadTag, BadPage, BadSector, BadRound, BadDevice, BadDigest, Missing, Trailing, Truncated, DiskFailed, NoMemory, AlreadyFailed}
-use Rattle.vmig_c.specs.Awaited.{AreSteady, CountsRounds, GoesOnWith, HasArrived, IsBegun, IsFed, IsFedTo, TellsEnd, TellsOf}
+use Rattle.receiver.proofs.Prefixes.{stays}
+use Rattle.vmig_c.specs.Awaited.{AreSteady, CountsRounds, GoesOnWith, HasArrived, IsBegun, IsFaulty, IsFed, IsFedTo, TellsEnd, TellsOf}
 use Rattle.vmig_c.specs.Headed.{AreFitting, HasHeader, HasNoHeader}
 use Rattle.vmig_c.specs.Plain.{mem_state}
 use Rattle.vmig_c.proofs.Plain.{as_many}
@@ -125,14 +126,6 @@ begun_coming r bytes pages shapes rest begins h = record {
   steady = h.steady;
 }
 
-pub begun_goes_on : (r : Received) (bytes : List ℕ) (pages : ℕ) (shapes : List Shape) (rest : List ℕ) → Begins bytes pages shapes rest → IsFedTo (disk_sizes shapes) bytes r → GoesOnWith bytes r
-begun_goes_on r bytes pages shapes rest begins h = record {
-  goes_on = h.goes_on;
-  bytes_are = h.bytes_are;
-  fit = inl (record { pages = pages; shapes = shapes; rest = rest; begins = begins; sizes_are = h.sizes_are });
-  quiet = rw (h.sizes_are) (h.quiet);
-}
-
 pub fits_header : (bytes : List ℕ) (pages : ℕ) (shapes : List Shape) (rest : List ℕ) → Begins bytes pages shapes rest → AreFitting bytes (disk_sizes shapes)
 fits_header bytes pages shapes rest begins = inl (record { pages = pages; shapes = shapes; rest = rest; begins = begins; sizes_are = refl })
 
@@ -190,3 +183,34 @@ pub empty_head : (pages : ℕ) (shapes : List Shape) (rest : List ℕ) → ¬ (B
 empty_head pages shapes rest begins =
     let f = front pages (length shapes) in
     omega (arith, ap (λ (l : List ℕ). length l) begins.whole, length-append (f ++ spelled_shapes shapes) rest, length-append f (spelled_shapes shapes), front_size pages (length shapes))
+
+-- A fault in bytes that begin with a header is one of all longer bytes.
+faulty_longer : (bytes rest sizes : List ℕ) (e : RecvError) → HasHeader bytes sizes → IsFaulty bytes e → IsFaulty (bytes ++ rest) e
+faulty_longer bytes rest sizes e header f = elim f.fit as (λ _. IsFaulty (bytes ++ rest) e) [
+  | inl h ↦ record { sizes = f.sizes; fit = inl (longer bytes rest f.sizes h); at = f.at; fault = stays f.sizes bytes rest e f.at f.fault }
+  | inr none ↦ absurd (none header.pages header.shapes header.rest header.begins)
+]
+
+pub told_longer : (bytes rest sizes : List ℕ) (e : RecvError) → HasHeader bytes sizes → TellsOf false bytes e → TellsOf false (bytes ++ rest) e
+told_longer bytes rest sizes NoMemory header t = tt
+told_longer bytes rest sizes BadMagic header t = faulty_longer bytes rest sizes BadMagic header t
+told_longer bytes rest sizes BadVersion header t = faulty_longer bytes rest sizes BadVersion header t
+told_longer bytes rest sizes BadShape header t = faulty_longer bytes rest sizes BadShape header t
+told_longer bytes rest sizes ShapeMismatch header t = faulty_longer bytes rest sizes ShapeMismatch header t
+told_longer bytes rest sizes BadTag header t = faulty_longer bytes rest sizes BadTag header t
+told_longer bytes rest sizes BadPage header t = faulty_longer bytes rest sizes BadPage header t
+told_longer bytes rest sizes BadSector header t = faulty_longer bytes rest sizes BadSector header t
+told_longer bytes rest sizes BadRound header t = faulty_longer bytes rest sizes BadRound header t
+told_longer bytes rest sizes BadDevice header t = faulty_longer bytes rest sizes BadDevice header t
+told_longer bytes rest sizes BadDigest header t = faulty_longer bytes rest sizes BadDigest header t
+told_longer bytes rest sizes Missing header t = faulty_longer bytes rest sizes Missing header t
+told_longer bytes rest sizes Trailing header t = faulty_longer bytes rest sizes Trailing header t
+told_longer bytes rest sizes Truncated header t = faulty_longer bytes rest sizes Truncated header t
+told_longer bytes rest sizes DiskFailed header t = faulty_longer bytes rest sizes DiskFailed header t
+told_longer bytes rest sizes AlreadyFailed header t = faulty_longer bytes rest sizes AlreadyFailed header t
+
+pub begun_goes_with : (r : Received) (bytes : List ℕ) → IsBegun r → r.bytes ≡ bytes → GoesOnWith bytes r
+begun_goes_with r bytes h are = record { goes_on = h.goes_on; bytes_are = are; fit = rw (← are) (inl h.header); quiet = rw (← are) h.quiet }
+
+pub told_of_all : (bytes : List ℕ) (e : RecvError) → ((rest : List ℕ) → TellsOf false (bytes ++ rest) e) → TellsOf false bytes e
+told_of_all bytes e t = rw append-nil at (t [])

@@ -11,6 +11,7 @@ pub mod Migration
 pub mod MigrationCalls
 pub mod Mirrored
 pub mod Mirroring
+pub mod NextWork
 pub mod Options
 pub mod Plain
 pub mod Pulling

@@ -9,6 +9,7 @@ pub mod Mapping
 pub mod Migrated
 pub mod Mirror
 pub mod Moving
+pub mod NextWork
 pub mod Owned
 pub mod Plain
 pub mod Refused

@@ -10,6 +10,7 @@
 --     64         a register was written, and a byte came out
 --     65 to 73   what a step did
 --     74 to 77   what a call of a migration did
+--     78         a step has something to do; where none has, 65 is told
 use Rattle.std.specs.Prelude.{ℕ, ◌+◌}
 use Rattle.machine.specs.Refusal.{code_of}
 use Rattle.sender.specs.Saving.{mig_code_of}
@@ -60,6 +61,13 @@ bad_images = 15
 -- The sector is bad.
 abbrev pub bad_sector : ℕ
 bad_sector = 68
+
+-- A step has something to do, or none has.
+abbrev pub work : ℕ
+work = 78
+
+abbrev pub idle : ℕ
+idle = 65
 
 -- The status of a reply.
 abbrev pub status_of : Reply → ℕ

@@ -1,19 +1,25 @@
 //! A machine whose stream arrives in pieces.
 
-ghost use Rattle.std.specs.Prelude.{◌≡◌, ◌++◌, IfErr, IfOk, true, false};
+ghost use Rattle.std.specs.Prelude.{◌≡◌, ◌++◌, ℕ, List, IfErr, IfOk, MatchOption, true, false};
 ghost use Rattle.machine.specs.Shapes.{disk_sizes};
 ghost use Rattle.receiver.specs.Disks.{sizes_of};
-ghost use Rattle.vmig_c.specs.Awaited.{GoesOnWith, IsComing, IsFed, IsFedTo, TellsOf, awaited_by};
-ghost use Rattle.vmig_c.specs.Headed.{AreFitting};
+ghost use Rattle.vmig_c.specs.Awaited.{GoesOnWith, IsBegun, IsComing, IsFed, IsFedTo, TellsOf, awaited_by};
+ghost use Rattle.vmig_c.specs.Headed.{AreFitting, HasNoHeader};
 ghost use Rattle.vmig_c.specs.Plain.{mem_state};
 
 use crate::making::zero_disks;
-use machine::{Machine, MemDisk, Shape};
+use machine::{DEVICES_MAX, Machine, MemDisk, Shape};
 use receiver::{Receiver, RecvError};
 use std::alloc::Global;
 use std::marker::Model;
 use std::mem;
-use wire::decode_header;
+use wire::{FRONT_LEN, decode_header};
+
+/// The longest shape in a header: of a block device, whose kind is followed by its sectors, whether it is read-only, and its id.
+const SHAPE_MAX: usize = 1 + 8 + 1 + 20;
+
+/// The most bytes of a header: of a machine with the most devices, all of them block devices.
+const HEADER_MAX: usize = FRONT_LEN + DEVICES_MAX * SHAPE_MAX;
 
 /// How far a machine that arrives has come.
 #[derive(Drop)]
@@ -113,7 +119,7 @@ impl Arrival {
 }
 
 /// Takes the next piece.
-#[tactic(auto, using(crate::proofs::Awaited::more_begun, crate::proofs::Awaited::more_fed, crate::proofs::Awaited::more_refused, crate::proofs::Awaited::head_fed))]
+#[tactic(auto, using(crate::proofs::Awaited::head_fed))]
 fn go_on(alloc: Global, progress: Progress, piece: &[u8]) -> Result<Progress, RecvError>
     requires { IsComing progress }
     ensures coming { IfOk result (λ next. IsComing next) }
@@ -121,43 +127,81 @@ fn go_on(alloc: Global, progress: Progress, piece: &[u8]) -> Result<Progress, Re
     ensures refused { IfErr result (λ e. TellsOf (awaited_by progress).failed ((awaited_by progress).bytes ++ piece.now) e) }
 {
     match progress {
-        Progress::Head(held) => {
-            let mut held = held;
-            if held.extend_from_slice(piece).is_err() {
-                return Err(RecvError::NoMemory);
-            }
-            begin(alloc, held)
-        }
-        Progress::Body(receiver) => {
-            let mut receiver = receiver;
-            match receiver.feed(piece) {
-                Ok(()) => Ok(Progress::Body(receiver)),
-                Err(error) => Err(error),
-            }
-        }
+        Progress::Head(held) => take_head(alloc, held, piece),
+        Progress::Body(receiver) => take_body(receiver, piece),
         Progress::Failed => Err(RecvError::AlreadyFailed),
     }
 }
 
-/// Looks for the header. What is wrong in one that is not whole a receiver without disks tells.
-#[tactic(auto, using(crate::proofs::Awaited::begun_coming, crate::proofs::Awaited::begun_goes_on, crate::proofs::Awaited::fits_header, crate::proofs::Awaited::head_goes_on))]
+/// Takes the next piece of a stream whose header was read.
+fn take_body(receiver: Receiver<MemDisk>, piece: &[u8]) -> Result<Progress, RecvError>
+    requires { IsBegun receiver }
+    ensures coming { IfOk result (λ next. IsComing next) }
+    ensures fed { IfOk result (λ next. IsFed receiver piece.now (awaited_by next)) }
+    ensures refused { IfErr result (λ e. TellsOf receiver.failed (receiver.bytes ++ piece.now) e) }
+{
+    let mut receiver = receiver;
+    match receiver.feed(piece) {
+        Ok(()) => Ok(Progress::Body(receiver)),
+        Err(error) => Err(error),
+    }
+}
+
+/// Takes the next piece of a stream whose header is not whole. Only what may belong to the header is copied of a piece that
+/// makes it whole.
+fn take_head(alloc: Global, held: Vec<u8>, piece: &[u8]) -> Result<Progress, RecvError>
+    ensures coming { IfOk result (λ next. IsComing next) }
+    ensures goes_on { IfOk result (λ next. GoesOnWith (held.items ++ piece.now) (awaited_by next)) }
+    ensures refused { IfErr result (λ e. TellsOf false (held.items ++ piece.now) e) }
+{
+    let mut held = held;
+    let few = piece.len().min(HEADER_MAX.saturating_sub(held.len()));
+    if held.extend_from_slice(&piece[..few]).is_err() {
+        return Err(RecvError::NoMemory);
+    }
+    match headed(alloc, &held) {
+        Ok(Some(receiver)) => take_body(receiver, &piece[few..]),
+        Ok(None) => {
+            if held.extend_from_slice(&piece[few..]).is_err() {
+                return Err(RecvError::NoMemory);
+            }
+            begin(alloc, held)
+        }
+        Err(error) => Err(error),
+    }
+}
+
+/// A receiver that was fed the bytes, if they begin with a header.
+fn headed(alloc: Global, bytes: &[u8]) -> Result<Option<Receiver<MemDisk>>, RecvError>
+    ensures begun { IfOk result (λ found. MatchOption found (HasNoHeader bytes.now) (λ r. IsBegun r × (r.bytes ≡ bytes.now))) }
+    ensures refused { IfErr result (λ e. (rest : List ℕ) → TellsOf false (bytes.now ++ rest) e) }
+{
+    let Ok(found) = decode_header(alloc, bytes) else {
+        return Err(RecvError::NoMemory);
+    };
+    match found {
+        Some(header) => match begun(alloc, &header.shapes, bytes) {
+            Ok(receiver) => Ok(Some(receiver)),
+            Err(error) => Err(error),
+        },
+        None => Ok(None),
+    }
+}
+
+/// Looks for the header. While it is not whole, a receiver without disks finds what is wrong in the bytes.
+#[tactic(auto, using(crate::proofs::Awaited::head_goes_on))]
 fn begin(alloc: Global, held: Vec<u8>) -> Result<Progress, RecvError>
     ensures coming { IfOk result (λ next. IsComing next) }
     ensures goes_on { IfOk result (λ next. GoesOnWith held.items (awaited_by next)) }
     ensures refused { IfErr result (λ e. TellsOf false held.items e) }
 {
-    let Ok(found) = decode_header(alloc, &held) else {
-        return Err(RecvError::NoMemory);
-    };
-    match found {
-        Some(header) => match begun(alloc, &header.shapes, &held) {
-            Ok(receiver) => Ok(Progress::Body(receiver)),
-            Err(error) => Err(error),
-        },
-        None => match fed(alloc, Vec::new(alloc), &held) {
+    match headed(alloc, &held) {
+        Ok(Some(receiver)) => Ok(Progress::Body(receiver)),
+        Ok(None) => match fed(alloc, Vec::new(alloc), &held) {
             Ok(_receiver) => Ok(Progress::Head(held)),
             Err(error) => Err(error),
         },
+        Err(error) => Err(error),
     }
 }
 

@@ -3,17 +3,17 @@
 ghost use Rattle.vmig_c.specs.Kept.{kept_of};
 
 use crate::arrival::Arrival;
+use crate::waiting::Waiting;
 use machine::{Machine, MemDisk};
 use mapped_disk::MappedDisk;
 use sender::Live;
 use std::marker::Model;
-use wire::WriteSink;
 
 /// A machine that is sent, and what was written of it and not taken yet.
-pub(crate) type Moving<D> = Live<D, WriteSink<Vec<u8>>>;
+pub(crate) type Moving<D> = Live<D, Waiting>;
 
 /// A machine that stands still, or one that is sent while it runs, over disks in memory of the library or of the caller; or one
-/// that arrives. What is written of one waits in a vector until C takes it.
+/// that arrives. What is written of one waits until C takes it.
 #[derive(Drop)]
 pub enum Contents {
     /// It stands still: nothing is written of it.

@@ -16,6 +16,7 @@ ghost use Rattle.vmig_c.specs.Mapping.{Maps};
 ghost use Rattle.vmig_c.specs.Migrated.{Aborted, Begun, Copied, EndedRound, HasBeenStopped, Remaining, Taken};
 ghost use Rattle.vmig_c.specs.Mirror.{Pulled, Pushed};
 ghost use Rattle.vmig_c.specs.Moving.{Received, Saved};
+ghost use Rattle.vmig_c.specs.NextWork.{FoundWork};
 ghost use Rattle.vmig_c.specs.Stepped.{Stepped};
 ghost use Rattle.vmig_c.specs.Unmapping.{Unmaps};
 ghost use Rattle.vmig_c.specs.Told.{Told, ToldSo, Read, lines_told};
@@ -36,6 +37,8 @@ mod serving;
 mod status;
 mod stepping;
 mod unmapping;
+mod waiting;
+mod working;
 
 use arrival::Arrival;
 use arriving::{feed, finish, rounds};
@@ -54,6 +57,7 @@ use status::{BAD_IMAGES, BAD_SHAPE, DONE, IN_USE, NO_MACHINE, NO_MEMORY};
 use std::alloc::Global;
 use stepping::step_kept;
 use unmapping::{unmap, unmap_refusal};
+use working::next_work;
 
 /// Makes a machine of so many pages of zeros and of these devices, whose disks are zeros in memory.
 #[unsafe(no_mangle)]
@@ -281,6 +285,19 @@ pub extern "C" fn vmig_step(
         return NO_MACHINE;
     }
     step_kept(machine.get_mut(), dev, pick, buf, len)
+}
+
+/// A step that has something to do: the first in turn after the one that the two numbers name. It takes no memory.
+#[unsafe(no_mangle)]
+#[tactic(auto, using(crate::proofs::NextWork::found_none, crate::proofs::NextWork::found_some))]
+pub extern "C" fn vmig_next_work(machine: &mut Handle, dev: &mut u8, pick: &mut u8) -> u32
+    ensures found { FoundWork machine.old.machine result dev.new dev.old pick.new pick.old }
+    ensures same { machine.new.machine ≡ machine.old.machine }
+{
+    if !machine.is_made() {
+        return NO_MACHINE;
+    }
+    next_work(machine.get_mut(), dev, pick)
 }
 
 /// The host puts bytes in. It takes no memory.

@@ -9,11 +9,11 @@ ghost use Rattle.sender.specs.declared.event.LiveEvent.TheVariants as live_event
 use crate::arrival::Arrival;
 use crate::kept::{Contents, Kept, Moving};
 use crate::status::{DONE, NO_MACHINE, NO_MEMORY, NOT_BEGUN, mig_told};
+use crate::waiting::Waiting;
 use machine::{Disk, Machine};
 use sender::{CopyAnswer, End, Item, Live, Stopped};
 use std::alloc::Global;
 use std::mem;
-use wire::WriteSink;
 
 const PAGE: u32 = 74;
 
@@ -72,8 +72,7 @@ fn begun_of<D: Disk>(alloc: Global, machine: Machine<D>) -> Result<Moving<D>, Ma
     ensures begun { IfOk result (λ live. HasBegun machine 0 live) }
     ensures same { IfErr result (λ left. left ≡ machine) }
 {
-    let sink = WriteSink::new(Vec::new(alloc));
-    match Live::new(alloc, machine, sink) {
+    match Live::new(alloc, machine, Waiting::new(alloc)) {
         Ok(live) => {
             let mut live = live;
             live.recall();
@@ -82,7 +81,7 @@ fn begun_of<D: Disk>(alloc: Global, machine: Machine<D>) -> Result<Moving<D>, Ma
                 Err(_) => Err(live.abort()),
             }
         }
-        Err((_, machine, _sink)) => Err(machine),
+        Err((_, machine, _waiting)) => Err(machine),
     }
 }
 
@@ -258,22 +257,8 @@ pub(crate) fn take(alloc: Global, kept: &mut Kept, buf: &mut [u8], got: &mut usi
 fn take_told<D: Disk>(alloc: Global, live: &mut Moving<D>, buf: &mut [u8], got: &mut usize) -> u32
     ensures { HasTaken live.old result got.new buf.old buf.new live.new }
 {
-    let mut waiting = live
-        .replace_writer(WriteSink::new(Vec::new(alloc)))
-        .into_inner();
-    let count = take_front(&mut waiting, buf);
-    let _empty = live.replace_writer(WriteSink::new(waiting));
-    *got = count;
+    let mut waiting = live.replace_writer(Waiting::new(alloc));
+    *got = waiting.take(buf);
+    let _empty = live.replace_writer(waiting);
     DONE
-}
-
-fn take_front(waiting: &mut Vec<u8>, buf: &mut [u8]) -> usize
-    ensures count { result ≡ min (length buf.old) (length waiting.old.items) }
-    ensures taken { buf.new ≡ take result waiting.old.items ++ drop result buf.old }
-    ensures left { waiting.new.items ≡ drop result waiting.old.items }
-{
-    let count = buf.len().min(waiting.len());
-    buf[..count].copy_from_slice(&waiting[..count]);
-    drop(waiting.drain(..count));
-    count
 }

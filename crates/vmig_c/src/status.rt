@@ -41,6 +41,8 @@ pub(crate) const STOPPED: u32 = 21;
 
 pub(crate) const OUT_BYTE: u32 = 64;
 
+pub(crate) const IDLE: u32 = 65;
+
 pub(crate) const BAD_SECTOR: u32 = 68;
 
 pub(crate) const DISK_FAILED: u32 = 69;

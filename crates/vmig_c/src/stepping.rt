@@ -10,12 +10,11 @@ ghost use Rattle.vmig_c.specs.Told.{live_number, number_of};
 
 use crate::kept::{Contents, Kept, Moving};
 use crate::status::{
-    BAD_SECTOR, DISK_FAILED, DONE, NO_MACHINE, NO_MEMORY, OUT_BYTE, TOO_SMALL, mig_told, refused,
+    BAD_SECTOR, DISK_FAILED, DONE, IDLE, NO_MACHINE, NO_MEMORY, OUT_BYTE, TOO_SMALL, mig_told,
+    refused,
 };
 use machine::{Disk, Event, Machine, Own, Reply};
 use sender::MigError;
-
-const IDLE: u32 = 65;
 
 const TAKEN: u32 = 66;
 

@@ -1,8 +1,11 @@
-use Rattle.vmig_c.proofs.Awaited.{begun_coming}
+use Rattle.std.proofs.Common.{◌∙◌}
+use Rattle.vmig_c.proofs.Awaited.{begun_goes_with, told_of_all}
 use Rattle.vmig_c.proofs.arrival.begin.Goals as goal
 
-pub returns-in-Ok-begun-clause-coming : goal.returns-in-Ok-begun-clause-coming
-returns-in-Ok-begun-clause-coming c =
-    let found = rw (c.in-Some.is, c.deref.ensures.value) at c.in-Ok.ensures in
-    let fed = rw (c.deref-in-Some.ensures.value, c.deref-in-Some-2.ensures.value) at c.in-Ok-begun.ensures.begun in
-    begun_coming c.in-Ok-begun.receiver c.args.held.items c.in-Some.header.pages c.in-Some.header.shapes.items _ found.1 fed
+pub returns-in-Ok-Some-clause-goes_on : goal.returns-in-Ok-Some-clause-goes_on
+returns-in-Ok-Some-clause-goes_on c =
+    let begun = rw c.in-Ok-Some.field-0-is at c.in-Ok-Some.ensures.begun in
+    begun_goes_with c.in-Ok-Some.receiver c.args.held.items begun.0 (begun.1 ∙ c.deref.ensures.value)
+
+pub returns-in-Err-clause-refused : goal.returns-in-Err-clause-refused
+returns-in-Err-clause-refused c = told_of_all c.args.held.items c.in-Err.error (rw c.deref.ensures.value at c.in-Err.ensures.refused)

@@ -1,0 +1,13 @@
+use Rattle.std.proofs.Common.{◌≡◌, ◌≢◌, ◌<◌, ◌≤◌, ◌+◌, ◌-◌, ◌*◌, ◌/◌, ◌%◌, ◌^◌, ℕ, Bool, true, false, List, length, replicate, get_or, ap, sym, ◌∙◌, refl, rules, arith, Some, None}
+use Rattle.dirtylog.proofs.Flags.{flags_length, flags_zero, count_zero}
+use Rattle.dirtylog.proofs.Levels.{zero_levels}
+use Rattle.dirtylog.proofs.bit_set.BitSet.clear.Goals as goal
+
+pub invariant_of-self : goal.invariant_of-self
+invariant_of-self c =
+    let i = c.self.invariant.0 in
+    let fits : c.self.inside.len < 2 ^ 64 = rw flags_length at c.self.invariant.1.fits in
+    rw (c.clear_all.ensures, c.clear_all-2.ensures) (zero_levels c.self.inside.len _ _ i.words_room i.marks_room, count_zero (length c.self.inside.words.items) c.self.inside.len fits)
+
+pub returns : goal.returns
+returns c = rw (← c.self.view_is, c.clear_all.ensures, flags_length) (flags_zero (length c.self.inside.words.items) c.self.inside.len)

@@ -1,0 +1,53 @@
+//! Which step of the machine behind a handle has something to do.
+
+ghost use Rattle.std.specs.Prelude.{◌≡◌};
+ghost use Rattle.vmig_c.specs.Kept as states;
+ghost use Rattle.vmig_c.specs.NextWork.{FindsWork, FindsWorkOf};
+
+use crate::kept::{Contents, Kept, Moving};
+use crate::status::{IDLE, NO_MACHINE, STOPPED};
+use machine::{Disk, Machine, Work};
+use sender::Phase;
+
+const WORK: u32 = 78;
+
+/// The next step with something to do after the one that the numbers name: they name it then. It takes no memory.
+pub(crate) fn next_work(kept: &Kept, dev: &mut u8, pick: &mut u8) -> u32
+    ensures { FindsWork kept.now.state result dev.new dev.old pick.new pick.old }
+{
+    match &kept.contents {
+        Contents::Still(machine) => work_told(machine, dev, pick),
+        Contents::StillMapped(machine) => work_told(machine, dev, pick),
+        Contents::Moving(live) => live_work_told(live, dev, pick),
+        Contents::MovingMapped(live) => live_work_told(live, dev, pick),
+        Contents::Arriving(_) => NO_MACHINE,
+    }
+}
+
+/// As above, for a machine that is being migrated. One that was stopped makes no steps.
+fn live_work_told<D: Disk>(live: &Moving<D>, dev: &mut u8, pick: &mut u8) -> u32
+    ensures { FindsWork (states.Moving live.now) result dev.new dev.old pick.new pick.old }
+{
+    match live.phase() {
+        Phase::Stopped => STOPPED,
+        _ => work_told(live.machine(), dev, pick),
+    }
+}
+
+/// The status of the next step with something to do, and its numbers. Where there is none, they stay.
+fn work_told<D: Disk>(machine: &Machine<D>, dev: &mut u8, pick: &mut u8) -> u32
+    ensures { FindsWorkOf machine.now result dev.new dev.old pick.new pick.old }
+{
+    let last = Work {
+        dev: *dev,
+        pick: *pick,
+    };
+    match machine.next_work(last) {
+        Some(work) => {
+            *dev = work.dev;
+            *pick = work.pick;
+            WORK
+        }
+        None => IDLE,
+    }
+}
