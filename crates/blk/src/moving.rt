@@ -80,7 +80,6 @@ fn move_out<D: Disk, L: TouchLog>(
     requires sector { request.old.first + request.old.done < length sectors.old.content }
     requires open { request.old.done < request.old.units }
     requires small { length sectors.old.content < 2 ^ 64 }
-    requires whole { AreWhole sectors.old.content }
     requires may { MayPages L.may log.old (length ram.old.bytes) }
     requires may_sectors { MaySectors L.may log.old device (length sectors.old.content) }
     ensures moved { IsMoved L.after sectors.old.honest device ram.old.bytes sectors.old.content log.old (λ given. move_out ram.old.bytes request.old (not (is_disk_failed result))) result request.new ram.new.bytes sectors.new.content log.new }
@@ -90,6 +89,7 @@ fn move_out<D: Disk, L: TouchLog>(
     ensures later { IsLater ram.old ram.new }
     ensures may { MayPages L.may log.new (length ram.new.bytes) }
 {
+    sectors.recall();
     let n = request.next_sector();
     let mut buffer = [0; SECTOR_SIZE];
     copy_out(
