@@ -54,6 +54,13 @@ impl Owned {
         let status = unsafe { vmig_step(&mut self.0, 0, 0, none.as_mut_ptr(), 0, &mut len) };
         (status, len)
     }
+
+    /// The first step with something to do, in turn after this one.
+    fn next_work(&mut self, (mut dev, mut pick): (u8, u8)) -> Option<(u8, u8)> {
+        let status = unsafe { vmig_next_work(&mut self.0, &mut dev, &mut pick) };
+        assert!(status == WORK || status == IDLE);
+        (status == WORK).then_some((dev, pick))
+    }
 }
 
 impl Drop for Owned {
@@ -83,9 +90,16 @@ fn main() {
     machine.store(AVAILABLE + 2, &1u16.to_le_bytes());
     machine.write(0x050, 0);
 
+    assert_eq!(machine.next_work((0, 0)), None);
     assert_eq!(machine.step(), (IDLE, 0));
     assert_eq!(machine.input(&[7; 20]), 20);
+    assert_eq!(machine.next_work((0, 0)), Some((0, 0)));
     assert_eq!(machine.step(), (COMPLETED, 16));
+
+    // Bytes are left, and the queue is still notified. The next step finds it empty.
+    assert_eq!(machine.next_work((0, 0)), Some((0, 0)));
+    assert_eq!(machine.step(), (IDLE, 0));
+    assert_eq!(machine.next_work((0, 0)), None);
     assert_eq!(machine.load::<16>(BUFFER), [7; 16]);
     assert_eq!(machine.load::<2>(USED + 2), [1, 0]);
     assert_eq!(unsafe { vmig_lines(&mut machine.0) }, 1);
