@@ -17,42 +17,53 @@
  * - No call is made from a signal handler, or in the forked child of a process with threads.
  * - malloc, realloc and free belong to one allocator, and what they give is aligned to each power of two up to 16 that
  *   divides its size.
+ * - The thread that calls has 16 KiB of stack left: no call needs more (measured).
  *
  * WHO OWNS WHAT: a machine is made by vmig_make, vmig_make_with, vmig_make_mapped or vmig_receive, or arrives by vmig_feed,
  * and lives until vmig_free or vmig_unmap; a handle that is dropped without one of these leaks. What you pass is copied, and
- * the library keeps no pointer of yours behind a call, but for the images of vmig_make_mapped.
+ * the library keeps no pointer of yours after a call, but for the images of vmig_make_mapped.
  *
- * DISKS IN YOUR MEMORY, as in a file that you mapped: a vmig_image says where the sectors of a disk lie, and vmig_make_mapped
- * makes a machine whose disks are such images. What the guest writes stands there at once. From that call until vmig_unmap or
+ * THE LOOP: hand in what the guest does (vmig_reg_read, vmig_reg_write, vmig_ram_read, vmig_ram_write). After each register
+ * write, and after each vmig_input, make the steps that vmig_next_work names, as its comment shows, and read vmig_lines after
+ * each. Hand on what a step sends (VMIG_SENT) before the next one: it overwrites the buffer. Do a console's steps before the
+ * register write returns to the guest: Linux waits for them with interrupts off. Make a bounded number of steps before the
+ * guest runs again: a guest can give its devices work without end.
+ *
+ * DISKS IN YOUR MEMORY, as in a file that you mapped: a vmig_image says where the sectors of a disk are, and vmig_make_mapped
+ * makes a machine whose disks are such images. What the guest writes is there at once. From that call until vmig_unmap or
  * vmig_free the bytes are the machine's: nothing else reads or writes them, and they stay mapped, at their address. A guest's
- * flush does not reach the file behind them: it calls no msync, which is yours to do, and between two calls you may.
+ * flush does not reach the file: it calls no msync, which is yours to do, after the steps that completed a request and before
+ * the guest runs again.
  *
  * WHAT TAKES MEMORY from malloc: vmig_make, vmig_make_with and vmig_receive (RAM, disks, devices), vmig_make_mapped (RAM,
  * devices, and a bit for each sector), vmig_save (the whole stream, for the time of the call), and vmig_step for a chain of
- * many descriptors or a message of the guest; vmig_begin, vmig_copy, vmig_end_round and vmig_stop for what they write, which
- * waits until it is taken; vmig_feed, for all bytes of the stream until vmig_finish, and for RAM and disks as soon as the
- * header is whole; and vmig_finish. No other call does.
+ * many descriptors or a message of the guest; vmig_begin for two bits for each page and sector, and vmig_begin, vmig_copy,
+ * vmig_end_round and vmig_stop for what they write, which waits until it is taken: a stop of a machine of which nothing was
+ * copied before writes the whole machine; vmig_feed, for all bytes of the stream until vmig_finish, and for RAM and disks as
+ * soon as the header is whole; and vmig_finish. No other call does.
  *
  * A MACHINE IS SENT WHILE IT RUNS: vmig_begin, then vmig_copy until VMIG_ROUND_DONE and vmig_end_round, as often as you like,
- * then vmig_stop. All the other calls go on between these, but for vmig_save and vmig_sector_read. What is written waits
- * inside, and vmig_take hands it out when you like. The bytes that were taken, in their order, are one stream after
- * vmig_stop. After vmig_stop the guest stands still: its events are VMIG_STOPPED, and RAM and the lines can be read, until
- * vmig_abort or vmig_free. After vmig_abort the machine goes on as one that was never sent.
+ * then vmig_stop. The guest is served as ever between these: all other calls are allowed, but for vmig_save and
+ * vmig_sector_read. What is written waits inside, and vmig_take hands it out when you like. The bytes that were taken, in
+ * their order, are one stream after vmig_stop. After vmig_stop the guest is paused for good: its events are VMIG_STOPPED, and
+ * RAM and the lines can be read, until vmig_abort or vmig_free. After vmig_abort the machine continues as one that was never
+ * sent.
  *
  * A MACHINE ARRIVES: vmig_feed on a handle of no machine, with the bytes of the stream in any pieces, as they come over the
- * wire, and vmig_finish behind the last; or vmig_receive with all of them at once. Until vmig_finish the handle has no machine
+ * wire, and vmig_finish after the last; or vmig_receive with all of them at once. Until vmig_finish the handle has no machine
  * for any other call but vmig_rounds and vmig_free, and is in use for vmig_make, vmig_make_with, vmig_make_mapped and
- * vmig_receive.
+ * vmig_receive. Before its guest runs read the lines and make the steps that vmig_next_work names: a kick and an interrupt
+ * that were not served come with the machine. The digest is computed at the last record, over all bytes: some 4 ms a MiB.
  *
  * A GUEST WHOSE RAM IS YOURS, as under hardware virtualization, runs on memory of your own. The machine has RAM beside it,
  * and you mirror the one into the other: uint8_t ram[4096 * pages], and uint64_t seen[pages], which notes of each page the
  * version at which you had it. Begin with VMIG_UNSEEN in each entry of seen: you have seen no page. Where the machine's RAM
  * is the one to begin with, as after vmig_receive, let vmig_pull fill yours; where yours is, hand in every page with
- * vmig_push. From then on, with the guest standing still from the first to the last of these: hand in the pages that the
- * guest has written since; tell its register writes; make the steps that vmig_next_work names; read the lines; and let
- * vmig_pull bring what the devices wrote. Then ram is the machine's RAM, byte for byte. What the guest writes into a page
- * between the push and the pull is lost where a device writes into that page too; and a page that the guest wrote and you did
- * not hand in is not seen by the devices, and lost once one writes into it. Only vmig_push and vmig_pull write seen.
+ * vmig_push. From then on, with the guest paused from the first to the last of these: hand in EVERY page that the guest has
+ * written since, also one that only a device will write; make its register writes; make the steps that vmig_next_work names;
+ * read the lines; and let vmig_pull bring what the devices wrote. Then ram is the machine's RAM, byte for byte. A page that
+ * the guest wrote and you did not hand in is not seen by the devices, is lost once one writes into it, and is not sent: hand
+ * in all of them also before vmig_end_round and before vmig_stop. Only vmig_push and vmig_pull write seen.
  *
  * WHAT A GUEST CAN DO: whatever it writes into RAM and registers, each call stays defined and ends.
  */

@@ -28,17 +28,30 @@ static void send_two(vmig_machine *m, uint32_t count)
     offer(m, 1, count + 1, 1);
 }
 
+/* The interrupt lines as the guest has them. */
+static uint16_t lines;
+
+/* What a host does after each kick and each input. The bound is for a guest that gives its devices work without end. */
+static void do_work(vmig_machine *m)
+{
+    uint8_t dev = 0, pick = 0;
+    uint32_t len = 0;
+
+    for (int i = 0; i < 1000 && vmig_next_work(m, &dev, &pick) == VMIG_WORK; i++) {
+        uint32_t status = vmig_step(m, dev, pick, buf, sizeof buf, &len);
+        if (status < 64) break;
+        if (status == VMIG_SENT) hand_on(buf, len);
+        lines = vmig_lines(m);
+    }
+}
+
 /* The rule kept. */
 static void each_is_handed_on(vmig_machine *m)
 {
-    uint32_t len = 77, status;
-
     send_two(m, 1);
     written = 0;
-    while ((status = vmig_step(m, 0, 1, buf, sizeof buf, &len)) != VMIG_IDLE) {
-        expect("sent", status, VMIG_SENT);
-        hand_on(buf, len);
-    }
+    do_work(m);
+    expect("an interrupt", lines, 1);
     expect("length of both", written, 9);
     expect("both", (uint64_t)memcmp(terminal, "one, two.", 9), 0);
 }
