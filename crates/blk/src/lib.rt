@@ -1,24 +1,28 @@
 //! The block device (VIRTIO 1.2, 5.2): its disk, its outstanding requests, and the steps that serve them.
 //!
-//! `Requests::take` takes the next chain of a ring of either layout as a `Request`. It reads the header of the request
-//! then, and keeps the segments of the chain: they are never read again, whatever the driver writes later.
-//! `Requests::advance` goes on with an outstanding request by one unit, with one call of the disk at most, or tells its
-//! verdict and publishes its chain. The step that takes and the step that advances are told in `specs/Take` and
-//! `specs/Advance`: RAM, ring, sectors, requests, log and answer. Advancing takes no memory.
+//! `Requests::take` takes the next chain of a ring of either layout as a `Request`. It reads the header of the request then,
+//! and keeps the segments of the chain: they are never read again, whatever the driver writes later. `Requests::advance` brings
+//! an outstanding request on by one unit, with one call of the disk at most, or reports its verdict and publishes its chain.
 //!
-//! The disk is any type that keeps the contract of the trait `Disk` (`specs/Disk`): `MemDisk` in memory, `FileDisk` in a
-//! file, and `FaultDisk`, which fails by a plan. `Sectors` is a disk and the marks of those of its sectors that are bad: a
-//! write that fails leaves any bytes behind, and its sector is bad until a write succeeds. Contracts see one list of
-//! sectors, each with its bytes or bad (`specs/Sectors`).
+//! The disk is any type that keeps the contract of the trait `Disk` (`specs/Disk`): `MemDisk` in memory, `FileDisk` in a file,
+//! and `FaultDisk`, which fails by a plan. `Sectors` is a disk and the marks of those of its sectors that are bad: a write that
+//! fails leaves any bytes, and its sector is bad until a write succeeds. Contracts see one list of sectors, each with its bytes
+//! or bad (`specs/Sectors`).
 //!
-//! Of every disk, a step does what the definitions say, with the sectors as the disk gave them in this step (`IsGiven` in
-//! `specs/Sectors`): its answer, RAM, the ring, the requests, the log, and which sectors are bad. An honest disk gives what
-//! was written; of another no contract says which bytes it gives, or which a write leaves.
+//! # What the layers above may rely on
+//! - `Requests::take(ring, shape, ram, log)` is `take_step` (`specs/Take`) over any `Ring`, with fewer than 8 requests
+//!   outstanding. An error is out of memory, comes only at a long queue, and leaves all as it was.
+//! - `Requests::advance(k, ring, shape, sectors, device, ram, log)` is `advance_step` (`specs/Advance`), with any disk: the
+//!   answer, RAM, the ring, the requests, the log and which sectors are bad are those of the step with the sectors as the disk
+//!   gave them in it. Where no sector was written the sectors are known too. What a written sector holds, and that a disk gives
+//!   what it holds, is said of honest disks. It takes no memory.
+//! - The count of failures rises by one exactly where the answer is `DiskFailed`, and a steady disk never fails. Requests stay
+//!   sound and sectors whole, whatever the disk does.
+//! - `Requests::are_sound` tests what every outstanding request keeps, for requests that come from elsewhere.
 //!
 //! Other definitions: `specs/Task` (what a request asks for, by its header), `specs/Move` (one unit of a request),
-//! `specs/Sound` (what every outstanding request keeps; `Requests::are_sound` tests it), `specs/Request`,
-//! `specs/FaultDisk` and `specs/FileDisk`. Nothing is trusted here beside `byteorder` and the crates below; and what a file
-//! holds between two calls is not known to any contract.
+//! `specs/Sound` (what every outstanding request keeps), `specs/Request`, `specs/FaultDisk` and `specs/FileDisk`. Nothing is
+//! trusted here beside `byteorder` and the crates below; and what a file holds between two calls is not known to any contract.
 #![tactic(auto)]
 
 mod advancing;

@@ -1,27 +1,45 @@
 //! The machine: RAM and 1 to 16 virtio devices, to which one event after another is applied.
 //!
-//! An `Event` is one atomic step: a register access, an access to RAM, a piece of a device's work, bytes that the host
-//! puts in. `Machine::apply` answers it with a `Reply`, and `Machine::play` plays a whole list. There is no other way to
-//! change a machine, and no thread.
+//! An `Event` is one atomic step: a register access, an access to RAM, a piece of a device's work, bytes that the host puts in.
+//! `Machine::apply` answers it with a `Reply`, and `Machine::play` plays a whole list. There is no other way to change a
+//! machine, and no thread. A machine's state is `MachineState` (`specs/State`): one list of bytes, the devices, and the sectors
+//! of their disks. Versions of pages are no part of it.
 //!
-//! What the layer above may rely on: `apply` is a step of the machine in the sense of `specs/Step`, where a step has an
-//! outcome (fine, or memory was refused), a reply and an effect, which is then applied (`specs/Effect`); `play` is a run of
-//! such steps (`specs/Run`). A machine's state is `MachineState` (`specs/State`): one list of bytes, the devices, and the
-//! sectors of their disks. Versions of pages are no part of it. Every machine is sound (`specs/Sound`), and stays so. The
-//! functions of `laws` say what holds of every effect: what is not touched stays, what is touched exists, the shape stays.
+//! A device finds its work in rings: split ones, or packed ones where the driver accepted them. What a step may see there is
+//! what the definitions of `chains` say of the RAM, so steps with equal outcomes are equal. The disk of a block device is any
+//! type that keeps the contract of the trait `Disk`.
 //!
-//! A device finds its work in rings: split ones, or packed ones where the driver accepted them. What a step may see there
-//! is what the definitions of `chains` say of the RAM, so steps with equal outcomes are equal. A malformed chain stops its
-//! own device, and changes nothing else.
+//! # What the layers above may rely on
+//! - `apply(event)` is a step in the sense of `specs/Step`, with the outcome that its reply reports, of the machine with its
+//!   sectors as the disk gave them in this step (`specs/Applied`): the reply, RAM, the devices and which sectors are bad are as
+//!   its effect says, with any disk. Where no sector was written, what the sectors hold is known too; what a written sector
+//!   holds, and that a disk gives what it holds, is said of honest disks. The machine is sound after it, and its RAM is a later
+//!   one.
+//! - `apply_logged(event, log)` is the same step, and the log is then what the items of the step's effect make of it: exactly
+//!   the pages and sectors that the step writes into.
+//! - `read_register`, `write_register`, `read_ram`, `write_ram`, `input`, `resize` and `step` are the steps of their events,
+//!   with no event to be made.
+//! - `NoMemory` comes only for a reply that holds bytes and for a step that looks at a long queue or at a message to be sent.
+//!   After it, and after `Refused`, nothing has changed.
+//! - A disk's count of failures rises by one exactly where the reply is `DiskFailed` and it is that device's disk; a steady
+//!   disk never fails. That a step makes one call of a disk at most is in no contract.
+//! - `next_work(last)` names the next step that has something to do, in turn after `last` (`specs/NextWork`). Where it names
+//!   none, every step of every device is idle; a step that it names is not idle, or has cleared the notified flag of its queue.
+//!   It reads no RAM.
+//! - `read_sector` gives a sector, or says that it is bad, and then makes no call of the disk.
+//! - `play(events)` is a run of steps (`specs/Run`), with a reply to each; where it is refused memory, nothing was played.
+//! - `Machine::new` gives zeros and first values, or the first of its refusals; `new_or_back` also gives the disks back.
+//!   `restore` gives the machine of what was saved. Every machine is sound (`specs/Sound`), and stays so. `lines` is the
+//!   interrupt lines.
+//! - `are_disks_of` says whether disks are those of some devices, in their order.
+//! - `laws`: what an effect does not touch stays, what it touches exists, the shape stays. Equal outcomes give equal effects,
+//!   replies and machines, whatever a guest wrote into its rings. A step of a sound machine stays within it, keeps its shape
+//!   and leaves it sound. What is refused changes nothing. A device asks for a reset exactly where it looks at a malformed
+//!   queue and memory was not refused, and nothing else changes then. An honest disk gives what it holds; over any disk a step
+//!   answers alike and writes into the same items as over an honest one.
 //!
-//! The disk under a block device is any type that keeps the contract of the trait `Disk`. With any disk an event has the reply,
-//! RAM, devices, log and bad sectors of a step of the machine with its sectors as the disk gave them (`specs/Applied`). An
-//! honest disk gives what was written, so there it is a step of the machine itself, sectors and all. Whatever a disk does, the
-//! machine stays sound, and each failure shows in the reply and in the count of that disk. `are_disks_of` tells whether disks
-//! are those of some devices, in their order.
-//!
-//! It stands on `guestmem` (RAM), `mmio` (registers), the rings, `blk` and `console`, and trusts nothing else. Streams of machines stand
-//! on it, in `wire`, `sender` and `receiver`; an embedder takes all of it from the crate `vmig`.
+//! It uses `guestmem` (RAM), `mmio` (registers), the rings, `blk`, `net` and `console`, and trusts nothing else. Streams of
+//! machines are in `wire`, `sender` and `receiver`; an embedder takes all of it from the crate `vmig`.
 #![tactic(auto)]
 
 mod any_ring;

@@ -1,10 +1,33 @@
 //! A machine as C sees it: `vmig.h` says the same to its reader, and what C owes.
 //!
-//! `Handle` is the one type that C holds; all raw pointers are behind it, in `handle`. Behind it lies a machine that stands
-//! still, is sent or arrives (`kept`). Every export is an ordinary function, and its clause is the step of the machine with the
-//! outcome that its status tells of (`specs/Told`), or the call of a migration (`specs/Migrated`) or of an arrival
-//! (`specs/Arriving`). The numbers stand in one table, `specs/Status`. What follows from the clauses stands in `laws`: what was
-//! taken of a machine that was stopped is its stream, and what arrives of that is the machine.
+//! `Handle` is the one type that C holds: a pointer, null or of a machine in a box. All raw pointers are in one file, `handle`.
+//! It cannot be dropped, so a function that forgets a machine is refused. Behind it lies a machine that is idle, is sent or
+//! arrives, and its disks lie in memory of the library or of the caller (`kept`). No call moves the disks.
+//!
+//! # What the layers above may rely on
+//! - Every export is an ordinary function, and its clause is the step of the machine (`specs/Told`, `specs/Stepped`), its
+//!   making (`specs/Making`, `specs/Images`) or its stream (`specs/Moving`), by the status that it answers. The statuses are in
+//!   one table (`specs/Status`): from 1 to 63 nothing has changed, but for 20 (the writer failed) and for a stream that is
+//!   refused on its way. `vmig_step` is not done where what it sends might not fit.
+//! - `vmig_next_work` names the next step that has something to do (`specs/NextWork`).
+//! - Every call has its clause in each state: the calls of a migration those of `Live` (`specs/Migrated`), over a writer into
+//!   memory from which `vmig_take` takes; the calls of an arrival those of `Receiver` (`specs/Awaited`, `specs/Arriving`), over
+//!   disks that are made as soon as the header is whole. What arrives is no machine for the other calls.
+//! - What was taken, and what waits, is what a machine that is sent has written, from its first call to its stop, and what
+//!   arrives of it is that machine: laws over these clauses (`specs/Sent`).
+//! - A caller whose guest runs on hardware keeps the guest's RAM in memory of its own (`specs/Mirror`). `vmig_push` is one
+//!   write of a whole page for each page that it hands in, and `vmig_pull` takes out each page whose version is not the one
+//!   that it noted, or is the greatest. `Mirrors` says that each page that it noted as it is is the machine's. Whatever is
+//!   applied to the machine keeps a mirror; pushed pages are mirrored; and after a pull of a mirror the caller's RAM is the
+//!   machine's, byte for byte (`laws`). The caller's part is to hand in every page that its guest wrote.
+//! - `vmig_make_with` makes the first machine over disks that hold the images, and `vmig_sector_read` gives a sector of a disk.
+//!   Nothing but the guest writes one.
+//! - `vmig_make_mapped` makes the first machine over disks in images of the caller, which it takes (`specs/Mapping`).
+//!   `vmig_unmap` frees such a machine, and the slots have what its disks held, in the order of the devices, but for bad
+//!   sectors, which may hold anything (`specs/Unmapping`). Both refuse without a change. That an image comes back to its
+//!   address is not in the clause, since a machine is not seen with addresses; the disk has no other memory to give.
+//! - The machines of C have their disks in memory (`specs/Plain`): they are honest and steady, and stay so.
+//! - The caller's part is C's: pointers and counts name memory as the header says.
 #![tactic(auto)]
 
 ghost use Rattle.std.specs.Prelude.{◌≡◌, None};
