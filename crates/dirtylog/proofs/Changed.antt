@@ -1,12 +1,12 @@
 -- Bits in words that are changed.
-use Rattle.std.proofs.Common.{◌≡◌, ◌≢◌, zero, suc, [], ◌∷◌, ◌<◌, ◌≤◌, ℕ, ◌+◌, ◌-◌, ◌*◌, ◌/◌, ◌%◌, ◌^◌, Bool, true, false, List, length, get_or, replicate, refl, sym, ◌∙◌, arith}
+use Rattle.std.proofs.Common.{◌≡◌, ◌≢◌, zero, suc, [], ◌∷◌, ◌<◌, ℕ, ◌*◌, ◌/◌, ◌%◌, ◌^◌, Bool, true, false, List, length, get_or, refl, arith}
 use Rattle.std.specs.Prelude.{◌==◌, set, bit_or, bit_and}
-use Rattle.std.proofs.lemmas.List.{get_or-set_same, get_or-set_other, length-set, get_or-replicate, get_or_past, length-replicate}
+use Rattle.std.proofs.lemmas.List.{get_or-set_same, get_or-set_other, length-set}
 use Rattle.std.proofs.lemmas.Bool.{eqb-true, eqb-false}
-use Rattle.std.proofs.lemmas.Nat.Bits.{bit_at_set_same, bit_at_set_other, bit_at_clear_same, bit_at_clear_other, bit_at-zero, bit_at_ones, bit_at_ones_above}
+use Rattle.std.proofs.lemmas.Nat.Bits.{bit_at_set_same, bit_at_set_other, bit_at_clear_same, bit_at_clear_other}
 use Rattle.std.specs.Int.{bit_at, bit_not}
 use mir.Syntax.{w64}
-use Rattle.dirtylog.specs.Words.{bit_in, AreAll, HasRoomFor, IsWithBit}
+use Rattle.dirtylog.specs.Words.{bit_in, IsWithBit}
 
 apart : (k n : ℕ) → k ≢ n → k / 64 ≡ n / 64 → k % 64 ≢ n % 64
 apart k n h e f = h (omega (arith, e, f))

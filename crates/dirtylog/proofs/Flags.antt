@@ -1,16 +1,14 @@
 -- The truth values of the numbers below a length, and the words that keep them.
-use Rattle.std.proofs.Common.{◌≡◌, ◌≢◌, ◌<◌, ◌≤◌, ℕ, zero, suc, ◌+◌, ◌-◌, ◌*◌, ◌/◌, ◌%◌, ◌^◌, Bool, true, false, List, length, get_or, replicate, refl, sym, ◌∙◌, arith, ap}
-use Rattle.std.specs.Prelude.{◌==◌, map, set, nat_lt, cond, Option, Some, None}
-use Rattle.std.specs.Int.{bit_at}
+use Rattle.std.proofs.Common.{◌≡◌, ◌≢◌, ◌<◌, ◌≤◌, ℕ, zero, suc, ◌+◌, ◌-◌, ◌^◌, Bool, true, false, List, length, get_or, replicate, refl, sym, ◌∙◌, arith}
+use Rattle.std.specs.Prelude.{◌==◌, set, nat_lt, cond, Option, Some, None}
 use Rattle.std.proofs.lemmas.List.{get_or-set_same, get_or-set_other, length-set, get_or-replicate, get_or_past, length-replicate}
 use Rattle.std.proofs.lemmas.List.FromFn.{get_or-map-range_with_len, length-map-range_with_len, fill_by_all}
 use Rattle.std.proofs.lemmas.List.Sums.{sum_by-set, sum_by-cons, count_by-le-length}
-use Rattle.std.proofs.lemmas.Bool.{eqb-true, eqb-false, true≢false}
-use Rattle.std.proofs.lemmas.Nat.Bits.{bit_at-zero, bit_at-lt}
+use Rattle.std.proofs.lemmas.Bool.{eqb-true, eqb-false}
 use borrow.Author.Tests.{ltb-true, ltb-false}
-use Rattle.dirtylog.specs.Members.{has, HasCount, IsLeast, IsLeastFrom, member_count}
+use Rattle.dirtylog.specs.Members.{has, HasCount, IsLeastFrom, member_count}
 use Rattle.dirtylog.proofs.Levels.{zeros, zero_bit}
-use Rattle.dirtylog.specs.Words.{bit_in, flags_of, AreAll, AreLevels, HasRoomFor, IsWithBit, IsLeastBit, IsLeastBitFrom}
+use Rattle.dirtylog.specs.Words.{bit_in, flags_of, AreAll, IsWithBit, IsLeastBitFrom}
 
 pub flag_at : (words : List ℕ) (len n : ℕ) → n < len → get_or (flags_of words len) n false ≡ (bit_in words n == 1)
 flag_at words len n h = get_or-map-range_with_len (λ k. bit_in words k == 1) 0 len n n false h (omega arith)

@@ -1,12 +1,12 @@
 -- Both levels of a set, after changes and as they are searched.
-use Rattle.std.proofs.Common.{◌≡◌, ◌≢◌, ◌<◌, ◌≤◌, ℕ, ◌+◌, ◌-◌, ◌*◌, ◌/◌, ◌%◌, ◌^◌, Bool, true, false, List, length, get_or, replicate, refl, sym, ◌∙◌, arith}
+use Rattle.std.proofs.Common.{◌≡◌, ◌≢◌, ◌<◌, ℕ, ◌*◌, ◌/◌, ◌%◌, Bool, true, false, List, length, get_or, replicate, refl, sym, ◌∙◌, arith}
 use Rattle.std.specs.Prelude.{◌==◌, nat_lt}
 use Rattle.std.specs.Int.{bit_at}
 use Rattle.std.proofs.lemmas.List.{get_or_past, get_or-replicate, length-replicate}
 use Rattle.std.proofs.lemmas.Bool.{eqb-true, eqb-false}
-use Rattle.std.proofs.lemmas.Nat.Bits.{bit_at-zero, bit_at-lt}
+use Rattle.std.proofs.lemmas.Nat.Bits.{bit_at-zero}
 use borrow.Author.Tests.{ltb-true, ltb-false}
-use Rattle.dirtylog.specs.Words.{bit_in, AreAll, AreLevels, HasRoomFor, IsUnmarked, IsWithBit, IsLeastBit, IsLeastBitFrom}
+use Rattle.dirtylog.specs.Words.{bit_in, AreAll, AreLevels, HasRoomFor, IsUnmarked, IsWithBit}
 
 -- The marks after the word at one place changed.
 pub record AreMarked (marks new_marks new : List ℕ) (at : ℕ) : Type 0 where

@@ -1,6 +1,6 @@
 -- The bits of a word from one on.
 use Rattle.std.proofs.Common.{◌≡◌, ◌<◌, ◌≤◌, ℕ, ◌-◌, ◌*◌, ◌%◌, ◌^◌, Bool, true, false, refl, sym, ◌∙◌, arith}
-use Rattle.std.specs.Prelude.{bit_and, nat_lt, min}
+use Rattle.std.specs.Prelude.{bit_and, nat_lt}
 use Rattle.std.specs.Int.{bit_at}
 use Rattle.std.proofs.lemmas.Nat.Bits.{ones_shl, bit_at_and, bit_at_mask_inside, bit_at_mask_below, bit_at_above, bit_at-lt}
 use borrow.Author.Tests.{ltb-true, ltb-false}

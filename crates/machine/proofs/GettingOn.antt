@@ -97,7 +97,7 @@ idle_served shape (Console size held) (suc number) ram q seen h = idle_message _
 idle_served shape (Block requests) number ram q seen h = idle_taking _ h
 idle_served shape (Entropy pool) number ram q seen h = idle_bytes _ h
 
--- An outstanding request that goes on is never idle.
+-- An outstanding request that is advanced is never idle.
 busy_if : (b : Bool) (x y : Move) → x.answer ≢ advanced.Idle → y.answer ≢ advanced.Idle → (cond b x y).answer ≢ advanced.Idle
 busy_if true x y h k = h
 busy_if false x y h k = k

@@ -10,7 +10,7 @@
 --     64         a register was written, and a byte came out
 --     65 to 73   what a step did
 --     74 to 77   what a call of a migration did
---     78         a step has something to do; where none has, 65 is told
+--     78         a step has something to do; where none has, the answer is 65
 use Rattle.std.specs.Prelude.{ℕ, ◌+◌}
 use Rattle.machine.specs.Refusal.{code_of}
 use Rattle.sender.specs.Saving.{mig_code_of}

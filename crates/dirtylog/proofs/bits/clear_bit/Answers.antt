@@ -1,5 +1,5 @@
-use Rattle.std.proofs.Common.{◌≡◌, ◌≢◌, ◌<◌, ◌≤◌, ◌+◌, ◌-◌, ◌*◌, ◌/◌, ◌%◌, ◌^◌, ℕ, Bool, true, false, List, length, replicate, get_or, ap, sym, ◌∙◌, refl, rules, arith, Some, None}
-use Rattle.std.specs.Prelude.{bit_or, bit_and}
+use Rattle.std.proofs.Common.{◌≡◌, ◌*◌, ◌/◌, ◌%◌, ◌^◌, ℕ, get_or, ap, ◌∙◌, arith}
+use Rattle.std.specs.Prelude.{bit_and}
 use Rattle.std.specs.Int.{bit_not}
 use mir.Syntax.{w64}
 use Rattle.dirtylog.proofs.Changed.{with_bit, is_clear, any_default}

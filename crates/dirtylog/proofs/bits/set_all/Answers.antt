@@ -1,7 +1,6 @@
-use Rattle.std.proofs.Common.{◌≡◌, ◌≢◌, ◌<◌, ◌≤◌, ◌+◌, ◌-◌, ◌*◌, ◌/◌, ◌%◌, ◌^◌, ℕ, Bool, true, false, List, length, replicate, get_or, ap, sym, ◌∙◌, refl, rules, arith, Some, None}
+use Rattle.std.proofs.Common.{◌≡◌, ◌-◌, ◌^◌, ℕ, length, ap, arith}
 use Rattle.std.proofs.lemmas.List.{length-replicate}
-use Rattle.dirtylog.specs.Words.{AreAll}
-use Rattle.dirtylog.proofs.All.{all_full, all_cut, full, cut}
+use Rattle.dirtylog.proofs.All.{all_full, all_cut}
 use Rattle.dirtylog.proofs.bits.set_all.Goals as goal
 
 pub returns-then-used-ne0-clause-all : goal.returns-then-used-ne0-clause-all

@@ -1,7 +1,6 @@
-use Rattle.std.proofs.Common.{◌≡◌, ◌≤◌, ◌<◌, arith, sym, ◌∙◌, subst, ℕ}
-use Rattle.std.specs.Int.{bit_at}
+use Rattle.std.proofs.Common.{◌≤◌, ◌<◌, arith, sym, ◌∙◌}
 use Rattle.std.proofs.lemmas.Nat.Bits.{bit_at-zero}
-use Rattle.dirtylog.proofs.Rest.{rest_of, none_from, reached, high_bit}
+use Rattle.dirtylog.proofs.Rest.{none_from, reached, high_bit}
 use Rattle.dirtylog.proofs.scan.bit_from.Goals as goal
 
 pub returns-then-rest-eq0 : goal.returns-then-rest-eq0

@@ -1,6 +1,6 @@
-use Rattle.std.proofs.Common.{◌≡◌, ◌≢◌, ◌<◌, ◌≤◌, ◌+◌, ◌-◌, ◌*◌, ◌/◌, ◌%◌, ◌^◌, ℕ, Bool, true, false, List, length, replicate, get_or, ap, sym, ◌∙◌, refl, rules, arith, Some, None}
+use Rattle.std.proofs.Common.{◌≡◌, ◌≤◌, ◌/◌, ◌%◌, ℕ, get_or}
 use Rattle.std.specs.Int.{bit_at}
-use Rattle.dirtylog.proofs.Finding.{found_in_word, none_found, found_later}
+use Rattle.dirtylog.proofs.Finding.{found_later}
 use Rattle.dirtylog.proofs.scan.find_bit.Goals as goal
 
 pub returns-clause-least : goal.returns-clause-least

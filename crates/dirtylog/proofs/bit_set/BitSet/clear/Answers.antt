@@ -1,4 +1,4 @@
-use Rattle.std.proofs.Common.{◌≡◌, ◌≢◌, ◌<◌, ◌≤◌, ◌+◌, ◌-◌, ◌*◌, ◌/◌, ◌%◌, ◌^◌, ℕ, Bool, true, false, List, length, replicate, get_or, ap, sym, ◌∙◌, refl, rules, arith, Some, None}
+use Rattle.std.proofs.Common.{◌<◌, ◌^◌, length}
 use Rattle.dirtylog.proofs.Flags.{flags_length, flags_zero, count_zero}
 use Rattle.dirtylog.proofs.Levels.{zero_levels}
 use Rattle.dirtylog.proofs.bit_set.BitSet.clear.Goals as goal

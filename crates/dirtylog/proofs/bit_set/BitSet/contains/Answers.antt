@@ -1,6 +1,6 @@
-use Rattle.std.proofs.Common.{◌≡◌, ◌≢◌, ◌<◌, ◌≤◌, ◌+◌, ◌-◌, ◌*◌, ◌/◌, ◌%◌, ◌^◌, ℕ, Bool, true, false, List, length, replicate, get_or, sym, ◌∙◌, refl, rules, arith, Some, None}
+use Rattle.std.proofs.Common.{◌≡◌, ◌<◌, sym, ◌∙◌, arith}
 use Rattle.std.specs.Prelude.{◌==◌}
-use Rattle.dirtylog.specs.Words.{flags_of, bit_in}
+use Rattle.dirtylog.specs.Words.{bit_in}
 use Rattle.dirtylog.proofs.Flags.{flag_at, flags_length}
 use Rattle.dirtylog.proofs.bit_set.BitSet.contains.Goals as goal
 

@@ -1,4 +1,4 @@
-use Rattle.std.proofs.Common.{◌≡◌, ◌≢◌, ◌<◌, ◌≤◌, ◌+◌, ◌-◌, ◌*◌, ◌/◌, ◌%◌, ◌^◌, ℕ, Bool, true, false, List, length, replicate, get_or, ap, sym, ◌∙◌, refl, rules, arith, Some, None}
+use Rattle.std.proofs.Common.{◌≡◌, ◌<◌, ◌^◌, length, arith}
 use Rattle.dirtylog.proofs.Flags.{flags_length, flags_all, count_full}
 use Rattle.dirtylog.proofs.Levels.{all_levels}
 use Rattle.dirtylog.proofs.bit_set.BitSet.fill.Goals as goal

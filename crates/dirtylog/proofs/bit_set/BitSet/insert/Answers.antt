@@ -1,4 +1,4 @@
-use Rattle.std.proofs.Common.{◌≡◌, ◌≢◌, ◌<◌, ◌≤◌, ◌+◌, ◌-◌, ◌*◌, ◌/◌, ◌%◌, ◌^◌, ℕ, Bool, true, false, List, length, replicate, get_or, ap, sym, ◌∙◌, refl, rules, arith, Some, None}
+use Rattle.std.proofs.Common.{◌≡◌, ◌<◌, ◌+◌, ◌^◌, false, sym, ◌∙◌, arith}
 use Rattle.dirtylog.specs.Members.{has}
 use Rattle.dirtylog.specs.Words.{flags_of}
 use Rattle.dirtylog.proofs.Flags.{flags_length, flag_set, one_more, more_fits}

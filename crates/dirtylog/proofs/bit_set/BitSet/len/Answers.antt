@@ -1,4 +1,4 @@
-use Rattle.std.proofs.Common.{◌≡◌, ◌≢◌, ◌<◌, ◌≤◌, ◌+◌, ◌-◌, ◌*◌, ◌/◌, ◌%◌, ◌^◌, ℕ, Bool, true, false, List, length, replicate, get_or, sym, ◌∙◌, refl, rules, arith, Some, None}
+use Rattle.std.proofs.Common.{sym}
 use Rattle.dirtylog.proofs.Flags.{flags_length}
 use Rattle.dirtylog.proofs.bit_set.BitSet.len.Goals as goal
 

@@ -1,4 +1,3 @@
-use Rattle.std.proofs.Common.{◌≡◌, ◌≢◌, ◌<◌, ◌≤◌, ◌+◌, ◌-◌, ◌*◌, ◌/◌, ◌%◌, ◌^◌, ℕ, Bool, true, false, List, length, replicate, get_or, ap, sym, ◌∙◌, refl, rules, arith, Some, None}
 use Rattle.dirtylog.proofs.Flags.{flags_zero, count_zero}
 use Rattle.dirtylog.proofs.Levels.{zero_levels}
 use Rattle.dirtylog.proofs.bit_set.BitSet.new.Goals as goal

@@ -1,4 +1,4 @@
-use Rattle.std.proofs.Common.{◌≡◌, ◌≢◌, ◌<◌, ◌≤◌, ◌+◌, ◌-◌, ◌*◌, ◌/◌, ◌%◌, ◌^◌, ℕ, Bool, true, false, List, length, replicate, get_or, ap, sym, ◌∙◌, refl, rules, arith, Some, None}
+use Rattle.std.proofs.Common.{◌≡◌, ◌<◌, true, sym, ◌∙◌, arith}
 use Rattle.dirtylog.specs.Members.{has}
 use Rattle.dirtylog.specs.Words.{flags_of, bit_in}
 use Rattle.dirtylog.proofs.Flags.{flags_length, flag_set, member_bit, one_less}

@@ -1,4 +1,4 @@
-use Rattle.std.proofs.Common.{◌≡◌, ◌+◌, ◌-◌, ◌≤◌, ◌<◌, ℕ, List, take, drop, sym, ◌∙◌, arith, Bool, true, false, length, get_or}
+use Rattle.std.proofs.Common.{◌≡◌, ◌-◌, ℕ, take, sym, ◌∙◌, arith, Bool, length, get_or}
 use Rattle.std.specs.Prelude.{not, ◌==◌}
 use Rattle.std.proofs.lemmas.Bool.{eqb-true}
 use Rattle.std.proofs.lemmas.Simd.{none_from_empty_mask, bitmask_splat}
