@@ -1,6 +1,6 @@
 //! Bytes that were written of a machine, until they are taken.
 
-ghost use Rattle.std.specs.Prelude.{◌≡◌, ◌++◌, Some, [], drop, length, min, take};
+ghost use Rattle.std.specs.Prelude.{◌≡◌, ◌++◌, Some, [], drop, false, length, min, take};
 ghost use Rattle.wire.specs.Sinks.{over_writer};
 
 use std::alloc::Global;
@@ -14,6 +14,7 @@ pub(crate) struct Waiting {
     bytes: Vec<u8>,
     taken: usize,
     failed: u64,
+    is_flushed: bool,
 }
 
 impl Model for Waiting {
@@ -22,7 +23,7 @@ impl Model for Waiting {
 
     ghost Value = { SinkState };
 
-    ghost view = { λ w. over_writer (Some (drop w.taken w.bytes.items)) w.failed };
+    ghost view = { λ w. over_writer (Some (drop w.taken w.bytes.items)) w.failed w.is_flushed };
 
     ghost invariant = { λ w. w.taken ≤ length w.bytes.items };
 }
@@ -30,12 +31,13 @@ impl Model for Waiting {
 impl Waiting {
     /// No byte waits. It takes no memory.
     pub(crate) fn new(alloc: Global) -> Waiting
-        ensures { result ≡ over_writer (Some []) 0 }
+        ensures { result ≡ over_writer (Some []) 0 false }
     {
         Waiting {
             bytes: Vec::new(alloc),
             taken: 0,
             failed: 0,
+            is_flushed: false,
         }
     }
 
@@ -43,13 +45,14 @@ impl Waiting {
     pub(crate) fn take(&mut self, buf: &mut [u8]) -> usize
         ensures count { result ≡ min (length buf.old) (length self.old.held) }
         ensures taken { buf.new ≡ take result self.old.held ++ drop result buf.old }
-        ensures left { self.new ≡ over_writer (Some (drop result self.old.held)) 0 }
+        ensures left { self.new ≡ over_writer (Some (drop result self.old.held)) 0 false }
     {
         let start = self.taken;
         let count = buf.len().min(self.bytes.len() - start);
         buf[..count].copy_from_slice(&self.bytes[start..start + count]);
         self.taken = start + count;
         self.failed = 0;
+        self.is_flushed = false;
         count
     }
 
@@ -70,6 +73,7 @@ impl Sink for Waiting {
 
     fn put(&mut self, bytes: &[u8]) -> Result<(), SinkFault> {
         self.let_go();
+        self.is_flushed = false;
         match self.bytes.extend_from_slice(bytes) {
             Ok(()) => Ok(()),
             Err(_) => {
@@ -80,6 +84,7 @@ impl Sink for Waiting {
     }
 
     fn flush(&mut self) -> Result<(), SinkFault> {
+        self.is_flushed = true;
         Ok(())
     }
 }
