@@ -98,7 +98,7 @@ impl BitSet {
         self.first_counted(n).0
     }
 
-    /// What `first_from` answers, and how many words of both levels were looked at.
+    /// What `first_from` returns, and how many words of both levels were looked at.
     pub fn first_counted(&self, n: u64) -> (Option<u64>, u64)
         requires { n ≤ length self.now }
         ensures least { IsLeastFrom self.now n result.0 }
@@ -160,7 +160,7 @@ impl BitSet {
     }
 }
 
-/// As many words as bits of this number need.
+/// The number of words that `bits` bits need.
 fn words_for(bits: u64) -> usize
     ensures { HasRoomFor bits result }
 {

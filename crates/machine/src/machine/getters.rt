@@ -38,7 +38,7 @@ impl<D: Disk> Machine<D> {
         self.shapes.as_slice()
     }
 
-    /// What a device is, beside its disk.
+    /// The state of a device, without its disk.
     pub fn state(&self, dev: u8) -> &DeviceState
         requires { dev < length (state_of self.now).devices }
         ensures { slice_get (state_of self.now).devices dev ≡ Some result.now }
@@ -64,7 +64,7 @@ impl<D: Disk> Machine<D> {
         }
     }
 
-    /// The devices, in order, each with its disk. The RAM is let go of.
+    /// The devices, in order, each with its disk. The RAM is dropped.
     pub fn into_devices(self) -> Vec<Device<D>>
         ensures { result.items ≡ self.devices }
     {
