@@ -8,13 +8,13 @@
 //!
 //! # What the layers above may rely on
 //! Every device relies on the contract of the trait `Ring`, which both layouts keep word for word:
-//! - `next(ram)` answers Empty, Malformed or the chain **exactly** as the definition over whole descriptor lists says of the RAM
+//! - `next(ram)` returns Empty, Malformed or the chain **exactly** as the definition over whole descriptor lists says of the RAM
 //!   handed in, whatever it holds. The state of the ring stays as it was. Every chain is bounded: its segments lie inside RAM, and
 //!   are no more than slots. Its only error is out of memory, and that only at a long queue (`IsLongQueue`): one that is not empty,
 //!   with more than four descriptors in a row at the taking position.
 //! - `take(chain)` advances the taking position by the chain's slots.
-//! - `publish(id, slots, len, wrote, ram, log)` writes the bytes of `published` and no others; the log takes in exactly their
-//!   pages; the answer is whether an interrupt is due in the RAM after that.
+//! - `publish(id, slots, len, wrote, ram, log)` writes the bytes of `published` and no others; the log takes in exactly their pages;
+//!   the result is whether an interrupt is due in the RAM after that.
 //! - `note_empty(ram, log)` writes the event note and no other byte.
 //! - The caller's part: the queue's areas are aligned and lie inside RAM (`HasAreas`), as those of every ready queue do (`mmio`),
 //!   and the log may name the pages of RAM.

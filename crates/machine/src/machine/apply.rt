@@ -17,7 +17,7 @@ use blk::Disk;
 use guestmem::{Bytes, NoLog, NoMemory, TouchLog};
 
 impl<D: Disk> Machine<D> {
-    /// Applies one event, and answers. After `NoMemory` and `Refused` nothing has changed.
+    /// Applies one event, and returns the reply. After `NoMemory` and `Refused` nothing has changed.
     pub fn apply(&mut self, event: &Event) -> Reply
         ensures { IsApplied self.old event.now result self.new }
     {

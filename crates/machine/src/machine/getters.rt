@@ -46,7 +46,7 @@ impl<D: Disk> Machine<D> {
         self.devices[dev as usize].state()
     }
 
-    /// Reads a sector of a device's disk. A bad sector is not read, and answered with `false`; then, and where the disk
+    /// Reads a sector of a device's disk. A bad sector is not read, and the result is `false`; then, and where the disk
     /// fails, the buffer may hold anything.
     pub fn read_sector(
         &mut self,
