@@ -49,8 +49,8 @@ pub enum Advanced {
 }
 
 impl Requests {
-    /// The k-th outstanding request, from 0, goes on by one unit, or ends. It takes no memory. The log is told of sectors
-    /// as those of the device of this number.
+    /// Advances the k-th outstanding request, from 0, by one unit, or ends it. It takes no memory. Sectors are reported
+    /// to the log under the number `device`.
     pub fn advance<R: Ring, D: Disk, L: TouchLog>(
         &mut self,
         k: usize,
@@ -90,7 +90,7 @@ impl Requests {
     }
 }
 
-/// Tells the driver the verdict of a request and publishes its chain.
+/// Reports the verdict of a request to the driver and publishes its chain.
 #[tactic(auto, unfolding(crate::specs::Advance::end_writes))]
 fn complete<R: Ring, L: TouchLog>(
     ring: &mut R,
@@ -122,7 +122,7 @@ fn complete<R: Ring, L: TouchLog>(
     Advanced::Completed { len, is_due }
 }
 
-/// The used length of a request that has so many writable bytes.
+/// The used length of a request that has `writable` writable bytes.
 fn used_len(request: &Request, writable: u64) -> u32
     requires writable { writable ≡ length (places request.now.writable) }
     requires small { length (places request.now.writable) < 2 ^ 32 }
@@ -136,7 +136,7 @@ fn used_len(request: &Request, writable: u64) -> u32
     data as u32
 }
 
-/// The bytes of data that were written into a request of which so many units are done.
+/// How many bytes of data were written into a request of which `done` units are done.
 fn data_written(kind: Kind, done: u32) -> u64
     ensures { result ≡ data_written kind done }
 {

@@ -40,7 +40,7 @@ impl<D: Disk> FaultDisk<D> {
         }
     }
 
-    /// Counts a call, and answers whether it is to fail.
+    /// Counts a call, and returns whether it is to fail.
     fn is_next_to_fail(&mut self) -> bool
         ensures answer { result ≡ is_planned self.old }
         ensures calls { self.new ≡ record self.old { calls = next_call self.old } }

@@ -37,7 +37,7 @@ impl<F: Drop> Model for FileDisk<F> {
 
 impl<F: Read + Write + Seek + OpenFile + Drop> FileDisk<F> {
     /// Opens a file for reading and writing. One whose length is no multiple of 512 is refused as invalid data. The length
-    /// is asked by a seek to the end, which a block device of the host answers too.
+    /// is found by a seek to the end, which works for a block device of the host too.
     pub fn open<R: Files<File = F>>(rt: &R, path: &str) -> io::Result<FileDisk<F>>
         ensures { IfOk result (λ disk. disk.failures ≡ 0) }
     {

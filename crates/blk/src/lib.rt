@@ -1,8 +1,9 @@
 //! The block device (VIRTIO 1.2, 5.2): its disk, its outstanding requests, and the steps that serve them.
 //!
 //! `Requests::take` takes the next chain of a ring of either layout as a `Request`. It reads the header of the request then,
-//! and keeps the segments of the chain: they are never read again, whatever the driver writes later. `Requests::advance` brings
-//! an outstanding request on by one unit, with one call of the disk at most, or reports its verdict and publishes its chain.
+//! and keeps the segments of the chain: they are never read again, whatever the driver writes later. `Requests::advance`
+//! advances an outstanding request by one unit, with one call of the disk at most, or reports its verdict and publishes its
+//! chain.
 //!
 //! The disk is any type that keeps the contract of the trait `Disk` (`specs/Disk`): `MemDisk` in memory, `FileDisk` in a file,
 //! and `FaultDisk`, which fails by a plan. `Sectors` is a disk and the marks of those of its sectors that are bad: a write that

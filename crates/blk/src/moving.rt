@@ -19,7 +19,7 @@ use crate::shape::{BlockShape, ID_SIZE};
 use chains::{copy_in, copy_out};
 use guestmem::{Ram, TouchLog, recall_bytes};
 
-/// Reads one sector into the writable places of a request.
+/// Reads one sector into the writable bytes of a request.
 fn move_in<D: Disk, L: TouchLog>(
     request: &mut Request,
     sectors: &mut Sectors<D>,
@@ -67,7 +67,7 @@ fn move_in<D: Disk, L: TouchLog>(
     }
 }
 
-/// Writes the readable places of one unit into a sector.
+/// Writes the readable bytes of one unit into a sector.
 fn move_out<D: Disk, L: TouchLog>(
     request: &mut Request,
     sectors: &mut Sectors<D>,
@@ -125,7 +125,7 @@ fn move_flush<D: Disk>(request: &mut Request, sectors: &mut Sectors<D>) -> Advan
     Advanced::Moved
 }
 
-/// Writes the id of the device into the first writable places of a request.
+/// Writes the id of the device into the first writable bytes of a request.
 fn move_id<L: TouchLog>(
     request: &mut Request,
     id: &[u8; ID_SIZE],

@@ -23,7 +23,7 @@ pub const TYPE_GET_ID: u32 = 8;
 /// What a request does.
 #[derive(Clone, Copy, Debug, PartialEq, Eq)]
 pub enum Kind {
-    /// It was refused as it was taken, and only tells its verdict.
+    /// It was refused as it was taken, and only reports its verdict.
     Refused,
 
     /// It reads sectors.
@@ -53,7 +53,7 @@ pub enum Verdict {
 }
 
 impl Verdict {
-    /// The byte that tells it to the driver.
+    /// The byte that reports it to the driver.
     pub fn byte(self) -> u8
         ensures { result ≡ verdict_byte self }
     {

@@ -29,7 +29,7 @@ impl Model for Requests {
 }
 
 impl Requests {
-    /// No requests. Its only error is want of memory.
+    /// No requests. Its only error is out of memory.
     pub fn new(alloc: Global) -> Result<Requests, NoMemory>
         ensures { IfOk result (λ requests. requests ≡ []) }
     {

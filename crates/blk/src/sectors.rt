@@ -43,7 +43,7 @@ impl<D: Disk> Model for Sectors<D> {
 }
 
 impl<D: Disk> Sectors<D> {
-    /// The sectors of a disk, all of them good. Its only error is want of memory, and then the disk is dropped.
+    /// The sectors of a disk, all of them good. Its only error is out of memory, and then the disk is dropped.
     pub fn new(alloc: Global, disk: D) -> Result<Sectors<D>, NoMemory>
     where
         D: Drop,
@@ -69,8 +69,8 @@ impl<D: Disk> Sectors<D> {
         (self.disk, self.bad)
     }
 
-    /// Tells a proof that the sectors that are not bad have 512 bytes each, and that their number is one of 64 bits (see
-    /// the page of `guestmem`).
+    /// States for proofs that the sectors that are not bad have 512 bytes each, and that the count of sectors fits 64
+    /// bits (see the page of `guestmem`).
     pub fn recall(&self)
         ensures whole { AreWhole self.now.content }
         ensures few { length self.now.content < 2 ^ 64 }
@@ -133,7 +133,7 @@ impl<D: Disk> Sectors<D> {
         Ok(())
     }
 
-    /// Brings what was written to where it lasts.
+    /// Makes what was written durable.
     pub fn flush(&mut self) -> Result<(), DiskFault>
         ensures kept { IsKept self.old (not (is_ok result)) self.new }
         ensures same { self.new.content ≡ self.old.content }

@@ -12,6 +12,6 @@ pub struct BlockShape {
     /// Whether the driver may only read it (VIRTIO 1.2, 5.2.3: the feature RO).
     pub read_only: bool,
 
-    /// The id that it tells.
+    /// The id that it reports.
     pub id: [u8; ID_SIZE],
 }

@@ -1,4 +1,4 @@
-//! Whether requests that are told to a device may be outstanding.
+//! Whether requests that are given to a device may be outstanding.
 
 ghost use Rattle.std.specs.Prelude.{◌≡◌, ◌≤◌, ◌<◌, ◌+◌, ◌^◌, ◌↔◌, IsTrue, All, length};
 ghost use Rattle.std.specs.Bool.{MatchBool};
@@ -22,7 +22,7 @@ impl Requests {
 }
 
 impl Request {
-    /// Whether it may be outstanding, in a RAM of so many bytes, on a ring of this layout and of so many slots, in a device
+    /// Whether it may be outstanding, in a RAM of `ram_len` bytes, on a ring of this layout with `size` slots, in a device
     /// of this shape.
     pub fn is_sound(&self, ram_len: u64, is_packed: bool, size: u32, shape: &BlockShape) -> bool
         ensures { IsTrue result ↔ IsSoundRequest ram_len is_packed size shape.now self.now }
@@ -71,7 +71,7 @@ impl Request {
             && self.is_sound_work(readable, writable, shape)
     }
 
-    /// Whether what it keeps fits its kind, for so many readable and writable bytes.
+    /// Whether what it keeps fits its kind, for `readable` readable and `writable` writable bytes.
     fn is_sound_work(&self, readable: u64, writable: u64, shape: &BlockShape) -> bool
         ensures { IsTrue result ↔ IsSoundWork self.now.kind readable writable shape.now.sectors shape.now.read_only self.now.verdict self.now.first self.now.units self.now.done }
     {
@@ -121,7 +121,7 @@ impl Request {
         }
     }
 
-    /// Whether its sectors are sectors of a disk of so many.
+    /// Whether its sectors are sectors of a disk of `capacity` sectors.
     fn is_within(&self, capacity: u64) -> bool
         ensures { IsTrue result ↔ (self.now.first + self.now.units ≤ capacity) }
     {

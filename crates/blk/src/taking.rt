@@ -32,7 +32,7 @@ pub enum Taken {
 
 impl Requests {
     /// Takes the next request of the queue, where there is room for one: its header is read now, and its segments are
-    /// kept. Its only error is want of memory for the chain, and then nothing has changed.
+    /// kept. Its only error is out of memory for the chain, and then nothing has changed.
     pub fn take<R: Ring, L: TouchLog>(
         &mut self,
         ring: &mut R,

@@ -25,7 +25,7 @@ pub struct Task {
     pub units: u32,
 }
 
-/// A request that only tells its verdict.
+/// A request that only reports its verdict.
 fn refused(verdict: Verdict) -> Task
     ensures { result ≡ refused verdict }
 {
@@ -37,7 +37,7 @@ fn refused(verdict: Verdict) -> Task
     }
 }
 
-/// Moves so many bytes from or to the sectors from a first one on.
+/// Moves `bytes` bytes from or to the sectors from `first` on.
 fn transfer(kind: Kind, first: u64, bytes: u64, capacity: u64) -> Task
     requires { bytes < 2 ^ 32 }
     ensures { result ≡ transfer kind first bytes capacity }

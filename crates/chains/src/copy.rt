@@ -17,8 +17,8 @@ pub fn total_len(segs: &[Seg]) -> u64
     segs.iter().map(|seg| seg.len as u64).sum()
 }
 
-/// Reads the bytes at the places of segments into the whole buffer, from the place of this number on. The segments lie
-/// inside RAM, and have so many places. It takes no memory.
+/// Fills the buffer with the bytes of the concatenated segments, from offset `at` on. The segments lie inside RAM, and
+/// have at least `at + buf.len()` bytes. It takes no memory.
 pub fn copy_out(ram: &Ram, segs: &[Seg], at: u64, buf: &mut [u8])
     requires inside { AreSegmentsInside (length ram.now.bytes) segs.now }
     requires room { at + length buf.old ≤ length (places segs.now) }
@@ -40,7 +40,7 @@ pub fn copy_out(ram: &Ram, segs: &[Seg], at: u64, buf: &mut [u8])
     }
 }
 
-/// Reads bytes of any number: a piece of at most a page that lies inside RAM is never refused.
+/// Reads any number of bytes: a piece of at most a page that lies inside RAM is never refused.
 fn read_run(ram: &Ram, addr: u64, buf: &mut [u8])
     requires { addr + length buf.old ≤ length ram.now.bytes }
     ensures { buf.new ≡ take (length buf.old) (drop addr ram.now.bytes) }
@@ -54,9 +54,9 @@ fn read_run(ram: &Ram, addr: u64, buf: &mut [u8])
     }
 }
 
-/// Writes bytes to the places of segments, from the place of this number on, in order: where an address is a place
-/// twice, the later byte stays. The log is told the pages of these places. The segments lie inside RAM, and have so
-/// many places. It takes no memory.
+/// Writes `bytes` at offset `at` of the concatenated segments. Where segments overlap the later byte wins. The pages of
+/// these bytes are reported to the log. The segments lie inside RAM, and have at least `at + bytes.len()` bytes. It
+/// takes no memory.
 pub fn copy_in<L: TouchLog>(ram: &mut Ram, segs: &[Seg], at: u64, bytes: &[u8], log: &mut L)
     requires inside { AreSegmentsInside (length ram.old.bytes) segs.now }
     requires room { at + length bytes.now ≤ length (places segs.now) }

@@ -28,7 +28,7 @@ impl Model for Descriptors {
 }
 
 impl Descriptors {
-    /// No descriptors yet. Further ones beyond the inline places go to memory of this allocator.
+    /// No descriptors yet. Those that do not fit inline go to memory of this allocator.
     pub fn new(alloc: Global) -> Descriptors
         ensures { result ≡ [] }
     {
@@ -37,8 +37,8 @@ impl Descriptors {
         }
     }
 
-    /// Adds a descriptor at the end. Its only error is want of memory, and then nothing has changed. A short list has
-    /// room for it.
+    /// Adds a descriptor at the end. Its only error is out of memory, and then nothing has changed. It never fails on a
+    /// list of fewer than `SHORT_CHAIN_MAX`.
     pub fn push(&mut self, descriptor: Descriptor) -> Result<(), NoMemory>
         ensures ok { OnOk result (self.new ≡ self.old ++ descriptor ∷ []) }
         ensures err { OnErr result (self.new ≡ self.old) }

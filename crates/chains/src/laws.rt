@@ -1,4 +1,5 @@
-//! Laws of the definitions, each as a function whose contract it is. Calling one costs nothing and tells a proof.
+//! Laws of the definitions, each as a function whose contract it is. Calling one costs nothing, and gives a proof that
+//! contract.
 
 ghost use Rattle.std.specs.Prelude.{◌≡◌, ℕ, List, length};
 ghost use Rattle.chains.specs.State.{RingState};
@@ -24,7 +25,7 @@ pub fn chains_are_bounded()
     ensures { (ram : List ℕ) (q : RingState) (c : Chain) → IsChain ram q c → IsBounded (length ram) q c }
 {}
 
-/// Memory is wanted only at a queue that is not empty: for its next chain, and for a message in it.
+/// Memory is taken only at a queue that is not empty: for its next chain, and for a message in it.
 pub fn memory_is_wanted_for_a_chain()
     ensures chain { (ram : List ℕ) (q : RingState) → IsLongQueue ram q → ¬ (IsEmptyQueue ram q) }
     ensures message { (ram : List ℕ) (q : RingState) (form : MessageForm) → MayWantMemory ram q form → ¬ (IsEmptyQueue ram q) }

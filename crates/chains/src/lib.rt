@@ -8,22 +8,22 @@
 //!
 //! # What the layers above may rely on
 //! Every device relies on the contract of the trait `Ring`, which both layouts keep word for word:
-//! - `next(ram)` answers Empty, Malformed or the chain **exactly** as the definition over whole descriptor lists says of the RAM
-//!   handed in, whatever it holds. It changes nothing that the ring means. Every chain is bounded: its segments lie inside RAM, and
-//!   are no more than slots. Its only error is out of memory, and that only at a long queue (`IsLongQueue`): one that is not
-//!   empty, with more than four descriptors in a row at the taking position.
-//! - `take(chain)` moves the taking position on by the chain's slots.
-//! - `publish(id, slots, len, wrote, ram, log)` writes the bytes of `published` and no others; the log takes in exactly their
-//!   pages; the answer is whether an interrupt is due in the RAM after that.
+//! - `next(ram)` returns Empty, Malformed or the chain **exactly** as the definition over whole descriptor lists says of the RAM
+//!   handed in, whatever it holds. The state of the ring stays as it was. Every chain is bounded: its segments lie inside RAM, and
+//!   are no more than slots. Its only error is out of memory, and that only at a long queue (`IsLongQueue`): one that is not empty,
+//!   with more than four descriptors in a row at the taking position.
+//! - `take(chain)` advances the taking position by the chain's slots.
+//! - `publish(id, slots, len, wrote, ram, log)` writes the bytes of `published` and no others; the log takes in exactly their pages;
+//!   the result is whether an interrupt is due in the RAM after that.
 //! - `note_empty(ram, log)` writes the event note and no other byte.
 //! - The caller's part: the queue's areas are aligned and lie inside RAM (`HasAreas`), as those of every ready queue do (`mmio`),
 //!   and the log may name the pages of RAM.
 //!
 //! And on these functions:
-//! - `copy_out` and `copy_in` read and write the bytes of segments at their places; a later place wins; the log takes in exactly
-//!   the pages written.
-//! - `fill(ring, chain, front, back, ram, log)` gives bytes to a chain: they go to its first writable places, and the chain is
-//!   published with their number. `takes_bytes` says which chains a device may write into.
+//! - `copy_out` and `copy_in` read and write the bytes of the concatenated segments, from an offset on; where segments overlap the
+//!   later byte wins; the log takes in exactly the pages written.
+//! - `fill(ring, chain, front, back, ram, log)` gives bytes to a chain: they go to its first writable bytes, and the chain is
+//!   published with their count. `takes_bytes` says which chains a device may write into.
 //! - `transmit(alloc, ring, form, ram, log)` is `transmit_step` over any `Ring`: it reads the message of the next chain, which a
 //!   `MessageForm` separates from a malformed one, and publishes the chain with nothing written. An error is out of memory, at a long
 //!   chain or where a message waits, and changes nothing.

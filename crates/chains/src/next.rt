@@ -2,7 +2,7 @@
 
 use crate::chain::Chain;
 
-/// What stands at the taking position of a ring.
+/// What is at the taking position of a ring.
 #[derive(Drop)]
 pub enum Next {
     /// The driver has made nothing available there.

@@ -24,8 +24,8 @@ pub fn takes_bytes(chain: &Chain) -> bool
     total_len(chain.readable.as_slice()) == 0 && total_len(chain.writable.as_slice()) != 0
 }
 
-/// Gives bytes to the chain that `Ring::next` found: two slices, one after the other, go to its first writable places.
-/// The chain is taken, and published with their number. The answer is whether an interrupt is due.
+/// Gives bytes to the chain that `Ring::next` found: two slices, one after the other, go to its first writable bytes.
+/// The chain is taken, and published with the count of these bytes. The result is whether an interrupt is due.
 pub fn fill<R: Ring, L: TouchLog>(
     ring: &mut R,
     chain: &Chain,

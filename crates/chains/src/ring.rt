@@ -22,9 +22,9 @@ pub trait Ring {
     /// The layout, the queue and the positions.
     ghost state: { Self → RingState };
 
-    /// What stands at the taking position. The meaning of the ring stays, so asking again on the same RAM gives the
-    /// same answer. A chain, whatever the driver wrote, is bounded: its segments lie inside RAM. The only error is want
-    /// of memory, which is met only behind more than `SHORT_CHAIN_MAX` descriptors.
+    /// What is at the taking position. The state of the ring stays as it was, so asking again on the same RAM gives the
+    /// same answer. A chain, whatever the driver wrote, is bounded: its segments lie inside RAM. The only error is out
+    /// of memory, which comes only after more than `SHORT_CHAIN_MAX` descriptors.
     fn next(&mut self, ram: &Ram) -> Result<Next, NoMemory>
         requires areas { HasAreas (length ram.now.bytes) (state self.old) }
         ensures answer { IfOk result (Answers ram.now.bytes (state self.old)) }
@@ -32,13 +32,13 @@ pub trait Ring {
         ensures memory { OnErr result (IsLongQueue ram.now.bytes (state self.old)) }
         ensures state { state self.new ≡ state self.old };
 
-    /// Takes the chain that `next` found: the taking position goes on.
+    /// Takes the chain that `next` found: the taking position advances.
     fn take(&mut self, chain: &Chain)
         requires slots { chain.now.slots ≤ (state self.old).size }
         ensures { state self.new ≡ after_take (state self.old) chain.now.slots };
 
     /// Hands a chain back to the driver, with the number of bytes written into it and whether there are any. The used
-    /// position goes on. The answer is whether an interrupt is due, by what the driver asks for once all is written.
+    /// position advances. The result is whether an interrupt is due, by what the driver asks for once all is written.
     fn publish<L: TouchLog>(
         &mut self,
         id: u16,
@@ -59,8 +59,8 @@ pub trait Ring {
         ensures state { state self.new ≡ after_publish (state self.old) slots }
         ensures due { result ≡ is_interrupt_due (state self.old) slots ram.new.bytes };
 
-    /// Tells the driver of a ring found empty at which chain the device wants to be notified (VIRTIO 1.2, 2.7.10 and
-    /// 2.8.10). Without event indexes it writes nothing.
+    /// Called on a ring found empty: writes for the driver at which chain the device wants to be notified (VIRTIO 1.2,
+    /// 2.7.10 and 2.8.10). Without event indexes it writes nothing.
     fn note_empty<L: TouchLog>(&mut self, ram: &mut Ram, log: &mut L)
         requires areas { HasAreas (length ram.old.bytes) (state self.old) }
         requires may { MayPages L.may log.old (length ram.old.bytes) }

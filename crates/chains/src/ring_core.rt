@@ -8,7 +8,7 @@ use crate::position::{Position, Positions};
 use mmio::{EVENT_IDX, INDIRECT_DESC, Queue, RING_PACKED};
 use std::alloc::Global;
 
-/// What a ring of either layout keeps: its features, where its areas lie, and how far it has come.
+/// What a ring of either layout keeps: its features, where its areas lie, and its positions.
 #[derive(Drop)]
 pub struct RingCore {
     /// For the chains that the ring finds.
@@ -45,7 +45,7 @@ pub struct RingCore {
 impl RingCore {
     ghost use Rattle.chains.specs.RingCore.{core_state};
 
-    /// Of a queue that has come this far, under the features that the driver accepted. It takes no memory.
+    /// Of a queue at these positions, under the features that the driver accepted. It takes no memory.
     pub fn new(alloc: Global, queue: &Queue, features: u64, positions: Positions) -> RingCore
         requires { MayRing (state_of queue.now features positions) }
         ensures { core_state (has_bit features RING_PACKED) result ≡ state_of queue.now features positions }

@@ -8,7 +8,7 @@ use smallvec::SmallVec;
 use std::alloc::Global;
 use std::marker::Model;
 
-/// So many bytes of guest memory, from an address on.
+/// `len` bytes of guest memory, from `addr` on.
 #[derive(Clone, Copy, Debug, Default, PartialEq, Eq)]
 pub struct Seg {
     /// The address of the first byte.
@@ -38,7 +38,7 @@ impl Model for Segs {
 }
 
 impl Segs {
-    /// No segments yet. Further ones beyond the inline places go to memory of this allocator.
+    /// No segments yet. Those that do not fit inline go to memory of this allocator.
     pub fn new(alloc: Global) -> Segs
         ensures { result ≡ [] }
     {
@@ -47,7 +47,7 @@ impl Segs {
         }
     }
 
-    /// A list of these segments. Its only error is want of memory, which few segments do not meet.
+    /// A list of these segments. It fails only if memory is refused, and never for up to `SHORT_CHAIN_MAX` segments.
     pub fn from_slice(alloc: Global, segs: &[Seg]) -> Result<Segs, NoMemory>
         ensures ok { IfOk result (λ list. list ≡ segs.now) }
         ensures short { length segs.now ≤ SHORT_CHAIN_MAX → IsOk result }
@@ -57,8 +57,8 @@ impl Segs {
         Ok(Segs { list })
     }
 
-    /// Adds a segment at the end. Its only error is want of memory, and then nothing has changed. A short list has room
-    /// for it.
+    /// Adds a segment at the end. Its only error is out of memory, and then nothing has changed. It never fails on a
+    /// list of fewer than `SHORT_CHAIN_MAX`.
     pub fn push(&mut self, seg: Seg) -> Result<(), NoMemory>
         ensures ok { OnOk result (self.new ≡ self.old ++ seg ∷ []) }
         ensures err { OnErr result (self.new ≡ self.old) }

@@ -50,7 +50,7 @@ pub enum Transmitted {
     },
 }
 
-/// Reads the message of the next chain of a ring, and publishes the chain. Its only error is want of memory, for the
+/// Reads the message of the next chain of a ring, and publishes the chain. Its only error is out of memory, for the
 /// chain or for the message, and then nothing has changed.
 pub fn transmit<R: Ring, L: TouchLog>(
     alloc: Global,
@@ -104,7 +104,7 @@ fn is_message(form: MessageForm, chain: &Chain) -> bool
     count >= form.least as u64 && count <= form.most as u64
 }
 
-/// Reads the bytes behind the header, with one copy.
+/// Reads the bytes after the header, with one copy.
 fn read_message(alloc: Global, header: u32, chain: &Chain, ram: &Ram) -> Result<Bytes, NoMemory>
     requires few { length chain.now.readable < 2 ^ 32 }
     requires inside { AreSegmentsInside (length ram.now.bytes) chain.now.readable }

@@ -9,7 +9,7 @@ use crate::segs::{Seg, Segs};
 use guestmem::{NoMemory, Ram};
 use std::alloc::Global;
 
-/// Whether the descriptors of a chain, which are at most so many, keep the rules of both layouts: each buffer lies
+/// Whether the descriptors of a chain, which are at most `most`, keep the rules of both layouts: each buffer lies
 /// inside RAM, no readable one comes after a writable one, and all have together less than 4 GiB.
 pub fn is_whole(descriptors: &[Descriptor], ram: &Ram, most: u16) -> bool
     requires { length descriptors.now ≤ most }
@@ -44,8 +44,8 @@ fn total(descriptors: &[Descriptor]) -> u64
     descriptors.iter().map(|d| d.len as u64).sum()
 }
 
-/// The segments of descriptors: those that the device may read, and those that it may write. Its only error is want of
-/// memory, which few descriptors do not meet.
+/// The segments of descriptors: those that the device may read, and those that it may write. It fails only if memory is
+/// refused, and never for up to `SHORT_CHAIN_MAX` descriptors.
 pub fn segments(alloc: Global, descriptors: &[Descriptor]) -> Result<(Segs, Segs), NoMemory>
     ensures segments { IfOk result (λ segs. (segs.0 ≡ readable_of descriptors.now) × (segs.1 ≡ writable_of descriptors.now)) }
     ensures memory { OnErr result (SHORT_CHAIN_MAX < length descriptors.now) }

@@ -8,8 +8,8 @@ use mmio::CONFIG;
 /// The offset of the emergency register in the window of the device (VIRTIO 1.2, 5.3.4).
 pub const EMERGENCY: u32 = CONFIG + 8;
 
-/// The byte that a write of the driver gives out: the lowest one of the value, where it is a write of 1, 2 or 4 bytes at
-/// the emergency register. It is given out whatever the status of the device is. No other write gives out a byte.
+/// The byte that a write of the driver prints: the lowest one of the value, where it is a write of 1, 2 or 4 bytes at
+/// the emergency register. It is printed whatever the status of the device is. No other write prints a byte.
 pub fn emergency_byte(offset: u32, width: u8, value: u32) -> Option<u8>
     ensures { result ≡ emergency_byte offset width value }
 {

@@ -30,7 +30,7 @@ impl HostBytes {
     ghost use Rattle.std.specs.Prelude.{◌≡◌, ◌≤◌, ◌<◌, ◌^◌, ◌-◌, ◌++◌, ◌==◌, [], length, take, drop, min, IfOk};
     ghost use Rattle.guestmem.specs.Number.{IsBytes};
 
-    /// No bytes. Its only error is want of memory.
+    /// No bytes. Its only error is out of memory.
     pub fn new(alloc: Global) -> Result<HostBytes, NoMemory>
         ensures { IfOk result (λ b. b ≡ []) }
     {
@@ -38,7 +38,7 @@ impl HostBytes {
         Ok(HostBytes { held })
     }
 
-    /// These bytes. Its only error is want of memory.
+    /// These bytes. Its only error is out of memory.
     pub fn from_slice(alloc: Global, bytes: &[u8]) -> Result<HostBytes, NoMemory>
         requires { length bytes.now ≤ HOST_BYTES_MAX }
         ensures { IfOk result (λ b. b ≡ bytes.now) }
@@ -48,7 +48,7 @@ impl HostBytes {
         Ok(HostBytes { held })
     }
 
-    /// Tells a proof what all bytes held keep (see the page of `guestmem`).
+    /// States for proofs what holds of all bytes held (see the page of `guestmem`).
     pub fn recall(&self)
         ensures within { length self.now ≤ HOST_BYTES_MAX }
         ensures bytes { IsBytes self.now }
@@ -74,7 +74,7 @@ impl HostBytes {
         self.held.is_empty()
     }
 
-    /// Puts in the first of the bytes, as many as there is room for, and answers how many these are.
+    /// Puts in the first of the bytes, as many as there is room for, and returns how many these are.
     pub fn put_in(&mut self, bytes: &[u8]) -> usize
         ensures count { result ≡ min (length bytes.now) (HOST_BYTES_MAX - length self.old) }
         ensures held { self.new ≡ self.old ++ take result bytes.now }

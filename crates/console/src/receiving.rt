@@ -32,7 +32,7 @@ pub enum Received {
     },
 }
 
-/// Gives the first of the bytes held to the next chain, as many as it takes, and publishes it. Its only error is want of
+/// Gives the first of the bytes held to the next chain, as many as it takes, and publishes it. Its only error is out of
 /// memory for the chain, and then nothing has changed.
 pub fn receive<R: Ring, L: TouchLog>(
     ring: &mut R,

@@ -48,7 +48,8 @@ impl ConsoleSize {
         ]
     }
 
-    /// Takes another size. Where it differs, that is a change of the configuration, which the registers tell the driver.
+    /// Takes another size. Where it differs, that is a change of the configuration, which the registers report to the
+    /// driver.
     pub fn resize(&mut self, size: ConsoleSize, registers: &mut Regs)
         ensures size { self.new ≡ size }
         ensures registers { registers.new ≡ resized self.old size registers.old }

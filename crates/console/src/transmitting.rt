@@ -22,7 +22,7 @@ const TEXT: MessageForm = MessageForm {
     most: TEXT_MAX,
 };
 
-/// Reads all the text of the next chain of the transmit queue, and publishes the chain. Its only error is want of memory,
+/// Reads all the text of the next chain of the transmit queue, and publishes the chain. Its only error is out of memory,
 /// for the chain or for the text, and then nothing has changed.
 pub fn transmit<R: Ring, L: TouchLog>(
     alloc: Global,

@@ -12,7 +12,7 @@ use std::marker::Model;
 /// A set of numbers below a fixed length. Contracts see for each of these numbers whether it is a member.
 ///
 /// It is kept as one bit a number in words of 64, and as a second level with one bit for each word that is not zero, so that the
-/// next member is found by looking at few words. Beside both is the count of members.
+/// next member is found by looking at few words. It also keeps the count of members.
 #[derive(Drop)]
 pub struct BitSet {
     len: u64,
@@ -56,7 +56,7 @@ impl BitSet {
         self.len
     }
 
-    /// Takes in a number.
+    /// Makes a number a member.
     pub fn insert(&mut self, n: u64)
         requires { n < length self.old }
         ensures { self.new ≡ slice_set self.old n true }
@@ -69,7 +69,7 @@ impl BitSet {
         self.members += 1;
     }
 
-    /// Takes out a number.
+    /// Removes a number.
     pub fn remove(&mut self, n: u64)
         requires { n < length self.old }
         ensures { self.new ≡ slice_set self.old n false }
@@ -98,7 +98,7 @@ impl BitSet {
         self.first_counted(n).0
     }
 
-    /// What `first_from` answers, and how many words of both levels were looked at.
+    /// What `first_from` returns, and how many words of both levels were looked at.
     pub fn first_counted(&self, n: u64) -> (Option<u64>, u64)
         requires { n ≤ length self.now }
         ensures least { IsLeastFrom self.now n result.0 }
@@ -150,7 +150,7 @@ impl BitSet {
         self.members = self.len;
     }
 
-    /// Takes out every member.
+    /// Removes every member.
     pub fn clear(&mut self)
         ensures { self.new ≡ replicate (length self.old) false }
     {
@@ -160,7 +160,7 @@ impl BitSet {
     }
 }
 
-/// As many words as bits of this number need.
+/// The number of words that `bits` bits need.
 fn words_for(bits: u64) -> usize
     ensures { HasRoomFor bits result }
 {

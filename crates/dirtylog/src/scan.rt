@@ -31,7 +31,7 @@ impl Reader {
         self.looked
     }
 
-    /// Some words from a place on. Every word that is looked at is read here, and counted once.
+    /// `count` words from index `at` on. Every word that is looked at is read here, and counted once.
     fn read<'a>(&mut self, words: &'a [u64], at: usize, count: usize) -> &'a [u64]
         requires inside { at + count ≤ length words.now }
         requires few { self.old.looked + count < 2 ^ 64 }
@@ -42,7 +42,7 @@ impl Reader {
         &words[at..at + count]
     }
 
-    /// The word at a place.
+    /// The word at index `at`.
     pub(crate) fn word(&mut self, words: &[u64], at: usize) -> u64
         requires inside { at < length words.now }
         requires few { self.old.looked + 1 < 2 ^ 64 }
@@ -52,7 +52,7 @@ impl Reader {
         self.read(words, at, 1)[0]
     }
 
-    /// Whether some words from a place on are zero, by lanes. It may say no where they are.
+    /// Whether the `LANES` words from index `at` on are zero, tested by lanes. It may return false where they are.
     fn are_zero(&mut self, words: &[u64], at: usize) -> bool
         requires inside { at + 8 ≤ length words.now }
         requires few { self.old.looked + 8 < 2 ^ 64 }
@@ -63,7 +63,8 @@ impl Reader {
         lanes.simd_ne(u64x8::splat(0)).to_bitmask() == 0
     }
 
-    /// The first word from a place on that is not zero, or the length. It looks at no word twice, but for eight.
+    /// The index of the first word from `from` on that is not zero, or the length. It looks at no word twice, but for
+    /// eight.
     fn first_nonzero(&mut self, words: &[u64], from: usize) -> usize
         requires from { from ≤ length words.now }
         requires few { self.old.looked + length words.now + 9 < 2 ^ 64 }
@@ -89,7 +90,8 @@ impl Reader {
         i
     }
 
-    /// The least bit that is set, of those from one on: in the rest of its word, or in the first word after it that is not zero.
+    /// The least bit that is set, of those from `from` on: in the rest of its word, or in the first word after it that is not
+    /// zero.
     pub(crate) fn least_bit(&mut self, words: &[u64], from: u64) -> Option<u64>
         requires small { 64 * length words.now < 2 ^ 64 }
         requires few { self.old.looked + length words.now + 11 < 2 ^ 64 }
@@ -112,7 +114,7 @@ impl Reader {
     }
 }
 
-/// The place of the lowest bit that is set.
+/// The index of the lowest bit that is set.
 pub(crate) fn lowest_bit(word: u64) -> u64
     requires { word ≢ 0 }
     ensures place { result < 64 }
@@ -122,7 +124,7 @@ pub(crate) fn lowest_bit(word: u64) -> u64
     word.trailing_zeros() as u64
 }
 
-/// The place of the lowest bit that is set, of those from one on.
+/// The index of the lowest bit that is set, of those from `from` on.
 pub(crate) fn bit_from(word: u64, from: u64) -> Option<u64>
     requires { from < 64 }
     ensures { MatchOption result ((k : ℕ) → from ≤ k → bit_at word k ≡ 0) (λ n. (from ≤ n) × (n < 64) × (bit_at word n ≡ 1) × ((k : ℕ) → from ≤ k → k < n → bit_at word k ≡ 0)) }
@@ -134,7 +136,7 @@ pub(crate) fn bit_from(word: u64, from: u64) -> Option<u64>
     Some(lowest_bit(rest))
 }
 
-/// The least bit of words that is set, of those from one on: in the rest of its word, or in the next word that is marked. The
+/// The least bit of words that is set, of those from `n` on: in the rest of its word, or in the next word that is marked. The
 /// marks have a bit for each word that is not zero.
 pub(crate) fn find_bit(words: &[u64], marks: &[u64], n: u64, reader: &mut Reader) -> Option<u64>
     requires levels { (len : ℕ) × AreLevels words.now marks.now len × (n < len) × (len < 2 ^ 64) }

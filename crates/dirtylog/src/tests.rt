@@ -5,7 +5,7 @@ use std::alloc::Global;
 use std::process::Abort;
 use std::test::Fail;
 
-/// The next of a row of numbers that repeats late.
+/// The next number of a sequence that repeats late.
 fn next(seed: u64) -> u64 {
     seed.wrapping_mul(6_364_136_223_846_793_005)
         .wrapping_add(1_442_695_040_888_963_407)
@@ -32,7 +32,7 @@ fn agrees(rt: &impl Abort, set: &BitSet, plain: &[bool]) {
     assert_eq!(rt; set.is_empty(), count == 0);
 }
 
-/// Inserts and removes at places that the seed gives, in a set and in a plain list.
+/// Inserts and removes numbers that the seed gives, in a set and in a plain list.
 fn change(set: &mut BitSet, plain: &mut [bool], seed: u64) -> u64 {
     let mut seed = seed;
     for _ in 0..40 {

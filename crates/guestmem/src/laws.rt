@@ -1,4 +1,5 @@
-//! Laws of the definitions, each as a function whose contract it is. Calling one costs nothing and tells a proof.
+//! Laws of the definitions, each as a function whose contract it is. Calling one costs nothing, and gives a proof that
+//! contract.
 
 ghost use Rattle.guestmem.specs.Memory.{Memory};
 ghost use Rattle.guestmem.specs.Later.{IsLater};

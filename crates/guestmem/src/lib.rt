@@ -9,9 +9,9 @@
 //!   `NoLog` is for everybody else, and keeps nothing.
 //!
 //! # What the layers above may rely on
-//! - `Ram::read` and `Ram::write` answer `TooLong` (more than 4,096 bytes), then `OutOfRam`, by `refusal_of` alone. A refusal changes
+//! - `Ram::read` and `Ram::write` return `TooLong` (more than 4,096 bytes), then `OutOfRam`, by `refusal_of` alone. A refusal changes
 //!   nothing, the caller's buffer neither. Else a read gives the bytes, and RAM after a write is `written`.
-//! - `write` answers the pages that it went into. `put` is a write of any length that the caller knows to lie inside RAM; it names
+//! - `write` returns the pages that it went into. `put` is a write of any length that the caller knows to lie inside RAM; it names
 //!   each page that it touches to a `TouchLog`, which is then what the items make of it.
 //! - Every write makes one copy and takes no memory.
 //! - RAM after a write is a *later* one (`specs/Later`): no version fell, and a byte whose page has kept its version, unless that is

@@ -33,7 +33,7 @@ impl Model for Ram {
 }
 
 impl Ram {
-    /// Pages of zeros, each at version 0. Its only error is want of memory.
+    /// Pages of zeros, each at version 0. Its only error is out of memory.
     pub fn new(alloc: Global, pages: u32) -> Result<Ram, AllocError>
         requires some { 1 ≤ pages }
         requires few { pages ≤ PAGES_MAX }
@@ -44,7 +44,7 @@ impl Ram {
         Ok(Ram { bytes, versions })
     }
 
-    /// Tells a proof what every RAM keeps.
+    /// States for proofs what holds of every RAM.
     pub fn recall(&self)
         ensures sound { IsMemory self.now }
         ensures bytes { IsBytes self.now.bytes }
@@ -115,7 +115,7 @@ impl Ram {
         LittleEndian::read_u64(&self.bytes[addr as usize..])
     }
 
-    /// Why an access of so many bytes at an address would be refused, if it would be.
+    /// Why an access of `count` bytes at `addr` would be refused, if it would be.
     pub fn refusal(&self, addr: u64, count: usize) -> Option<RamError>
         ensures { result ≡ refusal_of (length self.now.bytes) addr count }
     {
@@ -143,7 +143,7 @@ impl Ram {
         Ok(())
     }
 
-    /// Writes bytes from an address on, and tells the pages that they went into. A refusal changes nothing.
+    /// Writes bytes from an address on, and returns the pages that they went into. A refusal changes nothing.
     pub fn write(&mut self, addr: u64, bytes: &[u8]) -> Result<Touched, RamError>
         ensures result { result ≡ unless_refused (refusal_of (length self.old.bytes) addr (length bytes.now)) (touched_of addr (length bytes.now)) }
         ensures ok { OnOk result (self.new ≡ written self.old addr bytes.now) }
@@ -157,7 +157,7 @@ impl Ram {
         Ok(self.store(addr, bytes))
     }
 
-    /// Writes bytes of any number from an address on, for code that knows them to lie inside RAM, and tells the
+    /// Writes bytes of any number from an address on, for code that knows them to lie inside RAM, and reports to the
     /// log the pages that they went into.
     #[tactic(auto, using(crate::specs::WriteLaws::put_at_set_all))]
     pub fn put<L: TouchLog>(&mut self, addr: u64, bytes: &[u8], log: &mut L)
@@ -206,7 +206,7 @@ fn tell_pages<L: TouchLog>(log: &mut L, first: u64, last: u64)
     }
 }
 
-/// Tells a proof that each number of a slice of bytes is one.
+/// States for proofs that each number of a slice of bytes is a byte.
 pub fn recall_bytes(bytes: &[u8])
     ensures { IsBytes bytes.now }
 {}

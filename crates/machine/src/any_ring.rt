@@ -19,7 +19,7 @@ pub(crate) enum AnyRing {
 }
 
 impl AnyRing {
-    /// The ring of a queue that has come this far, under the features that the driver accepted: RING_PACKED names the
+    /// The ring of a queue at these positions, under the features that the driver accepted: RING_PACKED names the
     /// packed layout (VIRTIO 1.2, 6). It takes no memory.
     pub fn new(alloc: Global, queue: &Queue, features: u64, positions: Positions) -> AnyRing
         requires { MayRing (state_of queue.now features positions) }

@@ -44,7 +44,7 @@ impl<D: Disk> Device<D> {
         Device { state, disk }
     }
 
-    /// What the device is beside its disk.
+    /// The state of the device, without its disk.
     pub fn state(&self) -> &DeviceState
         ensures { result.now ≡ self.now.state }
     {
@@ -117,7 +117,7 @@ impl<D: Disk> Device<D> {
         reply
     }
 
-    /// Tells a proof that the sectors of the disk are whole (see the page of `guestmem`).
+    /// States for proofs that the sectors of the disk are whole (see the page of `guestmem`).
     fn recall(&self)
         ensures { AreWhole self.now.sectors }
     {

@@ -7,7 +7,8 @@ ghost use Rattle.machine.specs.Shapes.{disk_size_of, disk_sizes};
 use crate::shape::Shape;
 use blk::Disk;
 
-/// Whether these are the disks of these devices, in their order: as many sectors each, and none too few or too many.
+/// Whether these are the disks of these devices, in their order: each has its device's number of sectors, and no disk
+/// is missing or left over.
 pub fn are_disks_of<D: Disk>(shapes: &[Shape], disks: &[D]) -> bool
     ensures same { result ≡ are_same (disk_sizes shapes.now) (map (λ d. length (D.state d).sectors) disks.now) }
     ensures fit { IsTrue result ↔ (map (λ d. length d.sectors) (map D.state disks.now) ≡ disk_sizes shapes.now) }

@@ -27,7 +27,8 @@ use mmio::{QUEUE_SIZE_MAX, Queue, Regs};
 use net::{Inbox, is_frame_len};
 use std::alloc::Global;
 
-/// What a device has that only its kind has, beside its registers and queues.
+/// The kind-specific state of a device: a network device's frames, a block device's requests, a console's size and
+/// input, an entropy pool.
 #[derive(Drop)]
 pub enum Own {
     /// A network device: the frames that the host has put in and the guest has not yet taken.
@@ -50,7 +51,7 @@ pub enum Own {
 }
 
 impl Own {
-    /// What a device of this shape begins with. Its only error is want of memory.
+    /// The first kind-specific state of a device of this shape. Its only error is out of memory.
     pub(crate) fn new(alloc: Global, shape: Shape) -> Result<Own, NoMemory>
         ensures { IfOk result (λ own. own ≡ first_own shape) }
     {
@@ -87,7 +88,7 @@ impl Own {
         }
     }
 
-    /// The driver wrote a register, and these are the queues after it. What belongs to a queue goes where it is not ready.
+    /// Called after each register write: drops the outstanding requests if queue 0 is no longer ready.
     pub(crate) fn keep(&mut self, queues: &[Queue])
         ensures { self.new ≡ kept_own queues.now self.old }
     {
@@ -104,7 +105,7 @@ impl Own {
         }
     }
 
-    /// Keeps a frame, or the first bytes that fit, and answers how many bytes these are.
+    /// Keeps a frame, or the first bytes that fit, and returns how many bytes these are.
     pub(crate) fn input(&mut self, bytes: &[u8]) -> Result<u32, Refusal>
         ensures count { result ≡ input_of self.old bytes.now }
         ensures own { self.new ≡ own_with_input self.old bytes.now }
@@ -122,7 +123,7 @@ impl Own {
         }
     }
 
-    /// Sets the size of a console, which tells its driver by the registers.
+    /// Sets the size of a console, which reports it to its driver by the registers.
     pub(crate) fn resize(&mut self, size: ConsoleSize, registers: &mut Regs) -> Result<(), Refusal>
         ensures { IsResized self.old size registers.old result self.new registers.new }
     {
@@ -135,7 +136,7 @@ impl Own {
         }
     }
 
-    /// What a write of a register gives out.
+    /// The byte that a write to a console's emergency register prints, if it is one.
     pub(crate) fn written(&self, offset: u32, width: u8, value: u32) -> Option<u8>
         ensures { result ≡ written_out self.now offset width value }
     {
@@ -145,7 +146,7 @@ impl Own {
         }
     }
 
-    /// Serves the queue of a number. Its only error is want of memory, and then nothing has changed.
+    /// Serves the queue `number`. Its only error is out of memory, and then nothing has changed.
     pub(crate) fn serve<R: Ring, L: TouchLog>(
         &mut self,
         alloc: Global,
@@ -184,8 +185,7 @@ impl Own {
         }
     }
 
-    /// The outstanding request of a place, from 0, goes on by one unit, or ends. There is none where the device is no block
-    /// device.
+    /// Advances the k-th outstanding request, from 0, by one unit, or ends it. A device that is no block device has none.
     pub(crate) fn advance<R: Ring, D: Disk, L: TouchLog>(
         &mut self,
         shape: Shape,

@@ -15,7 +15,7 @@ pub enum Refusal {
     /// The access reaches past the end of RAM.
     OutOfRam,
 
-    /// The access is of more than 4,096 bytes. This is told before `OutOfRam`.
+    /// The access is of more than 4,096 bytes. This is reported before `OutOfRam`.
     TooLong,
 
     /// A device of this kind has no such event.
@@ -90,7 +90,7 @@ pub enum Reply {
     /// A frame did not fit into the next chain, and was dropped.
     Dropped,
 
-    /// So many bytes of an input were kept: the first ones.
+    /// This many bytes of an input were kept: the first ones.
     Accepted(u32),
 
     /// The chain was malformed. The device asks for a reset, and nothing else has changed.
@@ -117,7 +117,7 @@ impl Reply {
         }
     }
 
-    /// The reply to an input, of which so many bytes were kept, or which is refused.
+    /// The reply to an input: `answer` is the count of bytes kept, or the refusal.
     pub fn from_accepted(answer: Result<u32, Refusal>) -> Reply
         ensures { result ≡ accepted_reply answer }
     {

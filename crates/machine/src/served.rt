@@ -11,6 +11,6 @@ pub(crate) enum Served {
     /// The chain is malformed. It stays.
     Malformed,
 
-    /// A chain was published, which this reply tells. An interrupt is due or not.
+    /// A chain was published, which this reply reports. An interrupt is due or not.
     Published { reply: Reply, is_due: bool },
 }

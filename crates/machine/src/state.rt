@@ -1,4 +1,4 @@
-//! What a device is, beside its disk.
+//! The state of a device, without its disk.
 
 mod first_pick;
 
@@ -24,7 +24,7 @@ use mmio::{Common, Effect, QUEUE_COUNT_MAX, Queue, Regs};
 use std::alloc::Global;
 use std::marker::Model;
 
-/// What a device is, beside its disk: all that a saved machine tells of it.
+/// The state of a device, without its disk: all that a saved machine holds of it.
 #[derive(Drop)]
 pub struct DeviceState {
     shape: Shape,
@@ -58,7 +58,7 @@ impl DeviceState {
     ghost use Rattle.machine.specs.Sound.{IsSoundDevice};
     ghost use Rattle.machine.specs.Step.{ResizesDevice, register_value_of, register_set, input_of, with_input, written_out};
 
-    /// A new device, in a machine whose RAM has so many bytes. Its only error is want of memory.
+    /// A new device, in a machine whose RAM has `ram_len` bytes. Its only error is out of memory.
     pub(crate) fn new(alloc: Global, shape: Shape, ram_len: u64) -> Result<DeviceState, NoMemory>
         ensures { IfOk result (λ d. d ≡ first_device ram_len shape) }
     {
@@ -76,7 +76,7 @@ impl DeviceState {
         })
     }
 
-    /// A device as it was saved, in a machine whose RAM has so many bytes. The caller has seen to it that it is sound.
+    /// A device as it was saved, in a machine whose RAM has `ram_len` bytes. The caller makes sure that it is sound.
     pub fn restored(
         shape: Shape,
         ram_len: u64,
@@ -127,7 +127,7 @@ impl DeviceState {
         &self.positions[..queues.len()]
     }
 
-    /// What only its kind has.
+    /// Its kind-specific state.
     pub fn own(&self) -> &Own
         ensures { result.now ≡ self.now.own }
     {
@@ -159,7 +159,8 @@ impl DeviceState {
         }
     }
 
-    /// The driver writes a register. What it gives out is what it writes into the emergency register of a console.
+    /// The driver writes a register. The result is the byte that it writes into the emergency register of a console, if
+    /// it does.
     pub(crate) fn write_register(&mut self, offset: u32, width: u8, value: u32) -> Option<u8>
         ensures device { self.new ≡ register_set self.old offset width value }
         ensures out { result ≡ written_out self.old.own offset width value }
@@ -179,7 +180,7 @@ impl DeviceState {
         self.own.resize(size, &mut self.registers)
     }
 
-    /// Keeps the first bytes that fit, and answers how many these are.
+    /// Keeps the first bytes that fit, and returns how many these are.
     pub(crate) fn input(&mut self, bytes: &[u8]) -> Result<u32, Refusal>
         ensures count { result ≡ input_of self.old.own bytes.now }
         ensures device { self.new ≡ with_input self.old bytes.now }
@@ -187,8 +188,8 @@ impl DeviceState {
         self.own.input(bytes)
     }
 
-    /// Does one piece of the device's work, with the sectors of its disk. `device` is the number under which the log is told
-    /// of them.
+    /// Does one piece of the device's work, with the sectors of its disk. `device` is the number under which these are
+    /// reported to the log.
     pub(crate) fn step<D: Disk, L: TouchLog>(
         &mut self,
         alloc: Global,
@@ -361,7 +362,7 @@ fn reply_to_advance(advanced: Advanced) -> Reply
     }
 }
 
-/// Whether an interrupt is due after a request went on.
+/// Whether an interrupt is due after a request was advanced.
 fn is_due(advanced: Advanced) -> bool
     ensures { result ≡ is_advance_due advanced }
 {
@@ -371,7 +372,7 @@ fn is_due(advanced: Advanced) -> bool
     }
 }
 
-/// Tells the driver by the registers how a queue was served, and answers the step.
+/// Reports to the driver by the registers how a queue was served, and returns the reply to the step.
 fn tell(registers: &mut Regs, pick: u8, served: Served) -> Reply
     requires { pick < length registers.old.queues }
     ensures reply { result ≡ reply_of served }
@@ -403,7 +404,7 @@ fn ask_reset(registers: &mut Regs) -> Reply
     Reply::NeedsReset
 }
 
-/// A chain was published, or not: the interrupt is raised where it is due.
+/// Raises the used-buffer interrupt if it is due.
 fn publish(registers: &mut Regs, reply: Reply, is_due: bool) -> Reply
     ensures reply { result ≡ reply }
     ensures registers { registers.new ≡ (if is_due then with_common registers.old (used_raised registers.old.common) else registers.old) }
@@ -427,7 +428,7 @@ fn kept(queues: &[Queue], positions: [Positions; QUEUE_COUNT_MAX]) -> [Positions
     }
 }
 
-/// A queue that is not ready begins anew.
+/// A queue that is not ready starts again at the first positions.
 fn kept_one(queue: &Queue, positions: Positions) -> Positions
     ensures { result ≡ (if queue.now.is_ready then positions else first_positions) }
 {

@@ -5,7 +5,8 @@ ghost use Rattle.mmio.specs.Configuration.{configuration_value, configuration_ef
 
 use crate::effect::Effect;
 
-/// Whether an access of `width` bytes at a place of the configuration is one of 1, 2 or 4 bytes, aligned to its width.
+/// Whether an access of `width` bytes at an offset of the configuration is one of 1, 2 or 4 bytes, aligned to its
+/// width.
 fn is_whole(at: u32, width: u8) -> bool
     ensures { result ≡ is_whole at width }
 {
@@ -16,7 +17,7 @@ fn is_whole(at: u32, width: u8) -> bool
     }
 }
 
-/// The byte at a place of the configuration; past the end it is 0.
+/// The byte at an offset of the configuration; past the end it is 0.
 fn byte_at(config: &[u8], at: usize) -> u32
     ensures value { result ≡ slice_index_or config.now at 0 }
     ensures fits { result < 256 }
@@ -27,7 +28,7 @@ fn byte_at(config: &[u8], at: usize) -> u32
     }
 }
 
-/// What a read of the configuration gives, the place counted from its first byte.
+/// What a read of the configuration gives; the offset `at` counts from its first byte.
 pub(crate) fn configuration_value(config: &[u8], at: u32, width: u8) -> u32
     ensures { result ≡ configuration_value config.now at width }
 {
@@ -46,7 +47,7 @@ pub(crate) fn configuration_value(config: &[u8], at: u32, width: u8) -> u32
     low + 65_536 * (byte_at(config, at + 2) + 256 * byte_at(config, at + 3))
 }
 
-/// What a write to the configuration means, the place counted from its first byte.
+/// What a write to the configuration means; the offset `at` counts from its first byte.
 pub(crate) fn configuration_effect(at: u32, width: u8) -> Effect
     ensures { result ≡ configuration_effect at width }
 {

@@ -41,7 +41,7 @@ pub const INTERRUPT_BITS: u8 = USED_BUFFER | CONFIGURATION_CHANGE;
 /// Feature bit 28: descriptors may name a table of descriptors (VIRTIO 1.2, 6).
 pub const INDIRECT_DESC: u64 = 1 << 28;
 
-/// Feature bit 29: each side tells the other at which buffer it wants to hear (VIRTIO 1.2, 6).
+/// Feature bit 29: each side says at which buffer it wants to be notified (VIRTIO 1.2, 6).
 pub const EVENT_IDX: u64 = 1 << 29;
 
 /// Feature bit 32: the standard from version 1 on, and not the legacy interface (VIRTIO 1.2, 6).

@@ -1,6 +1,6 @@
-//! What a write to the registers means for the device behind them.
+//! What a write to the registers means for the device.
 
-/// What a write to the registers means for the device behind them.
+/// What a write to the registers means for the device.
 #[derive(Clone, Copy, Debug, PartialEq, Eq)]
 pub enum Effect {
     /// Nothing beyond the registers.

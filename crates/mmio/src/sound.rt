@@ -41,7 +41,7 @@ pub fn is_sound_common(offered: u64, common: &Common) -> bool
             || offered & features == features && features & VERSION_1 == VERSION_1)
 }
 
-/// Whether a device with these common registers and so many bytes of RAM may have this queue: only a ready queue is
+/// Whether a device with these common registers and `ram_len` bytes of RAM may have this queue: only a ready queue is
 /// notified, and a ready queue is one that QueueReady would take.
 pub fn is_sound_queue(ram_len: u64, common: &Common, queue: &Queue) -> bool
     ensures { IsTrue result ↔ IsSoundQueue ram_len common.now queue.now }

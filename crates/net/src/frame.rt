@@ -46,7 +46,7 @@ impl Frame {
     }
 }
 
-/// Whether a frame can have so many bytes.
+/// Whether a frame can have `len` bytes.
 pub fn is_frame_len(len: usize) -> bool
     ensures { result ≡ is_frame_len len }
 {

@@ -30,7 +30,7 @@ impl Inbox {
     ghost use Rattle.std.specs.Prelude.{◌≡◌, ◌≤◌, ◌<◌, ◌==◌, nat_lt, not, [], length, drop, All, IfOk, slice_get, Some};
     ghost use Rattle.net.specs.Inbox.{IsFrame, kept_of, frames_with};
 
-    /// No frames. Its only error is want of memory.
+    /// No frames. Its only error is out of memory.
     pub fn new(alloc: Global) -> Result<Inbox, NoMemory>
         ensures { IfOk result (λ inbox. inbox ≡ []) }
     {
@@ -38,7 +38,7 @@ impl Inbox {
         Ok(Inbox { frames })
     }
 
-    /// Tells a proof what all frames held keep (see the page of `guestmem`).
+    /// States for proofs what holds of all frames held (see the page of `guestmem`).
     pub fn recall(&self)
         ensures few { length self.now ≤ INBOX_MAX }
         ensures frames { All IsFrame self.now }
@@ -68,7 +68,7 @@ impl Inbox {
         self.frames.len() >= INBOX_MAX
     }
 
-    /// Puts a frame in behind the others, and answers its length. A full inbox keeps none of it, and the answer is 0.
+    /// Adds a frame after the others, and returns its length. A full inbox keeps none of it, and the result is 0.
     pub fn push(&mut self, frame: &[u8]) -> usize
         requires long { FRAME_MIN ≤ length frame.now }
         requires short { length frame.now ≤ FRAME_MAX }

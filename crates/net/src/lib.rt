@@ -2,7 +2,7 @@
 //!
 //! # What the layers above may rely on
 //! - `Inbox` is a list of at most 64 frames of 14 to 1,514 bytes, the oldest first. Its room is made by `new`, and no other call takes
-//!   memory: a full inbox keeps nothing of a frame and answers 0.
+//!   memory: a full inbox keeps nothing of a frame and returns 0.
 //! - `receive(ring, inbox, ram, log)` is `receive_step` (`specs/Receive`) over any `Ring`, with a frame waiting: RAM, ring, frames,
 //!   log and answer after it. A frame that does not fit is lost, and its chain stays; a malformed chain keeps the frame. An error is
 //!   out of memory for the chain, and leaves all four as they were.

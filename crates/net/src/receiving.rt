@@ -38,8 +38,8 @@ pub enum Received {
     },
 }
 
-/// Gives the oldest frame, behind a header, to the next chain, and publishes it. Its only error is want of memory for the
-/// chain, and then nothing has changed.
+/// Gives a header, followed by the oldest frame, to the next chain, and publishes it. Its only error is out of memory for
+/// the chain, and then nothing has changed.
 pub fn receive<R: Ring, L: TouchLog>(
     ring: &mut R,
     inbox: &mut Inbox,
@@ -79,7 +79,8 @@ pub fn receive<R: Ring, L: TouchLog>(
     }
 }
 
-/// Writes the oldest frame behind a header into a chain, and publishes it. Where it does not fit, it is dropped.
+/// Writes a header, followed by the oldest frame, into a chain, and publishes it. Where the frame does not fit, it is
+/// dropped.
 #[tactic(auto, unfolding(crate::specs::Receive::give, crate::specs::Header::header))]
 fn give_first<R: Ring, L: TouchLog>(
     ring: &mut R,

@@ -14,14 +14,14 @@ use guestmem::{NoMemory, Ram, TouchLog};
 use mmio::QUEUE_SIZE_MAX;
 use std::alloc::Global;
 
-/// A frame stands behind its header (VIRTIO 1.2, 5.1.6.2).
+/// A frame follows its header (VIRTIO 1.2, 5.1.6.2).
 const FRAME: MessageForm = MessageForm {
     header: HEADER_SIZE as u32,
     least: (HEADER_SIZE + FRAME_MIN) as u32,
     most: (HEADER_SIZE + FRAME_MAX) as u32,
 };
 
-/// Reads the frame of the next chain of the transmit queue, and publishes the chain. Its only error is want of memory, for
+/// Reads the frame of the next chain of the transmit queue, and publishes the chain. Its only error is out of memory, for
 /// the chain or for the frame, and then nothing has changed.
 pub fn transmit<R: Ring, L: TouchLog>(
     alloc: Global,

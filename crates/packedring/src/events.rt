@@ -14,22 +14,22 @@ use mmio::QUEUE_SIZE_MAX;
 /// The bytes of an area.
 pub(crate) const AREA_SIZE: usize = 4;
 
-/// Where the flags stand in an area. Two bits of them count.
+/// The offset of the flags in an area. Two of their bits count.
 pub(crate) const FLAGS: u64 = 2;
 
-/// The number of values of these two bits. Without one of those named here there are notifications.
+/// The number of values of these two bits. With any value but those named here there are notifications.
 pub(crate) const FLAG_VALUES: u16 = 4;
 
-/// The flags of who wants no notifications.
+/// The flags of a side that wants no notifications.
 pub(crate) const DISABLE: u16 = 1;
 
-/// The flags of who wants one at the descriptor that the offset and the wrap counter name.
+/// The flags of a side that wants one at the descriptor that the offset and the wrap counter name.
 pub(crate) const DESC: u16 = 2;
 
 /// The bit of the wrap counter. The offset is in the bits below it.
 const WRAP: u16 = 1 << 15;
 
-/// Whether the position that two bytes of an area name is among those that so many slots from one on cover.
+/// Whether the position that the two bytes `event` of an area name is one of the `slots` positions from `from` on.
 pub(crate) fn is_covered(event: u16, from: Position, slots: u16, size: u16) -> bool
     requires place { from.place < size }
     requires few { size ≤ QUEUE_SIZE_MAX }

@@ -2,7 +2,7 @@
 
 use chains::Descriptors;
 
-/// The descriptors that the slots from one on hold, with a table in the place of the descriptor that names it.
+/// The descriptors of consecutive slots. A table replaces the descriptor that names it.
 #[derive(Drop)]
 pub(crate) struct Found {
     /// The id that the last slot's descriptor holds.

@@ -1,4 +1,4 @@
-//! Positions that go on.
+//! Advancing a position.
 
 ghost use Rattle.std.specs.Prelude.{◌≡◌, ◌<◌, ◌≤◌};
 ghost use Rattle.chains.specs.Publish.{gone_on};
@@ -6,7 +6,7 @@ ghost use Rattle.chains.specs.Publish.{gone_on};
 use chains::Position;
 use mmio::QUEUE_SIZE_MAX;
 
-/// The position so many slots further on. At the end of the ring it begins anew, and the wrap counter toggles (VIRTIO
+/// The position `slots` slots further on. At the end of the ring it wraps around, and the wrap counter toggles (VIRTIO
 /// 1.2, 2.8.1).
 pub(crate) fn going_on(position: Position, slots: u16, size: u16) -> Position
     requires place { position.place < size }

@@ -1,9 +1,9 @@
 //! Packed rings (VIRTIO 1.2, 2.8): the trait `Ring` of `chains` in the packed layout.
 //!
 //! A packed queue has one ring of descriptors, which the driver and the device both write, and for each of them a small area that says
-//! when it wants to be notified. A wrap counter separates what was written this time round from what is left of the last one. The
-//! ring keeps nothing of what guest memory holds: it reads the chain anew at each call, and a hostile driver can make it answer
-//! nothing but what is there.
+//! when it wants to be notified. A wrap counter separates what was written this time round from what is left of the last one. The ring
+//! keeps nothing of what guest memory holds: it reads the chain anew at each call, and a hostile driver can make it return nothing but
+//! what is there.
 //!
 //! # What the layers above may rely on
 //! The contracts are those of the trait, over the definitions of `chains` (`PackedChain` and `Publish` among its specs). `new` makes
@@ -12,7 +12,7 @@
 //! Looking for a chain decodes at most one descriptor more than there are slots, whatever RAM holds: a walk stops after one round, and
 //! a table with more entries than slots is refused before it is read. That is argued here, and no contract says it.
 //!
-//! `specs/Walk` has the words of the functions inside. Nothing is trusted here beside the crates below.
+//! `specs/Walk` has the definitions for the functions inside. Nothing is trusted here beside the crates below.
 #![tactic(auto)]
 
 mod events;

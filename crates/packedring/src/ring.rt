@@ -21,7 +21,7 @@ use mmio::Queue;
 use std::alloc::Global;
 use std::marker::Model;
 
-/// Where length, id and flags begin in a descriptor, behind the address.
+/// The offset of length, id and flags in a descriptor, after the address.
 const LENGTH: u64 = 8;
 
 /// A ring in the packed layout. Both positions are slots of it.
@@ -47,7 +47,7 @@ impl PackedRing {
     ghost use Rattle.chains.specs.LongQueue.{IsLongPacked};
     ghost use Rattle.chains.specs.declared.chain.Chain.{Chain as C};
 
-    /// The ring of a queue that has come this far, under the features that the driver accepted. It takes no memory: the
+    /// The ring of a queue at these positions, under the features that the driver accepted. It takes no memory: the
     /// allocator is for the chains that it finds.
     pub fn new(alloc: Global, queue: &Queue, features: u64, positions: Positions) -> PackedRing
         requires layout { (state_of queue.now features positions).is_packed ≡ true }
@@ -59,7 +59,7 @@ impl PackedRing {
         }
     }
 
-    /// The chain at the taking position, where the descriptor there, which is available, is this; or none.
+    /// The chain at the taking position, if there is one. `first` is the descriptor there, which is available.
     fn chain(&self, ram: &Ram, first: Descriptor) -> Result<Option<Chain>, NoMemory>
         requires areas { HasAreas (length ram.now.bytes) self.now }
         requires first { first ≡ descriptor_at true ram.now.bytes self.now.descriptors self.now.taking.place }
@@ -87,7 +87,7 @@ impl PackedRing {
         }))
     }
 
-    /// Whether the driver asks for an interrupt for a chain of so many slots at the used position, by what it holds in
+    /// Whether the driver asks for an interrupt for a chain of `slots` slots at the used position, by what it holds in
     /// RAM now.
     #[tactic(auto, unfolding(chains::specs::Publish::is_packed_due))]
     fn is_due(&self, slots: u16, ram: &Ram) -> bool

@@ -1,4 +1,4 @@
-//! Tables that stand in the place of the descriptor that names them.
+//! Tables, each of which replaces the descriptor that names it.
 
 ghost use Rattle.std.specs.Prelude.{◌≡◌, ◌+◌, ◌*◌, ◌<◌, ◌≤◌, true, length, IfOk, OnErr, MatchOption};
 ghost use Rattle.chains.specs.State.{MayRing, HasAreas};
@@ -16,8 +16,9 @@ use chains::{
 use guestmem::{NoMemory, Ram};
 use std::alloc::Global;
 
-/// The descriptors at the taking position, of which the first is at hand, with the table that it may name in its place:
-/// none where a rule is broken, or there are more of them than slots. The only error is want of memory.
+/// The descriptors at the taking position, the first of which is `first`; where it names a table, the entries of the
+/// table replace it. `None` if a rule is broken, or there are more descriptors than slots. The only error is out of
+/// memory.
 pub(crate) fn find(core: &RingCore, ram: &Ram, first: Descriptor) -> Result<Option<Found>, NoMemory>
     requires areas { HasAreas (length ram.now.bytes) (core_state true core.now) }
     requires slot { core.now.taking.place < core.now.size }
@@ -30,7 +31,7 @@ pub(crate) fn find(core: &RingCore, ram: &Ram, first: Descriptor) -> Result<Opti
     if !first.is_indirect {
         return walk(core, ram, first);
     }
-    // INDIRECT with NEXT, or without the feature, or a table that is none.
+    // INDIRECT with NEXT, or without the feature, or a table that `is_table` refuses.
     if first.has_next || !core.has_indirect || !is_table(&first, ram) {
         return Ok(None);
     }
@@ -46,7 +47,8 @@ pub(crate) fn find(core: &RingCore, ram: &Ram, first: Descriptor) -> Result<Opti
     }))
 }
 
-/// All entries of a table of so many. Its only error is want of memory, which few entries do not meet.
+/// Reads the `count` entries of a table. Fails only if memory is refused, and never for up to `SHORT_CHAIN_MAX`
+/// entries.
 fn entries(alloc: Global, ram: &Ram, table: u64, count: u16) -> Result<Descriptors, NoMemory>
     requires { table + DESCRIPTOR_SIZE * count ≤ length ram.now.bytes }
     ensures entries { IfOk result (λ all. all ≡ entries_from ram.now.bytes table 0 count) }

@@ -11,9 +11,9 @@ use crate::found::Found;
 use chains::{Descriptor, Descriptors, RingCore, read_descriptor};
 use guestmem::{NoMemory, Ram};
 
-/// The descriptors from the taking position on, of which the first, which names no table, is at hand: each with NEXT has
-/// another one behind it. None where a later one names a table, or there is no end after one round. The only error is
-/// want of memory.
+/// The descriptors from the taking position on. The first is `first`, which names no table; each with NEXT is followed
+/// by another one. `None` if a later one names a table, or there is no end after one round. The only error is out of
+/// memory.
 pub(crate) fn walk(core: &RingCore, ram: &Ram, first: Descriptor) -> Result<Option<Found>, NoMemory>
     requires areas { HasAreas (length ram.now.bytes) (core_state true core.now) }
     requires slot { core.now.taking.place < core.now.size }

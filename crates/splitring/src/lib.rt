@@ -2,7 +2,7 @@
 //!
 //! A split queue has a table of descriptors, an area that the driver writes (its index, and the heads of the chains that it makes
 //! available) and an area that the device writes (its index, and the chains that it has used). The ring keeps nothing of what guest
-//! memory holds: it reads the chain anew at each call, and a hostile driver can make it answer nothing but what is there.
+//! memory holds: it reads the chain anew at each call, and a hostile driver can make it return nothing but what is there.
 //!
 //! # What the layers above may rely on
 //! The contracts are those of the trait, over the definitions of `chains` (`SplitChain` and `Publish` among its specs). `new` makes
@@ -12,7 +12,7 @@
 //! there are slots, and a table gets the room that the descriptors before the one that names it left. That is argued here, and no
 //! contract says it.
 //!
-//! `specs/Walk` has the words of the functions inside. Nothing is trusted here beside the crates below.
+//! `specs/Walk` has the definitions for the functions inside. Nothing is trusted here beside the crates below.
 #![tactic(auto)]
 
 mod ring;

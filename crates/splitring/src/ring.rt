@@ -14,10 +14,10 @@ use mmio::Queue;
 use std::alloc::Global;
 use std::marker::Model;
 
-/// Where the index stands in the driver's and the device's area, behind the flags.
+/// The offset of the index in the driver's and the device's area, after the flags.
 const INDEX: u64 = 2;
 
-/// Where the ring begins in both areas. The event index stands behind it.
+/// The offset of the ring in both areas. The event index follows it.
 const RING: u64 = 4;
 
 /// The bytes of a head in the available ring.
@@ -50,7 +50,7 @@ impl SplitRing {
     ghost use Rattle.chains.specs.LongQueue.{IsLongSplit};
     ghost use Rattle.chains.specs.declared.chain.Chain.{Chain as C};
 
-    /// The ring of a queue that has come this far, under the features that the driver accepted. It takes no memory: the
+    /// The ring of a queue at these positions, under the features that the driver accepted. It takes no memory: the
     /// allocator is for the chains that it finds.
     pub fn new(alloc: Global, queue: &Queue, features: u64, positions: Positions) -> SplitRing
         requires layout { (state_of queue.now features positions).is_packed ≡ false }
@@ -62,7 +62,8 @@ impl SplitRing {
         }
     }
 
-    /// The chain at the taking position, where the driver's index, which is not that position, is this; or none.
+    /// The chain at the taking position, if there is one. `available` is the driver's index, which is not that
+    /// position.
     fn chain(&self, ram: &Ram, available: u16) -> Result<Option<Chain>, NoMemory>
         requires areas { HasAreas (length ram.now.bytes) self.now }
         requires available { available ≡ available_index ram.now.bytes self.now }

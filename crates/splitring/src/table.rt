@@ -1,4 +1,4 @@
-//! Tables that stand in the place of the descriptor that names them.
+//! Tables, each of which replaces the descriptor that names it.
 
 ghost use Rattle.std.specs.Prelude.{◌≡◌, ◌<◌, ◌≤◌, length, List, IfOk, OnErr, MatchOption, IsTrue, ◌↔◌, false};
 ghost use Rattle.chains.specs.State.{HasAreas};
@@ -12,8 +12,9 @@ use crate::walk::walk;
 use chains::{DESCRIPTOR_SIZE, Descriptor, Descriptors, RingCore, is_table};
 use guestmem::{NoMemory, Ram};
 
-/// The descriptors of the list that begins at the head, with the table that the last one may name in its place: none
-/// where there is no such list, or it has more descriptors than the queue has slots. The only error is want of memory.
+/// The descriptors of the list that begins at the head; where the last one names a table, the list of the table
+/// replaces it. `None` if there is no such list, or it has more descriptors than the queue has slots. The only error is
+/// out of memory.
 #[tactic(auto, using(crate::proofs::Found::none_found))]
 pub(crate) fn find(core: &RingCore, ram: &Ram, first: u16) -> Result<Option<Descriptors>, NoMemory>
     requires areas { HasAreas (length ram.now.bytes) (core_state false core.now) }
@@ -34,8 +35,8 @@ pub(crate) fn find(core: &RingCore, ram: &Ram, first: u16) -> Result<Option<Desc
     Ok(Some(all))
 }
 
-/// The descriptors with the list of its table in the place of the last one, where that is indirect: none where a rule
-/// is broken, or there are more than slots. The only error is want of memory.
+/// The descriptors; where the last one is indirect, the list of its table replaces it. `None` if a rule is broken, or
+/// there are more descriptors than slots. The only error is out of memory.
 fn replace(
     core: &RingCore,
     ram: &Ram,
@@ -58,7 +59,7 @@ fn replace(
     if !last.is_indirect {
         return Ok(Some(direct));
     }
-    // INDIRECT without the feature, or a table that is none.
+    // INDIRECT without the feature, or a table that `is_table` refuses.
     if !core.has_indirect || !is_table(last, ram) {
         return Ok(None);
     }

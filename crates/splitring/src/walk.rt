@@ -6,8 +6,8 @@ ghost use Rattle.splitring.specs.Walk.{IsNoList, AreListed, IsLongBehind};
 use chains::{DESCRIPTOR_SIZE, Descriptors, read_descriptor};
 use guestmem::{NoMemory, Ram};
 
-/// The descriptors at hand, and behind them those of the list that begins at an entry of a table: none where there is no
-/// such list, or it has more than there is room for. The only error is want of memory.
+/// The descriptors `before`, followed by those of the list that begins at entry `first` of a table. `None` if there is
+/// no such list, or it has more than `room` descriptors. The only error is out of memory.
 pub(crate) fn walk(
     ram: &Ram,
     table: u64,

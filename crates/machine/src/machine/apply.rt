@@ -17,14 +17,15 @@ use blk::Disk;
 use guestmem::{Bytes, NoLog, NoMemory, TouchLog};
 
 impl<D: Disk> Machine<D> {
-    /// Applies one event, and answers. After `NoMemory` and `Refused` nothing has changed.
+    /// Applies one event, and returns the reply. After `NoMemory` and `Refused` nothing has changed.
     pub fn apply(&mut self, event: &Event) -> Reply
         ensures { IsApplied self.old event.now result self.new }
     {
         self.apply_logged(event, &mut NoLog)
     }
 
-    /// Does what `apply` does, and tells the log each page and sector that is written, also with what was there.
+    /// Does what `apply` does, and reports to the log each page and sector that is written, even if its bytes stay the
+    /// same.
     pub fn apply_logged<L: TouchLog>(&mut self, event: &Event, log: &mut L) -> Reply
         requires may { MayItems L.may log.old (state_of self.old) }
         ensures { IsAppliedLogged L.after self.old log.old event.now result self.new log.new }

@@ -27,7 +27,8 @@ impl<D: Disk> Machine<D> {
     }
 
     /// The driver writes a register of a device, `width` bytes at an offset of its window (VIRTIO 1.2, 4.2.2). Whether the
-    /// device takes the value does not show; a byte comes out where it is written into the emergency register of a console.
+    /// device takes the value is not reported. The result is a byte where one is written into the emergency register of a
+    /// console.
     pub fn write_register(
         &mut self,
         dev: u8,
@@ -78,7 +79,7 @@ impl<D: Disk> Machine<D> {
     }
 
     /// The host puts bytes in: for an entropy device into its pool, for a console as text, for a network device one frame. It
-    /// answers how many were kept: the first ones, or a whole frame. A block device takes none.
+    /// returns how many were kept: the first ones, or a whole frame. A block device takes none.
     pub fn input(&mut self, dev: u8, bytes: &[u8]) -> Result<u32, Refusal>
         ensures { IsApplied self.old (events.Input dev bytes.now) (accepted_reply result) self.new }
     {
@@ -97,7 +98,7 @@ impl<D: Disk> Machine<D> {
         self.step_logged(dev, pick, &mut NoLog)
     }
 
-    /// Does what `write_ram` does, and tells the log each page that is written, also with what was there.
+    /// Does what `write_ram` does, and reports to the log each page that is written, even if its bytes stay the same.
     pub fn write_ram_logged<L: TouchLog>(
         &mut self,
         addr: u64,

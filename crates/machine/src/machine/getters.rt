@@ -38,7 +38,7 @@ impl<D: Disk> Machine<D> {
         self.shapes.as_slice()
     }
 
-    /// What a device is, beside its disk.
+    /// The state of a device, without its disk.
     pub fn state(&self, dev: u8) -> &DeviceState
         requires { dev < length (state_of self.now).devices }
         ensures { slice_get (state_of self.now).devices dev ≡ Some result.now }
@@ -46,7 +46,7 @@ impl<D: Disk> Machine<D> {
         self.devices[dev as usize].state()
     }
 
-    /// Reads a sector of a device's disk. A bad sector is not read, and answered with `false`; then, and where the disk
+    /// Reads a sector of a device's disk. A bad sector is not read, and the result is `false`; then, and where the disk
     /// fails, the buffer may hold anything.
     pub fn read_sector(
         &mut self,
@@ -64,7 +64,7 @@ impl<D: Disk> Machine<D> {
         }
     }
 
-    /// The devices, in order, each with its disk. The RAM is let go of.
+    /// The devices, in order, each with its disk. The RAM is dropped.
     pub fn into_devices(self) -> Vec<Device<D>>
         ensures { result.items ≡ self.devices }
     {

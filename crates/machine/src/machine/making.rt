@@ -21,10 +21,10 @@ use guestmem::{NoMemory, PAGES_MAX, Ram, recall_bytes};
 use std::alloc::Global;
 
 impl<D: Disk + Drop> Machine<D> {
-    /// A new machine of so many pages of zeros and devices of these shapes, whose block devices get the disks in order. All
-    /// their sectors are good.
+    /// A new machine of `ram_pages` pages of zeros and devices of these shapes, whose block devices get the disks in order.
+    /// All their sectors are good.
     ///
-    /// `BadShape` is told first, then `DiskMismatch`, then `NoMemory`. A refusal drops the disks.
+    /// `BadShape` is reported first, then `DiskMismatch`, then `NoMemory`. A refusal drops the disks.
     pub fn new(
         alloc: Global,
         ram_pages: u32,
@@ -43,7 +43,7 @@ impl<D: Disk + Drop> Machine<D> {
         }
     }
 
-    /// Such a machine (as `new` makes); a refusal gives the disks back, as they were.
+    /// As `new`, but a refusal gives the disks back, as they were.
     pub fn new_or_back(
         alloc: Global,
         ram_pages: u32,
@@ -67,8 +67,8 @@ impl<D: Disk + Drop> Machine<D> {
         }
     }
 
-    /// A machine as it was saved, whose block devices get the disks in order, and their marks of bad sectors. The caller has
-    /// seen to it that it is sound. Its only error is want of memory.
+    /// A machine as it was saved, whose block devices get the disks in order, and their marks of bad sectors. The caller
+    /// makes sure that it is sound. Its only error is out of memory.
     pub fn restore(
         alloc: Global,
         ram: Ram,
@@ -89,7 +89,7 @@ impl<D: Disk + Drop> Machine<D> {
     }
 }
 
-/// Why no machine is made of so many pages, these devices and these disks, if there is a reason.
+/// Why no machine is made of `pages` pages, these devices and these disks, if there is a reason.
 fn refusal<D: Disk>(pages: u32, shapes: &[Shape], disks: &[D]) -> Option<NewError>
     ensures { result ≡ new_refusal pages shapes.now (map (λ d. length (D.state d).sectors) disks.now) }
 {
@@ -105,7 +105,7 @@ fn refusal<D: Disk>(pages: u32, shapes: &[Shape], disks: &[D]) -> Option<NewErro
     None
 }
 
-/// The parts of a new machine for these disks. Its only error is want of memory.
+/// The parts of a new machine for these disks. Its only error is out of memory.
 fn first_parts<D: Disk + Drop>(
     alloc: Global,
     ram_pages: u32,
@@ -125,7 +125,7 @@ fn first_parts<D: Disk + Drop>(
     Parts::new(alloc, ram, shapes, states, bad)
 }
 
-/// Marks for each disk, by which none of its sectors is bad. It also tells a proof that the sectors are whole.
+/// Marks for each disk, by which none of its sectors is bad. It also states for proofs that the sectors are whole.
 fn good_marks<D: Disk>(alloc: Global, disks: &[D]) -> Result<Vec<BitSet>, NoMemory>
     ensures good { IfOk result (λ bad. bad.items ≡ good_marks (map D.state disks.now)) }
     ensures whole { IfOk result (λ _. All (λ d. AreSectors (D.state d).sectors) disks.now) }
@@ -169,8 +169,8 @@ fn is_beyond(shape: Shape) -> bool
     }
 }
 
-/// Tells a proof that the MACs of network devices are 6 bytes each, and the ids of block devices 20 (see the page of
-/// `guestmem`).
+/// States for proofs that the MACs of network devices are 6 bytes each, and the ids of block devices 20 (see the page
+/// of `guestmem`).
 fn recall_all(shapes: &[Shape])
     ensures { All HasBytes shapes.now }
 {

@@ -18,7 +18,7 @@ impl<D: Disk> Machine<D> {
     /// work.
     ///
     /// The step that it names is not idle, or it finds an empty queue and clears its notified flag. A host that makes each
-    /// step that it names, until it names none, has left nothing undone. A guest can see to it that there is always some, as
+    /// step that it names, until it names none, has left nothing undone. A guest can arrange that there is always some, as
     /// its chains may name the rings themselves, so a host bounds how many steps it makes in a row. It reads no RAM.
     pub fn next_work(&self, last: Work) -> Option<Work>
         ensures next { result ≡ next_work (state_of self.now).devices last }

@@ -17,8 +17,8 @@ use guestmem::{NoMemory, Ram};
 use std::alloc::Global;
 use std::marker::Model;
 
-/// All that a machine takes beside its disks, the marks of their bad sectors among it. Once it is there, disks make a machine of
-/// it, and nothing can fail.
+/// All that a machine needs beside its disks, with the marks of their bad sectors. Making a machine of these parts and disks
+/// cannot fail.
 #[derive(Drop)]
 pub struct Parts<D: Disk> {
     alloc: Global,
@@ -43,7 +43,7 @@ impl<D: Disk> Model for Parts<D> {
 }
 
 impl<D: Disk + Drop> Parts<D> {
-    /// These parts. Its only error is want of memory.
+    /// These parts. Its only error is out of memory.
     pub fn new(
         alloc: Global,
         ram: Ram,

@@ -40,8 +40,8 @@ impl Regs {
         });
     }
 
-    /// Tells the driver that the configuration has changed. The change is counted, modulo 2^32. It interrupts where
-    /// DRIVER_OK is set and each feature bit of `feature`, by which the driver may hear of it, is negotiated.
+    /// Reports to the driver that the configuration has changed. The change is counted, modulo 2^32. It interrupts
+    /// where DRIVER_OK is set and each feature bit of `feature`, by which the driver may learn of it, is negotiated.
     #[tactic(auto, using(crate::proofs::Keeping::change_kept))]
     pub fn config_changed(&mut self, feature: u64)
         ensures { self.new ≡ with_common self.old (configuration_changed self.old.common feature) }

@@ -9,7 +9,7 @@ use crate::queue::Queue;
 use crate::regs::Regs;
 
 impl Regs {
-    /// Puts other common registers in place of these. The caller has seen to it that they are sound.
+    /// Replaces the common registers. The caller makes sure that the new ones are sound.
     pub(super) fn set_common(&mut self, common: Common)
         requires { IsSoundRegisters (with_common self.old common) }
         ensures { self.new ≡ with_common self.old common }
@@ -17,7 +17,7 @@ impl Regs {
         self.common = common;
     }
 
-    /// Puts another queue in place of one. The caller has seen to it that it is sound.
+    /// Replaces the registers of one queue. The caller makes sure that the new ones are sound.
     pub(super) fn set_queue(&mut self, number: u8, queue: Queue)
         requires below { number < length self.old.queues }
         requires sound { IsSoundQueue self.old.ram_len self.old.common queue }
