@@ -11,10 +11,10 @@
 //!   was refused before the first event, the machine as it was given, and no reply.
 //! - `Refused`: the machine at the stop, and the error: `ShapeMismatch` exactly if the disks do not fit, `DiskFailed`
 //!   only where one of them is not steady, or `NoMemory`, and no other.
-//! - `Arrived`: the disks fit. Both machines played the remaining events, the one that was migrated from the stop on,
-//!   the other as it came out of the receiver over these disks. In the replies of each, a failed disk is one that is
-//!   not steady. If the disks are honest, the machine that arrived began as the one at the stop: both are runs from
-//!   there, and with the same outcomes their replies are the same and they are equal.
+//! - `Arrived`: the disks fit. Both machines played the remaining events of the guest, the one that was migrated from
+//!   the stop on, the other as it came out of the receiver over these disks. In the replies of each, a failed disk is
+//!   one that is not steady. If the disks are honest, the machine that arrived began as the one at the stop: both are
+//!   runs from there, and with the same outcomes their replies are the same and they are equal.
 //! - In all three the replies up to the stop are those of a `replay`: its promises hold of them, over a writer in memory.
 //!
 //! That there is a stream between the two machines is not in the contract, which speaks of machines: a test shows it, over a disk
