@@ -1,4 +1,4 @@
-//! The header of a stream, as far as it came.
+//! Reads the header of a stream, as far as it has arrived.
 
 ghost use Rattle.std.specs.Prelude.{◌≡◌, ◌↔◌, ◌≤◌, IsTrue, IfOk, IfErr, MatchOption, drop, length, ℕ, List};
 ghost use Rattle.wire.specs.Header.{Begins};
@@ -13,7 +13,7 @@ use wire::{shape_at, shape_len, u32_at};
 /// "VMIG" as a little-endian number.
 const MAGIC: u32 = 0x4749_4d56;
 
-/// The bytes before the shapes.
+/// How many bytes of the header come before the shapes.
 const FRONT_LEN: usize = 16;
 
 /// What the header of a stream says.
@@ -24,7 +24,7 @@ pub struct Heading {
     pub len: usize,
 }
 
-/// The shape at the front of the bytes, where it is whole, and the bytes behind it.
+/// The shape at the front of the bytes, if it is complete, and the bytes after it.
 fn first_shape(bytes: &[u8]) -> Result<Option<(Shape, &[u8])>, RecvError>
     ensures { FirstShape (λ x. x.now) bytes.now result }
 {
@@ -43,7 +43,7 @@ fn first_shape(bytes: &[u8]) -> Result<Option<(Shape, &[u8])>, RecvError>
     Err(RecvError::BadShape)
 }
 
-/// So many shapes at the front of the bytes, where they are whole, and the bytes behind them.
+/// The first `count` shapes of the bytes, if they are complete, and the bytes after them.
 fn read_shapes(
     alloc: Global,
     count: u32,
@@ -68,14 +68,14 @@ fn read_shapes(
     Ok(Some((shapes, rest)))
 }
 
-/// Whether a machine may have so many pages and devices.
+/// Whether a machine may have `pages` pages and `count` devices.
 fn may_count(pages: u32, count: u32) -> bool
     ensures { IsTrue result ↔ MayCount pages count }
 {
     1 <= pages && pages <= 16384 && 1 <= count && count <= 16
 }
 
-/// The header at the front of the bytes. `None` where it is not whole, with no fault so far.
+/// The header at the front of the bytes. `None` if it is incomplete, with no fault so far.
 pub fn read_heading(alloc: Global, bytes: &[u8]) -> Result<Option<Heading>, RecvError>
     ensures read { IfOk result (λ found. MatchOption found (WaitsHead bytes.now)
         (λ h. (h.len ≤ length bytes.now) × Begins bytes.now h.pages h.shapes.items (drop h.len bytes.now))) }

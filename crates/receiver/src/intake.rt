@@ -24,14 +24,14 @@ use sha2::{Digest, Sha256};
 use std::alloc::Global;
 use wire::{DecodeError, decode_device, u8_at, u32_at};
 
-/// The most bytes that a body may have.
+/// The greatest length of a body, in bytes.
 const BODY_MAX: usize = 131_072;
 
-/// What was taken of a stream: the devices that there are to be, the pages, the marks of the bad sectors of each disk, how
-/// many rounds ended, and the devices that came. The good sectors went to the disks.
+/// What was read of a stream: the shapes of its devices, the pages, the marks of the bad sectors of each disk, how many
+/// rounds ended, and the devices that arrived so far. The good sectors were written to the disks.
 ///
-/// `named` has a mark for each item in the order of their numbers, and keeps a count of those that are named. `firsts` has the
-/// number of the first sector of each device.
+/// `named` has a mark for each item, in the order of their numbers, and keeps a count of those that are named. `firsts`
+/// has the item number of the first sector of each device.
 #[derive(Drop)]
 pub struct Intake {
     pub shapes: Vec<Shape>,
@@ -43,14 +43,14 @@ pub struct Intake {
     pub devices: Vec<DeviceState>,
 }
 
-/// Where a sector is: the place of its disk among the disks, and the number of the item.
+/// Where a sector is: the index of its disk among the disks, and the number of its item.
 #[derive(Clone, Copy)]
 struct Spot {
     disk: usize,
     item: u64,
 }
 
-/// Whether a record of this tag may stand behind so many devices of so many.
+/// Whether a record with this tag may come next, after `devices` of `count` device records.
 fn may_stand(count: usize, devices: usize, tag: u8) -> bool
     ensures { IsTrue result ↔ MayTag count devices tag }
 {
@@ -64,7 +64,7 @@ fn is_named(named: &BitSet) -> bool
     named.count() == named.len()
 }
 
-/// Whether a record of this tag may stand here.
+/// Checks that a record with this tag may come next.
 fn check_tag(intake: &Intake, tag: u8) -> Result<(), RecvError>
     ensures { (ds : List DiskState) (front more : List ℕ) (pages : ℕ) (shapes : List shapes.Shape) (before : List records.Record) → HasRead ds pages shapes before intake.now front → Checked pages shapes before tag more result }
 {
@@ -99,7 +99,7 @@ fn take_page(intake: &mut Intake, number: u32, bytes: &[u8])
     intake.named.insert(number as u64);
 }
 
-/// Takes a page's record, whose tag was seen.
+/// Takes the record of a page; `rest` is what follows its tag.
 fn page_part(intake: &mut Intake, rest: &[u8]) -> Result<Part, RecvError>
     ensures room { IfOk result (λ part. size_of part ≤ 1 + length rest.now) }
     ensures some { IfOk result (λ part. IsLong part) }
@@ -125,7 +125,7 @@ fn page_part(intake: &mut Intake, rest: &[u8]) -> Result<Part, RecvError>
     Ok(Part::Record(5 + PAGE_SIZE))
 }
 
-/// How many of the devices before a place have a disk.
+/// How many of the devices before index `place` have a disk.
 fn disks_before(shapes: &[Shape], place: usize) -> usize
     requires { place ≤ length shapes.now }
     ensures { result ≡ disks_before shapes.now place }
@@ -205,7 +205,7 @@ fn take_good<D: Disk>(
     Ok(())
 }
 
-/// Takes a sector's record, whose tag was seen: a good one goes to its disk.
+/// Takes the record of a sector; `rest` is what follows its tag. A good sector is written to its disk.
 fn sector_part<D: Disk>(
     intake: &mut Intake,
     disks: &mut [D],
@@ -242,7 +242,7 @@ fn sector_part<D: Disk>(
     Ok(Part::Record(7 + SECTOR_SIZE))
 }
 
-/// Takes the record of a round's end, whose tag was seen.
+/// Takes the record of the end of a round; `rest` is what follows its tag.
 fn round_part(intake: &mut Intake, rest: &[u8]) -> Result<Part, RecvError>
     ensures room { IfOk result (λ part. size_of part ≤ 1 + length rest.now) }
     ensures some { IfOk result (λ part. IsLong part) }
@@ -262,7 +262,7 @@ fn round_part(intake: &mut Intake, rest: &[u8]) -> Result<Part, RecvError>
     Ok(Part::Record(5))
 }
 
-/// Takes a device's record, whose tag was seen.
+/// Takes the record of a device; `rest` is what follows its tag.
 fn device_part(alloc: Global, intake: &mut Intake, rest: &[u8]) -> Result<Part, RecvError>
     ensures room { IfOk result (λ part. size_of part ≤ 1 + length rest.now) }
     ensures some { IfOk result (λ part. IsLong part) }
@@ -315,7 +315,7 @@ fn is_digest(front: &[u8], digest: &[u8]) -> bool
     sum.as_slice() == digest
 }
 
-/// Compares the digest, whose tag was seen.
+/// Compares the digest; `rest` is what follows the tag of its record.
 fn commit_part(intake: &mut Intake, front: &[u8], rest: &[u8]) -> Result<Part, RecvError>
     ensures room { IfOk result (λ part. size_of part ≤ 1 + length rest.now) }
     ensures some { IfOk result (λ part. IsLong part) }
@@ -331,7 +331,7 @@ fn commit_part(intake: &mut Intake, front: &[u8], rest: &[u8]) -> Result<Part, R
     Ok(Part::End)
 }
 
-/// Takes the record at the front of the rest, where it is whole.
+/// Takes the record at the front of `rest`, if it is complete.
 fn take_part<D: Disk>(
     alloc: Global,
     intake: &mut Intake,
@@ -359,7 +359,7 @@ fn take_part<D: Disk>(
     }
 }
 
-/// Works off the whole records from a place on, and says up to where, and whether the last is the digest.
+/// Takes the complete records from offset `from` on; returns the offset after them, and whether the last is the digest.
 pub fn work_off<D: Disk>(
     alloc: Global,
     intake: &mut Intake,

@@ -61,7 +61,8 @@ impl<D: Disk + Drop> Receiver<D> {
         }
     }
 
-    /// Takes the next piece. The good sectors in it go to the disks. `DiskFailed` is answered exactly where a disk failed.
+    /// Takes the next piece. The good sectors in it are written to the disks. `DiskFailed` is returned exactly if a
+    /// disk failed.
     pub fn feed(&mut self, piece: &[u8]) -> Result<(), RecvError>
         ensures sizes { self.new.sizes ≡ self.old.sizes }
         ensures marks { MarksAfter self.old.marks result self.new.marks }
@@ -144,7 +145,7 @@ impl<D: Disk + Drop> Receiver<D> {
     }
 }
 
-/// Tells a proof that each sector of the disks has 512 bytes (see the page of `guestmem`).
+/// For proofs: each sector of the disks has 512 bytes (see the page of `guestmem`).
 fn recall_disks<D: Disk>(disks: &[D])
     ensures { All (λ d. AreSectors d.sectors) (map D.state disks.now) }
 {
@@ -164,7 +165,7 @@ fn rounds_of(stage: &Stage) -> u32
     }
 }
 
-/// Whether a refusal came.
+/// Whether the stream was refused.
 fn is_failed(stage: &Stage) -> bool
     ensures { result ≡ has_failed stage.now }
 {

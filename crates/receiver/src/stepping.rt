@@ -20,7 +20,7 @@ use guestmem::{NoMemory, Ram};
 use machine::{Disk, Shape, are_disks_of};
 use std::alloc::Global;
 
-/// The number of the first sector of each device, and how many items there are.
+/// The item number of the first sector of each device, and the count of items.
 fn number_items(alloc: Global, pages: u32, shapes: &[Shape]) -> Result<(Vec<u32>, u32), NoMemory>
     requires { IsHeader pages shapes.now }
     ensures { IfOk result (λ x. (x.0.items ≡ firsts_of (layout_by pages shapes.now)) × (x.1 ≡ size_of (layout_by pages shapes.now))) }
@@ -34,7 +34,7 @@ fn number_items(alloc: Global, pages: u32, shapes: &[Shape]) -> Result<(Vec<u32>
     Ok((firsts, first))
 }
 
-/// A mark for each sector of each disk, which is not set.
+/// A mark for each sector of each disk, none of them set.
 fn new_marks<D: Disk>(alloc: Global, disks: &[D]) -> Result<Vec<BitSet>, NoMemory>
     ensures { IfOk result (λ bad. bad.items ≡ map (λ n. replicate n false) (sizes_of D.state disks.now)) }
 {
@@ -72,7 +72,7 @@ fn new_intake<D: Disk>(
     })
 }
 
-/// Takes the whole records that stand from a place on.
+/// Takes the complete records from offset `from` on.
 fn advance<D: Disk>(
     alloc: Global,
     intake: Intake,
@@ -91,7 +91,7 @@ fn advance<D: Disk>(
     }
 }
 
-/// Reads the header, where it is whole, and the whole records behind it.
+/// Reads the header, if it is complete, and the complete records after it.
 fn begin<D: Disk>(alloc: Global, disks: &mut [D], held: &[u8]) -> Result<(usize, Stage), RecvError>
     ensures { Stepped (map D.state disks.old) (map D.state disks.new) held.now result }
 {
@@ -109,7 +109,7 @@ fn begin<D: Disk>(alloc: Global, disks: &mut [D], held: &[u8]) -> Result<(usize,
     advance(alloc, intake, disks, held, heading.len)
 }
 
-/// Goes on with the bytes held, a piece more than before.
+/// Continues with the bytes held, which are one piece more than before.
 pub fn step<D: Disk>(
     alloc: Global,
     disks: &mut [D],

@@ -8,7 +8,7 @@ pub fn first_is_moving()
     ensures { FirstIsMoving }
 {}
 
-/// Where the writer is replaced by one that holds what was not taken, the history stays.
+/// If the writer is replaced by one that holds what was not taken, the history stays the same.
 pub fn takings_stay_moving()
     ensures { TakingsStayMoving }
 {}

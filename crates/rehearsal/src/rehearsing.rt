@@ -1,4 +1,4 @@
-//! A move of a machine, rehearsed.
+//! A rehearsed migration of a machine.
 
 ghost use Rattle.std.specs.Prelude.{◌≡◌, ◌≤◌, [], IfErr, IfOk, IfSome, length, vec_capacity};
 ghost use Rattle.machine.specs.First.{dealt_marks};
@@ -14,39 +14,39 @@ use sender::{Live, LiveEvent, LiveReply};
 use std::alloc::Global;
 use wire::WriteSink;
 
-/// What is left of a rehearsed move of a machine.
+/// The result of a rehearsed migration of a machine.
 #[derive(Drop)]
 pub enum Rehearsal<D: Disk, E: Disk> {
-    /// The machine arrived, and both machines played the events of the guest that remained.
+    /// The machine arrived, and both machines played the remaining events of the guest.
     Arrived {
-        /// The machine that was sent.
+        /// The machine that was migrated.
         source: Machine<D>,
 
         /// The machine that arrived.
         arrived: Machine<E>,
 
-        /// All that the machine that was sent answered.
+        /// All replies of the machine that was migrated.
         replies: Vec<LiveReply>,
 
-        /// What the machine that arrived answered to the events of the guest that remained.
+        /// The replies of the machine that arrived to the remaining events of the guest.
         arrived_replies: Vec<Reply>,
     },
 
-    /// No stop answered Ok.
+    /// No stop returned Ok.
     NotStopped {
         /// The machine as it then is.
         source: Machine<D>,
 
-        /// What each event was answered. There is none where memory was refused.
+        /// The reply to each event. There is none if memory was refused.
         replies: Vec<LiveReply>,
     },
 
-    /// A stop answered Ok, and the stream was refused.
+    /// A stop returned Ok, and the stream was refused.
     Refused {
         /// The machine as it was at the stop.
         source: Machine<D>,
 
-        /// What the events up to and with the stop were answered.
+        /// The replies to the events up to and including the stop.
         replies: Vec<LiveReply>,
 
         /// Why the stream was refused.
@@ -54,7 +54,7 @@ pub enum Rehearsal<D: Disk, E: Disk> {
     },
 }
 
-/// A machine after a stop that answered Ok, its stream, and room for the replies to come.
+/// A machine after a stop that returned Ok, its stream, and room for the replies to come.
 #[derive(Drop)]
 struct Sent<D: Disk> {
     source: Machine<D>,
@@ -63,17 +63,17 @@ struct Sent<D: Disk> {
     arrived_replies: Vec<Reply>,
 }
 
-/// A machine of which no stop answered Ok.
+/// A machine for which no stop returned Ok.
 #[derive(Drop)]
 struct Unsent<D: Disk> {
     source: Machine<D>,
     replies: Vec<LiveReply>,
 }
 
-/// Rehearses a move of a machine: plays the events up to and with the first stop that answers Ok, feeds the stream in pieces of
-/// the sizes of the cuts to a receiver over the disks, and plays the events of the guest that remain on both machines. The other
-/// events that remain are skipped, and have no reply. Room for all replies is made first: where memory is refused, nothing is
-/// played.
+/// Rehearses a migration of a machine: plays the events up to and including the first stop that returns Ok, feeds the
+/// stream in pieces of the sizes of the cuts to a receiver over the disks, and plays the remaining events of the guest
+/// on both machines. The other remaining events are skipped, and have no reply. Room for all replies is made first: if
+/// memory is refused, nothing is played.
 pub fn rehearse<D: Disk + Drop, E: Disk + Drop>(
     alloc: Global,
     machine: Machine<D>,
@@ -98,7 +98,7 @@ pub fn rehearse<D: Disk + Drop, E: Disk + Drop>(
 }
 
 impl<D: Disk + Drop> Sent<D> {
-    /// The machine at the stop, where its stream is refused.
+    /// The machine at the stop, if its stream is refused.
     fn refused<E: Disk>(self, error: RecvError) -> Rehearsal<D, E>
         ensures { IsRefusedWith self.source self.replies.items error result }
     {
@@ -115,7 +115,7 @@ impl<D: Disk + Drop> Sent<D> {
         }
     }
 
-    /// Plays the events of the guest that remain on both machines.
+    /// Plays the remaining events of the guest on both machines.
     fn go_on<E: Disk>(self, mut arrived: Machine<E>, events: &[LiveEvent]) -> Rehearsal<D, E>
         requires few { length self.replies.items ≤ length events.now }
         requires room { length events.now ≤ vec_capacity self.replies }
@@ -148,7 +148,7 @@ impl<D: Disk + Drop> Sent<D> {
     }
 }
 
-/// Plays the events up to and with the first stop that answers Ok.
+/// Plays the events up to and including the first stop that returns Ok.
 fn send<D: Disk + Drop>(
     alloc: Global,
     machine: Machine<D>,
@@ -195,7 +195,7 @@ fn send<D: Disk + Drop>(
     Err(Unsent { source, replies })
 }
 
-/// Room for so many replies of each of the two machines.
+/// Room for `count` replies of each of the two machines.
 fn make_room(alloc: Global, count: usize) -> Option<(Vec<LiveReply>, Vec<Reply>)>
     ensures none { IfSome result (λ room. room.0.items ≡ []) }
     ensures room { IfSome result (λ room. count ≤ vec_capacity room.0) }
@@ -211,7 +211,7 @@ fn make_room(alloc: Global, count: usize) -> Option<(Vec<LiveReply>, Vec<Reply>)
     Some((replies, arrived_replies))
 }
 
-/// Whether a stop answered Ok.
+/// Whether this is the reply of a stop that returned Ok.
 fn is_stopped(reply: &LiveReply) -> bool
     ensures { result ≡ is_stopped reply.now }
 {
@@ -221,8 +221,8 @@ fn is_stopped(reply: &LiveReply) -> bool
     }
 }
 
-/// The machine whose stream the bytes are, fed in pieces of these sizes. A cut beyond what is left takes what is left; what the
-/// cuts leave is one piece.
+/// The machine whose stream the bytes are, fed in pieces of these sizes. A cut that is greater than what is left takes
+/// what is left; what the cuts leave is one piece.
 fn receive_in_pieces<E: Disk + Drop>(
     alloc: Global,
     bytes: &[u8],

@@ -1,9 +1,9 @@
-//! The set of dirty items, which is told what a step writes.
+//! The set of dirty items, which records what a step writes.
 
 use dirtylog::BitSet;
 use guestmem::TouchLog;
 
-/// The dirty items by their numbers, and the number of the first sector of each device's disk.
+/// The dirty items by their numbers, and the item number of the first sector of each device's disk.
 #[derive(Drop)]
 pub(crate) struct Dirty {
     pub(crate) set: BitSet,

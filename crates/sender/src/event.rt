@@ -1,4 +1,4 @@
-//! What happens to a machine that is sent, and what is answered.
+//! The events of a machine that is being migrated, and their replies.
 
 use crate::mig_error::MigError;
 use machine::{Event, Reply};
@@ -19,7 +19,7 @@ pub enum Item {
     },
 }
 
-/// One thing that happens to a machine that is sent.
+/// One event of a machine that is being migrated.
 #[derive(Debug, Drop, PartialEq, Eq)]
 pub enum LiveEvent {
     /// What the guest or the host does to the machine.
@@ -34,11 +34,11 @@ pub enum LiveEvent {
     /// A round ends.
     EndRound,
 
-    /// The machine stands still, and the rest is sent.
+    /// The machine is paused, and the rest is sent.
     Stop,
 }
 
-/// What a copy answers.
+/// The result of a copy.
 #[derive(Clone, Copy, Debug, PartialEq, Eq)]
 pub enum CopyAnswer {
     /// This item was sent.
@@ -48,7 +48,7 @@ pub enum CopyAnswer {
     RoundDone,
 }
 
-/// What the end of a round answers.
+/// The result of the end of a round.
 #[derive(Clone, Copy, Debug, PartialEq, Eq)]
 pub enum End {
     /// The round of this number has begun.
@@ -58,7 +58,7 @@ pub enum End {
     RoundOpen,
 }
 
-/// What a stop answers: how many items it sent.
+/// The result of a stop: how many items it sent.
 #[derive(Clone, Copy, Debug, PartialEq, Eq)]
 pub struct Stopped {
     /// How many pages.
@@ -78,10 +78,10 @@ pub struct Remaining {
     pub dirty: u64,
 }
 
-/// What is answered to a live event.
+/// The reply to a live event.
 #[derive(Debug, Drop, PartialEq, Eq)]
 pub enum LiveReply {
-    /// What the machine answered.
+    /// The reply of the machine.
     Guest(Reply),
 
     /// The round of this number has begun.
@@ -96,7 +96,7 @@ pub enum LiveReply {
     /// An item is still due.
     RoundOpen,
 
-    /// The stream is closed. The stop sent so many pages and sectors.
+    /// The stream is closed. The stop sent this many pages and sectors.
     Stopped {
         /// How many pages.
         pages: u64,

@@ -9,18 +9,18 @@ pub fn fresh_is_last()
     ensures { FreshIsLast }
 {}
 
-/// An item is stale exactly where no sending of it is free of later touches of it.
+/// An item is stale exactly if each sending of it, if any, was followed by a touch of it.
 pub fn stale_is_not_fresh()
     ensures { StaleIsNotFresh }
 {}
 
-/// Every call of a machine that is sent, by its reply, lets the sets follow the history: while a round is open the due set is
-/// what is due, and what is due or dirty is exactly what is stale.
+/// Every call on a machine that is being migrated, by its reply, keeps the sets in step with the history: while a round
+/// is open the due set is what is due, and what is due or dirty is exactly what is stale.
 pub fn calls_follow()
     ensures { CallsFollow }
 {}
 
-/// Once a stop answered Ok, what was written is a stream of the machine as it then was.
+/// Once a stop returned Ok, what was written is a stream of the machine as it then was.
 pub fn stopped_is_a_stream()
     ensures { StoppedIsStream }
 {}
@@ -30,22 +30,22 @@ pub fn after_is_run()
     ensures { AfterIsRun }
 {}
 
-/// Events and replies settle all of a history: what was written, what is stale, and the machine.
+/// Events and replies determine all of a history: what was written, what is stale, and the machine.
 pub fn replies_settle()
     ensures { OneHistory }
 {}
 
-/// No call looks at what the writer holds: each does the same where some of it was taken out by `Live::replace_writer`.
+/// No call depends on what the writer holds: each does the same if some of it was taken out by `Live::replace_writer`.
 pub fn calls_ignore_what_was_taken()
     ensures { CallsIgnoreTaken }
 {}
 
-/// So a machine of whose stream some was taken is what its history makes of it, as if nothing had been taken.
+/// So a machine, part of whose stream was taken out, is what its history makes of it, as if nothing had been taken.
 pub fn taken_follows_the_history()
     ensures { TakenFollow }
 {}
 
-/// Once a stop answered Ok, what was taken and what is left behind it are a stream of the machine.
+/// Once a stop returned Ok, what was taken, followed by what is left, is a stream of the machine.
 pub fn taken_is_whole()
     ensures { TakenAreWhole }
 {}

@@ -1,39 +1,43 @@
-//! A machine on its way to a stream: `save` writes it whole to any sink, and `Live` sends it in rounds while it runs.
+//! Writes a machine to a stream: `save` writes it whole to any sink, and `Live` sends it in rounds while it runs.
 //!
 //! # What the layers above may rely on
-//! - `save(machine, sink)`: an honest sink holds what it held and then the whole stream (`whole` of `wire`'s `specs/Stream`),
-//!   where the disks are honest. An error comes exactly where a count of failures rose: `StreamFailed` where the sink's did,
-//!   and `DiskFailed` with the sector where a disk's did. A bad sector is written with no call of its disk. After an Ok the
-//!   sink was flushed after its last byte. The machine stays equal. It takes no memory of its own.
-//! - `Live` is a machine that is sent while it runs. Contracts see of it the machine, the phase (fresh, a round open, stopped,
-//!   failed), two sets of items, *due* and *dirty*, what its digest may have taken, and what its writer holds. One clause,
-//!   `Serves` (`specs/Calls`), says what each call does, by its reply:
-//!   - a refusal by the phase changes nothing: not begun, already begun, already stopped, no round left, and the writer's
-//!     failure of before;
-//!   - `apply` is the step of the event, and makes dirty exactly what the step writes into, whatever the disks do; `write_ram`
-//!     and `input` are it for the events with bytes, which they take as slices;
+//! - `save(machine, sink)`: an honest sink holds what it held and then the whole stream (`whole` of `wire`'s
+//!   `specs/Stream`), if the disks are honest. An error is returned exactly if a count of failures rose: `StreamFailed`
+//!   if the sink's did, and `DiskFailed` with the sector if a disk's did. A bad sector is written with no call of its
+//!   disk. After an Ok the sink was flushed after its last byte. The machine stays equal. It takes no memory of its
+//!   own.
+//! - `Live` is a machine that is migrated while it runs. Contracts see of it the machine, the phase (fresh, a round
+//!   open, stopped, failed), two sets of items, *due* and *dirty*, what its digest may have taken, and what its writer
+//!   holds. One clause, `Serves` (`specs/Calls`), says what each call does, by its reply:
+//!   - a refusal by the phase changes nothing: not begun, already begun, already stopped, the round counter exhausted,
+//!     and an earlier failure of the writer;
+//!   - `apply` is the step of the event, and makes dirty exactly what the step writes into, whatever the disks do;
+//!     `write_ram` and `input` do the same for the events with bytes, which they take as slices;
 //!   - `begin` writes the header: every item is due, none is dirty;
-//!   - `copy` writes the record of the least due item, as it is now, and takes it out of both sets; `RoundDone` where none is
-//!     due;
-//!   - `end_round` answers `RoundOpen` while an item is due; else the end of the round is written and the dirty items are due;
+//!   - `copy` writes the record of the least due item, as it is now, and takes it out of both sets; `RoundDone` if none
+//!     is due;
+//!   - `end_round` returns `RoundOpen` while an item is due; else the end of the round is written and the dirty items
+//!     become due;
 //!   - `stop` writes each item of the two sets once, in order, then the devices and the digest, counts what it wrote, and
 //!     flushes the writer after its last byte;
-//!   - all but the events of the guest leave the machine equal, whatever they answer. `StreamFailed` comes exactly where the
-//!     writer's count rose, or the phase was failed; `DiskFailed` exactly where the disk's count rose: a copy then changes
-//!     neither set, and a stop has sent the items before the sector that it names, and no other left a set. A bad sector is
-//!     sent with no call of its disk.
-//! - `remaining` counts both sets in constant time; `machine` lends the machine to be read; `into_parts` and `abort` give it
-//!   back.
-//! - `replay(machine, events, out)` plays a list. By its *history* (`specs/History`, `specs/Ran`), which names no set: an item
-//!   is *stale* where no sending of it is free of later touches, and *due* where it was stale as the last round began and was
-//!   not sent since. Every reply may come after those before it, the bytes added are the text of the history, and once a stop
-//!   answered Ok they are a stream of the machine, and the writer is flushed. Each disk is as honest and as steady as before.
-//! - `laws`: an item that is not stale is as the last record that names it says; while a round is open the due set is what is
-//!   due, and the two sets together are what is stale; a history that ends in a stop is a stream; its machine is that of a run
-//!   of the guest's events alone; events and replies settle all of it; no call depends on what the writer holds.
-//! - Only `Live::new` and `replay` take memory. What single calls say of bytes is said of honest disks and an honest writer,
-//!   all else of any. The history of `replay` is said of honest disks; that each event is answered or none, and that a disk
-//!   that is said to have failed is not steady, of any.
+//!   - all but the events of the guest leave the machine equal, whatever they return. `StreamFailed` is returned
+//!     exactly if the writer's count rose, or the phase was failed; `DiskFailed` exactly if the disk's count rose: a
+//!     copy then changes neither set, and a stop has sent the items before the sector that it names, and no other left
+//!     a set. A bad sector is sent with no call of its disk.
+//! - `remaining` counts both sets in constant time; `machine` lends the machine to be read; `into_parts` and `abort`
+//!   return it.
+//! - `replay(machine, events, out)` plays a list. By its *history* (`specs/History`, `specs/Ran`), which names no set:
+//!   an item is *stale* if each sending of it, if any, was followed by a touch, and *due* if it was stale as the last
+//!   round began and was not sent since. Every reply may come after those before it, the bytes added are the text of
+//!   the history, and once a stop returned Ok they are a stream of the machine, and the writer is flushed. Each disk is
+//!   as honest and as steady as before.
+//! - `laws`: an item that is not stale is as the last record that names it says; while a round is open the due set is
+//!   what is due, and the two sets together are what is stale; a history that ends in a stop is a stream; its machine
+//!   is that of a run of the guest's events alone; events and replies determine all of it; no call depends on what the
+//!   writer holds.
+//! - Only `Live::new` and `replay` take memory. What single calls promise of bytes holds for honest disks and an honest
+//!   writer, all else for any. The history of `replay` holds for honest disks; that each event has a reply or none has,
+//!   and that a disk that is reported as failed is not steady, for any.
 //!
 //! It uses `machine`, `dirtylog`, and `wire`, which encodes each record.
 #![tactic(auto)]

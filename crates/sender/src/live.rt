@@ -1,4 +1,4 @@
-//! A machine that is sent while it runs.
+//! A machine that is migrated while it runs.
 
 ghost use Rattle.std.specs.Prelude.{◌≡◌, ◌<◌, ◌^◌, ◌-◌, IfOk, IfErr, []};
 ghost use Rattle.dirtylog.specs.Members.{HasNone, member_count};
@@ -31,7 +31,7 @@ pub struct Live<D: Disk, W: Sink> {
     taken: Sha256,
     stage: Phase,
     left: BitSet,
-    // No item below this number is due. The next one is looked for from here on.
+    // No item below this number is due. The search for the next one starts here.
     at: u64,
     changed: Dirty,
 }
@@ -49,7 +49,7 @@ impl<D: Disk, W: Sink> Model for Live<D, W> {
 }
 
 impl<D: Disk, W: Sink> Live<D, W> {
-    /// A machine of which nothing is sent yet. Its only error is want of memory.
+    /// A machine of which nothing is sent yet. Fails only if memory is refused.
     pub fn new(
         alloc: Global,
         machine: Machine<D>,
@@ -135,8 +135,8 @@ impl<D: Disk, W: Sink> Live<D, W> {
         (source, writer)
     }
 
-    /// Puts another writer in the place of the writer, which comes out. All else is the same. No call looks at what a writer
-    /// holds (`laws::calls_ignore_what_was_taken`), so a caller may take that out between two calls.
+    /// Replaces the writer, and returns the old one. All else stays the same. No call depends on what a writer holds
+    /// (`laws::calls_ignore_what_was_taken`), so a caller may take that out between two calls.
     pub fn replace_writer(&mut self, writer: W) -> W
         ensures out { W.state result ≡ self.old.out }
         ensures rest { self.new ≡ record self.old { out = W.state writer } }
@@ -144,7 +144,7 @@ impl<D: Disk, W: Sink> Live<D, W> {
         mem::replace(&mut self.writer, writer)
     }
 
-    /// Tells a proof that the sets have a place for each item (see the page of `guestmem`).
+    /// For proofs: the sets have an index for each item (see the page of `guestmem`).
     pub fn recall(&self)
         ensures { HasPlaces self.now }
     {
@@ -173,7 +173,7 @@ impl<D: Disk, W: Sink> Live<D, W> {
         }
     }
 
-    /// Applies the guest's event, and notes what it writes.
+    /// Applies the guest's event, and marks as dirty what it writes.
     pub fn apply(&mut self, event: &Event) -> Result<Reply, MigError>
         ensures { Serves self.old (LiveEvent.Guest event.now) (guest_reply result) self.new }
     {
@@ -184,7 +184,8 @@ impl<D: Disk, W: Sink> Live<D, W> {
         Ok(self.source.apply_logged(event, &mut self.changed))
     }
 
-    /// The guest writes bytes into RAM from an address on. It is `apply` of that event, whose bytes need not be copied.
+    /// The guest writes bytes into RAM from address `addr` on. As `apply` of that event, whose bytes need not be
+    /// copied.
     pub fn write_ram(&mut self, addr: u64, bytes: &[u8]) -> Result<Reply, MigError>
         ensures { Serves self.old (LiveEvent.Guest (events.MemWrite addr bytes.now)) (guest_reply result) self.new }
     {
@@ -196,7 +197,7 @@ impl<D: Disk, W: Sink> Live<D, W> {
         Ok(Reply::from_done(answer))
     }
 
-    /// The host puts bytes in. It is `apply` of that event, whose bytes need not be copied.
+    /// The host puts bytes in. As `apply` of that event, whose bytes need not be copied.
     pub fn input(&mut self, dev: u8, bytes: &[u8]) -> Result<Reply, MigError>
         ensures { Serves self.old (LiveEvent.Guest (events.Input dev bytes.now)) (guest_reply result) self.new }
     {
@@ -235,7 +236,7 @@ impl<D: Disk, W: Sink> Live<D, W> {
         Ok(1)
     }
 
-    /// Sends the item of a number.
+    /// Sends the item with this number.
     fn send(&mut self, number: u64) -> Result<Item, MigError>
         requires { number < size_of (layout_of (now self.old)) }
         ensures { SendsItem self.old number result self.new }
@@ -373,7 +374,7 @@ impl<D: Disk, W: Sink> Live<D, W> {
         }
     }
 
-    /// Any live event.
+    /// Serves any live event.
     pub fn serve(&mut self, event: &LiveEvent) -> LiveReply
         ensures { Serves self.old event.now result self.new }
     {
@@ -404,7 +405,7 @@ impl<D: Disk, W: Sink> Live<D, W> {
     }
 }
 
-/// The phase after a sending that failed so.
+/// The phase after sending an item failed with `error`.
 fn phase_after(phase: Phase, error: MigError) -> Phase
     ensures { result ≡ phase_after phase error }
 {
@@ -414,7 +415,7 @@ fn phase_after(phase: Phase, error: MigError) -> Phase
     }
 }
 
-/// One more item, a page or not.
+/// Counts one more item sent.
 fn counted(sent: Stopped, is_page: bool) -> Stopped
     requires pages { sent.pages < 2 ^ 64 - 1 }
     requires sectors { sent.sectors < 2 ^ 64 - 1 }

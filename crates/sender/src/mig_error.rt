@@ -36,13 +36,13 @@ pub enum MigError {
     #[error("the machine was stopped")]
     AlreadyStopped,
 
-    /// No round after this one has a number.
+    /// The round counter is exhausted: no round after this one has a number.
     #[error("no round is left")]
     RoundsEnded,
 }
 
 impl MigError {
-    /// The number that stands for it.
+    /// The number of this error.
     pub fn code(self) -> u8
         ensures { result ≡ mig_code_of self }
     {

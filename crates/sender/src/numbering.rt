@@ -1,4 +1,4 @@
-//! The items of a machine in one numbering: its pages, then the sectors of each disk, in device order.
+//! Numbers the items of a machine: its pages, then the sectors of each disk, in device order.
 
 ghost use Rattle.std.specs.Prelude.{◌≡◌, ◌<◌, ◌≤◌, ◌^◌, IfOk, length};
 ghost use Rattle.machine.specs.EffectLaws.{HasItem};
@@ -33,7 +33,7 @@ fn sector_count<D: Disk>(machine: &Machine<D>, dev: u8) -> u64
     machine.shapes()[dev as usize].sectors()
 }
 
-/// The number of the first sector of each disk, and how many items there are. Its only error is want of memory.
+/// The item number of the first sector of each device's disk, and the count of items. Fails only if memory is refused.
 pub(crate) fn number_items<D: Disk>(
     alloc: Global,
     machine: &Machine<D>,
@@ -51,7 +51,7 @@ pub(crate) fn number_items<D: Disk>(
     Ok((firsts, first))
 }
 
-/// The item of a number.
+/// The item with this number.
 pub(crate) fn item_at<D: Disk>(machine: &Machine<D>, number: u64) -> Item
     requires { number < size_of (layout_of (state_of machine.now)) }
     ensures item { item_of result ≡ item_at (layout_of (state_of machine.now)) number }

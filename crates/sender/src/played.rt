@@ -1,10 +1,10 @@
-//! What is left of a list of live events.
+//! The result of playing a list of live events.
 
 use crate::event::LiveReply;
 use machine::{Disk, Machine};
 use wire::Sink;
 
-/// What is left of a list of live events: the machine, the writer and a reply for each event.
+/// The result of playing a list of live events: the machine, the writer and a reply for each event.
 #[derive(Drop)]
 pub struct Replay<D: Disk, W: Sink> {
     /// The machine as it then is.
@@ -13,6 +13,6 @@ pub struct Replay<D: Disk, W: Sink> {
     /// The writer, with all that was written.
     pub out: W,
 
-    /// What each event was answered. There is none where memory was refused.
+    /// The reply to each event. There is none if memory was refused.
     pub replies: Vec<LiveReply>,
 }

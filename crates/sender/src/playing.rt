@@ -1,4 +1,4 @@
-//! A list of live events, played.
+//! Plays a list of live events.
 
 ghost use Rattle.std.specs.Prelude.{◌≡◌, ℕ};
 ghost use Rattle.machine.specs.Seen.{AreHonest, all_marks, marks_at, state_of};
@@ -11,10 +11,11 @@ use machine::{Disk, Machine};
 use std::alloc::Global;
 use wire::Sink;
 
-/// Plays the events in order on a machine that is sent to a writer, and gives machine, writer and a reply for each event
-/// back. It makes room for the replies first: where memory is refused, nothing is played and there is no reply.
+/// Plays the events in order on a machine that is being migrated to a writer, and returns the machine, the writer and a
+/// reply for each event. It makes room for the replies first: if memory is refused, nothing is played and there is no
+/// reply.
 ///
-/// The disks stay as honest and as steady as they were, so the machine that it gives back may be sent again.
+/// The disks stay as honest and as steady as they were, so the machine that it returns may be migrated again.
 pub fn replay<D: Disk + Drop, W: Sink + Drop>(
     alloc: Global,
     machine: Machine<D>,

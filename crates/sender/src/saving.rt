@@ -1,4 +1,4 @@
-//! A whole machine, saved to a sink.
+//! Saves a whole machine to a sink.
 
 ghost use Rattle.std.specs.Prelude.{◌≡◌, ◌<◌, ◌++◌, ℕ, List, IfErr, OnOk, length, true};
 ghost use Rattle.guestmem.specs.Item.{page, sector};
@@ -22,9 +22,10 @@ use wire::{
     write_page, write_sector,
 };
 
-/// Writes the whole stream of a machine, and flushes the writer: each page once and each sector once, in order, the devices,
-/// and the digest. A bad sector is written without a call of its disk. It answers `StreamFailed` exactly where the writer
-/// failed, and `DiskFailed` exactly where the disk failed that it names. The machine stays as it was. It takes no memory.
+/// Writes the whole stream of a machine, and flushes the writer: each page once and each sector once, in order, the
+/// devices, and the digest. A bad sector is written without a call of its disk. It returns `StreamFailed` exactly if
+/// the writer failed, and `DiskFailed` exactly if the disk that it names failed. The machine stays as it was. It takes
+/// no memory.
 #[tactic(auto, unfolding(wire::specs::Stream::whole))]
 pub fn save<D: Disk, S: Sink>(machine: &mut Machine<D>, out: &mut S) -> Result<(), MigError>
     ensures sent { Sends machine.old (S.state out.old) (whole (state_of machine.old)) result machine.new (S.state out.new) }
@@ -36,7 +37,7 @@ pub fn save<D: Disk, S: Sink>(machine: &mut Machine<D>, out: &mut S) -> Result<(
     Ok(())
 }
 
-/// The digest, and the flush after it.
+/// Writes the digest, and flushes the writer.
 pub(crate) fn write_end<S: Sink>(digest: &[u8; 32], out: &mut S) -> Result<(), SinkFault>
     ensures out { Appends (S.state out.old) (spelled_record (commit digest.now)) result (S.state out.new) }
     ensures flushed { OnOk result ((S.state out.new).is_flushed ≡ true) }
@@ -45,7 +46,7 @@ pub(crate) fn write_end<S: Sink>(digest: &[u8; 32], out: &mut S) -> Result<(), S
     out.flush()
 }
 
-/// All that stands before the digest.
+/// Writes all that precedes the digest.
 fn write_saved<D: Disk, S: Sink, T: Tally>(
     machine: &mut Machine<D>,
     out: &mut S,
@@ -60,7 +61,7 @@ fn write_saved<D: Disk, S: Sink, T: Tally>(
     Ok(())
 }
 
-/// The header, and the record of each page, in order.
+/// Writes the header, and the record of each page, in order.
 fn write_front<D: Disk, S: Sink, T: Tally>(
     machine: &Machine<D>,
     out: &mut S,
@@ -75,7 +76,7 @@ fn write_front<D: Disk, S: Sink, T: Tally>(
     write_pages(machine, out, tally)
 }
 
-/// The record of each page, in order.
+/// Writes the record of each page, in order.
 #[tactic(auto, using(crate::proofs::Parts::no_records, crate::proofs::Parts::page_more))]
 fn write_pages<D: Disk, S: Sink, T: Tally>(
     machine: &Machine<D>,
@@ -93,7 +94,7 @@ fn write_pages<D: Disk, S: Sink, T: Tally>(
     Ok(())
 }
 
-/// The record of each sector of each disk, in order.
+/// Writes the record of each sector of each disk, in order.
 fn write_disks<D: Disk, S: Sink, T: Tally>(
     machine: &mut Machine<D>,
     out: &mut S,
@@ -108,7 +109,7 @@ fn write_disks<D: Disk, S: Sink, T: Tally>(
     Ok(())
 }
 
-/// The record of each sector of a device's disk, in order.
+/// Writes the record of each sector of a device's disk, in order.
 fn write_disk<D: Disk, S: Sink, T: Tally>(
     machine: &mut Machine<D>,
     dev: u8,
@@ -125,7 +126,7 @@ fn write_disk<D: Disk, S: Sink, T: Tally>(
     Ok(())
 }
 
-/// The record of an item, as it is now.
+/// Writes the record of an item, as it is now.
 pub(crate) fn send_item<D: Disk, S: Sink, T: Tally>(
     machine: &mut Machine<D>,
     item: Item,
@@ -146,7 +147,7 @@ pub(crate) fn send_item<D: Disk, S: Sink, T: Tally>(
     }
 }
 
-/// The record of a page, as it is now.
+/// Writes the record of a page, as it is now.
 fn send_page<D: Disk, S: Sink, T: Tally>(
     machine: &Machine<D>,
     number: u32,
@@ -162,7 +163,7 @@ fn send_page<D: Disk, S: Sink, T: Tally>(
     write_page(number, ram.page(number as u64), out, tally)
 }
 
-/// The record of a sector, as it is now. A bad one is written without a call of the disk.
+/// Writes the record of a sector, as it is now. A bad one is written without a call of the disk.
 #[tactic(auto, using(crate::proofs::SectorReads::sent_good, crate::proofs::SectorReads::took_good, crate::proofs::SectorReads::not_sent))]
 fn send_sector<D: Disk, S: Sink, T: Tally>(
     machine: &mut Machine<D>,
@@ -190,7 +191,7 @@ fn send_sector<D: Disk, S: Sink, T: Tally>(
     Ok(())
 }
 
-/// The record of each device, in order.
+/// Writes the record of each device, in order.
 #[tactic(auto, using(wire::proofs::Saving::no_devices, wire::proofs::Saving::device_more))]
 pub(crate) fn write_devices<D: Disk, S: Sink, T: Tally>(
     machine: &Machine<D>,

@@ -29,7 +29,7 @@ impl Building {
         }
     }
 
-    /// Adds what a line says, and answers whether it may stand there.
+    /// Adds what a line says, and returns whether it is allowed there.
     fn add(&mut self, line: Line) -> Result<bool, AllocError>
         ensures { IfOk result (λ good. with_line (said_of self.old) line ≡ (if good then Some (said_of self.new) else None)) }
     {
@@ -62,7 +62,7 @@ impl Building {
         }
     }
 
-    /// Reads one line more, and answers whether it may stand there.
+    /// Reads one more line, and returns whether it is allowed there.
     pub fn add_line(&mut self, alloc: Global, line: &[u8]) -> Result<bool, AllocError>
         ensures { IfOk result (λ good. after_line (said_of self.old) line.now ≡ (if good then Some (said_of self.new) else None)) }
     {
@@ -72,7 +72,7 @@ impl Building {
         }
     }
 
-    /// The trace, or `None` where a line of RAM or of a device is missing.
+    /// The trace, or `None` if a line of RAM or of a device is missing.
     pub fn finish(self, begin_line: u64) -> Option<Trace>
         ensures whole { IfSome result (λ trace. IsWhole (said_in trace) × (said_in trace ≡ said_of self)) }
         ensures begins { IfSome result (λ trace. trace.begin_line ≡ begin_line) }

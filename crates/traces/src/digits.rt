@@ -5,7 +5,7 @@ ghost use Rattle.std.specs.Prelude.{◌≡◌, ◌≤◌, drop, decimal, length}
 /// How many digits the greatest u64 has.
 pub const MOST_DIGITS: usize = 20;
 
-/// Writes the digits of a number into the end of the room, and answers where they begin.
+/// Writes the digits of a number at the end of `room`, and returns the index where they begin.
 pub fn write_decimal(room: &mut [u8], number: u64) -> usize
     requires { length room.old ≡ MOST_DIGITS }
     ensures within { result ≤ MOST_DIGITS }

@@ -1,4 +1,4 @@
-//! Events alone, for a machine that is there.
+//! Events alone, for a machine that already exists.
 
 ghost use Rattle.std.specs.Prelude.{◌≡◌, IfOk, IfErr, Some, None, if◌then◌else◌};
 ghost use Rattle.traces.specs.Trace.{HoldsEvents, RefusesEvents};
@@ -11,7 +11,7 @@ use machine::Event;
 use sender::LiveEvent;
 use std::alloc::{AllocError, Global};
 
-/// Reads one line more, and answers whether it may stand there.
+/// Reads one more line, and returns whether it is allowed there.
 fn add_line(events: &mut Vec<Event>, alloc: Global, line: &[u8]) -> Result<bool, AllocError>
     ensures { IfOk result (λ good. after_event events.old.items line.now ≡ (if good then Some events.new.items else None)) }
 {
@@ -25,13 +25,13 @@ fn add_line(events: &mut Vec<Event>, alloc: Global, line: &[u8]) -> Result<bool,
     }
 }
 
-/// Reads the guest's events of a trace that is played on a machine that is there.
+/// Reads the guest's events of a trace that is played on a machine that already exists.
 ///
 /// The text is as that of `parse`, with no line but the guest's events: there is no `ram`, no device and no line of
-/// migration. It may say nothing.
+/// migration. It may have no event.
 ///
-/// `Line` names the first line that may not stand there; skipped lines count. `NoMemory` comes only where memory was
-/// refused.
+/// `Line` has the number of the first line that is not allowed there; skipped lines count. `NoMemory` is returned only
+/// if memory was refused.
 pub fn parse_events(alloc: Global, text: &[u8]) -> Result<Vec<Event>, TraceError>
     ensures read { IfOk result (λ events. HoldsEvents text.now events.items) }
     ensures bad { IfErr result (RefusesEvents text.now) }

@@ -9,7 +9,7 @@ use hex::{FromHex, FromHexError};
 use machine::Bytes;
 use std::alloc::{AllocError, Global};
 
-/// The number that a word spells, if it fits 8 bits.
+/// The number that a word encodes, if it fits 8 bits.
 pub fn number8(word: &[u8]) -> Option<u8>
     ensures { result ≡ u8_field word.now }
 {
@@ -21,7 +21,7 @@ pub fn number8(word: &[u8]) -> Option<u8>
     }
 }
 
-/// The number that a word spells, if it fits 16 bits.
+/// The number that a word encodes, if it fits 16 bits.
 pub fn number16(word: &[u8]) -> Option<u16>
     ensures { result ≡ u16_field word.now }
 {
@@ -33,7 +33,7 @@ pub fn number16(word: &[u8]) -> Option<u16>
     }
 }
 
-/// The number that a word spells, if it fits 32 bits.
+/// The number that a word encodes, if it fits 32 bits.
 pub fn number32(word: &[u8]) -> Option<u32>
     ensures { result ≡ u32_field word.now }
 {
@@ -45,7 +45,7 @@ pub fn number32(word: &[u8]) -> Option<u32>
     }
 }
 
-/// The number that a word spells, if it fits 64 bits.
+/// The number that a word encodes, if it fits 64 bits.
 pub fn number64(word: &[u8]) -> Option<u64>
     ensures { result ≡ u64_field word.now }
 {
@@ -57,7 +57,7 @@ pub fn number64(word: &[u8]) -> Option<u64>
     }
 }
 
-/// The bytes that a word spells: two digits for each, or `-` for none.
+/// The bytes that a word encodes: two hexadecimal digits for each, or `-` for none.
 #[tactic(auto, unfolding(crate::specs::Numbers::bytes_of))]
 pub fn bytes(alloc: Global, word: &[u8]) -> Result<Option<Bytes>, AllocError>
     ensures { IfOk result (λ bytes. bytes ≡ bytes_of word.now) }
@@ -75,14 +75,14 @@ pub fn bytes(alloc: Global, word: &[u8]) -> Result<Option<Bytes>, AllocError>
     }
 }
 
-/// The bytes that a word of twice as many digits spells.
+/// The `N` bytes that a word of twice as many hexadecimal digits encodes.
 pub fn sized_bytes<const N: usize>(word: &[u8]) -> Option<[u8; N]>
     ensures { result ≡ sized_bytes_of N word.now }
 {
     <[u8; N]>::from_hex(word).ok()
 }
 
-/// Whether a driver may only read a device: `ro`, and not `rw`.
+/// Whether a driver may only read a device: `ro` says so, `rw` does not.
 pub fn read_only(word: &[u8]) -> Option<bool>
     ensures { result ≡ read_only_field word.now }
 {

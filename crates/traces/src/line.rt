@@ -1,4 +1,4 @@
-//! One line of a trace: each function reads the lines of one number of words.
+//! Reads one line of a trace: `one` reads the lines with one word, and so on to `five`.
 
 ghost use Rattle.std.specs.Prelude.{◌≡◌, IfOk};
 ghost use Rattle.std.specs.List.{slice_split};
@@ -21,10 +21,10 @@ pub enum Line {
     /// The pages of RAM.
     Ram(u32),
 
-    /// One device more.
+    /// One more device.
     Device(Shape),
 
-    /// One event more.
+    /// One more event.
     Act(LiveEvent),
 }
 
@@ -193,7 +193,7 @@ fn five(verb: &[u8], a: &[u8], b: &[u8], c: &[u8], d: &[u8]) -> Option<Line>
     }))
 }
 
-/// What a line says that is not skipped. A line has at most five words.
+/// What a line that is not skipped says. A line has at most five words.
 #[tactic(auto, using(crate::proofs::FirstWord::too_many))]
 fn of_words(alloc: Global, line: &[u8]) -> Result<Option<Line>, AllocError>
     ensures { IfOk result (λ said. said ≡ words_say (slice_split is_space line.now)) }
@@ -216,7 +216,7 @@ fn of_words(alloc: Global, line: &[u8]) -> Result<Option<Line>, AllocError>
     }
 }
 
-/// What a line says, or `None` where it is no line of a trace.
+/// What a line says, or `None` if it is not a line of a trace.
 #[tactic(auto, unfolding(crate::specs::Line::line_says))]
 pub fn line_in(alloc: Global, line: &[u8]) -> Result<Option<Line>, AllocError>
     ensures { IfOk result (λ said. said ≡ line_says line.now) }

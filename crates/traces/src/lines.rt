@@ -9,7 +9,7 @@ fn line_end(text: &[u8]) -> Option<usize>
     text.iter().position(|c| *c == b'\n')
 }
 
-/// The first line of a text that is not empty, and what stands after its end.
+/// The first line of a text that is not empty, and what follows its end.
 #[tactic(auto, using(crate::proofs::Cut::cut_at, crate::proofs::Cut::uncut))]
 pub fn cut_line(text: &[u8]) -> (&[u8], &[u8])
     requires { 0 < length text.now }

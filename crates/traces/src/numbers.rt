@@ -1,4 +1,4 @@
-//! Numbers, as words spell them.
+//! Numbers, as words encode them.
 
 ghost use Rattle.std.specs.Prelude.{◌≡◌, ◌≤◌, ◌<◌, ◌^◌, length, IfSome};
 ghost use Rattle.hex.specs.Hex.{hex_digit_value};
@@ -32,7 +32,7 @@ fn hexadecimal_digit(c: u8) -> Option<u8>
     }
 }
 
-/// The number that decimal digits spell. Twenty of them may go past a u64, so it is a u128.
+/// The number that decimal digits encode. Twenty of them may exceed a u64, so it is a u128.
 #[tactic(auto, using(crate::proofs::Numerals::goes_on, crate::proofs::Numerals::fails, crate::proofs::Numerals::ends, crate::proofs::Numerals::grows))]
 fn decimal(word: &[u8]) -> Option<u128>
     requires { length word.now ≤ DECIMAL_DIGITS }
@@ -45,7 +45,7 @@ fn decimal(word: &[u8]) -> Option<u128>
     Some(value)
 }
 
-/// The number that hexadecimal digits of either case spell.
+/// The number that hexadecimal digits of either case encode.
 #[tactic(auto, using(crate::proofs::Numerals::goes_on, crate::proofs::Numerals::fails, crate::proofs::Numerals::ends, crate::proofs::Numerals::grows))]
 fn hexadecimal(word: &[u8]) -> Option<u128>
     requires { length word.now ≤ HEXADECIMAL_DIGITS }
@@ -58,7 +58,7 @@ fn hexadecimal(word: &[u8]) -> Option<u128>
     Some(value)
 }
 
-/// The number that a word spells: 1 to 20 decimal digits, or `0x` and 1 to 16 hexadecimal digits.
+/// The number that a word encodes: 1 to 20 decimal digits, or `0x` and 1 to 16 hexadecimal digits.
 #[tactic(auto, unfolding(crate::specs::Numbers::number_of))]
 pub fn number(word: &[u8]) -> Option<u128>
     ensures { result ≡ number_of word.now }

@@ -1,4 +1,4 @@
-//! The parts of a line to a writer, of which a fault leaves a beginning written.
+//! Writes the parts of a line to a writer. A fault leaves a prefix of them written.
 
 ghost use Rattle.std.specs.Prelude.{◌≡◌, ◌≤◌, ◌++◌, OnOk, OnErr, take, decimal, length};
 ghost use Rattle.std.specs.Io.KnownBytes.{Appends};
@@ -17,7 +17,7 @@ pub struct WriteFault;
 /// How many bytes are turned into digits at a time.
 const BYTES_AT_ONCE: usize = 32;
 
-/// Writes the bytes, or a beginning of them. `write_all` of std does not tell what an Err leaves.
+/// Writes the bytes, or after a fault a prefix of them. `write_all` of std does not say what was written on an Err.
 pub fn put<W: Write>(out: &mut W, bytes: &[u8]) -> Result<(), WriteFault>
     ensures ok { OnOk result (Appends (W.contents out.old) (W.contents out.new) bytes.now) }
     ensures err { OnErr result (AppendsBeginning (W.contents out.old) (W.contents out.new) bytes.now) }
@@ -40,7 +40,7 @@ pub fn put<W: Write>(out: &mut W, bytes: &[u8]) -> Result<(), WriteFault>
     Err(WriteFault)
 }
 
-/// Writes one after the other, or a beginning of the two.
+/// Writes one after the other, or after a fault a prefix of the two.
 #[tactic(auto, using(crate::proofs::Known::appends_on, crate::proofs::Known::begins_first, crate::proofs::Known::begins_on))]
 pub fn put_both<W: Write>(out: &mut W, first: &[u8], second: &[u8]) -> Result<(), WriteFault>
     ensures ok { OnOk result (Appends (W.contents out.old) (W.contents out.new) (first.now ++ second.now)) }
@@ -50,7 +50,7 @@ pub fn put_both<W: Write>(out: &mut W, first: &[u8], second: &[u8]) -> Result<()
     put(out, second)
 }
 
-/// Writes a word, a text and LF, or a beginning of the three.
+/// Writes a word, a text and LF, or after a fault a prefix of the three.
 #[tactic(auto, using(crate::proofs::Known::appends_on, crate::proofs::Known::begins_first, crate::proofs::Known::begins_on))]
 pub fn put_line<W: Write>(out: &mut W, word: &[u8], text: &[u8]) -> Result<(), WriteFault>
     ensures ok { OnOk result (Appends (W.contents out.old) (W.contents out.new) (word.now ++ text.now ++ newline)) }
@@ -60,7 +60,7 @@ pub fn put_line<W: Write>(out: &mut W, word: &[u8], text: &[u8]) -> Result<(), W
     put(out, b"\n")
 }
 
-/// Writes a word, a decimal number without leading zeros, and LF, or a beginning of the three.
+/// Writes a word, a decimal number without leading zeros, and LF, or after a fault a prefix of the three.
 pub fn put_number<W: Write>(out: &mut W, word: &[u8], number: u64) -> Result<(), WriteFault>
     ensures ok { OnOk result (Appends (W.contents out.old) (W.contents out.new) (word.now ++ decimal number ++ newline)) }
     ensures err { OnErr result (AppendsBeginning (W.contents out.old) (W.contents out.new) (word.now ++ decimal number ++ newline)) }
@@ -70,7 +70,7 @@ pub fn put_number<W: Write>(out: &mut W, word: &[u8], number: u64) -> Result<(),
     put_both(out, word, &digits[start..])
 }
 
-/// Writes a word and a decimal number, or a beginning of the two.
+/// Writes a word and a decimal number, or after a fault a prefix of the two.
 pub fn put_plain<W: Write>(out: &mut W, word: &[u8], number: u64) -> Result<(), WriteFault>
     ensures ok { OnOk result (Appends (W.contents out.old) (W.contents out.new) (word.now ++ decimal number)) }
     ensures err { OnErr result (AppendsBeginning (W.contents out.old) (W.contents out.new) (word.now ++ decimal number)) }
@@ -80,7 +80,7 @@ pub fn put_plain<W: Write>(out: &mut W, word: &[u8], number: u64) -> Result<(), 
     put_both(out, word, &digits[start..])
 }
 
-/// Writes two digits for each of a few bytes.
+/// Writes two digits for each byte, of at most `BYTES_AT_ONCE`.
 fn put_few_digits<W: Write>(out: &mut W, bytes: &[u8]) -> Result<(), WriteFault>
     requires { length bytes.now ≤ BYTES_AT_ONCE }
     ensures ok { OnOk result (Appends (W.contents out.old) (W.contents out.new) (encode_lower bytes.now)) }

@@ -1,4 +1,4 @@
-//! The whole of a trace.
+//! Reads a whole trace.
 
 ghost use Rattle.std.specs.Prelude.{◌≡◌, ◌==◌, ◌&&◌, IfOk, IfErr, if◌then◌else◌};
 ghost use Rattle.traces.specs.Trace.{IsTrace, contents_of, is_begin, Refuses};
@@ -8,7 +8,7 @@ use crate::lines::cut_line;
 use crate::trace::{Trace, TraceError};
 use std::alloc::Global;
 
-/// The number of the line of the first `begin`, so far and with one line more.
+/// The number of the line of the first `begin`, or 0, after one more line.
 fn first_begin(so_far: u64, number: u64, line: &[u8]) -> u64
     ensures { result ≡ (if so_far == 0 && is_begin line.now then number else so_far) }
 {
@@ -22,12 +22,13 @@ fn first_begin(so_far: u64, number: u64, line: &[u8]) -> u64
 /// Reads a trace.
 ///
 /// Lines end with LF, which the last may lack. Empty lines and lines that begin with `#` are skipped. The others are
-/// one `ram PAGES`, then 1 to 16 of `net MAC`, `block SECTORS rw ID`, `block SECTORS ro ID`, `console` and `entropy`, and
-/// then events: `r DEV OFF WIDTH`, `w DEV OFF WIDTH VALUE`, `mr ADDR LEN`, `mw ADDR BYTES`, `s DEV PICK`, `in DEV BYTES`
-/// and `size DEV COLS ROWS` of the guest, and `begin`, `copy`, `round` and `stop` of migration. One space parts two words.
+/// one `ram PAGES`, then 1 to 16 of `net MAC`, `block SECTORS rw ID`, `block SECTORS ro ID`, `console` and `entropy`,
+/// and then events: `r DEV OFF WIDTH`, `w DEV OFF WIDTH VALUE`, `mr ADDR LEN`, `mw ADDR BYTES`, `s DEV PICK`,
+/// `in DEV BYTES` and `size DEV COLS ROWS` of the guest, and `begin`, `copy`, `round` and `stop` of migration. One
+/// space separates two words.
 ///
-/// `Line` names the first line that may not stand where it stands, or the one that is missing behind the last;
-/// skipped lines count. `NoMemory` comes only where memory was refused.
+/// `Line` has the number of the first line that is not allowed where it is, or of the one that is missing after the
+/// last; skipped lines count. `NoMemory` is returned only if memory was refused.
 pub fn parse(alloc: Global, text: &[u8]) -> Result<Trace, TraceError>
     ensures read { IfOk result (λ trace. IsTrace text.now (contents_of trace)) }
     ensures bad { IfErr result (Refuses text.now) }

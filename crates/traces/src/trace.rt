@@ -1,4 +1,4 @@
-//! What a trace holds, and why a text is none.
+//! What a trace holds, and why a text is not a trace.
 
 ghost use Rattle.std.specs.Prelude.{◌≡◌};
 ghost use Rattle.traces.specs.declared.trace.TraceError.TheVariants.{NoMemory};
@@ -8,10 +8,10 @@ use sender::LiveEvent;
 use std::alloc::{AllocError, AllocFailed};
 use thiserror::Error;
 
-/// A machine's shape, and what happens to it while it may be sent.
+/// A machine's shape, and what happens to it while it may be migrated.
 #[derive(Drop)]
 pub struct Trace {
-    /// The pages of its RAM, of 4,096 bytes each. Any number may stand in a trace; `Machine::new` tells which it takes.
+    /// The pages of its RAM, of 4,096 bytes each. A trace may have any number; `Machine::new` says which it accepts.
     pub pages: u32,
 
     /// Its devices, 1 to 16 of them, in their order.
@@ -24,11 +24,11 @@ pub struct Trace {
     pub begin_line: u64,
 }
 
-/// Why a text is no trace.
+/// Why a text is not a trace.
 #[derive(Clone, Copy, Debug, Drop, PartialEq, Eq, Error)]
 pub enum TraceError {
-    /// The first line that may not stand where it stands, counted from 1. Where a text ends too early it is the
-    /// line that is missing: one after the last.
+    /// The first line that is not allowed where it is, counted from 1. If a text ends too early it is the line that is
+    /// missing: one after the last.
     #[error("line {0} is not a line of a trace")]
     Line(u64),
 

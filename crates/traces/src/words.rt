@@ -4,7 +4,7 @@ ghost use Rattle.std.specs.Prelude.{◌≡◌, ◌∷◌, [], MatchOption, posit
 ghost use Rattle.std.specs.List.{slice_split};
 ghost use Rattle.traces.specs.Line.{is_space};
 
-/// The place of the first space. It is compiled once: three copies of its loop in a caller were slower.
+/// The index of the first space. It is compiled once: three copies of its loop in a caller were slower.
 #[inline(never)]
 fn word_end(line: &[u8]) -> Option<usize>
     ensures { result ≡ position is_space line.now }
@@ -12,7 +12,7 @@ fn word_end(line: &[u8]) -> Option<usize>
     line.iter().position(|c| *c == b' ')
 }
 
-/// The first word of a line and the words behind its space, or `None` where the line is one word.
+/// The first word of a line and the words after its space, or `None` if the line is one word.
 #[tactic(auto, using(crate::proofs::FirstWord::split_at, crate::proofs::FirstWord::not_split))]
 pub fn split_word(line: &[u8]) -> Option<(&[u8], &[u8])>
     ensures { MatchOption result (slice_split is_space line.now ≡ line.now ∷ []) (λ parts. slice_split is_space line.now ≡ parts.0.now ∷ slice_split is_space parts.1.now) }

@@ -22,8 +22,8 @@ fn put_value<W: Write>(out: &mut W, value: u32) -> Result<(), WriteFault>
     }
 }
 
-/// Writes the line of a stream that was checked, and LF: `ok P D R`, with the pages and the devices of its machine and how
-/// many rounds ended in it, in decimal. After a fault a beginning of that line is written. It takes no memory.
+/// Writes the line of a stream that was checked, and LF: `ok P D R`, with the pages and the devices of its machine and
+/// how many rounds ended in it, in decimal. After a fault a prefix of that line is written. It takes no memory.
 #[tactic(auto, using(crate::proofs::Known::appends_on))]
 pub fn write_checked<W: Write>(
     out: &mut W,
@@ -52,7 +52,7 @@ fn put_bytes<W: Write>(out: &mut W, word: &[u8], bytes: &[u8]) -> Result<(), Wri
     put(out, b"\n")
 }
 
-/// Writes a word, two numbers with a space between them, and LF, or a beginning of these.
+/// Writes a word, two numbers with a space between them, and LF, or after a fault a prefix of these.
 #[tactic(auto, using(crate::proofs::Known::appends_on, crate::proofs::Known::begins_first, crate::proofs::Known::begins_on))]
 fn put_pair<W: Write>(out: &mut W, word: &[u8], first: u64, second: u64) -> Result<(), WriteFault>
     ensures ok { OnOk result (Appends (W.contents out.old) (W.contents out.new) (pair_line word.now first second)) }
@@ -75,7 +75,7 @@ fn put_copied<W: Write>(out: &mut W, item: Item) -> Result<(), WriteFault>
     }
 }
 
-/// Writes the line of a reply to the guest's events and its LF. After a fault a beginning of that line is written. It
+/// Writes the line of a reply to the guest's events and its LF. After a fault a prefix of that line is written. It
 /// takes no memory.
 pub fn write_guest_reply<W: Write>(reply: &Reply, out: &mut W) -> Result<(), WriteFault>
     ensures ok { OnOk result (Appends (W.contents out.old) (W.contents out.new) (reply_line reply.now)) }
@@ -101,7 +101,7 @@ pub fn write_guest_reply<W: Write>(reply: &Reply, out: &mut W) -> Result<(), Wri
     }
 }
 
-/// Writes the line of a reply and its LF. After a fault a beginning of that line is written. It takes no memory.
+/// Writes the line of a reply and its LF. After a fault a prefix of that line is written. It takes no memory.
 pub fn write_reply<W: Write>(reply: &LiveReply, out: &mut W) -> Result<(), WriteFault>
     ensures ok { OnOk result (Appends (W.contents out.old) (W.contents out.new) (live_reply_line reply.now)) }
     ensures err { OnErr result (AppendsBeginning (W.contents out.old) (W.contents out.new) (live_reply_line reply.now)) }

@@ -1,4 +1,4 @@
-//! The body of a device, read.
+//! Decodes the body of a device.
 
 ghost use Rattle.std.specs.Prelude.{◌≡◌, ◌≤◌, ◌*◌, ◌↔◌, [], All, IsSomeAnd, IsTrue, IfOk, IfErr, length, slice_get, take};
 ghost use Rattle.wire.specs.BodyReading.{HasFront, HaveFlags, RefusesBody, positions_in, queues_in};
@@ -20,8 +20,8 @@ use machine::{DeviceState, Own, SECTORS_MAX, Shape, offered};
 use mmio::{Common, QUEUE_COUNT_MAX, Queue, RING_PACKED, is_sound_common, is_sound_queue};
 use std::alloc::Global;
 
-/// The device of this shape whose body the bytes are, in a machine with so many bytes of RAM. `BadBody` where they are
-/// the body of no sound device of this shape.
+/// Decodes the body of a device of this shape, in a machine with `ram_len` bytes of RAM. `BadBody` if the bytes are the
+/// body of no sound device of this shape.
 pub fn decode_device(
     alloc: Global,
     shape: Shape,
@@ -59,7 +59,7 @@ fn queue_count(shape: Shape) -> usize
     }
 }
 
-/// Whether the bytes begin with registers and so many queues.
+/// Whether the bytes begin with registers and `queues` queues.
 fn has_front(queues: usize, body: &[u8]) -> bool
     requires some { 1 ≤ queues }
     requires few { queues ≤ QUEUE_COUNT_MAX }
@@ -72,7 +72,7 @@ fn has_front(queues: usize, body: &[u8]) -> bool
     have_flags(queues, rest)
 }
 
-/// Whether each flag of so many queues is 0 or 1.
+/// Whether each flag of the first `queues` queues is 0 or 1.
 fn have_flags(queues: usize, rest: &[u8]) -> bool
     requires some { 1 ≤ queues }
     requires few { queues ≤ QUEUE_COUNT_MAX }
@@ -86,7 +86,7 @@ fn have_flags(queues: usize, rest: &[u8]) -> bool
     has_flags(rest) && has_flags(after)
 }
 
-/// So many queues and their positions. What stands behind these in the arrays tells nothing.
+/// Decodes the first `count` queues and positions; the other array entries are unused.
 #[tactic(auto, unfolding(crate::specs::BodyReading::queues_in, crate::specs::BodyReading::positions_in))]
 fn queues_at(count: usize, rest: &[u8]) -> ([Queue; QUEUE_COUNT_MAX], [Positions; QUEUE_COUNT_MAX])
     requires some { 1 ≤ count }
@@ -104,7 +104,7 @@ fn queues_at(count: usize, rest: &[u8]) -> ([Queue; QUEUE_COUNT_MAX], [Positions
     ([queue, queue_at(after)], [positions, positions_at(after)])
 }
 
-/// Whether a device of this shape may have these registers, positions and what only its kind has.
+/// Whether a device of this shape may have these registers, queues, positions and kind-specific state.
 fn is_sound_device(
     ram_len: u64,
     shape: Shape,
@@ -125,7 +125,7 @@ fn is_sound_device(
         && is_sound_own(ram_len, shape, common, queues, own)
 }
 
-/// Whether a device may be made as this.
+/// Whether this is a valid shape (device configuration).
 fn is_sound_shape(shape: Shape) -> bool
     ensures { IsTrue result ↔ IsSoundShape shape }
 {
@@ -139,7 +139,7 @@ fn is_sound_shape(shape: Shape) -> bool
     }
 }
 
-/// Whether a block device may have so many sectors, and this id.
+/// Whether a block device may have `sectors` sectors and this id.
 fn is_block_shape(sectors: u64, id: &[u8; 20]) -> bool
     ensures { IsTrue result ↔ IsBlockShape sectors id.now }
 {
@@ -147,7 +147,7 @@ fn is_block_shape(sectors: u64, id: &[u8; 20]) -> bool
     1 <= sectors && sectors <= SECTORS_MAX
 }
 
-/// Whether each queue of a device may be as this.
+/// Whether each queue is sound, with these registers and this length of RAM.
 fn are_sound_queues(ram_len: u64, common: &Common, queues: &[Queue]) -> bool
     ensures { IsTrue result ↔ All (IsSoundQueue ram_len common.now) queues.now }
 {
@@ -156,7 +156,7 @@ fn are_sound_queues(ram_len: u64, common: &Common, queues: &[Queue]) -> bool
         .all(|queue| is_sound_queue(ram_len, common, queue))
 }
 
-/// Whether a device of this shape may have this beside such registers.
+/// Whether a device of this shape, with these registers and queues, may have this kind-specific state.
 fn is_sound_own(ram_len: u64, shape: Shape, common: &Common, queues: &[Queue], own: &Own) -> bool
     ensures { IsTrue result ↔ IsSoundOwn ram_len (saved_device ram_len shape common.now queues.now [] own.now).registers shape own.now }
 {
@@ -192,11 +192,11 @@ fn is_sound_own(ram_len: u64, shape: Shape, common: &Common, queues: &[Queue], o
     }
 }
 
-/// Tells a proof what a console keeps (see the page of `guestmem`).
+/// For proofs: the size and the held input of a console are sound (see the page of `guestmem`).
 fn recall_console(size: &ConsoleSize, held: &HostBytes)
     ensures { IsSoundConsole size.now held.now }
 {
-    // Each field is read, since with that it is known to fit its place.
+    // Each field is read, so that it is known to fit its type.
     let ConsoleSize {
         columns: _columns,
         rows: _rows,
@@ -262,7 +262,7 @@ fn have_positions(is_packed: bool, queues: &[Queue], positions: &[Positions]) ->
 fn has_positions(is_packed: bool, queue: &Queue, positions: &Positions) -> bool
     ensures { IsTrue result ↔ HasPositions is_packed queue.now positions.now }
 {
-    // Each field is read, since with that it is known to fit its place.
+    // Each field is read, so that it is known to fit its type.
     let Positions {
         taking: Position {
             place: taking_place,

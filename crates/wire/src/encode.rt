@@ -11,7 +11,7 @@ use crate::tally::NoTally;
 use crate::writing::{write_device, write_header, write_page, write_round};
 use machine::{DeviceState, Shape};
 
-/// Writes the header of a stream: of a machine of so many pages, with devices of these shapes.
+/// Writes the header of a stream: of a machine of `pages` pages, with devices of these shapes.
 pub fn encode_header<S: Sink>(pages: u32, shapes: &[Shape], out: &mut S) -> Result<(), SinkFault>
     ensures out { Appends (S.state out.old) (header pages shapes.now) result (S.state out.new) }
 {

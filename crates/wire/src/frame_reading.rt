@@ -1,4 +1,4 @@
-//! Frames in the body of a network device, read.
+//! Decodes the frames in the body of a network device.
 
 ghost use Rattle.std.specs.Prelude.{◌≡◌, ◌≤◌, IfOk, IfSome, MatchOption, None, Some, length};
 ghost use Rattle.net.specs.Inbox.{IsFrame};
@@ -11,7 +11,7 @@ use guestmem::{NoMemory, recall_bytes};
 use net::{Inbox, is_frame_len};
 use std::alloc::Global;
 
-/// So many frames, and the bytes after them.
+/// Decodes the first `count` frames; returns them and the bytes after them.
 #[tactic(auto, using(crate::proofs::Lists::several_go_on, crate::proofs::Lists::several_fail, crate::proofs::Lists::several_end))]
 pub fn frames_at(
     alloc: Global,
@@ -33,7 +33,7 @@ pub fn frames_at(
     Ok(Some((inbox, rest)))
 }
 
-/// The frame at the front of the bytes, behind its length, and the bytes after it.
+/// Decodes a length and the frame that follows it; returns the frame and the bytes after it.
 #[tactic(auto, unfolding(crate::specs::FrameReading::frame_of))]
 fn frame_at(bytes: &[u8]) -> Option<(&[u8], &[u8])>
     ensures read { MatchOption result (frame_of bytes.now ≡ None) (λ x. frame_of bytes.now ≡ Some (x.0.now, x.1.now)) }

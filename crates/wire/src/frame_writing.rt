@@ -1,4 +1,4 @@
-//! Frames on their way to a sink.
+//! Writes frames to a sink.
 
 ghost use Rattle.std.specs.Prelude.{◌≡◌, ◌≤◌, OnOk, length};
 ghost use Rattle.std.specs.List.{flat_map};
@@ -12,7 +12,7 @@ use crate::tally::Tally;
 use crate::writing::put;
 use net::Inbox;
 
-/// The frames, with their number before them.
+/// Writes the count of the frames, then each frame.
 pub fn write_frames<S: Sink, T: Tally>(
     inbox: &Inbox,
     out: &mut S,
@@ -36,7 +36,7 @@ fn write_each<S: Sink, T: Tally>(inbox: &Inbox, out: &mut S, tally: &mut T) -> R
     Ok(())
 }
 
-/// A frame, with its length before it.
+/// Writes the length of a frame, then the frame.
 #[tactic(auto, unfolding(crate::specs::FrameText::frame_text))]
 fn write_frame<S: Sink, T: Tally>(frame: &[u8], out: &mut S, tally: &mut T) -> Result<(), SinkFault>
     requires { length frame.now ≤ FRAME_MAX }
@@ -47,7 +47,7 @@ fn write_frame<S: Sink, T: Tally>(frame: &[u8], out: &mut S, tally: &mut T) -> R
     put(frame, out, tally)
 }
 
-/// How many bytes tell the frames.
+/// The encoded length of the frames, with their count.
 pub fn frames_len(inbox: &Inbox) -> u32
     ensures { result ≡ length (frames_text inbox.now) }
 {

@@ -17,23 +17,23 @@ pub const MAGIC: u32 = 0x4749_4d56;
 /// The version of the stream that is written and read.
 pub const VERSION: u32 = 1;
 
-/// The bytes before the shapes.
+/// How many bytes of the header come before the shapes.
 pub const FRONT_LEN: usize = 16;
 
 /// What the header of a stream says.
 #[derive(Debug, Drop)]
 pub struct Header {
-    /// The pages of RAM.
+    /// The number of pages of RAM.
     pub pages: u32,
 
     /// The devices in order.
     pub shapes: Vec<Shape>,
 
-    /// The bytes of the header itself.
+    /// The length of the header itself, in bytes.
     pub len: usize,
 }
 
-/// The header at the beginning of the bytes. `None` where the bytes begin with no header.
+/// Decodes the header at the beginning of the bytes. `None` if they begin with no header.
 pub fn decode_header(alloc: Global, bytes: &[u8]) -> Result<Option<Header>, AllocError>
     ensures { IfOk result (λ found. MatchOption found
         ((pages : ℕ) (shapes : List Shape) (rest : List ℕ) → ¬ (Begins bytes.now pages shapes rest))

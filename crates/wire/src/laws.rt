@@ -2,17 +2,17 @@
 
 ghost use Rattle.wire.specs.StreamLaws.{OneRecord, OneMachine, OneCount, WholeIsStream};
 
-/// No spelling of a record of a stream is the beginning of another's.
+/// No encoding of a record of a stream is a prefix of another's.
 pub fn no_record_begins_another()
     ensures { OneRecord }
 {}
 
-/// One stream has one machine.
+/// A stream encodes one machine at most.
 pub fn a_stream_has_one_machine()
     ensures { OneMachine }
 {}
 
-/// One stream has one number of rounds that ended.
+/// A stream has one count of rounds that ended.
 pub fn a_stream_has_one_count_of_rounds()
     ensures { OneCount }
 {}

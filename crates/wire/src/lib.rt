@@ -1,18 +1,20 @@
 //! Whole machines as bytes: how each part of a stream is encoded and read, and which bytes are a stream of which machine.
 //!
-//! A stream is a header, the pages, the sectors and the ends of rounds in any order, each device once, and the digest of all
-//! that comes before it. `specs/Stream` says which bytes are a stream of which machine; it uses `specs/Header`, `specs/Records`
-//! and `specs/DeviceBody` (how each part is encoded; requests and frames in `specs/RequestText` and `specs/FrameText`), and the
-//! machine's own `Sound` (which machines there are). How parts are read is apart (`specs/HeaderReading`, `specs/ShapeReading`,
-//! `specs/BodyReading`, `specs/RequestReading`, `specs/FrameReading`), and is proved to be the encoding the other way round.
+//! A stream is a header, the pages, the sectors and the ends of rounds in any order, each device once, and the digest
+//! of all that comes before it. `specs/Stream` says which bytes are a stream of which machine; it uses `specs/Header`,
+//! `specs/Records` and `specs/DeviceBody` (how each part is encoded; requests and frames in `specs/RequestText` and
+//! `specs/FrameText`), and the machine's own `Sound` (which machines there are). How parts are decoded is defined
+//! separately (`specs/HeaderReading`, `specs/ShapeReading`, `specs/BodyReading`, `specs/RequestReading`,
+//! `specs/FrameReading`), and is proved to be the inverse of the encoding.
 //!
 //! # What the layers above may rely on
-//! - Each `encode_` function adds the encoding of its part to an honest sink; each `write_` function does the same, and a
-//!   `Tally`, such as a digest, takes the bytes meanwhile; each `decode_` function succeeds exactly on an encoding at the
+//! - Each `encode_` function adds the encoding of its part to an honest sink; each `write_` function does the same, and
+//!   a `Tally`, such as a digest, takes the same bytes; each `decode_` function succeeds exactly on an encoding at the
 //!   front, and `decode_device` on a body that is all of the bytes, out of memory aside.
-//! - The trait `Sink`: the bytes held, a count of failures modulo 2^64, whether it is honest, and whether it is flushed, which
-//!   it is where the last call was a flush that succeeded (`specs/Sinks`). A page and a good sector go to it in one call each.
-//! - `laws`: no encoding of a record is the beginning of another's; a stream has one machine, and one number of rounds; the
+//! - The trait `Sink`: the bytes held, a count of failures modulo 2^64, whether it is honest, and whether it is
+//!   flushed: it is if the last call was a flush that succeeded (`specs/Sinks`). A page and a good sector go to it in
+//!   one call each.
+//! - `laws`: no encoding of a record is a prefix of another's; a stream has one machine, and one number of rounds; the
 //!   whole stream of a sound machine is a stream of it.
 //!
 //! It uses `machine`, whose devices and shapes these are. The digest is `sha2`'s, whose contract says that it is the one of

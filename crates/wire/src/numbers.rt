@@ -6,10 +6,10 @@ ghost use Rattle.wire.specs.Numbers.{digits};
 
 use byteorder::{ByteOrder, LittleEndian};
 
-/// The bytes of a count of frames or of bytes in the body of a device.
+/// The encoded length of a count of frames or of bytes in the body of a device.
 pub const COUNT_LEN: usize = 2;
 
-/// A count, as its bytes.
+/// Encodes a count in two bytes.
 pub fn count_bytes(count: u16) -> [u8; 2]
     ensures { result ≡ digits 2 count }
 {
@@ -18,6 +18,7 @@ pub fn count_bytes(count: u16) -> [u8; 2]
     bytes
 }
 
+/// The byte at offset `at`.
 #[tactic(auto, unfolding(guestmem::specs::Number::number_at))]
 pub fn u8_at(bytes: &[u8], at: usize) -> u8
     requires { at + 1 ≤ length bytes.now }
@@ -26,6 +27,7 @@ pub fn u8_at(bytes: &[u8], at: usize) -> u8
     bytes[at]
 }
 
+/// The little-endian number of two bytes at offset `at`.
 #[tactic(auto, unfolding(guestmem::specs::Number::number_at))]
 pub fn u16_at(bytes: &[u8], at: usize) -> u16
     requires { at + 2 ≤ length bytes.now }
@@ -34,6 +36,7 @@ pub fn u16_at(bytes: &[u8], at: usize) -> u16
     LittleEndian::read_u16(&bytes[at..])
 }
 
+/// The little-endian number of four bytes at offset `at`.
 #[tactic(auto, unfolding(guestmem::specs::Number::number_at))]
 pub fn u32_at(bytes: &[u8], at: usize) -> u32
     requires { at + 4 ≤ length bytes.now }
@@ -42,6 +45,7 @@ pub fn u32_at(bytes: &[u8], at: usize) -> u32
     LittleEndian::read_u32(&bytes[at..])
 }
 
+/// The little-endian number of eight bytes at offset `at`.
 #[tactic(auto, unfolding(guestmem::specs::Number::number_at))]
 pub fn u64_at(bytes: &[u8], at: usize) -> u64
     requires { at + 8 ≤ length bytes.now }
@@ -50,7 +54,7 @@ pub fn u64_at(bytes: &[u8], at: usize) -> u64
     LittleEndian::read_u64(&bytes[at..])
 }
 
-/// Whether the byte at a place is 1.
+/// Whether the byte at offset `at` is 1.
 pub fn flag_at(bytes: &[u8], at: usize) -> bool
     requires { at + 1 ≤ length bytes.now }
     ensures { result ≡ nat_eq (number_at bytes.now at 1) 1 }

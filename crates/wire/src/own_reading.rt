@@ -1,4 +1,4 @@
-//! What only a kind of device has, read.
+//! Decodes the kind-specific part of the body of a device.
 
 ghost use Rattle.std.specs.Prelude.{◌≡◌, IfOk, MatchOption, None, Some};
 ghost use Rattle.wire.specs.BodyReading.{block_own_of, console_own_of, entropy_own_of, held_of, net_own_of, own_of};
@@ -14,8 +14,8 @@ use machine::{Own, Shape};
 use net::INBOX_MAX;
 use std::alloc::Global;
 
-/// What only the kind of device has that the shape says. `None` where the bytes do not tell it. Its only error is want of
-/// memory.
+/// Decodes the kind-specific part of a body. `None` if the bytes do not encode one for this shape. Fails only if memory
+/// is refused.
 pub fn own_at(alloc: Global, shape: Shape, bytes: &[u8]) -> Result<Option<Own>, NoMemory>
     ensures { IfOk result (λ found. MatchOption found (own_of shape bytes.now ≡ None) (λ own. own_of shape bytes.now ≡ Some own)) }
 {
@@ -88,7 +88,7 @@ fn entropy_own_at(alloc: Global, bytes: &[u8]) -> Result<Option<Own>, NoMemory>
     Ok(Some(Own::Entropy(pool)))
 }
 
-/// The bytes that the host has put in, which are all that stands behind their number.
+/// Decodes a count and the bytes that the host has put in, which are all that follows it.
 #[tactic(auto, unfolding(crate::specs::BodyReading::held_of))]
 fn held_at(alloc: Global, bytes: &[u8]) -> Result<Option<HostBytes>, NoMemory>
     ensures { IfOk result (λ found. MatchOption found (held_of bytes.now ≡ None) (λ held. held_of bytes.now ≡ Some held)) }

@@ -1,4 +1,4 @@
-//! The records of a stream, read.
+//! Decodes the records of a stream.
 
 ghost use Rattle.std.specs.Prelude.{◌≡◌, ◌≤◌, ◌<◌, ◌∷◌, ◌+◌, IfSome, MatchOption, length};
 ghost use Rattle.wire.specs.RecordView.{told};
@@ -7,13 +7,13 @@ ghost use Rattle.wire.specs.Records.{BeginsRecord, BeginsNoRecord};
 use crate::numbers::{u8_at, u32_at};
 use guestmem::PAGE_SIZE;
 
-/// The bytes of a sector.
+/// The length of a sector, in bytes.
 const SECTOR_LEN: usize = 512;
 
-/// The bytes of the digest with which a stream ends.
+/// The length of the digest with which a stream ends, in bytes.
 const DIGEST_LEN: usize = 32;
 
-/// One record of a stream, as it stands in the bytes.
+/// One record of a stream, as it is in the bytes.
 #[derive(Clone, Copy, Debug, PartialEq, Eq)]
 pub enum Record<'a> {
     /// A page of RAM: its number and its 4,096 bytes.
@@ -22,7 +22,7 @@ pub enum Record<'a> {
         bytes: &'a [u8],
     },
 
-    /// A sector of a device's disk: its 512 bytes, or none where it is bad.
+    /// A sector of a device's disk: its 512 bytes, or none if it is bad.
     Sector {
         device: u8,
         number: u32,
@@ -42,7 +42,8 @@ pub enum Record<'a> {
     Commit(&'a [u8]),
 }
 
-/// The record at the front of the bytes, and its length. `None` where no whole record stands there. It takes no memory.
+/// Decodes the record at the front of the bytes; returns it and its length. `None` if no whole record is there. It
+/// takes no memory.
 #[tactic(auto, using(crate::proofs::Decoding::no_tag))]
 pub fn decode_record(bytes: &[u8]) -> Option<(Record<'_>, usize)>
     ensures record { MatchOption result (BeginsNoRecord bytes.now) (λ x. BeginsRecord bytes.now (told x.0) x.1) }

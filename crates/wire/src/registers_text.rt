@@ -1,4 +1,5 @@
-//! The parts of a body that all devices have: the registers that a device has once, and its queues with their positions.
+//! The parts of a body that all devices have: the registers that are not per queue, and the queues with their
+//! positions.
 
 ghost use Rattle.std.specs.Prelude.{◌≡◌, ◌≤◌, ◌↔◌, IsTrue, length};
 ghost use Rattle.wire.specs.DeviceBody.{common_text, queue_text};
@@ -9,12 +10,13 @@ use byteorder::{ByteOrder, LittleEndian};
 use chains::{Position, Positions};
 use mmio::{Common, Queue};
 
-/// The bytes of the registers that a device has once.
+/// The encoded length of the registers that are not per queue.
 pub const COMMON_LEN: usize = 26;
 
-/// The bytes of a queue and its positions.
+/// The encoded length of a queue and its positions.
 pub const QUEUE_LEN: usize = 36;
 
+/// Encodes the registers that are not per queue.
 #[tactic(auto, unfolding(crate::specs::DeviceBody::common_text))]
 pub fn common_bytes(common: &Common) -> [u8; 26]
     ensures { result ≡ common_text common.now }
@@ -30,6 +32,7 @@ pub fn common_bytes(common: &Common) -> [u8; 26]
     bytes
 }
 
+/// Decodes the registers that are not per queue from the first 26 bytes.
 #[tactic(auto, unfolding(crate::specs::BodyReading::common_of))]
 pub fn common_at(bytes: &[u8]) -> Common
     requires { 26 ≤ length bytes.now }
@@ -46,6 +49,7 @@ pub fn common_at(bytes: &[u8]) -> Common
     }
 }
 
+/// Encodes a queue and its positions.
 #[tactic(auto, unfolding(crate::specs::DeviceBody::queue_text))]
 pub fn queue_bytes(queue: &Queue, positions: &Positions) -> [u8; 36]
     ensures { result ≡ queue_text queue.now positions.now }
@@ -64,6 +68,7 @@ pub fn queue_bytes(queue: &Queue, positions: &Positions) -> [u8; 36]
     bytes
 }
 
+/// Decodes the queue in the first 36 bytes. Its positions follow it there: `positions_at` reads them.
 #[tactic(auto, unfolding(crate::specs::BodyReading::queue_of))]
 pub fn queue_at(bytes: &[u8]) -> Queue
     requires { 36 ≤ length bytes.now }
@@ -79,6 +84,7 @@ pub fn queue_at(bytes: &[u8]) -> Queue
     }
 }
 
+/// Decodes the positions of the queue in the first 36 bytes.
 #[tactic(auto, unfolding(crate::specs::BodyReading::positions_of))]
 pub fn positions_at(bytes: &[u8]) -> Positions
     requires { 36 ≤ length bytes.now }

@@ -13,12 +13,13 @@ use chains::{Seg, Segs};
 use guestmem::NoMemory;
 use std::alloc::Global;
 
-/// The bytes of a request before its segments.
+/// The encoded length of a request before its segments.
 pub const HEAD_LEN: usize = 26;
 
-/// The bytes of a segment.
+/// The encoded length of a segment.
 pub const SEG_LEN: usize = 12;
 
+/// Encodes a segment: the address, then the length.
 #[tactic(auto, unfolding(crate::specs::RequestText::seg_text))]
 pub fn seg_bytes(seg: &Seg) -> [u8; 12]
     ensures { result ≡ seg_text seg.now }
@@ -29,7 +30,7 @@ pub fn seg_bytes(seg: &Seg) -> [u8; 12]
     bytes
 }
 
-/// The head of a request with so many readable and writable segments.
+/// Encodes the head of a request, with these counts of readable and writable segments.
 #[tactic(auto, unfolding(crate::specs::RequestText::head_text))]
 pub fn head_bytes(request: &Request, readable: u16, writable: u16) -> [u8; 26]
     ensures { result ≡ head_text request.now readable writable }
@@ -92,7 +93,7 @@ fn seg_at(bytes: &[u8]) -> Seg
     }
 }
 
-/// So many segments.
+/// Decodes the first `count` segments.
 fn segs_at(alloc: Global, count: u16, bytes: &[u8]) -> Result<Segs, NoMemory>
     requires { 12 * count ≤ length bytes.now }
     ensures { IfOk result (λ segs. segs ≡ segs_of count bytes.now) }
@@ -107,7 +108,7 @@ fn segs_at(alloc: Global, count: u16, bytes: &[u8]) -> Result<Segs, NoMemory>
     Ok(segs)
 }
 
-/// The request with these segments whose head is the first bytes.
+/// The request whose head is in the first 26 bytes, with these segments.
 #[tactic(auto, unfolding(crate::specs::RequestReading::headed_by))]
 fn headed_by(bytes: &[u8], readable: Segs, writable: Segs) -> Request
     requires { 26 ≤ length bytes.now }
@@ -126,7 +127,8 @@ fn headed_by(bytes: &[u8], readable: Segs, writable: Segs) -> Request
     }
 }
 
-/// The request whose head is in the first bytes, with so many segments in the rest.
+/// The request whose head is in the first 26 of `bytes`, with `readable` and then `writable` segments at the front of
+/// `rest`; and the bytes after these.
 fn request_with<'a>(
     alloc: Global,
     bytes: &[u8],
@@ -147,7 +149,7 @@ fn request_with<'a>(
     Ok(Some((headed_by(bytes, readable, writable), rest)))
 }
 
-/// The request at the front of the bytes, and the bytes after it.
+/// Decodes the request at the front of the bytes; returns it and the bytes after it.
 #[tactic(auto, unfolding(crate::specs::RequestReading::request_of))]
 fn request_at(alloc: Global, bytes: &[u8]) -> Result<Option<(Request, &[u8])>, NoMemory>
     ensures { IfOk result (λ found. MatchOption found (request_of bytes.now ≡ None) (λ x. request_of bytes.now ≡ Some (x.0, x.1.now))) }
@@ -159,7 +161,7 @@ fn request_at(alloc: Global, bytes: &[u8]) -> Result<Option<(Request, &[u8])>, N
     request_with(alloc, bytes, u16_at(bytes, 22), u16_at(bytes, 24), rest)
 }
 
-/// So many requests, and the bytes after them.
+/// Decodes the first `count` requests; returns them and the bytes after them.
 #[tactic(auto, using(crate::proofs::Lists::several_go_on, crate::proofs::Lists::several_fail, crate::proofs::Lists::several_end))]
 pub fn requests_at(
     alloc: Global,

@@ -1,4 +1,4 @@
-//! Requests on their way to a sink.
+//! Writes requests to a sink.
 
 ghost use Rattle.std.specs.Prelude.{◌≡◌, ◌^◌, ◌%◌, OnOk, length};
 ghost use Rattle.std.specs.List.{flat_map};
@@ -12,13 +12,13 @@ use crate::writing::put;
 use blk::{Request, Requests};
 use chains::Seg;
 
-/// One past the greatest count of segments that a request's field can tell.
+/// One past the greatest count of segments that a field of a request can hold.
 const SEGS_END: usize = 1 << 16;
 
-/// One past the greatest number of bytes that the field of a device's record can tell.
+/// One past the greatest length that the field of a device's record can hold.
 const LEN_END: usize = 1 << 32;
 
-/// The requests, with their number before them.
+/// Writes the count of the requests, then each request.
 pub fn write_requests<S: Sink, T: Tally>(
     requests: &Requests,
     out: &mut S,
@@ -59,7 +59,7 @@ fn write_request<S: Sink, T: Tally>(
     write_segs(request.writable.as_slice(), out, tally)
 }
 
-/// The head of a request, with the numbers of its segments.
+/// Encodes the head of a request, with the counts of its segments.
 fn request_head(request: &Request) -> [u8; 26]
     ensures { result ≡ head_text request.now (length request.now.readable) (length request.now.writable) }
 {
@@ -79,7 +79,7 @@ fn write_segs<S: Sink, T: Tally>(segs: &[Seg], out: &mut S, tally: &mut T) -> Re
     Ok(())
 }
 
-/// How many bytes tell the requests, modulo 2^32.
+/// The encoded length of the requests, with their count, modulo 2^32.
 #[tactic(auto, using(crate::proofs::Saving::length_more))]
 pub fn requests_len(requests: &Requests) -> u32
     ensures { result ≡ length (requests_text requests.now) % 2 ^ 32 }
@@ -92,7 +92,7 @@ pub fn requests_len(requests: &Requests) -> u32
     len as u32
 }
 
-/// How many bytes tell a request, modulo 2^32.
+/// The encoded length of a request, modulo 2^32.
 fn request_len(request: &Request) -> usize
     ensures { result ≡ length (request_text request.now) % 2 ^ 32 }
 {

@@ -1,4 +1,4 @@
-//! The record of a sector, on its way to a sink.
+//! Writes the record of a sector to a sink.
 
 ghost use Rattle.std.specs.Prelude.{◌≡◌, MatchOption, None, OnOk, Some};
 ghost use Rattle.wire.specs.Records.{sector, spelled_record};
@@ -10,11 +10,11 @@ use crate::writing::put;
 use byteorder::{ByteOrder, LittleEndian};
 use machine::SECTOR_SIZE;
 
-/// How many bytes the record of a good sector has: its tag, the device's and the sector's number, the mark that it is good, and
-/// the sector.
+/// The length of the record of a good sector: its tag, the numbers of the device and of the sector, the mark that it is
+/// good, and the sector.
 const SECTOR_RECORD: usize = 519;
 
-/// Writes the record of a sector: its 512 bytes, or none where it is bad.
+/// Writes the record of a sector: its 512 bytes, or none if it is bad.
 pub fn encode_sector<S: Sink>(
     device: u8,
     number: u32,
@@ -31,7 +31,7 @@ pub fn encode_sector<S: Sink>(
     }
 }
 
-/// The record of a sector that is good.
+/// Writes the record of a good sector.
 pub fn write_sector<S: Sink, T: Tally>(
     device: u8,
     number: u32,
@@ -59,7 +59,7 @@ fn sector_record(device: u8, number: u32, bytes: &[u8; SECTOR_SIZE]) -> [u8; SEC
     record
 }
 
-/// The record of a sector that is bad.
+/// Writes the record of a bad sector.
 #[tactic(auto, unfolding(crate::specs::Records::spelled_record))]
 pub fn write_bad_sector<S: Sink, T: Tally>(
     device: u8,

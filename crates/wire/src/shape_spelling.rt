@@ -6,7 +6,8 @@ ghost use Rattle.wire.specs.ShapeReading.{block_shape_of, net_shape_of, shape_le
 use crate::numbers::{u8_at, u64_at};
 use machine::{SECTORS_MAX, Shape};
 
-/// How many bytes the shape has whose first byte this is, the device's number. `None` where no device has this number.
+/// The encoded length of a shape whose first byte, the number of the kind of device, is this. `None` if no kind has
+/// this number.
 pub fn shape_len(number: u8) -> Option<usize>
     ensures { MatchOption result (shape_length number ≡ None) (λ len. shape_length number ≡ Some len) }
 {
@@ -19,7 +20,7 @@ pub fn shape_len(number: u8) -> Option<usize>
     }
 }
 
-/// The shape at the front of the bytes, and the bytes after it.
+/// Decodes the shape at the front of the bytes; returns it and the bytes after it.
 #[tactic(auto, unfolding(crate::specs::ShapeReading::shape_of))]
 pub fn shape_at(bytes: &[u8]) -> Option<(Shape, &[u8])>
     ensures { MatchOption result (shape_of bytes.now ≡ None) (λ x. shape_of bytes.now ≡ Some (x.0, x.1.now)) }

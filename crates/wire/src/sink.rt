@@ -3,14 +3,15 @@
 use std::io::Write;
 use thiserror::Error;
 
-/// A sink failed: what it holds then is open.
+/// A sink failed. What it then holds is not specified.
 #[derive(Clone, Copy, Debug, Drop, PartialEq, Eq, Error)]
 #[error("the sink failed")]
 pub struct SinkFault;
 
-/// A place for bytes. It holds bytes, it has a count of its failures modulo 2^64, it is honest or not, and it is flushed or not.
-/// An honest one stays so and holds, after a `put` that succeeds, what it held and then the bytes given. After a failure its
-/// bytes and its honesty are open. It is flushed exactly where the last call was a `flush` that succeeded.
+/// A destination for bytes. It holds bytes, it has a count of its failures modulo 2^64, it is honest or not, and it is
+/// flushed or not. An honest sink stays honest and holds, after a `put` that succeeds, what it held and then the bytes
+/// given. After a failure its bytes and its honesty are not specified. It is flushed exactly if the last call was a
+/// `flush` that succeeded.
 pub trait Sink {
     ghost use Rattle.std.specs.Prelude.{◌≡◌, false};
     ghost use Rattle.wire.specs.Sinks.{SinkState, Appends, Flushes};
@@ -18,17 +19,17 @@ pub trait Sink {
     /// The bytes that it holds, the count of its failures, whether it is honest, and whether it is flushed.
     ghost state: { Self → SinkState };
 
-    /// Takes all the bytes, behind those that it holds.
+    /// Takes all the bytes, after those that it holds.
     fn put(&mut self, bytes: &[u8]) -> Result<(), SinkFault>
         ensures appends { Appends (state self.old) bytes.now result (state self.new) }
         ensures unflushed { (state self.new).is_flushed ≡ false };
 
-    /// Brings all that it took to where it goes.
+    /// Passes all that it took on to its destination.
     fn flush(&mut self) -> Result<(), SinkFault>
         ensures { Flushes (state self.old) result (state self.new) };
 }
 
-/// A sink over a writer. It is honest where the writer tells its bytes.
+/// A sink over a writer. It is honest if the writer says which bytes it holds.
 #[derive(Drop)]
 pub struct WriteSink<W> {
     writer: W,

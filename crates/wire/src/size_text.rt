@@ -8,9 +8,10 @@ use crate::numbers::u16_at;
 use byteorder::{ByteOrder, LittleEndian};
 use console::ConsoleSize;
 
-/// The bytes of a console's size.
+/// The encoded length of a console's size.
 pub const SIZE_LEN: usize = 4;
 
+/// Encodes the size of a console: the columns, then the rows.
 #[tactic(auto, unfolding(crate::specs::DeviceBody::size_text))]
 pub fn size_bytes(size: &ConsoleSize) -> [u8; 4]
     ensures { result ≡ size_text size.now }
@@ -21,6 +22,7 @@ pub fn size_bytes(size: &ConsoleSize) -> [u8; 4]
     bytes
 }
 
+/// Decodes the size of a console from the first four bytes.
 #[tactic(auto, unfolding(crate::specs::BodyReading::size_of))]
 pub fn size_at(bytes: &[u8]) -> ConsoleSize
     requires { 4 ≤ length bytes.now }

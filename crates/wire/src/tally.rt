@@ -1,8 +1,8 @@
-//! What is kept of bytes on their way to a sink: their digest, or nothing.
+//! What is accumulated of the bytes that go to a sink: their digest, or nothing.
 
 use sha2::{Digest, Sha256};
 
-/// Keeps something of bytes that it takes one after another.
+/// Accumulates something of the bytes that it takes, in order.
 pub trait Tally {
     ghost use Rattle.std.specs.Prelude.{List, ℕ};
     ghost use Rattle.wire.specs.Sinks.{Takes};

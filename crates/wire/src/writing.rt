@@ -1,4 +1,4 @@
-//! Records on their way to a sink, and what is kept of them meanwhile.
+//! Writes records to a sink, and their bytes to a tally.
 
 ghost use Rattle.std.specs.Prelude.{◌≡◌, ◌∷◌, ◌++◌, ◌≤◌, ◌<◌, ◌^◌, ◌/◌, ◌%◌, ℕ, List, IsTrue, OnOk, length};
 ghost use Rattle.wire.specs.DeviceBody.{body, held_text, own_text, queues_text};
@@ -20,16 +20,16 @@ use console::HostBytes;
 use machine::{DeviceState, Own, Shape};
 use mmio::Queue;
 
-/// One past the greatest count of devices that the header's field can tell.
+/// One past the greatest count of devices that the header's field can hold.
 const COUNT_END: usize = 1 << 32;
 
-/// One past the greatest length that the field of a device's record can tell.
+/// One past the greatest length that the field of a device's record can hold.
 const LEN_END: u64 = 1 << 32;
 
-/// How many bytes the record of a page has: its tag, the page's number, and the page.
+/// The length of the record of a page: its tag, the page's number, and the page.
 const PAGE_RECORD: usize = 4101;
 
-/// Puts bytes into the sink, and where that succeeds, takes them into the tally.
+/// Puts bytes into the sink, and if that succeeds, into the tally.
 pub fn put<S: Sink, T: Tally>(bytes: &[u8], out: &mut S, tally: &mut T) -> Result<(), SinkFault>
     ensures out { Appends (S.state out.old) bytes.now result (S.state out.new) }
     ensures taken { OnOk result (Takes (T.has_taken tally.old) bytes.now (T.has_taken tally.new)) }
@@ -39,7 +39,7 @@ pub fn put<S: Sink, T: Tally>(bytes: &[u8], out: &mut S, tally: &mut T) -> Resul
     Ok(())
 }
 
-/// The header of a machine of so many pages and these devices.
+/// Writes the header of a machine of `pages` pages and these devices.
 #[tactic(auto, using(crate::proofs::HeaderLemmas::front_low))]
 pub fn write_header<S: Sink, T: Tally>(
     pages: u32,
@@ -105,7 +105,7 @@ fn write_shape<S: Sink, T: Tally>(shape: Shape, out: &mut S, tally: &mut T) -> R
     }
 }
 
-/// The record of a page.
+/// Writes the record of a page.
 pub fn write_page<S: Sink, T: Tally>(
     number: u32,
     bytes: &[u8; 4096],
@@ -130,7 +130,7 @@ fn page_record(number: u32, bytes: &[u8; 4096]) -> [u8; PAGE_RECORD]
     record
 }
 
-/// The record of the end of a round.
+/// Writes the record of the end of a round.
 #[tactic(auto, unfolding(crate::specs::Records::spelled_record))]
 pub fn write_round<S: Sink, T: Tally>(
     number: u32,
@@ -145,7 +145,7 @@ pub fn write_round<S: Sink, T: Tally>(
     put(&record, out, tally)
 }
 
-/// The record of a device.
+/// Writes the record of a device.
 #[tactic(auto, unfolding(crate::specs::Records::spelled_record))]
 pub fn write_device<S: Sink, T: Tally>(
     number: u8,
@@ -160,7 +160,7 @@ pub fn write_device<S: Sink, T: Tally>(
     write_body(state, out, tally)
 }
 
-/// What stands before the body of a device: the tag of its record, its number, and how long the body is.
+/// What precedes the body of a device: the tag of its record, its number, and the length of the body.
 fn device_head(number: u8, state: &DeviceState) -> [u8; 6]
     ensures { result ≡ 4 ∷ (number ∷ digits 4 (length (body state.now))) }
 {
@@ -175,7 +175,7 @@ fn device_head_with(number: u8, len: u32) -> [u8; 6]
     head
 }
 
-/// How many bytes the body of a device has, modulo 2^32. The body of a sound device is shorter.
+/// The encoded length of the body of a device, modulo 2^32. The body of a sound device is shorter than 2^32 bytes.
 #[tactic(auto, using(crate::proofs::Saving::length_body))]
 fn body_len(state: &DeviceState) -> u32
     ensures { result ≡ length (body state.now) % 2 ^ 32 }
@@ -185,7 +185,7 @@ fn body_len(state: &DeviceState) -> u32
     ((COMMON_LEN as u64 + QUEUE_LEN as u64 * queues + own) % LEN_END) as u32
 }
 
-/// How many bytes tell what only a kind of device has, modulo 2^32.
+/// The encoded length of the kind-specific state of a device, modulo 2^32.
 #[tactic(auto, unfolding(crate::specs::DeviceBody::size_text))]
 fn own_len(own: &Own) -> u32
     ensures { result ≡ length (own_text own.now) % 2 ^ 32 }
@@ -233,7 +233,7 @@ fn write_queues<S: Sink, T: Tally>(
     }
 }
 
-/// What only a kind of device has.
+/// Writes the kind-specific state of a device.
 fn write_own<S: Sink, T: Tally>(own: &Own, out: &mut S, tally: &mut T) -> Result<(), SinkFault>
     ensures out { Appends (S.state out.old) (own_text own.now) result (S.state out.new) }
     ensures taken { OnOk result (Takes (T.has_taken tally.old) (own_text own.now) (T.has_taken tally.new)) }
@@ -249,7 +249,7 @@ fn write_own<S: Sink, T: Tally>(own: &Own, out: &mut S, tally: &mut T) -> Result
     }
 }
 
-/// The bytes that the host has put in, with their number before them.
+/// Writes the count of the bytes that the host has put in, then these bytes.
 fn write_held<S: Sink, T: Tally>(
     bytes: &HostBytes,
     out: &mut S,
