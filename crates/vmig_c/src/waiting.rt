@@ -1,4 +1,4 @@
-//! Bytes that were written of a machine, until they are taken.
+//! The bytes written for a machine that is being migrated, until they are taken.
 
 ghost use Rattle.std.specs.Prelude.{◌≡◌, ◌++◌, Some, [], drop, length, min, take};
 ghost use Rattle.wire.specs.Sinks.{over_writer};
@@ -7,8 +7,8 @@ use std::alloc::Global;
 use std::marker::Model;
 use wire::{Sink, SinkFault};
 
-/// Bytes that wait until they are taken. Those that were taken are still at the front of the vector. Where more bytes come, and
-/// those are at least as many as the others, they go. So no more bytes are ever moved than were taken.
+/// Bytes that wait until they are taken. Those already taken are still at the front of the vector. When more bytes come, the
+/// taken ones are removed if they are at least as many as those that wait. So no more bytes are ever moved than were taken.
 #[derive(Drop)]
 pub(crate) struct Waiting {
     bytes: Vec<u8>,
@@ -28,7 +28,7 @@ impl Model for Waiting {
 }
 
 impl Waiting {
-    /// No byte waits. It takes no memory.
+    /// No bytes yet. It takes no memory.
     pub(crate) fn new(alloc: Global) -> Waiting
         ensures { result ≡ over_writer (Some []) 0 }
     {
@@ -39,7 +39,7 @@ impl Waiting {
         }
     }
 
-    /// Takes the first of the bytes, as many as the buffer holds, and gives how many. The count of failures begins anew.
+    /// Takes the first of the bytes, as many as the buffer holds, and returns their count. The count of failures begins anew.
     pub(crate) fn take(&mut self, buf: &mut [u8]) -> usize
         ensures count { result ≡ min (length buf.old) (length self.old.held) }
         ensures taken { buf.new ≡ take result self.old.held ++ drop result buf.old }
@@ -53,7 +53,7 @@ impl Waiting {
         count
     }
 
-    /// The bytes that were taken go, where they are at least as many as the others.
+    /// Removes the bytes that were taken, if they are at least as many as those that wait.
     fn let_go(&mut self)
         ensures { self.new ≡ self.old }
     {
