@@ -7,10 +7,10 @@ use std::str::FromStr;
 
 /// A trace, and the lines that its replies must have.
 ///
-/// The lines of a script are those of a trace (`ram 1`, `entropy`, `mw 0x100 000001000000`, `s 0 0`). An event is followed by `
-/// -> ` and the line of its reply, where that is not `done`. Commas separate a line into pieces, and `PIECE*COUNT` repeats one
-/// COUNT times: `mw 0 ,aa*3,bb` is `mw 0 aaaaaabb`. A line `LINES BITS` asks which devices' interrupt lines are high: bit 1 is
-/// that of device 1. A line `EACH COUNT EVENTS`, with `; ` between its events, repeats these events COUNT times; `@` in an
+/// The lines of a script are those of a trace (`ram 1`, `entropy`, `mw 0x100 000001000000`, `s 0 0`). An event is followed by
+/// ` -> ` and the line of its reply, where that is not `done`. Commas separate a line into pieces, and `PIECE*COUNT` repeats
+/// one COUNT times: `mw 0 ,aa*3,bb` is `mw 0 aaaaaabb`. A line `LINES BITS` asks which devices' interrupt lines are high: bit 1
+/// is that of device 1. A line `EACH COUNT EVENTS`, with `; ` between its events, repeats these events COUNT times; `@` in an
 /// event is the number of the turn, from 1 on, as the two bytes of an index in a ring.
 ///
 /// Four lines stand for register writes, each answered by `done` (VIRTIO 1.2, 3.1.1 and 4.2.2):

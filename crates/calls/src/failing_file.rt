@@ -217,8 +217,8 @@ fn image_fails(rt: &HostRuntime) -> Result<()> {
     is_told(&files, &words, (5, b"vmig: stream 14\n"))
 }
 
-/// A read that fails after this many bytes is reported by this line, and one that was refused memory by the line `vmig:
-/// memory`.
+/// A read that fails after this many bytes is reported by this line, and one that was refused memory by the line
+/// `vmig: memory`.
 fn both_told(
     rt: &HostRuntime,
     files: &[(&str, &[u8])],

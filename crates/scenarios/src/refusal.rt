@@ -16,8 +16,9 @@ const SELDOM: usize = 16;
 /// pieces of any size, it gets the same answer. After the number there may be ` AT ` and an offset: that many bytes show the
 /// refusal, and no fewer.
 ///
-/// The disks are those of the devices that the header names. The stream may follow `NO DISK, AND`: then there is none; `A DISK,
-/// AND`: then there is one more; or a line of a script about disks, as `PLAN 0 1, AND`: then they are as this line says.
+/// The disks are those of the devices that the header names. The stream may follow `NO DISK, AND`: then there is none;
+/// `A DISK, AND`: then there is one more; or a line of a script about disks, as `PLAN 0 1, AND`: then they are as this line
+/// says.
 ///
 /// A line may stand for many streams (`Streams`). Then the numbers are encoded like a stream, and of the offsets `PLACE*COUNT`
 /// stands for COUNT equal ones.

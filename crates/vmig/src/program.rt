@@ -28,12 +28,12 @@ use std::rt::Files;
 /// - `rehearse TRACE` plays a trace over disks of zeros in memory, moves the machine where the trace stops it, plays the rest on
 ///   both machines, and writes the replies of the first, and then `equal`, `differ`, or `no stop`.
 ///
-/// It returns the exit status, and writes its meaning to `err`: 0 nothing; 1 `vmig: memory`; 2 `vmig: usage`; 3 `vmig: file
-/// NAME`, where NAME is `-` for standard output, also for an image whose length is not a multiple of 512 bytes; 4 `vmig: trace
-/// line N` or `vmig: shape K`; 5 `vmig: stream K`, or `vmig: stream out` where the stream could not be written, or nothing
-/// after `differ` and `no stop`. Faults are looked for in this order: the words, the trace, first its file and then its lines,
-/// the image, the machine's shape or its stream, and then the stream that is to be made. A first `begin` with no STREAM is a
-/// fault of its line, where no line is bad. `out` is flushed before the status is known.
+/// It returns the exit status, and writes its meaning to `err`: 0 nothing; 1 `vmig: memory`; 2 `vmig: usage`; 3
+/// `vmig: file NAME`, where NAME is `-` for standard output, also for an image whose length is not a multiple of 512 bytes; 4
+/// `vmig: trace line N` or `vmig: shape K`; 5 `vmig: stream K`, or `vmig: stream out` where the stream could not be written, or
+/// nothing after `differ` and `no stop`. Faults are looked for in this order: the words, the trace, first its file and then its
+/// lines, the image, the machine's shape or its stream, and then the stream that is to be made. A first `begin` with no STREAM
+/// is a fault of its line, where no line is bad. `out` is flushed before the status is known.
 pub fn execute<R: Files + AllocGlobal, O: Write, E: Write>(
     rt: &R,
     words: &[&str],
