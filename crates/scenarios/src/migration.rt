@@ -97,7 +97,7 @@ impl<'t> Migration<'t> {
         Ok(())
     }
 
-    /// Answers what is asked in the middle of a leg. The migration of the machine that is asked ends there.
+    /// Answers what is asked in the middle of a leg. The machine that is asked is not migrated further.
     fn answer(&self, alloc: Global, at: usize, events: usize, out: &mut Vec<u8>) -> Result<()> {
         let leg = self.legs.get(at).context("no such lines")?;
         if !leg.asks(events) {

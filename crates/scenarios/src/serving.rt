@@ -47,7 +47,7 @@ pub fn serve<W: Sink + Drop>(
     }
 }
 
-/// Plays the events in one of the ways, and aborts the migration.
+/// Plays the events in one of the ways. The writer is not given back.
 pub fn serve_and_abort<W: Sink + Drop>(
     alloc: Global,
     way: Way,
