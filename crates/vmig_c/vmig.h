@@ -3,19 +3,19 @@
  * A machine is guest RAM and 1 to 16 virtio MMIO devices (VIRTIO 1.2, 4.2): network devices, block devices, consoles and
  * entropy devices. Your hypervisor hands it what the guest and the host do, one call for each, and nothing happens between
  * calls: no thread, no clock, no file. What each call does is proved by the definitions of the library, at the exports of
- * crates/vmig_c/src/lib.rt. Link libvmig_c.a and behind it the toolchain's liblibc_c.a, which calls malloc, realloc and
- * free, and nothing else of the C library.
+ * crates/vmig_c/src/lib.rt. Link libvmig_c.a and after it the toolchain's liblibc_c.a, which calls malloc, realloc and free,
+ * and nothing else of the C library.
  *
  * WHAT YOU OWE, and nothing checks:
  * - A vmig_machine is all zeros before its first use (VMIG_NONE), and only these calls write it. It may be moved, as by
  *   memcpy, but a copy must not be used beside it.
- * - No pointer is null, also where its count is 0. Each is aligned as its type is. A pointer and a count name so many items,
- *   which the call may read, or also write where the pointer is to no const. What a call may write overlaps with nothing else
- *   that the call is given, and no pointer goes into a vmig_machine.
- * - One call at a time has a machine. Calls from several threads are ordered by a lock, or by a thread's start or join.
- *   Calls on different machines need no order.
+ * - No pointer is null, also where its count is 0. Each is aligned as its type is. A pointer and a count n name n items,
+ *   which the call may read, and may also write unless the pointer is to const. What a call may write overlaps with nothing
+ *   else that the call is given, and no pointer points into a vmig_machine.
+ * - A machine is used by one call at a time. Calls from several threads are ordered by a lock, or by a thread's start or
+ *   join. Calls on different machines need no order.
  * - No call is made from a signal handler, or in the forked child of a process with threads.
- * - malloc, realloc and free belong to one allocator, and what they give is aligned to each power of two up to 16 that
+ * - malloc, realloc and free belong to one allocator, and what they return is aligned to each power of two up to 16 that
  *   divides its size.
  * - The thread that calls has 16 KiB of stack left: no call needs more (measured).
  *
@@ -43,11 +43,11 @@
  * soon as the header is whole; and vmig_finish. No other call does.
  *
  * A MACHINE IS SENT WHILE IT RUNS: vmig_begin, then vmig_copy until VMIG_ROUND_DONE and vmig_end_round, as often as you like,
- * then vmig_stop. The guest is served as ever between these: all other calls are allowed, but for vmig_save and
- * vmig_sector_read. What is written waits inside, and vmig_take hands it out when you like. The bytes that were taken, in
- * their order, are one stream after vmig_stop. After vmig_stop the guest is paused for good: its events are VMIG_STOPPED, and
- * RAM and the lines can be read, until vmig_abort or vmig_free. After vmig_abort the machine continues as one that was never
- * sent.
+ * then vmig_stop. The guest is served as before between these: all other calls are allowed, but for vmig_save and
+ * vmig_sector_read. The bytes that are written wait inside, and vmig_take hands them out when you like. After vmig_stop the
+ * bytes taken, in their order, are one stream. After vmig_stop the guest is paused for good: its events are refused with
+ * VMIG_STOPPED, and RAM and the lines can be read, until vmig_abort or vmig_free. After vmig_abort the machine continues as
+ * one that was never sent.
  *
  * A MACHINE ARRIVES: vmig_feed on a handle of no machine, with the bytes of the stream in any pieces, as they come over the
  * wire, and vmig_finish after the last; or vmig_receive with all of them at once. Until vmig_finish the handle has no machine
@@ -56,7 +56,7 @@
  * that were not served come with the machine. The digest is computed at the last record, over all bytes: some 4 ms a MiB.
  *
  * A GUEST WHOSE RAM IS YOURS, as under hardware virtualization, runs on memory of your own. The machine has RAM beside it,
- * and you mirror the one into the other: uint8_t ram[4096 * pages], and uint64_t seen[pages], which notes of each page the
+ * and you mirror the one into the other: uint8_t ram[4096 * pages], and uint64_t seen[pages], which notes for each page the
  * version at which you had it. Begin with VMIG_UNSEEN in each entry of seen: you have seen no page. Where the machine's RAM
  * is the one to begin with, as after vmig_receive, let vmig_pull fill yours; where yours is, hand in every page with
  * vmig_push. From then on, with the guest paused from the first to the last of these: hand in EVERY page that the guest has
@@ -90,16 +90,16 @@ typedef struct vmig_machine {
 
 #define VMIG_NONE {0}
 
-/* STATUSES. Each number stands for one thing. From 1 to 63 the call was refused: the machine, the handle and all that the
- * call could have written are as they were, but for *len of vmig_save at VMIG_TOO_SMALL, for what VMIG_WRITER_FAILED says
- * below, and for a stream that vmig_feed or vmig_finish refuses, which stays refused. 0 and from 64 on it was done. */
+/* STATUSES. Each number has one meaning. From 1 to 63 the call was refused: the machine, the handle and all that the call
+ * could have written are as they were, but for *len of vmig_save at VMIG_TOO_SMALL, for what VMIG_WRITER_FAILED says below,
+ * and for a stream that vmig_feed or vmig_finish refuses, which stays refused. 0 and from 64 on it was done. */
 enum {
     VMIG_OK = 0,
 
     /* The machine refuses the event. */
     VMIG_NO_DEVICE = 1,    /* there is no device of this number */
     VMIG_OUT_OF_RAM = 2,   /* the access reaches past the end of RAM */
-    VMIG_TOO_LONG = 3,     /* the access is of more than 4,096 bytes; told before VMIG_OUT_OF_RAM */
+    VMIG_TOO_LONG = 3,     /* the access is of more than 4,096 bytes; reported before VMIG_OUT_OF_RAM */
     VMIG_WRONG_KIND = 4,   /* a device of this kind has no such event */
     VMIG_BAD_FRAME = 5,    /* a frame of fewer than 14 or more than 1,514 bytes */
 
@@ -108,49 +108,49 @@ enum {
     VMIG_NO_MACHINE = 8,   /* the handle has no machine, or one that still arrives */
     VMIG_IN_USE = 9,       /* vmig_make, vmig_make_with, vmig_make_mapped, vmig_receive: the handle has a machine already, or
                             * one arrives; vmig_feed, vmig_finish, vmig_rounds: it has a machine that does not arrive */
-    VMIG_NO_MEMORY = 10,   /* malloc or realloc gave none */
+    VMIG_NO_MEMORY = 10,   /* out of memory: malloc or realloc failed */
     VMIG_TOO_SMALL = 11,   /* vmig_step, vmig_save, vmig_push, vmig_pull, vmig_sector_read: your buffer;
                             * vmig_unmap: your slots */
     VMIG_BAD_SHAPE = 12,   /* vmig_make, vmig_make_with, vmig_make_mapped: pages, count of devices, or a device beyond the
                             * limits or of an unknown kind */
     VMIG_MOVING = 13,      /* vmig_save, vmig_sector_read: the machine is being sent */
-    VMIG_NOT_MAPPED = 14,  /* vmig_unmap: the disks lie in memory of the library */
+    VMIG_NOT_MAPPED = 14,  /* vmig_unmap: the disks are in memory of the library */
     VMIG_BAD_IMAGES = 15,  /* vmig_make_with, vmig_make_mapped: the images' length or counts are not those of the disks;
                             * vmig_unmap: a slot is not VMIG_NO_IMAGE */
 
     /* A migration refuses the call: 16 and the number of its reason. VMIG_WRITER_FAILED alone changes something: the migration
      * has failed for good, and each of its later calls but vmig_take and vmig_abort gets the same status. The machine is as it
-     * was, and goes on. */
+     * was, and continues. */
     VMIG_NOT_BEGUN = 17,       /* the machine is not being sent */
     VMIG_BEGUN_ALREADY = 18,   /* vmig_begin */
     VMIG_READ_FAILED = 19,     /* a disk failed as a sector was read to be sent; disks in memory never do */
-    VMIG_WRITER_FAILED = 20,   /* there was no memory for what waits to be taken, now or before */
+    VMIG_WRITER_FAILED = 20,   /* out of memory for the bytes that wait to be taken, now or before */
     VMIG_STOPPED = 21,         /* the machine was stopped, and its stream is closed */
     VMIG_NO_ROUND_LEFT = 22,   /* vmig_end_round: 4,294,967,294 rounds have ended */
 
     /* vmig_receive, vmig_feed or vmig_finish refuses the stream: 32 and the number of its first fault. */
     VMIG_STREAM_BAD_MAGIC = 33,      /* it does not begin with "VMIG" */
     VMIG_STREAM_BAD_VERSION = 34,    /* a stream of another version */
-    VMIG_STREAM_BAD_SHAPE = 35,      /* the machine that it tells of is beyond the limits */
-    VMIG_STREAM_BAD_TAG = 37,        /* a record that may not stand where it stands */
+    VMIG_STREAM_BAD_SHAPE = 35,      /* the machine that it encodes is beyond the limits */
+    VMIG_STREAM_BAD_TAG = 37,        /* a tag that may not come there */
     VMIG_STREAM_BAD_PAGE = 38,       /* there is no such page */
     VMIG_STREAM_BAD_SECTOR = 39,     /* there is no such sector */
     VMIG_STREAM_BAD_ROUND = 40,      /* the end of a round that is not the next */
     VMIG_STREAM_BAD_DEVICE = 41,     /* a device that is not the next, or cannot be */
     VMIG_STREAM_BAD_DIGEST = 42,     /* the digest is another */
     VMIG_STREAM_MISSING = 43,        /* a page, a sector or a device is missing */
-    VMIG_STREAM_TRAILING = 44,       /* bytes behind its end */
+    VMIG_STREAM_TRAILING = 44,       /* bytes after its end */
     VMIG_STREAM_TRUNCATED = 45,      /* vmig_receive, vmig_finish: it is cut off */
-    VMIG_STREAM_NO_MEMORY = 47,      /* vmig_feed, vmig_finish: malloc or realloc gave none for what arrives */
+    VMIG_STREAM_NO_MEMORY = 47,      /* vmig_feed, vmig_finish: out of memory for what arrives */
     VMIG_STREAM_FAILED = 48,         /* vmig_feed, vmig_finish: it was refused before */
 
     /* vmig_reg_write: done, and a console gave out a byte. */
     VMIG_OUT_BYTE = 64,
 
-    /* vmig_step: what the device did. VMIG_BAD_SECTOR is also told by vmig_sector_read. */
+    /* vmig_step: what the device did. vmig_sector_read returns VMIG_BAD_SECTOR too. */
     VMIG_IDLE = 65,        /* it found nothing to do; vmig_next_work: no step has something to do */
     VMIG_TAKEN = 66,       /* a block device took a request */
-    VMIG_MOVED = 67,       /* a request went on by a sector, a flush or the id */
+    VMIG_MOVED = 67,       /* one unit of a request is done: a sector, a flush or the id */
     VMIG_BAD_SECTOR = 68,  /* the sector is bad; the request will end with an error */
     VMIG_DISK_FAILED = 69, /* the disk failed; disks in memory never do */
     VMIG_COMPLETED = 70,   /* a chain was given back; *len is its used length */
@@ -179,16 +179,16 @@ enum {
 /* The most bytes that a step can put into your buffer: a console's message. */
 #define VMIG_SENT_MAX 65536
 
-/* What stands in seen for a page that you have not seen. */
+/* The entry of seen for a page that you have not seen. */
 #define VMIG_UNSEEN UINT64_MAX
 
-/* A device. What its kind does not need is not read. */
+/* A device. Fields that its kind does not need are not read. */
 typedef struct vmig_shape {
     uint8_t kind;
-    uint8_t read_only;  /* of a block device: whether the driver may only read it; 0 is no, and all else yes */
+    uint8_t read_only;  /* of a block device: whether the driver may only read it; 0 is no, any other value is yes */
     uint8_t mac[6];     /* of a network device */
     uint64_t sectors;   /* of a block device: 1 to 2,097,152 sectors of 512 bytes */
-    uint8_t id[20];     /* of a block device: what it answers to a driver that asks for its id */
+    uint8_t id[20];     /* of a block device: the id that it returns to a driver */
 } vmig_shape;
 
 /* The sectors of a disk in your memory: 512 * sectors bytes at at, fewer than 2^63, which may be read and written. An image of
@@ -205,23 +205,25 @@ typedef struct vmig_image {
  * VMIG_IN_USE, then VMIG_BAD_SHAPE, then VMIG_NO_MEMORY, and no others. */
 uint32_t vmig_make(uint32_t pages, const vmig_shape *shapes, size_t count, vmig_machine *machine);
 
-/* The same, but the disks hold the images: the sectors of the first block device, from sector 0 on, then those of the second,
- * and so on, in the order of the devices. len is 512 times the sectors of all block devices, and 0 where there is none.
+/* As vmig_make, but the disks hold the images: the sectors of the first block device, from sector 0 on, then those of the
+ * second, and so on, in the order of the devices. len is 512 times the sectors of all block devices, and 0 where there is
+ * none.
  * VMIG_IN_USE, then VMIG_BAD_SHAPE, then VMIG_BAD_IMAGES, then VMIG_NO_MEMORY, and no others. */
 uint32_t vmig_make_with(uint32_t pages, const vmig_shape *shapes, size_t count, const uint8_t *images, size_t len,
                         vmig_machine *machine);
 
-/* The same, but the disks are the images, which lie in your memory: one for each block device, in the order of the devices, of
- * as many sectors; count_images is 0 where there is none. VMIG_OK takes the images: each of the slots is VMIG_NO_IMAGE then,
- * and vmig_unmap gives them back. At every other status nothing changed, and the images are in their slots as they were.
+/* As vmig_make, but the disks are the images, which are in your memory: one for each block device, in the order of the
+ * devices, of as many sectors; count_images is 0 where there is none. VMIG_OK takes the images: each of the slots is
+ * VMIG_NO_IMAGE then, and vmig_unmap gives them back. At every other status nothing changed, and the images are in their
+ * slots as they were.
  * VMIG_IN_USE, then VMIG_BAD_SHAPE, then VMIG_BAD_IMAGES, then VMIG_NO_MEMORY, and no others. */
 uint32_t vmig_make_mapped(uint32_t pages, const vmig_shape *shapes, size_t count, vmig_image *images, size_t count_images,
                           vmig_machine *machine);
 
-/* Frees a machine of vmig_make_mapped, as vmig_free does, and gives its images back: the first of the count slots get those of
- * its disks, in the order of the devices, with what the guest left there. A sector that VMIG_BAD_SECTOR tells of may hold
- * anything. The other slots stay VMIG_NO_IMAGE. Each slot is VMIG_NO_IMAGE before the call, else VMIG_BAD_IMAGES, and they are
- * at least as many as block devices, else VMIG_TOO_SMALL. The machine may be one that is being sent. Where it is refused,
+/* Frees a machine of vmig_make_mapped, as vmig_free does, and gives its images back: the first of the count slots get those
+ * of its disks, in the order of the devices, with what the guest left there. A sector that VMIG_BAD_SECTOR reports may hold
+ * anything. The other slots stay VMIG_NO_IMAGE. Each slot is VMIG_NO_IMAGE before the call, else VMIG_BAD_IMAGES, and they
+ * are at least as many as block devices, else VMIG_TOO_SMALL. The machine may be one that is being sent. Where it is refused,
  * nothing changed.
  * VMIG_NO_MACHINE, then VMIG_NOT_MAPPED, then VMIG_BAD_IMAGES, then VMIG_TOO_SMALL, and no others. */
 uint32_t vmig_unmap(vmig_machine *machine, vmig_image *images, size_t count);
@@ -231,13 +233,14 @@ uint32_t vmig_unmap(vmig_machine *machine, vmig_image *images, size_t count);
 void vmig_free(vmig_machine *machine);
 
 /* The driver reads a register: 1, 2 or 4 bytes (width) at an offset in the device's window; its configuration begins at
- * 0x100. Each offset and width has an answer: what is no register reads 0. *value is as it was where the call is refused.
+ * 0x100. Each offset and width has an answer: an offset without a register reads 0. *value is as it was if the call is
+ * refused.
  * VMIG_NO_MACHINE, VMIG_NO_DEVICE. */
 uint32_t vmig_reg_read(vmig_machine *machine, uint8_t dev, uint32_t off, uint8_t width, uint32_t *value);
 
-/* The driver writes a register. Whether the device takes the value does not show. A console gives out the byte that is
- * written into its emergency register (VIRTIO 1.2, 5.3.5): the status is VMIG_OUT_BYTE, and *out is the byte. Else *out is
- * as it was. After a write at 0x050 (QueueNotify) the device may have work: ask vmig_next_work.
+/* The driver writes a register. The status does not show whether the device takes the value. A console gives out the byte
+ * that is written into its emergency register (VIRTIO 1.2, 5.3.5): the status is VMIG_OUT_BYTE, and *out is the byte. Else
+ * *out is as it was. After a write at 0x050 (QueueNotify) the device may have work: ask vmig_next_work.
  * VMIG_NO_MACHINE, VMIG_NO_DEVICE. */
 uint32_t vmig_reg_write(vmig_machine *machine, uint8_t dev, uint32_t off, uint8_t width, uint32_t value, uint32_t *out);
 
@@ -254,20 +257,20 @@ uint32_t vmig_ram_write(vmig_machine *machine, uint64_t addr, const uint8_t *byt
 uint32_t vmig_push(vmig_machine *machine, const uint32_t *pages, size_t count, const uint8_t *ram, size_t len,
                    uint64_t *seen, size_t seen_len);
 
-/* Hands out each page whose version is not seen[n], and each whose version is the greatest, UINT64_MAX, at which the count of
- * versions stands still: it goes to ram + 4096 * n, and seen[n] becomes its version. All else of ram and seen is as it was.
- * *count is how many pages went out. Sizes are as for vmig_push. The machine is as it was; it may have been stopped.
+/* Hands out each page whose version is not seen[n], and each whose version is the greatest, UINT64_MAX, at which the version
+ * stops counting: it goes to ram + 4096 * n, and seen[n] becomes its version. All else of ram and seen is as it was. *count
+ * is the number of pages handed out. Sizes are as for vmig_push. The machine is as it was; it may have been stopped.
  * VMIG_NO_MACHINE, VMIG_TOO_SMALL. */
 uint32_t vmig_pull(vmig_machine *machine, uint8_t *ram, size_t len, uint64_t *seen, size_t seen_len, uint32_t *count);
 
 /* A device does one piece of its work, which the pick names. A block device: pick 0 takes the next request, and pick k, from
  * 1 to 8, brings the k-th request that it has taken one unit on. An entropy device: pick 0 fills the next buffer. A network
  * device and a console: pick 0 fills the next receive buffer, and pick 1 takes the next message to be sent. A pick that names
- * nothing is VMIG_IDLE. Make the steps that vmig_next_work names, then read the lines.
+ * no work of the device is VMIG_IDLE. Make the steps that vmig_next_work names, then read the lines.
  *
  * A message that is sent goes into buf. A step that may send more than size bytes is not done, and VMIG_TOO_SMALL: 1,514
  * bytes are enough for a network device, 65,536 (VMIG_SENT_MAX) for each device, and 0 for a block or an entropy device and
- * for each pick 0. What stands in buf behind the message is as it was.
+ * for each pick 0. The bytes of buf after the message are as they were.
  * *len is set with VMIG_COMPLETED and VMIG_SENT, and is as it was with any other status.
  * VMIG_NO_MACHINE, VMIG_NO_DEVICE, VMIG_TOO_SMALL, VMIG_NO_MEMORY. */
 uint32_t vmig_step(vmig_machine *machine, uint8_t dev, uint8_t pick, uint8_t *buf, size_t size, uint32_t *len);
@@ -282,16 +285,17 @@ uint32_t vmig_step(vmig_machine *machine, uint8_t dev, uint8_t pick, uint8_t *bu
  *         if (status < 64) break;
  *     }
  *
- * VMIG_WORK, or VMIG_IDLE where no step of any device has something to do. Then, and where it is refused, *dev and *pick are as
- * they were. The step that it names is not VMIG_IDLE, or it finds a queue empty, and then that queue has nothing to do until
- * its driver notifies the device anew. A step that is refused, from 1 to 63, leaves its work: end the loop there. A guest can
- * see to it that there is always something to do, as its chains may name the rings themselves: bound how many steps you make
- * in a row. It reads no RAM, and takes no memory.
+ * VMIG_WORK, or VMIG_IDLE where no step of any device has something to do. Then, and where it is refused, *dev and *pick are
+ * as they were. The step that it names is not VMIG_IDLE, or it finds a queue empty, and then that queue has nothing to do
+ * until its driver notifies the device anew. A step that is refused, from 1 to 63, leaves its work: end the loop there. A
+ * guest can bring about that there is always something to do, as its chains may name the rings themselves: bound how many
+ * steps you make in a row. It reads no RAM, and takes no memory.
  * VMIG_NO_MACHINE; of a machine that is being sent also VMIG_STOPPED. */
 uint32_t vmig_next_work(vmig_machine *machine, uint8_t *dev, uint8_t *pick);
 
-/* The host puts bytes in: entropy, text for a console, or one frame of 14 to 1,514 bytes. *accepted is how many were kept:
- * the first ones, or a frame whole or not at all. Entropy devices and consoles hold 4,096 bytes, network devices 64 frames.
+/* The host puts bytes in: entropy, text for a console, or one frame of 14 to 1,514 bytes. *accepted is the number of bytes
+ * kept: the first ones, or a frame whole or not at all. Entropy devices and consoles hold 4,096 bytes, network devices 64
+ * frames.
  * VMIG_NO_MACHINE, VMIG_NO_DEVICE, VMIG_WRONG_KIND (a block device), VMIG_BAD_FRAME. */
 uint32_t vmig_input(vmig_machine *machine, uint8_t dev, const uint8_t *bytes, size_t len, uint32_t *accepted);
 
@@ -309,14 +313,15 @@ uint16_t vmig_lines(vmig_machine *machine);
  * VMIG_NO_MACHINE, VMIG_MOVING, VMIG_NO_DEVICE, VMIG_WRONG_KIND (it has no disk), VMIG_NO_SECTOR, VMIG_TOO_SMALL. */
 uint32_t vmig_sector_read(vmig_machine *machine, uint8_t dev, uint64_t sector, uint8_t *buf, size_t size);
 
-/* Saves the machine: its whole stream goes to the front of buf. *len is how many bytes the stream has, also at
- * VMIG_TOO_SMALL, where buf is as it was: a first call with a size of 0 asks for the length. The machine goes on as it was.
+/* Saves the machine: its whole stream goes to the front of buf. *len is the length of the stream in bytes, also at
+ * VMIG_TOO_SMALL, where buf is as it was: a first call with a size of 0 asks for the length. The machine is as it was, and
+ * continues.
  * VMIG_NO_MACHINE, VMIG_MOVING, VMIG_NO_MEMORY, VMIG_TOO_SMALL. */
 uint32_t vmig_save(vmig_machine *machine, uint8_t *buf, size_t size, size_t *len);
 
-/* Makes the machine whose stream the bytes are, also one that was sent in rounds; *rounds is how many rounds ended in it. Its
- * disks lie in memory. A stream that is refused makes no machine; a stream can ask for up to 64 MiB of RAM and 1 GiB for each
- * of 16 disks, before more than its header is read.
+/* Makes the machine whose stream the bytes are, also one that was sent in rounds; *rounds is the number of rounds that ended
+ * in it. Its disks are in memory. A stream that is refused makes no machine; a stream can ask for up to 64 MiB of RAM and 1
+ * GiB for each of 16 disks, before more than its header is read.
  * VMIG_IN_USE, VMIG_NO_MEMORY, or a VMIG_STREAM status. */
 uint32_t vmig_receive(const uint8_t *bytes, size_t len, vmig_machine *machine, uint32_t *rounds);
 
@@ -324,8 +329,8 @@ uint32_t vmig_receive(const uint8_t *bytes, size_t len, vmig_machine *machine, u
  * VMIG_NO_MACHINE, VMIG_NO_MEMORY, and of a machine that is being sent VMIG_BEGUN_ALREADY, VMIG_WRITER_FAILED, VMIG_STOPPED. */
 uint32_t vmig_begin(vmig_machine *machine);
 
-/* Sends the due page or sector of the least number, pages first: VMIG_PAGE or VMIG_SECTOR. *dev is set with VMIG_SECTOR alone,
- * *number with both, and they are as they were with any other status.
+/* Sends the due page or sector with the least number, pages first: VMIG_PAGE or VMIG_SECTOR. *dev is set with VMIG_SECTOR
+ * alone, *number with both, and they are as they were with any other status.
  * VMIG_ROUND_DONE, VMIG_NO_MACHINE, VMIG_NOT_BEGUN, VMIG_WRITER_FAILED, VMIG_STOPPED. */
 uint32_t vmig_copy(vmig_machine *machine, uint8_t *dev, uint32_t *number);
 
@@ -334,39 +339,40 @@ uint32_t vmig_copy(vmig_machine *machine, uint8_t *dev, uint32_t *number);
  * VMIG_ROUND_OPEN, VMIG_NO_MACHINE, VMIG_NOT_BEGUN, VMIG_WRITER_FAILED, VMIG_STOPPED, VMIG_NO_ROUND_LEFT. */
 uint32_t vmig_end_round(vmig_machine *machine, uint32_t *round);
 
-/* Sends all that is due or was touched since, then the devices, and closes the stream. *pages and *sectors are how many it
- * sent, and are as they were where it is refused.
+/* Sends all that is due or was touched since, then the devices, and closes the stream. *pages and *sectors are the numbers
+ * that it sent, and are as they were if it is refused.
  * VMIG_NO_MACHINE, VMIG_NOT_BEGUN, VMIG_WRITER_FAILED, VMIG_STOPPED. */
 uint32_t vmig_stop(vmig_machine *machine, uint64_t *pages, uint64_t *sectors);
 
-/* The machine stands still again, as it is, also after vmig_stop. What was written and not taken is gone.
+/* Ends the migration, also after vmig_stop: the machine is as it is, and is not being sent any more. Bytes that were written
+ * and not taken are gone.
  * VMIG_NO_MACHINE, VMIG_NOT_BEGUN. */
 uint32_t vmig_abort(vmig_machine *machine);
 
-/* How many pages and sectors are due in this round, and how many were touched since they were sent or it began. They are as
- * they were where it is refused.
+/* How many pages and sectors are due in this round, and how many were touched since they were sent or it began. *due and
+ * *dirty are as they were if it is refused.
  * VMIG_NO_MACHINE, VMIG_NOT_BEGUN. */
 uint32_t vmig_remaining(vmig_machine *machine, uint64_t *due, uint64_t *dirty);
 
 /* Takes the first of the bytes that wait, as many as buf holds: *got of them go to the front of buf, and 0 says that none
- * waits. It costs what it gives, so buf may be of any size. After VMIG_WRITER_FAILED the end of what waits may be any part of
- * a record.
+ * waits. Its cost is that of the bytes that it gives, so buf may be of any size. After VMIG_WRITER_FAILED the bytes that wait
+ * may end within a record.
  * VMIG_NO_MACHINE, VMIG_NOT_BEGUN. */
 uint32_t vmig_take(vmig_machine *machine, uint8_t *buf, size_t size, size_t *got);
 
-/* The next bytes of a stream arrive, in pieces of any size. Behind a handle of no machine one begins to arrive. VMIG_OK says
- * that no fault stands in all bytes so far; a piece that brings one is refused, and the stream with it: each later vmig_feed
- * and vmig_finish is VMIG_STREAM_FAILED, until vmig_free. What a stream can ask for is as with vmig_receive. VMIG_NO_MEMORY
- * comes with the first piece alone, and changes nothing.
+/* The next bytes of a stream arrive, in pieces of any size. On a handle of no machine one begins to arrive. VMIG_OK says that
+ * the bytes so far have no fault; a piece that brings one is refused, and the stream with it: each later vmig_feed and
+ * vmig_finish is VMIG_STREAM_FAILED, until vmig_free. A stream can ask for as much memory as with vmig_receive.
+ * VMIG_NO_MEMORY comes with the first piece alone, and changes nothing.
  * VMIG_IN_USE, VMIG_NO_MEMORY, or a VMIG_STREAM status. */
 uint32_t vmig_feed(vmig_machine *machine, const uint8_t *bytes, size_t len);
 
-/* All bytes have arrived: the handle has the machine, which stands still, with its disks in memory. A stream that is not
- * whole is refused, as by vmig_feed.
+/* All bytes have arrived: the handle has the machine, which is not being sent, with its disks in memory. An incomplete stream
+ * is refused, as by vmig_feed.
  * VMIG_NO_MACHINE, VMIG_IN_USE, VMIG_STREAM_TRUNCATED, VMIG_STREAM_NO_MEMORY, VMIG_STREAM_FAILED. */
 uint32_t vmig_finish(vmig_machine *machine);
 
-/* *ended is how many rounds ended in the bytes so far, and 0 for a stream that was refused.
+/* *ended is the number of rounds that ended in the bytes so far, and 0 for a stream that was refused.
  * VMIG_NO_MACHINE, VMIG_IN_USE. */
 uint32_t vmig_rounds(vmig_machine *machine, uint32_t *ended);
 

@@ -1,4 +1,4 @@
-/* A machine is sent and received at the same time: what waits on one side is fed on the other, a few bytes at a time. */
+/* A machine is sent and received at the same time: the bytes that wait on one side are fed on the other, a few at a time. */
 #include "driver.h"
 
 enum { PAGES = 16, SECTORS = 3 };
@@ -38,7 +38,7 @@ static void is_no_machine(vmig_machine *m)
     expect("in use", vmig_receive(buf, 0, m, &rounds), VMIG_IN_USE);
 }
 
-/* Sends all rounds of a machine that is being sent, and what waits of each item at once. */
+/* Sends all rounds of a machine that is being sent, and hands over the bytes of each item at once. */
 static void send_all(vmig_machine *source, vmig_machine *target)
 {
     uint64_t pages = 77, sectors = 77;

@@ -4,7 +4,7 @@
 
 enum { HEADER = 0x7000, OUTCOME = 0x7100, READ = 0, WRITE = 1 };
 
-/* One request of one sector, from the driver's offer to the device's answer. Gives the outcome that the device wrote. */
+/* One request of one sector, from the driver's offer to the device's answer. Returns the status that the device wrote. */
 static uint64_t request(vmig_machine *m, uint32_t count, uint32_t type, uint64_t sector)
 {
     uint32_t len = 77;

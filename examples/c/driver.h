@@ -16,7 +16,7 @@ static inline void expect(const char *what, uint64_t got, uint64_t wanted)
     }
 }
 
-/* Tells how the program ended, and gives its exit status. */
+/* Prints how the program ended, and returns its exit status. */
 static inline int ended(const char *name)
 {
     if (failures == 0) printf("%s: all as expected\n", name);
@@ -54,7 +54,7 @@ static inline uint64_t get(vmig_machine *m, uint64_t addr, size_t width)
     return value;
 }
 
-/* Where the driver of device 0 keeps a queue (VIRTIO 1.2, 2.7). Queue q lies so many bytes behind queue 0. */
+/* Where the driver of device 0 keeps a queue (VIRTIO 1.2, 2.7). Queue q lies q * NEXT_QUEUE bytes after queue 0. */
 enum { DESC = 0x1000, AVAIL = 0x2000, USED = 0x2800, DATA = 0x8000, NEXT_QUEUE = 0x2000, SIZE = 64 };
 
 /* Flags of a descriptor. */
@@ -77,7 +77,7 @@ static inline void make_available(vmig_machine *m, uint32_t queue, uint32_t coun
     put(m, at + 2, count, 2);
 }
 
-/* The same, and the driver notifies the device. */
+/* As above, and the driver notifies the device. */
 static inline void offer(vmig_machine *m, uint32_t queue, uint32_t count, uint32_t head)
 {
     make_available(m, queue, count, head);
@@ -106,7 +106,7 @@ static inline void set_up(vmig_machine *m, uint32_t queues)
     write_reg(m, 0x070, 0xf);
 }
 
-/* Makes each step that has something to do, until none has. Gives how many steps it made. */
+/* Makes each step that has something to do, until none has. Returns the number of steps. */
 static inline uint32_t serve(vmig_machine *m)
 {
     static uint8_t buf[VMIG_SENT_MAX];
@@ -124,7 +124,7 @@ static inline uint32_t serve(vmig_machine *m)
     return steps;
 }
 
-/* The driver of an entropy device asks for 16 bytes, as its `count`-th chain. Gives the used length. */
+/* The driver of an entropy device asks for 16 bytes, as its `count`-th chain. Returns the used length. */
 static inline uint32_t ask(vmig_machine *m, uint32_t count)
 {
     uint8_t none[1];

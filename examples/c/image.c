@@ -4,7 +4,7 @@
 
 enum { HEADER = 0x7000, OUTCOME = 0x7100, READ = 0, WRITE = 1, FIRST = 3, SECOND = 2, SECTOR = 512 };
 
-/* One request of one sector of the first disk, as a driver makes it. Gives the outcome that the device wrote. */
+/* One request of one sector of the first disk, as a driver makes it. Returns the status that the device wrote. */
 static uint64_t request(vmig_machine *m, uint32_t count, uint32_t type, uint64_t sector)
 {
     uint32_t len = 77;
@@ -24,7 +24,7 @@ static uint64_t request(vmig_machine *m, uint32_t count, uint32_t type, uint64_t
     return get(m, OUTCOME, 1);
 }
 
-/* The sector of a device's disk is these bytes. */
+/* Checks that the sector of a device's disk has these bytes. */
 static void holds(vmig_machine *m, uint8_t dev, uint64_t sector, const uint8_t *bytes)
 {
     uint8_t got[SECTOR + 1];
@@ -35,7 +35,7 @@ static void holds(vmig_machine *m, uint8_t dev, uint64_t sector, const uint8_t *
     expect("and no more", got[SECTOR], 77);
 }
 
-/* The sectors of a device's disk are these, one behind another. */
+/* Checks that the sectors of a device's disk are these, one after another. */
 static void holds_all(vmig_machine *m, uint8_t dev, uint64_t count, const uint8_t *bytes)
 {
     for (uint64_t sector = 0; sector < count; sector++) holds(m, dev, sector, bytes + sector * SECTOR);

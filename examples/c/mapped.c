@@ -8,7 +8,7 @@
 
 enum { HEADER = 0x7000, OUTCOME = 0x7100, WRITE = 1, SECTORS = 3, SECTOR = 512, LENGTH = SECTORS * SECTOR };
 
-/* One write of one sector, as a driver makes it. Gives the outcome that the device wrote. */
+/* One write of one sector, as a driver makes it. Returns the status that the device wrote. */
 static uint64_t write_sector(vmig_machine *m, uint64_t sector, const uint8_t *bytes)
 {
     uint32_t len = 77;
@@ -42,7 +42,7 @@ static void refuses(const vmig_shape *shapes, uint8_t *at)
     expect("and where it was", right.at == at, 1);
 }
 
-/* The image comes back from the machine, which is gone then. */
+/* Frees the machine, and checks that the image comes back. */
 static void gives_back(vmig_machine *m, uint8_t *at)
 {
     vmig_image slots[] = {VMIG_NO_IMAGE, VMIG_NO_IMAGE}, full = {at, SECTORS};

@@ -35,7 +35,7 @@ static uint64_t load(const struct host *h, uint32_t addr, size_t width)
     return value;
 }
 
-/* The guest stands still here: its pages go in. */
+/* The guest is paused here: its pages go in. */
 static void hand_in(struct host *h)
 {
     uint32_t pages[PAGES];
@@ -48,7 +48,7 @@ static void hand_in(struct host *h)
     expect("push", vmig_push(&h->machine, pages, count, h->ram, sizeof h->ram, h->seen, PAGES), VMIG_OK);
 }
 
-/* What the devices wrote comes out. Gives how many pages that were. */
+/* What the devices wrote comes out. Returns the number of pages. */
 static uint32_t hand_out(struct host *h)
 {
     uint32_t count = 77;
@@ -112,7 +112,7 @@ static void request(struct host *h, uint32_t count, uint32_t type, uint64_t sect
     mirrors(h);
 }
 
-/* The guest fills its buffer with bytes that this number gives. */
+/* The guest fills its buffer with bytes that depend on this number. */
 static void fill(struct host *h, uint32_t with)
 {
     for (uint32_t i = 0; i < 512; i++) store(h, DATA + i, with * i + 1, 1);

@@ -1,4 +1,4 @@
-/* A machine is moved to another handle while its driver goes on. Both end with equal RAM, and go on with equal replies. */
+/* A machine is moved to another handle while its driver continues. Both end with equal RAM, and continue with equal replies. */
 #include <stdlib.h>
 #include <string.h>
 #include "driver.h"

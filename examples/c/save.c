@@ -1,4 +1,4 @@
-/* A machine is saved and received into another handle. Both go on with equal replies, and end as equal machines. */
+/* A machine is saved and received into another handle. Both continue with equal replies, and end as equal machines. */
 #include <stdlib.h>
 #include <string.h>
 #include "driver.h"

@@ -1,4 +1,4 @@
-/* How long calls take: `speed [TURNS]` goes over each kind so many times (256 if left out, rounded up to whole rings), checks
+/* How long calls take: `speed [TURNS]` makes each kind of call TURNS times (256 if left out, rounded up to whole rings), checks
  * what it gets, and prints the nanoseconds of one call. Only the calls that are named are timed, and not the driver's. */
 #define _POSIX_C_SOURCE 200809L
 #include <stdlib.h>
@@ -6,10 +6,10 @@
 #include <time.h>
 #include "driver.h"
 
-/* A ring of 256 places, whose buffers have 16 bytes each. */
+/* A ring of 256 entries, whose buffers have 16 bytes each. */
 enum { RING = 256, LENGTH = 16, BUFFERS = 0x8000 };
 
-/* The bits of a packed descriptor's flags that tell whose it is (VIRTIO 1.2, 2.8.1). */
+/* The bits of a packed descriptor's flags that say whose it is (VIRTIO 1.2, 2.8.1). */
 enum { AVAILABLE = 1 << 7, USED_BIT = 1 << 15 };
 
 static uint64_t now(void)
@@ -24,7 +24,7 @@ static void tell(const char *what, uint64_t nanoseconds, uint64_t calls, int is_
     if (is_long) printf("%s: %.0f ns\n", what, (double)nanoseconds / (double)calls);
 }
 
-/* The driver takes the device over, and makes queue 0 ready with 256 places. */
+/* The driver takes the device over, and makes queue 0 ready with 256 entries. */
 static void set_up_ring(vmig_machine *m, uint32_t high_features)
 {
     write_reg(m, 0x070, 0);

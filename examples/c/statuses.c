@@ -39,7 +39,7 @@ static void spell_bad_sector(void)
     append(digest, sizeof digest);
 }
 
-/* The stream with one byte changed, or cut, is refused so. */
+/* The stream with one byte changed, or cut, is refused with this status. */
 static void refuses(const char *what, size_t at, uint8_t value, uint32_t status)
 {
     vmig_machine m = VMIG_NONE;

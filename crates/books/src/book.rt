@@ -6,9 +6,8 @@ use std::io;
 
 /// Scenarios that begin alike and end alike.
 ///
-/// The text of a book has lines of scripts. Those before the first line `scenario NAME` begin each scenario, those behind
-/// a line `finally` end each, and those between are the scenario's own. Empty lines and lines that begin with `#` mean
-/// nothing.
+/// The text of a book has lines of scripts. Those before the first line `scenario NAME` begin each scenario, those after a line
+/// `finally` end each, and those between are the scenario's own. Empty lines and lines that begin with `#` are skipped.
 #[derive(Drop)]
 pub struct Book {
     beginning: String,
@@ -17,7 +16,7 @@ pub struct Book {
     is_at_end: bool,
 }
 
-/// A scenario: its name, and what is its own of its script.
+/// A scenario: its name, and the lines of its script that are its own.
 #[derive(Drop)]
 pub struct Scenario {
     name: String,
@@ -37,7 +36,7 @@ impl Scenario {
 }
 
 impl Book {
-    /// The book of a text. Its only error is want of memory.
+    /// The book of a text. It fails only if it is out of memory.
     pub fn read(alloc: Global, text: &str) -> io::Result<Book> {
         let mut book = Book {
             beginning: String::new(alloc),
@@ -56,7 +55,7 @@ impl Book {
         self.scenarios.as_slice()
     }
 
-    /// The whole script of a scenario of this book. Its only error is want of memory.
+    /// The whole script of a scenario of this book. It fails only if it is out of memory.
     pub fn script(&self, alloc: Global, scenario: &Scenario) -> io::Result<Script> {
         let mut script = Script::new(alloc);
         script.add(self.beginning.as_str())?;
@@ -65,7 +64,7 @@ impl Book {
         Ok(script)
     }
 
-    /// All lines of a scenario of this book. Its only error is want of memory.
+    /// All lines of a scenario of this book. It fails only if it is out of memory.
     pub fn text(&self, alloc: Global, scenario: &Scenario) -> io::Result<String> {
         let mut text = String::new(alloc);
         text.push_str(self.beginning.as_str())?;

@@ -3,10 +3,10 @@
 /// What a script asks of its machine between two events.
 #[derive(Clone, Copy, Debug, PartialEq, Eq)]
 pub enum Question {
-    /// Which interrupt lines are up.
+    /// Which interrupt lines are high.
     Lines,
 
-    /// What a sector holds.
+    /// The contents of a sector.
     Sector {
         /// The device.
         dev: u8,
@@ -21,6 +21,6 @@ pub enum Question {
     /// How many bytes were written.
     Written,
 
-    /// Of which sector the disk failed in the last call.
+    /// At which sector the disk failed in the last call.
     Failed,
 }

@@ -7,13 +7,13 @@ use std::str::FromStr;
 
 /// A trace, and the lines that its replies must have.
 ///
-/// The lines of a script are those of a trace (`ram 1`, `entropy`, `mw 0x100 000001000000`, `s 0 0`). Behind an event
-/// stands ` -> ` and the line of its reply, where that is not `done`. Commas part a line into pieces, of which
-/// `PIECE*COUNT` stands for so many: `mw 0 ,aa*3,bb` is `mw 0 aaaaaabb`. A line `LINES BITS` asks which devices' interrupt
-/// lines are up: bit 1 is that of device 1. A line `EACH COUNT EVENTS`, with `; ` between its events, stands for these
-/// events so many times; `@` in an event is the number of the turn, from 1 on, as the two bytes of an index in a ring.
+/// The lines of a script are those of a trace (`ram 1`, `entropy`, `mw 0x100 000001000000`, `s 0 0`). An event is followed by
+/// ` -> ` and the line of its reply, where that is not `done`. Commas separate a line into pieces, and `PIECE*COUNT` repeats
+/// one COUNT times: `mw 0 ,aa*3,bb` is `mw 0 aaaaaabb`. A line `LINES BITS` asks which devices' interrupt lines are high: bit 1
+/// is that of device 1. A line `EACH COUNT EVENTS`, with `; ` between its events, repeats these events COUNT times; `@` in an
+/// event is the number of the turn, from 1 on, as the two bytes of an index in a ring.
 ///
-/// Four lines stand for writes of registers, of which each is done (VIRTIO 1.2, 3.1.1 and 4.2.2):
+/// Four lines stand for register writes, each answered by `done` (VIRTIO 1.2, 3.1.1 and 4.2.2):
 ///
 /// - `UP DEV LOW HIGH`: the driver finds the device, sets features, of which these are the lower and the upper 32 bits,
 ///   and FEATURES_OK;
@@ -24,19 +24,19 @@ use std::str::FromStr;
 ///
 /// The disk of a block device is in memory, and of zeros. Four lines are about disks:
 ///
-/// - `FILL DEV`: from the beginning on sector n of the disk is filled with the byte n modulo 256;
-/// - `PLAN DEV CALL CALL ..`: these calls of the disk fail, the first of all being 1;
-/// - `SECTOR DEV N BYTES`: the sector holds these bytes now. That it is read is a call of the disk as well;
+/// - `FILL DEV`: at the start, each sector n of the disk is filled with the byte n modulo 256;
+/// - `PLAN DEV CALL CALL ..`: these calls of the disk fail, counted from 1;
+/// - `SECTOR DEV N BYTES`: the sector holds these bytes now. Reading it for this is a call of the disk as well;
 /// - `BAD DEV N`: the sector is bad now.
 ///
 /// Among the events may be those of a migration: `begin`, `copy`, `round` and `stop`. Five lines are about it:
 ///
-/// - `WRITER N`: its writer takes so many bytes and then fails;
+/// - `WRITER N`: its writer takes N bytes and then fails;
 /// - `ALONE DEV CALL CALL ..`: as `PLAN`, for the disk of a machine to which the same happens but for the migration, so
 ///   that no item is read from its disks;
-/// - `BYTES N`: so many bytes are written by now;
+/// - `BYTES N`: N bytes are written by now;
 /// - `FAILED DEV N`: the last call was refused because this sector could not be read;
-/// - `REMAINING DUE DIRTY`: so many items are due now, and so many are dirty.
+/// - `REMAINING DUE DIRTY`: DUE items are due now, and DIRTY are dirty.
 #[derive(Drop)]
 pub struct Script {
     alloc: Global,
@@ -76,7 +76,7 @@ impl Script {
         self.replies.as_slice()
     }
 
-    /// What is asked, and once how many events are done.
+    /// The questions, each with the number of events after which it is asked.
     pub fn questions(&self) -> &[(usize, Question)] {
         self.asked.as_slice()
     }
@@ -86,12 +86,12 @@ impl Script {
         self.filled.contains(&dev)
     }
 
-    /// The calls of disks that fail, each behind the number of its device.
+    /// The calls of disks that fail, each after the number of its device.
     pub fn plans(&self) -> &[(usize, u64)] {
         self.plans.as_slice()
     }
 
-    /// The calls of disks that fail where nothing is sent, each behind the number of its device.
+    /// The calls of disks that fail where nothing is sent, each after the number of its device.
     pub fn plans_alone(&self) -> &[(usize, u64)] {
         self.plans_alone.as_slice()
     }
@@ -101,7 +101,7 @@ impl Script {
         self.room
     }
 
-    /// Adds the lines of a text. `InvalidData` where a count is no number; else its only error is want of memory.
+    /// Adds the lines of a text. `InvalidData` where a count is no number; else it fails only if it is out of memory.
     pub fn add(&mut self, text: &str) -> io::Result<()> {
         for line in text.lines() {
             self.add_line(line)?;
@@ -182,7 +182,7 @@ impl Script {
         writeln!(self.replies, "bad")
     }
 
-    /// Asks what a sector holds. The line of the answer goes on with it.
+    /// Asks for the contents of a sector. The rest of the answer's line follows.
     fn ask_sector(&mut self, dev: &str, n: &str) -> io::Result<()> {
         let question = Question::Sector {
             dev: number(dev)?,
@@ -249,7 +249,7 @@ impl Script {
         self.add_write(device, "0x050", queue)
     }
 
-    /// Writes of registers, each with what is written.
+    /// Adds register writes, each with the value that is written.
     fn add_writes(&mut self, device: &str, writes: &[(&str, &str)]) -> io::Result<()> {
         for (register, value) in writes {
             self.add_write(device, register, value)?;
@@ -257,7 +257,7 @@ impl Script {
         Ok(())
     }
 
-    /// A write of a register of four bytes.
+    /// Adds a register write of four bytes.
     fn add_write(&mut self, device: &str, register: &str, value: &str) -> io::Result<()> {
         self.events = self.events.saturating_add(1);
         writeln!(self.trace, "w {device} {register} 4 {value}")?;
@@ -265,7 +265,7 @@ impl Script {
     }
 }
 
-/// Adds the calls of a disk, behind the number of its device.
+/// Adds the calls of a disk, each after the number of its device.
 fn add_plan(plans: &mut Vec<(usize, u64)>, words: &str) -> io::Result<()> {
     let (dev, calls) = cut(words);
     let dev = number(dev)?;
@@ -304,7 +304,7 @@ where
     }
 }
 
-/// The first word, and those behind it.
+/// The first word, and those after it.
 fn cut(words: &str) -> (&str, &str) {
     words.split_once(' ').unwrap_or((words, ""))
 }

@@ -7,11 +7,11 @@ use std::alloc::Global;
 /// The tag of the record that ends a stream.
 const COMMIT: u8 = 5;
 
-/// The bytes that a text spells: words of hexadecimal digits, the bytes of each as often as a number behind `*` says
-/// (`00*4096`). Four words stand for what is often the same: `HEADER` for the header of one page and one entropy device,
-/// `PAGE` for the record of page 0 of zeros, `DEVICE` for the record of such a device as it begins, and `FRESH` for the
-/// whole stream of such a machine. `COMMIT` stands for the record that ends a stream, with the SHA-256 of all bytes before it,
-/// and `|` parts records for a reader and means nothing.
+/// The bytes that a text encodes: words of hexadecimal digits, the bytes of each as often as a number after `*` says
+/// (`00*4096`). Four words stand for common parts of a stream: `HEADER` for the header of one page and one entropy device,
+/// `PAGE` for the record of page 0 of zeros, `DEVICE` for the record of such a device as it begins, and `FRESH` for the whole
+/// stream of such a machine. `COMMIT` stands for the record that ends a stream, with the SHA-256 of all bytes before it, and
+/// `|` separates records for a reader and means nothing.
 pub fn spelled(alloc: Global, text: &str) -> Result<Vec<u8>> {
     let mut bytes = Vec::new(alloc);
     for word in text.split_whitespace() {

@@ -8,14 +8,14 @@ use std::fs;
 use std::os::unix::fs::symlink;
 use vmig::execute;
 
-/// Goes through the lines of a scenario. `FILE NAME TEXT` writes a file, `STREAM NAME WORDS` and `IMAGE NAME WORDS` one of
-/// the bytes that these words spell, `FOLDER NAME` makes a folder, and `LOCK NAME` a file that may only be read. `LINK NAME
-/// FILE` gives a file one more name, and `POINT NAME FILE` makes a symbolic link to it. `CALL WORDS
-/// -> STATUS; OUT; ERR` calls the program on these words; it must end so, and write these texts to standard output and
-/// standard error. `PLAY NAME` runs the trace NAME.trace, whose replies must be NAME.replies, and `PLAY NAME IMAGE` does so
-/// over an image. `HOLDS NAME WORDS` finds the bytes that these words spell in a file, and no others. `TRACE TEXT -> NUMBER`
-/// reads a text as a trace, whose first bad line has this number, or which is one for 0, and `EVENTS TEXT -> NUMBER` as events
-/// alone. How a text is written, `text` says.
+/// Carries out the lines of a scenario. `FILE NAME TEXT` writes a file, `STREAM NAME WORDS` and `IMAGE NAME WORDS` one of the
+/// bytes that these words encode, `FOLDER NAME` makes a folder, and `LOCK NAME` a file that may only be read. `LINK NAME FILE`
+/// gives a file one more name, and `POINT NAME FILE` makes a symbolic link to it. `CALL WORDS -> STATUS; OUT; ERR` calls the
+/// program on these words; it must end so, and write these texts to standard output and standard error. `PLAY NAME` runs the
+/// trace NAME.trace, whose replies must be NAME.replies, and `PLAY NAME IMAGE` does so over an image. `HOLDS NAME WORDS` finds
+/// the bytes that these words encode in a file, and no others. `TRACE TEXT -> NUMBER` reads a text as a trace, whose first bad
+/// line has this number, or which is one for 0, and `EVENTS TEXT -> NUMBER` as events alone. The module `text` says how a text
+/// is written.
 pub fn make_calls(rt: &HostRuntime, lines: &str) -> Result<()> {
     for line in lines.lines() {
         make_call(rt, line).context(line)?;

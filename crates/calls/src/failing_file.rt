@@ -21,10 +21,11 @@ const DISK_STREAM: &str = concat!(
     "9d4a8d1db3dafdcba47759418e428aa7e1e519094d1af665356527fca2914dd9"
 );
 
-/// Of the places in a stream at which a read may fail, one in so many is tried.
+/// Of the offsets in a stream at which a read may fail, one in this many is tried.
 const SELDOM: usize = 64;
 
-/// Files that hold these bytes each. A read of the first of them fails once so many of its bytes were read. Every write fails.
+/// Files that each hold these bytes. A read of the first of them fails once a given number of its bytes were read. Every write
+/// fails.
 #[derive(Drop)]
 struct Failing<'r> {
     rt: &'r HostRuntime,
@@ -168,14 +169,15 @@ impl<'r> Files for Failing<'r> {
     }
 }
 
-/// Goes through all of it.
+/// Tries all of these.
 pub fn fails(rt: &HostRuntime) -> Result<()> {
     trace_fails(rt)?;
     stream_fails(rt)?;
     image_fails(rt)
 }
 
-/// A read that fails names the file, and one that was refused memory says so, wherever in the file it is.
+/// A failed read is reported with the file's name, and one that was refused memory as out of memory, wherever in the file it
+/// is.
 fn trace_fails(rt: &HostRuntime) -> Result<()> {
     let words = ["run", "some.trace"];
     let files = [("some.trace", TEXT)];
@@ -185,7 +187,7 @@ fn trace_fails(rt: &HostRuntime) -> Result<()> {
     Ok(())
 }
 
-/// The same of a stream that is fed as it is read.
+/// As above, for a stream that is fed as it is read.
 fn stream_fails(rt: &HostRuntime) -> Result<()> {
     let words = ["resume", "some.stream", "no.trace"];
     let stream = spelled(rt.alloc(), "FRESH")?;
@@ -215,7 +217,8 @@ fn image_fails(rt: &HostRuntime) -> Result<()> {
     is_told(&files, &words, (5, b"vmig: stream 14\n"))
 }
 
-/// A read that fails behind so many bytes is told by this line, and one that was refused memory by that of memory.
+/// A read that fails after this many bytes is reported by this line, and one that was refused memory by the line
+/// `vmig: memory`.
 fn both_told(
     rt: &HostRuntime,
     files: &[(&str, &[u8])],

@@ -1,5 +1,5 @@
-//! Calls the program as the books say that it is given, and then with files and writers that fail, and writes the name of
-//! each scenario that is as it says. The first that is not ends the program.
+//! Calls the program as the given books say, and then with files and writers that fail, and writes the name of each scenario
+//! that passes. The first that does not ends the program.
 #![tactic(auto)]
 
 mod call;

@@ -5,7 +5,7 @@ use std::alloc::Global;
 use std::{fs, str};
 use vmig::execute;
 
-/// Between so many events a round ends, if it can.
+/// A round ends, if it can, each time this many events are done.
 const EVENTS_A_ROUND: usize = 3;
 
 /// The first words of the replies to lines of migration.
@@ -18,8 +18,8 @@ const OF_MIGRATION: [&str; 6] = [
     "mig",
 ];
 
-/// Where a machine moves: before which of its events it is begun to be sent and stopped, and how many copies there are
-/// behind each event between them.
+/// Where a machine moves: before which of its events its migration begins and stops, and how many copies follow each event
+/// between them.
 #[derive(Clone, Copy)]
 struct Move {
     begin: usize,
@@ -27,9 +27,9 @@ struct Move {
     copies: usize,
 }
 
-/// Moves the machine of a recorded run: `NAME MOVES COPIES` rehearses the trace NAME.trace so many times, with the lines of a
-/// migration put in among its events, each time at other places, and so many copies behind each event. Each time both machines
-/// are equal in the end, and the guest's replies are those of NAME.replies.
+/// Moves the machine of a recorded run: `NAME MOVES COPIES` rehearses the trace NAME.trace MOVES times, with the lines of a
+/// migration put in among its events, each time before other events, and COPIES copies after each event. Each time both
+/// machines are equal in the end, and the guest's replies are those of NAME.replies.
 pub fn move_run(rt: &HostRuntime, words: &str) -> Result<()> {
     let (name, rest) = words.split_once(' ').context("no number of moves")?;
     let (moves, copies) = rest.split_once(' ').context("no number of copies")?;
@@ -91,7 +91,7 @@ fn trace_of(alloc: Global, trace: &str, moved: Move) -> Result<String> {
     Ok(text)
 }
 
-/// Adds the lines of migration that stand before the event of this number.
+/// Adds the lines of migration that come before the event of this number.
 fn add_lines(text: &mut String, event: usize, moved: Move) -> Result<()> {
     if event == moved.begin {
         text.push_str("begin\n")?;

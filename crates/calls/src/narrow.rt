@@ -54,13 +54,13 @@ fn narrow_writer(alloc: Global, room: usize, flushes: bool) -> Narrow {
 /// The line of 20 bytes.
 const MANY_BYTES: &str = "bytes e7e7e7e7e7e7e7e7e7e7e7e7e7e7e7e7e7e7e7e7\n";
 
-/// Goes through all of it.
+/// Tries all of these.
 pub fn fails(rt: &HostRuntime) -> Result<()> {
     reply_fails(rt.alloc())?;
     standard_output_fails(rt)
 }
 
-/// After a fault a beginning of the line is written, as long as there was room.
+/// After a fault a beginning of the line was written, as long as the room was.
 fn reply_fails(alloc: Global) -> Result<()> {
     guest_fails(alloc, Reply::Value(0x74726976), "value 0x74726976\n")?;
     guest_fails(alloc, Reply::Done, "done\n")?;
@@ -129,7 +129,7 @@ struct Call<'a> {
     end: End<'a>,
 }
 
-/// Standard output that fails is told as the file `-`, and what was written before is a beginning of the output.
+/// A failure of standard output is reported as the file `-`, and what was written before is a beginning of the output.
 fn standard_output_fails(rt: &HostRuntime) -> Result<()> {
     fs::write(
         rt,
@@ -153,7 +153,7 @@ fn standard_output_fails(rt: &HostRuntime) -> Result<()> {
     moves_fail(rt)
 }
 
-/// The same where a machine goes on from a stream, and where its move is rehearsed.
+/// As above, where a machine continues from a stream, and where its move is rehearsed.
 fn moves_fail(rt: &HostRuntime) -> Result<()> {
     fs::write(rt, "narrow_rest.trace", "mr 0 1\nmr 0 0\n")?;
     let resume = Call {
@@ -176,7 +176,8 @@ fn moves_fail(rt: &HostRuntime) -> Result<()> {
     other_ends_fail(rt)
 }
 
-/// The same where the call ends in a fault that is told behind its output: that of standard output is told in its place.
+/// As above, where the call ends in a fault that is reported after its output: the fault of standard output is reported in its
+/// place.
 fn other_ends_fail(rt: &HostRuntime) -> Result<()> {
     fs::write(rt, "narrow_unstopped.trace", "ram 1\nentropy\nmr 0 1\n")?;
     let unstopped = Call {

@@ -4,20 +4,20 @@ use anyhow::{Context, Result, bail, ensure};
 use std::alloc::Global;
 use vmig::{TraceError, parse, parse_events};
 
-/// The text that is written so.
+/// The text that is written in this way.
 pub fn text_of(alloc: Global, written: &str) -> Result<String> {
     let lines = written.replace(alloc, "|", "\n")?;
     let returned = lines.as_str().replace(alloc, "%", "\r")?;
     Ok(returned.as_str().replace(alloc, "^", "\t")?)
 }
 
-/// Reads the text before ` -> ` as a trace, whose first bad line has the number behind it, or which is one for 0.
+/// Reads the text before ` -> ` as a trace, whose first bad line has the number after it, or which is good if that is 0.
 pub fn read_trace(alloc: Global, words: &str) -> Result<()> {
     let (text, number) = text_and_number(alloc, words)?;
     has_bad_line(parse(alloc, text.as_bytes()), number)
 }
 
-/// The same of a text that is to be events alone.
+/// As above, for a text of events alone.
 pub fn read_events(alloc: Global, words: &str) -> Result<()> {
     let (text, number) = text_and_number(alloc, words)?;
     has_bad_line(parse_events(alloc, text.as_bytes()), number)

@@ -1,4 +1,4 @@
-//! Sectors in memory that is the caller's.
+//! Sectors in the caller's memory.
 
 ghost use Rattle.std.specs.Prelude.{ℕ, List};
 ghost use Rattle.mapped_disk.specs.Image.{image_owns, image_coded};
@@ -6,11 +6,11 @@ ghost use Rattle.mapped_disk.specs.Image.{image_owns, image_coded};
 use std::marker::Model;
 use std::ptr;
 
-/// The sectors of a disk, in memory of the caller. All bytes 0 are an image of none.
+/// The sectors of a disk, in memory of the caller. All bytes 0 are an image of no sectors.
 ///
-/// The caller says that there are 512 times as many bytes as sectors at the address, which may be read and written, and
-/// that until it has the image back nothing else reads or writes them. An image cannot be dropped: it is given back, or is
-/// let go of by name.
+/// The caller promises that the address has 512 bytes for each sector, which may be read and written, and that nothing else
+/// reads or writes them until it has the image back. An image cannot be dropped: it is given back, or consumed by a call of its
+/// own.
 #[repr(C)]
 pub struct Image {
     at: *mut u8,
@@ -39,7 +39,7 @@ impl Image {
         }
     }
 
-    /// The image of so many sectors whose bytes lie at an address. The caller gives them up.
+    /// The image of `sectors` sectors whose bytes are at the address `at`. The caller gives them up.
     pub unsafe fn from_raw_parts(at: *mut u8, sectors: u64) -> Image
         ghost bytes: { List ℕ }
         requires few { sectors * 512 < 2 ^ 63 }
@@ -49,7 +49,7 @@ impl Image {
         Image { at, sectors }
     }
 
-    /// Where the bytes of the sectors lie, and how many sectors they are. The caller owns them from here on.
+    /// The address of the sectors' bytes, and the number of sectors. The caller owns the bytes from here on.
     pub fn into_raw_parts(self) -> (*mut u8, u64)
         requires { 0 < length self.content }
         ensures count { result.1 ≡ length self.content }
@@ -59,7 +59,7 @@ impl Image {
         (at, sectors)
     }
 
-    /// How many sectors it has. Each of them is 512 bytes.
+    /// The number of its sectors, of 512 bytes each.
     pub fn count(&mut self) -> u64
         ensures same { self.new ≡ self.old }
         ensures count { result ≡ length self.old.content }
@@ -77,14 +77,14 @@ impl Image {
         unsafe { std::slice::from_raw_parts_mut(self.at as *mut [u8; 512], self.sectors as usize) }
     }
 
-    /// Lets an image of no sectors go.
+    /// Consumes an image of no sectors.
     pub fn gone(self)
         requires { self.content ≡ [] }
     {
         self.forget();
     }
 
-    /// Lets the image go. Its bytes stay where they are, and are the caller's again.
+    /// Consumes the image. Its bytes stay where they are, and are the caller's again.
     pub(crate) fn forget(self) {
         let Image { at: _, sectors: _ } = self;
     }

@@ -1,14 +1,14 @@
-//! Disks in memory that a caller owns, as a file that it mapped.
+//! Disks in memory that a caller owns, for instance a file that it mapped.
 //!
 //! # What the layers above may rely on
 //! - `Image` is a pointer and a count of sectors, and owns the bytes there (`specs/Image`): contracts see it as the list of its
-//!   sectors, which joined are these bytes (`specs/Bytes`; `from_raw_parts`, `into_raw_parts`). `sectors_mut` lends them in place,
-//!   and no other code follows the pointer. All bytes 0 are an image of none. It may go to another thread.
-//! - An image cannot be dropped, and only one of no sectors is let go (`gone`). So a function that has an image gives it back, or
-//!   puts it into a disk.
-//! - `MappedDisk` keeps the contract of `Disk` over an image, honest and steady; `into_image` gives the image back with what the disk
-//!   has then. Nothing is copied: what is written is in the image at once, and a flush does nothing. A disk that is dropped leaves
-//!   its bytes in place and gives back no image.
+//!   sectors, whose concatenation is these bytes (`specs/Bytes`; `from_raw_parts`, `into_raw_parts`). `sectors_mut` lends them
+//!   in place, and no other code follows the pointer. All bytes 0 are an image of no sectors. It may go to another thread.
+//! - An image cannot be dropped, and only one of no sectors is consumed (`gone`). So a function that has an image gives it
+//!   back, or puts it into a disk.
+//! - `MappedDisk` keeps the contract of `Disk` over an image, honest and steady; `into_image` gives the image back with the
+//!   disk's contents. Nothing is copied: what is written is in the image at once, and a flush does nothing. A disk that is
+//!   dropped leaves its bytes in place and gives back no image.
 //! - The caller's part, which nothing checks: the bytes are at the pointer, may be read and written, and are nobody else's until the
 //!   image is given back.
 //!

@@ -35,7 +35,7 @@ impl MappedDisk {
         MappedDisk { image, count }
     }
 
-    /// The image, with what the disk has now.
+    /// The image, with the disk's contents.
     pub fn into_image(self) -> Image
         ensures { result ≡ self }
     {

@@ -1,4 +1,4 @@
-//! Boxes that are open.
+//! Boxes that are taken apart into their two fields.
 
 ghost use Rattle.std.specs.Prelude.{◌≡◌};
 ghost use Rattle.std.specs.Box.Ownership.{box_owns};
@@ -6,7 +6,7 @@ ghost use Rattle.std.specs.Box.Ownership.{box_owns};
 use std::alloc::Allocator;
 use std::marker::Model;
 
-/// Where a box has its value, and the heap that the block is given back to.
+/// The address of a box's value, and the allocator that the block is given back to.
 pub struct OpenBox<V, H: Allocator> {
     /// The address of the value.
     pub address: *mut V,

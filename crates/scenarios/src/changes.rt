@@ -1,4 +1,4 @@
-//! Streams that are like one but for a change.
+//! Streams that differ from a given one by one change.
 
 use anyhow::{Context, Result};
 use books::spelled;
@@ -15,11 +15,11 @@ enum Change {
     RecordsExchanged,
 }
 
-/// A stream, or the streams that are like it but for one change, each at another place. The text spells the stream; behind
-/// `EACH BEGINNING OF` it stands for what is before each of its bytes, behind `EACH BYTE TURNED IN` for the stream with the
-/// complement of each byte. Where its records are parted by ` | `, it stands for the stream with each of them twice behind
-/// `EACH RECORD TWICE IN`, without each of them behind `EACH RECORD LEFT OUT OF`, and with each of them behind the next one
-/// behind `EACH RECORD LATE IN`. The header is the first of them.
+/// A stream, or the streams that differ from it by one change, each at another position. The text encodes the stream. After
+/// `EACH BEGINNING OF` it stands for the bytes before each of its bytes, after `EACH BYTE TURNED IN` for the stream with the
+/// complement of each byte. If its records are separated by ` | `, then after `EACH RECORD TWICE IN` it stands for the stream
+/// with each record twice, after `EACH RECORD LEFT OUT OF` without each record, and after `EACH RECORD LATE IN` with each
+/// record moved after the next one. The header counts as the first record.
 #[derive(Drop)]
 pub struct Streams<'t> {
     change: Change,
@@ -44,7 +44,7 @@ impl<'t> Streams<'t> {
         self.bytes.as_slice()
     }
 
-    /// How many there are.
+    /// The number of streams.
     pub fn count(&self) -> usize {
         let records = self.text.split(" | ").count();
         match self.change {
@@ -55,7 +55,7 @@ impl<'t> Streams<'t> {
         }
     }
 
-    /// The stream that is changed at this place.
+    /// The stream that is changed at this position.
     pub fn stream(&self, alloc: Global, place: usize) -> Result<Vec<u8>> {
         match self.change {
             Change::Nothing => self.first(alloc, self.bytes.len()),
@@ -98,7 +98,7 @@ impl<'t> Streams<'t> {
         spelled(alloc, text.as_str())
     }
 
-    /// How often a record stands in its place.
+    /// How often a record is at its position.
     fn times(&self, at: usize, place: usize) -> usize {
         if at != place {
             return 1;
@@ -111,7 +111,7 @@ impl<'t> Streams<'t> {
     }
 }
 
-/// What a text says of the change, and the stream behind it.
+/// The change that a text names, and the stream after it.
 fn change_of(text: &str) -> (Change, &str) {
     let changes = [
         ("EACH BEGINNING OF ", Change::CutOff),

@@ -19,7 +19,7 @@ pub fn disks_of(alloc: Global, script: &Script, shapes: &[Shape]) -> Result<Vec<
     disks_by(alloc, script, script.plans(), shapes)
 }
 
-/// The disks of a script's machine where it is not sent.
+/// The disks of a script's machine that is not migrated.
 pub fn disks_alone(alloc: Global, script: &Script, shapes: &[Shape]) -> Result<Vec<TestDisk>> {
     disks_by(alloc, script, script.plans_alone(), shapes)
 }

@@ -9,13 +9,13 @@ use std::alloc::Global;
 use std::io::BufWriter;
 use wire::WriteSink;
 
-/// The number of the fault of a writer.
+/// The number of a writer's fault.
 const WRITER_FAILED: u8 = 4;
 
 /// The length of the stream of a machine of one page and one entropy device to which nothing has happened.
 const LEN: usize = 4221;
 
-/// Goes through all of it.
+/// Tries all of these.
 pub fn fails(alloc: Global) -> Result<()> {
     write_fails(alloc)?;
     flush_fails(alloc)
@@ -25,8 +25,8 @@ fn fresh_machine(alloc: Global) -> Result<Machine<TestDisk>> {
     Ok(Machine::new(alloc, 1, &[Shape::Entropy], Vec::new(alloc))?)
 }
 
-/// A slice is a writer that fails where it is full. Wherever that is, the failure is told, and the slice holds a beginning
-/// of the stream: so the machine that failed to be saved is saved again as it was, at the next byte and in the end whole.
+/// A slice is a writer that fails where it is full. Wherever that is, the failure is reported, and the slice holds a beginning
+/// of the stream. The machine stays as it was: each time it is saved into one byte more, and in the end whole.
 fn write_fails(alloc: Global) -> Result<()> {
     let mut machine = fresh_machine(alloc)?;
     let stream = saved(alloc, &mut machine)?;
@@ -59,7 +59,7 @@ fn is_saved_again(alloc: Global, machine: &mut Machine<TestDisk>, stream: &[u8])
     Ok(())
 }
 
-/// A writer that holds all back fails only where it is flushed: that is told as well.
+/// A writer that buffers everything fails only when it is flushed: that is reported as well.
 fn flush_fails(alloc: Global) -> Result<()> {
     let mut machine = fresh_machine(alloc)?;
     ends_at_the_flush(alloc, &mut machine, LEN - 1, WRITER_FAILED)?;

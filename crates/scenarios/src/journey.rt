@@ -1,4 +1,4 @@
-//! Machines that are saved, received, and go on.
+//! Machines that are saved, received, and continue.
 
 use crate::disks::TestDisk;
 use crate::playing::{play, plays_on};
@@ -10,8 +10,8 @@ use std::alloc::Global;
 
 /// A journey: where a machine comes from, the stream that it is saved as, and a script that it plays after that.
 ///
-/// It has the lines before a line `saved as`, those up to a line `then`, and those behind it. The first are a script, or
-/// a stream in which so many rounds ended, behind a line `rounds COUNT`.
+/// It has the lines before a line `saved as`, those up to a line `then`, and those after it. The first are a script, or, after
+/// a line `rounds COUNT`, a stream in which COUNT rounds ended.
 #[derive(Drop)]
 pub struct Journey<'t> {
     before: &'t str,
@@ -31,8 +31,8 @@ impl<'t> Journey<'t> {
         })
     }
 
-    /// The machine is saved as the stream, and the stream is received as a machine that is saved alike. Both play the
-    /// script, and are saved alike once more.
+    /// The machine is saved as the stream, and the stream is received as a machine that is saved as the same bytes. Both play
+    /// the script, and are saved as the same bytes once more.
     pub fn travel(&self, alloc: Global) -> Result<()> {
         let stream = spelled(alloc, self.stream)?;
         let here = self.end_of_machine(alloc, stream.as_slice())?;
@@ -51,7 +51,7 @@ impl<'t> Journey<'t> {
         self.end(alloc, &mut copy, stream)
     }
 
-    /// What a machine that is saved as this stream is saved as after it has played the script.
+    /// The stream of a machine after it has played the script; before that, it is saved as `stream`.
     fn end(
         &self,
         alloc: Global,

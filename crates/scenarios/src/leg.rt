@@ -39,7 +39,7 @@ impl Leg {
         Ok(Machine::new(alloc, self.trace.pages, shapes, disks)?)
     }
 
-    /// The same machine where it is not sent.
+    /// The same machine, where it is not migrated.
     pub fn machine_alone(&self, alloc: Global) -> Result<Machine<TestDisk>> {
         let shapes = self.trace.shapes.as_slice();
         let disks = disks_alone(alloc, &self.script, shapes)?;
@@ -56,7 +56,7 @@ impl Leg {
         self.script.replies()
     }
 
-    /// Plays so many of the events.
+    /// Plays the first `count` events.
     pub fn play(
         &self,
         alloc: Global,
@@ -72,12 +72,12 @@ impl Leg {
         }
     }
 
-    /// Whether anything is asked after so many events.
+    /// Whether anything is asked after `events` events.
     pub fn asks(&self, events: usize) -> bool {
         self.script.questions().iter().any(|q| q.0 == events)
     }
 
-    /// Answers what is asked after so many events.
+    /// Answers what is asked after `events` events.
     pub fn answer(&self, served: &mut Served, events: usize, out: &mut Vec<u8>) -> Result<()> {
         for (asked, question) in self.script.questions() {
             if *asked == events {
@@ -88,7 +88,7 @@ impl Leg {
     }
 }
 
-/// Plays events while a writer takes all.
+/// Plays events with a writer that takes all bytes.
 fn play_on(
     alloc: Global,
     way: Way,
@@ -101,7 +101,7 @@ fn play_on(
     Ok(served)
 }
 
-/// Plays events while a writer takes so many bytes: a slice fails where it is full.
+/// Plays events with a writer that takes `room` bytes: a slice fails where it is full.
 fn play_in_room(
     alloc: Global,
     way: Way,

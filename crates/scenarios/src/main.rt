@@ -1,9 +1,9 @@
-//! Goes through the books that it is given, and then through faults of writers, and writes the name of each scenario that is
-//! as it says. The first that is not ends the program.
+//! Carries out the books that it is given, and then faults of writers, and writes the name of each scenario that passes. The
+//! first that does not ends the program.
 //!
-//! What the lines of a book are, the folder says that it is in: `scripts` are machines and what happens to them, `streams`
-//! are machines that are saved and streams that are refused (`journey`, `refusal`), `migrations` are machines that are sent
-//! while they run (`migration`), `rehearsals` are machines whose move is rehearsed (`rehearsed`).
+//! The folder of a book says what its lines are: `scripts` are machines and what happens to them, `streams` are machines that
+//! are saved and streams that are refused (`journey`, `refusal`), `migrations` are machines that are migrated while they run
+//! (`migration`), `rehearsals` are machines whose move is rehearsed (`rehearsed`).
 #![tactic(auto)]
 
 mod changes;

@@ -1,4 +1,4 @@
-//! Machines that are sent while they run.
+//! Machines that are migrated while they run.
 
 use crate::disks::TestDisk;
 use crate::leg::Leg;
@@ -13,11 +13,11 @@ use sender::{LiveEvent, LiveReply};
 use std::alloc::Global;
 use traces::write_reply;
 
-/// A migration: the lines of a script among which the machine is sent. A line `ABORT` stands where the host gives up, and
-/// begins again with a writer that fails only where a line says so.
+/// A migration: the lines of a script among which the machine is sent. At a line `ABORT` the host gives up, and begins again
+/// with a writer that fails only where a line says so.
 ///
-/// Behind them may stand a line `sent as`, with the stream that they end in; a line `then`, with events that the machine
-/// and what arrived answer alike; or a line `counted`: then the stream is too long to be received here.
+/// They may be followed by a line `sent as`, with the stream that they end in; a line `then`, with events that the machine and
+/// the one that arrived answer alike; or a line `counted`: then the stream is too long to be received here.
 #[derive(Drop)]
 pub struct Migration<'t> {
     legs: Vec<Leg>,
@@ -26,9 +26,9 @@ pub struct Migration<'t> {
     is_counted: bool,
 }
 
-/// Shows a scenario of a book of migrations: the replies are as its lines say, by single calls and by the list, which write
-/// the same bytes. Where a stop closed the stream, what is received in pieces of any size is the machine, and so is a machine
-/// to which the same happened but for the migration. They stay the same.
+/// Shows a scenario of a book of migrations: the replies are as its lines say, by single calls and by the list, which write the
+/// same bytes. Where a stop closed the stream, the machine that is received in pieces of any size is the one that was sent, and
+/// so is a machine to which the same happened without the migration. They stay the same.
 pub fn show(alloc: Global, book: &Book, scenario: &Scenario) -> Result<()> {
     let text = book.text(alloc, scenario)?;
     let migration = Migration::read(alloc, text.as_str())?;
@@ -66,7 +66,7 @@ impl<'t> Migration<'t> {
         self.legs.first().context("no lines")
     }
 
-    /// What is there after so many events of a leg.
+    /// The state after `events` events of a leg.
     fn serve(&self, alloc: Global, way: Way, at: usize, events: usize) -> Result<Served> {
         let mut machine = self.first()?.machine(alloc)?;
         for leg in self.legs.iter().take(at) {
@@ -97,7 +97,7 @@ impl<'t> Migration<'t> {
         Ok(())
     }
 
-    /// Answers what is asked in the midst of a leg. The machine that is asked is not sent further.
+    /// Answers what is asked in the middle of a leg. The machine that is asked is not migrated further.
     fn answer(&self, alloc: Global, at: usize, events: usize, out: &mut Vec<u8>) -> Result<()> {
         let leg = self.legs.get(at).context("no such lines")?;
         if !leg.asks(events) {
@@ -107,7 +107,7 @@ impl<'t> Migration<'t> {
         leg.answer(&mut served, events, out)
     }
 
-    /// Fails where another machine arrives.
+    /// Fails if another machine arrives.
     fn arrives(&self, alloc: Global) -> Result<()> {
         let last = self.legs.len().saturating_sub(1);
         let Served {
@@ -141,7 +141,7 @@ impl<'t> Migration<'t> {
         Ok(())
     }
 
-    /// The machine after the same but for the migration.
+    /// The machine after the same events without the migration.
     fn machine_alone(&self, alloc: Global) -> Result<Machine<TestDisk>> {
         let mut machine = self.first()?.machine_alone(alloc)?;
         for (at, leg) in self.legs.iter().enumerate() {
@@ -153,7 +153,7 @@ impl<'t> Migration<'t> {
         Ok(machine)
     }
 
-    /// Plays what comes then on the machine, on what arrived and on the machine that was not sent.
+    /// Plays the events that follow on the machine, on the one that arrived and on the one that was not migrated.
     fn go_on(
         &self,
         alloc: Global,

@@ -33,7 +33,7 @@ pub fn play(alloc: Global, script: &Script) -> Result<Machine<TestDisk>> {
     Ok(machine)
 }
 
-/// The events of a trace in which nothing is sent.
+/// The events of a trace without a migration.
 fn guest_events(alloc: Global, events: Vec<LiveEvent>) -> Result<Vec<Event>> {
     let mut guest = Vec::new(alloc);
     for event in events {
@@ -45,7 +45,7 @@ fn guest_events(alloc: Global, events: Vec<LiveEvent>) -> Result<Vec<Event>> {
     Ok(guest)
 }
 
-/// Plays lines of events on a machine that is there. The replies must be as they say.
+/// Plays lines of events on a given machine. The replies must be as they say.
 pub fn plays_on(alloc: Global, machine: &mut Machine<TestDisk>, lines: &str) -> Result<()> {
     let mut script = Script::new(alloc);
     script.add(lines)?;
@@ -63,7 +63,7 @@ fn agrees(
     are_lines(replies.as_slice(), script.replies())
 }
 
-/// Fails at the first line that is not as it was to be.
+/// Fails at the first line that is not the expected one.
 pub fn are_lines(lines: &[u8], expected: &[u8]) -> Result<()> {
     let told = lines.split(|byte| *byte == b'\n');
     for (line, wanted) in told.zip(expected.split(|byte| *byte == b'\n')) {
@@ -94,7 +94,7 @@ fn replies_to(
     Ok(replies)
 }
 
-/// Answers what is asked after so many events.
+/// Answers what is asked after `events` events.
 fn answer_questions(
     machine: &mut Machine<TestDisk>,
     script: &Script,

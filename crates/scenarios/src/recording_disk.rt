@@ -22,7 +22,7 @@ pub struct RecordingDisk<'w> {
 }
 
 impl<'w> RecordingDisk<'w> {
-    /// A disk of so many sectors of zeros, whose writes come behind those of the list.
+    /// A disk of `sectors` sectors of zeros, whose writes are appended to the list.
     pub fn new(
         alloc: Global,
         sectors: u64,

@@ -1,4 +1,4 @@
-//! Bytes, and what is told of them when they are received.
+//! Bytes, and what a receiver reports of them.
 
 use crate::changes::Streams;
 use crate::disks::{TestDisk, disks_of};
@@ -9,19 +9,19 @@ use machine::{FaultDisk, MemDisk};
 use std::alloc::Global;
 use wire::decode_header;
 
-/// Of streams that differ in a byte and are told alike, one in so many is fed in pieces.
+/// Of streams that differ in a byte and are reported alike, one in this many is fed in pieces.
 const SELDOM: usize = 16;
 
-/// Receives the stream of a line, which stands before ` -> ` and the number of its refusal, or 0 where it is received. It
-/// is told alike in pieces of any size. Behind the number may stand ` AT ` and a place: so many bytes tell the refusal,
-/// and no fewer.
+/// Receives the stream of a line, which is followed by ` -> ` and the number of its refusal, or 0 where it is received. Fed in
+/// pieces of any size, it gets the same answer. After the number there may be ` AT ` and an offset: that many bytes show the
+/// refusal, and no fewer.
 ///
-/// The disks are those of the devices that the header tells. Before the stream may stand `NO DISK, AND`: then there is none;
+/// The disks are those of the devices that the header names. The stream may follow `NO DISK, AND`: then there is none;
 /// `A DISK, AND`: then there is one more; or a line of a script about disks, as `PLAN 0 1, AND`: then they are as this line
 /// says.
 ///
-/// A line may stand for many streams (`Streams`). Then the numbers are spelled like a stream, and of places `PLACE*COUNT`
-/// stands for so many that are the same.
+/// A line may stand for many streams (`Streams`). Then the numbers are encoded like a stream, and of the offsets `PLACE*COUNT`
+/// stands for COUNT equal ones.
 pub fn tells(alloc: Global, line: &str) -> Result<()> {
     let (streams, told) = line.split_once(" -> ").context("no number")?;
     let (numbers, places) = told.split_once(" AT ").unwrap_or((told, ""));
@@ -52,7 +52,7 @@ fn counted(alloc: Global, text: &str) -> Result<Vec<usize>> {
     Ok(numbers)
 }
 
-/// What is told of streams beside disks.
+/// What is reported of streams that are received with given disks.
 #[derive(Drop)]
 struct Refusals<'t> {
     disks: &'t str,
@@ -61,7 +61,7 @@ struct Refusals<'t> {
 }
 
 impl<'t> Refusals<'t> {
-    /// Fails where another refusal is told of the stream that is changed at this place.
+    /// Fails if another refusal is reported of the stream that is changed at this position.
     fn tell(&self, alloc: Global, streams: &Streams, place: usize) -> Result<()> {
         let stream = streams.stream(alloc, place)?;
         let number = self.numbers.get(place).context("no number")?;
@@ -74,7 +74,7 @@ impl<'t> Refusals<'t> {
         Ok(())
     }
 
-    /// Whether this stream is told as the one before it.
+    /// Whether this stream gets the same answer as the one before it.
     fn is_as_before(&self, place: usize) -> bool {
         match place.checked_sub(1) {
             Some(before) => self.numbers.get(place) == self.numbers.get(before),
@@ -82,7 +82,7 @@ impl<'t> Refusals<'t> {
         }
     }
 
-    /// Fails where the stream is told otherwise or elsewhere in pieces of any size.
+    /// Fails if the stream, fed in pieces of any size, gets another answer or gets it at another byte.
     fn tell_in_pieces(&self, alloc: Global, streams: &Streams, place: usize) -> Result<()> {
         let stream = streams.stream(alloc, place)?;
         let number = self.numbers.get(place).context("no number")?;
@@ -101,7 +101,7 @@ impl<'t> Refusals<'t> {
         Ok(())
     }
 
-    /// The disks beside which streams are received.
+    /// The disks with which streams are received.
     fn disks_beside(&self, alloc: Global, streams: &Streams) -> Result<Vec<TestDisk>> {
         match self.disks {
             "NO DISK" => Ok(Vec::new(alloc)),
@@ -111,7 +111,7 @@ impl<'t> Refusals<'t> {
     }
 }
 
-/// Disks of the devices that the header of a stream tells, as lines of a script say of them.
+/// Disks of the devices that the header of a stream names, as lines of a script say of them.
 fn disks_by(alloc: Global, lines: &str, stream: &[u8]) -> Result<Vec<TestDisk>> {
     let mut script = Script::new(alloc);
     script.add(lines)?;

@@ -12,19 +12,19 @@ use sender::LiveReply;
 use std::alloc::Global;
 use traces::{Trace, parse, write_reply};
 
-/// How often a stream is cut: no stream here is longer.
+/// How many cuts a stream gets: no stream here is longer.
 const CUTS: usize = 8192;
 
 /// How many pieces of odd sizes are cut off: they are 10,000 bytes.
 const ODD_CUTS: usize = 100;
 
 /// Shows a scenario of a book of rehearsals: the lines of a script of a machine with one disk, in which the machine is sent,
-/// and behind a line `written` what is written to the disk of the machine that arrives, a line for each write: the sector, and
+/// and after a line `written` what is written to the disk of the machine that arrives, a line for each write: the sector, and
 /// its bytes as `spelled` reads them.
 ///
 /// The replies are as the lines say, both machines answer alike and are saved alike, and that disk is written to as the lines
-/// say: whatever does without the stream writes otherwise. The stream is fed whole, in pieces of one size, and in
-/// pieces of 1, 3, 5 bytes and so on.
+/// say: a move that did not use the stream would write otherwise. The stream is fed whole, in pieces of one size, and in pieces
+/// of 1, 3, 5 bytes and so on.
 pub fn show(alloc: Global, book: &Book, scenario: &Scenario) -> Result<()> {
     let text = book.text(alloc, scenario)?;
     let (lines, written) = text
@@ -94,7 +94,7 @@ fn sectors_of(trace: &Trace) -> Result<u64> {
     bail!("no disk")
 }
 
-/// One disk, whose writes come behind those of the list.
+/// One disk, whose writes are appended to the list.
 fn recording_disks<'w>(
     alloc: Global,
     sectors: u64,
@@ -105,7 +105,7 @@ fn recording_disks<'w>(
     Ok(disks)
 }
 
-/// Fails where another machine arrives over these disks.
+/// Fails if another machine arrives over these disks.
 fn arrives<E: Disk + Drop>(
     alloc: Global,
     script: &Script,
@@ -152,7 +152,7 @@ fn lines_of(alloc: Global, replies: &[LiveReply]) -> Result<Vec<u8>> {
     Ok(lines)
 }
 
-/// Fails where the last replies of the machine that was sent are not those of the machine that arrived.
+/// Fails if the last replies of the machine that was sent are not those of the machine that arrived.
 fn answered_alike(replies: &[LiveReply], arrived: &[Reply]) -> Result<()> {
     let before = replies
         .len()

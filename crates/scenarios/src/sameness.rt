@@ -7,8 +7,8 @@ use anyhow::{Result, ensure};
 use machine::{Event, Machine};
 use std::alloc::Global;
 
-/// Fails where two machines differ: in their devices, their RAM, their sectors, their interrupt lines, or in the stream
-/// that each is saved as.
+/// Fails if two machines differ: in their devices, their RAM, their sectors, their interrupt lines, or in the stream that each
+/// is saved as.
 pub fn are_same(
     alloc: Global,
     one: &mut Machine<TestDisk>,

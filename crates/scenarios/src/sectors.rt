@@ -5,7 +5,7 @@ use anyhow::{Result, bail};
 use machine::{Machine, SECTOR_SIZE};
 use std::io::Write;
 
-/// Writes what a sector holds: its bytes, or that it is bad, or that its disk failed.
+/// Writes the contents of a sector: its bytes, or that it is bad, or that its disk failed.
 pub fn write_sector(
     machine: &mut Machine<TestDisk>,
     dev: u8,

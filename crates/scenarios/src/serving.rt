@@ -7,7 +7,7 @@ use sender::{CopyAnswer, End, Live, LiveEvent, LiveReply, Remaining, Replay, Sto
 use std::alloc::Global;
 use wire::Sink;
 
-/// How live events are played.
+/// How the events of a migration are played.
 #[derive(Clone, Copy, Debug, PartialEq, Eq)]
 pub enum Way {
     /// By a call for each.
@@ -17,23 +17,23 @@ pub enum Way {
     List,
 }
 
-/// What is there after live events.
+/// The state after the events of a migration.
 #[derive(Drop)]
 pub struct Served {
     /// The machine.
     pub machine: Machine<TestDisk>,
 
-    /// What each event was answered.
+    /// The reply to each event.
     pub replies: Vec<LiveReply>,
 
-    /// What was written, where the writer does not fail.
+    /// The bytes written, where the writer does not fail.
     pub written: Vec<u8>,
 
     /// How many items are still to be sent, where the events were played by calls.
     pub remaining: Option<Remaining>,
 }
 
-/// Plays the events in a way. The bytes written are left to the writer.
+/// Plays the events in one of the ways. The bytes written stay with the writer.
 pub fn serve<W: Sink + Drop>(
     alloc: Global,
     way: Way,
@@ -47,7 +47,7 @@ pub fn serve<W: Sink + Drop>(
     }
 }
 
-/// Plays the events in a way, and gives up.
+/// Plays the events in one of the ways. The writer is not given back.
 pub fn serve_and_abort<W: Sink + Drop>(
     alloc: Global,
     way: Way,
@@ -77,7 +77,7 @@ fn serve_calls<W: Sink + Drop>(
     Ok((outcome(alloc, machine, replies, remaining), writer))
 }
 
-/// What a call for each event answers, and the machine on its way.
+/// Plays each event by a call: the replies, and the migration as it is then.
 fn play_calls<W: Sink + Drop>(
     alloc: Global,
     machine: Machine<TestDisk>,
@@ -123,7 +123,7 @@ fn serve_list<W: Sink + Drop>(
     Ok((outcome(alloc, machine, replies, None), out))
 }
 
-/// What the call for an event answers.
+/// The reply of the call for an event.
 fn answer<W: Sink>(live: &mut Live<TestDisk, W>, event: &LiveEvent) -> LiveReply {
     let answered = match event {
         LiveEvent::Guest(event) => live.apply(event).map(LiveReply::Guest),

@@ -10,13 +10,13 @@ use sender::save;
 use std::alloc::Global;
 use wire::{WriteSink, decode_header};
 
-/// The sizes of the pieces in which each stream is fed too.
+/// The sizes of the pieces in which each stream is fed as well.
 pub const PIECES: [usize; 6] = [1, 2, 3, 511, 4101, 65_536];
 
-/// The number of the refusal of all that comes behind a refusal.
+/// The number of the refusal of every piece after a refusal.
 const REFUSED_BEFORE: u8 = 16;
 
-/// Lines with a line `saved as` are a journey; those of every other scenario are streams and what is told of them.
+/// Lines with a line `saved as` are a journey; those of every other scenario are streams and what a receiver reports of them.
 pub fn show(alloc: Global, lines: &str) -> Result<()> {
     if let Some(journey) = Journey::read(lines) {
         return journey.travel(alloc);
@@ -34,7 +34,7 @@ pub fn saved<D: Disk>(alloc: Global, machine: &mut Machine<D>) -> Result<Vec<u8>
     Ok(sink.into_inner())
 }
 
-/// The machine of a stream in which so many rounds ended.
+/// The machine of a stream in which `rounds` rounds ended.
 pub fn arrived(alloc: Global, stream: &[u8], rounds: u32) -> Result<Machine<TestDisk>> {
     let header = decode_header(alloc, stream)?.context("no header")?;
     let disks = disks_for(alloc, header.shapes.as_slice())?;
@@ -43,7 +43,7 @@ pub fn arrived(alloc: Global, stream: &[u8], rounds: u32) -> Result<Machine<Test
     Ok(machine)
 }
 
-/// The machine of a stream in which so many rounds ended, received in pieces of so many bytes.
+/// The machine of a stream in which `rounds` rounds ended, received in pieces of `size` bytes.
 pub fn arrived_in_pieces(
     alloc: Global,
     stream: &[u8],
@@ -60,15 +60,15 @@ pub fn arrived_in_pieces(
     Ok(receiver.finish()?)
 }
 
-/// The number of the refusal of a stream beside these disks, or 0 where it is received.
+/// The number of the refusal of a stream with these disks, or 0 where it is received.
 pub fn refusal_of(alloc: Global, stream: &[u8], disks: Vec<TestDisk>) -> u8 {
     receive(alloc, stream, disks)
         .err()
         .map_or(0, RecvError::code)
 }
 
-/// The number of the refusal of a stream that is fed in pieces of so many bytes, or 0 where it is received; and how many
-/// bytes were fed then. It fails where a receiver that refused a piece does not refuse all that comes behind it.
+/// The number of the refusal of a stream that is fed in pieces of `size` bytes, or 0 where it is received; and how many bytes
+/// were fed by then. It fails if a receiver that refused a piece does not refuse every piece after it.
 pub fn refusal_in_pieces(
     alloc: Global,
     stream: &[u8],
@@ -88,7 +88,7 @@ pub fn refusal_in_pieces(
     Ok((refusal.map_or(0, RecvError::code), fed))
 }
 
-/// Fails where a receiver takes anything more.
+/// Fails if a receiver takes anything more.
 fn stays_refused(mut receiver: Receiver<TestDisk>) -> Result<()> {
     let fed = receiver.feed(&[0]).err().map_or(0, RecvError::code);
     let rounds = receiver.rounds();

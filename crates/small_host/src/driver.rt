@@ -13,7 +13,7 @@ pub const DISK: u8 = 1;
 /// The register whose writes are kicks (VIRTIO 1.2, 4.2.2).
 const QUEUE_NOTIFY: u32 = 0x050;
 
-/// Why the guest stopped: what its host does for it before it continues.
+/// A guest's exit: what its host does for it before it continues.
 #[derive(Clone, Copy)]
 pub enum Exit {
     /// It reads the register of a device at an offset.
@@ -122,7 +122,7 @@ pub const WRITE_SECTOR: [Exit; 9] = [
     Exit::Store(0x104c, b"\x01\0"), // used_event
 ];
 
-/// It reads the sector again, into another place.
+/// It reads the sector again, into another buffer.
 pub const READ_SECTOR: [Exit; 5] = [
     Exit::Store(0x1010, b"\x00\x16\0\0\0\0\0\0\0\x02\0\0\x03\0\x02\0"), // descriptor 1: 512 writable bytes at 0x1600
     Exit::Store(0x1100, b"\0"), // IN

@@ -1,10 +1,10 @@
-//! What the loop needs of a machine, whether it is sent meanwhile or not. So one loop serves both.
+//! What the loop needs of a machine, whether it is being migrated or not. So one loop serves both.
 
 use crate::host::done;
 use anyhow::{Result, bail};
 use vmig::{Event, Live, Machine, MemDisk, Reply, WriteSink};
 
-/// A machine that is sent, and the bytes that were written of it.
+/// A machine that is being migrated, and the bytes written for it.
 pub type Moving = Live<MemDisk, WriteSink<Vec<u8>>>;
 
 /// A machine whose guest runs.
@@ -12,7 +12,7 @@ pub trait Guest: Drop {
     /// Applies an event of the guest, or a step.
     fn apply(&mut self, event: &Event) -> Result<Reply>;
 
-    /// Puts bytes in, and answers how many were kept.
+    /// Puts bytes in, and returns how many were kept.
     fn input(&mut self, dev: u8, bytes: &[u8]) -> Result<u32>;
 
     /// The machine, to be read.
@@ -33,7 +33,7 @@ impl Guest for Machine<MemDisk> {
     }
 }
 
-/// While a machine is sent, what an event writes into is noted, and sent again.
+/// While a machine is being migrated, what an event writes into is noted, and sent again.
 impl Guest for Moving {
     fn apply(&mut self, event: &Event) -> Result<Reply> {
         Ok(Live::apply(self, event)?)

@@ -10,8 +10,8 @@ use vmig::{Event, Machine, MemDisk, Refusal, Reply, Shape, Work, WriteSink, rece
 /// Sectors of the guest's disk.
 pub const SECTORS: u64 = 8;
 
-/// The most steps of one turn. A guest can give its devices work without end, so a host makes so many at a time, and lets its
-/// guest run between two turns.
+/// The most steps of one turn. A guest can give its devices work without end, so a host makes at most this many in a row, and
+/// lets its guest run between two turns.
 const STEPS: u32 = 1000;
 
 /// A machine, and its interrupt lines as the guest has them.

@@ -1,4 +1,4 @@
-//! A small host: the loop that a host writes around the library, whole. A scripted driver takes the place of a VCPU. The machine
+//! A small host: the whole loop that a host writes around the library. A scripted driver takes the place of a VCPU. The machine
 //! is saved while a buffer of the driver still waits, is received again, and continues there; then it moves to a third host
 //! while its guest reads its disk.
 #![tactic(auto)]

@@ -7,16 +7,17 @@ use anyhow::{Result, bail};
 use std::io::Write;
 use vmig::{CopyAnswer, Live, Machine, MemDisk, Receiver, WriteSink};
 
-/// With so few dirty items the guest is paused, and the rest is sent.
+/// With at most this many dirty items the guest is paused, and the rest is sent.
 const FEW: u64 = 1;
 
-/// After so many rounds it is paused however many there are: a guest may write faster than its pages are sent.
+/// After this many rounds it is paused however many there are: a guest may write faster than its pages are sent.
 const ROUNDS: u32 = 8;
 
 /// The bytes of the stream that are sent at a time.
 const PIECE: usize = 1000;
 
-/// The machine as it arrives. Its guest runs meanwhile, and is served as ever: after each of its exits one item is sent.
+/// Migrates the machine, and gives the one that arrives. Its guest runs meanwhile, and is served as before: after each of its
+/// exits one item is sent.
 pub fn migrate(
     rt: &HostRuntime,
     host: Host<Machine<MemDisk>>,
@@ -67,7 +68,7 @@ fn send_due(live: &mut Moving) -> Result<()> {
     Ok(())
 }
 
-/// The machine that a stream gives, fed as it comes, over disks of the same sizes.
+/// Receives the machine of a stream, fed in pieces, over disks of the same sizes.
 fn arrive(rt: &HostRuntime, stream: &[u8]) -> Result<Machine<MemDisk>> {
     let mut receiver = Receiver::new(rt.alloc(), disks(rt)?);
     for piece in stream.chunks(PIECE) {

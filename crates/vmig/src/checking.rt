@@ -1,4 +1,4 @@
-//! A stream that is checked.
+//! The command `check`: a stream is received over disks in memory.
 
 ghost use Rattle.std.specs.Prelude.{◌≡◌, ◌∷◌, ◌++◌, [], IfOk, IfErr, OnOk, OnErr, length, map};
 ghost use Rattle.std.specs.Io.KnownBytes.{Appends};
@@ -44,7 +44,7 @@ fn check_bytes<O: Write>(alloc: Global, bytes: &[u8], out: &mut O) -> Result<(),
     Ok(())
 }
 
-/// The machine of a stream, over disks in memory, and how many rounds ended in it.
+/// The machine of a stream, over disks in memory, and the number of rounds that ended in it.
 fn receive_in_memory(alloc: Global, bytes: &[u8]) -> Result<(Machine<MemDisk>, u32), Fault<'static>>
     ensures received { IfOk result (λ x. IsReceived bytes.now (state_of x.0) x.1) }
     ensures failed { IfErr result (TellsOfStream bytes.now) }
@@ -54,7 +54,7 @@ fn receive_in_memory(alloc: Global, bytes: &[u8]) -> Result<(Machine<MemDisk>, u
     Ok(received)
 }
 
-/// Disks of zeros in memory for the devices that the header of a stream tells. None where the bytes begin with no header.
+/// Disks of zeros in memory for the devices that the header of a stream names. None where the bytes begin with no header.
 fn memory_disks(alloc: Global, bytes: &[u8]) -> Result<Vec<MemDisk>, NoMemory>
     ensures { IfOk result (λ disks. AreSizesOf bytes.now (map length disks.items)) }
 {
@@ -86,7 +86,7 @@ fn add_disk(alloc: Global, shape: Shape, disks: &mut Vec<MemDisk>) -> Result<(),
     Ok(())
 }
 
-/// Writes the line of a checked stream and flushes it, or a beginning of it.
+/// Writes the line of a checked stream and flushes it; on a fault, a beginning of it was written.
 #[tactic(auto, using(crate::proofs::Written::flushed, crate::proofs::Written::flush_failed))]
 fn write_line<O: Write>(
     pages: u32,

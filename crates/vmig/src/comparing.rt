@@ -1,4 +1,4 @@
-//! A trace whose machine is moved on the way, and then compared with the one that arrived.
+//! The command `rehearse`: a trace whose machine is moved on the way, and then compared with the one that arrived.
 
 ghost use Rattle.std.specs.Prelude.{◌≡◌, ◌<◌, ◌++◌, ◌↔◌, List, length, map, slice_get, IfErr, IfOk, IsTrue, None, OnErr, OnOk, flat_map};
 ghost use Rattle.std.specs.Io.KnownBytes.{Appends};
@@ -24,13 +24,13 @@ use std::io::Write;
 use std::rt::Files;
 use traces::{Trace, WriteFault, parse, put};
 
-/// What came of a machine that was rehearsed to move.
+/// The outcome of a rehearsed move.
 #[derive(Clone, Copy, Debug, PartialEq, Eq)]
 enum Verdict {
     /// Both machines answered alike, and are alike.
     Equal,
 
-    /// They did not, or are not.
+    /// They did not answer alike, or are not alike.
     Differ,
 
     /// No stop closed the stream.
@@ -41,7 +41,7 @@ enum Verdict {
 }
 
 /// Plays the trace in the file of this name on a fresh machine with disks of zeros in memory, moves it on the way to another
-/// with such disks, and plays on both what remains.
+/// with such disks, and plays the rest on both.
 pub fn rehearse_trace<'a, R: Files + AllocGlobal, O: Write>(
     rt: &R,
     name: &'a str,
@@ -88,8 +88,8 @@ fn rehearsed(alloc: Global, trace: &Trace) -> Result<Rehearsal<MemDisk, MemDisk>
     Ok(rehearse(alloc, machine, trace.events.as_slice(), disks, &[]))
 }
 
-/// The fresh machine of a trace, over disks of zeros. Its shape is tested before a disk is made: without disks, a machine that
-/// wants some is refused for want of them, and one beyond the limits for that.
+/// The fresh machine of a trace, over disks of zeros. Its shape is tested before a disk is made: made without disks, a machine
+/// that needs some is refused because they are missing, and one beyond the limits for its limits.
 fn fresh_machine(alloc: Global, trace: &Trace) -> Result<Machine<MemDisk>, Fault<'static>>
     ensures fresh { IfOk result (IsFresh (contents_of trace.now)) }
     ensures failed { IfErr result (TellsOfRehearsed (contents_of trace.now)) }
@@ -108,7 +108,7 @@ fn fresh_machine(alloc: Global, trace: &Trace) -> Result<Machine<MemDisk>, Fault
     }
 }
 
-/// The replies of the machine that was sent, and what came of it.
+/// The replies of the machine that was sent, and the outcome of its move.
 fn judge<D: Disk + Drop, E: Disk + Drop>(rehearsal: Rehearsal<D, E>) -> (Vec<LiveReply>, Verdict)
     ensures { (c : Contents) → IsRehearsed c rehearsal → HasCome c result.0.items result.1 }
 {
@@ -274,7 +274,7 @@ fn have_same_sector<D: Disk + Drop, E: Disk + Drop>(
     !is_good || here.as_slice() == there.as_slice()
 }
 
-/// Writes the lines of the replies and that of the verdict, and flushes them, or a beginning of them.
+/// Writes the lines of the replies and that of the verdict, and flushes them; on a fault, a beginning of them was written.
 fn write_verdict<O: Write>(
     replies: &[LiveReply],
     verdict: Verdict,
@@ -288,7 +288,7 @@ fn write_verdict<O: Write>(
     flush(out)
 }
 
-/// Writes the line of the verdict, if it has one, or a beginning of it.
+/// Writes the line of the verdict, if it has one; on a fault, a beginning of it was written.
 fn put_verdict<O: Write>(verdict: Verdict, out: &mut O) -> Result<(), WriteFault>
     ensures ok { OnOk result (Appends (O.contents out.old) (O.contents out.new) (verdict_line verdict)) }
     ensures err { OnErr result (AppendsBeginning (O.contents out.old) (O.contents out.new) (verdict_line verdict)) }

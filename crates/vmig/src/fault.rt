@@ -1,4 +1,4 @@
-//! The faults of the program: which refusal each stands for, its exit status, and its line on standard error.
+//! The faults of the program: for which refusal each is, its exit status, and its line on standard error.
 
 ghost use Rattle.std.specs.Prelude.{◌≡◌, OnOk, OnErr};
 ghost use Rattle.std.specs.Io.KnownBytes.{Appends};
@@ -16,19 +16,19 @@ use traces::{TraceError, WriteFault, put, put_line, put_number};
 /// The name that stands for standard output where it fails.
 const STANDARD_OUTPUT: &str = "-";
 
-/// Why a run did not go through.
+/// Why a run failed.
 #[derive(Clone, Copy)]
 pub enum Fault<'a> {
     /// Memory was refused outside a reply.
     NoMemory,
 
-    /// The words are no line of the program.
+    /// The words are none of the program's command lines.
     Usage,
 
     /// The file of this name can't be opened, made or read, or is no image of a disk, or standard output failed.
     File(&'a str),
 
-    /// The first bad line of the trace, or the first that begins to send its machine where there is no stream.
+    /// The first bad line of the trace, or, where there is no stream, the first that begins to send its machine.
     Line(u64),
 
     /// The refusal of a machine of this shape, by its number.
@@ -40,7 +40,7 @@ pub enum Fault<'a> {
     /// The stream could not be written.
     StreamOut,
 
-    /// What was rehearsed did not arrive as an equal machine. Standard output says so.
+    /// A rehearsed move did not end in equal machines. Standard output says so.
     NotEqual,
 }
 
@@ -106,7 +106,7 @@ impl From<WriteFault> for Fault<'_> {
 }
 
 impl<'a> Fault<'a> {
-    /// What a file of this name that can't be opened, made or read is to the program.
+    /// The fault for a file of this name that can't be opened, made or read.
     pub fn of_file(name: &'a str, kind: ErrorKind) -> Fault<'a>
         ensures { result ≡ file_fault name.entry kind }
     {
@@ -129,7 +129,8 @@ impl<'a> Fault<'a> {
         }
     }
 
-    /// Writes its line and LF, or a beginning of it; one that standard output told has none. It takes no memory.
+    /// Writes the fault's line and LF; on a fault of the writer, a beginning of them was written. `NotEqual` has no line:
+    /// standard output has already said it. It takes no memory.
     pub fn write<W: Write>(self, out: &mut W) -> Result<(), WriteFault>
         ensures ok { OnOk result (Appends (W.contents out.old) (W.contents out.new) (fault_line self.entry)) }
         ensures err { OnErr result (AppendsBeginning (W.contents out.old) (W.contents out.new) (fault_line self.entry)) }

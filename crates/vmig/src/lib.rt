@@ -8,23 +8,24 @@
 //! `execute` is the whole program: its words, the files that they name, what it prints and its exit status. The crate
 //! `vmig_program` is `main` alone.
 //!
-//! What the layer above may rely on: `execute` answers 2 exactly where the words are no line of the program, and 0 only
-//! where it wrote the lines of the replies of a machine to a trace, or the line of a stream, and nothing to standard
-//! error. With every other status a fault says why, and its line was written to standard error, or a beginning of it where
-//! that failed. Each refusal of a layer below has its fault. Nothing was written to standard output before a fault, but where that
-//! failed itself, or where the fault comes behind the whole output: of a stream that could not be written, or of a rehearsal
-//! that did not end in equal machines. `rehearse` writes `equal` only of machines that answered alike and have the same lines, RAM
-//! and sectors, and `differ` only where memory was refused to one of them. The contracts of files say nothing of what a file holds. So that the trace or the stream
-//! is the one in the file, and that what sends a machine is what the new file holds, is not in its contract, and of a run over an
-//! image it says only that there is a line for a reply to each event: the crate `calls` shows all of this.
+//! What the layer above may rely on: `execute` returns 2 exactly where the words are none of the program's command lines, and 0
+//! only where it wrote the lines of the replies of a machine to a trace, or the line of a stream, and nothing to standard
+//! error. With every other status a fault says why, and its line was written to standard error, or, where that failed, a
+//! beginning of it. Each refusal of a layer below has its fault. Nothing was written to standard output before a fault, but
+//! where standard output itself failed, or where the fault comes after the whole output: of a stream that could not be written,
+//! or of a rehearsal that did not end in equal machines. `rehearse` writes `equal` only of machines that answered alike and
+//! have the same lines, RAM and sectors, and `differ` only where memory was refused to one of them. The contracts of files say
+//! nothing of what a file holds. So its contract does not say that the trace or the stream is the one in the file, nor that the
+//! new file holds what was sent of a machine, and of a run over an image it says only that there is a reply's line for each
+//! event: the crate `calls` tests all of this.
 //!
-//! The definitions stand in `specs/`: `Words` the program's words, `Faults` which refusal each fault stands for, its status
-//! and its line, `Playing`, `Resuming`, `Checking` and `Comparing` what `run`, `resume`, `check` and `rehearse` write and what a
-//! fault of theirs says, `Output` how much of it was written, and `Run` all of it by the words. `Commands` is for the private
-//! parts of `words` alone.
+//! The definitions are in `specs/`: `Words` the program's words, `Faults` for which refusal each fault is, its status and its
+//! line, `Playing`, `Resuming`, `Checking` and `Comparing` what `run`, `resume`, `check` and `rehearse` write and what a fault
+//! of theirs says, `Output` how much of it was written, and `Run` all of it by the words. `Commands` is for the private parts
+//! of `words` alone.
 //!
-//! It stands on the crates that it hands on, and on `clap` for the words, of which this crate first finds that they are a line of
-//! its own; that clap then refuses them only for want of memory, and finds the names that stand in them, is proved.
+//! It uses the crates that it re-exports, and `clap` for the words. It first checks itself that the words are one of its
+//! command lines; that clap then refuses them only if it is out of memory, and finds the names in them, is proved.
 #![tactic(auto)]
 
 mod checking;

@@ -14,7 +14,7 @@ use std::os::unix::fs::MetadataExt;
 use std::rt::Files;
 use traces::{WriteFault, write_guest_reply, write_reply};
 
-/// What the file of this name holds.
+/// The contents of the file of this name.
 pub fn read_file<'a, R: Files + AllocGlobal>(rt: &R, name: &'a str) -> Result<Vec<u8>, Fault<'a>>
     ensures { IfErr result (TellsOfFile name.entry.now) }
 {
@@ -50,7 +50,7 @@ pub fn open_apart<'a, R: Files>(
     open_file(rt, name)
 }
 
-/// The file of this name, made anew.
+/// Makes the file of this name anew.
 fn create_file<'a, R: Files>(rt: &R, name: &'a str) -> Result<R::File, Fault<'a>>
     ensures { IfErr result (TellsOfFile name.entry.now) }
 {
@@ -60,7 +60,7 @@ fn create_file<'a, R: Files>(rt: &R, name: &'a str) -> Result<R::File, Fault<'a>
     }
 }
 
-/// The file of this name, made anew, unless it is one of those that are read: then nothing is made.
+/// Makes the file of this name anew, unless it is one of those that are read: then nothing is made.
 pub fn create_apart<'a, R: Files>(
     rt: &R,
     name: &'a str,
@@ -84,7 +84,7 @@ fn is_same_file<R: Files>(rt: &R, one: &str, other: &str) -> bool {
     one.dev() == other.dev() && one.ino() == other.ino()
 }
 
-/// What is told by a line of its own.
+/// A value that is printed as a line of its own.
 pub trait Line {
     ghost use Rattle.std.specs.Prelude.{ℕ, List, OnOk, OnErr};
     ghost use Rattle.std.specs.Io.KnownBytes.{Appends};
@@ -93,7 +93,7 @@ pub trait Line {
     /// The line, with its LF.
     ghost line: { Self → List ℕ };
 
-    /// Writes the line, or a beginning of it.
+    /// Writes the line; on a fault, a beginning of it was written.
     fn write<O: Write>(&self, out: &mut O) -> Result<(), WriteFault>
         ensures ok { OnOk result (Appends (O.contents out.old) (O.contents out.new) (line self.now)) }
         ensures err { OnErr result (AppendsBeginning (O.contents out.old) (O.contents out.new) (line self.now)) };
@@ -115,7 +115,7 @@ impl Line for LiveReply {
     }
 }
 
-/// Writes lines, one after another, or a beginning of them.
+/// Writes lines, one after another; on a fault, a beginning of them was written.
 pub fn write_each<L: Line, O: Write>(lines: &[L], out: &mut O) -> Result<(), WriteFault>
     ensures ok { OnOk result (Appends (O.contents out.old) (O.contents out.new) (flat_map L.line lines.now)) }
     ensures err { OnErr result (AppendsBeginning (O.contents out.old) (O.contents out.new) (flat_map L.line lines.now)) }
@@ -126,7 +126,7 @@ pub fn write_each<L: Line, O: Write>(lines: &[L], out: &mut O) -> Result<(), Wri
     Ok(())
 }
 
-/// Writes lines, one after another, and flushes them, or a beginning of them.
+/// Writes lines, one after another, and flushes them; on a fault, a beginning of them was written.
 #[tactic(auto, using(crate::proofs::Written::flushed, crate::proofs::Written::flush_failed))]
 pub fn write_all<L: Line, O: Write>(lines: &[L], out: &mut O) -> Result<(), WriteFault>
     ensures ok { OnOk result (Appends (O.contents out.old) (O.contents out.new) (flat_map L.line lines.now)) }

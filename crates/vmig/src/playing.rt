@@ -1,4 +1,4 @@
-//! A trace that is played.
+//! The command `run`: a trace is played on a new machine.
 
 ghost use Rattle.std.specs.Prelude.{◌≡◌, [], IfOk, IfErr, OnOk, All, IsTrue, None, length, map, Some};
 ghost use Rattle.std.specs.List.{list_any};
@@ -21,8 +21,8 @@ use std::rt::Files;
 use traces::{Trace, parse};
 use wire::WriteSink;
 
-/// Plays the trace in the file of this name on a fresh machine, over the image of a disk or over none. What sends the machine
-/// goes to the file of the stream.
+/// Plays the trace in the file of this name on a fresh machine, over the image of a disk or over none. If the trace sends the
+/// machine, its stream goes to the file of the stream.
 pub fn run_trace<'a, R: Files + AllocGlobal, O: Write>(
     rt: &R,
     name: &'a str,
@@ -70,7 +70,7 @@ fn has_stream(trace: &Trace, stream: Option<&str>) -> Result<(), Fault<'static>>
     Ok(())
 }
 
-/// Whether the writer failed: then some reply says so.
+/// Whether some reply says that the writer failed.
 fn has_failed(replies: &[LiveReply]) -> bool
     ensures { result ≡ list_any is_fault replies.now }
 {
@@ -144,7 +144,7 @@ fn replies_to<'a, R: Files + AllocGlobal, D: Disk + Drop>(
     }
 }
 
-/// The replies of a machine that is sent to a writer, which is let go then.
+/// The replies of a machine that is sent to a writer, which is dropped at the end.
 fn replies_of<D: Disk + Drop, W: Write + Drop>(
     alloc: Global,
     machine: Machine<D>,

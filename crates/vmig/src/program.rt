@@ -19,22 +19,21 @@ use std::rt::Files;
 /// Runs the program on the words after its name:
 ///
 /// - `run TRACE [--disk IMAGE] [--out STREAM]` plays the trace in a file on a fresh machine, and writes one line a reply. The
-///   bytes of the file IMAGE are the sectors of its disk, which is read and written. What sends the machine goes to the file
+///   bytes of the file IMAGE are the sectors of its disk, which is read and written. The stream of a migration goes to the file
 ///   STREAM, which is made anew before the first event.
 /// - `resume STREAM TRACE [--disk IMAGE]` receives the machine of a stream, its disk in the file IMAGE, and plays the events of
 ///   the trace on it.
-/// - `check STREAM` reads a stream over disks in memory, and writes `ok P D R`: the pages and devices of its machine, and how
-///   many rounds ended in it.
+/// - `check STREAM` reads a stream over disks in memory, and writes `ok P D R`: the pages and devices of its machine, and the
+///   number of rounds that ended in it.
 /// - `rehearse TRACE` plays a trace over disks of zeros in memory, moves the machine where the trace stops it, plays the rest on
 ///   both machines, and writes the replies of the first, and then `equal`, `differ`, or `no stop`.
 ///
-/// It answers the exit status, and writes what it stands for to `err`: 0 nothing; 1 `vmig: memory`; 2 `vmig: usage`;
-/// 3 `vmig: file NAME`, where NAME is `-` for standard output, and also that of an image whose length is no multiple of 512
-/// bytes; 4 `vmig: trace line N` or `vmig: shape K`; 5 `vmig: stream K`, or `vmig: stream out` where the stream could not be
-/// written, or nothing behind `differ` and `no stop`. Faults are looked for in this order: the words, the trace, first its file
-/// and then its lines, the image, the machine's shape or its stream, and then the stream that is to be made. A first `begin`
-/// with no STREAM is a fault of its line, where no line is bad.
-/// `out` is flushed before the status is known.
+/// It returns the exit status, and writes its meaning to `err`: 0 nothing; 1 `vmig: memory`; 2 `vmig: usage`; 3
+/// `vmig: file NAME`, where NAME is `-` for standard output, also for an image whose length is not a multiple of 512 bytes; 4
+/// `vmig: trace line N` or `vmig: shape K`; 5 `vmig: stream K`, or `vmig: stream out` where the stream could not be written, or
+/// nothing after `differ` and `no stop`. Faults are looked for in this order: the words, the trace, first its file and then its
+/// lines, the image, the machine's shape or its stream, and then the stream that is to be made. A first `begin` with no STREAM
+/// is a fault of its line, where no line is bad. `out` is flushed before the status is known.
 pub fn execute<R: Files + AllocGlobal, O: Write, E: Write>(
     rt: &R,
     words: &[&str],
@@ -53,8 +52,7 @@ pub fn execute<R: Files + AllocGlobal, O: Write, E: Write>(
     }
 }
 
-/// Writes the line of a fault to standard error, and answers its exit status. Where standard error fails too, there is
-/// nobody left to tell.
+/// Writes the line of a fault to standard error, and returns its exit status. A failure of standard error is ignored.
 #[tactic(auto, using(crate::proofs::Written::either_begun))]
 fn tell<E: Write>(fault: Fault<'_>, err: &mut E) -> u8
     ensures status { result ≡ status_of fault.entry }

@@ -1,4 +1,4 @@
-//! A machine that arrives from a stream, and goes on.
+//! The command `resume`: a machine arrives from a stream, and continues.
 
 ghost use Rattle.std.specs.Prelude.{◌≡◌, [], IfOk, IfErr, OnOk, None, false, length, true};
 ghost use Rattle.machine.specs.First.{dealt_marks};
@@ -20,7 +20,7 @@ use std::io::{ErrorKind, Read, Write};
 use std::rt::Files;
 use traces::parse_events;
 
-/// How much of a stream is read at once.
+/// How many bytes of a stream are read at once.
 const PIECE_SIZE: usize = 65_536;
 
 /// Receives the machine of the stream in the file of this name, over the image of a disk or over none, and plays the trace in
@@ -75,7 +75,7 @@ fn replies_over<'a, R: Files + AllocGlobal>(
     replies_to(rt, stream, Some(name), events, disks)
 }
 
-/// The replies of the machine of a stream, with these disks, to these events. The image is the file of the disk.
+/// The replies of the machine of a stream, with these disks, to these events. `image` is the name of the disk's file.
 fn replies_to<'a, R: Files + AllocGlobal, D: Disk + Drop>(
     rt: &R,
     stream: &'a str,
@@ -94,8 +94,8 @@ fn replies_to<'a, R: Files + AllocGlobal, D: Disk + Drop>(
     }
 }
 
-/// The machine of the stream in the file of this name, with these disks. The file is fed as it is read. It is not the image,
-/// which is written meanwhile.
+/// The machine of the stream in the file of this name, with these disks. Its bytes are fed as they are read. It is not the
+/// image, which is written meanwhile.
 fn receive_file<'a, R: Files + AllocGlobal, D: Disk + Drop>(
     rt: &R,
     name: &'a str,
@@ -119,7 +119,7 @@ fn receive_file<'a, R: Files + AllocGlobal, D: Disk + Drop>(
     }
 }
 
-/// Feeds what is left of a file, which ends once.
+/// Feeds the rest of a file, up to its end.
 fn feed_all<'a, F: Read, D: Disk + Drop>(
     file: &mut F,
     name: &'a str,
@@ -141,7 +141,7 @@ fn feed_all<'a, F: Read, D: Disk + Drop>(
     Err(Fault::File(name))
 }
 
-/// Feeds the next piece of a file, and answers whether it is the end. The piece that is read there is empty.
+/// Feeds the next piece of a file, and returns whether the file has ended: then the piece is empty.
 fn feed_piece<'a, F: Read, D: Disk + Drop>(
     file: &mut F,
     name: &'a str,

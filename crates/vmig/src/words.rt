@@ -14,7 +14,7 @@ use std::alloc::{AllocError, Global};
 /// What the words ask for. Each name is that of a file.
 #[derive(Clone, Copy, Debug, PartialEq, Eq)]
 pub enum Request<'a> {
-    /// Play the trace, over the image of a disk or over none, and write to the stream what sends its machine.
+    /// Play the trace, over the image of a disk or over none, and write the stream of its machine, if it is sent.
     Run {
         trace: &'a str,
         image: Option<&'a str>,
@@ -39,10 +39,10 @@ pub enum Request<'a> {
     },
 }
 
-/// Why the words ask for nothing.
+/// Why the words are no request.
 #[derive(Clone, Copy, Debug, PartialEq, Eq)]
 pub enum WordsError {
-    /// They are none of the program's lines.
+    /// They are none of the program's command lines.
     Usage,
 
     /// Memory was refused.
@@ -141,8 +141,8 @@ fn is_rehearse_line(words: &[&str]) -> bool
     }
 }
 
-/// Reads the words that stand after the program's name. Words that are no line of the program are refused before
-/// any memory is asked for, and others only for want of memory.
+/// Reads the words that follow the program's name. Words that are none of its command lines are refused before any memory is
+/// asked for, and others only if memory is refused.
 pub fn read_words<'a>(alloc: Global, words: &'a [&'a str]) -> Result<Request<'a>, WordsError>
     ensures usage { is_program_line (map (λ word. word.now) words.entry.now) ≡ false → result ≡ Err Usage }
     ensures known { is_program_line (map (λ word. word.now) words.entry.now) ≡ true → IfErr result (λ refusal. refusal ≡ NoMemory) }
@@ -165,7 +165,7 @@ pub fn read_words<'a>(alloc: Global, words: &'a [&'a str]) -> Result<Request<'a>
     Err(WordsError::Usage)
 }
 
-/// A file that is to be given.
+/// A file that must be given.
 fn file<'a>(alloc: Global, id: &'a str) -> Arg<'a>
     ensures rule { rule_of result ≡ file_argument id.entry.now }
     ensures local { result.global ≡ false }

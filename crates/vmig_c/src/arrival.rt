@@ -24,7 +24,7 @@ const HEADER_MAX: usize = FRONT_LEN + DEVICES_MAX * SHAPE_MAX;
 /// How far a machine that arrives has come.
 #[derive(Drop)]
 pub enum Progress {
-    /// The header is not whole: these are the bytes so far.
+    /// The header is incomplete: these are the bytes so far.
     Head(Vec<u8>),
 
     /// The header was read, and the disks are of its sizes.
@@ -56,7 +56,7 @@ impl Arrival {
     ghost use Rattle.std.specs.Prelude.{◌≡◌, ◌++◌, IfErr, IfOk, true};
     ghost use Rattle.vmig_c.specs.Awaited.{CountsRounds, HasArrived, IsFed, TellsEnd, TellsOf, nothing_fed, refused_for_good};
 
-    /// Nothing was fed yet. It takes no memory.
+    /// An arrival that was fed nothing yet. It takes no memory.
     #[tactic(auto, using(crate::proofs::Awaited::empty_head))]
     pub(crate) fn new(alloc: Global) -> Arrival
         ensures { result ≡ nothing_fed }
@@ -92,7 +92,7 @@ impl Arrival {
         }
     }
 
-    /// How many rounds ended in what was fed.
+    /// The number of rounds that ended in the bytes fed so far.
     #[tactic(auto, using(crate::proofs::Awaited::counts, crate::proofs::Awaited::head_counts))]
     pub(crate) fn rounds(&self) -> u32
         ensures { CountsRounds self.now.failed self.now result }
@@ -147,8 +147,8 @@ fn take_body(receiver: Receiver<MemDisk>, piece: &[u8]) -> Result<Progress, Recv
     }
 }
 
-/// Takes the next piece of a stream whose header is not whole. Only what may belong to the header is copied of a piece that
-/// makes it whole.
+/// Takes the next piece of a stream whose header is incomplete. Of a piece that completes it, only the bytes that may belong to
+/// the header are copied.
 fn take_head(alloc: Global, held: Vec<u8>, piece: &[u8]) -> Result<Progress, RecvError>
     ensures coming { IfOk result (λ next. IsComing next) }
     ensures goes_on { IfOk result (λ next. GoesOnWith (held.items ++ piece.now) (awaited_by next)) }
@@ -188,7 +188,7 @@ fn headed(alloc: Global, bytes: &[u8]) -> Result<Option<Receiver<MemDisk>>, Recv
     }
 }
 
-/// Looks for the header. While it is not whole, a receiver without disks finds what is wrong in the bytes.
+/// Decodes the header. While it is incomplete, a receiver without disks checks the bytes so far.
 #[tactic(auto, using(crate::proofs::Awaited::head_goes_on))]
 fn begin(alloc: Global, held: Vec<u8>) -> Result<Progress, RecvError>
     ensures coming { IfOk result (λ next. IsComing next) }
@@ -205,7 +205,7 @@ fn begin(alloc: Global, held: Vec<u8>) -> Result<Progress, RecvError>
     }
 }
 
-/// A receiver over zeros for these devices, which was fed the bytes.
+/// A receiver over disks of zeros for these devices, which was fed the bytes.
 fn begun(alloc: Global, shapes: &[Shape], bytes: &[u8]) -> Result<Receiver<MemDisk>, RecvError>
     ensures begun { IfOk result (λ r. IsFedTo (disk_sizes shapes.now) bytes.now r) }
     ensures refused { AreFitting bytes.now (disk_sizes shapes.now) → IfErr result (λ e. TellsOf false bytes.now e) }

@@ -1,4 +1,4 @@
-//! The arrival of what lies behind a handle.
+//! The calls of an arrival, applied to the contents of a handle.
 
 ghost use Rattle.std.specs.Prelude.{◌≡◌};
 ghost use Rattle.vmig_c.specs.Arriving.{CountsKept, Feeds, FeedsKept, FinishesKept};
@@ -61,7 +61,7 @@ fn finished(alloc: Global, old: Kept) -> (Kept, u32)
     }
 }
 
-/// How many rounds ended in what arrived.
+/// The number of rounds that ended in the bytes that arrived.
 pub(crate) fn rounds(kept: &Kept, rounds: &mut u32) -> u32
     ensures { CountsKept kept.now.state result rounds.new rounds.old }
 {
@@ -74,7 +74,7 @@ pub(crate) fn rounds(kept: &Kept, rounds: &mut u32) -> u32
     }
 }
 
-/// The status of a stream that is refused for good.
+/// The status for a stream that is refused for good.
 fn stream_told(error: RecvError) -> u32
     ensures { result ≡ stream_status error }
 {

@@ -9,19 +9,19 @@ use machine::{SECTORS_MAX, Shape};
 #[derive(Clone, Copy)]
 #[repr(C)]
 pub struct DeviceShape {
-    /// Its number in the standard (VIRTIO 1.2, 5): 1 a network device, 2 a block device, 3 a console, 4 an entropy device.
+    /// The device type of the standard (VIRTIO 1.2, 5): 1 a network device, 2 a block device, 3 a console, 4 an entropy device.
     pub kind: u8,
 
-    /// Of a block device: whether the driver may only read it. 0 is no, and all else yes.
+    /// Of a block device: whether the driver may only read it. 0 is no, and any other value is yes.
     pub read_only: u8,
 
     /// Of a network device: its MAC.
     pub mac: [u8; 6],
 
-    /// Of a block device: how many sectors of 512 bytes it has.
+    /// Of a block device: its number of sectors, of 512 bytes each.
     pub sectors: u64,
 
-    /// Of a block device: what it answers to a driver that asks for its id.
+    /// Of a block device: the id that it returns to a driver that asks for it.
     pub id: [u8; 20],
 }
 

@@ -74,7 +74,7 @@ impl Handle {
         }
     }
 
-    /// Lets a handle of no machine go.
+    /// Consumes a handle of no machine.
     pub(crate) fn gone(self)
         requires { IsNone self.machine }
     {

@@ -21,7 +21,7 @@ use guestmem::NoMemory;
 use machine::{Disk, Machine, MemDisk, SECTOR_SIZE, Shape};
 use std::alloc::Global;
 
-/// Whether so many bytes are those of the disks of these devices.
+/// Whether `bytes` is the total size of the disks of these devices, in bytes.
 #[tactic(auto, using(crate::proofs::Imaging::not_whole, crate::proofs::Imaging::whole_count))]
 pub(crate) fn are_images(bytes: usize, shapes: &[DeviceShape]) -> bool
     ensures { result ≡ (bytes == image_size (shapes_of shapes.now)) }
@@ -40,7 +40,7 @@ pub(crate) fn are_images(bytes: usize, shapes: &[DeviceShape]) -> bool
     left == 0
 }
 
-/// How many sectors the disk of a device has.
+/// The number of sectors of a device's disk; 0 for a device without one.
 fn count_in(shape: Shape) -> u64
     ensures { result ≡ sector_count shape }
 {
@@ -50,8 +50,8 @@ fn count_in(shape: Shape) -> u64
     }
 }
 
-/// A machine in a box, over disks that hold the images. The limits and the images' length were tested, so its only error is
-/// want of memory.
+/// A machine in a box, over disks that hold the images. The limits and the images' length were tested, so it fails only if it
+/// is out of memory.
 pub(crate) fn machine_with(
     alloc: Global,
     pages: u32,
@@ -70,7 +70,7 @@ pub(crate) fn machine_with(
     Ok(boxed)
 }
 
-/// A disk for each device that has one, in their order, that hold the images one behind another.
+/// A disk for each device that has one, in their order, that hold the images one after another.
 fn image_disks(alloc: Global, shapes: &[Shape], images: &[u8]) -> Result<Vec<MemDisk>, NoMemory>
     requires { length images.now ≡ image_size shapes.now }
     ensures { IfOk result (λ disks. AreImages images.now (disk_sizes shapes.now) disks.items) }
@@ -103,7 +103,7 @@ fn disk_of(alloc: Global, sectors: u64, image: &[u8]) -> Result<MemDisk, NoMemor
     Ok(disk)
 }
 
-/// A sector of the disk becomes that of the image.
+/// Writes sector `n` of the image to the disk.
 fn put_sector(disk: &mut MemDisk, n: u64, image: &[u8])
     requires there { n < length disk.old }
     requires image { 512 * n + 512 ≤ length image.now }
@@ -116,7 +116,7 @@ fn put_sector(disk: &mut MemDisk, n: u64, image: &[u8])
     let _done = disk.write(n, bytes);
 }
 
-/// A sector of a machine that stands still goes to the front of the buffer.
+/// Reads a sector into the front of the buffer, unless the machine is being migrated.
 pub(crate) fn read_sector(kept: &mut Kept, dev: u8, sector: u64, buf: &mut [u8]) -> u32
     ensures reads { ReadsKept kept.old.state dev sector result buf.old buf.new kept.new.state }
     ensures kind { kept.new ≡ record kept.old { state = kept.new.state } }
@@ -132,7 +132,7 @@ pub(crate) fn read_sector(kept: &mut Kept, dev: u8, sector: u64, buf: &mut [u8])
     }
 }
 
-/// Why a sector does not go out.
+/// Why `vmig_sector_read` is refused, if it is.
 fn sector_refusal(kept: &Kept, dev: u8, sector: u64, room: usize) -> Option<u32>
     ensures { result ≡ sector_refusal kept.now.state dev sector room }
 {
@@ -168,7 +168,7 @@ fn disk_refusal(shape: Shape, sector: u64, room: usize) -> Option<u32>
     None
 }
 
-/// The machine is read for the sector, which goes out where it is good.
+/// Reads the sector, and copies its bytes to the buffer if it is good.
 fn read_out<D: Disk>(machine: &mut Machine<D>, dev: u8, sector: u64, buf: &mut [u8]) -> u32
     requires { sector_refusal (Still machine.old) dev sector (length buf.old) ≡ None }
     ensures { ReadsOut machine.old dev sector result buf.old buf.new machine.new }

@@ -1,4 +1,4 @@
-//! What lies behind a handle.
+//! The contents of a handle.
 
 ghost use Rattle.vmig_c.specs.Kept.{kept_of};
 
@@ -9,30 +9,30 @@ use mapped_disk::MappedDisk;
 use sender::Live;
 use std::marker::Model;
 
-/// A machine that is sent, and what was written of it and not taken yet.
+/// A machine that is being migrated, and the bytes written for it and not taken yet.
 pub(crate) type Moving<D> = Live<D, Waiting>;
 
-/// A machine that stands still, or one that is sent while it runs, over disks in memory of the library or of the caller; or one
-/// that arrives. What is written of one waits until C takes it.
+/// A machine that is not being migrated, or one that is migrated while it runs, over disks in memory of the library or of the
+/// caller; or one that arrives. The bytes written for a migration wait until C takes them.
 #[derive(Drop)]
 pub enum Contents {
-    /// It stands still: nothing is written of it.
+    /// It is not being migrated: no stream is written.
     Still(Machine<MemDisk>),
 
-    /// It is sent.
+    /// It is being migrated.
     Moving(Moving<MemDisk>),
 
-    /// It stands still, and its disks are the caller's memory.
+    /// It is not being migrated, and its disks are the caller's memory.
     StillMapped(Machine<MappedDisk>),
 
-    /// It is sent, and its disks are the caller's memory.
+    /// It is being migrated, and its disks are the caller's memory.
     MovingMapped(Moving<MappedDisk>),
 
     /// It arrives: it is no machine yet. Its disks will lie in memory of the library.
     Arriving(Arrival),
 }
 
-/// What lies behind a handle. Contracts see in which state it is, and whether its disks are the caller's memory.
+/// The contents of a handle. Contracts see which state they are in, and whether the disks are the caller's memory.
 #[derive(Drop)]
 pub struct Kept {
     pub(crate) contents: Contents,
@@ -49,7 +49,7 @@ impl Model for Kept {
 impl Kept {
     ghost use Rattle.std.specs.Prelude.{◌≡◌};
 
-    /// What lies behind a handle is this.
+    /// Wraps the contents of a handle.
     pub(crate) fn new(contents: Contents) -> Kept
         ensures { result ≡ kept_of contents }
     {

@@ -15,22 +15,22 @@ pub fn refused_changes_nothing()
     ensures { RefusedChangesNothing }
 {}
 
-/// So it is whatever lies behind the handle, and no number is told.
+/// The same for all contents of a handle, and no number is returned.
 pub fn refused_tells_nothing()
     ensures { RefusedTellsNothing }
 {}
 
-/// A machine that just began to be sent has no history, and nothing of its stream was taken.
+/// A machine whose migration has just begun has no history, and nothing of its stream was taken.
 pub fn first_is_sent()
     ensures { FirstIsSent }
 {}
 
-/// Each call of a machine that is sent adds to its history what it answered, whatever was taken before.
+/// Each call of a machine that is being migrated adds its answer to the history, whatever was taken before.
 pub fn calls_stay_sent()
     ensures { CallsStaySent }
 {}
 
-/// What is taken goes behind what was taken before, and the history stays.
+/// What is taken follows what was taken before, and the history stays.
 pub fn takings_stay_sent()
     ensures { TakingsStaySent }
 {}
@@ -40,32 +40,32 @@ pub fn stopped_is_whole()
     ensures { StoppedIsWhole }
 {}
 
-/// What arrives of these bytes, in any pieces, is the machine that was stopped.
+/// The machine that arrives from these bytes, fed in any pieces, is the one that was stopped.
 pub fn arrived_is_sent()
     ensures { ArrivedIsSent }
 {}
 
-/// So is what is received of all of them.
+/// So is the machine that is received from all of them at once.
 pub fn received_is_sent()
     ensures { ReceivedIsSent }
 {}
 
-/// A caller that has seen no page has a mirror.
+/// The memory of a caller that has seen no page is a mirror.
 pub fn unseen_mirrors()
     ensures { UnseenMirrors }
 {}
 
-/// Whatever is applied to a machine, a mirror of its RAM stays one.
+/// A mirror of a machine's RAM stays one, whatever is applied to the machine.
 pub fn applied_mirrors()
     ensures { AppliedMirrors }
 {}
 
-/// A mirror into which the pages are handed out is the machine's RAM.
+/// After a pull into a mirror, its RAM is the machine's.
 pub fn pulled_mirrors()
     ensures { PulledMirrors }
 {}
 
-/// Pages that were handed in are mirrored, and so are all others that were.
+/// Pages that were pushed are mirrored, and so are all others that were mirrored before.
 pub fn pushed_mirrors()
     ensures { PushedMirrors }
 {}

@@ -1,30 +1,30 @@
 //! A machine as C sees it: `vmig.h` says the same to its reader, and what C owes.
 //!
 //! `Handle` is the one type that C holds: a pointer, null or of a machine in a box. All raw pointers are in one file, `handle`.
-//! It cannot be dropped, so a function that forgets a machine is refused. Behind it lies a machine that is idle, is sent or
-//! arrives, and its disks lie in memory of the library or of the caller (`kept`). No call moves the disks.
+//! It cannot be dropped, so a function that forgets a machine is refused. Its contents are a machine that is idle, is being
+//! migrated or arrives, with disks in memory of the library or of the caller (`kept`). No call moves the disks.
 //!
 //! # What the layers above may rely on
 //! - Every export is an ordinary function, and its clause is the step of the machine (`specs/Told`, `specs/Stepped`), its
-//!   making (`specs/Making`, `specs/Images`) or its stream (`specs/Moving`), by the status that it answers. The statuses are in
+//!   making (`specs/Making`, `specs/Images`) or its stream (`specs/Moving`), by the status that it returns. The statuses are in
 //!   one table (`specs/Status`): from 1 to 63 nothing has changed, but for 20 (the writer failed) and for a stream that is
-//!   refused on its way. `vmig_step` is not done where what it sends might not fit.
+//!   refused as it arrives. `vmig_step` is not done where what it sends might not fit.
 //! - `vmig_next_work` names the next step that has something to do (`specs/NextWork`).
 //! - Every call has its clause in each state: the calls of a migration those of `Live` (`specs/Migrated`), over a writer into
 //!   memory from which `vmig_take` takes; the calls of an arrival those of `Receiver` (`specs/Awaited`, `specs/Arriving`), over
 //!   disks that are made as soon as the header is whole. What arrives is no machine for the other calls.
-//! - What was taken, and what waits, is what a machine that is sent has written, from its first call to its stop, and what
-//!   arrives of it is that machine: laws over these clauses (`specs/Sent`).
+//! - The bytes that were taken, followed by those that wait, are what a machine that is being migrated has written, from its
+//!   first call to its stop, and the machine that arrives from them is that machine: laws over these clauses (`specs/Sent`).
 //! - A caller whose guest runs on hardware keeps the guest's RAM in memory of its own (`specs/Mirror`). `vmig_push` is one
-//!   write of a whole page for each page that it hands in, and `vmig_pull` takes out each page whose version is not the one
-//!   that it noted, or is the greatest. `Mirrors` says that each page that it noted as it is is the machine's. Whatever is
-//!   applied to the machine keeps a mirror; pushed pages are mirrored; and after a pull of a mirror the caller's RAM is the
-//!   machine's, byte for byte (`laws`). The caller's part is to hand in every page that its guest wrote.
+//!   write of a whole page for each page that it hands in, and `vmig_pull` copies out each page whose version is not the one
+//!   that the caller noted, or is the greatest. `Mirrors` says that each page whose noted version is the current one is the
+//!   machine's. Whatever is applied to the machine keeps a mirror; pushed pages are mirrored; and after a pull of a mirror the
+//!   caller's RAM is the machine's, byte for byte (`laws`). The caller's part is to hand in every page that its guest wrote.
 //! - `vmig_make_with` makes the first machine over disks that hold the images, and `vmig_sector_read` gives a sector of a disk.
 //!   Nothing but the guest writes one.
 //! - `vmig_make_mapped` makes the first machine over disks in images of the caller, which it takes (`specs/Mapping`).
-//!   `vmig_unmap` frees such a machine, and the slots have what its disks held, in the order of the devices, but for bad
-//!   sectors, which may hold anything (`specs/Unmapping`). Both refuse without a change. That an image comes back to its
+//!   `vmig_unmap` frees such a machine, and the slots then hold the contents of its disks, in the order of the devices, but for
+//!   bad sectors, which may hold anything (`specs/Unmapping`). Both refuse without a change. That an image comes back to its
 //!   address is not in the clause, since a machine is not seen with addresses; the disk has no other memory to give.
 //! - The machines of C have their disks in memory (`specs/Plain`): they are honest and steady, and stay so.
 //! - The caller's part is C's: pointers and counts name memory as the header says.
@@ -82,7 +82,7 @@ use stepping::step_kept;
 use unmapping::{unmap, unmap_refusal};
 use working::next_work;
 
-/// Makes a machine of so many pages of zeros and of these devices, whose disks are zeros in memory.
+/// Makes a machine of `pages` pages of zeros and of these devices, whose disks are zeros in memory.
 #[unsafe(no_mangle)]
 #[tactic(auto, using(crate::proofs::ByHandle::make_used, crate::proofs::ByHandle::make_beyond, crate::proofs::ByHandle::make_full, crate::proofs::ByHandle::make_done))]
 pub extern "C" fn vmig_make(
@@ -106,7 +106,7 @@ pub extern "C" fn vmig_make(
     DONE
 }
 
-/// Makes such a machine, whose disks hold the images: their sectors one behind another, in the order of the devices.
+/// Makes such a machine, whose disks hold the images: their sectors one after another, in the order of the devices.
 #[unsafe(no_mangle)]
 #[tactic(auto, using(crate::proofs::Imaging::with_used, crate::proofs::Imaging::with_beyond, crate::proofs::Imaging::with_others, crate::proofs::Imaging::with_full, crate::proofs::Imaging::with_done))]
 pub extern "C" fn vmig_make_with(
@@ -165,7 +165,7 @@ pub extern "C" fn vmig_make_mapped(
 }
 
 /// Frees the machine, and its images go into the slots, which are of no sectors: those of its disks that lie in memory of the
-/// caller, in the order of the devices. The slots behind them stay as they are.
+/// caller, in the order of the devices. The slots after them stay as they are.
 #[unsafe(no_mangle)]
 #[tactic(auto, using(crate::proofs::Handing::unmaps_none, crate::proofs::Handing::unmaps_not, crate::proofs::Handing::unmaps_done))]
 pub extern "C" fn vmig_unmap(alloc: Global, machine: &mut Handle, images: &mut [Image]) -> u32
@@ -256,7 +256,7 @@ pub extern "C" fn vmig_ram_write(machine: &mut Handle, addr: u64, bytes: &[u8]) 
     write_ram(machine.get_mut(), addr, bytes)
 }
 
-/// The pages of these numbers become those of the caller's RAM, and their versions are noted. It takes no memory.
+/// Copies the pages with these numbers from the caller's RAM into the machine's, and notes their versions. It takes no memory.
 #[unsafe(no_mangle)]
 #[tactic(auto, using(crate::proofs::Mirroring::pushed_none, crate::proofs::Mirroring::pushed_some))]
 pub extern "C" fn vmig_push(
@@ -273,7 +273,8 @@ pub extern "C" fn vmig_push(
     push(machine.get_mut(), pages, ram, seen)
 }
 
-/// Each page that the caller has not as it is goes into its RAM, and its version is noted. It takes no memory.
+/// Copies into the caller's RAM each page whose version is not the one that the caller noted, or is the greatest, and notes its
+/// version. It takes no memory.
 #[unsafe(no_mangle)]
 #[tactic(auto, using(crate::proofs::Mirroring::pulled_none, crate::proofs::Mirroring::pulled_some))]
 pub extern "C" fn vmig_pull(
@@ -310,7 +311,7 @@ pub extern "C" fn vmig_step(
     step_kept(machine.get_mut(), dev, pick, buf, len)
 }
 
-/// A step that has something to do: the first in turn after the one that the two numbers name. It takes no memory.
+/// Finds a step that has something to do: the first in turn after the one that the two numbers name. It takes no memory.
 #[unsafe(no_mangle)]
 #[tactic(auto, using(crate::proofs::NextWork::found_none, crate::proofs::NextWork::found_some))]
 pub extern "C" fn vmig_next_work(machine: &mut Handle, dev: &mut u8, pick: &mut u8) -> u32
@@ -360,7 +361,7 @@ pub extern "C" fn vmig_lines(machine: &mut Handle) -> u16
     lines(machine.get_mut())
 }
 
-/// A sector of a disk goes to the front of a buffer.
+/// Reads a sector of a disk into the front of a buffer.
 #[unsafe(no_mangle)]
 #[tactic(auto, using(crate::proofs::Imaging::sector_none, crate::proofs::Imaging::sector_some))]
 pub extern "C" fn vmig_sector_read(
@@ -377,7 +378,7 @@ pub extern "C" fn vmig_sector_read(
     read_sector(machine.get_mut(), dev, sector, buf)
 }
 
-/// Saves the machine into a buffer. `len` says how many bytes its stream has, also where the buffer is too small for them.
+/// Saves the machine into a buffer. `len` becomes the length of its stream in bytes, also if the buffer is too small for it.
 #[unsafe(no_mangle)]
 #[tactic(auto, using(crate::proofs::ByHandle::saved_none, crate::proofs::ByHandle::saved_some))]
 pub extern "C" fn vmig_save(
@@ -394,7 +395,7 @@ pub extern "C" fn vmig_save(
     save_kept(alloc, machine.get_mut(), buf, len)
 }
 
-/// Makes the machine that a stream tells of, over disks in memory.
+/// Makes the machine that a stream encodes, over disks in memory.
 #[unsafe(no_mangle)]
 #[tactic(auto, using(crate::proofs::ByHandle::received_used, crate::proofs::ByHandle::received_done, crate::proofs::ByHandle::received_not))]
 pub extern "C" fn vmig_receive(
@@ -418,7 +419,7 @@ pub extern "C" fn vmig_receive(
     }
 }
 
-/// The machine begins to be sent. What is written of it waits until it is taken.
+/// Begins the migration of the machine. The bytes written for it wait until they are taken.
 #[unsafe(no_mangle)]
 #[tactic(auto, using(crate::proofs::MigrationCalls::begun_none, crate::proofs::MigrationCalls::begun_some))]
 pub extern "C" fn vmig_begin(alloc: Global, machine: &mut Handle) -> u32
@@ -430,7 +431,7 @@ pub extern "C" fn vmig_begin(alloc: Global, machine: &mut Handle) -> u32
     begin(alloc, machine.get_mut())
 }
 
-/// Sends the least due item, and tells which it is.
+/// Sends the least due item, and reports which it is.
 #[unsafe(no_mangle)]
 #[tactic(auto, using(crate::proofs::MigrationCalls::copied_none, crate::proofs::MigrationCalls::copied_some))]
 pub extern "C" fn vmig_copy(machine: &mut Handle, dev: &mut u8, number: &mut u32) -> u32
@@ -466,7 +467,7 @@ pub extern "C" fn vmig_stop(machine: &mut Handle, pages: &mut u64, sectors: &mut
     stop(machine.get_mut(), pages, sectors)
 }
 
-/// The machine stands still again, as it is.
+/// Ends the migration; the machine stays as it is.
 #[unsafe(no_mangle)]
 #[tactic(auto, using(crate::proofs::MigrationCalls::aborted_none, crate::proofs::MigrationCalls::aborted_some))]
 pub extern "C" fn vmig_abort(alloc: Global, machine: &mut Handle) -> u32
@@ -508,7 +509,7 @@ pub extern "C" fn vmig_take(
     take(alloc, machine.get_mut(), buf, got)
 }
 
-/// The next piece of a stream arrives. A machine begins to arrive behind a handle of none.
+/// Feeds the next piece of a stream. On a handle of no machine, one begins to arrive.
 #[unsafe(no_mangle)]
 #[tactic(auto, using(crate::proofs::ArrivalCalls::fed_first, crate::proofs::ArrivalCalls::fed_full, crate::proofs::ArrivalCalls::fed_some))]
 pub extern "C" fn vmig_feed(alloc: Global, machine: &mut Handle, bytes: &[u8]) -> u32
@@ -524,7 +525,7 @@ pub extern "C" fn vmig_feed(alloc: Global, machine: &mut Handle, bytes: &[u8]) -
     feed(machine.get_mut(), bytes)
 }
 
-/// All pieces have arrived: the machine is there, or its stream is refused.
+/// Ends an arrival after its last piece: the handle has the machine, or its stream is refused.
 #[unsafe(no_mangle)]
 #[tactic(auto, using(crate::proofs::ArrivalCalls::finished_none, crate::proofs::ArrivalCalls::finished_some))]
 pub extern "C" fn vmig_finish(alloc: Global, machine: &mut Handle) -> u32
@@ -536,7 +537,7 @@ pub extern "C" fn vmig_finish(alloc: Global, machine: &mut Handle) -> u32
     finish(alloc, machine.get_mut())
 }
 
-/// How many rounds ended in what arrived.
+/// The number of rounds that ended in the bytes that arrived.
 #[unsafe(no_mangle)]
 #[tactic(auto, using(crate::proofs::ArrivalCalls::counted_none, crate::proofs::ArrivalCalls::counted_some))]
 pub extern "C" fn vmig_rounds(machine: &mut Handle, ended: &mut u32) -> u32

@@ -10,7 +10,7 @@ use guestmem::{NoMemory, PAGES_MAX};
 use machine::{DEVICES_MAX, Machine, MemDisk, Shape};
 use std::alloc::Global;
 
-/// Whether no machine can have so many pages and these devices.
+/// Whether no machine can have `pages` pages and these devices.
 pub(crate) fn are_beyond_limits(pages: u32, shapes: &[DeviceShape]) -> bool
     ensures { result ≡ are_beyond_limits pages shapes.now }
 {
@@ -31,7 +31,7 @@ fn are_plain(shapes: &[DeviceShape]) -> bool
     true
 }
 
-/// A machine in a box, over disks of zeros. The limits were tested, so its only error is want of memory.
+/// A machine in a box, over disks of zeros. The limits were tested, so it fails only if it is out of memory.
 #[tactic(auto, using(crate::proofs::Zeros::made))]
 pub(crate) fn machine_of(
     alloc: Global,

@@ -34,8 +34,8 @@ pub(crate) fn are_counted(images: &mut [Image], shapes: &[DeviceShape]) -> bool
     at == images.len()
 }
 
-/// A machine in a box, over disks in the images, which are taken. The limits and the images' counts were tested, so its only
-/// error is want of memory: then the images are as they were. The box is there before an image is taken.
+/// A machine in a box, over disks in the images, which are taken. The limits and the images' counts were tested, so it fails
+/// only if it is out of memory: then the images are as they were. The box is made before an image is taken.
 pub(crate) fn machine_over(
     alloc: Global,
     pages: u32,
@@ -75,7 +75,7 @@ fn mapped_disks(alloc: Global, images: &mut [Image]) -> Result<Vec<MappedDisk>, 
     Ok(disks)
 }
 
-/// The images of the disks go back into the slots that they were taken from.
+/// Puts the images of the disks back into the slots that they were taken from.
 fn give_back(disks: Vec<MappedDisk>, images: &mut [Image])
     requires { AreTaken disks.items images.old }
     ensures { images.new ≡ disks.items }

@@ -1,4 +1,4 @@
-//! The migration of what lies behind a handle.
+//! The calls of a migration, applied to the contents of a handle.
 
 ghost use Rattle.std.specs.Prelude.{◌≡◌, ◌++◌, IfErr, IfOk, drop, length, min, take};
 ghost use Rattle.vmig_c.specs.Migrated.{AbortsKept, BeginsKept, CopiesKept, EndsKept, HasBegun, HasCopied, HasStopped, IsAnswered, HasTaken, RemainsKept, StopsKept, TakesKept};
@@ -23,7 +23,7 @@ const ROUND_DONE: u32 = 76;
 
 const ROUND_OPEN: u32 = 77;
 
-/// A machine that stands still begins to be sent.
+/// Begins the migration of a machine that is not being migrated.
 pub(crate) fn begin(alloc: Global, kept: &mut Kept) -> u32
     ensures begins { BeginsKept kept.old.state result kept.new.state }
     ensures kind { kept.new ≡ record kept.old { state = kept.new.state } }
@@ -33,7 +33,7 @@ pub(crate) fn begin(alloc: Global, kept: &mut Kept) -> u32
     status
 }
 
-/// Takes out what lies there while it is turned into something else. The stand-in takes no memory.
+/// Takes the contents out while they are turned into others. The stand-in takes no memory.
 pub(crate) fn taken_out(alloc: Global, kept: &mut Kept) -> Kept
     ensures { result ≡ kept.old }
 {
@@ -66,7 +66,7 @@ fn begun(alloc: Global, old: Kept) -> (Kept, u32)
     (Kept::new(contents), status)
 }
 
-/// A machine begins to be sent, or is there as it was: there was no memory for it.
+/// Begins the migration of a machine. If memory is refused, gives the machine back as it was.
 #[tactic(auto, using(crate::proofs::Migration::not_begun))]
 fn begun_of<D: Disk>(alloc: Global, machine: Machine<D>) -> Result<Moving<D>, Machine<D>>
     ensures begun { IfOk result (λ live. HasBegun machine 0 live) }
@@ -85,7 +85,7 @@ fn begun_of<D: Disk>(alloc: Global, machine: Machine<D>) -> Result<Moving<D>, Ma
     }
 }
 
-/// A machine that is sent already is asked to begin.
+/// A call to begin for a machine that is already being migrated.
 #[tactic(auto, using(crate::proofs::Migration::begun_again))]
 fn begun_again<D: Disk>(live: Moving<D>) -> (Moving<D>, u32)
     ensures { IsAnswered live result.1 result.0 }
@@ -195,7 +195,7 @@ fn stop_told<D: Disk>(live: &mut Moving<D>, pages: &mut u64, sectors: &mut u64) 
     }
 }
 
-/// A machine that is sent stands still again.
+/// Ends the migration of a machine.
 pub(crate) fn abort(alloc: Global, kept: &mut Kept) -> u32
     ensures aborts { AbortsKept kept.old.state result kept.new.state }
     ensures kind { kept.new ≡ record kept.old { state = kept.new.state } }
@@ -240,7 +240,7 @@ fn remaining_told<D: Disk>(live: &Moving<D>, due: &mut u64, dirty: &mut u64) -> 
     DONE
 }
 
-/// The first of the bytes that wait go to the front of the buffer.
+/// Takes the first of the bytes that wait into the front of the buffer.
 #[tactic(auto, using(crate::proofs::Migration::still_takes, crate::proofs::Migration::moving_takes))]
 pub(crate) fn take(alloc: Global, kept: &mut Kept, buf: &mut [u8], got: &mut usize) -> u32
     ensures takes { TakesKept kept.old.state result got.new got.old buf.old buf.new kept.new.state }

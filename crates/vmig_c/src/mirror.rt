@@ -14,7 +14,7 @@ use guestmem::{PAGE_SIZE, Ram};
 use machine::{Disk, Machine};
 use sender::Phase;
 
-/// The pages of these numbers become those of the caller's RAM, one after another.
+/// Copies the pages with these numbers from the caller's RAM into the machine's, one after another.
 pub(crate) fn push(kept: &mut Kept, pages: &[u32], ram: &[u8], seen: &mut [u64]) -> u32
     ensures pushes { PushesKept kept.old.state pages.now ram.now result seen.old seen.new kept.new.state }
     ensures kind { kept.new ≡ record kept.old { state = kept.new.state } }
@@ -31,7 +31,7 @@ pub(crate) fn push(kept: &mut Kept, pages: &[u32], ram: &[u8], seen: &mut [u64])
     }
 }
 
-/// Why pages are not handed in.
+/// Why `vmig_push` is refused, if it is.
 fn push_refusal(kept: &Kept, pages: &[u32], bytes: usize, entries: usize) -> Option<u32>
     ensures { result ≡ push_refusal kept.now.state pages.now bytes entries }
 {
@@ -60,7 +60,7 @@ fn is_stopped(kept: &Kept) -> bool
     }
 }
 
-/// Whether the caller has less room than RAM has bytes, or than there are pages.
+/// Whether the caller's RAM has fewer bytes than the machine's, or `seen` has fewer entries than there are pages.
 fn is_short(memory: &Ram, bytes: usize, entries: usize) -> bool
     ensures { result ≡ is_short memory.now bytes entries }
 {
@@ -99,7 +99,7 @@ fn ram_of(kept: &Kept) -> Option<&Ram>
     }
 }
 
-/// Pages go into a machine that stands still. It takes no memory.
+/// Pushes pages into a machine that is not being migrated. It takes no memory.
 fn push_still<D: Disk>(machine: &mut Machine<D>, pages: &[u32], ram: &[u8], seen: &mut [u64]) -> u32
     requires { push_refusal (states.Still machine.old) pages.now (length ram.now) (length seen.old) ≡ None }
     ensures pushed { ArePushed (states.Still machine.old) pages.now ram.now seen.old seen.new (states.Still machine.new) }
@@ -125,7 +125,7 @@ fn push_page<D: Disk>(machine: &mut Machine<D>, n: u32, ram: &[u8], seen: &mut [
     seen[n as usize] = machine.ram().version(n as u64);
 }
 
-/// So they do into one that is sent.
+/// As `push_still`, for a machine that is being migrated.
 fn push_moving<D: Disk>(live: &mut Moving<D>, pages: &[u32], ram: &[u8], seen: &mut [u64]) -> u32
     requires { push_refusal (states.Moving live.old) pages.now (length ram.now) (length seen.old) ≡ None }
     ensures pushed { ArePushed (states.Moving live.old) pages.now ram.now seen.old seen.new (states.Moving live.new) }
@@ -154,7 +154,7 @@ fn push_live_page<D: Disk>(live: &mut Moving<D>, n: u32, ram: &[u8], seen: &mut 
     seen[n as usize] = live.machine().ram().version(n as u64);
 }
 
-/// Each page that the caller has not as it is goes out.
+/// Copies out each page whose version is not the one that the caller noted, or is the greatest.
 pub(crate) fn pull(kept: &Kept, ram: &mut [u8], seen: &mut [u64], count: &mut u32) -> u32
     ensures { PullsKept kept.now.state result ram.old ram.new seen.old seen.new count.new count.old }
 {
@@ -179,7 +179,8 @@ fn pull_all(memory: &Ram, ram: &mut [u8], seen: &mut [u64]) -> u32
     count
 }
 
-/// A page goes out, unless the caller has it as it is. Tells how many pages went out: this one or none.
+/// Copies a page out, unless its version is the one that the caller noted, and is not the greatest. Returns how many pages were
+/// copied: 1 or 0.
 fn pull_page(memory: &Ram, n: u64, ram: &mut [u8], seen: &mut [u64]) -> u32
     requires page { n < length memory.now.versions }
     requires bytes { length memory.now.bytes ≤ length ram.old }

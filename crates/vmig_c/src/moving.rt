@@ -18,7 +18,7 @@ use sender::save;
 use std::alloc::Global;
 use wire::{WriteSink, decode_header};
 
-/// Saves what lies behind a handle, if it stands still.
+/// Saves the contents of a handle, if they are a machine that is not being migrated.
 pub(crate) fn save_kept(alloc: Global, kept: &mut Kept, buf: &mut [u8], len: &mut usize) -> u32
     ensures saves { SavesKept kept.old.state result len.new len.old buf.old buf.new kept.new.state }
     ensures kind { kept.new ≡ record kept.old { state = kept.new.state } }
@@ -31,7 +31,7 @@ pub(crate) fn save_kept(alloc: Global, kept: &mut Kept, buf: &mut [u8], len: &mu
     }
 }
 
-/// Saves a machine into a buffer. How long its stream is goes out as the length, also where the buffer is too small.
+/// Saves a machine into a buffer. `len` becomes the length of its stream, also if the buffer is too small.
 #[tactic(auto, using(crate::proofs::Streams::put, crate::proofs::Streams::not_put, crate::proofs::Streams::not_made))]
 fn save_told<D: Disk>(
     alloc: Global,
@@ -72,7 +72,7 @@ fn stream_of<D: Disk>(alloc: Global, machine: &mut Machine<D>) -> Result<Vec<u8>
     }
 }
 
-/// The machine of a stream in a box, and how many rounds ended in it; or the status that says why there is none.
+/// The machine of a stream in a box, and the number of rounds that ended in it; or the status of the refusal.
 #[tactic(auto, using(crate::proofs::Streams::was_received, crate::proofs::Streams::was_refused, crate::proofs::Streams::was_full))]
 pub(crate) fn machine_in(alloc: Global, bytes: &[u8]) -> Result<(Box<Kept>, u32), u32>
     ensures received { IfOk result (λ x. KeepsReceived bytes.now x.0.value x.1) }
@@ -90,7 +90,7 @@ pub(crate) fn machine_in(alloc: Global, bytes: &[u8]) -> Result<(Box<Kept>, u32)
     }
 }
 
-/// Disks of zeros for the devices that the header names. Where there is no header the receiver tells its fault.
+/// Disks of zeros for the devices that the header names. Where there is no header the receiver reports the fault.
 #[tactic(auto, using(crate::proofs::Streams::fitting, crate::proofs::Streams::without_header))]
 fn disks_of(alloc: Global, bytes: &[u8]) -> Result<Vec<MemDisk>, NoMemory>
     ensures { IfOk result (λ disks. AreFitting bytes.now (sizes_of mem_state disks.items)) }

@@ -1,4 +1,4 @@
-//! Events, applied to what lies behind a handle. Bytes are taken from the caller's slice, and not copied before.
+//! Events, applied to the contents of a handle. Bytes are taken from the caller's slice, without a copy before.
 
 ghost use Rattle.std.specs.Prelude.{◌≡◌};
 ghost use Rattle.machine.specs.declared.event.Event.TheVariants as events;
@@ -10,7 +10,7 @@ use crate::status::{NO_MACHINE, answer_told, done_told, written_told};
 use crate::stepping::reply_told;
 use machine::{Disk, Event};
 
-/// A machine that is sent gets an event.
+/// Applies an event to a machine that is being migrated.
 #[tactic(auto, using(crate::proofs::ByKept::served, crate::proofs::ByKept::few_told))]
 fn apply_told<D: Disk>(live: &mut Moving<D>, event: &Event, number: &mut u32) -> u32
     ensures { IsServed live.old (live_events.Guest event.now) result number.new number.old live.new }
@@ -69,7 +69,7 @@ pub(crate) fn write_register(
     }
 }
 
-/// The guest reads RAM. It takes no memory, also of a machine that is sent.
+/// The guest reads RAM. It takes no memory, also for a machine that is being migrated.
 pub(crate) fn read_ram(kept: &Kept, addr: u64, buf: &mut [u8]) -> u32
     ensures { ReadsKept kept.now.state addr result buf.old buf.new }
 {
@@ -110,7 +110,7 @@ pub(crate) fn write_ram(kept: &mut Kept, addr: u64, bytes: &[u8]) -> u32
     }
 }
 
-/// The same of a machine that is sent.
+/// As above, for a machine that is being migrated.
 #[tactic(auto, using(crate::proofs::ByKept::written, crate::proofs::ByKept::few_told))]
 fn write_told<D: Disk>(live: &mut Moving<D>, addr: u64, bytes: &[u8]) -> u32
     ensures { IsServed live.old (live_events.Guest (events.MemWrite addr bytes.now)) result 0 0 live.new }
@@ -135,7 +135,7 @@ pub(crate) fn input(kept: &mut Kept, dev: u8, bytes: &[u8], accepted: &mut u32) 
     }
 }
 
-/// The same of a machine that is sent.
+/// As above, for a machine that is being migrated.
 #[tactic(auto, using(crate::proofs::ByKept::served, crate::proofs::ByKept::few_told))]
 fn input_told<D: Disk>(live: &mut Moving<D>, dev: u8, bytes: &[u8], accepted: &mut u32) -> u32
     ensures { IsServed live.old (live_events.Guest (events.Input dev bytes.now)) result accepted.new accepted.old live.new }
@@ -159,7 +159,7 @@ pub(crate) fn resize(kept: &mut Kept, dev: u8, cols: u16, rows: u16) -> u32
     }
 }
 
-/// The same of a machine that is sent.
+/// As above, for a machine that is being migrated.
 #[tactic(auto, using(crate::proofs::ByKept::resized))]
 fn resize_told<D: Disk>(live: &mut Moving<D>, dev: u8, cols: u16, rows: u16) -> u32
     ensures { IsServed live.old (live_events.Guest (events.Resize dev cols rows)) result 0 0 live.new }

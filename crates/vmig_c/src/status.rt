@@ -1,4 +1,4 @@
-//! The numbers of `specs/Status`, and those of answers.
+//! The numbers of `specs/Status`, and the statuses of answers.
 
 ghost use Rattle.std.specs.Prelude.{◌≡◌, ◌≤◌, length, List, ℕ};
 ghost use Rattle.machine.specs.Direct.{value_reply, done_reply, bytes_reply, accepted_reply, written_result};
@@ -54,15 +54,14 @@ pub(crate) fn refused(refusal: Refusal) -> u32
     refusal.code() as u32
 }
 
-/// The status of a call of a migration that was refused.
+/// The status of a migration's call that was refused.
 pub(crate) fn mig_told(error: MigError) -> u32
     ensures { result ≡ mig_status error }
 {
     16 + error.code() as u32
 }
 
-/// The status of a register that was read, whose value goes out as the number, or of an input, of which that is how many bytes
-/// were kept.
+/// The status of a register read or an input; on success `number` becomes the value, or the count of bytes accepted.
 pub(crate) fn answer_told(answer: Result<u32, Refusal>, number: &mut u32) -> u32
     ensures value_status { result ≡ status_of (value_reply answer) }
     ensures value { number.new ≡ number_of (value_reply answer) number.old }
@@ -78,7 +77,7 @@ pub(crate) fn answer_told(answer: Result<u32, Refusal>, number: &mut u32) -> u32
     }
 }
 
-/// The status of a register that was written. The byte that came out, if any, goes out as the number.
+/// The status of a register write. If a byte came out, `number` becomes that byte.
 pub(crate) fn written_told(answer: Result<Option<u8>, Refusal>, number: &mut u32) -> u32
     ensures status { result ≡ status_of (written_result answer) }
     ensures number { number.new ≡ number_of (written_result answer) number.old }
@@ -93,7 +92,7 @@ pub(crate) fn written_told(answer: Result<Option<u8>, Refusal>, number: &mut u32
     }
 }
 
-/// The status of what has no number.
+/// The status of a call that returns no number.
 pub(crate) fn done_told(answer: Result<(), Refusal>) -> u32
     ensures done { result ≡ status_of (done_reply answer) }
     ensures bytes { (bytes : List ℕ) → result ≡ status_of (bytes_reply answer bytes) }

@@ -28,7 +28,7 @@ const DROPPED: u32 = 72;
 
 const NEEDS_RESET: u32 = 73;
 
-/// A device behind a handle does one piece of its work, if the buffer holds all that it may send.
+/// A device of a handle's machine does one piece of its work, if the buffer holds all that it may send.
 #[tactic(auto, using(crate::proofs::ByKept::still_steps, crate::proofs::ByKept::moving_steps))]
 pub(crate) fn step_kept(kept: &mut Kept, dev: u8, pick: u8, buf: &mut [u8], number: &mut u32) -> u32
     ensures steps { StepsKept kept.old.state dev pick result number.new number.old buf.old buf.new kept.new.state }
@@ -43,7 +43,7 @@ pub(crate) fn step_kept(kept: &mut Kept, dev: u8, pick: u8, buf: &mut [u8], numb
     }
 }
 
-/// The same of a machine that is sent.
+/// As above, for a machine that is being migrated.
 #[tactic(auto, using(crate::proofs::ByKept::live_stepped, crate::proofs::ByKept::live_not_stepped))]
 fn live_step_told<D: Disk>(
     live: &mut Moving<D>,
@@ -88,7 +88,7 @@ fn step_told<D: Disk>(
     status_told(&reply)
 }
 
-/// How many bytes a step may send.
+/// The most bytes that a step may send.
 fn room_for<D: Disk>(machine: &Machine<D>, dev: u8, pick: u8) -> usize
     ensures { result ≡ most_sent_by machine.now dev pick }
 {
@@ -108,7 +108,7 @@ fn most_sent(own: &Own, pick: u8) -> usize
     }
 }
 
-/// The bytes that a reply sends go to the front of the buffer.
+/// Copies the bytes that a reply sends to the front of the buffer.
 fn hand_out(reply: &Reply, buf: &mut [u8])
     requires { length (sent_in reply.now) ≤ length buf.old }
     ensures { buf.new ≡ sent_in reply.now ++ drop (length (sent_in reply.now)) buf.old }
@@ -119,7 +119,7 @@ fn hand_out(reply: &Reply, buf: &mut [u8])
     }
 }
 
-/// What a machine that is sent answers: its status, and its number if it has one.
+/// The status of an answer of a machine that is being migrated, and its number if it has one.
 pub(crate) fn reply_told(answer: Result<Reply, MigError>, number: &mut u32) -> u32
     requires { IfOk answer (λ reply. length (sent_in reply) ≤ 65536) }
     ensures status { result ≡ live_status (guest_reply answer) }
@@ -134,7 +134,7 @@ pub(crate) fn reply_told(answer: Result<Reply, MigError>, number: &mut u32) -> u
     }
 }
 
-/// The number that a reply tells, or what was told before.
+/// The number of a reply that has one, else `before`.
 fn number_told(reply: &Reply, before: u32) -> u32
     requires { length (sent_in reply.now) ≤ 65536 }
     ensures { result ≡ number_of reply.now before }

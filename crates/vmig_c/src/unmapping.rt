@@ -1,4 +1,4 @@
-//! Images that the caller has back.
+//! Images that the caller gets back.
 
 ghost use Rattle.std.specs.Prelude.{◌≡◌, None, Some, length};
 ghost use Rattle.vmig_c.specs.Mapping.{counts};
@@ -9,7 +9,7 @@ use crate::status::{BAD_IMAGES, NO_MACHINE, NOT_MAPPED, TOO_SMALL};
 use machine::{Device, Machine, Shape};
 use mapped_disk::{Image, MappedDisk};
 
-/// Why a machine is not taken apart.
+/// Why `vmig_unmap` is refused, if it is.
 pub(crate) fn unmap_refusal(kept: &Kept, images: &mut [Image]) -> Option<u32>
     ensures same { images.new ≡ images.old }
     ensures refusal { result ≡ unmap_refusal_of kept.now images.old }
@@ -22,7 +22,7 @@ pub(crate) fn unmap_refusal(kept: &Kept, images: &mut [Image]) -> Option<u32>
     }
 }
 
-/// Why these are not the slots for the images of so many disks.
+/// Why these slots cannot take the images of `disks` disks, if they cannot.
 fn slots_refusal(disks: usize, images: &mut [Image]) -> Option<u32>
     ensures same { images.new ≡ images.old }
     ensures refusal { result ≡ slots_refusal disks images.old }
@@ -62,7 +62,7 @@ fn disk_count(machine: &Machine<MappedDisk>) -> usize
     count
 }
 
-/// What lies there is taken apart, and its images go into the slots.
+/// Frees the machine, and puts its images into the slots.
 pub(crate) fn unmap(kept: Kept, images: &mut [Image])
     requires { unmap_refusal_of kept images.old ≡ None }
     ensures { HasUnmappedState kept.state images.old images.new }
@@ -88,7 +88,7 @@ fn hand_back(machine: Machine<MappedDisk>, images: &mut [Image])
     }
 }
 
-/// The image of a device's disk, if it is of those that have one.
+/// The image of a device's disk, if it has one.
 fn image_of(device: Device<MappedDisk>) -> Option<Image>
     ensures { AreHandedBack (disk_in device) (held_by result) }
 {

@@ -1,4 +1,4 @@
-//! Which step of the machine behind a handle has something to do.
+//! Which step of a handle's machine has something to do.
 
 ghost use Rattle.std.specs.Prelude.{◌≡◌};
 ghost use Rattle.vmig_c.specs.Kept as states;
@@ -11,7 +11,7 @@ use sender::Phase;
 
 const WORK: u32 = 78;
 
-/// The next step with something to do after the one that the numbers name: they name it then. It takes no memory.
+/// Finds the next step with something to do after the one that the numbers name, and makes them name it. It takes no memory.
 pub(crate) fn next_work(kept: &Kept, dev: &mut u8, pick: &mut u8) -> u32
     ensures { FindsWork kept.now.state result dev.new dev.old pick.new pick.old }
 {

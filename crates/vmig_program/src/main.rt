@@ -1,5 +1,5 @@
-//! The program `vmig`: it hands its words, standard output and standard error to the library, and ends with the status
-//! that the library answers.
+//! The program `vmig`: it hands its words, standard output and standard error to the library, and ends with the status that the
+//! library returns.
 #![tactic(auto)]
 
 use std::io::{BufWriter, ErrorKind, Write};
@@ -15,7 +15,7 @@ fn words_of(rt: &HostRuntime) -> io::Result<Vec<String>> {
     Ok(words)
 }
 
-/// A word that is not UTF-8 stands in no line of the program, so words with one are read as no words at all.
+/// A word that is not UTF-8 is in no command line of the program, so words with one are read as no words at all.
 fn known_words_of(rt: &HostRuntime) -> io::Result<Vec<String>> {
     match words_of(rt) {
         Err(error) if error.kind() == ErrorKind::InvalidData => Ok(Vec::new(rt.alloc())),
@@ -23,7 +23,7 @@ fn known_words_of(rt: &HostRuntime) -> io::Result<Vec<String>> {
     }
 }
 
-/// Runs the program. An error is want of memory.
+/// Runs the program. An error means out of memory.
 fn run(rt: &HostRuntime) -> io::Result<u8> {
     let owned = known_words_of(rt)?;
     let mut words: Vec<&str> = Vec::new(rt.alloc());
