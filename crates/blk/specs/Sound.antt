@@ -31,9 +31,9 @@ IsSoundWork Flush readable writable capacity read_only verdict first units done 
 IsSoundWork GetId readable writable capacity read_only verdict first units done = (is_good verdict ≡ true) × (done ≤ units) × (units ≡ 1) × (first ≡ 0) × (ID_SIZE + 1 ≤ writable)
 
 -- A request that may be outstanding, in a RAM of `len` bytes, on a ring of this layout with `size` slots. Its chain is one
--- that such a ring can have: its id fits 16 bits; in a split ring it takes one slot, and its id is the number of a slot; it
--- has no more segments than there are slots, all inside RAM and together of fewer than 2^32 bytes. It has room for the
--- header and the verdict.
+-- that such a ring can have: its id fits 16 bits; it takes from 1 to `size` slots, in a split ring exactly one, and there
+-- its id is the number of a slot; it has no more segments than there are slots, all inside RAM and together of fewer than
+-- 2^32 bytes. It has room for the header and the verdict.
 pub record IsSoundRequest (len : ℕ) (is_packed : Bool) (size : ℕ) (shape : BlockShape) (r : Request) : Type 0 where
   pub some : 1 ≤ r.slots
   pub slots : r.slots ≤ size

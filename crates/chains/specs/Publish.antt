@@ -34,8 +34,8 @@ after_publish q slots = record q { used = after_chain q q.used slots }
 abbrev pub bit_if : Bool → ℕ → ℕ
 bit_if b bit = if b then bit else 0
 
--- Publishing in a split ring (VIRTIO 1.2, 2.7.8): id and length are written to the used ring's entry at the used index, and
--- then the next index to the index of the used ring. The flags of the used ring are never written.
+-- Publishing in a split ring (VIRTIO 1.2, 2.7.8): id and length are written to the entry of the used ring at the used index
+-- (modulo its size), and then the next index to the field `idx`. The flags of the used ring are never written.
 unfoldable pub split_published : RingState → ℕ → ℕ → List Write
 split_published q id len =
     byte_writes (q.device + 4 + 8 * (q.used.place % q.size)) (little_bytes 4 id ++ little_bytes 4 len)

@@ -41,8 +41,8 @@ pub record IsFromTable (ram : List ℕ) (front : List Descriptor) (last : Descri
   pub plain : ArePlain inner
   pub parts : all ≡ front ++ inner
 
--- `all` is `direct`, but that the last descriptor, if it is indirect, which needs the feature INDIRECT_DESC, is replaced by
--- the list of its table (VIRTIO 1.2, 2.7.5.3). Only the last one may be indirect: any other would be indirect and have
+-- `all` is `direct`, except that its last descriptor, if it is indirect, which needs the feature INDIRECT_DESC, is replaced
+-- by the list of its table (VIRTIO 1.2, 2.7.5.3). Only the last one may be indirect: any other would be indirect and have
 -- NEXT.
 pub record IsReplaced (ram : List ℕ) (has_indirect : Bool) (direct all : List Descriptor) : Type 0 where
   pub front : List Descriptor

@@ -40,7 +40,7 @@ replaced_by ram has_indirect true direct all more front last (p, t) (p', u) =
     t.parts ∙ ap (λ (xs : List Descriptor). front ++ xs) e ∙ sym u.parts
 replaced_by ram has_indirect false direct all more front last t u = t ∙ sym u
 
--- A list with its indirect descriptor replaced by the table is at most one list.
+-- A list becomes at most one list when its indirect descriptor is replaced by the table.
 pub replaced_same : (ram : List ℕ) (has_indirect : Bool) (direct all more : List Descriptor) → IsReplaced ram has_indirect direct all → IsReplaced ram has_indirect direct more → all ≡ more
 replaced_same ram has_indirect direct all more r s =
     let joined : s.front ++ s.last ∷ [] ≡ r.front ++ r.last ∷ [] = sym s.parts ∙ r.parts in
