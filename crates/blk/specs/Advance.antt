@@ -18,7 +18,7 @@ use Rattle.blk.specs.declared.shape.BlockShape.{BlockShape}
 use Rattle.blk.specs.declared.advancing.Advanced.{Advanced}
 use Rattle.blk.specs.declared.advancing.Advanced.TheVariants.{Idle, Completed}
 
--- The bytes of data that were written into a request of which so many units are done.
+-- The bytes of data that were written into a request of which `done` units are done.
 abbrev pub data_written : Kind → ℕ → ℕ
 data_written kind.In done = SECTOR_SIZE * done
 data_written kind.GetId done = ID_SIZE * done
@@ -26,21 +26,22 @@ data_written kind.Out done = 0
 data_written kind.Flush done = 0
 data_written kind.Refused done = 0
 
--- The used length: the bytes of data, and with them the verdict's where they reach up to it, since only bytes in a row from
--- the first one on may be told as written (VIRTIO 1.2, 2.7.8.2 and 2.8.4).
+-- The used length: the bytes of data, and the verdict's byte too if it follows them directly, since only contiguous bytes
+-- from the first one on may be reported as written (VIRTIO 1.2, 2.7.8.2 and 2.8.4).
 abbrev pub used_len : Request → ℕ
 used_len r =
     if data_written r.kind r.done + 1 == length (places r.writable) then length (places r.writable) else data_written r.kind r.done
 
--- The verdict goes to the last writable place.
+-- The verdict is written to the last writable place.
 abbrev pub verdict_writes : Request → List Write
 verdict_writes r = place_writes (take 1 (drop (length (places r.writable) - 1) (places r.writable))) (verdict_byte r.verdict ∷ [])
 
--- The verdict, and then the used chain. The device wrote into it: its verdict at least.
+-- The verdict is written, and then the chain is published as one that the device wrote into: it wrote the verdict at least.
 unfoldable pub end_writes : RingState → Request → List Write
 end_writes q r = verdict_writes r ++ published q r.id r.slots (used_len r) true
 
--- What advancing answers and changes: writes of RAM, sectors that are set, the ring's positions, and the requests.
+-- What advancing returns and changes: its answer, writes of RAM, sectors that are set, the ring's positions, and the
+-- requests.
 pub record AdvanceStep : Type 0 where
   pub answer : Advanced
   pub writes : List Write
@@ -51,7 +52,7 @@ pub record AdvanceStep : Type 0 where
 abbrev pub after_move : RingState → List Request → ℕ → Move → AdvanceStep
 after_move q requests k m = record { answer = m.answer; writes = m.writes; sets = m.sets; ring = q; requests = slice_set requests k m.request }
 
--- The request ends. Whether an interrupt is due is read after all is written.
+-- The request ends. Whether an interrupt is due is read from RAM after all these writes.
 abbrev pub completed : List ℕ → RingState → List Request → ℕ → Request → AdvanceStep
 completed ram q requests k r = record {
   answer = Completed (used_len r) (is_interrupt_due q r.slots (set_all ram (end_writes q r)));
@@ -66,12 +67,13 @@ advance_one shape ram q content requests k is_fine None = record { answer = Idle
 advance_one shape ram q content requests k is_fine (Some r) =
     if is_open r then after_move q requests k (move_of r.kind shape.id ram content r is_fine) else completed ram q requests k r
 
--- The k-th outstanding request, from 0, goes on by one unit, or ends. A call of the disk, if it makes one, is fine or fails.
+-- The k-th outstanding request, from 0, advances by one unit, or ends. `is_fine` says whether a call of the disk, if one is
+-- made, succeeds.
 abbrev pub advance_step : BlockShape → List ℕ → RingState → List Sector → List Request → ℕ → Bool → AdvanceStep
 advance_step shape ram q content requests k is_fine = advance_one shape ram q content requests k is_fine (slice_get requests k)
 
--- Such a step was made, with the sectors as the disk gave them: what it answers, and RAM, the ring, the sectors, the requests
--- and a log after it.
+-- Such a step was made, with the sectors as the disk returned them: what it answers, and RAM, the ring, the sectors, the
+-- requests and a log after it.
 pub record IsAfterAdvancing {L : Type 0} (after : L → Item → L) (honest : Bool) (device : ℕ) (ram : List ℕ) (content : List Sector) (log : L) (step : List Sector → AdvanceStep) (answer : Advanced) (new_ram : List ℕ) (new_ring : RingState) (new_content : List Sector) (new_requests : List Request) (new_log : L) : Type 0 where
   pub given : List Sector
   pub is_given : IsGiven honest content given

@@ -1,4 +1,4 @@
--- What the disk under a block device means (VIRTIO 1.2, 5.2).
+-- The model of the disk under a block device (VIRTIO 1.2, 5.2).
 use Rattle.std.specs.Prelude.{◌≡◌, ◌≢◌, ℕ, List, length, All, Bool, IsTrue, Result, slice_set, slice_index_or, [], IsOk, OnOk, OnErr}
 use Rattle.guestmem.specs.Failures.{counted}
 use Rattle.guestmem.specs.Number.{IsBytes}
@@ -11,8 +11,8 @@ pub record IsSector (sector : List ℕ) : Type 0 where
 abbrev pub AreSectors : List (List ℕ) → Type 0
 AreSectors sectors = All IsSector sectors
 
--- What a disk means: its sectors, how often it failed (modulo 2^64), whether a read gives what was written, and whether
--- it never fails.
+-- The model of a disk: its sectors, how often it failed (modulo 2^64), whether a read returns what was written (`honest`),
+-- and whether it never fails (`steady`).
 pub record DiskState : Type 0 where
   pub sectors : List (List ℕ)
   pub failures : ℕ
@@ -22,7 +22,7 @@ pub record DiskState : Type 0 where
 abbrev pub sector_at : List (List ℕ) → ℕ → List ℕ
 sector_at sectors n = slice_index_or sectors n []
 
--- What each call keeps, however it ends.
+-- What holds after each call, whether it succeeds or fails.
 pub record Keeps {T E : Type 0} (old new : DiskState) (result : Result T E) : Type 0 where
   pub count : new.failures ≡ counted old.failures result
   pub honest : new.honest ≡ old.honest
@@ -30,17 +30,18 @@ pub record Keeps {T E : Type 0} (old new : DiskState) (result : Result T E) : Ty
   pub size : length new.sectors ≡ length old.sectors
   pub never_fails : IsTrue old.steady → IsOk result
 
--- Every sector but one stays.
+-- Every sector but sector n is unchanged.
 abbrev pub SameBut : ℕ → List (List ℕ) → List (List ℕ) → Type 0
 SameBut n old new = (k : ℕ) → k ≢ n → sector_at new k ≡ sector_at old k
 
--- A read changes no sector, and where the disk is honest it gives the sector.
+-- A read changes no sector, and one that succeeds on an honest disk returns the sector.
 pub record Reads {T E : Type 0} (old : DiskState) (n : ℕ) (bytes : List ℕ) (result : Result T E) (new : DiskState) : Type 0 where
   pub keeps : Keeps old new result
   pub same : new.sectors ≡ old.sectors
   pub found : OnOk result (IsTrue old.honest → bytes ≡ sector_at old.sectors n)
 
--- Where the disk is honest, a write that succeeds sets its sector and no other. One that fails leaves any bytes there.
+-- On an honest disk, a write that succeeds sets its sector and no other. On any disk, a write that fails may leave any
+-- bytes in its sector, and changes no other.
 pub record Writes {T E : Type 0} (old : DiskState) (n : ℕ) (bytes : List ℕ) (result : Result T E) (new : DiskState) : Type 0 where
   pub keeps : Keeps old new result
   pub set : OnOk result (IsTrue old.honest → new.sectors ≡ slice_set old.sectors n bytes)

@@ -1,10 +1,10 @@
--- A disk that fails by a plan.
+-- A disk that fails according to a plan.
 use Rattle.std.specs.Prelude.{◌≡◌, ℕ, ◌+◌, ◌-◌, ◌^◌, ◌==◌, nat_lt, List, Bool, true, false, Result, IsErr, if◌then◌else◌}
 use Rattle.std.specs.List.{list_any}
 use Rattle.guestmem.specs.Failures.{counted}
 use Rattle.blk.specs.Disk.{DiskState}
 
--- What such a disk means: the disk below, the numbers of the calls that are to fail, how many calls there were, and how
+-- The model of such a disk: the disk below, the numbers of the calls that are to fail, how many calls there were, and how
 -- many of them failed (modulo 2^64).
 pub record FaultState : Type 0 where
   pub disk : DiskState
@@ -16,7 +16,7 @@ pub record FaultState : Type 0 where
 abbrev pub disk_of : FaultState → DiskState
 disk_of f = record { sectors = f.disk.sectors; failures = f.failures; honest = f.disk.honest; steady = false }
 
--- The number of the next call: they are counted from 1, and the count stays at the greatest number of 64 bits.
+-- The number of the next call: calls are counted from 1, and the count stays once it is 2^64 - 1.
 abbrev pub next_call : FaultState → ℕ
 next_call f = if nat_lt f.calls (2 ^ 64 - 1) then f.calls + 1 else f.calls
 
@@ -24,8 +24,8 @@ next_call f = if nat_lt f.calls (2 ^ 64 - 1) then f.calls + 1 else f.calls
 abbrev pub is_planned : FaultState → Bool
 is_planned f = list_any (λ n. n == next_call f) f.plan
 
--- A call was made. One that was to fail failed, and the disk below was not asked. Any other failed where the disk below
--- failed.
+-- A call was made. One that was to fail failed, and the disk below was not called. Any other failed exactly if the disk
+-- below failed.
 pub record IsCalled {T E : Type 0} (old : FaultState) (result : Result T E) (new : FaultState) : Type 0 where
   pub plan : new.plan ≡ old.plan
   pub calls : new.calls ≡ next_call old

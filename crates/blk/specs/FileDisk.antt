@@ -3,7 +3,7 @@ use Rattle.std.specs.Prelude.{ℕ, false, replicate}
 use Rattle.blk.specs.declared.disk.TheConstants.{SECTOR_SIZE}
 use Rattle.blk.specs.Disk.{DiskState}
 
--- What is known of it: how many sectors it has, and how often it failed. No clause of a disk that is not honest tells what a
--- sector holds, so sectors of zeros stand for those of the file, which are not known.
+-- What is known of it: how many sectors it has, and how often it failed. No clause about a disk that is not honest says
+-- what a sector holds, so the model has sectors of zeros for those of the file, which are not known.
 abbrev pub file_state : ℕ → ℕ → DiskState
 file_state count failures = record { sectors = replicate count (replicate SECTOR_SIZE 0); failures = failures; honest = false; steady = false }

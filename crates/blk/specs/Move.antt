@@ -15,7 +15,7 @@ use Rattle.blk.specs.declared.request.Request.{Request}
 use Rattle.blk.specs.declared.advancing.Advanced.{Advanced}
 use Rattle.blk.specs.declared.advancing.Advanced.TheVariants.{Idle, Moved, BadSector, DiskFailed, Completed}
 
--- A sector that is set: its bytes, or none where it becomes bad.
+-- A change of a sector: its new bytes, or None if it becomes bad.
 pub record SectorSet : Type 0 where
   pub number : ℕ
   pub content : Sector
@@ -24,11 +24,11 @@ abbrev pub sectors_set : List Sector → List SectorSet → List Sector
 sectors_set content [] = content
 sectors_set content (s ∷ ss) = sectors_set (slice_set content s.number s.content) ss
 
--- The items of sectors that are set, on the disk of the device of this number.
+-- The items of sectors that are set, on the disk of the device with this number.
 abbrev pub sectors_touched : ℕ → List SectorSet → List Item
 sectors_touched device sets = map (λ s. sector device s.number) sets
 
--- What one unit of a request answers and changes: the request, writes of RAM, and sectors that are set.
+-- What one unit of a request returns and changes: its answer, the request, writes of RAM, and sectors that are set.
 pub record Move : Type 0 where
   pub answer : Advanced
   pub request : Request
@@ -48,11 +48,11 @@ moved r writes sets = record { answer = Moved; request = one_done r; writes = wr
 abbrev pub disk_failed : Request → List SectorSet → Move
 disk_failed r sets = record { answer = DiskFailed; request = failed r; writes = []; sets = sets }
 
--- The sector is bad: the disk is not asked, and the request ends with an error.
+-- The sector is bad: the disk is not called, and the request ends with an error.
 abbrev pub bad_sector : Request → Move
 bad_sector r = record { answer = BadSector; request = failed r; writes = []; sets = [] }
 
--- A sector goes to the writable places of its unit. A bad one is not read.
+-- The bytes of a sector are written to the writable places of its unit. A bad sector is not read.
 abbrev pub move_in : List Sector → Request → Bool → Move
 move_in content r is_fine =
     if is_bad (sector_in content (next_sector r)) then bad_sector r
@@ -63,7 +63,7 @@ move_in content r is_fine =
 abbrev pub unit_bytes : List ℕ → Request → List ℕ
 unit_bytes ram r = take SECTOR_SIZE (drop (HEADER_SIZE + SECTOR_SIZE * r.done) (read_places ram (places r.readable)))
 
--- The bytes of a unit go into its sector. A write that fails makes it bad.
+-- The bytes of a unit are written to its sector. If the write fails the sector becomes bad.
 abbrev pub move_out : List ℕ → Request → Bool → Move
 move_out ram r is_fine =
     if is_fine then moved r [] (record { number = next_sector r; content = Some (unit_bytes ram r) } ∷ [])
@@ -72,7 +72,7 @@ move_out ram r is_fine =
 abbrev pub move_flush : Request → Bool → Move
 move_flush r is_fine = if is_fine then moved r [] [] else disk_failed r []
 
--- The id of the device goes to the first writable places.
+-- The id of the device is written to the first writable places.
 abbrev pub move_id : List ℕ → Request → Move
 move_id id r = moved r (place_writes (take ID_SIZE (places r.writable)) id) []
 
@@ -100,19 +100,19 @@ after_unit r BadSector = failed r
 after_unit r DiskFailed = failed r
 after_unit r (Completed len is_due) = r
 
--- Sectors are set only as bad ones.
+-- Each of these changes makes its sector bad.
 abbrev pub AreMadeBad : List SectorSet → Type 0
 AreMadeBad [] = Unit {0}
 AreMadeBad (s ∷ ss) = (is_bad s.content ≡ true) × AreMadeBad ss
 
--- The sectors of a disk after some were set. Which ones are bad is known of any disk, and so is what the sectors hold where
--- none was written. What a write leaves is known where the disk is honest.
+-- The sectors of a disk after some were set. For any disk it is known which ones are bad, and, if all changes make sectors
+-- bad, what the sectors hold. What a write leaves is known if the disk is honest.
 pub record AreSet (honest : Bool) (content : List Sector) (sets : List SectorSet) (new_content : List Sector) : Type 0 where
   pub bad : map is_bad new_content ≡ map is_bad (sectors_set content sets)
   pub unwritten : AreMadeBad sets → new_content ≡ sectors_set content sets
   pub is : IsTrue honest → new_content ≡ sectors_set content sets
 
--- Such a move was made, with the sectors as the disk gave them.
+-- Such a move was made, with the sectors as the disk returned them.
 pub record IsMoved {L : Type 0} (after : L → Item → L) (honest : Bool) (device : ℕ) (ram : List ℕ) (content : List Sector) (log : L) (move : List Sector → Move) (answer : Advanced) (new_request : Request) (new_ram : List ℕ) (new_content : List Sector) (new_log : L) : Type 0 where
   pub given : List Sector
   pub is_given : IsGiven honest content given
@@ -122,6 +122,6 @@ pub record IsMoved {L : Type 0} (after : L → Item → L) (honest : Bool) (devi
   pub content_is : AreSet honest content (move given).sets new_content
   pub log_is : new_log ≡ after_all after log (touched (move given).writes ++ sectors_touched device (move given).sets)
 
--- Every sector of a disk of so many, under the device of this number, may be named to the log.
+-- Every sector of a disk of `count` sectors, of the device with this number, may be passed to the log.
 abbrev pub MaySectors : {L : Type 0} → (L → Item → Type 0) → L → ℕ → ℕ → Type 0
 MaySectors may log device count = (n : ℕ) → n < count → may log (sector device n)

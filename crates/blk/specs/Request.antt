@@ -4,7 +4,7 @@ use Rattle.blk.specs.declared.request.Verdict.{Verdict}
 use Rattle.blk.specs.declared.request.Verdict.TheVariants.{Good, IoError, Unsupported}
 use Rattle.blk.specs.declared.request.Request.{Request}
 
--- The byte that tells a verdict to the driver.
+-- The byte that reports a verdict to the driver.
 abbrev pub verdict_byte : Verdict → ℕ
 verdict_byte Good = 0
 verdict_byte IoError = 1

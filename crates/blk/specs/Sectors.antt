@@ -4,7 +4,7 @@ use Rattle.blk.specs.Disk.{DiskState, IsSector}
 use Rattle.blk.specs.declared.sectors.Fetched.{Fetched}
 use Rattle.blk.specs.declared.sectors.Fetched.TheVariants.{Bad, Failed, Read}
 
--- The bytes of a sector, or none where it is bad.
+-- The bytes of a sector, or None if it is bad.
 abbrev pub Sector : Type 0
 Sector = Option (List ℕ)
 
@@ -34,8 +34,8 @@ IsWhole (Some bytes) = IsSector bytes
 abbrev pub AreWhole : List Sector → Type 0
 AreWhole content = All IsWhole content
 
--- The sectors of a disk as it gave them in one step: the same ones are bad, and each good one has 512 bytes. An honest disk
--- gives what it holds.
+-- The sectors of a disk as it returned them in one step: the same ones are bad, and each good one has 512 bytes. An honest
+-- disk returns what it holds.
 pub record IsGiven (honest : Bool) (content given : List Sector) : Type 0 where
   pub bad : map is_bad given ≡ map is_bad content
   pub whole : AreWhole given
@@ -44,8 +44,8 @@ pub record IsGiven (honest : Bool) (content given : List Sector) : Type 0 where
 abbrev pub sector_in : List Sector → ℕ → Sector
 sector_in content n = slice_index_or content n None
 
--- What a disk and its marks mean: the sectors, how often a call failed (modulo 2^64), and whether the disk is honest
--- and steady.
+-- The model of a disk with its marks of bad sectors: the sectors, how often a call failed (modulo 2^64), and whether the
+-- disk is honest and steady.
 pub record SectorsState : Type 0 where
   pub content : List Sector
   pub failures : ℕ
@@ -55,7 +55,7 @@ pub record SectorsState : Type 0 where
 abbrev pub seen_of : DiskState → List Bool → SectorsState
 seen_of d marks = record { content = sectors_of d.sectors marks; failures = d.failures; honest = d.honest; steady = d.steady }
 
--- The same sectors, but for one.
+-- The same state, with sector n replaced.
 abbrev pub set_sector : SectorsState → ℕ → Sector → SectorsState
 set_sector s n sector = record s { content = slice_set s.content n sector }
 
@@ -63,7 +63,8 @@ set_sector s n sector = record s { content = slice_set s.content n sector }
 abbrev pub counted_if : Bool → ℕ → ℕ
 counted_if failed failures = if failed then (failures + 1) % 2 ^ 64 else failures
 
--- What every call keeps: the count of failures rises by one exactly where it failed, and a steady disk never fails.
+-- What holds after every call: the count of failures rises by one exactly if the call failed, and a steady disk never
+-- fails.
 pub record IsKept (old : SectorsState) (failed : Bool) (new : SectorsState) : Type 0 where
   pub count : new.failures ≡ counted_if failed old.failures
   pub honest : new.honest ≡ old.honest
@@ -76,7 +77,8 @@ is_failed Bad = false
 is_failed Failed = true
 is_failed Read = false
 
--- What a read of a sector tells: a bad one is not read, and where the disk is honest one that is read gives its bytes.
+-- What the result of reading a sector says. Bad: the sector is bad, and is not read. Failed: it is not bad. Read: it is not
+-- bad, and an honest disk returned its bytes.
 abbrev pub IsFetched : Bool → Sector → List ℕ → Fetched → Type 0
 IsFetched honest sector bytes Bad = is_bad sector ≡ true
 IsFetched honest sector bytes Failed = is_bad sector ≡ false

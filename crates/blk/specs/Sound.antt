@@ -1,4 +1,4 @@
--- What every outstanding request keeps.
+-- The invariants of outstanding requests.
 use Rattle.std.specs.Prelude.{◌≡◌, ℕ, ◌+◌, ◌*◌, ◌<◌, ◌≤◌, ◌^◌, List, length, All, Bool, true, false}
 use Rattle.std.specs.Bool.{MatchBool}
 use Rattle.chains.specs.Places.{places, AreSegmentsInside}
@@ -14,13 +14,15 @@ use Rattle.blk.specs.declared.request.Verdict.TheVariants.{Good, IoError, Unsupp
 use Rattle.blk.specs.declared.request.Request.{Request}
 use Rattle.blk.specs.declared.shape.BlockShape.{BlockShape}
 
--- A verdict that is told once all units are done, or an error that left some undone.
+-- The verdict so far fits the progress: it is good, with no more units done than there are; or an I/O error, with some left
+-- undone.
 abbrev pub MayEnd : Verdict → ℕ → ℕ → Type 0
 MayEnd Good done units = done ≤ units
 MayEnd IoError done units = done < units
 MayEnd Unsupported done units = ⊥
 
--- What a request keeps by its kind: for so many readable and writable bytes, sectors, and a device that may be read-only.
+-- What holds of a request by its kind, for these numbers of readable and writable bytes and of sectors, and a device that
+-- may be read-only.
 abbrev pub IsSoundWork : Kind → ℕ → ℕ → ℕ → Bool → Verdict → ℕ → ℕ → ℕ → Type 0
 IsSoundWork Refused readable writable capacity read_only verdict first units done = (is_good verdict ≡ false) × (first ≡ 0) × (units ≡ 0) × (done ≡ 0)
 IsSoundWork In readable writable capacity read_only verdict first units done = MayEnd verdict done units × (SECTOR_SIZE * units + 1 ≡ writable) × (first + units ≤ capacity)
@@ -28,10 +30,10 @@ IsSoundWork Out readable writable capacity read_only verdict first units done = 
 IsSoundWork Flush readable writable capacity read_only verdict first units done = MayEnd verdict done units × (units ≡ 1) × (first ≡ 0)
 IsSoundWork GetId readable writable capacity read_only verdict first units done = (is_good verdict ≡ true) × (done ≤ units) × (units ≡ 1) × (first ≡ 0) × (ID_SIZE + 1 ≤ writable)
 
--- A request that may be outstanding, in a RAM of so many bytes, on a ring of a layout and of so many slots: its chain is one
--- that such a ring can have (its id fits 16 bits; in a split ring it takes one slot, and its id is one), it has no more
--- segments than there are
--- slots, all inside RAM and together of fewer than 2^32 bytes, and room for the header and the verdict.
+-- A request that may be outstanding, in a RAM of `len` bytes, on a ring of this layout with `size` slots. Its chain is one
+-- that such a ring can have: its id fits 16 bits; it takes from 1 to `size` slots, in a split ring exactly one, and there
+-- its id is the number of a slot; it has no more segments than there are slots, all inside RAM and together of fewer than
+-- 2^32 bytes. It has room for the header and the verdict.
 pub record IsSoundRequest (len : ℕ) (is_packed : Bool) (size : ℕ) (shape : BlockShape) (r : Request) : Type 0 where
   pub some : 1 ≤ r.slots
   pub slots : r.slots ≤ size

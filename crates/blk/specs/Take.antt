@@ -17,18 +17,18 @@ use Rattle.blk.specs.declared.taking.Taken.{Taken}
 use Rattle.blk.specs.declared.taking.Taken.TheVariants as taken
 use Rattle.blk.specs.Task.{task_of}
 
--- What taking answers and changes: writes of RAM, the ring's positions, and the requests after it.
+-- What taking returns and changes: its answer, writes of RAM, the ring's positions, and the requests after it.
 pub record TakeStep : Type 0 where
   pub answer : Taken
   pub writes : List Write
   pub ring : RingState
   pub requests : List Request
 
--- A chain that a request cannot be: fewer readable bytes than a header, or no writable one.
+-- A chain that cannot be a request: it has fewer readable bytes than a header, or no writable byte.
 abbrev pub is_no_request : Chain → Bool
 is_no_request c = nat_lt (length (places c.readable)) HEADER_SIZE || length (places c.writable) == 0
 
--- The header is the bytes at the first readable places.
+-- The header: the bytes at the first HEADER_SIZE readable places.
 abbrev pub header_of : List ℕ → Chain → List ℕ
 header_of ram c = take HEADER_SIZE (read_places ram (places c.readable))
 
@@ -49,7 +49,7 @@ request_for c t = record {
 abbrev pub task_for : List ℕ → BlockShape → Chain → Task
 task_for ram shape c = task_of (header_of ram c) (length (places c.readable)) (length (places c.writable)) shape.sectors shape.read_only
 
--- The chain stays, and nothing is written.
+-- The chain is not taken, and nothing is written.
 abbrev pub refuse : RingState → List Request → TakeStep
 refuse q requests = record { answer = taken.Malformed; writes = []; ring = q; requests = requests }
 
@@ -61,8 +61,8 @@ take_chain ram q shape requests c = record {
   requests = requests ++ request_for c (task_for ram shape c) ∷ [];
 }
 
--- Taking with room for a request, by what the queue answers about its next chain. Where the queue is empty the event note
--- is written. A chain that a request cannot be is malformed too.
+-- The step if there is room for a request, by what the queue answers about its next chain. If the queue is empty the event
+-- note is written. A chain that cannot be a request is malformed too.
 abbrev pub take_step : List ℕ → RingState → BlockShape → List Request → Next → TakeStep
 take_step ram q shape requests next.Empty = record { answer = taken.Empty; writes = event_note q; ring = q; requests = requests }
 take_step ram q shape requests next.Malformed = refuse q requests

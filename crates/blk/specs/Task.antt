@@ -1,4 +1,4 @@
--- What a request asks for as it is taken (VIRTIO 1.2, 5.2.6).
+-- What a request asks for when it is taken (VIRTIO 1.2, 5.2.6).
 use Rattle.std.specs.Prelude.{ℕ, ◌+◌, ◌-◌, ◌/◌, ◌%◌, ◌==◌, nat_lt, not, Bool, List, if◌then◌else◌}
 use Rattle.guestmem.specs.Number.{number_at}
 use Rattle.blk.specs.declared.disk.TheConstants.{SECTOR_SIZE}
@@ -10,20 +10,21 @@ use Rattle.blk.specs.declared.request.TheConstants.{HEADER_SIZE, TYPE_IN, TYPE_O
 use Rattle.blk.specs.declared.shape.TheConstants.{ID_SIZE}
 use Rattle.blk.specs.declared.task.Task.{Task}
 
--- A request that is refused as it is taken has nothing to do but to tell its verdict.
+-- A request that is refused when it is taken has no work to do but to report its verdict.
 abbrev pub refused : Verdict → Task
 refused verdict = record { kind = Refused; verdict = verdict; first = 0; units = 0 }
 
--- So many bytes are moved from or to the sectors from a first one on: whole sectors, none of them past the last.
+-- `bytes` bytes are transferred from or to the sectors from `first` on. It must be whole sectors, none of them past the
+-- last; else it is an error.
 abbrev pub transfer : Kind → ℕ → ℕ → ℕ → Task
 transfer kind first bytes capacity =
     if not (bytes % SECTOR_SIZE == 0) then refused IoError
     else if nat_lt capacity (first + bytes / SECTOR_SIZE) then refused IoError
     else record { kind = kind; verdict = Good; first = first; units = bytes / SECTOR_SIZE }
 
--- What a request asks for, by the bytes of its header (type, 4 bytes that are reserved, sector), the numbers of its
--- readable and writable bytes, the number of sectors, and whether the device is read-only (VIRTIO 1.2, 5.2.6). All bytes but
--- the header and the verdict are moved. A write to a read-only device is an error (VIRTIO 1.2, 5.2.6.2).
+-- What a request asks for, by the bytes of its header (type, 4 reserved bytes, sector), the numbers of its readable and
+-- writable bytes, the number of sectors, and whether the device is read-only (VIRTIO 1.2, 5.2.6). A transfer moves all
+-- bytes but the header and the verdict. A write to a read-only device is an error (VIRTIO 1.2, 5.2.6.2).
 unfoldable pub task_of : List ℕ → ℕ → ℕ → ℕ → Bool → Task
 task_of header readable writable capacity read_only =
     let type = number_at header 0 4 in

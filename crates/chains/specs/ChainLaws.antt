@@ -30,7 +30,7 @@ by_layout false P S P' S' f g x y = g x y
 pub chain_same : (ram : List ℕ) (q : RingState) (a b : Chain) → IsChain ram q a → IsChain ram q b → a ≡ b
 chain_same ram q a b = by_layout q.is_packed (IsPackedChain ram q a) (IsSplitChain ram q a) (IsPackedChain ram q b) (IsSplitChain ram q b) (packed_chain_same ram q a b) (split_chain_same ram q a b)
 
--- A queue has one answer: empty, malformed and a chain exclude one another.
+-- A queue has at most one answer: empty, malformed and a chain exclude one another.
 pub answer_same : (ram : List ℕ) (q : RingState) (a b : Next) → Answers ram q a → Answers ram q b → a ≡ b
 answer_same ram q Empty Empty h k = refl
 answer_same ram q Empty Malformed h k = absurd (k.0 h)
@@ -63,7 +63,7 @@ head_below ram table entries index [] h = absurd h
 head_below ram table entries index (d ∷ []) h = h.0
 head_below ram table entries index (d ∷ e ∷ ds) h = h.0
 
--- So many entries of a table are so many.
+-- `entries_from` gives as many entries as its count says.
 pub length_entries : (ram : List ℕ) (table index count : ℕ) → length (entries_from ram table index count) ≡ count
 length_entries ram table index zero = refl
 length_entries ram table index (suc count) = ap suc (length_entries ram table (index + 1) count)
@@ -140,7 +140,7 @@ bounded_by ram q c false layout s = split_bounded ram q c layout s
 pub chain_bounded : (ram : List ℕ) (q : RingState) (c : Chain) → IsChain ram q c → IsBounded (length ram) q c
 chain_bounded ram q c s = bounded_by ram q c q.is_packed refl s
 
--- What waits for memory is no empty queue.
+-- A queue at which a step may need to allocate memory is not empty.
 pub wanting_waits : (ram : List ℕ) (q : RingState) (form : MessageForm) → MayWantMemory ram q form → ¬ (IsEmptyQueue ram q)
 wanting_waits ram q form (inl long) = long.waiting
 wanting_waits ram q form (inr message) = message.answers.0

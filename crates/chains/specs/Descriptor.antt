@@ -5,9 +5,8 @@ use Rattle.chains.specs.declared.descriptor.TheConstants.{DESCRIPTOR_SIZE}
 use Rattle.chains.specs.declared.flags.TheConstants.{NEXT, WRITE, INDIRECT, AVAIL, USED}
 use Rattle.chains.specs.State.{has_bit}
 
--- The descriptor at an index of the table at an address. Address and length stand first in both layouts; then a split
--- table has the flags and the next index (VIRTIO 1.2, 2.7.5), a packed one the buffer's id and the flags (VIRTIO 1.2,
--- 2.8.13).
+-- The descriptor at an index of the table at an address. Address and length come first in both layouts; then a split table
+-- has the flags and the next index (VIRTIO 1.2, 2.7.5), a packed one the buffer's id and the flags (VIRTIO 1.2, 2.8.13).
 unfoldable pub descriptor_at : Bool → List ℕ → ℕ → ℕ → Descriptor
 descriptor_at is_packed ram table index =
     let low = number_at ram (table + DESCRIPTOR_SIZE * index + 12) 2 in

@@ -3,12 +3,12 @@ use Rattle.std.proofs.Common.{ap}
 use Rattle.guestmem.specs.Item.{Item, page, after_all}
 use Rattle.guestmem.specs.Writes.{Write, touched}
 
--- The pages of writes one after another are the pages of both lists.
+-- The pages of two lists of writes, appended, are those of the first and then those of the second.
 pub touched_append : (ws vs : List Write) → touched (ws ++ vs) ≡ touched ws ++ touched vs
 touched_append [] vs = refl
 touched_append (w ∷ ws) vs = ap (λ (is : List Item). page (w.address / 4096) ∷ is) (touched_append ws vs)
 
--- A log that took in the pages of some writes and then those of others took in the pages of both.
+-- Logging the pages of two lists of writes, appended, is logging those of the first and then those of the second.
 pub after_touched : {L : Type 0} (after : L → Item → L) (log : L) (ws vs : List Write) → after_all after log (touched (ws ++ vs)) ≡ after_all after (after_all after log (touched ws)) (touched vs)
 after_touched after log [] vs = refl
 after_touched after log (w ∷ ws) vs = after_touched after (after log (page (w.address / 4096))) ws vs

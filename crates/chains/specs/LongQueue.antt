@@ -10,16 +10,16 @@ use Rattle.chains.specs.SplitChain.{AreLinked, head}
 use Rattle.chains.specs.PackedChain.{entries_from}
 use Rattle.chains.specs.Ring.{IsEmptyQueue}
 
--- These descriptors stand in a row in a table of so many entries: the first at an index, and each but the last has NEXT
--- and names the one after it (VIRTIO 1.2, 2.7.5). The last may have NEXT too: a row need not come to its end.
+-- These descriptors are a row in a table of `entries` entries: the first is at `index`, and each but the last has NEXT and
+-- names the next one (VIRTIO 1.2, 2.7.5). The last may have NEXT too: a row may be only the beginning of a list.
 abbrev pub AreInRow : List ℕ → ℕ → ℕ → ℕ → List Descriptor → Type 0
 AreInRow ram table entries index [] = ⊥
 AreInRow ram table entries index (d ∷ []) = (index < entries) × (d ≡ descriptor_at false ram table index)
 AreInRow ram table entries index (d ∷ e ∷ ds) =
     (index < entries) × (d ≡ descriptor_at false ram table index) × (d.has_next ≡ true) × AreInRow ram table entries d.next (e ∷ ds)
 
--- A row that goes on in a table: the list from the head on ends with a descriptor that names the table, and the row is
--- those before it, which name none, and then descriptors in a row from entry 0 of the table (VIRTIO 1.2, 2.7.5.3).
+-- A row that continues in a table: the list from the head on ends with an indirect descriptor, and the row is the
+-- descriptors before it, none of which is indirect, followed by a row from entry 0 of its table (VIRTIO 1.2, 2.7.5.3).
 pub record IsRowIntoTable (ram : List ℕ) (q : RingState) (row : List Descriptor) : Type 0 where
   pub front : List Descriptor
   pub last : Descriptor
@@ -36,15 +36,15 @@ pub record IsRowIntoTable (ram : List ℕ) (q : RingState) (row : List Descripto
 abbrev pub IsSplitRow : List ℕ → RingState → List Descriptor → Type 0
 IsSplitRow ram q row = AreInRow ram q.descriptors q.size (head ram q) row ⊎ IsRowIntoTable ram q row
 
--- These are descriptors of consecutive slots of a ring of so many, from a slot on and going round: each but the last has
--- NEXT (VIRTIO 1.2, 2.8.6), and the last may have it too.
+-- These are the descriptors of consecutive slots of a ring of `size` slots, from `slot` on and wrapping around: each but
+-- the last has NEXT (VIRTIO 1.2, 2.8.6), and the last may have it too.
 abbrev pub AreInSlots : List ℕ → ℕ → ℕ → ℕ → List Descriptor → Type 0
 AreInSlots ram table size slot [] = ⊥
 AreInSlots ram table size slot (d ∷ []) = d ≡ descriptor_at true ram table slot
 AreInSlots ram table size slot (d ∷ e ∷ ds) =
     (d ≡ descriptor_at true ram table slot) × (d.has_next ≡ true) × AreInSlots ram table size ((slot + 1) % size) (e ∷ ds)
 
--- All entries of the table that this descriptor, standing alone, names (VIRTIO 1.2, 2.8.7).
+-- The row is all entries of the table of this indirect descriptor, which has no NEXT (VIRTIO 1.2, 2.8.7).
 pub record IsRowOfTable (ram : List ℕ) (q : RingState) (d : Descriptor) (row : List Descriptor) : Type 0 where
   pub feature : q.has_indirect ≡ true
   pub named : d.is_indirect ≡ true
@@ -56,23 +56,24 @@ pub record IsRowOfTable (ram : List ℕ) (q : RingState) (d : Descriptor) (row :
 abbrev pub IsPackedRow : List ℕ → RingState → List Descriptor → Type 0
 IsPackedRow ram q row = AreInSlots ram q.descriptors q.size q.taking.place row ⊎ IsRowOfTable ram q (descriptor_at true ram q.descriptors q.taking.place) row
 
--- A long row is among these: more descriptors than are handled without memory, and no more than there are slots.
+-- There is a long row among these: one of more descriptors than are handled without allocating memory, and no more than
+-- there are slots.
 pub record HasLongRow (IsRow : List Descriptor → Type 0) (size : ℕ) : Type 0 where
   pub row : List Descriptor
   pub is_row : IsRow row
   pub long : SHORT_CHAIN_MAX < length row
   pub few : length row ≤ size
 
--- A long row stands at the taking position of a split queue.
+-- A long row is at the taking position of a split queue.
 abbrev pub IsLongSplit : List ℕ → RingState → Type 0
 IsLongSplit ram q = HasLongRow (IsSplitRow ram q) q.size
 
--- A long row stands at the taking position of a packed queue.
+-- A long row is at the taking position of a packed queue.
 abbrev pub IsLongPacked : List ℕ → RingState → Type 0
 IsLongPacked ram q = HasLongRow (IsPackedRow ram q) q.size
 
--- A queue is long: it is not empty, and a long row of descriptors stands at its taking position, whether they make a
--- chain or not.
+-- A queue is long: it is not empty, and a long row of descriptors is at its taking position, whether they make a chain or
+-- not.
 pub record IsLongQueue (ram : List ℕ) (q : RingState) : Type 0 where
   pub waiting : ¬ (IsEmptyQueue ram q)
   pub long : MatchBool q.is_packed (IsLongPacked ram q) (IsLongSplit ram q)

@@ -7,37 +7,39 @@ use Rattle.chains.specs.State.{RingState}
 use Rattle.chains.specs.Descriptor.{descriptor_at}
 use Rattle.chains.specs.Whole.{IsTable, ArePlain, IsWhole, readable_of, writable_of}
 
--- A descriptor is available to a device whose wrap counter this is: AVAIL equals the counter, and USED does not
--- (VIRTIO 1.2, 2.8.1).
+-- A descriptor is available to a device with this wrap counter: AVAIL equals the counter, and USED does not (VIRTIO 1.2,
+-- 2.8.1).
 abbrev pub IsAvailable : Bool → Descriptor → Type 0
 IsAvailable wrap d = (d.avail_flag ≡ wrap) × (d.used_flag ≢ wrap)
 
--- A packed queue is empty where the descriptor at the taking position is not available (VIRTIO 1.2, 2.8.2).
+-- A packed queue is empty if the descriptor at the taking position is not available (VIRTIO 1.2, 2.8.2).
 abbrev pub IsPackedEmpty : List ℕ → RingState → Type 0
 IsPackedEmpty ram q = ¬ (IsAvailable q.taking.wrap (descriptor_at true ram q.descriptors q.taking.place))
 
--- These are descriptors of consecutive slots of a ring of so many, from a slot on and going round: each but the last has
--- the flag NEXT (VIRTIO 1.2, 2.8.6). AVAIL and USED of those after the first are not looked at.
+-- These are the descriptors of consecutive slots of a ring of `size` slots, from `slot` on and wrapping around: each but
+-- the last has the flag NEXT, and the last has not (VIRTIO 1.2, 2.8.6). AVAIL and USED of those after the first are not
+-- checked.
 abbrev pub AreConsecutive : List ℕ → ℕ → ℕ → ℕ → List Descriptor → Type 0
 AreConsecutive ram table size slot [] = ⊥
 AreConsecutive ram table size slot (d ∷ []) = (d ≡ descriptor_at true ram table slot) × (d.has_next ≡ false)
 AreConsecutive ram table size slot (d ∷ e ∷ ds) =
     (d ≡ descriptor_at true ram table slot) × (d.has_next ≡ true) × AreConsecutive ram table size ((slot + 1) % size) (e ∷ ds)
 
--- So many descriptors of a table, from an entry on.
+-- `count` descriptors of a table, from entry `index` on.
 abbrev pub entries_from : List ℕ → ℕ → ℕ → ℕ → List Descriptor
 entries_from ram table index zero = []
 entries_from ram table index (suc count) = descriptor_at true ram table index ∷ entries_from ram table (index + 1) count
 
--- An indirect descriptor stands alone, and all entries of its table, in order, stand in its place (VIRTIO 1.2, 2.8.7).
--- Of their flags only WRITE counts. Whether the naming one is writable makes no difference.
+-- An indirect descriptor is the only one of its chain in the ring, and is replaced by all entries of its table, in order
+-- (VIRTIO 1.2, 2.8.7). Of their flags only WRITE counts. Whether the indirect descriptor itself is writable makes no
+-- difference.
 pub record IsPackedTable (ram : List ℕ) (front : List Descriptor) (last : Descriptor) (all : List Descriptor) : Type 0 where
   pub alone : front ≡ []
   pub table : IsTable ram last
   pub entries : all ≡ entries_from ram last.addr 0 (last.len / DESCRIPTOR_SIZE)
 
--- Front and last are the descriptors of the slots at the taking position (VIRTIO 1.2, 2.8.5), and all is that list, or
--- where the last one is indirect, which needs the feature INDIRECT_DESC, the table that it names.
+-- `front` and `last` are the descriptors of the slots at the taking position (VIRTIO 1.2, 2.8.5). `all` is that list; or,
+-- if the last one is indirect, which needs the feature INDIRECT_DESC, the entries of its table.
 pub record IsPackedList (ram : List ℕ) (q : RingState) (front : List Descriptor) (last : Descriptor) (all : List Descriptor) : Type 0 where
   pub consecutive : AreConsecutive ram q.descriptors q.size q.taking.place (front ++ last ∷ [])
   pub plain : ArePlain front

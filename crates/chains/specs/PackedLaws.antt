@@ -8,7 +8,7 @@ use Rattle.chains.specs.State.{RingState}
 use Rattle.chains.specs.Whole.{readable_of, writable_of}
 use Rattle.chains.specs.PackedChain.{AreConsecutive, IsPackedTable, IsPackedList, IsPackedChain}
 
--- There is one list of descriptors from a slot on.
+-- At most one list of descriptors begins at a slot.
 pub consecutive_same : (ram : List ℕ) (table size slot : ℕ) (ds es : List Descriptor) → AreConsecutive ram table size slot ds → AreConsecutive ram table size slot es → ds ≡ es
 consecutive_same ram table size slot [] es h k = absurd h
 consecutive_same ram table size slot (d ∷ ds) [] h k = absurd k
@@ -32,7 +32,7 @@ replaced_by : (ram : List ℕ) (has_indirect named : Bool) (front : List Descrip
 replaced_by ram has_indirect true front last all more (p, t) (p', u) = t.entries ∙ sym u.entries
 replaced_by ram has_indirect false front last all more t u = t ∙ sym u
 
--- One list of descriptors stands at the taking position.
+-- At most one list of descriptors is at the taking position.
 pub packed_list_same : (ram : List ℕ) (q : RingState) (front front' : List Descriptor) (last last' : Descriptor) (all all' : List Descriptor)
     → IsPackedList ram q front last all → IsPackedList ram q front' last' all' → (front ≡ front') × (last ≡ last') × (all ≡ all')
 packed_list_same ram q front front' last last' all all' l k =

@@ -6,12 +6,12 @@ use Rattle.guestmem.specs.Writes.{Write, byte_writes}
 use Rattle.chains.specs.declared.segs.Seg.{Seg}
 use Rattle.chains.specs.Places.{addresses, places, read_places, place_writes}
 
--- So many addresses are so many.
+-- `addresses` gives as many addresses as its count says.
 pub length_addresses : (address count : ℕ) → length (addresses address count) ≡ count
 length_addresses address zero = refl
 length_addresses address (suc count) = ap suc (length_addresses (address + 1) count)
 
--- Addresses are those of a first part, and then the others.
+-- `front + back` addresses are the first `front` ones, followed by the other `back` ones.
 pub addresses_add : (address front back : ℕ) → addresses address (front + back) ≡ addresses address front ++ addresses (address + front) back
 addresses_add address zero back = rw (zero-add, add-zero) refl
 addresses_add address (suc front) back =
@@ -19,7 +19,7 @@ addresses_add address (suc front) back =
     let f : address + 1 + front ≡ address + suc front = omega arith in
     rw (e, addresses_add (address + 1) front back, f) refl
 
--- The places of segments are those of the first ones, and then those of the others.
+-- The places of two lists of segments, appended, are those of the first and then those of the second.
 pub places_append : (xs ys : List Seg) → places (xs ++ ys) ≡ places xs ++ places ys
 places_append [] ys = refl
 places_append (x ∷ xs) ys = rw (places_append xs ys) (sym (append_assoc (addresses x.addr x.len) (places xs) (places ys)))
@@ -33,7 +33,7 @@ length_places (seg ∷ segs) =
     let g = sum_by-cons (λ (s : Seg). s.len) seg segs in
     omega (arith, length_places segs)
 
--- Reading addresses in a row is reading one run of bytes.
+-- Reading consecutive addresses, inside RAM, is reading one contiguous run of bytes.
 pub read_addresses : (ram : List ℕ) (address count : ℕ) → address + count ≤ length ram → read_places ram (addresses address count) ≡ take count (drop address ram)
 read_addresses ram address zero inside = refl
 read_addresses ram address (suc count) inside =
@@ -41,7 +41,7 @@ read_addresses ram address (suc count) inside =
     let more = read_addresses ram (address + 1) count (omega arith) in
     rw (drop_more ram address 0 here, more) refl
 
--- Bytes take no more places than there are bytes.
+-- Writing bytes uses no more places than there are bytes.
 pub place_writes_take : (at bytes : List ℕ) → place_writes (take (length bytes) at) bytes ≡ place_writes at bytes
 place_writes_take [] [] = refl
 place_writes_take [] (byte ∷ bytes) = refl
@@ -52,7 +52,8 @@ pub no_bytes : (at : List ℕ) → place_writes at [] ≡ []
 no_bytes [] = refl
 no_bytes (place ∷ at) = refl
 
--- Bytes that go to addresses in a row are one run of writes; those that are left go to the places behind.
+-- Bytes that are written to consecutive addresses are one run of writes; the bytes that are left go to the places that
+-- follow.
 pub run_writes : (address count : ℕ) (at front back : List ℕ) → length front ≤ count → (length front < count → back ≡ [])
     → place_writes (addresses address count ++ at) (front ++ back) ≡ byte_writes address front ++ place_writes at back
 run_writes address zero at [] back few none = refl

@@ -7,12 +7,12 @@ use Rattle.chains.specs.Places.{places, place_writes}
 use Rattle.chains.specs.Publish.{published, after_take}
 use Rattle.chains.specs.declared.chain.Chain.{Chain}
 
--- A chain into which the device may write: it has no readable byte, and a writable one.
+-- A chain into which the device may write: it has no readable byte, and at least one writable byte.
 abbrev pub takes_bytes : Chain → Bool
 takes_bytes c = length (places c.readable) == 0 && not (length (places c.writable) == 0)
 
--- What giving bytes to a chain writes: they go to the first writable places, and the chain is published with their number,
--- as written where there are any.
+-- What giving bytes to a chain writes: they go to the first writable places, and the chain is published with their count as
+-- its used length, as written into if there are any.
 abbrev pub filled : RingState → Chain → List ℕ → List Write
 filled q c bytes =
     place_writes (places c.writable) bytes

@@ -16,14 +16,16 @@ IsEmptyQueue ram q = MatchBool q.is_packed (IsPackedEmpty ram q) (IsSplitEmpty r
 abbrev pub IsChain : List ℕ → RingState → Chain → Type 0
 IsChain ram q c = MatchBool q.is_packed (IsPackedChain ram q c) (IsSplitChain ram q c)
 
--- What a queue answers about the taking position: that it is empty; that it is not, and has no chain; or its chain.
+-- What a queue answers about the taking position: that it is empty; that it is not empty and has no chain there, which is
+-- malformed; or its chain.
 abbrev pub Answers : List ℕ → RingState → Next → Type 0
 Answers ram q Empty = IsEmptyQueue ram q
 Answers ram q Malformed = ¬ (IsEmptyQueue ram q) × ((c : Chain) → ¬ (IsChain ram q c))
 Answers ram q (Found c) = ¬ (IsEmptyQueue ram q) × IsChain ram q c
 
--- What every chain of a queue keeps, in a RAM of so many bytes: it takes some slots and not more than there are (in a
--- split ring one, and its id is a slot), has no more segments than slots, each inside RAM, and fewer than 2^32 bytes.
+-- The bounds of every chain of a queue, in a RAM of `len` bytes: it takes at least one slot and no more than there are (in
+-- a split ring exactly one, and its id is the number of a slot), has no more segments than there are slots, each inside
+-- RAM, and fewer than 2^32 bytes in all.
 pub record IsBounded (len : ℕ) (q : RingState) (c : Chain) : Type 0 where
   pub some : 1 ≤ c.slots
   pub slots : c.slots ≤ q.size
@@ -33,7 +35,7 @@ pub record IsBounded (len : ℕ) (q : RingState) (c : Chain) : Type 0 where
   pub writable : AreSegmentsInside len c.writable
   pub total : length (places c.readable) + length (places c.writable) < 2 ^ 32
 
--- A chain, where this is one, keeps that.
+-- If this is a chain, it keeps these bounds.
 abbrev pub IsBoundedNext : ℕ → RingState → Next → Type 0
 IsBoundedNext len q Empty = Unit {0}
 IsBoundedNext len q Malformed = Unit {0}

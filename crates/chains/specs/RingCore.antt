@@ -2,7 +2,7 @@ use Rattle.std.specs.Prelude.{Bool}
 use Rattle.chains.specs.declared.ring_core.RingCore.{RingCore}
 use Rattle.chains.specs.State.{RingState}
 
--- What a ring of a layout means, by what it keeps.
+-- The model of a ring of this layout, by the fields of its core.
 abbrev pub core_state : Bool → RingCore → RingState
 core_state is_packed core = record {
   is_packed = is_packed;

@@ -12,7 +12,7 @@ use Rattle.chains.specs.Whole.{IsTable, ArePlain, IsWhole, readable_of, writable
 abbrev pub available_index : List ℕ → RingState → ℕ
 available_index ram q = number_at ram (q.driver + 2) 2
 
--- A split queue is empty where the driver's index is the taking position (VIRTIO 1.2, 2.7.6).
+-- A split queue is empty if the driver's index equals the taking position (VIRTIO 1.2, 2.7.6).
 abbrev pub IsSplitEmpty : List ℕ → RingState → Type 0
 IsSplitEmpty ram q = available_index ram q ≡ q.taking.place
 
@@ -24,16 +24,16 @@ waiting ram q = (available_index ram q + 65536 - q.taking.place) % 65536
 abbrev pub head : List ℕ → RingState → ℕ
 head ram q = number_at ram (q.driver + 4 + 2 * (q.taking.place % q.size)) 2
 
--- These are the descriptors of one list in a table of so many entries: the first stands at an index, each names the
--- one after it, and the last names none (VIRTIO 1.2, 2.7.5).
+-- These are the descriptors of one list in a table of `entries` entries: the first is at `index`, each names the next one,
+-- and the last has no NEXT (VIRTIO 1.2, 2.7.5).
 abbrev pub AreLinked : List ℕ → ℕ → ℕ → ℕ → List Descriptor → Type 0
 AreLinked ram table entries index [] = ⊥
 AreLinked ram table entries index (d ∷ []) = (index < entries) × (d ≡ descriptor_at false ram table index) × (d.has_next ≡ false)
 AreLinked ram table entries index (d ∷ e ∷ ds) =
     (index < entries) × (d ≡ descriptor_at false ram table index) × (d.has_next ≡ true) × AreLinked ram table entries d.next (e ∷ ds)
 
--- The descriptors are those before the last one, and then the list that begins at entry 0 of the table that the last
--- one names. No entry of it names a table. Whether the naming one is writable makes no difference.
+-- `all` is `front`, followed by the list that begins at entry 0 of the table that `last` names. No entry of that list is
+-- indirect. Whether `last` itself is writable makes no difference.
 pub record IsFromTable (ram : List ℕ) (front : List Descriptor) (last : Descriptor) (all : List Descriptor) : Type 0 where
   pub table : IsTable ram last
   pub inner : List Descriptor
@@ -41,9 +41,9 @@ pub record IsFromTable (ram : List ℕ) (front : List Descriptor) (last : Descri
   pub plain : ArePlain inner
   pub parts : all ≡ front ++ inner
 
--- The second list is the first one, but that where the last descriptor is indirect, which needs the feature
--- INDIRECT_DESC, the list of its table stands in its place (VIRTIO 1.2, 2.7.5.3). Only the last one may be: another one
--- would be indirect and have a next one.
+-- `all` is `direct`, except that its last descriptor, if it is indirect, which needs the feature INDIRECT_DESC, is replaced
+-- by the list of its table (VIRTIO 1.2, 2.7.5.3). Only the last one may be indirect: any other would be indirect and have
+-- NEXT.
 pub record IsReplaced (ram : List ℕ) (has_indirect : Bool) (direct all : List Descriptor) : Type 0 where
   pub front : List Descriptor
   pub last : Descriptor
@@ -51,8 +51,8 @@ pub record IsReplaced (ram : List ℕ) (has_indirect : Bool) (direct all : List 
   pub plain : ArePlain front
   pub whole : MatchBool last.is_indirect ((has_indirect ≡ true) × IsFromTable ram front last all) (all ≡ direct)
 
--- The chain at the taking position of a split queue (VIRTIO 1.2, 2.7): direct is the list of descriptors from the head,
--- and all is that list with a table in the place of the descriptor that names it.
+-- The chain at the taking position of a split queue (VIRTIO 1.2, 2.7): `direct` is the list of descriptors from the head
+-- on, and `all` is that list with an indirect descriptor replaced by its table.
 pub record IsSplitChain (ram : List ℕ) (q : RingState) (c : Chain) : Type 0 where
   pub direct : List Descriptor
   pub all : List Descriptor

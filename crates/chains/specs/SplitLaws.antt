@@ -8,7 +8,7 @@ use Rattle.chains.specs.State.{RingState}
 use Rattle.chains.specs.Whole.{readable_of, writable_of}
 use Rattle.chains.specs.SplitChain.{AreLinked, IsFromTable, IsReplaced, IsSplitChain, head}
 
--- There is one list of descriptors from an entry on.
+-- At most one list of descriptors begins at an entry.
 pub linked_same : (ram : List ℕ) (table entries index : ℕ) (ds es : List Descriptor) → AreLinked ram table entries index ds → AreLinked ram table entries index es → ds ≡ es
 linked_same ram table entries index [] es h k = absurd h
 linked_same ram table entries index (d ∷ ds) [] h k = absurd k
@@ -27,7 +27,7 @@ linked_same ram table entries index (d ∷ d' ∷ ds) (e ∷ e' ∷ es) h k =
     let rest : d' ∷ ds ≡ e' ∷ es = linked_same ram table entries e.next (d' ∷ ds) (e' ∷ es) (rw next at h.3) k.3 in
     rw (x, rest) refl
 
--- A list of descriptors has one at least.
+-- A list of descriptors has at least one.
 pub linked_some : (ram : List ℕ) (table entries index : ℕ) (ds : List Descriptor) → AreLinked ram table entries index ds → 1 ≤ length ds
 linked_some ram table entries index [] h = absurd h
 linked_some ram table entries index (d ∷ ds) h = omega arith
@@ -40,7 +40,7 @@ replaced_by ram has_indirect true direct all more front last (p, t) (p', u) =
     t.parts ∙ ap (λ (xs : List Descriptor). front ++ xs) e ∙ sym u.parts
 replaced_by ram has_indirect false direct all more front last t u = t ∙ sym u
 
--- A table comes into a list in one way.
+-- A list becomes at most one list when its indirect descriptor is replaced by the table.
 pub replaced_same : (ram : List ℕ) (has_indirect : Bool) (direct all more : List Descriptor) → IsReplaced ram has_indirect direct all → IsReplaced ram has_indirect direct more → all ≡ more
 replaced_same ram has_indirect direct all more r s =
     let joined : s.front ++ s.last ∷ [] ≡ r.front ++ r.last ∷ [] = sym s.parts ∙ r.parts in

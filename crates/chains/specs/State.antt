@@ -7,7 +7,8 @@ use Rattle.mmio.specs.QueueReady.{IsInside}
 use Rattle.chains.specs.declared.position.Position.{Position}
 use Rattle.chains.specs.declared.position.Positions.{Positions}
 
--- What a ring means: its layout, the features that bear on it, its queue, and how far it has come.
+-- The model of a ring: its layout, the features that affect it, the size and the areas of its queue, the position of the
+-- next chain to take (`taking`), and the position of the next chain to publish (`used`).
 pub record RingState : Type 0 where
   pub is_packed : Bool
   pub has_indirect : Bool
@@ -19,11 +20,11 @@ pub record RingState : Type 0 where
   pub taking : Position
   pub used : Position
 
--- Whether a bit, by its worth, is in a number.
+-- Whether a bit, given by its value, is set in a number.
 abbrev pub has_bit : ℕ → ℕ → Bool
 has_bit number bit = not (bit_and number bit == 0)
 
--- The ring of a queue under these feature bits (VIRTIO 1.2, 6), which has come this far.
+-- The ring of a queue with these feature bits (VIRTIO 1.2, 6), at these positions.
 abbrev pub state_of : Queue → ℕ → Positions → RingState
 state_of queue features positions = record {
   is_packed = has_bit features RING_PACKED;
@@ -37,7 +38,7 @@ state_of queue features positions = record {
   used = positions.used;
 }
 
--- A ring may have this state: some slots, and not too many, and the positions of a packed ring are slots of it.
+-- A ring may have this state: it has from 1 to QUEUE_SIZE_MAX slots, and if it is packed both positions are slots of it.
 pub record MayRing (q : RingState) : Type 0 where
   pub some : 1 ≤ q.size
   pub few : q.size ≤ QUEUE_SIZE_MAX
@@ -57,7 +58,7 @@ device_bytes q = if q.is_packed then 4 else 6 + 8 * q.size
 abbrev pub driver_alignment : RingState → ℕ
 driver_alignment q = if q.is_packed then 4 else 2
 
--- The three areas of a queue are aligned (VIRTIO 1.2, 2.7 and 2.8.10.1), and lie inside a RAM of so many bytes.
+-- The three areas of a queue are aligned (VIRTIO 1.2, 2.7 and 2.8.10.1), and lie inside a RAM of `len` bytes.
 pub record HasAreas (len : ℕ) (q : RingState) : Type 0 where
   pub descriptors : IsInside len q.descriptors 16 (DESCRIPTOR_SIZE * q.size)
   pub driver : IsInside len q.driver (driver_alignment q) (driver_bytes q)

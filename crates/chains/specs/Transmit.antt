@@ -15,7 +15,7 @@ use Rattle.chains.specs.declared.transmitting.MessageForm.{MessageForm}
 use Rattle.chains.specs.declared.transmitting.Transmitted.{Transmitted}
 use Rattle.chains.specs.declared.transmitting.Transmitted.TheVariants.{Empty, Malformed, Sent}
 
--- What a step answers and changes: writes of RAM, and the ring's positions.
+-- What a step returns and changes: its answer, writes of RAM, and the ring's positions.
 pub record Transmission : Type 0 where
   pub answer : Transmitted
   pub writes : List Write
@@ -25,7 +25,7 @@ pub record Transmission : Type 0 where
 abbrev pub is_message : MessageForm → Chain → Bool
 is_message form c = not (nat_lt (length (places c.readable)) form.least) && not (nat_lt form.most (length (places c.readable)))
 
--- The message: the readable bytes behind the header.
+-- The message: the readable bytes after the header.
 abbrev pub message_of : List ℕ → ℕ → Chain → List ℕ
 message_of ram header c = drop header (read_places ram (places c.readable))
 
@@ -40,12 +40,12 @@ send ram q header c = record {
   ring = after_publish (after_take q c.slots) c.slots;
 }
 
--- The chain stays, and nothing is written.
+-- The chain is not taken, and nothing is written.
 abbrev pub refuse_message : RingState → Transmission
 refuse_message q = record { answer = Malformed; writes = []; ring = q }
 
--- The step, by what the queue answers about its next chain. Where the queue is empty the event note is written. A chain
--- that holds no message is malformed too.
+-- The step, by what the queue answers about its next chain. If the queue is empty the event note is written. A chain that
+-- holds no message is malformed too.
 abbrev pub transmit_step : List ℕ → RingState → MessageForm → Next → Transmission
 transmit_step ram q form next.Empty = record { answer = Empty; writes = event_note q; ring = q }
 transmit_step ram q form next.Malformed = refuse_message q
@@ -66,6 +66,6 @@ pub record HasMessage (ram : List ℕ) (q : RingState) (form : MessageForm) : Ty
   pub answers : Answers ram q (next.Chain chain)
   pub is : is_message form chain ≡ true
 
--- The queues at which such a step may want memory: for a long chain, or for a message.
+-- The queues at which such a step may need to allocate memory: for a long chain, or for a message.
 abbrev pub MayWantMemory : List ℕ → RingState → MessageForm → Type 0
 MayWantMemory ram q form = IsLongQueue ram q ⊎ HasMessage ram q form

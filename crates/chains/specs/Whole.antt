@@ -3,23 +3,23 @@ use Rattle.chains.specs.declared.descriptor.Descriptor.{Descriptor}
 use Rattle.chains.specs.declared.descriptor.TheConstants.{DESCRIPTOR_SIZE}
 use Rattle.chains.specs.declared.segs.Seg.{Seg}
 
--- A table that an indirect descriptor names (VIRTIO 1.2, 2.7.5.3 and 2.8.7): some whole entries, inside RAM.
+-- A table that an indirect descriptor names (VIRTIO 1.2, 2.7.5.3 and 2.8.7): one or more whole entries, inside RAM.
 pub record IsTable (ram : List ℕ) (d : Descriptor) : Type 0 where
   pub some : 0 < d.len
   pub whole : d.len % DESCRIPTOR_SIZE ≡ 0
   pub inside : d.addr + d.len ≤ length ram
 
--- None of the descriptors names a table.
+-- None of the descriptors is indirect.
 abbrev pub ArePlain : List Descriptor → Type 0
 ArePlain ds = All (λ d. d.is_indirect ≡ false) ds
 
--- No readable descriptor comes after a writable one, also where one has no bytes (VIRTIO 1.2, 2.7.4.2 and 2.8.17).
+-- No readable descriptor comes after a writable one, even if one of them has no bytes (VIRTIO 1.2, 2.7.4.2 and 2.8.17).
 abbrev pub IsInOrder : List Descriptor → Type 0
 IsInOrder ds = (k : ℕ) (d : Descriptor) → k + 1 < length ds → (slice_index_or ds k d).is_writable ≡ true → (slice_index_or ds (k + 1) d).is_writable ≡ true
 
--- The rules that the descriptors of a chain keep in a ring of so many slots, once a table stands in the place of the
--- descriptor that names it: there are no more than slots, each buffer lies inside RAM (one of no bytes may stand at its
--- end), the readable ones come first, and there are fewer than 2^32 bytes in all (VIRTIO 1.2, 2.7.5 allows one more).
+-- The rules for the descriptors of a chain in a ring of `size` slots, after an indirect descriptor was replaced by its
+-- table: there are no more than slots, each buffer lies inside RAM (an empty one may lie at its end), the readable ones
+-- come first, and there are fewer than 2^32 bytes in all (VIRTIO 1.2, 2.7.5 allows one more byte).
 pub record IsWhole (ram : List ℕ) (size : ℕ) (ds : List Descriptor) : Type 0 where
   pub few : length ds ≤ size
   pub inside : All (λ d. d.addr + d.len ≤ length ram) ds

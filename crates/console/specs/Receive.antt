@@ -15,19 +15,19 @@ use Rattle.chains.specs.declared.next.Next.TheVariants as next
 use Rattle.console.specs.declared.receiving.Received.{Received}
 use Rattle.console.specs.declared.receiving.Received.TheVariants.{Empty, Malformed, Completed}
 
--- What a step answers and changes (VIRTIO 1.2, 5.3.6 and 5.4.6): writes of RAM, the ring's positions, and the bytes that
--- are left.
+-- What a step returns and changes (VIRTIO 1.2, 5.3.6 and 5.4.6): its answer, writes of RAM, the ring's positions, and the
+-- bytes that are left.
 pub record Step : Type 0 where
   pub answer : Received
   pub writes : List Write
   pub ring : RingState
   pub left : List ℕ
 
--- How many of the bytes held go into the chain.
+-- How many of the bytes held are written into the chain.
 abbrev pub count_into : List ℕ → Chain → ℕ
 count_into held c = min (length (places c.writable)) (length held)
 
--- The first bytes held go into the chain.
+-- The first bytes held are written into the chain.
 abbrev pub writes_into : RingState → List ℕ → Chain → List Write
 writes_into q held c = filled q c (take (count_into held c) held)
 
@@ -39,11 +39,11 @@ give ram q held c = record {
   left = drop (count_into held c) held;
 }
 
--- The chain stays, and nothing is written.
+-- The chain is not taken, and nothing is written.
 abbrev pub refuse : RingState → List ℕ → Step
 refuse q held = record { answer = Malformed; writes = []; ring = q; left = held }
 
--- The step with bytes held, by what the queue answers about its next chain. Where the queue is empty the event note is
+-- The step with bytes held, by what the queue answers about its next chain. If the queue is empty the event note is
 -- written. A chain that the device may not write into is malformed too.
 abbrev pub receive_step : List ℕ → RingState → List ℕ → Next → Step
 receive_step ram q held next.Empty = record { answer = Empty; writes = event_note q; ring = q; left = held }

@@ -15,7 +15,7 @@ configuration_of s = little_bytes 2 s.columns ++ little_bytes 2 s.rows ++ replic
 abbrev pub differ : ConsoleSize → ConsoleSize → Bool
 differ s t = not (s.columns == t.columns && s.rows == t.rows)
 
--- The registers of a console that takes another size: a size that differs is a change of the configuration, of which a
--- driver hears that has negotiated the feature SIZE (VIRTIO 1.2, 5.3.6).
+-- The registers of a console after it was given a size: if that differs from the old one the configuration changes, which
+-- is reported to a driver that has negotiated the feature SIZE (VIRTIO 1.2, 5.3.6).
 abbrev pub resized : ConsoleSize → ConsoleSize → Registers → Registers
 resized old new r = if differ old new then with_common r (configuration_changed r.common SIZE) else r

@@ -1,7 +1,7 @@
 -- Sets of numbers below a length. A set is the list that says of each of these numbers whether it is a member.
 use Rattle.std.specs.Prelude.{◌≡◌, ℕ, ◌≤◌, ◌<◌, ◌^◌, List, Bool, true, false, Option, Some, None, slice_index_or, count_by, length}
 
--- Whether a number is a member. One that is not below the length is none.
+-- Whether a number is a member. One that is not below the length is not.
 abbrev pub has : List Bool → ℕ → Bool
 has set n = slice_index_or set n false
 
@@ -9,13 +9,13 @@ has set n = slice_index_or set n false
 abbrev pub HasNone : List Bool → Type 0
 HasNone set = (n : ℕ) → has set n ≡ false
 
--- The number is the least member that is at least so much.
+-- `n` is the least member that is at least `from`.
 pub record IsLeast (set : List Bool) (from n : ℕ) : Type 0 where
   pub reached : from ≤ n
   pub member : has set n ≡ true
   pub least : (k : ℕ) → from ≤ k → k < n → has set k ≡ false
 
--- The least member that is at least so much, or that there is none.
+-- The least member that is at least `from`, or None if there is none.
 abbrev pub IsLeastFrom : List Bool → ℕ → Option ℕ → Type 0
 IsLeastFrom set from (Some n) = IsLeast set from n
 IsLeastFrom set from None = (k : ℕ) → from ≤ k → has set k ≡ false
@@ -24,7 +24,7 @@ IsLeastFrom set from None = (k : ℕ) → from ≤ k → has set k ≡ false
 abbrev pub member_count : List Bool → ℕ
 member_count set = count_by (λ b. b) set
 
--- The number of members that is kept beside a set is the one that it has. The length is a number of 64 bits.
+-- The count that is stored with a set is the number of its members. The length fits 64 bits.
 pub record HasCount (set : List Bool) (members : ℕ) : Type 0 where
   pub counted : members ≡ member_count set
   pub fits : length set < 2 ^ 64

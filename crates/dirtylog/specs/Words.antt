@@ -7,34 +7,34 @@ use Rattle.std.specs.List.{range_with_len}
 abbrev pub bit_in : List ℕ → ℕ → ℕ
 bit_in words k = bit_at (get_or words (k / 64) 0) (k % 64)
 
--- The words from one place up to another are zero.
+-- The words from index `from` on, before index `to`, are zero.
 abbrev pub AreZeroBetween : List ℕ → ℕ → ℕ → Type 0
 AreZeroBetween words from to = (i : ℕ) → from ≤ i → i < to → get_or words i 0 ≡ 0
 
--- The words after bit n became b. No other bit changed.
+-- `new` is the words after bit n became b. No other bit changed.
 pub record IsWithBit (old new : List ℕ) (n b : ℕ) : Type 0 where
   pub size : length new ≡ length old
   pub here : bit_in new n ≡ b
   pub bits : (k : ℕ) → k ≢ n → bit_in new k ≡ bit_in old k
   pub words : (i : ℕ) → i ≢ n / 64 → get_or new i 0 ≡ get_or old i 0
 
--- The marks after a word was looked at: its mark is clear where the word is zero, and else they are as they were.
+-- The marks after word `at` was checked: if the word is zero its mark is cleared, else no mark changes.
 pub record IsUnmarked (word : ℕ) (old new : List ℕ) (at : ℕ) : Type 0 where
   pub empty : word ≡ 0 → IsWithBit old new at 0
   pub other : word ≢ 0 → new ≡ old
 
--- The words have the bits below the length set, or all of them clear, and none from the length on.
+-- Every bit of the words below the length is `b`, and every bit from the length on is 0.
 pub record AreAll (b : ℕ) (words : List ℕ) (len : ℕ) : Type 0 where
   pub below : (k : ℕ) → k < len → bit_in words k ≡ b
   pub above : (k : ℕ) → len ≤ k → bit_in words k ≡ 0
 
--- As many words as bits of this number need.
+-- `count` is the number of words that `len` bits need.
 pub record HasRoomFor (len count : ℕ) : Type 0 where
   pub fit : len ≤ 64 * count
   pub tight : 64 * count < len + 64
 
--- Both levels of a set of numbers below a length: each bit of the second level says whether its word has a bit, and past the
--- length there is none.
+-- Both levels of a set of numbers below a length: each bit of the second level says whether its word is not zero, and no
+-- bit past the end of a level is set.
 pub record AreLevels (words marks : List ℕ) (len : ℕ) : Type 0 where
   pub words_room : HasRoomFor len (length words)
   pub marks_room : HasRoomFor (length words) (length marks)
@@ -47,14 +47,14 @@ pub record AreLevels (words marks : List ℕ) (len : ℕ) : Type 0 where
 abbrev pub flags_of : List ℕ → ℕ → List Bool
 flags_of words len = map (λ k. bit_in words k == 1) (range_with_len 0 len)
 
--- The least bit that is set, of those from one on.
+-- `n` is the least set bit from bit `from` on.
 pub record IsLeastBit (words : List ℕ) (from n : ℕ) : Type 0 where
   pub reached : from ≤ n
   pub inside : n < 64 * length words
   pub one : bit_in words n ≡ 1
   pub least : (k : ℕ) → from ≤ k → k < n → bit_in words k ≡ 0
 
--- The least bit that is set, of those from one on, or that there is none.
+-- The least set bit from bit `from` on, or None if there is none.
 abbrev pub IsLeastBitFrom : List ℕ → ℕ → Option ℕ → Type 0
 IsLeastBitFrom words from (Some n) = IsLeastBit words from n
 IsLeastBitFrom words from None = (k : ℕ) → from ≤ k → bit_in words k ≡ 0

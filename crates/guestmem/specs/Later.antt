@@ -2,8 +2,8 @@ use Rattle.std.specs.Prelude.{◌≡◌, ℕ, ◌-◌, ◌/◌, ◌^◌, ◌<◌
 use Rattle.guestmem.specs.declared.limits.TheConstants.{PAGE_SIZE}
 use Rattle.guestmem.specs.Memory.{Memory}
 
--- A RAM, and the same RAM later: as many bytes and versions; no version fell; and a byte whose page has its old version
--- still, which is below the greatest, is the byte that it was.
+-- `new` is a later state of the RAM `old`: there are as many bytes and versions, no version has decreased, and if the
+-- version of a page is unchanged and below 2^64 - 1, the bytes of the page are unchanged.
 pub record IsLater (old new : Memory) : Type 0 where
   pub bytes : length new.bytes ≡ length old.bytes
   pub versions : length new.versions ≡ length old.versions

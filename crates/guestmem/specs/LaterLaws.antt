@@ -3,11 +3,11 @@ use Rattle.guestmem.specs.declared.limits.TheConstants.{PAGE_SIZE}
 use Rattle.guestmem.specs.Memory.{Memory}
 use Rattle.guestmem.specs.Later.{IsLater}
 
--- Every RAM is itself later.
+-- IsLater is reflexive.
 pub later_same : (m : Memory) → IsLater m m
 later_same m = record { bytes = refl; versions = refl; rises = λ n. omega arith; stays = λ a same small. refl }
 
--- What is later than something later is later.
+-- IsLater is transitive.
 pub later_trans : (old mid new : Memory) → IsLater old mid → IsLater mid new → IsLater old new
 later_trans old mid new p q = record {
   bytes = q.bytes ∙ p.bytes;

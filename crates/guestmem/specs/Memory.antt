@@ -1,12 +1,12 @@
 use Rattle.std.specs.Prelude.{◌≡◌, ℕ, ◌*◌, ◌≤◌, List, length}
 use Rattle.guestmem.specs.declared.limits.TheConstants.{PAGE_SIZE, PAGES_MAX}
 
--- Flat memory. What contracts see of a RAM: its bytes in the order of their addresses, and the version of each page.
+-- Flat memory. The model of a RAM in contracts: its bytes in the order of their addresses, and the version of each page.
 pub record Memory : Type 0 where
   pub bytes : List ℕ
   pub versions : List ℕ
 
--- Whole pages, from one to the most that there may be, each with a version.
+-- RAM is a whole number of pages, from 1 to PAGES_MAX, and each page has a version.
 pub record IsMemory (m : Memory) : Type 0 where
   pub pages : length m.bytes ≡ PAGE_SIZE * length m.versions
   pub some : 1 ≤ length m.versions

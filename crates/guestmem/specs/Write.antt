@@ -6,7 +6,8 @@ use Rattle.guestmem.specs.declared.touched.Touched.TheVariants.{NoPage, Pages}
 use Rattle.guestmem.specs.declared.error.RamError.{RamError}
 use Rattle.guestmem.specs.declared.error.RamError.TheVariants.{OutOfRam, TooLong}
 
--- Why an access of so many bytes at an address is refused, by the length of RAM. Too long is told first.
+-- Why an access of `count` bytes at address `at` is refused in a RAM of `len` bytes, if it is. TooLong comes before
+-- OutOfRam.
 abbrev pub refusal_of : ℕ → ℕ → ℕ → Option RamError
 refusal_of len at count = if nat_lt ACCESS_MAX count then Some TooLong else if nat_lt len (at + count) then Some OutOfRam else None
 
@@ -14,19 +15,19 @@ abbrev pub unless_refused : {A : Type 0} → Option RamError → A → Result A 
 unless_refused None x = Ok x
 unless_refused (Some e) x = Err e
 
--- A list with these bytes from this place on.
+-- The list `old`, with these bytes from index `at` on.
 abbrev pub put_at : List ℕ → ℕ → List ℕ → List ℕ
 put_at old at bytes = take at old ++ bytes ++ drop (at + length bytes) old
 
--- A version rises by one at each write into its page, and stays at the greatest number of 64 bits.
+-- The version of a page after a write into it: it rises by one, and stays once it is 2^64 - 1.
 abbrev pub raised : ℕ → ℕ
 raised version = if nat_lt version (2 ^ 64 - 1) then version + 1 else version
 
--- The versions after a write into the pages from first to last.
+-- The versions after a write into the pages from `first` to `last`, both included.
 abbrev pub raise : List ℕ → ℕ → ℕ → List ℕ
 raise versions first last = take first versions ++ map raised (take (last + 1 - first) (drop first versions)) ++ drop (last + 1) versions
 
--- The pages of so many bytes at an address.
+-- The pages that an access of `count` bytes at address `at` touches.
 abbrev pub touched_of : ℕ → ℕ → Touched
 touched_of at count = if count == 0 then NoPage else Pages (at / PAGE_SIZE) ((at + count - 1) / PAGE_SIZE)
 

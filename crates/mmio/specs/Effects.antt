@@ -6,19 +6,20 @@ use Rattle.mmio.specs.declared.queue.Queue.{Queue}
 use Rattle.mmio.specs.declared.effect.Effect.{Effect}
 use Rattle.mmio.specs.declared.effect.Effect.TheVariants as e
 
--- It is still the same device: its number, its offer, the RAM in which its queues lie and the number of its queues stay.
+-- A write keeps what identifies the device: its device id, the features that it offers, the length of RAM, and the number
+-- of its queues.
 pub record IsSameDevice (old new : Registers) : Type 0 where
   pub device_id : new.device_id ≡ old.device_id
   pub offered : new.offered ≡ old.offered
   pub ram_len : new.ram_len ≡ old.ram_len
   pub queue_count : length new.queues ≡ length old.queues
 
--- A queue exists, and its flag stands as it is said.
+-- The queue with this number exists, and this flag of it has this value.
 pub record HasQueue (r : Registers) (number : ℕ) (flag : Queue → Bool) (value : Bool) : Type 0 where
   pub exists : number < length r.queues
   pub stands : IsSomeAnd (queue_at r number) (λ q. flag q ≡ value)
 
--- An effect names a queue that exists, and says what has become of it.
+-- What an effect says is so: the queue that it names exists and, by the effect, is notified, is ready, or is not ready.
 abbrev pub IsTold : Effect → Registers → Type 0
 IsTold (e.Notified number) r = HasQueue r number (λ q. q.is_notified) true
 IsTold (e.Enabled number) r = HasQueue r number (λ q. q.is_ready) true
@@ -36,6 +37,6 @@ EachStaysReady was is [] [] = Unit {0}
 EachStaysReady was is (o ∷ os) (n ∷ ns) = StaysReady was is o n × EachStaysReady was is os ns
 EachStaysReady was is os ns = ⊥
 
--- The same of each queue. The layout is that of the driver's features.
+-- As above, for each queue. The layout is that of the driver's features: packed if bit 34, RING_PACKED, is set.
 abbrev pub StayReady : Registers → Registers → Type 0
 StayReady old new = EachStaysReady (has old.common.features (2 ^ 34)) (has new.common.features (2 ^ 34)) old.queues new.queues

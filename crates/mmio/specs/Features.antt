@@ -4,7 +4,7 @@ use Rattle.mmio.specs.Bits.{has, with_half}
 use Rattle.mmio.specs.declared.common.Common.{Common}
 use Rattle.mmio.specs.declared.constants.TheConstants.{FEATURES_OK}
 
--- The driver writes the half of its features that DriverFeaturesSel names. Once FEATURES_OK is set they stay as they are.
+-- The driver writes the half of its features that DriverFeaturesSel names. Once FEATURES_OK is set such writes are ignored.
 abbrev pub features_written : Common → ℕ → Common
 features_written c value =
     if has c.status FEATURES_OK then c

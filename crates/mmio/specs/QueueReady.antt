@@ -6,7 +6,7 @@ use Rattle.mmio.specs.declared.common.Common.{Common}
 use Rattle.mmio.specs.declared.queue.Queue.{Queue}
 use Rattle.mmio.specs.declared.constants.TheConstants.{FEATURES_OK, RING_PACKED, QUEUE_SIZE_MAX}
 
--- An area of so many bytes is aligned, and lies wholly inside RAM.
+-- An area of `bytes` bytes from address `from` on is aligned to `align`, and lies wholly inside RAM.
 pub record IsInside (ram_len from align bytes : ℕ) : Type 0 where
   pub aligned : from % align ≡ 0
   pub inside : from + bytes ≤ ram_len
@@ -24,8 +24,8 @@ pub record IsPacked (ram_len : ℕ) (q : Queue) : Type 0 where
   pub driver : IsInside ram_len q.driver 4 4
   pub device : IsInside ram_len q.device 4 4
 
--- A queue may be made ready: the features are settled, the size is from 1 to 256, and the size and the areas suit the
--- layout that the features name.
+-- A queue may be made ready: FEATURES_OK is set, the size is from 1 to 256, and the size and the areas fit the layout that
+-- the driver's features select.
 pub record MayBeReady (ram_len : ℕ) (c : Common) (q : Queue) : Type 0 where
   pub settled : Has c.status FEATURES_OK
   pub some : 0 < q.size
@@ -33,8 +33,8 @@ pub record MayBeReady (ram_len : ℕ) (c : Common) (q : Queue) : Type 0 where
   pub split : ¬ (Has c.features RING_PACKED) → IsSplit ram_len q
   pub packed : Has c.features RING_PACKED → IsPacked ram_len q
 
--- The same as a test, by which the table of writes chooses. The contract of the function `may_be_ready` says that test and
--- fact agree.
+-- The same conditions as a Boolean test, which the definition of register writes uses. The contract of the function
+-- `may_be_ready` says that test and conditions agree.
 abbrev pub is_inside : ℕ → ℕ → ℕ → ℕ → Bool
 is_inside ram_len from align bytes = from % align == 0 && nat_le (from + bytes) ram_len
 

@@ -20,14 +20,16 @@ queue_written x.QueueDeviceLow value q = record q { device = with_half q.device 
 queue_written x.QueueDeviceHigh value q = record q { device = with_half q.device 1 value }
 queue_written _ value q = q
 
--- The size and address registers of the selected queue take a value where the queue exists and is not ready.
+-- A write to a size or address register of the selected queue is stored if the queue exists and is not ready; else it is
+-- ignored.
 abbrev pub size_or_address_written : Registers → Register → ℕ → Option Queue → Effect × Registers
 size_or_address_written r register value None = (e.None, r)
 size_or_address_written r register value (Some q) =
     if q.is_ready then (e.None, r)
     else (e.None, with_queue r r.common.queue_select (queue_written register value q))
 
--- QueueReady of the selected queue takes 1 where the queue is not ready and may be, and 0 always. It ignores other values.
+-- A write to QueueReady of the selected queue: 1 makes it ready, if it is not ready and may be; 0 disables it, ready or
+-- not. Any other write is ignored.
 abbrev pub ready_written : Registers → ℕ → Option Queue → Effect × Registers
 ready_written r value None = (e.None, r)
 ready_written r value (Some q) =
@@ -48,7 +50,7 @@ notify_written r number (Some q) =
     if q.is_ready then (e.Notified number, with_queue r number (record q { is_notified = true }))
     else (e.None, r)
 
--- The queue was found empty: it waits for the next notification.
+-- The queue was found empty: its notified flag is cleared, and it waits for the next notification.
 abbrev pub notified_cleared : Registers → ℕ → Option Queue → Registers
 notified_cleared r number None = r
 notified_cleared r number (Some q) = with_queue r number (record q { is_notified = false })

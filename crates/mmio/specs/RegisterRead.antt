@@ -1,4 +1,4 @@
--- What a read gives (VIRTIO 1.2, 4.2.2).
+-- The value that a read returns (VIRTIO 1.2, 4.2.2).
 use Rattle.std.specs.Prelude.{ℕ, ◌-◌, ◌==◌, List, Option, Some, None, if◌then◌else◌, nat_lt}
 use Rattle.mmio.specs.Bits.{half_of}
 use Rattle.mmio.specs.State.{Registers, selected}
@@ -41,7 +41,7 @@ abbrev pub value_at : Registers → Option Register → ℕ
 value_at r None = 0
 value_at r (Some register) = register_value r register
 
--- A register is read whole, with width 4; at another width it reads 0. From CONFIG on lies the configuration.
+-- Registers are read with width 4; a read of another width returns 0. Offsets from CONFIG on are the configuration space.
 abbrev pub register_read : Registers → ℕ → ℕ → List ℕ → ℕ
 register_read r offset width config =
     if nat_lt offset CONFIG then (if width == 4 then value_at r (register_at offset) else 0)

@@ -1,4 +1,4 @@
--- What a write does: what it means for the device, and the registers after it (VIRTIO 1.2, 4.2.2).
+-- What a write does: its effect on the device, and the registers after it (VIRTIO 1.2, 4.2.2).
 use Rattle.std.specs.Prelude.{ℕ, ◌-◌, ◌==◌, Option, Some, None, if◌then◌else◌, nat_lt}
 use Rattle.mmio.specs.State.{Registers, reset_registers, with_common, queue_at, selected}
 use Rattle.mmio.specs.RegisterTable.{register_at}
@@ -19,7 +19,7 @@ status_written r value =
     if value == 0 then (e.Reset, reset_registers r)
     else (e.None, with_common r (record r.common { status = status_after r.offered r.common value }))
 
--- What a write to each register does. The selectors are stored whole. A register that can only be read ignores writes,
+-- What a write to each register does. The selectors store the whole value. A register that can only be read ignores writes,
 -- and so does SHMSel, since there is no shared memory region.
 unfoldable pub register_written : Registers → Register → ℕ → Effect × Registers
 register_written r x.DeviceFeaturesSel value = (e.None, with_common r (record r.common { device_select = value }))
@@ -44,7 +44,8 @@ abbrev pub written_at : Registers → Option Register → ℕ → Effect × Regi
 written_at r None value = (e.None, r)
 written_at r (Some register) value = register_written r register value
 
--- A register is written whole, with width 4; a write of another width is ignored. From CONFIG on lies the configuration.
+-- Registers are written with width 4; a write of another width is ignored. Offsets from CONFIG on are the configuration
+-- space.
 abbrev pub register_write : Registers → ℕ → ℕ → ℕ → Effect × Registers
 register_write r offset width value =
     if nat_lt offset CONFIG then (if width == 4 then written_at r (register_at offset) value else (e.None, r))

@@ -1,5 +1,5 @@
--- What holds of the registers of every device, whatever the driver writes and whenever they are looked at. A device that
--- is restored must have it too.
+-- Invariants of the registers of every device, whatever the driver writes. The registers of a restored device must satisfy
+-- them too.
 use Rattle.std.specs.Prelude.{ℕ, ◌<◌, ◌≤◌, ◌^◌, IsTrue, All, length}
 use Rattle.mmio.specs.Bits.{Has}
 use Rattle.mmio.specs.State.{Registers}
@@ -8,8 +8,8 @@ use Rattle.mmio.specs.declared.common.Common.{Common}
 use Rattle.mmio.specs.declared.queue.Queue.{Queue}
 use Rattle.mmio.specs.declared.constants.TheConstants.{STATUS_BITS, DRIVER_OK, FEATURES_OK, DEVICE_NEEDS_RESET, INTERRUPT_BITS, VERSION_1, QUEUE_COUNT_MAX}
 
--- A device status has only bits that have a meaning. DRIVER_OK comes only with FEATURES_OK, and DEVICE_NEEDS_RESET only
--- with DRIVER_OK.
+-- Only defined bits of the device status are set. DRIVER_OK is set only if FEATURES_OK is, and DEVICE_NEEDS_RESET only if
+-- DRIVER_OK is.
 pub record IsStatus (status : ℕ) : Type 0 where
   pub known : Has STATUS_BITS status
   pub driver_ok : Has status DRIVER_OK → Has status FEATURES_OK
@@ -29,7 +29,7 @@ pub record FitsQueue (q : Queue) : Type 0 where
   pub driver : q.driver < 2 ^ 64
   pub device : q.device < 2 ^ 64
 
--- With FEATURES_OK the driver's features lie within the offered set and hold VERSION_1.
+-- If FEATURES_OK is set, the driver's features are among the offered ones and include VERSION_1.
 pub record IsSoundCommon (offered : ℕ) (c : Common) : Type 0 where
   pub fits : FitsCommon c
   pub status : IsStatus c.status
@@ -37,7 +37,7 @@ pub record IsSoundCommon (offered : ℕ) (c : Common) : Type 0 where
   pub offered_only : Has c.status FEATURES_OK → Has offered c.features
   pub version : Has c.status FEATURES_OK → Has c.features VERSION_1
 
--- Only a ready queue is notified, and a ready queue is one that may be ready.
+-- Only a ready queue has its notified flag set, and a ready queue satisfies MayBeReady.
 pub record IsSoundQueue (ram_len : ℕ) (c : Common) (q : Queue) : Type 0 where
   pub fits : FitsQueue q
   pub notified : IsTrue q.is_notified → IsTrue q.is_ready

@@ -1,15 +1,15 @@
--- What contracts see of the register file of a device.
+-- The model of the register file of a device in contracts.
 use Rattle.std.specs.Prelude.{Option, slice_get, slice_set, ℕ, List, false, length, replicate}
 use Rattle.mmio.specs.declared.common.Common.{Common}
 use Rattle.mmio.specs.declared.queue.Queue.{Queue}
 
--- Which device it is and what it offers, which never changes; the registers that it has once; and its queues, by their
--- numbers.
+-- Which device it is and what it offers, which never changes; the registers that exist once per device; and its queues, by
+-- their numbers.
 pub record Registers : Type 0 where
   pub device_id : ℕ
   -- the feature bits that the device offers
   pub offered : ℕ
-  -- the bytes of guest memory, inside which the areas of a ready queue lie
+  -- the number of bytes of guest memory, inside which the areas of a ready queue lie
   pub ram_len : ℕ
   pub common : Common
   pub queues : List Queue
@@ -18,7 +18,7 @@ pub record Registers : Type 0 where
 abbrev pub first_queue : Queue
 first_queue = record { size = 0; descriptors = 0; driver = 0; device = 0; is_ready = false; is_notified = false }
 
--- The first values of what a device has once, but for the count of configuration changes, which no reset touches.
+-- The initial values of the registers that exist once per device, but for ConfigGeneration, which no reset changes.
 abbrev pub first_common : ℕ → Common
 first_common generation = record {
   status = 0;
@@ -30,7 +30,7 @@ first_common generation = record {
   generation = generation;
 }
 
--- The registers of a new device with so many queues.
+-- The registers of a new device with `queues` queues.
 abbrev pub first_registers : ℕ → ℕ → ℕ → ℕ → Registers
 first_registers device_id offered queues ram_len = record {
   device_id = device_id;
@@ -40,22 +40,21 @@ first_registers device_id offered queues ram_len = record {
   queues = replicate queues first_queue;
 }
 
--- The registers after a reset (VIRTIO 1.2, 2.4): all have their first values, and the count of configuration changes
--- stays.
+-- The registers after a reset (VIRTIO 1.2, 2.4): all have their initial values, but for ConfigGeneration, which is kept.
 abbrev pub reset_registers : Registers → Registers
 reset_registers r = record r {
   common = first_common r.common.generation;
   queues = replicate (length r.queues) first_queue;
 }
 
--- The registers with other common ones, or with another queue in place of one.
+-- The registers with the common ones replaced, or with one queue replaced.
 abbrev pub with_common : Registers → Common → Registers
 with_common r c = record r { common = c }
 
 abbrev pub with_queue : Registers → ℕ → Queue → Registers
 with_queue r number q = record r { queues = slice_set r.queues number q }
 
--- The queue that a number names, if it exists, and the one that QueueSel names.
+-- The queue with this number, if it exists; and the queue that QueueSel selects, if it exists.
 abbrev pub queue_at : Registers → ℕ → Option Queue
 queue_at r number = slice_get r.queues number
 

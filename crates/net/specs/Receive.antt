@@ -15,14 +15,14 @@ use Rattle.net.specs.declared.header.TheConstants.{HEADER_SIZE}
 use Rattle.net.specs.declared.receiving.Received.{Received}
 use Rattle.net.specs.declared.receiving.Received.TheVariants.{Empty, Malformed, Dropped, Completed}
 
--- What a step answers and changes: writes of RAM, the ring's positions, and the frames that are left.
+-- What a step returns and changes: its answer, writes of RAM, the ring's positions, and the frames that are left.
 pub record Step : Type 0 where
   pub answer : Received
   pub writes : List Write
   pub ring : RingState
   pub left : List (List ℕ)
 
--- The header and the frame go into the chain.
+-- The header and the frame are written into the chain.
 abbrev pub writes_into : RingState → List ℕ → Chain → List Write
 writes_into q frame c = filled q c (header ++ frame)
 
@@ -34,22 +34,23 @@ give ram q frame rest c = record {
   left = rest;
 }
 
--- The frame goes. The chain stays, and nothing is written.
+-- The frame is dropped. The chain is not taken, and nothing is written.
 abbrev pub drop_frame : RingState → List (List ℕ) → Step
 drop_frame q rest = record { answer = Dropped; writes = []; ring = q; left = rest }
 
--- The chain and all frames stay, and nothing is written.
+-- The chain is not taken, all frames are kept, and nothing is written.
 abbrev pub refuse : RingState → List (List ℕ) → Step
 refuse q frames = record { answer = Malformed; writes = []; ring = q; left = frames }
 
--- A chain that takes bytes gets the first frame, where that fits with its header. Where there is no frame no step is made.
+-- A chain that takes bytes gets the first frame, if that fits with its header; else the frame is dropped. If there is no
+-- frame no step is made.
 abbrev pub give_first : List ℕ → RingState → List (List ℕ) → Chain → Step
 give_first ram q [] c = drop_frame q []
 give_first ram q (frame ∷ rest) c =
     if nat_lt (length (places c.writable)) (HEADER_SIZE + length frame) then drop_frame q rest else give ram q frame rest c
 
--- The step, by what the queue answers about its next chain. Where the queue is empty the event note is written. A chain that
--- the device may not write into is malformed too, and that is asked before whether the frame fits.
+-- The step, by what the queue answers about its next chain. If the queue is empty the event note is written. A chain that
+-- the device may not write into is malformed too, and this is checked before whether the frame fits.
 abbrev pub receive_step : List ℕ → RingState → List (List ℕ) → Next → Step
 receive_step ram q frames next.Empty = record { answer = Empty; writes = event_note q; ring = q; left = frames }
 receive_step ram q frames next.Malformed = refuse q frames

@@ -3,8 +3,8 @@ use Rattle.chains.specs.declared.descriptor.Descriptor.{Descriptor}
 use Rattle.chains.specs.State.{RingState}
 use Rattle.chains.specs.PackedChain.{IsPackedList}
 
--- The descriptors at the taking position, with a table in the place of the one that names it, are these, and no more
--- than there are slots. They take so many slots, and the last of these holds this id.
+-- `all` is the list of descriptors at the taking position, with an indirect descriptor replaced by its table, and has no
+-- more descriptors than there are slots. In the ring it takes `slots` slots, and the last of these holds `id`.
 pub record AreFound (ram : List ℕ) (q : RingState) (id slots : ℕ) (all : List Descriptor) : Type 0 where
   pub front : List Descriptor
   pub last : Descriptor

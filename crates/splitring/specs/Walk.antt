@@ -7,31 +7,31 @@ use Rattle.chains.specs.Whole.{IsTable, ArePlain}
 use Rattle.chains.specs.SplitChain.{AreLinked, IsReplaced, head}
 use Rattle.chains.specs.LongQueue.{AreInRow}
 
--- No list of at most so many descriptors begins at this entry.
+-- No list of at most `room` descriptors begins at this entry.
 abbrev pub IsNoList : List ℕ → ℕ → ℕ → ℕ → ℕ → Type 0
 IsNoList ram table entries index room = (ds : List Descriptor) → AreLinked ram table entries index ds → length ds ≤ room → ⊥
 
--- Some descriptors, and behind them the list that begins at an entry, which has at most so many, are these.
+-- `all` is `before`, followed by the list that begins at entry `index`, which has at most `room` descriptors.
 pub record AreListed (ram : List ℕ) (table entries index room : ℕ) (before all : List Descriptor) : Type 0 where
   pub list : List Descriptor
   pub linked : AreLinked ram table entries index list
   pub few : length list ≤ room
   pub parts : all ≡ before ++ list
 
--- Behind some descriptors at most so many stand in a row from an entry on, and all of them are too many to be handled
--- without memory.
+-- After `before` there is a row of at most `room` descriptors from entry `index` on, and together they are more than are
+-- handled without allocating memory.
 pub record IsLongBehind (ram : List ℕ) (table entries index room : ℕ) (before : List Descriptor) : Type 0 where
   pub row : List Descriptor
   pub in_row : AreInRow ram table entries index row
   pub few : length row ≤ room
   pub long : SHORT_CHAIN_MAX < length before + length row
 
--- In no way does a table come into this list so that there are at most so many descriptors.
+-- `direct`, with its last descriptor replaced by the table if it is indirect, is no list of at most `most` descriptors.
 abbrev pub IsNoReplacement : List ℕ → Bool → List Descriptor → ℕ → Type 0
 IsNoReplacement ram has_indirect direct most = (all : List Descriptor) → IsReplaced ram has_indirect direct all → length all ≤ most → ⊥
 
--- The last of these descriptors alone names a table, and behind the others stand descriptors of it in a row, at most so
--- many with them, and all of them are too many to be handled without memory.
+-- Only the last of these descriptors is indirect. The others, followed by a row from entry 0 of its table, are at most
+-- `most` descriptors, and more than are handled without allocating memory.
 pub record IsLongReplacement (ram : List ℕ) (has_indirect : Bool) (direct : List Descriptor) (most : ℕ) : Type 0 where
   pub front : List Descriptor
   pub last : Descriptor
@@ -42,8 +42,8 @@ pub record IsLongReplacement (ram : List ℕ) (has_indirect : Bool) (direct : Li
   pub table : IsTable ram last
   pub behind : IsLongBehind ram last.addr (last.len / DESCRIPTOR_SIZE) 0 (most - length front) front
 
--- The descriptors of the list that begins at the head of a queue, with a table in the place of the descriptor that
--- names it, are these, and no more than there are slots.
+-- `all` is the list that begins at the head of a queue, with an indirect descriptor replaced by its table, and has no more
+-- descriptors than there are slots.
 pub record AreFound (ram : List ℕ) (q : RingState) (all : List Descriptor) : Type 0 where
   pub direct : List Descriptor
   pub linked : AreLinked ram q.descriptors q.size (head ram q) direct
