@@ -62,7 +62,7 @@ pub record Begins (old new : LiveSeen) : Type 0 where
   pub dirty : new.dirty ≡ replicate (size_of (layout_of (now old))) false
   pub wrote : Wrote old new (header_of (now old))
 
--- The item of this number was sent, as it is.
+-- The item of this number was sent, with its current content.
 pub record IsSent (old : LiveSeen) (i : ℕ) (new : LiveSeen) : Type 0 where
   pub machine : new.machine ≡ old.machine
   pub phase : new.phase ≡ old.phase

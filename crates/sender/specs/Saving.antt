@@ -57,6 +57,6 @@ pub record Sends {A : Type 0} (old : Seen) (out : SinkState) (bytes : List ℕ) 
   pub count : new_out.failures ≡ (if has_writer_failed result then (out.failures + 1) % 2 ^ 64 else out.failures)
   pub holds : OnOk result (AreHonest old → IsTrue out.honest → IsTrue new_out.honest × (new_out.held ≡ out.held ++ bytes))
 
--- The same, where what is kept of the bytes goes on meanwhile.
+-- As above, for what is kept of the bytes, such as their digest: on success, if the disks are honest, it took these bytes too.
 abbrev pub TakesOn : {A : Type 0} → Seen → (List ℕ → Type 0) → List ℕ → Result A MigError → (List ℕ → Type 0) → Type 0
 TakesOn old has_taken bytes result has_taken_now = OnOk result (AreHonest old → Takes has_taken bytes has_taken_now)
