@@ -7,10 +7,10 @@ use denote.Array.{Array}
 use denote.Builtin.{u8}
 use denote.RawPtr.{Ptr, lies_at}
 
--- One sector behind the other.
+-- The sectors, one after another.
 abbrev pub bytes_of : List (List ℕ) → List ℕ
 bytes_of = concat
 
--- The bytes of so many sectors lie at the pointer.
+-- The bytes of `count` sectors lie at the pointer.
 abbrev pub bytes_lie : Ptr → ℕ → List ℕ → Fml
 bytes_lie at count bytes = lies_at (Array u8 (count * 512)) full_share at bytes

@@ -13,8 +13,8 @@ use denote.RattleType.{RattleType}
 abbrev pub sector_row : RattleType
 sector_row = Array u8 512
 
--- So many sectors lie at the pointer, one behind the other: 512 times as many bytes, which are fewer than 2^63. An image of
--- no sectors owns nothing, and its pointer may be anything.
+-- The sectors lie at the pointer, one after another: n of them are n * 512 bytes, fewer than 2^63. An image of no sectors owns
+-- nothing, and its pointer may be anything.
 abbrev pub image_owns : Ptr → ℕ → List (List ℕ) → Fml
 image_owns at zero content = fex (content ≡ []) (λ _. ftrue)
 image_owns at (suc n) content = fsep (flt (suc n * 512) (2 ^ 63)) (lies_at (Array sector_row (suc n)) full_share at content)

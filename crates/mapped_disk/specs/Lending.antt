@@ -10,6 +10,6 @@ use Rattle.mapped_disk.specs.contracts.image.Image.{the_row}
 abbrev pub with_content : Image → List (List ℕ) → Image
 with_content i sectors = record i { content = sectors }
 
--- The image ends with the last bytes in the sectors.
+-- When the borrow ends, the image holds the bytes that the sectors have then.
 abbrev pub LendsSectors : MutBor Image → MutBor (List (List ℕ)) → Fml
 LendsSectors s r = Lends the_row (Array sector_row 0) s r (with_content s.now)

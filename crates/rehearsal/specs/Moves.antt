@@ -1,4 +1,5 @@
--- A move that a host makes call by call: a machine that is sent, from its first call on, and what is made of its bytes.
+-- A migration that a host makes call by call: the machine that is being migrated, from its first call on, and what is made of
+-- its bytes.
 use Rattle.std.specs.Prelude.{◌≡◌, ◌++◌, ℕ, List, [], IsTrue}
 use Rattle.sha2.specs.Hashers.{Holds256}
 use Rattle.machine.specs.Seen.{AreHonest, Seen, state_of}
@@ -14,16 +15,16 @@ use Rattle.sender.specs.declared.phase.Phase.TheVariants as phases
 use Rattle.wire.specs.Sinks.{SinkState}
 use Rattle.wire.specs.Stream.{IsStream}
 
--- This happened to the machine since it began to be sent to this writer, and these bytes were taken out of the writer.
+-- This happened to the machine since its migration to this writer began, and these bytes were taken out of the writer.
 abbrev pub IsMoving : MachineState → History → SinkState → List ℕ → LiveSeen → Type 0
 IsMoving m h out taken s = Relates m h out (untaken taken s)
 
--- So it is at first, with no history, and nothing taken.
+-- This holds at first, with an empty history and nothing taken.
 abbrev pub FirstIsMoving : Type 0
 FirstIsMoving = (machine : Seen) (s : LiveSeen) → AreHonest machine → s.machine ≡ machine → s.phase ≡ phases.Fresh → Holds256 s.digest [] → IsMoving (state_of machine) nothing s.out [] s
 
--- Each call keeps it so, and adds to the history. So does a writer that is put in the place of the writer, and holds what was
--- not taken.
+-- Each call keeps this, and adds to the history. So does another writer that is put in the place of the writer and holds what
+-- was not taken.
 abbrev pub TakingsStayMoving : Type 0
 TakingsStayMoving = (m : MachineState) (h : History) (out writer : SinkState) (taken more : List ℕ) (s : LiveSeen) → IsMoving m h out taken s
     → s.out.held ≡ more ++ writer.held → writer.failures ≡ s.out.failures → writer.honest ≡ s.out.honest → IsMoving m h out (taken ++ more) (record s { out = writer })

@@ -1,5 +1,5 @@
--- A move of a machine, rehearsed: the events up to and with the first stop that answers Ok are played on the machine that is
--- sent, and the events of the guest that remain on both machines.
+-- A migration of a machine, rehearsed: the events up to and including the first stop that answers Ok are played on the machine
+-- that is being migrated, and the remaining events of the guest on both machines.
 use Rattle.std.specs.Prelude.{◌≡◌, ◌≤◌, ℕ, List, [], ◌∷◌, ◌++◌, All, Bool, true, false, drop, length, map}
 use Rattle.machine.specs.Applied.{FailOnlyUnsteady, marks_run}
 use Rattle.machine.specs.EffectLaws.{IsSameShape}
@@ -53,14 +53,15 @@ remaining events replies = guests_of (drop (length replies) events)
 abbrev pub empty_writer : SinkState
 empty_writer = record { held = []; failures = 0; honest = true; is_flushed = false }
 
--- The machine after the events that have these replies, each of which may come after those before it. The writer is in memory:
--- a reply that says it failed says that it was refused memory.
+-- The machine after the events that have these replies, each of which is allowed after those before it. The writer is in
+-- memory: a reply that says it failed says that it was refused memory.
 pub record IsAfter (m : MachineState) (events : List LiveEvent) (replies : List LiveReply) (last : MachineState) : Type 0 where
   pub writer : SinkState
   pub ran : Ran m events replies empty_writer last writer
 
--- A machine that was sent answered the first of these events so. Only a disk that is not steady is told to have failed, and the disks stay as steady as
--- they were. If they are honest they stay so, and the machine is the one after these events.
+-- A machine that was migrated gave these replies to the first of these events. Only a disk that is not steady is reported as
+-- failed, and the disks stay as steady as they were. If they are honest they stay so, and the machine is the one after these
+-- events.
 pub record HasAnswered (machine : Seen) (events : List LiveEvent) (replies : List LiveReply) (source : Seen) : Type 0 where
   pub few : length replies ≤ length events
   pub unsteady : AllNameUnsteady (all_marks machine) events replies
@@ -69,8 +70,8 @@ pub record HasAnswered (machine : Seen) (events : List LiveEvent) (replies : Lis
   pub shape : AreHonest machine → IsSameShape (state_of machine) (state_of source)
   pub after : AreHonest machine → IsAfter (state_of machine) events replies (state_of source)
 
--- A machine played events of the guest, and answered so. Only a disk that is not steady is told to have failed. If the disks
--- are honest, it is the machine of a run with the outcomes of these replies.
+-- A machine played events of the guest and gave these replies. Only a disk that is not steady is reported as failed. If the
+-- disks are honest, it is the machine of a run with the outcomes of these replies.
 pub record HasPlayed (old : Seen) (events : List Event) (replies : List Reply) (new : Seen) : Type 0 where
   pub each : length replies ≡ length events
   pub marks : all_marks new ≡ marks_run (all_marks old) events replies
@@ -81,8 +82,7 @@ pub record HasPlayed (old : Seen) (events : List Event) (replies : List Reply) (
 abbrev pub DoFit : List ℕ → Seen → Type 0
 DoFit sizes machine = sizes ≡ disk_sizes (shapes_in (state_of machine).devices)
 
--- Why a stream of the machine is refused: the disks do not fit, or one of them failed, which is not steady, or memory was
--- refused.
+-- Why a stream of the machine is refused: the disks do not fit, a disk that is not steady failed, or memory was refused.
 abbrev pub TellsWhy : List ℕ → List Marks → Seen → RecvError → Type 0
 TellsWhy sizes marks machine errors.ShapeMismatch = ¬ (DoFit sizes machine)
 TellsWhy sizes marks machine errors.DiskFailed = DoFit sizes machine × IsUnsteady marks
@@ -104,9 +104,10 @@ pub record IsRefused (machine : Seen) (events : List LiveEvent) (sizes : List �
   pub unsteady : error ≡ errors.DiskFailed → IsUnsteady marks
   pub why : AreHonest machine → TellsWhy sizes marks machine error
 
--- A stop answered Ok, the disks fit, and both machines played what remained: the one that was sent from where it stood at the
--- stop, and the one that arrived as it arrived over the disks that were handed in. If all disks are honest, it arrived as the
--- machine at the stop: both are runs from there, and with the same outcomes they are equal, and so are the replies.
+-- A stop answered Ok, the disks fit, and both machines played the remaining events: the machine that was migrated from its
+-- state at the stop, and the machine that arrived from its state on arrival, over the disks that were given. If all disks are
+-- honest, the state on arrival is that at the stop: both are runs from there, and if their outcomes are the same, the machines
+-- are equal, and so are the replies.
 pub record IsArrival (machine : Seen) (events : List LiveEvent) (sizes : List ℕ) (marks : List Marks) (source arrived : Seen) (replies : List LiveReply) (arrived_replies : List Reply) : Type 0 where
   pub played : List LiveReply
   pub rest : List Reply
@@ -124,7 +125,7 @@ pub record IsArrival (machine : Seen) (events : List LiveEvent) (sizes : List �
   pub arrived_run : AreHonest machine → AreHonestDisks marks → IsRun (state_of at_stop) (remaining events played) (map outcome_of arrived_replies) arrived_replies (state_of arrived)
   pub same : AreHonest machine → AreHonestDisks marks → map outcome_of arrived_replies ≡ map outcome_of rest → (arrived_replies ≡ rest) × (state_of arrived ≡ state_of source)
 
--- What is left of a rehearsed move of this machine by these events, with disks of these sizes, of which this is known.
+-- The result of a rehearsed migration of this machine with these events, over disks of these sizes and marks.
 abbrev pub IsRehearsal : {D E : Type 0} → Seen → List LiveEvent → List ℕ → List Marks → Rehearsal D E → Type 0
 IsRehearsal machine events sizes marks (Arrived source arrived replies arrived_replies) = IsArrival machine events sizes marks source arrived replies.items arrived_replies.items
 IsRehearsal machine events sizes marks (NotStopped source replies) = IsNotStopped machine events source replies.items
@@ -142,7 +143,7 @@ abbrev pub IsRefusedWith : {D E : Type 0} → Seen → List LiveReply → RecvEr
 IsRefusedWith at_stop played refusal (Refused source replies error) = (source ≡ at_stop) × (replies.items ≡ played) × (error ≡ refusal)
 IsRefusedWith at_stop played refusal _ = ⊥
 
--- A machine played events of the guest, and its replies stand behind those of before.
+-- A machine played events of the guest, and its replies follow those before.
 pub record GoesOn (old : Seen) (events : List Event) (before after : List LiveReply) (new : Seen) : Type 0 where
   pub rest : List Reply
   pub are : after ≡ before ++ map r.Guest rest

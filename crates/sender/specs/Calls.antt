@@ -1,4 +1,4 @@
--- What the calls of a machine that is sent do, one by one.
+-- What each call of a machine that is being migrated does.
 use Rattle.std.specs.Prelude.{◌≡◌, ℕ, ◌+◌, ◌<◌, ◌≤◌, ◌++◌, ◌%◌, ◌^◌, ◌||◌, List, [], ◌∷◌, replicate, Bool, true, false, IsTrue, Result, Ok, Err, slice_set, MatchOption}
 use Rattle.dirtylog.specs.Members.{HasNone, IsLeast, has}
 use Rattle.sha2.specs.Hashers.{Holds256}
@@ -27,23 +27,23 @@ use Rattle.sender.specs.declared.event.Stopped.{Stopped}
 use Rattle.sender.specs.declared.event.LiveReply.{LiveReply}
 use Rattle.sender.specs.declared.event.LiveReply.TheVariants as r
 
--- The writer took these bytes, where it and the disks are honest, and did not fail.
+-- The writer did not fail. If it and the disks are honest, it stays honest and holds these bytes after those that it held.
 pub record Took (old new : LiveSeen) (bytes : List ℕ) : Type 0 where
   pub count : new.out.failures ≡ old.out.failures
   pub holds : AreHonest old.machine → IsTrue old.out.honest → IsTrue new.out.honest × (new.out.held ≡ old.out.held ++ bytes)
 
--- So did the digest.
+-- As `Took`, and if the disks are honest the digest took these bytes too.
 pub record Wrote (old new : LiveSeen) (bytes : List ℕ) : Type 0 where
   pub took : Took old new bytes
   pub taken : AreHonest old.machine → (b : List ℕ) → Holds256 old.digest b → Holds256 new.digest (b ++ bytes)
 
--- The writer failed, just now. The machine is as it was.
+-- The writer failed in this call. The machine is unchanged.
 pub record Fails (old new : LiveSeen) : Type 0 where
   pub machine : new.machine ≡ old.machine
   pub phase : new.phase ≡ phases.Failed
   pub count : new.out.failures ≡ (old.out.failures + 1) % 2 ^ 64
 
--- The numbers of the items join the set.
+-- The set, with the numbers of the items added.
 abbrev pub with_items : List ℕ → List Bool → List items.Item → List Bool
 with_items firsts s [] = s
 with_items firsts s (i ∷ is) = with_items firsts (slice_set s (number_in firsts i) true) is
@@ -62,7 +62,7 @@ pub record Begins (old new : LiveSeen) : Type 0 where
   pub dirty : new.dirty ≡ replicate (size_of (layout_of (now old))) false
   pub wrote : Wrote old new (header_of (now old))
 
--- The item of this number was sent, as it is.
+-- The item of this number was sent, with its current content.
 pub record IsSent (old : LiveSeen) (i : ℕ) (new : LiveSeen) : Type 0 where
   pub machine : new.machine ≡ old.machine
   pub phase : new.phase ≡ old.phase
@@ -86,7 +86,7 @@ pub record Copies (old : LiveSeen) (item : Item) (new : LiveSeen) : Type 0 where
   pub item_is : item_of item ≡ item_at (layout_of (now old)) number
   pub sent : IsSent old number new
 
--- The least due item is this sector, which was not read.
+-- The least due item is this sector, which could not be read.
 pub record CopyFails (old : LiveSeen) (dev n : ℕ) (new : LiveSeen) : Type 0 where
   pub number : ℕ
   pub least : IsLeast old.due 0 number
@@ -108,7 +108,7 @@ pub record EndsRound (old : LiveSeen) (k : ℕ) (new : LiveSeen) : Type 0 where
 abbrev pub in_either : LiveSeen → ℕ → Bool
 in_either s i = has s.due i || has s.dirty i
 
--- The items below a number are neither due nor dirty, and the others are as they were.
+-- The items below a number are neither due nor dirty, and the others are unchanged.
 pub record AreCleared (old : LiveSeen) (to : ℕ) (new : LiveSeen) : Type 0 where
   pub gone : (i : ℕ) → i < to → in_either new i ≡ false
   pub due : (i : ℕ) → to ≤ i → has new.due i ≡ has old.due i
@@ -133,7 +133,7 @@ pub record AreSent (old : LiveSeen) (to : ℕ) (new : LiveSeen) : Type 0 where
   pub sets : AreCleared old to new
   pub wrote : Wrote old new (texts (records_of (now old) (chosen (in_either old) to)))
 
--- A stop that came to a sector that was not read: just the items before it were sent.
+-- A stop that failed to read a sector: exactly the items of the two sets below it were sent.
 pub record StopsShort (old : LiveSeen) (dev n : ℕ) (new : LiveSeen) : Type 0 where
   pub number : ℕ
   pub below : number < size_of (layout_of (now old))
@@ -178,7 +178,7 @@ Does old Copy reply new = AfterCopy old reply new
 Does old EndRound reply new = AfterRound old reply new
 Does old Stop reply new = AfterStop old reply new
 
--- Every call: refused by its phase and nothing changed, or done.
+-- Every call: its phase refuses it and nothing changes, or it is done.
 abbrev pub Serves : LiveSeen → LiveEvent → LiveReply → LiveSeen → Type 0
 Serves old e reply new = MatchOption (refusal_for old.phase e) (Does old e reply new) (λ x. (reply ≡ r.Mig x) × (new ≡ old))
 

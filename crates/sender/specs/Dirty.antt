@@ -10,7 +10,7 @@ abbrev pub HasFirst : List ℕ → Item → Type 0
 HasFirst firsts (page n) = Unit {0}
 HasFirst firsts (sector dev n) = dev < length firsts
 
--- An item may be named that has a number in the set.
+-- An item may be named if it has a number in the set.
 pub record may_take (d : Dirty) (i : Item) : Type 0 where
   pub first : HasFirst d.firsts.items i
   pub place : number_in d.firsts.items i < length d.set

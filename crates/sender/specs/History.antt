@@ -1,5 +1,5 @@
--- What happened to a machine that is sent, and what follows from it: the machine after it, which items are stale and due,
--- and what was written.
+-- What happened to a machine that is being migrated, and what follows from it: the machine after it, which items are stale and
+-- due, and what was written.
 use Rattle.std.specs.Prelude.{◌≡◌, ℕ, ◌+◌, ◌-◌, ◌<◌, ◌++◌, ◌==◌, ◌||◌, ◌&&◌, not, nat_lt, if◌then◌else◌, List, [], ◌∷◌, Bool, true, false, MatchOption}
 use Rattle.guestmem.specs.Item as items
 use Rattle.machine.specs.Applied.{IsGood}
@@ -23,13 +23,13 @@ use Rattle.sender.specs.declared.mig_error.MigError.TheVariants as errors
 use Rattle.sender.specs.declared.event.LiveReply.{LiveReply}
 use Rattle.sender.specs.declared.event.LiveReply.TheVariants as r
 
--- What happened: each event with its reply, and what it changed in the machine, which counts only for an event of the
--- guest that was not refused for the migration's sake.
+-- Each event with its reply, and what it changed in the machine. The change counts only for an event of the guest that the
+-- migration did not refuse.
 pub data History : Type 0 where
   nothing : History
   then_came : History → LiveEvent → LiveReply → Effect → History
 
--- A history goes on by these events, replies and effects.
+-- The history, continued by these events, replies and effects.
 abbrev pub onward : History → List LiveEvent → List LiveReply → List Effect → History
 onward h (e ∷ es) (reply ∷ replies) (f ∷ fs) = onward (then_came h e reply f) es replies fs
 onward h es replies fs = h
@@ -43,7 +43,7 @@ abbrev pub machine_after : MachineState → History → MachineState
 machine_after m nothing = m
 machine_after m (then_came h e reply f) = went (machine_after m h) e reply f
 
--- The events of the guest that were not refused for the migration's sake, and their replies.
+-- The events of the guest that the migration did not refuse, and their replies.
 abbrev pub events_with : List Event → LiveEvent → LiveReply → List Event
 events_with so_far (Guest e) (r.Guest reply) = so_far ++ e ∷ []
 events_with so_far _ _ = so_far
@@ -70,15 +70,15 @@ abbrev pub touches : Layout → LiveEvent → LiveReply → Effect → ℕ → B
 touches l (Guest e) (r.Guest reply) f i = is_numbered l (items_of f) i
 touches l _ _ f i = false
 
--- The event sends the item: a stop that answers Ok sends what is stale before it, and one that comes to a sector that is not
--- read, what is stale and stands before that sector.
+-- The event sends the item. A stop that answers Ok sends the items that were stale before it; a stop that fails to read a
+-- sector sends the stale items whose numbers are below that of the sector.
 abbrev pub sends : Layout → (ℕ → Bool) → LiveEvent → LiveReply → ℕ → Bool
 sends l stale Copy (r.Copied item) i = i == number_of l (item_of item)
 sends l stale Stop (r.Stopped pages sectors) i = stale i
 sends l stale Stop (r.Mig (errors.DiskFailed dev n)) i = stale i && nat_lt i (number_of l (items.sector dev n))
 sends l stale _ _ i = false
 
--- No sending of the item is free of later touches of it.
+-- The item was never sent, or was written after it was last sent.
 abbrev pub is_stale : Layout → History → ℕ → Bool
 is_stale l nothing i = true
 is_stale l (then_came h e reply f) i = touches l e reply f i || (is_stale l h i && not (sends l (is_stale l h) e reply i))
@@ -117,7 +117,7 @@ abbrev pub text : MachineState → History → List ℕ
 text m nothing = []
 text m (then_came h e reply f) = text m h ++ written (text m h) (machine_after m h) (is_stale (layout_of m) h) e reply
 
--- How far the migration has come, as the replies tell.
+-- The phase of the migration, by the replies.
 abbrev pub next_phase : Phase → LiveReply → Phase
 next_phase p (r.Begun k) = phases.Open k
 next_phase p (r.Stopped pages sectors) = phases.Stopped
@@ -158,7 +158,8 @@ IsNextRound _ next = ⊥
 abbrev pub IsGoodIn : MachineState → ℕ → ℕ → Type 0
 IsGoodIn m dev n = IsGood (sector_on (sectors_on m dev) n)
 
--- What may be answered where the phase does not refuse the event. A step of the machine keeps it sound.
+-- The replies that are allowed where the phase does not refuse the event. After an event of the guest the machine is still
+-- sound.
 abbrev pub AllowedGuest : MachineState → Event → LiveReply → Effect → Type 0
 AllowedGuest m e (r.Guest reply) f = HasEffect m e (outcome_of reply) reply f × IsSound (applied m f)
 AllowedGuest m e _ f = ⊥
@@ -194,17 +195,17 @@ AllowedBy l m stale due phase Copy reply f = AllowedCopy l m due reply
 AllowedBy l m stale due phase EndRound reply f = AllowedRound l due phase reply
 AllowedBy l m stale due phase Stop reply f = AllowedStop l m stale reply
 
--- What may be answered after a history of a machine.
+-- The reply and the effect are allowed for this event after this history of the machine.
 abbrev pub Allowed : MachineState → History → LiveEvent → LiveReply → Effect → Type 0
 Allowed m h e reply f =
     MatchOption (refusal_for (phase_of h) e) (AllowedBy (layout_of m) (machine_after m h) (is_stale (layout_of m) h) (is_due (layout_of m) h) (phase_of h) e reply f) (λ x. reply ≡ r.Mig x)
 
--- Only an event of the guest that was not refused for the migration's sake changes the machine.
+-- Only an event of the guest that the migration did not refuse changes the machine.
 abbrev pub IsItsChange : LiveEvent → LiveReply → Effect → Type 0
 IsItsChange (Guest e) (r.Guest reply) f = Unit {0}
 IsItsChange _ _ f = f ≡ no_effect
 
--- Every reply is one that may be answered after those before it.
+-- Every reply is allowed after those before it.
 abbrev pub AllAllowed : MachineState → History → Type 0
 AllAllowed m nothing = Unit {0}
 AllAllowed m (then_came h e reply f) = AllAllowed m h × Allowed m h e reply f × IsItsChange e reply f
@@ -213,7 +214,7 @@ abbrev pub is_fault : LiveReply → Bool
 is_fault (r.Mig errors.StreamFailed) = true
 is_fault _ = false
 
--- Some reply tells that the writer failed.
+-- Some reply says that the writer failed.
 abbrev pub has_fault : History → Bool
 has_fault nothing = false
 has_fault (then_came h e reply f) = has_fault h || is_fault reply

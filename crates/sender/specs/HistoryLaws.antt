@@ -12,17 +12,17 @@ use Rattle.sender.specs.declared.phase.Phase.TheVariants as phases
 use Rattle.wire.specs.Stream.{IsStream, last_named, record_of}
 use Rattle.sender.specs.History.{AllAllowed, History, entries, guest_events, guest_replies, is_stale, machine_after, nothing, onward, phase_of, sends, text, then_came, touches}
 
--- An item that is not stale, a page or a sector, is as the last record that names it says.
+-- A page or sector that is not stale has the content that the last record that names it gives.
 abbrev pub FreshIsLast : Type 0
 FreshIsLast = (m : MachineState) (h : History) (i : ℕ) → AllAllowed m h → i < size_of (layout_of m) → is_stale (layout_of m) h i ≡ false
     → last_named (item_at (layout_of m) i) (entries m h) ≡ Some (record_of (machine_after m h) (item_at (layout_of m) i))
 
--- Some sending of the item is free of later touches of it.
+-- The item was sent, and was not written since it was last sent.
 abbrev pub IsFresh : Layout → History → ℕ → Type 0
 IsFresh l nothing i = ⊥
 IsFresh l (then_came h e reply f) i = (sends l (is_stale l h) e reply i ≡ true) ⊎ (IsFresh l h i × (touches l e reply f i ≡ false))
 
--- An item is stale exactly where no sending of it is free of later touches of it.
+-- An item is not stale exactly where it was sent, and was not written since it was last sent.
 abbrev pub StaleIsNotFresh : Type 0
 StaleIsNotFresh = (l : Layout) (h : History) (i : ℕ) → (is_stale l h i ≡ false → IsFresh l h i) × (IsFresh l h i → is_stale l h i ≡ false)
 
@@ -34,7 +34,7 @@ StoppedIsStream = (m : MachineState) (h : History) → AllAllowed m h → IsSoun
 abbrev pub AfterIsRun : Type 0
 AfterIsRun = (m : MachineState) (h : History) → AllAllowed m h → IsRun m (guest_events h) (map outcome_of (guest_replies h)) (guest_replies h) (machine_after m h)
 
--- Events and replies settle all of a history: there is one at most for a list of them.
+-- Events and replies determine the history: there is at most one for given lists of them.
 abbrev pub OneHistory : Type 0
 OneHistory = (m : MachineState) (events : List LiveEvent) (replies : List LiveReply) (fs gs : List Effect) → length fs ≡ length gs → AllAllowed m (onward nothing events replies fs) → AllAllowed m (onward nothing events replies gs)
     → onward nothing events replies fs ≡ onward nothing events replies gs

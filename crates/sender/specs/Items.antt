@@ -6,12 +6,12 @@ use Rattle.wire.specs.Header.{header}
 use Rattle.wire.specs.Records.{Record}
 use Rattle.wire.specs.Stream.{record_of, records_below, shapes_in, texts}
 
--- The records of so many items, from that of a number on.
+-- The records of n items, from the item with number `first` on.
 unfoldable pub records_from : MachineState → ℕ → ℕ → List Record
 records_from m first zero = []
 records_from m first (suc n) = records_from m first n ++ record_of m (item_at (layout_of m) (first + n)) ∷ []
 
--- The number of the first sector of a device's disk, and how many sectors the disks of so many devices have.
+-- The number of the first sector of a device's disk, and how many sectors the disks of the first `dev` devices have.
 abbrev pub first_sector : MachineState → ℕ → ℕ
 first_sector m dev = size_from (pages_of m) (take dev (map length m.disks))
 

@@ -1,4 +1,4 @@
--- What contracts see of a machine that is sent.
+-- The state of a machine that is being migrated, as contracts see it.
 use Rattle.std.specs.Prelude.{ℕ, zero, suc, ◌+◌, ◌++◌, ◌==◌, ◌&&◌, not, if◌then◌else◌, nat_lt, List, [], ◌∷◌, map, Bool, Option, Some, None}
 use Rattle.sha2.specs.declared.Sha256.{Sha256}
 use Rattle.sha2.specs.Sha256.{sha256}
@@ -19,8 +19,8 @@ use Rattle.sender.specs.declared.phase.Phase.TheVariants as phases
 use Rattle.sender.specs.declared.mig_error.MigError.{MigError}
 use Rattle.sender.specs.declared.mig_error.MigError.TheVariants.{AlreadyBegun, AlreadyStopped, NotBegun, RoundsEnded, StreamFailed}
 
--- The machine, how far its migration has come, the items that are due and those that are dirty, the digest of what was
--- written, and the writer.
+-- The machine, the phase of its migration, the items that are due and those that are dirty, the digest of what was written,
+-- and the writer.
 pub record LiveSeen : Type 0 where
   pub machine : Seen
   pub phase : Phase
@@ -69,7 +69,7 @@ abbrev pub item_of : Item → items.Item
 item_of (Page n) = items.page n
 item_of (Sector dev n) = items.sector dev n
 
--- The record of the item of a number, and those of more of them, as the machine has them.
+-- The record of the item with this number, and the records of several, with their content in the machine.
 abbrev pub record_at : MachineState → ℕ → Record
 record_at m i = record_of m (item_at (layout_of m) i)
 

@@ -1,4 +1,4 @@
--- What a list of live events leaves.
+-- The machine and the writer after a list of live events.
 use Rattle.std.specs.Prelude.{◌≡◌, ◌++◌, ◌⊎◌, List, [], ◌∷◌, length, true, false, IsTrue}
 use Rattle.machine.specs.Applied.{FailsOnlyUnsteady}
 use Rattle.machine.specs.Effect.{Effect}
@@ -17,9 +17,9 @@ use Rattle.sender.specs.declared.event.LiveReply.TheVariants as r
 use Rattle.sender.specs.declared.mig_error.MigError.{MigError}
 use Rattle.sender.specs.declared.mig_error.MigError.TheVariants as errors
 
--- What a history leaves of a machine and of a writer: the machine after it, every reply one that may come, the writer's count
--- of failures, which rose where a reply tells so, and the text of the history, which is a stream of the machine once a stop
--- answered Ok, after which the writer was flushed.
+-- The machine and the writer after a history: the machine is the one after it, every reply is allowed, and the writer's count
+-- of failures rose if a reply says that the writer failed. If none does and the writer was honest, it holds the text of the
+-- history after what it held. Once a stop answered Ok this text is a stream of the machine, and the writer was flushed.
 pub record Leaves (m : MachineState) (h : History) (old : SinkState) (last : MachineState) (new : SinkState) : Type 0 where
   pub machine : last ≡ machine_after m h
   pub allowed : AllAllowed m h
@@ -28,7 +28,7 @@ pub record Leaves (m : MachineState) (h : History) (old : SinkState) (last : Mac
   pub stream : phase_of h ≡ phases.Stopped → (has_fault h ≡ false) × IsStream (text m h) last
   pub flushed : phase_of h ≡ phases.Stopped → new.is_flushed ≡ true
 
--- These events were answered so, and each changed in the machine what its step says: there is an effect for each reply.
+-- These events got these replies, and for each reply there is an effect: what the event changed in the machine.
 pub record Ran (m : MachineState) (events : List LiveEvent) (replies : List LiveReply) (old : SinkState) (last : MachineState) (new : SinkState) : Type 0 where
   pub effects : List Effect
   pub as_many : length effects ≡ length replies
@@ -38,8 +38,8 @@ pub record Ran (m : MachineState) (events : List LiveEvent) (replies : List Live
 abbrev pub AllOrNone : List LiveEvent → List LiveReply → Type 0
 AllOrNone events replies = (length replies ≡ length events) ⊎ (replies ≡ [])
 
--- A reply that tells of a failed disk, be it of a guest's step or of a sector that was to be sent, names a device whose disk
--- is not steady.
+-- A reply that reports a failed disk, in a step of the guest or for a sector that was to be sent, names a device whose disk is
+-- not steady.
 abbrev pub GuestNames : List Marks → LiveEvent → Reply → Type 0
 GuestNames marks (Guest e) reply = FailsOnlyUnsteady marks e reply
 GuestNames marks _ reply = Unit {0}

@@ -1,4 +1,4 @@
--- What sending parts of a machine answers, and what it leaves.
+-- The results of sending parts of a machine, and the state after it.
 use Rattle.std.specs.Prelude.{◌≡◌, ℕ, ◌+◌, ◌%◌, ◌^◌, ◌++◌, List, Bool, true, false, IsTrue, Result, Ok, Err, IfErr, OnOk, if◌then◌else◌}
 use Rattle.guestmem.specs.Item as items
 use Rattle.machine.specs.Applied.{IsGood}
@@ -8,7 +8,7 @@ use Rattle.sender.specs.declared.mig_error.MigError.{MigError}
 use Rattle.sender.specs.declared.mig_error.MigError.TheVariants.{AlreadyBegun, AlreadyStopped, DiskFailed, NotBegun, RoundsEnded, StreamFailed}
 use Rattle.wire.specs.Sinks.{SinkState, Takes}
 
--- The number that stands for the reason why a machine is not sent.
+-- The number of the reason why a machine is not sent.
 abbrev pub mig_code_of : MigError → ℕ
 mig_code_of NotBegun = 1
 mig_code_of AlreadyBegun = 2
@@ -29,13 +29,14 @@ marks_after marks (Ok x) = marks
 marks_after marks (Err (DiskFailed dev sector)) = failed_at marks dev
 marks_after marks (Err e) = marks
 
--- A failed disk is named with a sector that it has and that is not bad, and is not steady. Nothing else fails but the writer.
+-- The only errors are a failed disk and a failed writer. A failed disk is not steady, and the sector named with it is one that
+-- it has and that is not bad.
 abbrev pub IsNamed : Seen → MigError → Type 0
 IsNamed s (DiskFailed dev n) = ((marks_at (all_marks s) dev).steady ≡ false) × IsGood (sector_on (sectors_on (state_of s) dev) n)
 IsNamed s StreamFailed = Unit {0}
 IsNamed s e = ⊥
 
--- A disk that failed as an item was read is named with this item, and nothing was written then.
+-- If a disk failed as an item was read, the error names this item, and nothing was written.
 pub record IsUnwritten {T : Type 0} (i : items.Item) (dev n : ℕ) (out new_out : SinkState) (tally new_tally : T) : Type 0 where
   pub names : items.sector dev n ≡ i
   pub out_stays : new_out ≡ out
@@ -45,9 +46,9 @@ abbrev pub NamesItem : {T : Type 0} → items.Item → MigError → SinkState �
 NamesItem i (DiskFailed dev n) out new_out tally new_tally = IsUnwritten i dev n out new_out tally new_tally
 NamesItem i e out new_out tally new_tally = Unit {0}
 
--- A call that adds these bytes to a sink, and may read sectors for them. The machine is the same. The writer's count of
--- failures rises exactly where the writer is said to have failed, and a disk's exactly where this disk is said to have. What
--- was added are these bytes where the disks and the sink are honest.
+-- A call that adds these bytes to a sink, and may read sectors for them. The machine is unchanged. The writer's count of
+-- failures rises exactly where the result says that the writer failed, and a disk's exactly where it says that this disk
+-- failed. On success, exactly these bytes were added if the disks and the sink are honest.
 pub record Sends {A : Type 0} (old : Seen) (out : SinkState) (bytes : List ℕ) (result : Result A MigError) (new : Seen) (new_out : SinkState) : Type 0 where
   pub memory : new.memory ≡ old.memory
   pub state : state_of new ≡ state_of old
@@ -56,6 +57,6 @@ pub record Sends {A : Type 0} (old : Seen) (out : SinkState) (bytes : List ℕ) 
   pub count : new_out.failures ≡ (if has_writer_failed result then (out.failures + 1) % 2 ^ 64 else out.failures)
   pub holds : OnOk result (AreHonest old → IsTrue out.honest → IsTrue new_out.honest × (new_out.held ≡ out.held ++ bytes))
 
--- The same, where what is kept of the bytes goes on meanwhile.
+-- As above, for what is kept of the bytes, such as their digest: on success, if the disks are honest, it took these bytes too.
 abbrev pub TakesOn : {A : Type 0} → Seen → (List ℕ → Type 0) → List ℕ → Result A MigError → (List ℕ → Type 0) → Type 0
 TakesOn old has_taken bytes result has_taken_now = OnOk result (AreHonest old → Takes has_taken bytes has_taken_now)

@@ -15,19 +15,19 @@ use Rattle.sender.specs.declared.mig_error.MigError.TheVariants as errors
 use Rattle.sender.specs.declared.phase.Phase.{Phase}
 use Rattle.sender.specs.declared.phase.Phase.TheVariants as phases
 
--- The round's number is one that a record can tell.
+-- The round's number is one that a record can encode.
 abbrev pub RoundFits : Phase → Type 0
 RoundFits (phases.Open round) = round ≤ last_round
 RoundFits _ = Unit {0}
 
--- The sets have a place for each item, and the log finds it.
+-- The sets have an entry for each item, and the log finds it.
 pub record HasRoom (machine : Seen) (due dirty : List Bool) (firsts : List ℕ) : Type 0 where
   pub due_size : length due ≡ size_of (layout_of (state_of machine))
   pub dirty_size : length dirty ≡ size_of (layout_of (state_of machine))
   pub firsts_are : firsts ≡ firsts_of (layout_of (state_of machine))
 
--- The machine is sound, the sets have a place for each item, of which there are fewer than a count can tell, and no item
--- below a number is due, from which on the next one is looked for.
+-- The machine is sound, the sets have an entry for each item, and there are fewer than 2^64 items. No item below `at` is due:
+-- the search for the next one starts there.
 pub record IsLive (machine : Seen) (phase : Phase) (due dirty : List Bool) (firsts : List ℕ) (at : ℕ) : Type 0 where
   pub sound : IsSound (state_of machine)
   pub few : length due < 2 ^ 64
@@ -36,19 +36,19 @@ pub record IsLive (machine : Seen) (phase : Phase) (due dirty : List Bool) (firs
   pub reached : at ≤ length due
   pub passed : (k : ℕ) → k < at → has due k ≡ false
 
--- The machine is sound, and the sets have a place for each item, of which there are fewer than a count can tell.
+-- The machine is sound, the sets have an entry for each item, and there are fewer than 2^64 items.
 pub record HasPlaces (s : LiveSeen) : Type 0 where
   pub sound : IsSound (now s)
   pub few : length s.due < 2 ^ 64
   pub due_size : length s.due ≡ size_of (layout_of (now s))
   pub dirty_size : length s.dirty ≡ size_of (layout_of (now s))
 
--- The phase after a sending that failed so.
+-- The phase after sending an item failed with this error.
 abbrev pub phase_after : Phase → MigError → Phase
 phase_after p errors.StreamFailed = phases.Failed
 phase_after p e = p
 
--- A sending of one item, by its result.
+-- Sending one item, by its result.
 pub record SendsOk (old : LiveSeen) (i : ℕ) (item : Item) (new : LiveSeen) : Type 0 where
   pub item_is : item_of item ≡ item_at (layout_of (now old)) i
   pub sent : IsSent old i new

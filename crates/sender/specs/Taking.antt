@@ -1,4 +1,4 @@
--- Bytes that are taken out of the writer between two calls, by another writer in its place.
+-- Bytes that are taken out of the writer between two calls: another writer is put in its place.
 use Rattle.std.specs.Prelude.{◌≡◌, ◌++◌, List, ℕ, IsTrue}
 use Rattle.machine.specs.Sound.{IsSound}
 use Rattle.machine.specs.State.{MachineState}
@@ -14,15 +14,15 @@ use Rattle.sender.specs.declared.event.LiveEvent.{LiveEvent}
 use Rattle.sender.specs.declared.event.LiveReply.{LiveReply}
 use Rattle.sender.specs.declared.phase.Phase.TheVariants as phases
 
--- The machine as if what was taken still stood in front of what the writer holds.
+-- The machine as if the writer still held what was taken, before what it holds now.
 abbrev pub untaken : List ℕ → LiveSeen → LiveSeen
 untaken taken s = record s { out = record s.out { held = taken ++ s.out.held } }
 
--- No call looks at what the writer holds: each does the same, whatever was taken before.
+-- No call depends on what the writer holds: each does the same, whatever was taken before.
 abbrev pub CallsIgnoreTaken : Type 0
 CallsIgnoreTaken = (taken : List ℕ) (old new : LiveSeen) (e : LiveEvent) (reply : LiveReply) → Serves old e reply new → Serves (untaken taken old) e reply (untaken taken new)
 
--- So the history goes on as if nothing had been taken.
+-- So the history continues as if nothing had been taken.
 pub record TakenGoesOn (m : MachineState) (h : History) (out : SinkState) (taken : List ℕ) (e : LiveEvent) (reply : LiveReply) (new : LiveSeen) : Type 0 where
   pub effect : Effect
   pub relates : Relates m (then_came h e reply effect) out (untaken taken new)
@@ -31,8 +31,8 @@ abbrev pub TakenFollow : Type 0
 TakenFollow = (m : MachineState) (h : History) (out : SinkState) (taken : List ℕ) (e : LiveEvent) (reply : LiveReply) (old new : LiveSeen) → Relates m h out (untaken taken old) → HasPlaces old → Serves old e reply new
     → TakenGoesOn m h out taken e reply new
 
--- What was written, of which some was taken, once a stop answered Ok: behind what the writer held before stands a stream of
--- the machine.
+-- Once a stop answered Ok: if the writer was honest, what was taken and what the writer holds are together what it held
+-- before, followed by a stream of the machine.
 pub record IsWhole (out : SinkState) (taken : List ℕ) (s : LiveSeen) : Type 0 where
   pub stream : List ℕ
   pub is_stream : IsStream stream (now s)

@@ -1,4 +1,4 @@
--- What the definitions of a trace settle: each text is read in one way.
+-- What follows from the definitions of a trace: each text is read in one way.
 use Rattle.std.specs.Prelude.{◌≡◌, ℕ, List}
 use Rattle.machine.specs.declared.event.Event.{Event}
 use Rattle.traces.specs.declared.trace.TraceError.TheVariants.{Line}

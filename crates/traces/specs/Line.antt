@@ -102,7 +102,7 @@ resize_line dev cols rows = do
   rows ← u16_field rows
   Some (Act (Guest (Resize dev cols rows)))
 
--- Each line has its number of words, and among those of one number the first word tells it.
+-- The number of words and the first word say which kind of line it is.
 abbrev pub one_word : List ℕ → Option Line
 one_word verb =
     if bytes_eq verb (codes "console") then Some (Device Console)
@@ -153,6 +153,6 @@ abbrev pub is_skipped : List ℕ → Bool
 is_skipped [] = true
 is_skipped (c ∷ cs) = c == 35
 
--- What a line says, or nothing where it is no line of a trace. One space parts two words.
+-- What a line says, or nothing where it is no line of a trace. One space separates two words.
 unfoldable pub line_says : List ℕ → Option Line
 line_says line = if is_skipped line then Some Skip else words_say (slice_split is_space line)

@@ -10,7 +10,7 @@ abbrev pub onto_first : ℕ → List (List ℕ) → List (List ℕ)
 onto_first c [] = (c ∷ []) ∷ []
 onto_first c (line ∷ lines) = (c ∷ line) ∷ lines
 
--- Each line of a text, without its LF, which the last may lack. What stands after the last LF is no line where it is empty.
+-- Each line of a text, without its LF, which the last may lack. If nothing follows the last LF, there is no line after it.
 unfoldable pub lines_of : List ℕ → List (List ℕ)
 lines_of [] = []
 lines_of (c ∷ text) = if is_newline c then [] ∷ lines_of text else onto_first c (lines_of text)

@@ -1,4 +1,4 @@
--- Numbers and bytes, as a word of a line spells them.
+-- Numbers and bytes, as a word of a line encodes them.
 use Rattle.std.specs.Prelude.{ℕ, ◌+◌, ◌*◌, ◌-◌, nat_le, nat_lt, Bool, true, false, ◌&&◌, ◌==◌, drop, if◌then◌else◌, List, [], ◌∷◌, length, codes, Option, Some, None, Result, Ok, Err}
 use Rattle.hex.specs.Hex.{hex_digit_value, decode_of, decode_sized}
 
@@ -12,12 +12,12 @@ None >>= f = None
 abbrev pub decimal_digit_value : ℕ → Option ℕ
 decimal_digit_value c = if nat_le 48 c && nat_le c 57 then Some (c - 48) else None
 
--- the number whose digits, the greatest first, are those of `high` and then these
+-- the number whose digits, the most significant first, are those of `high` and then these
 unfoldable pub digits_after : (ℕ → Option ℕ) → ℕ → ℕ → List ℕ → Option ℕ
 digits_after digit base high [] = Some high
 digits_after digit base high (c ∷ cs) = digit c >>= λ d. digits_after digit base (base * high + d) cs
 
--- the number that `least` to `most` digits spell, the greatest first
+-- the number that `least` to `most` digits encode, the most significant first
 abbrev pub spelled : (ℕ → Option ℕ) → ℕ → ℕ → ℕ → List ℕ → Option ℕ
 spelled digit base least most word =
     if nat_le least (length word) && nat_le (length word) most then digits_after digit base 0 word else None
@@ -47,6 +47,6 @@ bytes_of [] = None
 bytes_of (c ∷ []) = if c == 45 then Some [] else None
 bytes_of (c ∷ d ∷ cs) = ok_of (decode_of (c ∷ d ∷ cs))
 
--- So many bytes and no others, each by two hexadecimal digits of either case.
+-- Exactly `count` bytes, each as two hexadecimal digits of either case.
 abbrev pub sized_bytes_of : ℕ → List ℕ → Option (List ℕ)
 sized_bytes_of count word = ok_of (decode_sized word count)

@@ -35,7 +35,7 @@ abbrev pub has_pages : Option ℕ → Bool
 has_pages None = false
 has_pages (Some _) = true
 
--- with one line more, where that may stand there
+-- with one more line, where it is allowed there
 abbrev pub with_line : Said → Line → Option Said
 with_line said Skip = Some said
 with_line said (Ram pages) = with_ram said pages said.pages
@@ -48,12 +48,12 @@ with_line said (Act event) =
 abbrev pub after_line : Said → List ℕ → Option Said
 after_line said line = line_says line >>= with_line said
 
--- after each of the lines, where each may stand
+-- after each of the lines, where each is allowed
 unfoldable pub after_lines : Said → List (List ℕ) → Option Said
 after_lines said [] = Some said
 after_lines said (line ∷ lines) = after_line said line >>= λ more. after_lines more lines
 
--- The events with one line more, where it may stand among events alone.
+-- The events with one more line, where it is allowed among events alone.
 abbrev pub with_event : List Event → Line → Option (List Event)
 with_event events Skip = Some events
 with_event events (Act (Guest event)) = Some (events ++ event ∷ [])

@@ -16,7 +16,7 @@ use Rattle.sender.specs.declared.event.LiveReply.TheVariants.{Guest, Begun, Copi
 abbrev pub newline : List ℕ
 newline = 10 ∷ []
 
--- `0x` and eight digits, the greatest first
+-- `0x` and eight digits, the most significant first
 abbrev pub value_text : ℕ → List ℕ
 value_text n = codes "0x" ++ encode_lower (to_be_bytes w32 n)
 
@@ -53,7 +53,7 @@ abbrev pub copied_line : Item → List ℕ
 copied_line (Page n) = codes "copied page " ++ decimal n ++ newline
 copied_line (Sector dev n) = pair_line (codes "copied sector ") dev n
 
--- The line of what is answered while a machine is sent.
+-- The line of a reply while a machine is being migrated.
 abbrev pub live_reply_line : LiveReply → List ℕ
 live_reply_line (Guest reply) = reply_line reply
 live_reply_line (Begun round) = codes "begun " ++ decimal round ++ newline

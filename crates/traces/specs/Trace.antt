@@ -25,7 +25,7 @@ pub record Contents : Type 0 where
 abbrev pub contents_of : trace.Trace → Contents
 contents_of t = record { pages = t.pages; shapes = t.shapes.items; events = t.events.items; begin_line = t.begin_line }
 
--- with what a line says in front, where it says something
+-- with what a line says added in front, if it says something
 abbrev pub onto : Line → List Line → List Line
 onto Skip said = said
 onto (Ram pages) said = Ram pages ∷ said
@@ -43,7 +43,7 @@ lines_say (line ∷ lines) = do
 abbrev pub is_begin : List ℕ → Bool
 is_begin line = bytes_eq line (codes "begin")
 
--- a place counted from 1, or 0 for none
+-- an index as a number counted from 1, or 0 for none
 abbrev pub number_of_place : Option ℕ → ℕ
 number_of_place None = 0
 number_of_place (Some place) = place + 1
@@ -65,19 +65,19 @@ AreSomeTrace lines = (c : Contents) × AreTrace lines c
 abbrev pub guest_line : Event → Line
 guest_line event = Act (Guest event)
 
--- Lines that are the guest's events alone, for a machine that is there. They may say nothing.
+-- Lines that are the guest's events alone, for an existing machine. There may be no event.
 abbrev pub AreEvents : List (List ℕ) → List Event → Type 0
 AreEvents lines events = lines_say lines ≡ Some (map guest_line events)
 
 abbrev pub AreSomeEvents : List (List ℕ) → Type 0
 AreSomeEvents lines = (events : List Event) × AreEvents lines events
 
--- Lines with which some good lines begin: each may stand where it stands.
+-- Lines that begin some good lines: each is allowed where it is.
 pub record AreBeginning (AreGood : List (List ℕ) → Type 0) (lines : List (List ℕ)) : Type 0 where
   pub others : List (List ℕ)
   pub good : AreGood (lines ++ others)
 
--- Of the lines, counted from 1, line n is the first that may not stand where it stands.
+-- Of the lines, counted from 1, line n is the first that is not allowed where it is.
 pub record IsFirstBad (AreGood : List (List ℕ) → Type 0) (lines : List (List ℕ)) (n : ℕ) : Type 0 where
   pub before : ℕ
   pub number : n ≡ before + 1
@@ -85,7 +85,7 @@ pub record IsFirstBad (AreGood : List (List ℕ) → Type 0) (lines : List (List
   pub good : AreBeginning AreGood (take before lines)
   pub bad : AreBeginning AreGood (take n lines) → ⊥
 
--- Each line may stand where it stands, and line n, which would come after the last one, is missing.
+-- Each line is allowed where it is, and line n, which would follow the last one, is missing.
 pub record IsMissing (lines : List (List ℕ)) (n : ℕ) : Type 0 where
   pub number : n ≡ length lines + 1
   pub good : AreBeginning AreSomeTrace lines
@@ -95,7 +95,7 @@ pub record IsMissing (lines : List (List ℕ)) (n : ℕ) : Type 0 where
 abbrev pub IsTrace : List ℕ → Contents → Type 0
 IsTrace text c = AreTrace (lines_of text) c
 
--- What a refusal of a text means; want of memory says nothing of it.
+-- What a refusal of a text means. Out of memory says nothing of the text.
 abbrev pub Refuses : List ℕ → TraceError → Type 0
 Refuses text error.NoMemory = Unit {0}
 Refuses text (error.Line n) = IsFirstBad AreSomeTrace (lines_of text) n ⊎ IsMissing (lines_of text) n

@@ -1,4 +1,4 @@
--- What `check` does: a stream is received over disks in memory, and one line says of what machine it is.
+-- What `check` does: a stream is received over disks in memory, and one line says what machine it is of.
 use Rattle.std.specs.Prelude.{◌≡◌, ◌⊎◌, ◌/◌, ℕ, List, [], length, map, replicate}
 use Rattle.guestmem.specs.declared.limits.TheConstants.{PAGE_SIZE}
 use Rattle.machine.specs.Shapes.{disk_sizes}
@@ -12,7 +12,7 @@ use Rattle.vmig.specs.Faults.{stream_fault}
 use Rattle.vmig.specs.declared.fault.Fault.{Fault}
 use Rattle.vmig.specs.declared.fault.Fault.TheVariants.{NoMemory}
 
--- Disks of zeros for devices of these shapes, as many as have one.
+-- Disks of zeros, one for each of these devices that has a disk.
 abbrev pub zero_disks : List Shape → List (List (List ℕ))
 zero_disks shapes = map (λ size. replicate size (replicate 512 0)) (disk_sizes shapes)
 
@@ -40,8 +40,8 @@ pub record TellsNone (bytes sizes : List ℕ) : Type 0 where
 abbrev pub AreSizesOf : List ℕ → List ℕ → Type 0
 AreSizesOf bytes sizes = TellsSizes bytes sizes ⊎ TellsNone bytes sizes
 
--- What a fault says of bytes: for a machine with disks as the header tells them, none of which ever fails, the first fault
--- stands in them that its number tells, or they are a stream that is not whole; or memory was refused.
+-- What a fault says of bytes, for a machine whose disks have the sizes that the header gives and never fail: its number names
+-- the first fault in the bytes, or they are an incomplete stream; or memory was refused.
 pub record TellsOfBytes (bytes : List ℕ) (fault : Fault) : Type 0 where
   pub sizes : List ℕ
   pub fit : AreSizesOf bytes sizes

@@ -1,4 +1,4 @@
--- The lines of the program, as clap knows them. Only private contracts name these.
+-- The command lines of the program, as clap knows them. Only private contracts name these.
 use Rattle.std.specs.Prelude.{ℕ, true, List, codes, Some}
 use Rattle.clap.specs.Words.{App, Rule, new_app, new_rule, with_rule}
 use Rattle.clap.specs.declared.builder.ArgAction.TheVariants.{Set}

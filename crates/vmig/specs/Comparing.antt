@@ -1,5 +1,5 @@
--- What `rehearse` does: the machine of a trace is moved on the way, over disks of zeros in memory, and compared with the one that
--- arrived. It writes the lines of the replies of the machine that is moved, and then what came of it.
+-- What `rehearse` does: the machine of a trace is migrated while the trace is played, over disks of zeros in memory, and
+-- compared with the one that arrived. It writes the lines of the replies of the machine that is migrated, and then the result.
 use Rattle.std.specs.Prelude.{◌≡◌, ◌⊎◌, ℕ, List, [], ◌++◌, codes, flat_map, map, All, IsTrue, Option, Some, None, MatchOption}
 use Rattle.machine.specs.First.{first_machine, new_refusal}
 use Rattle.machine.specs.Lines.{lines_of}
@@ -34,19 +34,19 @@ pub record IsFresh (c : Contents) (machine : Seen) : Type 0 where
   pub state : state_of machine ≡ first_machine c.pages c.shapes (map (λ d. map Some d) (zero_disks c.shapes))
   pub steady : AreSteady (all_marks machine)
 
--- Two machines have the same lines, RAM and sectors.
+-- Two machines have the same interrupt lines, RAM and sectors.
 pub record LookAlike (a b : MachineState) : Type 0 where
   pub lines : lines_of a.devices ≡ lines_of b.devices
   pub ram : a.ram ≡ b.ram
   pub disks : a.disks ≡ b.disks
 
--- The machine arrived, and both machines played what remained and answered so.
+-- The machine arrived, and both machines played the remaining events and gave these replies.
 pub record HasMoved (machine : Seen) (c : Contents) (replies : List LiveReply) (source arrived : Seen) (arrived_replies : List Reply) : Type 0 where
   pub marks : List Marks
   pub steady : AreSteady marks
   pub arrival : IsArrival machine c.events (disk_sizes c.shapes) marks source arrived replies arrived_replies
 
--- They answered alike, and look alike.
+-- They gave the same replies, and have the same interrupt lines, RAM and sectors.
 pub record AreEqual (machine : Seen) (c : Contents) (replies : List LiveReply) : Type 0 where
   pub source : Seen
   pub arrived : Seen
@@ -68,7 +68,7 @@ pub record IsUnmoved (machine : Seen) (c : Contents) (replies : List LiveReply) 
   pub source : Seen
   pub not_stopped : IsNotStopped machine c.events source replies
 
--- The stream was refused, which over such disks comes for want of memory alone.
+-- The stream was refused. Over such disks the only reason is that memory was refused.
 pub record IsLost (machine : Seen) (c : Contents) (replies : List LiveReply) (error : RecvError) : Type 0 where
   pub source : Seen
   pub marks : List Marks
@@ -76,7 +76,7 @@ pub record IsLost (machine : Seen) (c : Contents) (replies : List LiveReply) (er
   pub refused : IsRefused machine c.events (disk_sizes c.shapes) marks source replies error
   pub memory : error ≡ recv_error.NoMemory
 
--- What came of the machine.
+-- The result of the rehearsal.
 abbrev pub IsVerdict : Seen → Contents → List LiveReply → Verdict → Type 0
 IsVerdict machine c replies Equal = AreEqual machine c replies
 IsVerdict machine c replies Differ = DoDiffer machine c replies
@@ -99,14 +99,14 @@ verdict_line Differ = codes "differ" ++ newline
 verdict_line NoStop = codes "no stop" ++ newline
 verdict_line (Refused error) = []
 
--- What is told behind it: nothing where the machines are equal.
+-- The fault that is reported after it: none if the machines are equal.
 abbrev pub ending_of : Verdict → Option Fault
 ending_of Equal = None
 ending_of Differ = Some NotEqual
 ending_of NoStop = Some NotEqual
 ending_of (Refused error) = Some (stream_fault error)
 
--- The text is a trace, and these are the lines of the replies of its machine, in order, and of what came of it.
+-- The text is a trace, and these are the lines of the replies of its machine, in order, and of the result.
 pub record AreRehearsedLines (text : List ℕ) (ending : Option Fault) (lines : List ℕ) : Type 0 where
   pub contents : Contents
   pub trace : IsTrace text contents

@@ -17,7 +17,7 @@ use Rattle.vmig.specs.declared.fault.Fault.TheVariants.{NoMemory, Usage, File, L
 use Rattle.vmig.specs.declared.words.WordsError.{WordsError}
 use Rattle.vmig.specs.declared.words.WordsError.TheVariants as words_error
 
--- Each refusal has its fault. Want of memory is one fault, whoever met it.
+-- Each refusal has its fault. Out of memory is one fault, wherever it occurs.
 abbrev pub words_fault : WordsError → Fault
 words_fault words_error.Usage = Usage
 words_fault words_error.NoMemory = NoMemory
@@ -38,7 +38,7 @@ abbrev pub stream_fault : RecvError → Fault
 stream_fault recv_error.NoMemory = NoMemory
 stream_fault refusal = Stream (recv_code_of refusal)
 
--- The exit status where the program did not go through; else it is 0.
+-- The exit status if the program failed; otherwise it is 0.
 abbrev pub status_of : Fault → ℕ
 status_of NoMemory = 1
 status_of Usage = 2
@@ -49,7 +49,7 @@ status_of (Stream refusal) = 5
 status_of StreamOut = 5
 status_of NotEqual = 5
 
--- The line on standard error; there is none where standard output tells it. Numbers are decimal, without leading zeros.
+-- The line on standard error; there is none where standard output has said it. Numbers are decimal, without leading zeros.
 abbrev pub fault_line : Fault → List ℕ
 fault_line NoMemory = codes "vmig: memory" ++ newline
 fault_line Usage = codes "vmig: usage" ++ newline
@@ -66,7 +66,7 @@ TellsOfFile named NoMemory = Unit {0}
 TellsOfFile named (File name) = name.now ≡ named
 TellsOfFile named _ = ⊥
 
--- standard output failed, which is told as a file of the name `-`
+-- standard output failed, which is reported as a file of the name `-`
 abbrev pub TellsOfOutput : Fault → Type 0
 TellsOfOutput (File name) = name.now ≡ codes "-"
 TellsOfOutput _ = ⊥

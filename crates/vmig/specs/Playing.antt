@@ -16,7 +16,7 @@ use Rattle.vmig.specs.Faults.{TellsOfFile, trace_fault, shape_fault}
 use Rattle.vmig.specs.declared.fault.Fault.{Fault}
 use Rattle.vmig.specs.declared.fault.Fault.TheVariants.{NoMemory, Line, StreamOut}
 
--- These are replies of the machine to the events, while it is sent to some writer.
+-- These are replies of the machine to the events, with some writer to which it is migrated.
 pub record ArePlayed (m : MachineState) (events : List LiveEvent) (replies : List LiveReply) : Type 0 where
   pub last : MachineState
   pub before : SinkState
@@ -27,11 +27,11 @@ pub record ArePlayed (m : MachineState) (events : List LiveEvent) (replies : Lis
 abbrev pub AreReplies : Contents → List (List Sector) → List LiveReply → Type 0
 AreReplies c disks replies = ArePlayed (first_machine c.pages c.shapes disks) c.events replies
 
--- How a run ends behind its replies: where one says that the writer failed, the stream could not be written.
+-- How a run ends after its replies: if one says that the writer failed, the stream could not be written.
 abbrev pub ending_of : List LiveReply → Option Fault
 ending_of replies = if list_any is_fault replies then Some StreamOut else None
 
--- A trace that begins to send its machine needs a stream.
+-- A trace that begins to migrate its machine needs a stream.
 abbrev pub MayPlay : Option (List ℕ) → Contents → Type 0
 MayPlay None c = c.begin_line ≡ 0
 MayPlay (Some stream) c = Unit {0}
@@ -46,8 +46,8 @@ pub record AreReplyLines (stream : Option (List ℕ)) (text : List ℕ) (ending 
   pub spelled : lines ≡ flat_map live_reply_line replies
   pub ends : ending ≡ ending_of replies
 
--- The text is a trace, and these are the lines of as many replies as it has events. What the file of an image holds, and so what
--- its machine answers, no contract says.
+-- The text is a trace, and these are the lines of as many replies as it has events. No contract says what the file of an image
+-- holds, and so what its machine answers.
 pub record AreLinesOverImage (stream : Option (List ℕ)) (text : List ℕ) (ending : Option Fault) (lines : List ℕ) : Type 0 where
   pub contents : Contents
   pub trace : IsTrace text contents
@@ -57,12 +57,12 @@ pub record AreLinesOverImage (stream : Option (List ℕ)) (text : List ℕ) (end
   pub spelled : lines ≡ flat_map live_reply_line replies
   pub ends : ending ≡ ending_of replies
 
--- What is written of a text, over the image of this name or over no disk, with this stream or none.
+-- What is written for a text, over the image of this name or over no disk, with this stream or none.
 abbrev pub AreLinesOver : Option (List ℕ) → Option (List ℕ) → List ℕ → Option Fault → List ℕ → Type 0
 AreLinesOver None stream text ending lines = AreReplyLines stream text ending lines
 AreLinesOver (Some image) stream text ending lines = AreLinesOverImage stream text ending lines
 
--- What a fault says of a trace that has no stream: its first line that begins to send the machine.
+-- What a fault says of a trace that has no stream: it names the first line that begins to migrate the machine.
 abbrev pub TellsOfBegin : Option (List ℕ) → Contents → Fault → Type 0
 TellsOfBegin None c fault = (c.begin_line ≢ 0) × (fault ≡ Line c.begin_line)
 TellsOfBegin (Some stream) c fault = ⊥
@@ -77,12 +77,13 @@ abbrev pub TellsOfOut : Option (List ℕ) → Fault → Type 0
 TellsOfOut None fault = ⊥
 TellsOfOut (Some stream) fault = TellsOfFile stream fault
 
--- What a fault says of a trace that is to be played with a stream: it tells of its machine, and where there is one, of the
--- stream.
+-- What a fault says of a trace that is to be played with a stream: it is about its machine or, if there is such a machine,
+-- about the stream.
 abbrev pub TellsOfSending : Option (List ℕ) → Contents → List ℕ → Fault → Type 0
 TellsOfSending stream c sizes fault = TellsOfTrace c sizes fault ⊎ ((new_refusal c.pages c.shapes sizes ≡ None) × TellsOfOut stream fault)
 
--- What a fault says of a trace over an image: it is no image of a disk, or it is one of so many sectors.
+-- What a fault says of a trace over an image: the file is no image of a disk, or the fault is about the trace over a disk of
+-- some number of sectors.
 abbrev pub TellsOver : Option (List ℕ) → Option (List ℕ) → Contents → Fault → Type 0
 TellsOver None stream c fault = TellsOfSending stream c [] fault
 TellsOver (Some image) stream c fault = TellsOfFile image fault ⊎ ((sectors : ℕ) × TellsOfSending stream c (sectors ∷ []) fault)
@@ -91,6 +92,6 @@ TellsOver (Some image) stream c fault = TellsOfFile image fault ⊎ ((sectors : 
 abbrev pub TellsOfContents : Option (List ℕ) → Option (List ℕ) → Contents → Fault → Type 0
 TellsOfContents image stream c fault = TellsOfBegin stream c fault ⊎ (MayPlay stream c × TellsOver image stream c fault)
 
--- What a fault says of a text: it is no trace, or it tells of the trace.
+-- What a fault says of a text: it is no trace, or the fault is about the trace.
 abbrev pub TellsOfText : Option (List ℕ) → Option (List ℕ) → List ℕ → Fault → Type 0
 TellsOfText image stream text fault = ((refusal : TraceError) × RefusesText text refusal × (fault ≡ trace_fault refusal)) ⊎ ((c : Contents) × IsTrace text c × TellsOfContents image stream c fault)

@@ -1,4 +1,4 @@
--- What `resume` does: a machine arrives from a stream, and the guest's events go on.
+-- What `resume` does: a machine arrives from a stream, and the guest's events continue.
 use Rattle.std.specs.Prelude.{◌≡◌, ◌⊎◌, ℕ, List, [], ◌∷◌, length, map, flat_map, Option, Some, None}
 use Rattle.machine.specs.Outcome.{outcome_of}
 use Rattle.machine.specs.Run.{IsRun}
@@ -35,8 +35,8 @@ pub record AreResumedLines (text lines : List ℕ) : Type 0 where
   pub answered : AreResumed events replies
   pub spelled : lines ≡ flat_map reply_line replies
 
--- The text is events, and these are the lines of as many replies. What the file of an image holds, and so what the machine
--- answers, no contract says.
+-- The text is events, and these are the lines of as many replies. No contract says what the file of an image holds, and so
+-- what the machine answers.
 pub record AreLinesOverImage (text lines : List ℕ) : Type 0 where
   pub events : List Event
   pub holds : HoldsEvents text events
@@ -44,18 +44,18 @@ pub record AreLinesOverImage (text lines : List ℕ) : Type 0 where
   pub each : length replies ≡ length events
   pub spelled : lines ≡ flat_map reply_line replies
 
--- What is written of a text, over the image of this name or over no disk.
+-- What is written for a text, over the image of this name or over no disk.
 abbrev pub AreResumedOver : Option (List ℕ) → List ℕ → List ℕ → Type 0
 AreResumedOver None text lines = AreResumedLines text lines
 AreResumedOver (Some image) text lines = AreLinesOverImage text lines
 
--- What a fault says of a text of events: it is none.
+-- What a fault says of a text of events: the text is refused.
 pub record TellsOfEvents (text : List ℕ) (fault : Fault) : Type 0 where
   pub refusal : TraceError
   pub refused : RefusesEvents text refusal
   pub is : fault ≡ trace_fault refusal
 
--- What a fault says of some bytes that were received over disks of these sizes, of which this is known.
+-- What a fault says of some bytes that were received over disks of these sizes and marks: they are refused.
 pub record TellsOfPieces (sizes : List ℕ) (marks : List Marks) (fault : Fault) : Type 0 where
   pub bytes : List ℕ
   pub refusal : RecvError
@@ -66,7 +66,8 @@ pub record TellsOfPieces (sizes : List ℕ) (marks : List Marks) (fault : Fault)
 abbrev pub TellsOfArrival : List ℕ → List ℕ → List Marks → Fault → Type 0
 TellsOfArrival stream sizes marks fault = TellsOfFile stream fault ⊎ TellsOfPieces sizes marks fault
 
--- The same over an image: it is no image of a disk, or it is one of so many sectors. Without one there is no disk.
+-- As above, over an image: the file is no image of a disk, or the fault is about the stream over a disk of some number of
+-- sectors. Without an image there is no disk.
 abbrev pub TellsOfStreamOver : Option (List ℕ) → List ℕ → Fault → Type 0
 TellsOfStreamOver None stream fault = TellsOfArrival stream [] [] fault
 TellsOfStreamOver (Some image) stream fault = TellsOfFile image fault ⊎ ((sectors : ℕ) × (marks : Marks) × TellsOfArrival stream (sectors ∷ []) (marks ∷ []) fault)

@@ -1,4 +1,4 @@
--- What the program does for its words: what it writes to standard output, and why it may fail.
+-- What the program does for its command line: what it writes to standard output, and why it may fail.
 use Rattle.std.specs.Prelude.{◌≡◌, ℕ, List, Option, MatchBool}
 use Rattle.std.specs.Io.KnownBytes.{Keeps}
 use Rattle.traces.specs.Replies.{AppendsBeginning}

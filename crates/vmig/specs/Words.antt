@@ -57,17 +57,17 @@ abbrev pub is_verb_and_file : List (List ℕ) → Bool
 is_verb_and_file (verb ∷ name ∷ []) = is_name name
 is_verb_and_file _ = false
 
--- the name of the file that stands first in a line
+-- the first file that a line names
 abbrev pub named_file : List (List ℕ) → List ℕ
 named_file (verb ∷ name ∷ words) = name
 named_file _ = []
 
--- the name of the file that stands second
+-- the second file that a line names
 abbrev pub second_file : List (List ℕ) → List ℕ
 second_file (verb ∷ name ∷ second ∷ words) = second
 second_file _ = []
 
--- The word behind an option, where the option is there.
+-- The word after an option, if the option is there.
 unfoldable pub behind : List ℕ → List (List ℕ) → Option (List ℕ)
 behind option [] = None
 behind option (word ∷ words) = if bytes_eq word option then slice_get words 0 else behind option words
@@ -79,11 +79,11 @@ named_image words = behind (codes "--disk") (drop 2 words)
 abbrev pub named_stream : List (List ℕ) → Option (List ℕ)
 named_stream words = behind (codes "--out") (drop 2 words)
 
--- what a name that may be missing is
+-- the text of an optional name
 abbrev pub name_in : Option (Bor (List ℕ)) → Option (List ℕ)
 name_in = option_map (λ name. name.now)
 
--- The words are those of what is asked for.
+-- The words ask for this request.
 abbrev pub Asks : List (List ℕ) → Request → Type 0
 Asks words (Run trace image stream) = (is_run_line words ≡ true) × (trace.now ≡ named_file words) × (name_in image ≡ named_image words) × (name_in stream ≡ named_stream words)
 Asks words (Resume stream trace image) = (is_resume_line words ≡ true) × (stream.now ≡ named_file words) × (trace.now ≡ second_file words) × (name_in image ≡ named_image words)

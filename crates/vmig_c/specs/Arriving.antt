@@ -22,7 +22,7 @@ pub record HasNotFed (r : Received) (piece : List ℕ) (status : ℕ) (next : Re
 abbrev pub Feeds : Received → List ℕ → ℕ → Received → Type 0
 Feeds r piece status next = HasFed r piece status next ⊎ HasNotFed r piece status next
 
--- What is told of a machine that is there already: nothing changed.
+-- The handle has a machine already: nothing changed.
 abbrev pub IsThere : {K : Type 0} → K → ℕ → K → Type 0
 IsThere k status next = (status ≡ in_use) × (next ≡ k)
 
@@ -37,7 +37,7 @@ pub record DoesFed (k : KeptSeen) (piece : List ℕ) (status : ℕ) (after : Opt
   pub is_next : after ≡ Some (record k { state = next })
   pub does : FeedsKept k.state piece status next
 
--- A piece was fed to what lies behind a handle. Where nothing does a machine begins to arrive, if there is memory for it.
+-- A piece was fed to the contents of a handle. If the handle is empty, a machine begins to arrive, unless memory is refused.
 abbrev pub Fed : Option KeptSeen → List ℕ → ℕ → Option KeptSeen → Type 0
 Fed None piece status after = DoesFed (own (Arriving nothing_fed)) piece status after ⊎ ((status ≡ no_memory) × (after ≡ None))
 Fed (Some k) piece status after = DoesFed k piece status after
@@ -66,7 +66,7 @@ pub record DoesFinished (k : KeptSeen) (status : ℕ) (after : Option KeptSeen) 
   pub is_next : after ≡ Some (record k { state = next })
   pub does : FinishesKept k.state status next
 
--- The machine behind a handle is to be there. Where nothing was fed, nothing changed.
+-- A call to finish the arrival of the machine behind a handle. If nothing was fed, nothing changed.
 abbrev pub Finished : Option KeptSeen → ℕ → Option KeptSeen → Type 0
 Finished None status after = (status ≡ no_machine) × (after ≡ None)
 Finished (Some k) status after = DoesFinished k status after

@@ -30,14 +30,14 @@ awaited_by Failed = refused_for_good
 abbrev pub AreSteady : Received → Type 0
 AreSteady r = r.marks ≡ map (λ size. no_marks) r.sizes
 
--- The header was read, and the disks are of its sizes. No fault stands in the bytes.
+-- The header was read, and the disks are of its sizes. There is no fault in the bytes.
 pub record IsBegun (r : Received) : Type 0 where
   pub goes_on : r.failed ≡ false
   pub header : HasHeader r.bytes r.sizes
   pub quiet : NoFault r.sizes r.bytes
   pub steady : AreSteady r
 
--- A receiver over disks in memory of these sizes was fed these bytes, and no fault stands in them.
+-- A receiver over disks in memory of these sizes was fed these bytes, and there is no fault in them.
 pub record IsFedTo (sizes bytes : List ℕ) (r : Received) : Type 0 where
   pub goes_on : r.failed ≡ false
   pub sizes_are : r.sizes ≡ sizes
@@ -50,7 +50,7 @@ IsComing (Head held) = HasNoHeader held.items
 IsComing (Body r) = IsBegun r
 IsComing Failed = Unit {0}
 
--- These are all bytes that were fed, and no fault stands in them.
+-- These are all bytes that were fed, and there is no fault in them.
 pub record GoesOnWith (bytes : List ℕ) (r : Received) : Type 0 where
   pub goes_on : r.failed ≡ false
   pub bytes_are : r.bytes ≡ bytes
@@ -62,22 +62,22 @@ pub record IsFed (r : Received) (piece : List ℕ) (next : Received) : Type 0 wh
   pub went_on : r.failed ≡ false
   pub goes_on : GoesOnWith (r.bytes ++ piece) next
 
--- A fault stands in the bytes, for disks of the sizes that the header says.
+-- There is a fault in the bytes, for disks of the sizes that the header says.
 pub record IsFaulty (bytes : List ℕ) (error : RecvError) : Type 0 where
   pub sizes : List ℕ
   pub fit : AreFitting bytes sizes
   pub at : ℕ
   pub fault : Fault sizes bytes error at
 
--- Why a piece behind which these are all bytes is refused: a refusal came before, or a fault stands in the bytes, want of
--- memory aside.
+-- Why a piece is refused, where these are all bytes up to its end: a refusal came before, or memory was refused, or there is a
+-- fault in the bytes.
 abbrev pub TellsOf : Bool → List ℕ → RecvError → Type 0
 TellsOf true bytes error = error ≡ AlreadyFailed
 TellsOf false bytes NoMemory = Unit {0}
 TellsOf false bytes error = IsFaulty bytes error
 
--- Why no machine is made of all bytes: a refusal came before, or they are not yet the stream of a machine, want of memory
--- aside.
+-- Why no machine is made of all bytes: a refusal came before, or memory was refused, or they are not yet the stream of a
+-- machine.
 abbrev pub TellsEnd : Bool → List ℕ → RecvError → Type 0
 TellsEnd true bytes error = error ≡ AlreadyFailed
 TellsEnd false bytes error = IsFinish bytes error
@@ -88,12 +88,12 @@ pub record HasArrived (r : Received) (m : Seen) : Type 0 where
   pub stream : IsStream r.bytes (state_of m)
   pub plain : ArePlain m
 
--- So many rounds ended in the bytes so far.
+-- This number of rounds ended in the bytes so far; after a refusal it is 0.
 abbrev pub CountsRounds : Bool → Received → ℕ → Type 0
 CountsRounds true r n = n ≡ 0
 CountsRounds false r n = HasRounds r.sizes r.bytes n
 
--- The status of a piece, or an end, that is refused: all of them name the stream's refusal, also want of memory, since
+-- The status of a piece, or an end, that is refused: it always names the stream's refusal, also if memory was refused, since
 -- nothing is taken after it.
 abbrev pub stream_status : RecvError → ℕ
 stream_status error = 32 + recv_code_of error

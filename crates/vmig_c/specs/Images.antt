@@ -1,4 +1,4 @@
--- Disks whose sectors the caller gives, and sectors that go out.
+-- Disks whose sectors the caller gives, and sectors that are read out.
 use Rattle.std.specs.Prelude.{◌≡◌, false, ◌⊎◌, ℕ, ◌+◌, ◌*◌, ◌==◌, not, nat_lt, if◌then◌else◌, List, [], ◌∷◌, ◌++◌, All, length, map, drop, Option, Some, None, slice_get}
 use Rattle.std.specs.List.{concat, flat_map}
 use Rattle.blk.specs.Disk.{AreSectors}
@@ -27,13 +27,13 @@ sectors_in (shape ∷ shapes) = sector_count shape + sectors_in shapes
 abbrev pub image_size : List Shape → ℕ
 image_size shapes = 512 * sectors_in shapes
 
--- Disks of these sizes whose sectors, of 512 bytes each, are the images one behind another.
+-- Disks of these sizes whose sectors, of 512 bytes each, are the images, one after another.
 pub record AreImages (images sizes : List ℕ) (disks : List (List (List ℕ))) : Type 0 where
   pub sizes_are : map length disks ≡ sizes
   pub sectors : All AreSectors disks
   pub bytes : flat_map concat disks ≡ images
 
--- The first machine of these, over these disks.
+-- The new machine of these pages and devices, over these disks.
 pub record IsMadeWith (pages : ℕ) (shapes : List Shape) (images : List ℕ) (m : Seen) : Type 0 where
   pub disks : List (List (List ℕ))
   pub are : AreImages images (disk_sizes shapes) disks
@@ -54,7 +54,7 @@ pub record HasMadeWith (pages : ℕ) (shapes : List DeviceShape) (images : List 
   pub is_made : KeepsMadeWith pages (shapes_of shapes) images kept
   pub status_is : status ≡ done
 
--- Why no machine is made, want of memory aside: the images are the last of what is looked at.
+-- Why no machine is made, apart from memory being refused. The images are checked last.
 abbrev pub image_refusal : Option ℕ → List DeviceShape → ℕ → Option ℕ
 image_refusal (Some refusal) shapes bytes = Some refusal
 image_refusal None shapes bytes = if bytes == image_size (shapes_of shapes) then None else Some bad_images
@@ -63,11 +63,11 @@ abbrev pub MakesWithBy : Option ℕ → Option KeptSeen → ℕ → List DeviceS
 MakesWithBy (Some refusal) old pages shapes images status after = (status ≡ refusal) × (after ≡ old)
 MakesWithBy None old pages shapes images status after = HasMadeWith pages shapes images status after ⊎ HasNoMemory old status after
 
--- A machine was made over disks that hold the images, or it is told why not, and nothing changed.
+-- A machine was made over disks that hold the images, or the status says why not, and nothing changed.
 abbrev pub MakesWith : Option KeptSeen → ℕ → List DeviceShape → List ℕ → ℕ → Option KeptSeen → Type 0
 MakesWith old pages shapes images status after = MakesWithBy (image_refusal (make_refusal old pages shapes) shapes (length images)) old pages shapes images status after
 
--- Why a sector does not go out.
+-- Why a read of a sector is refused, if it is.
 abbrev pub disk_refusal : Option ℕ → ℕ → ℕ → Option ℕ
 disk_refusal None n room = Some (code_of WrongKind)
 disk_refusal (Some sectors) n room = if not (nat_lt n sectors) then Some no_sector else if nat_lt room 512 then Some too_small else None
@@ -81,7 +81,7 @@ sector_refusal (Moving l) dev n room = Some is_moving
 sector_refusal (Arriving r) dev n room = Some no_machine
 sector_refusal (Still m) dev n room = sector_refusal_of (slice_get (state_of m).devices dev) n room
 
--- A sector went to the front of the buffer. A bad one did not, and the buffer is as it was.
+-- A sector was copied to the front of the buffer. A bad one was not, and the buffer is unchanged.
 abbrev pub SectorTold : Option Sector → ℕ → List ℕ → List ℕ → Type 0
 SectorTold None status buf new_buf = ⊥
 SectorTold (Some None) status buf new_buf = (status ≡ bad_sector) × (new_buf ≡ buf)
@@ -113,7 +113,7 @@ pub record DoesRead (k : KeptSeen) (dev n status : ℕ) (buf new_buf : List ℕ)
   pub is_next : after ≡ Some (record k { state = next })
   pub does : ReadsKept k.state dev n status buf new_buf next
 
--- A sector of a disk of the machine behind a handle went out. Where there is none, nothing changed.
+-- A sector of a disk of the machine behind a handle was read. Where there is none, nothing changed.
 abbrev pub SectorRead : Option KeptSeen → ℕ → ℕ → ℕ → List ℕ → List ℕ → Option KeptSeen → Type 0
 SectorRead None dev n status buf new_buf after = IsUnread {K = Option KeptSeen} None no_machine status buf new_buf after
 SectorRead (Some k) dev n status buf new_buf after = DoesRead k dev n status buf new_buf after

@@ -1,4 +1,4 @@
--- What lies behind a handle, as contracts see it.
+-- The contents of a handle, as contracts see them.
 use Rattle.std.specs.Prelude.{Bool, true, false}
 use Rattle.machine.specs.Seen.{Seen}
 use Rattle.receiver.specs.Receiving.{Received}
@@ -6,7 +6,7 @@ use Rattle.sender.specs.LiveState.{LiveSeen}
 use Rattle.vmig_c.specs.declared.kept.Contents.{Contents}
 use Rattle.vmig_c.specs.declared.kept.Contents.TheVariants as contents
 
--- A machine that stands still, or one that is sent while it runs, or one that arrives.
+-- A machine that is not being migrated, one that is being migrated while it runs, or one that is arriving.
 pub data State : Type 0 where
   Still : Seen → State
   Moving : LiveSeen → State

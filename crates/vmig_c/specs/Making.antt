@@ -37,7 +37,7 @@ are_plain (s ∷ shapes) = is_plain s && are_plain shapes
 abbrev pub are_beyond_limits : ℕ → List DeviceShape → Bool
 are_beyond_limits pages shapes = pages == 0 || nat_lt PAGES_MAX pages || length shapes == 0 || nat_lt DEVICES_MAX (length shapes) || not (are_plain shapes)
 
--- Why no machine is made, want of memory aside.
+-- Why no machine is made, apart from memory being refused.
 abbrev pub make_refusal : Option KeptSeen → ℕ → List DeviceShape → Option ℕ
 make_refusal (Some m) pages shapes = Some in_use
 make_refusal None pages shapes = if are_beyond_limits pages shapes then Some bad_shape else None
@@ -46,13 +46,13 @@ make_refusal None pages shapes = if are_beyond_limits pages shapes then Some bad
 abbrev pub zero_sectors : ℕ → List Sector
 zero_sectors count = replicate count (Some (replicate 512 0))
 
--- The first machine of these, over disks of zeros.
+-- The new machine of these pages and devices, over disks of zeros.
 pub record IsMade (pages : ℕ) (shapes : List Shape) (m : Seen) : Type 0 where
   pub first : state_of m ≡ first_machine pages shapes (map zero_sectors (disk_sizes shapes))
   pub plain : ArePlain m
   pub sound : IsSound (state_of m)
 
--- It stands still, and its disks lie in memory of the library.
+-- It is not being migrated, and its disks lie in memory of the library.
 abbrev pub StandsMade : ℕ → List Shape → State → Type 0
 StandsMade pages shapes (Still m) = IsMade pages shapes m
 StandsMade pages shapes _ = ⊥
@@ -75,6 +75,6 @@ abbrev pub MakesBy : Option ℕ → Option KeptSeen → ℕ → List DeviceShape
 MakesBy (Some refusal) old pages shapes status after = (status ≡ refusal) × (after ≡ old)
 MakesBy None old pages shapes status after = HasMade pages shapes status after ⊎ HasNoMemory old status after
 
--- A machine was made, or it is told why not, and nothing changed.
+-- A machine was made, or the status says why not, and nothing changed.
 abbrev pub Makes : Option KeptSeen → ℕ → List DeviceShape → ℕ → Option KeptSeen → Type 0
 Makes old pages shapes status after = MakesBy (make_refusal old pages shapes) old pages shapes status after

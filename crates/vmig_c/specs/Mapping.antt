@@ -19,18 +19,18 @@ contents images = map (λ i. i.content) images
 abbrev pub counts : List Image → List ℕ
 counts images = map (λ i. length i.content) images
 
--- Each of so many images was replaced by one of no sectors.
+-- Each of the images was replaced by one of no sectors.
 pub record AreTaken (old new : List Image) : Type 0 where
   pub count : length new ≡ length old
   pub empty : All (λ i. i.content ≡ []) new
 
--- The first machine of these, over disks of these sectors.
+-- The new machine of these pages and devices, over disks of these sectors.
 pub record IsMapped (pages : ℕ) (shapes : List Shape) (disks : List (List (List ℕ))) (m : Seen) : Type 0 where
   pub first : state_of m ≡ first_machine pages shapes (map (map Some) disks)
   pub plain : ArePlain m
   pub sound : IsSound (state_of m)
 
--- It stands still, and its disks lie in memory of the caller.
+-- It is not being migrated, and its disks lie in memory of the caller.
 abbrev pub StandsMapped : ℕ → List Shape → List (List (List ℕ)) → State → Type 0
 StandsMapped pages shapes disks (Still m) = IsMapped pages shapes disks m
 StandsMapped pages shapes disks _ = ⊥
@@ -51,7 +51,7 @@ pub record IsUnmade (refusal : ℕ) (old : Option KeptSeen) (images new_images :
   pub same : after ≡ old
   pub images_same : new_images ≡ images
 
--- Why no machine is made, want of memory aside: the images are the last of what is looked at.
+-- Why no machine is made, apart from memory being refused. The images are checked last.
 abbrev pub mapped_refusal : Option ℕ → List DeviceShape → List Image → Option ℕ
 mapped_refusal (Some refusal) shapes images = Some refusal
 mapped_refusal None shapes images = if are_same (disk_sizes (shapes_of shapes)) (counts images) then None else Some bad_images
@@ -60,6 +60,6 @@ abbrev pub MapsBy : Option ℕ → Option KeptSeen → ℕ → List DeviceShape 
 MapsBy (Some refusal) old pages shapes images new_images status after = IsUnmade refusal old images new_images status after
 MapsBy None old pages shapes images new_images status after = HasMapped pages shapes images new_images status after ⊎ IsUnmade no_memory old images new_images status after
 
--- A machine was made over disks in the images, which were taken, or it is told why not.
+-- A machine was made over disks in the images, which were taken, or the status says why not.
 abbrev pub Maps : Option KeptSeen → ℕ → List DeviceShape → List Image → List Image → ℕ → Option KeptSeen → Type 0
 Maps old pages shapes images new_images status after = MapsBy (mapped_refusal (make_refusal old pages shapes) shapes images) old pages shapes images new_images status after

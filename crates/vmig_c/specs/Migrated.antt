@@ -17,7 +17,7 @@ use Rattle.vmig_c.specs.Status.{done, live_status, mig_status, no_machine, no_me
 use Rattle.vmig_c.specs.Told.{IsNotThere, IsServed}
 use Rattle.vmig_c.specs.Kept.{KeptSeen, State, Still, Moving, Arriving}
 
--- What a machine that stands still is told by every call of a migration but its begin: nothing changed.
+-- What every call of a migration but its begin returns for a machine that is not being migrated: nothing changed.
 abbrev pub IsNotBegun : Seen → ℕ → Seen → Type 0
 IsNotBegun m status next = (status ≡ mig_status NotBegun) × (next ≡ m)
 
@@ -40,14 +40,14 @@ pub record HasBegun (m : Seen) (status : ℕ) (l : LiveSeen) : Type 0 where
 abbrev pub IsFull : {K : Type 0} → K → ℕ → K → Type 0
 IsFull k status next = (status ≡ no_memory) × (next ≡ k)
 
--- A call of a machine that is sent, whose numbers are not told.
+-- A begin of a machine that is being migrated, whose numbers are not returned.
 pub record IsAnswered (l : LiveSeen) (status : ℕ) (next : LiveSeen) : Type 0 where
   pub reply : LiveReply
   pub places : HasPlaces l
   pub serves : Serves l events.Begin reply next
   pub status_is : status ≡ live_status reply
 
--- A machine that stands still begins to be sent. One that is sent refuses it.
+-- The migration of a machine begins. One that is being migrated already refuses it.
 abbrev pub BeginsKept : State → ℕ → State → Type 0
 BeginsKept (Still m) status (Still next) = IsFull m status next
 BeginsKept (Still m) status (Moving next) = HasBegun m status next
@@ -108,7 +108,7 @@ StopsKept (Moving l) status pages old_pages sectors old_sectors (Moving next) = 
 StopsKept (Arriving r) status pages old_pages sectors old_sectors (Arriving next) = IsNotThere r status next × (pages ≡ old_pages) × (sectors ≡ old_sectors)
 StopsKept _ status pages old_pages sectors old_sectors _ = ⊥
 
--- The machine stands still again, as it is. What was written and not taken is gone.
+-- The machine is no longer being migrated, and is otherwise as it was. What was written and not taken is gone.
 abbrev pub AbortsKept : State → ℕ → State → Type 0
 AbortsKept (Still m) status (Still next) = IsNotBegun m status next
 AbortsKept (Moving l) status (Still next) = (status ≡ done) × (next ≡ l.machine)
@@ -121,7 +121,7 @@ RemainsKept (Still m) status due old_due dirty old_dirty = (status ≡ mig_statu
 RemainsKept (Arriving r) status due old_due dirty old_dirty = (status ≡ no_machine) × (due ≡ old_due) × (dirty ≡ old_dirty)
 RemainsKept (Moving l) status due old_due dirty old_dirty = (status ≡ done) × (due ≡ count_by (λ b. b) l.due) × (dirty ≡ count_by (λ b. b) l.dirty)
 
--- The first of the bytes that wait went to the front of the buffer, as many as fit, and no longer wait. All else is the same.
+-- The first of the bytes that wait went to the front of the buffer, as many as fit, and no longer wait. All else is unchanged.
 pub record HasTaken (l : LiveSeen) (status got : ℕ) (buf new_buf : List ℕ) (next : LiveSeen) : Type 0 where
   pub status_is : status ≡ done
   pub count : got ≡ min (length buf) (length l.out.held)
@@ -139,7 +139,7 @@ pub record DoesBegun (k : KeptSeen) (status : ℕ) (after : Option KeptSeen) : T
   pub is_next : after ≡ Some (record k { state = next })
   pub does : BeginsKept k.state status next
 
--- The machine behind a handle begins to be sent. Where there is none, nothing changed; so below.
+-- The migration of the machine behind a handle begins. Where there is none, nothing changed; so below.
 abbrev pub Begun : Option KeptSeen → ℕ → Option KeptSeen → Type 0
 Begun None status after = (status ≡ no_machine) × (after ≡ None)
 Begun (Some k) status after = DoesBegun k status after
@@ -179,7 +179,7 @@ pub record DoesAborted (k : KeptSeen) (status : ℕ) (after : Option KeptSeen) :
   pub is_next : after ≡ Some (record k { state = next })
   pub does : AbortsKept k.state status next
 
--- It stands still again.
+-- Its migration is aborted.
 abbrev pub Aborted : Option KeptSeen → ℕ → Option KeptSeen → Type 0
 Aborted None status after = (status ≡ no_machine) × (after ≡ None)
 Aborted (Some k) status after = DoesAborted k status after
@@ -194,7 +194,7 @@ pub record DoesTaken (k : KeptSeen) (status got old_got : ℕ) (buf new_buf : Li
   pub is_next : after ≡ Some (record k { state = next })
   pub does : TakesKept k.state status got old_got buf new_buf next
 
--- C takes of what waits.
+-- C takes some of the bytes that wait.
 abbrev pub Taken : Option KeptSeen → ℕ → ℕ → ℕ → List ℕ → List ℕ → Option KeptSeen → Type 0
 Taken None status got old_got buf new_buf after = (status ≡ no_machine) × (got ≡ old_got) × (new_buf ≡ buf) × (after ≡ None)
 Taken (Some k) status got old_got buf new_buf after = DoesTaken k status got old_got buf new_buf after

@@ -1,5 +1,5 @@
--- A caller who keeps the guest's RAM in memory of its own, and mirrors it into the machine: whole pages are handed in and
--- out, and a list of the caller's notes the version at which it had each page.
+-- A caller who keeps the guest's RAM in memory of its own, and mirrors it into the machine: whole pages are handed in and out,
+-- and a list of the caller holds the version at which it had each page.
 use Rattle.std.specs.Prelude.{◌≡◌, ℕ, ◌*◌, ◌-◌, ◌^◌, ◌<◌, ◌≤◌, ◌==◌, ◌&&◌, ◌||◌, ◌++◌, not, nat_lt, if◌then◌else◌, Bool, true, false, List, [], ◌∷◌, Option, Some, None, length, take, drop, slice_index, slice_set}
 use Rattle.guestmem.specs.declared.limits.TheConstants.{PAGE_SIZE}
 use Rattle.guestmem.specs.Memory.{IsMemory, Memory}
@@ -19,13 +19,13 @@ use Rattle.vmig_c.specs.Status.{done, mig_status, no_machine, too_small}
 use Rattle.vmig_c.specs.Told.{TellsSo}
 use Rattle.vmig_c.specs.Kept.{KeptSeen, State, Still, Moving, Arriving}
 
--- What arrives is no machine yet.
+-- A machine that is arriving is none yet.
 abbrev pub is_coming : State → Bool
 is_coming (Still m) = false
 is_coming (Moving l) = false
 is_coming (Arriving r) = true
 
--- The machine behind a handle, be it sent or not; of one that arrives, nothing.
+-- The machine behind a handle, whether it is being migrated or not; for one that is arriving, an empty one.
 abbrev pub machine_in : State → Seen
 machine_in (Still m) = m
 machine_in (Moving l) = l.machine
@@ -34,16 +34,16 @@ machine_in (Arriving r) = record { memory = record { bytes = []; versions = [] }
 abbrev pub memory_in : State → Memory
 memory_in k = (machine_in k).memory
 
--- The greatest number of 64 bits: the caller notes it of a page that it has not seen, and the count of versions stands still
--- there.
+-- The greatest 64-bit number: the caller notes it for a page that it has not seen, and a page's version stays there once it
+-- has reached it.
 abbrev pub unseen : ℕ
 unseen = 2 ^ 64 - 1
 
--- The caller has less room than RAM has bytes, or than there are pages.
+-- The caller has room for fewer bytes than RAM has, or for fewer versions than there are pages.
 abbrev pub is_short : Memory → ℕ → ℕ → Bool
 is_short m bytes entries = nat_lt bytes (length m.bytes) || nat_lt entries (length m.versions)
 
--- Each number is one of so many pages.
+-- Each number is that of a page, where there are `count` pages.
 abbrev pub are_pages : ℕ → List ℕ → Bool
 are_pages count [] = true
 are_pages count (n ∷ pages) = nat_lt n count && are_pages count pages
@@ -104,12 +104,12 @@ abbrev pub Pushed : Option KeptSeen → List ℕ → List ℕ → ℕ → List �
 Pushed None pages ram status seen new_seen after = (status ≡ no_machine) × (new_seen ≡ seen) × (after ≡ None)
 Pushed (Some k) pages ram status seen new_seen after = DoesPushed k pages ram status seen new_seen after
 
--- The caller has the page as it is: it noted its version, and that is not the greatest.
+-- The caller has the current content of the page: it noted its version, and that is not the greatest number.
 abbrev pub is_noted : Memory → List ℕ → ℕ → Bool
 is_noted m seen n = slice_index seen n == slice_index m.versions n && nat_lt (slice_index m.versions n) unseen
 
--- Each page that the caller has not as it is was handed out; the others are as they were, and so is all behind the last.
--- Every version is noted. So many pages were handed out.
+-- Each page of which the caller does not have the current content was handed out; the others are unchanged, and so is all that
+-- follows the last page. Every version is noted. `count` pages were handed out.
 pub record HasPulled (m : Memory) (ram new_ram seen new_seen : List ℕ) (count : ℕ) : Type 0 where
   pub sound : IsMemory m
   pub pages : (n : ℕ) → n < length m.versions → page_of new_ram n ≡ (if is_noted m seen n then page_of ram n else page_of m.bytes n)
@@ -143,7 +143,8 @@ abbrev pub Pulled : Option KeptSeen → ℕ → List ℕ → List ℕ → List �
 Pulled None status ram new_ram seen new_seen count before = IsUnpulled no_machine status ram new_ram seen new_seen count before
 Pulled (Some k) status ram new_ram seen new_seen count before = PullsKept k.state status ram new_ram seen new_seen count before
 
--- What the caller noted of a page is not ahead of its version, and a page that it noted as it is is the machine's.
+-- What the caller noted of a page that it has seen is not ahead of the page's version. Where `is_noted` holds, the page is the
+-- same as the machine's.
 pub record MirrorsPage (m : Memory) (ram seen : List ℕ) (n : ℕ) : Type 0 where
   pub not_ahead : slice_index seen n < unseen → slice_index seen n ≤ slice_index m.versions n
   pub same : is_noted m seen n ≡ true → page_of ram n ≡ page_of m.bytes n

@@ -14,7 +14,7 @@ use Rattle.vmig_c.specs.Status.{done, in_use, is_moving, no_machine, no_memory, 
 use Rattle.vmig_c.specs.Told.{IsNotThere}
 use Rattle.vmig_c.specs.Kept.{KeptSeen, State, Still, Moving, Arriving}
 
--- A machine that was read for its stream is the same.
+-- A machine that was read for its stream is unchanged.
 pub record IsKept (old new : Seen) : Type 0 where
   pub memory : new.memory ≡ old.memory
   pub state : state_of new ≡ state_of old
@@ -25,7 +25,7 @@ abbrev pub PutIf : Bool → List ℕ → ℕ → List ℕ → List ℕ → Type 
 PutIf true stream status buf new_buf = (status ≡ too_small) × (new_buf ≡ buf)
 PutIf false stream status buf new_buf = (status ≡ done) × (new_buf ≡ stream ++ drop (length stream) buf)
 
--- The whole stream of the machine was made; its length is told also where it did not fit.
+-- The whole stream of the machine was made; its length is returned also where it did not fit.
 pub record IsSaved (m : Seen) (status len : ℕ) (buf new_buf : List ℕ) : Type 0 where
   pub stream : List ℕ
   pub is_whole : ArePlain m → stream ≡ whole (state_of m)
@@ -42,7 +42,7 @@ pub record Saves (m : Seen) (status len old_len : ℕ) (buf new_buf : List ℕ) 
   pub kept : IsKept m next
   pub told : IsSaved m status len buf new_buf ⊎ IsUnsaved status len old_len buf new_buf
 
--- A machine that is sent is not saved, and nothing changed.
+-- A machine that is being migrated is not saved, and nothing changed.
 pub record IsNotSaved (l : LiveSeen) (status len old_len : ℕ) (buf new_buf : List ℕ) (next : LiveSeen) : Type 0 where
   pub status_is : status ≡ is_moving
   pub len_same : len ≡ old_len
@@ -65,7 +65,7 @@ abbrev pub Saved : Option KeptSeen → ℕ → ℕ → ℕ → List ℕ → List
 Saved None status len old_len buf new_buf after = (status ≡ no_machine) × (len ≡ old_len) × (new_buf ≡ buf) × (after ≡ None)
 Saved (Some k) status len old_len buf new_buf after = HasSaved k status len old_len buf new_buf after
 
--- The bytes are a stream of this machine, in which so many rounds ended. Its disks lie in memory.
+-- The bytes are a stream of this machine, in which n rounds ended. Its disks lie in memory.
 pub record IsReceivedAs (bytes : List ℕ) (m : Seen) (n : ℕ) : Type 0 where
   pub received : IsReceived bytes (state_of m) n
   pub plain : ArePlain m
@@ -82,7 +82,7 @@ abbrev pub refusal_status : RecvError → ℕ
 refusal_status NoMemory = no_memory
 refusal_status error = 32 + recv_code_of error
 
--- A refusal that disks in memory that fit leave possible.
+-- A refusal that is possible over disks in memory that fit.
 abbrev pub IsPossible : RecvError → Type 0
 IsPossible ShapeMismatch = ⊥
 IsPossible DiskFailed = ⊥
@@ -113,7 +113,7 @@ pub record HasRefused (bytes : List ℕ) (status n old_n : ℕ) (after : Option 
   pub number_same : n ≡ old_n
   pub same : after ≡ None
 
--- A machine was received into a handle, or it is told why not.
+-- A machine was received into a handle, or the status says why not.
 abbrev pub Received : Option KeptSeen → List ℕ → ℕ → ℕ → ℕ → Option KeptSeen → Type 0
 Received (Some m) bytes status n old_n after = (status ≡ in_use) × (n ≡ old_n) × (after ≡ Some m)
 Received None bytes status n old_n after = HasReceived bytes status n after ⊎ HasRefused bytes status n old_n after

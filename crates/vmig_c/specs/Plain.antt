@@ -7,7 +7,7 @@ use Rattle.machine.specs.declared.event.Event.{Event}
 use Rattle.machine.specs.declared.reply.Reply.{Reply}
 use Rattle.vmig_c.specs.Status.{status_of}
 
--- Each disk is honest and steady, and never failed: what is said of honest disks holds of such a machine, and no reply is
+-- Each disk is honest and steady, and never failed: what is said of honest disks holds of such a machine, and no reply says
 -- that a disk failed.
 abbrev pub ArePlain : Seen → Type 0
 ArePlain m = all_marks m ≡ map (λ d. no_marks) m.devices
@@ -20,6 +20,6 @@ mem_state d = record { sectors = d; failures = 0; honest = true; steady = true }
 abbrev pub PlainStays : Type 0
 PlainStays = (m next : Seen) (e : Event) (reply : Reply) → ArePlain m → IsApplied m e reply next → ArePlain next
 
--- What C is told was refused, or wanted memory, changed nothing: that is told by a status from 1 to 63.
+-- A status from 1 to 63 says that the event was refused, or that memory was: nothing changed.
 abbrev pub RefusedChangesNothing : Type 0
 RefusedChangesNothing = (m next : Seen) (e : Event) (reply : Reply) → ArePlain m → IsApplied m e reply next → 1 ≤ status_of reply → status_of reply < 64 → state_of next ≡ state_of m

@@ -1,5 +1,5 @@
--- What an event leaves that was refused, whatever lies behind the handle: all is as it was. Of a machine that is sent it is
--- left open whether a page counts as dirty that was not written.
+-- The state after an event that was refused, whatever the contents of the handle: nothing changed, except that for a machine
+-- that is being migrated it is left open whether a page that was not written counts as dirty.
 use Rattle.std.specs.Prelude.{◌≡◌, ◌≤◌, ◌<◌, ℕ}
 use Rattle.machine.specs.Seen.{state_of}
 use Rattle.machine.specs.declared.event.Event.{Event}
@@ -24,6 +24,6 @@ IsSameKept (Moving l) (Moving next) = IsSameSent l next
 IsSameKept (Arriving r) (Arriving next) = next ≡ r
 IsSameKept _ _ = ⊥
 
--- A status from 1 to 63 says that the event was refused, or that memory was: nothing changed, and no number is told.
+-- A status from 1 to 63 says that the event was refused, or that memory was: nothing changed, and no number is returned.
 abbrev pub RefusedTellsNothing : Type 0
 RefusedTellsNothing = (k next : State) (e : Event) (status number before : ℕ) → ArePlainIn k → Tells k e status number before next → 1 ≤ status → status < 64 → IsSameKept k next × (number ≡ before)

@@ -1,6 +1,6 @@
 -- The migration of a machine out of a handle, from its first call on: its history, and the bytes that C has taken. What C has
--- taken and what waits behind it are together what a machine that is sent has written, so they are its whole stream after a
--- stop, and what is made of them on the other side is the machine.
+-- taken, followed by what waits, is all that a machine that is being migrated has written. So after a stop it is the whole
+-- stream of the machine, and what is made of it on the other side is the machine.
 use Rattle.std.specs.Prelude.{◌≡◌, ◌++◌, ℕ, List, [], Some, false, take}
 use Rattle.machine.specs.Effect.{Effect}
 use Rattle.machine.specs.Seen.{AreHonest, Seen, state_of}
@@ -22,11 +22,11 @@ use Rattle.vmig_c.specs.Awaited.{HasArrived}
 use Rattle.vmig_c.specs.Migrated.{HasTaken, IsFresh}
 use Rattle.vmig_c.specs.Moving.{IsReceivedAs}
 
--- This happened to the machine since it began to be sent, and these bytes were taken.
+-- This happened to the machine since its migration began, and these bytes were taken.
 abbrev pub IsSent : MachineState → History → List ℕ → LiveSeen → Type 0
 IsSent m h taken l = Relates m h (over_writer (Some []) 0 false) (untaken taken l)
 
--- So it is at first, with no history, and nothing taken.
+-- This holds at first, with an empty history and nothing taken.
 abbrev pub FirstIsSent : Type 0
 FirstIsSent = (m : Seen) (l : LiveSeen) → AreHonest m → IsFresh m l → IsSent (state_of m) nothing [] l
 
@@ -43,7 +43,7 @@ abbrev pub TakingsStaySent : Type 0
 TakingsStaySent = (m : MachineState) (h : History) (taken buf new_buf : List ℕ) (status got : ℕ) (l next : LiveSeen) → IsSent m h taken l → has_fault h ≡ false → HasTaken l status got buf new_buf next
     → IsSent m h (taken ++ take got new_buf) next
 
--- After a stop what was taken, and what waits behind it, are the stream of the machine.
+-- After a stop, what was taken, followed by what waits, is the stream of the machine.
 abbrev pub StoppedIsWhole : Type 0
 StoppedIsWhole = (m : MachineState) (h : History) (taken : List ℕ) (l : LiveSeen) → IsSent m h taken l → IsSound m → phase_of h ≡ phases.Stopped → IsStream (taken ++ l.out.held) (now l)
 

@@ -1,12 +1,12 @@
 -- The numbers that C gets as statuses: one for each thing. Where a status is from 1 to 63 nothing has changed, but for 20,
--- and for the refusal of a stream on its way.
+-- and for the refusal of a stream that arrives in pieces.
 --
 --      0         done
 --      1 to  5   the machine refused an event, by the numbers of its reply lines
 --      7 to 15   a call was refused before the machine was asked, or memory was
---     17 to 22   a call of a migration was refused: 16 and the number of its reason. 20 is that memory for what waits to be
+--     17 to 22   a call of a migration was refused: 16 plus the number of its reason. 20 says that memory for what waits to be
 --                taken was refused: the migration has failed then, and the machine is as it was
---     33 to 48   a stream was refused: 32 and the number of its fault. No more of it is taken: 48 is told from then on
+--     33 to 48   a stream was refused: 32 plus the number of its fault. No more of it is taken: 48 is returned from then on
 --     64         a register was written, and a byte came out
 --     65 to 73   what a step did
 --     74 to 77   what a call of a migration did
@@ -42,7 +42,7 @@ too_small = 11
 abbrev pub bad_shape : ℕ
 bad_shape = 12
 
--- A machine that is sent is not saved.
+-- A machine that is being migrated is not saved.
 abbrev pub is_moving : ℕ
 is_moving = 13
 
@@ -92,7 +92,7 @@ status_of NeedsReset = 73
 abbrev pub mig_status : MigError → ℕ
 mig_status error = 16 + mig_code_of error
 
--- The status of what a machine that is sent answers.
+-- The status of a reply of a machine that is being migrated.
 abbrev pub live_status : LiveReply → ℕ
 live_status (live.Guest reply) = status_of reply
 live_status (live.Begun round) = 0

@@ -1,4 +1,4 @@
--- What C is told of a step, and what a device sends.
+-- What a step returns to C, and what a device sends.
 use Rattle.std.specs.Prelude.{◌≡◌, ℕ, ◌-◌, nat_lt, List, [], ◌++◌, Bool, true, false, Option, Some, None, length, drop, slice_get}
 use Rattle.chains.specs.declared.transmitting.MessageForm.{MessageForm}
 use Rattle.machine.specs.Applied.{IsApplied}
@@ -36,7 +36,7 @@ abbrev pub sent_in : Reply → List ℕ
 sent_in (Sent bytes) = bytes
 sent_in _ = []
 
--- A device did one piece of its work. What it sends stands at the front of the buffer, and all behind it is as it was.
+-- A device did one piece of its work. What it sends is at the front of the buffer, and all that follows is unchanged.
 pub record IsStepped (m : Seen) (dev pick status number before : ℕ) (buf new_buf : List ℕ) (after : Seen) : Type 0 where
   pub reply : Reply
   pub applied : IsApplied m (Step dev pick) reply after
@@ -58,7 +58,7 @@ SteppedIf false m dev pick status number before buf new_buf after = IsStepped m 
 abbrev pub Steps : Seen → ℕ → ℕ → ℕ → ℕ → ℕ → List ℕ → List ℕ → Seen → Type 0
 Steps m dev pick status number before buf new_buf after = SteppedIf (nat_lt (length buf) (most_sent_by m dev pick)) m dev pick status number before buf new_buf after
 
--- The same of a machine that is sent.
+-- As above, for a machine that is being migrated.
 abbrev pub live_sent_in : LiveReply → List ℕ
 live_sent_in (live.Guest reply) = sent_in reply
 live_sent_in _ = []

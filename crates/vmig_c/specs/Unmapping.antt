@@ -20,7 +20,8 @@ disk_in d = disk_if (disk_size_of d.state.shape) d.sectors
 abbrev pub disks_in : List DeviceSeen → List (List Sector)
 disks_in devices = flat_map disk_in devices
 
--- As many sectors as the disk has, and the same, but for its bad ones, instead of which anything may stand.
+-- The slot has as many sectors as the disk, with the same content, but where the disk has a bad sector the slot may have any
+-- bytes.
 pub record IsHandedBack (disk : List Sector) (slot : List (List ℕ)) : Type 0 where
   pub marks : List Bool
   pub agrees : disk ≡ sectors_of slot marks
@@ -48,11 +49,11 @@ abbrev pub are_none : List ℕ → Bool
 are_none [] = true
 are_none (n ∷ ns) = n == 0 && are_none ns
 
--- Why these are not the slots for so many disks: one has sectors, or they are fewer.
+-- Why these images are not slots for this number of disks: one has sectors, or there are fewer of them.
 abbrev pub slots_refusal : ℕ → List Image → Option ℕ
 slots_refusal disks images = if not (are_none (counts images)) then Some bad_images else if nat_lt (length images) disks then Some too_small else None
 
--- Why no machine is taken apart. What arrives is none yet; disks in memory of the library are not given away.
+-- Why no machine is unmapped. A machine that is arriving is none yet; disks in memory of the library are not given away.
 abbrev pub mapped_refusal_of : State → List Image → Option ℕ
 mapped_refusal_of (Still m) images = slots_refusal (length (disks_in m.devices)) images
 mapped_refusal_of (Moving l) images = slots_refusal (length (disks_in l.machine.devices)) images
@@ -90,6 +91,6 @@ UnmapsBy (Some refusal) old images new_images status after = IsStillMapped refus
 UnmapsBy None None images new_images status after = ⊥
 UnmapsBy None (Some k) images new_images status after = IsUnmapped k images new_images status after
 
--- The machine is gone, and its images are back; or it is told why not.
+-- The machine is gone, and its images are back; or the status says why not.
 abbrev pub Unmaps : Option KeptSeen → List Image → List Image → ℕ → Option KeptSeen → Type 0
 Unmaps old images new_images status after = UnmapsBy (unmap_refusal old images) old images new_images status after
