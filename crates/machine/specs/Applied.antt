@@ -56,7 +56,7 @@ AreMadeBad (s ∷ ss) = (is_bad s.content ≡ true) × AreMadeBad ss
 
 -- An event was applied: the reply and the effect are those of a step, with the outcome that the reply reports, of the machine
 -- with the sectors as the disk returned them. RAM, the devices and which sectors are bad are as the effect says, whatever the
--- disk does. So are the contents of the sectors, if the effect sets no sector but to bad, or if the disk is honest. The machine
+-- disk does. So are the contents of the sectors, if the effect only makes sectors bad, or if the disk is honest. The machine
 -- keeps its shape and is sound, its RAM is a later one (`IsLater`), the marks of the disks count the failure if the reply
 -- reports one, and a steady disk does not fail.
 pub record IsApplied (old : Seen) (e : Event) (reply : Reply) (new : Seen) : Type 0 where

@@ -3,7 +3,7 @@ use Rattle.std.specs.Prelude.{Bool, true, false}
 use Rattle.machine.specs.declared.reply.Reply.{Reply}
 use Rattle.machine.specs.declared.reply.Reply.TheVariants.{DiskFailed, NoMemory}
 
--- Nothing failed, or a call of a disk failed, or memory was refused.
+-- The environment did all that was asked of it, or a call of a disk failed, or memory was refused.
 pub data Outcome : Type 0 where
   fine : Outcome
   disk_failed : Outcome

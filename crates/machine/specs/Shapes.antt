@@ -91,7 +91,7 @@ abbrev pub block_of : Shape → BlockShape
 block_of (Block sectors read_only id) = record { sectors = sectors; read_only = read_only; id = id }
 block_of _ = record { sectors = 0; read_only = false; id = replicate 20 0 }
 
--- Whether a shape is beyond its limits: a block device has 1 to 2,097,152 sectors, and other devices have no limit.
+-- Whether a shape is beyond its limits: a block device has 1 to 2,097,152 sectors; other devices have no such limit.
 abbrev pub is_beyond : Shape → Bool
 is_beyond (Block sectors read_only id) = sectors == 0 || nat_lt SECTORS_MAX sectors
 is_beyond _ = false
