@@ -1,4 +1,4 @@
--- What applying an event does to a machine that is held.
+-- What applying an event does to a machine, as contracts see it.
 use Rattle.std.specs.Prelude.{◌≡◌, ℕ, List, [], ◌∷◌, map, slice_set, IsTrue, Bool, true, false, Option, Some, None, Result, IfOk, OnOk, OnErr, if◌then◌else◌}
 use Rattle.guestmem.specs.Item.{Item, after_all}
 use Rattle.guestmem.specs.Later.{IsLater}
@@ -14,31 +14,33 @@ use Rattle.machine.specs.declared.event.Event.{Event}
 use Rattle.machine.specs.declared.event.Event.TheVariants.{Step}
 use Rattle.machine.specs.declared.reply.Reply.{Reply}
 
--- Every item of a machine may be named to the log.
+-- The log may take in every item of the machine.
 abbrev pub MayItems : {L : Type 0} → (L → Item → Type 0) → L → MachineState → Type 0
 MayItems may log m = (i : Item) → HasItem m i → may log i
 
--- The disk that an event may call is honest: of all events only a step of a device calls its disk.
+-- The disk that an event may call is honest. Of all events only a step of a device calls a disk: that of the device.
 abbrev pub IsHonestFor : List Marks → Event → Type 0
 IsHonestFor marks (Step dev pick) = IsTrue (marks_at marks dev).honest
 IsHonestFor marks e = Unit {0}
 
--- The count of failures rises where the reply says that the disk failed: that of the device's disk, and of no other.
+-- Where the reply says that the disk failed, the failure count of the device's disk goes up by one (modulo 2^64). Nothing else
+-- changes.
 abbrev pub marks_after : List Marks → Event → Reply → List Marks
 marks_after marks (Step dev pick) reply = if is_failure reply then failed_at marks dev else marks
 marks_after marks e reply = marks
 
--- A steady disk never fails.
+-- A steady disk never fails: the reply says that the device's disk failed only if that disk is not steady.
 abbrev pub FailsOnlyUnsteady : List Marks → Event → Reply → Type 0
 FailsOnlyUnsteady marks (Step dev pick) reply = is_failure reply ≡ true → (marks_at marks dev).steady ≡ false
 FailsOnlyUnsteady marks e reply = Unit {0}
 
--- The sectors of the disk that an event calls, as the disk gave them while it was applied. Other events call none.
+-- The sectors of the device's disk, as the disk returned them while a step was applied. For another event, which calls no disk,
+-- the list is empty.
 abbrev pub IsGivenFor : List Marks → MachineState → Event → List Sector → Type 0
 IsGivenFor marks m (Step dev pick) given = IsGiven (marks_at marks dev).honest (disk_of m dev) given
 IsGivenFor marks m e given = given ≡ []
 
--- The machine with that disk as it gave its sectors.
+-- The machine with the sectors of that disk as the disk returned them.
 abbrev pub as_given : MachineState → Event → List Sector → MachineState
 as_given m (Step dev pick) given = record m { disks = slice_set m.disks dev given }
 as_given m e given = m
@@ -47,15 +49,16 @@ as_given m e given = m
 abbrev pub bad_on : List (List Sector) → List (List Bool)
 bad_on disks = map (map is_bad) disks
 
--- Sectors are set only as bad ones.
+-- Every sector that is set becomes a bad one.
 abbrev pub AreMadeBad : List SectorSet → Type 0
 AreMadeBad [] = Unit {0}
 AreMadeBad (s ∷ ss) = (is_bad s.content ≡ true) × AreMadeBad ss
 
--- An event was applied: the reply and the effect are those of a step with the outcome that the reply tells of, of the machine
--- with the sectors as the disk gave them. RAM, the devices and which sectors are bad are as the effect says, whatever the disk
--- does; so is what the sectors hold, where none was written, or where the disk is honest. The machine keeps its shape and is
--- sound, its RAM is one that is later, and the disks' marks tell of each failure.
+-- An event was applied: the reply and the effect are those of a step, with the outcome that the reply reports, of the machine
+-- with the sectors as the disk returned them. RAM, the devices and which sectors are bad are as the effect says, whatever the
+-- disk does. So are the contents of the sectors, if the effect only makes sectors bad, or if the disk is honest. The machine
+-- keeps its shape and is sound, its RAM is a later one (`IsLater`), the marks of the disks count the failure if the reply
+-- reports one, and a steady disk does not fail.
 pub record IsApplied (old : Seen) (e : Event) (reply : Reply) (new : Seen) : Type 0 where
   pub given : List Sector
   pub is_given : IsGivenFor (all_marks old) (state_of old) e given
@@ -72,17 +75,18 @@ pub record IsApplied (old : Seen) (e : Event) (reply : Reply) (new : Seen) : Typ
   pub marks : all_marks new ≡ marks_after (all_marks old) e reply
   pub unsteady : FailsOnlyUnsteady (all_marks old) e reply
 
--- The same, and a log after it, which took in exactly the items that the effect writes into.
+-- As above, with a log: it has taken in exactly the items that the effect writes into.
 pub record IsAppliedLogged {L : Type 0} (taking : L → Item → L) (old : Seen) (log : L) (e : Event) (reply : Reply) (new : Seen) (new_log : L) : Type 0 where
   pub is_applied : IsApplied old e reply new
   pub logged : new_log ≡ after_all taking log (items_of is_applied.effect)
 
--- A sector that is there and not bad.
+-- A sector that exists and is not bad.
 abbrev pub IsGood : Option Sector → Type 0
 IsGood found = (bytes : List ℕ) × (found ≡ Some (Some bytes))
 
--- A sector was read, or is bad, or the disk failed, which it is asked only for one that is not bad. The machine is the same,
--- and the marks tell of a failure. What was read is the sector where the disk is honest.
+-- The result of a read of a sector. `true`: the sector is good, and if the disk is honest the bytes are its contents. `false`:
+-- the sector is bad. An error: the disk failed; this happens only for a good sector, and only if the disk is not steady. The
+-- state of the machine is unchanged, and the marks count a failure.
 abbrev pub IsFound : Marks → Option Sector → List ℕ → Bool → Type 0
 IsFound marks found bytes true = IsGood found × (IsTrue marks.honest → found ≡ Some (Some bytes))
 IsFound marks found bytes false = found ≡ Some None

@@ -9,17 +9,19 @@ use Rattle.machine.specs.Step.{HasEffect}
 use Rattle.machine.specs.declared.event.Event.{Event}
 use Rattle.machine.specs.declared.reply.Reply.{Reply}
 
--- Where the disk that an event calls is honest, it gave what it holds: the effect is that of a step of the machine as it was.
+-- If the disk that an event calls is honest, it returned the sectors that it holds: the effect is that of a step of the old
+-- machine.
 abbrev pub HonestDisksGiveTheirs : Type 0
 HonestDisksGiveTheirs = (old new : Seen) (e : Event) (reply : Reply) (h : IsApplied old e reply new) → IsHonestFor (all_marks old) e → HasEffect (state_of old) e (outcome_of reply) reply h.effect
 
--- Two effects that differ at most in the bytes that they write: they write at the same addresses in the same order, set the
--- same sectors, and leave the same device.
+-- Two effects that differ at most in the bytes that they write to RAM: they write at the same addresses in the same order, set
+-- the same sectors to the same contents, and leave the same device.
 pub record IsAlike (a b : Effect) : Type 0 where
   pub addresses : map (λ w. w.address) a.writes ≡ map (λ w. w.address) b.writes
   pub sectors : a.sectors ≡ b.sectors
   pub replaced : a.replaced ≡ b.replaced
 
--- Whatever bytes a disk gave, the reply is that of a step of the machine as it was, and the effect is like that of this step.
+-- Whatever bytes a disk returned, the reply is that of a step of the old machine, and the effect differs from that of this step
+-- at most in the bytes written.
 abbrev pub AnyDiskActsAlike : Type 0
 AnyDiskActsAlike = (old new : Seen) (e : Event) (reply : Reply) → IsSound (state_of old) → (h : IsApplied old e reply new) → (f : Effect) × HasEffect (state_of old) e (outcome_of reply) reply f × IsAlike f h.effect

@@ -1,4 +1,4 @@
--- A step of a device: the queue that it looks at, and what it makes of what it sees there.
+-- A step of a device: the queue that it looks at, and what it does with what it finds there.
 use Rattle.std.specs.Prelude.{ℕ, zero, suc, ◌-◌, ◌==◌, ◌&&◌, nat_lt, not, Bool, true, false, List, [], length, Option, Some, None, slice_get, slice_set, if◌then◌else◌}
 use Rattle.guestmem.specs.Writes.{Write}
 use Rattle.mmio.specs.State.{Registers, with_common, queue_at}
@@ -45,9 +45,9 @@ use Rattle.machine.specs.declared.served.Served.{Served}
 use Rattle.machine.specs.declared.shape.Shape.{Shape}
 use Rattle.machine.specs.declared.served.Served.TheVariants as served
 
--- A device has something to do at its queue of this number: at queue 0 a network device has a frame to give, and a console
--- bytes; at queue 1 both take what there is (VIRTIO 1.2, 5.1.6 and 5.3.6). A block device has room for one more request
--- (5.2.6), and an entropy device has bytes to give (5.4.6).
+-- A device has something to do at its queue of this number. At queue 0 a network device has a frame to deliver, and a console
+-- has input; at queue 1 both always have (VIRTIO 1.2, 5.1.6 and 5.3.6). A block device has room for one more request (5.2.6),
+-- and an entropy device has bytes in its pool (5.4.6).
 abbrev pub has_work : Own → ℕ → Bool
 has_work (Network frames) zero = not (length frames == 0)
 has_work (Network frames) (suc number) = true
@@ -56,8 +56,8 @@ has_work (Console size held) (suc number) = true
 has_work (Block requests) number = nat_lt (length requests) REQUESTS_MAX
 has_work (Entropy pool) number = not (length pool == 0)
 
--- A step looks at a queue only where the driver drives the device and it has not asked for a reset, the queue is ready and
--- notified, and the device has something to do there (VIRTIO 1.2, 2.1.2).
+-- A step looks at a queue exactly if DRIVER_OK is set and DEVICE_NEEDS_RESET is not, the queue is ready and notified, and the
+-- device has something to do there (VIRTIO 1.2, 2.1.2).
 abbrev pub looks : DeviceState → ℕ → Queue → Bool
 looks d number q = is_running d.registers.common && q.is_ready && q.is_notified && has_work d.own number
 
@@ -65,22 +65,25 @@ abbrev pub looked_by : DeviceState → ℕ → Option Queue → Option Positions
 looked_by d number (Some q) (Some p) = if looks d number q then Some (state_of q d.registers.common.features p) else None
 looked_by d number q p = None
 
--- The ring that a step with this pick looks at, if it looks at one: that of the queue of this number.
+-- The ring that a step with this pick looks at, if any: that of the queue whose number is the pick.
 abbrev pub looked_at : DeviceState → ℕ → Option RingState
 looked_at d pick = looked_by d pick (queue_at d.registers pick) (slice_get d.positions pick)
 
--- The messages that a device takes from its queue of this number: a network device frames and a console text, from queue 1.
+-- The form of the messages that a device takes from its queue of this number: frames for a network device and text for a
+-- console, both from queue 1.
 abbrev pub message_form : Own → ℕ → Option MessageForm
 message_form (Network frames) (suc number) = Some frame_form
 message_form (Console size held) (suc number) = Some text_form
 message_form _ _ = None
 
--- Memory is refused only at a queue with more descriptors in a row than are handled without memory, or for a message.
+-- Memory may be refused only at a queue with a longer row of descriptors than is handled without an allocation, or for a
+-- message.
 abbrev pub MayRefuse : Option MessageForm → List ℕ → RingState → Type 0
 MayRefuse None ram q = IsLongQueue ram q
 MayRefuse (Some form) ram q = MayWantMemory ram q form
 
--- What a look may see: what the queue answers about its next chain.
+-- What a look at a queue may see: with the outcome `fine`, what the queue answers about its next chain. The disk does not fail
+-- in a look.
 abbrev pub MayLookAt : Option MessageForm → RingState → List ℕ → Outcome → Next → Type 0
 MayLookAt form q ram fine seen = Answers ram q seen
 MayLookAt form q ram disk_failed seen = ⊥
@@ -99,8 +102,8 @@ abbrev pub with_requests : Own → List Request → Own
 with_requests (Block old) requests = Block requests
 with_requests own requests = own
 
--- A step of a driven device whose pick is above 0 advances the outstanding request of that place, from 1, in the order of
--- taking (VIRTIO 1.2, 5.2.6).
+-- With DRIVER_OK set and DEVICE_NEEDS_RESET not, a step whose pick is n > 0 advances the n-th outstanding request, counted from
+-- 1 in the order of taking, if there is one (VIRTIO 1.2, 5.2.6).
 abbrev pub advances : DeviceState → ℕ → Bool
 advances d pick = is_running d.registers.common && nat_lt 0 pick && nat_lt (pick - 1) (length (requests_of d.own))
 
@@ -112,7 +115,8 @@ advanced_by d pick q p = None
 abbrev pub advanced_at : DeviceState → ℕ → Option RingState
 advanced_at d pick = advanced_by d pick (queue_at d.registers 0) (slice_get d.positions 0)
 
--- What serving a queue brings: how it went, the bytes written, the ring's positions, and what the kind has after it.
+-- The result of serving a queue: how it went, the bytes written, the ring with its positions, and the kind-specific state after
+-- it.
 pub record Service : Type 0 where
   pub served : Served
   pub writes : List Write
@@ -140,13 +144,13 @@ served_message messages.Empty = served.Empty
 served_message messages.Malformed = served.Malformed
 served_message (messages.Sent bytes due) = served.Published (Sent bytes) due
 
--- A message is taken from a queue; what only the kind has stays.
+-- A message is taken from a queue; the kind-specific state is unchanged.
 abbrev pub take_message : MessageForm → Own → List ℕ → RingState → Next → Service
 take_message form own ram q seen =
     let s = transmit_step ram q form seen in
     record { served = served_message s.answer; writes = s.writes; ring = s.ring; own = own }
 
--- Serving the queue of a number, by what it answers about its next chain.
+-- Serving the queue of this number, given what it answers about its next chain.
 abbrev pub serve : Shape → Own → ℕ → List ℕ → RingState → Next → Service
 serve shape (Network frames) zero ram q seen =
     let s = receiving.receive_step ram q frames seen in
@@ -168,14 +172,15 @@ reply_of served.Empty = Idle
 reply_of served.Malformed = NeedsReset
 reply_of (served.Published reply is_due) = reply
 
--- The registers after a queue was served: an empty queue waits for the next notification, a malformed chain makes the
--- device ask for a reset, and a chain that was published raises the interrupt where one is due.
+-- The registers after a queue was served: for an empty queue the notified flag is cleared, a malformed chain makes the device
+-- ask for a reset, and for a chain that was published the used-buffer interrupt is raised if it is due.
 abbrev pub registers_after : Registers → ℕ → Served → Registers
 registers_after r pick served.Empty = notified_cleared r pick (queue_at r pick)
 registers_after r pick served.Malformed = with_common r (reset_asked r.common)
 registers_after r pick (served.Published reply is_due) = if is_due then with_common r (used_raised r.common) else r
 
--- What a step of a device answers, the bytes that it writes, the sectors of its disk that it sets, and the device after it.
+-- The result of a step of a device: the reply, the bytes that it writes, the sectors of its disk that it sets, and the device
+-- after it.
 pub record DeviceAnswer : Type 0 where
   pub reply : Reply
   pub writes : List Write
@@ -206,8 +211,8 @@ abbrev pub is_advance_due : Advanced → Bool
 is_advance_due (advanced.Completed len is_due) = is_due
 is_advance_due _ = false
 
--- A request went on: the ring's positions are those of queue 0, and a chain that was published raises the interrupt where
--- one is due.
+-- A request was advanced: the ring's positions become those of queue 0, and the used-buffer interrupt is raised if a chain was
+-- published and the interrupt is due.
 abbrev pub after_advance : DeviceState → AdvanceStep → DeviceState
 after_advance d s = record d {
   registers = if is_advance_due s.answer then with_common d.registers (used_raised d.registers.common) else d.registers;
@@ -218,22 +223,23 @@ after_advance d s = record d {
 abbrev pub after_advancing : DeviceState → AdvanceStep → DeviceAnswer
 after_advancing d s = record { reply = reply_to_advance s.answer; writes = s.writes; sets = s.sets; device = after_advance d s }
 
--- The outstanding request of a pick goes on, on this ring.
+-- Advances the outstanding request that this pick names, on this ring.
 abbrev pub advance_on : DeviceState → List ℕ → List Sector → ℕ → RingState → Outcome → DeviceAnswer
 advance_on d ram content pick q o = after_advancing d (advance_step (block_of d.shape) ram q content (requests_of d.own) (pick - 1) (disk_does o))
 
--- A step that looks at no queue, by the ring of the request that it advances, if there is one.
+-- A step that looks at no queue, given the ring of the request that it advances. Without one it is idle.
 abbrev pub advance_at : DeviceState → List ℕ → List Sector → ℕ → Option RingState → Outcome → DeviceAnswer
 advance_at d ram content pick None o = unmoved d Idle
 advance_at d ram content pick (Some q) o = advance_on d ram content pick q o
 
--- A look at the next chain of a ring, by the outcome and what the queue answers.
+-- A look at the next chain of a ring, given the outcome and what the queue answers.
 abbrev pub looked_step : DeviceState → List ℕ → ℕ → RingState → Outcome → Next → DeviceAnswer
 looked_step d ram pick q no_memory seen = unmoved d NoMemory
 looked_step d ram pick q disk_failed seen = unmoved d Idle
 looked_step d ram pick q fine seen = after_serving d pick (serve d.shape d.own pick ram q seen)
 
--- A step of a device with such sectors, by the ring that it looks at, the outcome, and what the queue answers.
+-- A step of a device whose disk has these sectors, given the ring that it looks at, if any, the outcome, and what the queue
+-- answers.
 abbrev pub step_at : DeviceState → List ℕ → List Sector → ℕ → Option RingState → Outcome → Next → DeviceAnswer
 step_at d ram content pick None o seen = advance_at d ram content pick (advanced_at d pick) o
 step_at d ram content pick (Some q) o seen = looked_step d ram pick q o seen

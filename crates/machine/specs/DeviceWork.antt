@@ -1,4 +1,4 @@
--- Steps of devices that were made.
+-- Steps of devices that were executed: how the state after a step depends on the state before it.
 use Rattle.std.specs.Prelude.{◌≡◌, ◌++◌, ℕ, List, Bool}
 use Rattle.guestmem.specs.Item.{Item, after_all}
 use Rattle.guestmem.specs.Writes.{set_all, touched}
@@ -15,8 +15,8 @@ use Rattle.machine.specs.declared.reply.Reply.{Reply}
 use Rattle.machine.specs.declared.served.Served.{Served}
 use Rattle.machine.specs.declared.shape.Shape.{Shape}
 
--- The queue of a number was served, by what it answers: how it went, RAM and a log after it, the ring, and what the kind
--- has.
+-- The queue of this number was served, given what it answers: how it went, and RAM, the log, the ring and the kind-specific
+-- state after it.
 pub record IsServed {L : Type 0} (after : L → Item → L) (ram : List ℕ) (q : RingState) (shape : Shape) (own : Own) (number : ℕ) (log : L) (served : Served) (new_ram : List ℕ) (new_ring : RingState) (new_own : Own) (new_log : L) : Type 0 where
   pub seen : Next
   pub answers : Answers ram q seen
@@ -26,7 +26,7 @@ pub record IsServed {L : Type 0} (after : L → Item → L) (ram : List ℕ) (q 
   pub ring_is : new_ring ≡ (serve shape own number ram q seen).ring
   pub own_is : new_own ≡ (serve shape own number ram q seen).own
 
--- A step that looks at a ring was made. The outcome is read off the reply.
+-- A step that looks at a ring was executed. The outcome is the one that the reply reports.
 pub record IsLookedStep {L : Type 0} (after : L → Item → L) (ram : List ℕ) (log : L) (d : DeviceState) (pick : ℕ) (q : RingState) (reply : Reply) (new_ram : List ℕ) (new_log : L) (new : DeviceState) : Type 0 where
   pub seen : Next
   pub may_look : MayLookAt (message_form d.own pick) q ram (outcome_of reply) seen
@@ -35,7 +35,8 @@ pub record IsLookedStep {L : Type 0} (after : L → Item → L) (ram : List ℕ)
   pub ram_is : new_ram ≡ set_all ram (looked_step d ram pick q (outcome_of reply) seen).writes
   pub log_is : new_log ≡ after_all after log (touched (looked_step d ram pick q (outcome_of reply) seen).writes)
 
--- A step that advances a request was made, with the sectors as the disk gave them.
+-- A step that advances a request was executed, with the sectors as the disk returned them. The outcome is the one that the
+-- reply reports.
 pub record IsAdvancedStep {L : Type 0} (after : L → Item → L) (number : ℕ) (honest : Bool) (ram : List ℕ) (content : List Sector) (log : L) (d : DeviceState) (pick : ℕ) (q : RingState) (reply : Reply) (new_ram : List ℕ) (new_content : List Sector) (new_log : L) (new : DeviceState) : Type 0 where
   pub given : List Sector
   pub is_given : IsGiven honest content given
@@ -45,8 +46,8 @@ pub record IsAdvancedStep {L : Type 0} (after : L → Item → L) (number : ℕ)
   pub content_is : AreSet honest content (advance_on d ram given pick q (outcome_of reply)).sets new_content
   pub log_is : new_log ≡ after_all after log (touched (advance_on d ram given pick q (outcome_of reply)).writes ++ sectors_touched number (advance_on d ram given pick q (outcome_of reply)).sets)
 
--- A step of the device of a number that was made, with the sectors as the disk gave them: its reply, and what is after it. The
--- outcome is read off the reply.
+-- A step of the device of this number was executed, with the sectors as the disk returned them: its reply, and the state after
+-- it. The outcome is the one that the reply reports.
 pub record IsDeviceStep {L : Type 0} (after : L → Item → L) (number : ℕ) (honest : Bool) (ram : List ℕ) (content : List Sector) (log : L) (d : DeviceState) (pick : ℕ) (reply : Reply) (new_ram : List ℕ) (new_content : List Sector) (new_log : L) (new : DeviceState) : Type 0 where
   pub given : List Sector
   pub is_given : IsGiven honest content given

@@ -15,12 +15,12 @@ pub record SectorSet : Type 0 where
 abbrev pub sets_on : ℕ → List blk.SectorSet → List SectorSet
 sets_on device sets = map (λ s. record { device = device; number = s.number; content = s.content }) sets
 
--- A device that takes the place of the one that has its number.
+-- A device that replaces the one with this number.
 pub record Replacement : Type 0 where
   pub number : ℕ
   pub device : DeviceState
 
--- What one step changes: bytes of RAM, sectors, and one device at most.
+-- What one step changes: bytes of RAM, sectors, and at most one device.
 pub record Effect : Type 0 where
   pub writes : List Write
   pub sectors : List SectorSet
@@ -49,6 +49,6 @@ applied m e = record {
   disks = sectors_set m.disks e.sectors;
 }
 
--- The pages and sectors that an effect writes into, also where it writes what was there.
+-- The pages and sectors that an effect writes into, even where it writes what was there already.
 abbrev pub items_of : Effect → List Item
 items_of e = touched e.writes ++ map (λ s. sector s.device s.number) e.sectors

@@ -15,22 +15,22 @@ abbrev pub sector_on : Option (List Sector) → ℕ → Option Sector
 sector_on None n = None
 sector_on (Some disk) n = slice_get disk n
 
--- An item holds the same in two machines: the bytes of a page, or the content of a sector.
+-- An item has the same contents in two machines: the bytes of a page, or the content of a sector.
 abbrev pub IsSameItem : MachineState → MachineState → Item → Type 0
 IsSameItem m k (page n) = page_of k.ram n ≡ page_of m.ram n
 IsSameItem m k (sector dev n) = sector_on (sectors_on k dev) n ≡ sector_on (sectors_on m dev) n
 
--- What an effect does not touch stays.
+-- An item that an effect does not touch is unchanged.
 abbrev pub UntouchedStays : Type 0
 UntouchedStays = (m : MachineState) (e : Effect) (i : Item) → ¬ (Among (items_of e) i) → IsSameItem m (applied m e) i
 
--- A machine has the item.
+-- The machine has this page or sector.
 abbrev pub HasItem : MachineState → Item → Type 0
 HasItem m (page n) = 4096 * n < length m.ram
 HasItem m (sector dev n) = (content : Sector) × (sector_on (sectors_on m dev) n ≡ Some content)
 
--- An effect that a machine can have: it writes inside RAM, sets sectors that are there, and replaces a device that is
--- there by one of the same shape.
+-- An effect that a machine can have: it writes inside RAM, sets sectors that exist, and replaces an existing device by one of
+-- the same shape.
 abbrev pub MayReplace : List DeviceState → Option Replacement → Type 0
 MayReplace devices None = Unit {0}
 MayReplace devices (Some r) = (old : DeviceState) × (slice_get devices r.number ≡ Some old) × (r.device.shape ≡ old.shape)
@@ -44,7 +44,8 @@ pub record IsWithin (m : MachineState) (e : Effect) : Type 0 where
 abbrev pub TouchedExists : Type 0
 TouchedExists = (m : MachineState) (e : Effect) → IsWithin m e → (i : Item) → Among (items_of e) i → HasItem m i
 
--- Two machines of one shape: as much RAM, the same devices, and disks of the same sizes.
+-- Two machines of the same shape: RAM of the same size, devices of the same shapes in the same order, and disks of the same
+-- sizes.
 pub record IsSameShape (m k : MachineState) : Type 0 where
   pub ram : length k.ram ≡ length m.ram
   pub devices : map (λ d. d.shape) k.devices ≡ map (λ d. d.shape) m.devices

@@ -1,4 +1,4 @@
--- Machines as they begin, and as they were saved.
+-- New machines, and machines as they were saved.
 use Rattle.std.specs.Prelude.{◌≡◌, ℕ, ◌*◌, ◌||◌, ◌&&◌, ◌==◌, not, nat_lt, if◌then◌else◌, Bool, true, false, List, [], ◌∷◌, length, map, replicate, Option, Some, None}
 use Rattle.guestmem.specs.declared.limits.TheConstants.{PAGE_SIZE, PAGES_MAX}
 use Rattle.guestmem.specs.Number.{IsBytes}
@@ -13,8 +13,8 @@ use Rattle.machine.specs.declared.shape.Shape.TheVariants.{Net, Block}
 use Rattle.machine.specs.declared.new_error.NewError.{NewError}
 use Rattle.machine.specs.declared.new_error.NewError.TheVariants.{BadShape, DiskMismatch}
 
--- What belongs to disks is dealt to the devices in order: a device with a disk gets the next, and another device has what
--- stands for no disk.
+-- A list with an entry for each disk is distributed over the devices in order: a device with a disk gets the next entry, and a
+-- device without one gets `no_disk`.
 abbrev pub given : {A : Type 0} → A → Option ℕ → List A → A
 given no_disk None disks = no_disk
 given no_disk (Some size) [] = no_disk
@@ -29,14 +29,14 @@ abbrev pub dealt : {A : Type 0} → A → List Shape → List A → List A
 dealt no_disk [] disks = []
 dealt no_disk (shape ∷ shapes) disks = given no_disk (disk_size_of shape) disks ∷ dealt no_disk shapes (left_over (disk_size_of shape) disks)
 
--- What each device has of the sectors of these disks, and the marks of its disk.
+-- The sectors of each device's disk, and the marks of each device's disk, where the disks belong to the devices in order.
 abbrev pub dealt_sectors : List Shape → List (List Sector) → List (List Sector)
 dealt_sectors shapes disks = dealt [] shapes disks
 
 abbrev pub dealt_marks : List Shape → List Marks → List Marks
 dealt_marks shapes marks = dealt no_marks shapes marks
 
--- A new machine: RAM of zeros, and each device with its first values.
+-- A new machine: RAM of zeros, and each device in its initial state.
 abbrev pub first_machine : ℕ → List Shape → List (List Sector) → MachineState
 first_machine pages shapes disks = record {
   ram = replicate (PAGE_SIZE * pages) 0;
@@ -44,7 +44,7 @@ first_machine pages shapes disks = record {
   disks = dealt_sectors shapes disks;
 }
 
--- A device beyond its limits.
+-- Some device is beyond its limits.
 abbrev pub are_beyond : List Shape → Bool
 are_beyond [] = false
 are_beyond (shape ∷ shapes) = is_beyond shape || are_beyond shapes
@@ -54,8 +54,8 @@ are_same [] [] = true
 are_same (a ∷ as_) (b ∷ bs) = a == b && are_same as_ bs
 are_same _ _ = false
 
--- Why no machine is made of so many pages, these devices and disks of these sizes: first the limits, then the disks, which
--- must be those of the devices that have one, in their order.
+-- Why no machine is made of `pages` pages, these devices, and disks of these sizes, if so. The limits are checked first, then
+-- the disks: their sizes must be those of the devices that have one, in their order.
 abbrev pub new_refusal : ℕ → List Shape → List ℕ → Option NewError
 new_refusal pages shapes sizes =
     if (pages == 0 || nat_lt PAGES_MAX pages || length shapes == 0 || nat_lt DEVICES_MAX (length shapes) || are_beyond shapes) then Some BadShape
@@ -72,15 +72,15 @@ HasBytes (Net mac) = AreBytes 6 mac
 HasBytes (Block sectors read_only id) = AreBytes 20 id
 HasBytes _ = Unit {0}
 
--- What is known of a disk beside its sectors.
+-- What is known of a disk besides its sectors.
 abbrev pub marks_in : DiskState → Marks
 marks_in d = record { failures = d.failures; honest = d.honest; steady = d.steady }
 
--- Marks of disks none of whose sectors is bad.
+-- The bad-sector marks of disks without a bad sector.
 abbrev pub good_marks : List DiskState → List (List Bool)
 good_marks disks = map (λ d. replicate (length d.sectors) false) disks
 
--- Disks of whose sectors these are bad.
+-- Disks with the sectors that are bad by these marks.
 abbrev pub marked : List DiskState → List (List Bool) → List SectorsState
 marked [] bad = []
 marked (d ∷ ds) [] = []
@@ -89,11 +89,11 @@ marked (d ∷ ds) (marks ∷ bad) = seen_of d marks ∷ marked ds bad
 abbrev pub marked_sectors : List DiskState → List (List Bool) → List (List Sector)
 marked_sectors disks bad = map (λ s. s.content) (marked disks bad)
 
--- There is a mark for each sector of each disk, and no other.
+-- There is one mark for each sector of each disk, and no other.
 abbrev pub AreMarksOf : List DiskState → List (List Bool) → Type 0
 AreMarksOf disks bad = map length bad ≡ map (λ d. length d.sectors) disks
 
--- Devices as they are seen, of which those with a disk have the next of these.
+-- Devices as contracts see them: each device that has a disk gets the next of these.
 abbrev pub seen_with : DeviceState → Option SectorsState → DeviceSeen
 seen_with state disk = record { state = state; sectors = sectors_of disk; marks = marks_of disk }
 

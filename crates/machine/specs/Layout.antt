@@ -10,12 +10,12 @@ pub record Layout : Type 0 where
   pub pages : ℕ
   pub disks : List ℕ
 
--- The layout has the item. A device without a disk has no sectors, and neither has one that is not there.
+-- The layout has the item. A device without a disk has no sectors, and neither has a device that does not exist.
 abbrev pub IsItemIn : Layout → Item → Type 0
 IsItemIn l (page n) = n < l.pages
 IsItemIn l (sector dev n) = n < slice_index l.disks dev
 
--- The layout of a machine of so many pages and devices of these shapes.
+-- The layout of a machine of `pages` pages and devices of these shapes.
 abbrev pub layout_by : ℕ → List Shape → Layout
 layout_by pages shapes = record { pages = pages; disks = map sector_count shapes }
 
@@ -25,7 +25,7 @@ pages_of m = length m.ram / 4096
 abbrev pub layout_of : MachineState → Layout
 layout_of m = record { pages = pages_of m; disks = map length m.disks }
 
--- The number of the first sector of each disk, where the first disk begins with this number.
+-- The number of the first sector of each disk, where the first disk begins at the number `first`.
 abbrev pub firsts_from : ℕ → List ℕ → List ℕ
 firsts_from first [] = []
 firsts_from first (size ∷ sizes) = first ∷ firsts_from (first + size) sizes

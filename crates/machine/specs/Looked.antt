@@ -18,8 +18,8 @@ use Rattle.machine.specs.State.{DeviceState, MachineState}
 use Rattle.machine.specs.declared.own.Own.{Own}
 use Rattle.machine.specs.declared.own.Own.TheVariants.{Network, Block, Console, Entropy}
 
--- A step of a device with this pick looks at this ring: the driver drives the device, which has not asked for a reset; the
--- pick names one of its queues, which is ready and notified; and the device has something to do there (VIRTIO 1.2, 2.1.2).
+-- A step of a device with this pick looks at this ring: DRIVER_OK is set and DEVICE_NEEDS_RESET is not; the pick is the number
+-- of one of its queues, which is ready and notified; and the device has something to do there (VIRTIO 1.2, 2.1.2).
 pub record IsLookedAt (d : DeviceState) (pick : ℕ) (q : RingState) : Type 0 where
   pub queue : Queue
   pub positions : Positions
@@ -31,10 +31,10 @@ pub record IsLookedAt (d : DeviceState) (pick : ℕ) (q : RingState) : Type 0 wh
   pub work : has_work d.own pick ≡ true
   pub is : q ≡ state_of queue d.registers.common.features positions
 
--- What a queue of a number answers is malformed for the device: no chain at all, or one that is none for its kind. A network
--- device, a console and an entropy device have use only for a chain without a readable byte and with a writable one at their
--- queue 0 (VIRTIO 1.2, 5.1.6.3, 5.3.6 and 5.4.6.1), and the first two only for a message at queue 1; a block device only
--- for a chain with a header of 16 readable bytes and a writable byte for the status (5.2.6).
+-- What the queue of this number answers is malformed for the device: it is no chain at all, or a chain that the device cannot
+-- use. At queue 0 a network device and a console, and an entropy device, accept only a chain without a readable byte and with a
+-- writable one (VIRTIO 1.2, 5.1.6.3, 5.3.6 and 5.4.6.1); at queue 1 the first two accept only a message; a block device accepts
+-- only a chain with a header of 16 readable bytes and a writable byte for the status (5.2.6).
 abbrev pub IsMalformed : Own → ℕ → Next → Type 0
 IsMalformed own number next.Empty = ⊥
 IsMalformed own number next.Malformed = Unit {0}

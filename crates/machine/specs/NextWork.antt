@@ -19,7 +19,7 @@ use Rattle.machine.specs.declared.work.Work.{Work}
 abbrev pub has_work_with : DeviceState → ℕ → Bool
 has_work_with d pick = is_some (looked_at d pick) || is_some (advanced_at d pick)
 
--- The picks from one on.
+-- The picks from `first` on, up to 255.
 unfoldable pub picks_from : ℕ → List ℕ
 picks_from first = range_with_len first (256 - first)
 
@@ -37,17 +37,17 @@ number_of w = 256 * w.dev + w.pick
 abbrev pub work_of : ℕ → Work
 work_of n = record { dev = n / 256; pick = n % 256 }
 
--- The steps from a number up to another, without that.
+-- The steps with the numbers from `first` up to, but not including, `end`.
 unfoldable pub steps_between : ℕ → ℕ → List Work
 steps_between first end = map work_of (range_with_len first (end - first))
 
--- All steps of some devices in turn after one of them: first those after it, and then those from the first step up to it. So
--- that step itself is the last.
+-- All steps of `devices` devices, in turn after the step `last`: first those after it, and then those from the first step of
+-- all up to it. So that step itself comes last.
 abbrev pub in_turn_after : Work → ℕ → List Work
 in_turn_after last devices =
     steps_between (number_of last + 1) (256 * devices) ++ steps_between 0 (min (number_of last + 1) (256 * devices))
 
--- The first step in turn that has something to do.
+-- The first step in this order that has something to do.
 abbrev pub next_work : List DeviceState → Work → Option Work
 next_work devices last = find (has_work_at devices) (in_turn_after last (length devices))
 
@@ -68,7 +68,7 @@ pub record IsNotNotified (m : MachineState) (dev number : ℕ) : Type 0 where
   pub has : queue_at device.registers number ≡ Some queue
   pub quiet : queue.is_notified ≡ false
 
--- A step with work gets on: it is not idle, or it has cleared the notified flag of its queue.
+-- A step with work makes progress: its reply is not `Idle`, or the queue of its pick is no longer notified after it.
 abbrev pub WorkGetsOn : Type 0
 WorkGetsOn = (m : MachineState) (w : Work) (o : Outcome) (r : Reply) (after : MachineState) → IsSound m → has_work_at m.devices w ≡ true
     → IsStep m (Step w.dev w.pick) o r after → (r ≢ Idle) ⊎ IsNotNotified after w.dev w.pick

@@ -1,4 +1,4 @@
--- What a machine is made of beside its disks.
+-- What a machine is made of besides its disks.
 use Rattle.std.specs.Prelude.{◌≡◌, ◌≤◌, ℕ, List, [], map, Bool}
 use Rattle.blk.specs.Disk.{DiskState}
 use Rattle.machine.specs.First.{AreMarksOf, marked_sectors, saved_machine}
@@ -6,23 +6,23 @@ use Rattle.machine.specs.Sound.{IsSound}
 use Rattle.machine.specs.State.{DeviceState, MachineState}
 use Rattle.machine.specs.declared.shape.Shape.{Shape}
 
--- The bytes of RAM, the devices and what they were made as, and the marks of the bad sectors of each disk.
+-- The bytes of RAM, the shapes and the states of the devices, and the marks of the bad sectors of each disk.
 pub record PartsSeen : Type 0 where
   pub ram : List ℕ
   pub shapes : List Shape
   pub states : List DeviceState
   pub bad : List (List Bool)
 
--- A list that is empty, with room for so many.
+-- An empty list with room for at least `count` items.
 pub record HasRoom {T : Type 0} (count : ℕ) (items : List T) (capacity : ℕ) : Type 0 where
   pub none : items ≡ []
   pub room : count ≤ capacity
 
--- The machine that parts make with disks.
+-- The machine that these parts and these disks make.
 abbrev pub machine_of : PartsSeen → List DiskState → MachineState
 machine_of parts disks = saved_machine parts.ram parts.states (marked_sectors disks parts.bad)
 
--- The parts belong to one another and to these disks, and make a sound machine with them.
+-- The parts fit one another and these disks, and make a sound machine with them.
 pub record ArePartsFor (disks : List DiskState) (parts : PartsSeen) : Type 0 where
   pub sound : IsSound (machine_of parts disks)
   pub shapes : parts.shapes ≡ map (λ d. d.shape) parts.states

@@ -4,7 +4,7 @@ use Rattle.guestmem.specs.Memory.{Memory}
 use Rattle.blk.specs.Sectors.{Sector, SectorsState}
 use Rattle.machine.specs.State.{DeviceState, MachineState}
 
--- What is known of a device's disk beside its sectors: it is no part of the machine's state.
+-- What is known of a device's disk besides its sectors. It is not part of the machine's state.
 pub record Marks : Type 0 where
   pub failures : ℕ
   pub honest : Bool
@@ -47,7 +47,7 @@ abbrev pub marks_of : Option SectorsState → Marks
 marks_of None = no_marks
 marks_of (Some s) = disk_marks s
 
--- The marks of the disk of the device of a number. A device that is not there has no disk.
+-- The marks of the disk of the device of this number. A device that does not exist has no disk.
 abbrev pub or_no_marks : Option Marks → Marks
 or_no_marks None = no_marks
 or_no_marks (Some marks) = marks

@@ -1,4 +1,4 @@
--- What each shape of device is.
+-- What the shape (kind and configuration) of a device determines.
 use Rattle.std.specs.Prelude.{ℕ, ◌+◌, ◌^◌, ◌==◌, ◌||◌, nat_lt, Bool, false, List, [], ◌∷◌, Option, Some, None, replicate, if◌then◌else◌}
 use Rattle.byteorder.specs.Endian.{little_bytes}
 use Rattle.blk.specs.declared.shape.BlockShape.{BlockShape}
@@ -18,7 +18,7 @@ use Rattle.machine.specs.declared.shape.Shape.TheVariants.{Net, Block, Console, 
 use Rattle.machine.specs.State.{DeviceState}
 use Rattle.machine.specs.QueuePositions.{first_positions}
 
--- The device's number (VIRTIO 1.2, 5).
+-- The device ID (VIRTIO 1.2, 5).
 abbrev pub device_id_of : Shape → ℕ
 device_id_of (Net mac) = 1
 device_id_of (Block sectors read_only id) = 2
@@ -30,20 +30,19 @@ device_id_of Entropy = 4
 abbrev pub common_features : ℕ
 common_features = 2 ^ 28 + 2 ^ 29 + 2 ^ 32 + 2 ^ 34
 
--- The feature bits that a block device offers besides: FLUSH 9, and RO 5 where the driver may only read it (VIRTIO 1.2,
--- 5.2.3).
+-- The feature bits that a block device offers in addition: FLUSH 9, and RO 5 if it is read-only (VIRTIO 1.2, 5.2.3).
 abbrev pub block_features : Bool → ℕ
 block_features read_only = if read_only then 2 ^ 9 + 2 ^ 5 else 2 ^ 9
 
--- The feature bits that the device offers: a network device MAC 5 besides (VIRTIO 1.2, 5.1.3), and a console SIZE 0 and
--- EMERG_WRITE 2 (5.3.3).
+-- The feature bits that the device offers: in addition to those that every device offers, a network device offers MAC 5 (VIRTIO
+-- 1.2, 5.1.3), a console SIZE 0 and EMERG_WRITE 2 (5.3.3), and a block device its own (above).
 abbrev pub offered_of : Shape → ℕ
 offered_of (Net mac) = common_features + MAC
 offered_of (Block sectors read_only id) = common_features + block_features read_only
 offered_of Console = common_features + (SIZE + EMERGENCY_WRITE)
 offered_of Entropy = common_features
 
--- How many queues it has (VIRTIO 1.2, 5.1.2, 5.2.2, 5.3.2 and 5.4.2).
+-- The number of its queues (VIRTIO 1.2, 5.1.2, 5.2.2, 5.3.2 and 5.4.2).
 abbrev pub queues_of : Shape → ℕ
 queues_of (Net mac) = 2
 queues_of (Block sectors read_only id) = 1
@@ -87,28 +86,28 @@ abbrev pub disk_sizes : List Shape → List ℕ
 disk_sizes [] = []
 disk_sizes (shape ∷ shapes) = with_size (disk_size_of shape) (disk_sizes shapes)
 
--- What a device is as a block device. Another device has no sectors.
+-- The shape as that of a block device. For a device of another kind it has no sectors.
 abbrev pub block_of : Shape → BlockShape
 block_of (Block sectors read_only id) = record { sectors = sectors; read_only = read_only; id = id }
 block_of _ = record { sectors = 0; read_only = false; id = replicate 20 0 }
 
--- What a device may be made as: a block device has 1 to 2,097,152 sectors.
+-- Whether a shape is beyond its limits: a block device has 1 to 2,097,152 sectors; other devices have no such limit.
 abbrev pub is_beyond : Shape → Bool
 is_beyond (Block sectors read_only id) = sectors == 0 || nat_lt SECTORS_MAX sectors
 is_beyond _ = false
 
--- A console begins with 80 columns and 25 rows.
+-- A new console has 80 columns and 25 rows.
 abbrev pub first_size : ConsoleSize
 first_size = record { columns = 80; rows = 25 }
 
--- What each kind of device begins with.
+-- The initial kind-specific state of a device.
 abbrev pub first_own : Shape → Own
 first_own (Net mac) = own.Network []
 first_own (Block sectors read_only id) = own.Block []
 first_own Console = own.Console first_size []
 first_own Entropy = own.Entropy []
 
--- A new device in a machine whose RAM has so many bytes.
+-- A new device in a machine with `ram_len` bytes of RAM.
 abbrev pub first_device : ℕ → Shape → DeviceState
 first_device ram_len shape = record {
   shape = shape;

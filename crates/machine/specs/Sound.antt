@@ -30,8 +30,8 @@ pub record AreHostBytes (bytes : List ℕ) : Type 0 where
   pub few : length bytes ≤ HOST_BYTES_MAX
   pub are : IsBytes bytes
 
--- What a device may be made as: a network device has a MAC of 6 bytes; a block device 1 to 2,097,152 sectors, and an id of 20
--- bytes.
+-- What the shape of a device may be: a network device has a MAC of 6 bytes; a block device 1 to 2,097,152 sectors, and an id of
+-- 20 bytes.
 pub record IsMac (mac : List ℕ) : Type 0 where
   pub size : length mac ≡ 6
   pub bytes : IsBytes mac
@@ -53,7 +53,8 @@ pub record AreFrames (frames : List (List ℕ)) : Type 0 where
   pub few : length frames ≤ INBOX_MAX
   pub are : All IsFrame frames
 
--- What a console has: a size that its configuration can tell, and bytes of the host.
+-- The kind-specific state of a console: a size whose columns and rows fit the 16-bit fields of its configuration, and bytes
+-- from the host.
 pub record IsSoundConsole (size : ConsoleSize) (held : List ℕ) : Type 0 where
   pub columns : size.columns < 2 ^ 16
   pub rows : size.rows < 2 ^ 16
@@ -68,7 +69,7 @@ pub record AreRequestsOf (bytes : ℕ) (is_packed : Bool) (q : Queue) (shape : B
 abbrev pub AreRequests : ℕ → Registers → BlockShape → List Request → Type 0
 AreRequests bytes r shape requests = IsSomeAnd (queue_at r 0) (λ q. AreRequestsOf bytes (is_packed_by r.common) q shape requests)
 
--- What a device of a shape can have that only its kind has, beside such registers in a machine with so many bytes of RAM.
+-- The kind-specific state that a device of this shape can have, with these registers, in a machine with `bytes` bytes of RAM.
 abbrev pub IsSoundOwn : ℕ → Registers → Shape → Own → Type 0
 IsSoundOwn bytes r (Net mac) (own.Network frames) = AreFrames frames
 IsSoundOwn bytes r (Block sectors read_only id) (own.Block requests) = AreRequests bytes r (block_of (Block sectors read_only id)) requests
@@ -76,8 +77,8 @@ IsSoundOwn bytes r Console (own.Console size held) = IsSoundConsole size held
 IsSoundOwn bytes r Entropy (own.Entropy pool) = AreHostBytes pool
 IsSoundOwn bytes r shape own_is = ⊥
 
--- A device whose registers are those of its shape in a machine with so many bytes of RAM, and hold what accesses can
--- bring about.
+-- A sound device in a machine with `bytes` bytes of RAM: its shape is sound, its registers agree with its shape and hold what
+-- accesses can bring about, and its positions and its kind-specific state are such as it can have.
 pub record IsSoundDevice (bytes : ℕ) (d : DeviceState) : Type 0 where
   pub shape : IsSoundShape d.shape
   pub device_id : d.registers.device_id ≡ device_id_of d.shape
@@ -88,7 +89,8 @@ pub record IsSoundDevice (bytes : ℕ) (d : DeviceState) : Type 0 where
   pub positions : HavePositions (is_packed_by d.registers.common) d.registers.queues d.positions
   pub own : IsSoundOwn bytes d.registers d.shape d.own
 
--- Its limits, each device sound, and each disk of its device's size.
+-- A machine is sound: 1 to 16,384 whole pages of RAM, 1 to 16 devices, each of them sound, and each disk of its device's size,
+-- with sectors that are 512 bytes or bad.
 pub record IsSound (m : MachineState) : Type 0 where
   pub whole_pages : length m.ram ≡ 4096 * (length m.ram / 4096)
   pub some_pages : 1 ≤ length m.ram / 4096

@@ -1,4 +1,4 @@
--- A machine, as what two equal machines agree on.
+-- The state of a machine: what two equal machines agree on.
 use Rattle.std.specs.Prelude.{List, ℕ}
 use Rattle.blk.specs.Sectors.{Sector}
 use Rattle.mmio.specs.State.{Registers}
@@ -6,15 +6,15 @@ use Rattle.chains.specs.declared.position.Positions.{Positions}
 use Rattle.machine.specs.declared.own.Own.{Own}
 use Rattle.machine.specs.declared.shape.Shape.{Shape}
 
--- A device: what it was made as, its registers with its queues, how far it has come in each queue, and what only its kind
--- has.
+-- A device: its shape (what it was made as), its registers with its queues, its positions in each queue, and its kind-specific
+-- state.
 pub record DeviceState : Type 0 where
   pub shape : Shape
   pub registers : Registers
   pub positions : List Positions
   pub own : Own
 
--- A machine: one list of bytes, its devices in order, and for each device the sectors of its disk, each 512 bytes or bad. A
+-- A machine: the bytes of its RAM, its devices in order, and for each device the sectors of its disk, each 512 bytes or bad. A
 -- device without a disk has no sectors. Two machines are equal when all of this is.
 pub record MachineState : Type 0 where
   pub ram : List ℕ

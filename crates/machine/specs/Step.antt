@@ -32,7 +32,7 @@ use Rattle.machine.specs.declared.reply.Refusal.TheVariants.{NoDevice, OutOfRam,
 use Rattle.machine.specs.declared.reply.Reply.{Reply}
 use Rattle.machine.specs.declared.reply.Reply.TheVariants.{Value, Done, OutByte, Bytes, Accepted, NoMemory, Refused}
 
--- What a machine answers to an event, and what changes.
+-- The reply of a machine to an event, and its effect: what changes.
 pub record Answer : Type 0 where
   pub reply : Reply
   pub effect : Effect
@@ -47,14 +47,14 @@ abbrev pub ram_refusal : RamError → Refusal
 ram_refusal ram_error.OutOfRam = OutOfRam
 ram_refusal ram_error.TooLong = TooLong
 
--- One device becomes another, and nothing else changes.
+-- One device is replaced by another, and nothing else changes.
 abbrev pub becomes : ℕ → DeviceState → Reply → Answer
 becomes number device reply = record {
   reply = reply;
   effect = record { writes = []; sectors = []; replaced = Some (record { number = number; device = device }) };
 }
 
--- The driver reads a register: the table's value.
+-- The driver reads a register: the value is that of the register table.
 abbrev pub register_value_of : DeviceState → ℕ → ℕ → ℕ
 register_value_of d offset width = register_read d.registers offset width (configuration_of d.shape d.own)
 
@@ -62,7 +62,7 @@ abbrev pub read_register : Option DeviceState → ℕ → ℕ → Answer
 read_register None offset width = refused NoDevice
 read_register (Some d) offset width = unchanged (Value (register_value_of d offset width))
 
--- The outstanding requests of a block device are those of its queue 0, and go where it is not ready.
+-- The outstanding requests of a block device are those of its queue 0, and are dropped if that queue is not ready.
 abbrev pub kept_requests : List Queue → List Request → List Request
 kept_requests [] requests = []
 kept_requests (q ∷ qs) requests = if q.is_ready then requests else []
@@ -71,12 +71,13 @@ abbrev pub kept_own : List Queue → Own → Own
 kept_own queues (Block requests) = Block (kept_requests queues requests)
 kept_own queues own = own
 
--- A device with these registers: a queue that they say is not ready begins anew.
+-- A device with these registers: for a queue that is not ready in them the positions are the first ones again, and the requests
+-- of a block device whose queue 0 is not ready are dropped.
 abbrev pub with_registers : DeviceState → Registers → DeviceState
 with_registers d r = record d { registers = r; positions = kept_positions r.queues d.positions; own = kept_own r.queues d.own }
 
--- The driver wrote a register. Whether the write was taken does not show; but a console gives out what is written into its
--- emergency register (VIRTIO 1.2, 5.3.5).
+-- The reply to a write of a register. It does not say whether the write was accepted; but a console gives out the byte that is
+-- written into its emergency register (VIRTIO 1.2, 5.3.5).
 abbrev pub out_reply : Option ℕ → Reply
 out_reply None = Done
 out_reply (Some byte) = OutByte byte
@@ -85,7 +86,8 @@ abbrev pub written_out : Own → ℕ → ℕ → ℕ → Option ℕ
 written_out (Console size held) offset width value = emergency_byte offset width value
 written_out _ offset width value = None
 
--- A device after the driver wrote a register: the table's registers. Whether the write was taken does not show.
+-- A device after the driver wrote a register: its registers are those of the register table. Whether the write was accepted is
+-- not reported.
 abbrev pub register_set : DeviceState → ℕ → ℕ → ℕ → DeviceState
 register_set d offset width value = with_registers d (register_write d.registers offset width value).1
 
@@ -93,7 +95,7 @@ abbrev pub write_register : ℕ → Option DeviceState → ℕ → ℕ → ℕ �
 write_register number None offset width value = refused NoDevice
 write_register number (Some d) offset width value = becomes number (register_set d offset width value) (out_reply (written_out d.own offset width value))
 
--- The guest reads RAM. Its reply holds the bytes, so memory may be refused.
+-- The guest reads RAM. The reply holds the bytes, so memory may be refused.
 abbrev pub read_ram : List ℕ → ℕ → ℕ → Option RamError → Outcome → Answer
 read_ram ram addr len (Some error) o = refused (ram_refusal error)
 read_ram ram addr len None no_memory = unchanged NoMemory
@@ -108,12 +110,12 @@ write_ram addr bytes None = record {
   effect = record { writes = byte_writes addr bytes; sectors = []; replaced = None };
 }
 
--- The host puts bytes in. A console and an entropy device keep the first that fit; a network device keeps a frame whole,
--- where there is room, and a block device takes none.
+-- The host puts bytes in. A console and an entropy device keep the first ones that fit; a network device keeps a frame whole,
+-- if there is room; a block device takes none.
 abbrev pub kept_in : List ℕ → List ℕ → ℕ
 kept_in pool bytes = min (length bytes) (HOST_BYTES_MAX - length pool)
 
--- How many bytes are kept, or why none is taken.
+-- The count of bytes that are kept, or why the input is refused.
 abbrev pub input_of : Own → List ℕ → Result ℕ Refusal
 input_of (Network frames) bytes = if is_frame_len (length bytes) then Ok (kept_of frames bytes) else Err BadFrame
 input_of (Block requests) bytes = Err WrongKind
@@ -137,12 +139,12 @@ abbrev pub put_in : ℕ → Option DeviceState → List ℕ → Answer
 put_in number None bytes = refused NoDevice
 put_in number (Some d) bytes = put_by number d bytes (input_of d.own bytes)
 
--- The host sets the size of a console. One that differs is a change of its configuration (VIRTIO 1.2, 5.3.6).
+-- The host sets the size of a console. A different size is a change of its configuration (VIRTIO 1.2, 5.3.6).
 abbrev pub size_by : ℕ → DeviceState → Own → ConsoleSize → Answer
 size_by number d (Console old held) size = becomes number (record d { registers = resized old size d.registers; own = Console size held }) Done
 size_by number d _ size = refused WrongKind
 
--- The same of what only the kind has, and of the registers beside it.
+-- As above, for the kind-specific state and the registers of the device. Another device refuses, and both stay as they were.
 abbrev pub IsResized : Own → ConsoleSize → Registers → Result (Unit {0}) Refusal → Own → Registers → Type 0
 IsResized (Console old held) size r result new new_r = (result ≡ Ok tt) × (new ≡ Console size held) × (new_r ≡ resized old size r)
 IsResized own size r result new new_r = (result ≡ Err WrongKind) × (new ≡ own) × (new_r ≡ r)
@@ -154,7 +156,7 @@ abbrev pub set_size : ℕ → Option DeviceState → ConsoleSize → Answer
 set_size number None size = refused NoDevice
 set_size number (Some d) size = size_by number d d.own size
 
--- A device does one piece of its work, with the sectors of its disk. Where there is nothing to do it is idle.
+-- A device does one piece of its work, where its disk has these sectors. If there is nothing to do it is idle.
 abbrev pub step_device : ℕ → Option DeviceState → List ℕ → List Sector → ℕ → Outcome → Next → Answer
 step_device number None ram content pick o seen = refused NoDevice
 step_device number (Some d) ram content pick o seen =
@@ -168,12 +170,12 @@ abbrev pub disk_or_none : Option (List Sector) → List Sector
 disk_or_none None = []
 disk_or_none (Some disk) = disk
 
--- The sectors of the disk of the device of a number.
+-- The sectors of the disk of the device of this number.
 abbrev pub disk_of : MachineState → ℕ → List Sector
 disk_of m dev = disk_or_none (slice_get m.disks dev)
 
--- What a machine answers to an event, by the outcome of what it asks of the outside and by what a queue that it looks at
--- answers about its next chain, and what changes.
+-- The reply of a machine to an event, and what changes, given the outcome of what it asks of the environment, and what the
+-- queue that it looks at, if any, answers about its next chain.
 abbrev pub answer : MachineState → Event → Outcome → Next → Answer
 answer m (RegRead dev off width) o seen = read_register (slice_get m.devices dev) off width
 answer m (RegWrite dev off width value) o seen = write_register dev (slice_get m.devices dev) off width value
@@ -183,7 +185,7 @@ answer m (Step dev pick) o seen = step_device dev (slice_get m.devices dev) m.ra
 answer m (Input dev bytes) o seen = put_in dev (slice_get m.devices dev) bytes
 answer m (Resize dev cols rows) o seen = set_size dev (slice_get m.devices dev) (record { columns = cols; rows = rows })
 
--- What a step may see: where it looks at a queue, what that queue answers; and where memory may be refused.
+-- What a step may see: if it looks at a queue, what that queue answers. This also says when memory may be refused.
 abbrev pub MaySeeAt : Option DeviceState → List ℕ → ℕ → Outcome → Next → Type 0
 MaySeeAt None ram pick o seen = Unit {0}
 MaySeeAt (Some d) ram pick o seen = MayLook (message_form d.own pick) (looked_at d pick) ram o seen
@@ -192,7 +194,7 @@ abbrev pub MaySee : MachineState → Event → Outcome → Next → Type 0
 MaySee m (Step dev pick) o seen = MaySeeAt (slice_get m.devices dev) m.ram pick o seen
 MaySee m e o seen = Unit {0}
 
--- An event with an outcome has this reply and this effect. The outcome is the one that the reply tells of.
+-- An event with an outcome has this reply and this effect. The outcome is the one that the reply reports.
 pub record HasEffect (m : MachineState) (e : Event) (o : Outcome) (reply : Reply) (effect : Effect) : Type 0 where
   pub seen : Next
   pub may_see : MaySee m e o seen
@@ -200,13 +202,15 @@ pub record HasEffect (m : MachineState) (e : Event) (o : Outcome) (reply : Reply
   pub effect_is : effect ≡ (answer m e o seen).effect
   pub outcome_is : outcome_of reply ≡ o
 
--- One step of a machine: an event with its outcome, the reply, and the machine after it, which is the effect applied.
+-- One step of a machine: an event with its outcome, the reply, and the machine after it, which is the old one with the effect
+-- applied.
 pub record IsStep (m : MachineState) (e : Event) (o : Outcome) (reply : Reply) (after : MachineState) : Type 0 where
   pub effect : Effect
   pub has : HasEffect m e o reply effect
   pub changed : after ≡ applied m effect
 
--- A step with the outcome of its reply, and a log after it, which took in exactly the items that the step writes into.
+-- A step whose outcome is the one that the reply reports, with a log: it has taken in exactly the items that the step writes
+-- into.
 pub record IsLoggedStep {L : Type 0} (taking : L → Item → L) (m : MachineState) (log : L) (e : Event) (reply : Reply) (after : MachineState) (new_log : L) : Type 0 where
   pub effect : Effect
   pub has : HasEffect m e (outcome_of reply) reply effect

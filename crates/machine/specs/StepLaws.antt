@@ -15,15 +15,15 @@ use Rattle.machine.specs.declared.event.Event.TheVariants.{RegRead, RegWrite, Me
 use Rattle.machine.specs.declared.reply.Reply.{Reply}
 use Rattle.machine.specs.declared.reply.Reply.TheVariants.{NeedsReset, NoMemory, Refused}
 
--- Effects of one event on one machine with one outcome are one effect: whatever a device sees in a ring is settled by RAM.
+-- The machine, the event and the outcome determine the reply and the effect: what a device sees in a ring is determined by RAM.
 abbrev pub EffectsAgree : Type 0
 EffectsAgree = (m : MachineState) (e : Event) (o : Outcome) (r s : Reply) (f g : Effect) → HasEffect m e o r f → HasEffect m e o s g → (r ≡ s) × (f ≡ g)
 
--- So steps of one machine with one outcome are one step.
+-- So the machine, the event and the outcome determine the reply and the machine after the step.
 abbrev pub StepsAgree : Type 0
 StepsAgree = (m : MachineState) (e : Event) (o : Outcome) (r s : Reply) (a b : MachineState) → IsStep m e o r a → IsStep m e o s b → (r ≡ s) × (a ≡ b)
 
--- So are runs.
+-- So the machine, the events and the outcomes determine the replies of a run and the machine after it.
 abbrev pub RunsAgree : Type 0
 RunsAgree = (m : MachineState) (es : List Event) (os : List Outcome) (rs ss : List Reply) (a b : MachineState) → IsRun m es os rs a → IsRun m es os ss b → (rs ≡ ss) × (a ≡ b)
 
@@ -37,7 +37,7 @@ Fits (Step dev pick) = (dev < 2 ^ 8) × (pick < 2 ^ 8)
 Fits (Input dev bytes) = (dev < 2 ^ 8) × IsBytes bytes
 Fits (Resize dev cols rows) = (dev < 2 ^ 8) × (cols < 2 ^ 16) × (rows < 2 ^ 16)
 
--- The effect of a step of a sound machine lies within it.
+-- The effect of a step of a sound machine lies within it: in its RAM, its disks and its devices.
 abbrev pub StepStaysWithin : Type 0
 StepStaysWithin = (m : MachineState) (e : Event) (o : Outcome) (r : Reply) (f : Effect) → IsSound m → HasEffect m e o r f → IsWithin m f
 
@@ -49,7 +49,7 @@ StepKeepsShape = (m : MachineState) (e : Event) (o : Outcome) (r : Reply) (f : E
 abbrev pub StepStaysSound : Type 0
 StepStaysSound = (m : MachineState) (e : Event) (o : Outcome) (r : Reply) (f : Effect) → IsSound m → Fits e → HasEffect m e o r f → IsSound (applied m f)
 
--- An event that was refused, or was refused memory, changes nothing.
+-- An event that was refused, or for which memory was refused, changes nothing.
 abbrev pub IsRefusal : Reply → Type 0
 IsRefusal NoMemory = Unit {0}
 IsRefusal (Refused refusal) = Unit {0}
@@ -58,8 +58,8 @@ IsRefusal _ = ⊥
 abbrev pub RefusalsChangeNothing : Type 0
 RefusalsChangeNothing = (m : MachineState) (e : Event) (o : Outcome) (r : Reply) (after : MachineState) → IsStep m e o r after → IsRefusal r → after ≡ m
 
--- One device has asked for a reset: its status has DEVICE_NEEDS_RESET and its interrupts that of a changed configuration
--- (VIRTIO 1.2, 2.1.2). Nothing else has changed, in no device, in RAM and on no disk.
+-- One device has asked for a reset: its status has DEVICE_NEEDS_RESET, and its interrupt status the bit of a changed
+-- configuration (VIRTIO 1.2, 2.1.2). Nothing else has changed, in any device, in RAM or on any disk.
 pub record IsContained (m after : MachineState) (dev : ℕ) : Type 0 where
   pub device : DeviceState
   pub there : slice_get m.devices dev ≡ Some device
@@ -72,11 +72,12 @@ pub record IsContained (m after : MachineState) (dev : ℕ) : Type 0 where
     });
   }
 
--- A malformed chain stops its own device, and harms nothing else.
+-- A malformed chain stops its own device, and changes nothing else.
 abbrev pub MalformedIsContained : Type 0
 MalformedIsContained = (m : MachineState) (dev pick : ℕ) (o : Outcome) (after : MachineState) → IsStep m (Step dev pick) o NeedsReset after → IsContained m after dev
 
--- A device asks for a reset exactly where it looks at a queue that is malformed and memory was not refused.
+-- A step makes a device ask for a reset exactly if it looks at a queue that is malformed and the outcome is `fine`: memory was
+-- not refused.
 abbrev pub MalformedAsksForReset : Type 0
 MalformedAsksForReset = (m : MachineState) (dev pick : ℕ) (o : Outcome) (r : Reply) (after : MachineState) → IsStep m (Step dev pick) o r after
     → (r ≡ NeedsReset) ↔ ((o ≡ fine) × LooksAtMalformed m dev pick)

@@ -6,7 +6,7 @@ use Rattle.machine.specs.Seen.{Marks, failed_at, marks_at}
 use Rattle.receiver.specs.declared.recv_error.RecvError.{RecvError}
 use Rattle.receiver.specs.declared.recv_error.RecvError.TheVariants.{DiskFailed}
 
--- The sizes of disks, in sectors, and what is known of them beside their sectors.
+-- The sizes of disks, in sectors, and what is known of them besides their sectors.
 abbrev pub sizes_in : List DiskState → List ℕ
 sizes_in disks = map (λ d. length d.sectors) disks
 
@@ -34,7 +34,8 @@ pub record HasFailed (old new : List Marks) : Type 0 where
   pub unsteady : (marks_at old disk).steady ≡ false
   pub rose : new ≡ failed_at old disk
 
--- The marks of the disks after a refusal: the count of failures of one rose exactly where a disk is said to have failed.
+-- The marks of the disks after a refusal: if it says that a disk failed, the failure count of one disk, which is not steady,
+-- went up by one; otherwise they are as before.
 abbrev pub MarksRefused : List Marks → RecvError → List Marks → Type 0
 MarksRefused old DiskFailed new = HasFailed old new
 MarksRefused old _ new = new ≡ old
@@ -44,7 +45,7 @@ abbrev pub MarksAfter : {A : Type 0} → List Marks → Result A RecvError → L
 MarksAfter old (Ok x) new = new ≡ old
 MarksAfter old (Err e) new = MarksRefused old e new
 
--- A call leaves the sizes of the disks, and their marks but for what a refusal tells.
+-- A call keeps the sizes of the disks, and their marks except for the failure that a refusal reports.
 pub record AreKept (old new : List DiskState) : Type 0 where
   pub sizes : sizes_in new ≡ sizes_in old
   pub marks : all_marks_in new ≡ all_marks_in old

@@ -1,5 +1,5 @@
--- The faults of a stream, each with its place: the number of bytes up to the one that tells it. Behind the header and
--- whole good records stand bytes that begin with the fault.
+-- The faults of a stream, each with its place: the number of bytes up to and including the one at which it is found. The header
+-- and whole good records come first, and then bytes that begin with the fault.
 use Rattle.std.specs.Prelude.{◌≡◌, ◌≢◌, ◌<◌, ◌≤◌, ◌^◌, ◌⊎◌, ℕ, ◌+◌, ◌*◌, List, [], ◌∷◌, ◌++◌, length, drop, All, Some, None}
 use Rattle.sha2.specs.Sha256.{sha256}
 use Rattle.guestmem.specs.Number.{number_at}
@@ -19,26 +19,26 @@ use Rattle.receiver.specs.Good.{AreGood, AreNamed, devices_in}
 use Rattle.receiver.specs.declared.recv_error.RecvError.{RecvError}
 use Rattle.receiver.specs.declared.recv_error.RecvError.TheVariants.{BadMagic, BadVersion, BadShape, ShapeMismatch, BadTag, BadPage, BadSector, BadRound, BadDevice, BadDigest, Missing, Trailing}
 
--- A tag that may stand behind so many devices of so many: pages, sectors and ends of rounds before all devices, a device
--- while one is missing.
+-- A tag that may come next, after `devices` of `count` device records: pages, sectors and ends of rounds before all devices, a
+-- device while one is missing.
 pub record MayTag (count devices tag : ℕ) : Type 0 where
   pub least : 1 ≤ tag
   pub most : tag ≤ 5
   pub early : tag ≤ 3 → devices ≡ 0
   pub missing : tag ≡ 4 → devices < count
 
--- What has to be there before a device (tag 4) or the digest (tag 5): each item, and before the digest each device.
+-- What must come before a device (tag 4) or the digest (tag 5): each item, and before the digest each device.
 pub record IsComplete (pages : ℕ) (shapes : List Shape) (before : List Record) (tag : ℕ) : Type 0 where
   pub items : AreNamed (layout_by pages shapes) before
   pub devices : tag ≡ 5 → devices_in before ≡ length shapes
 
--- The bytes begin with a tag, and a record of this tag may stand here.
+-- The bytes begin with a tag, and a record of this tag may come here.
 pub record Opens (pages : ℕ) (shapes : List Shape) (before : List Record) (tail : List ℕ) (tag : ℕ) (more : List ℕ) : Type 0 where
   pub whole : tail ≡ tag ∷ more
   pub may : MayTag (length shapes) (devices_in before) tag
   pub complete : 4 ≤ tag → IsComplete pages shapes before tag
 
--- 5, told at the tag.
+-- BadTag (5), found at the tag.
 pub record IsBadTag (shapes : List Shape) (before : List Record) (tail : List ℕ) (place : ℕ) : Type 0 where
   pub tag : ℕ
   pub more : List ℕ
@@ -46,7 +46,7 @@ pub record IsBadTag (shapes : List Shape) (before : List Record) (tail : List �
   pub never : ¬ (MayTag (length shapes) (devices_in before) tag)
   pub there : place ≡ 1
 
--- 11, told at the tag.
+-- Missing (11), found at the tag.
 pub record IsMissing (pages : ℕ) (shapes : List Shape) (before : List Record) (tail : List ℕ) (place : ℕ) : Type 0 where
   pub tag : ℕ
   pub more : List ℕ
@@ -56,7 +56,7 @@ pub record IsMissing (pages : ℕ) (shapes : List Shape) (before : List Record) 
   pub never : ¬ (IsComplete pages shapes before tag)
   pub there : place ≡ 1
 
--- 6, told at the number's end.
+-- BadPage (6), found at the end of the number.
 pub record IsBadPage (pages : ℕ) (shapes : List Shape) (before : List Record) (tail : List ℕ) (place : ℕ) : Type 0 where
   pub number : ℕ
   pub more : List ℕ
@@ -65,7 +65,7 @@ pub record IsBadPage (pages : ℕ) (shapes : List Shape) (before : List Record) 
   pub never : pages ≤ number
   pub there : place ≡ 5
 
--- 7, told at the byte that says whether the sector is good.
+-- BadSector (7), found at the byte that says whether the sector is good.
 pub record IsBadSector (pages : ℕ) (shapes : List Shape) (before : List Record) (tail : List ℕ) (place : ℕ) : Type 0 where
   pub disk : ℕ
   pub number : ℕ
@@ -76,7 +76,7 @@ pub record IsBadSector (pages : ℕ) (shapes : List Shape) (before : List Record
   pub never : ¬ (IsItemIn (layout_by pages shapes) (items.sector disk number) × (mark ≤ 1))
   pub there : place ≡ 7
 
--- 8, told at the number's end.
+-- BadRound (8), found at the end of the number.
 pub record IsBadRound (pages : ℕ) (shapes : List Shape) (before : List Record) (tail : List ℕ) (place : ℕ) : Type 0 where
   pub number : ℕ
   pub more : List ℕ
@@ -85,12 +85,12 @@ pub record IsBadRound (pages : ℕ) (shapes : List Shape) (before : List Record)
   pub never : number ≢ rounds before + 1
   pub there : place ≡ 5
 
--- A device's number and the length of its body that may stand here.
+-- A device's number and the length of its body that may come here.
 pub record IsNextHead (before : List Record) (number len : ℕ) : Type 0 where
   pub next : number ≡ devices_in before
   pub few : len ≤ 131072
 
--- 9, told at the length's end.
+-- BadDevice (9), found at the end of the length.
 pub record IsBadHead (pages : ℕ) (shapes : List Shape) (before : List Record) (tail : List ℕ) (place : ℕ) : Type 0 where
   pub number : ℕ
   pub len : ℕ
@@ -100,7 +100,7 @@ pub record IsBadHead (pages : ℕ) (shapes : List Shape) (before : List Record) 
   pub never : ¬ (IsNextHead before number len)
   pub there : place ≡ 6
 
--- 9, told at the body's end: no sound device of the shape that is next has this body.
+-- BadDevice (9), found at the end of the body: no sound device of the shape that is next has this body.
 pub record IsBadBody (pages : ℕ) (shapes : List Shape) (before : List Record) (tail : List ℕ) (place : ℕ) : Type 0 where
   pub body : List ℕ
   pub more : List ℕ
@@ -112,7 +112,7 @@ pub record IsBadBody (pages : ℕ) (shapes : List Shape) (before : List Record) 
   pub never : (d : DeviceState) → ¬ (IsBodyOf shape (4096 * pages) body d)
   pub there : place ≡ 6 + length body
 
--- 10, told at the digest's last byte.
+-- BadDigest (10), found at the last byte of the digest.
 pub record IsBadDigest (pages : ℕ) (shapes : List Shape) (before : List Record) (tail : List ℕ) (place : ℕ) : Type 0 where
   pub digest : List ℕ
   pub more : List ℕ
@@ -121,14 +121,15 @@ pub record IsBadDigest (pages : ℕ) (shapes : List Shape) (before : List Record
   pub never : digest ≢ sha256 (header pages shapes ++ texts before)
   pub there : place ≡ 33
 
--- 12, told at the first byte behind the digest.
+-- Trailing (12), found at the first byte after the digest.
 pub record IsTrailing (pages : ℕ) (shapes : List Shape) (before : List Record) (tail : List ℕ) (place : ℕ) : Type 0 where
   pub byte : ℕ
   pub more : List ℕ
   pub opens : Opens pages shapes before tail 5 (sha256 (header pages shapes ++ texts before) ++ (byte ∷ more))
   pub there : place ≡ 34
 
--- The bytes behind whole good records begin with a fault, which the byte at this place of theirs tells.
+-- The bytes after whole good records begin with this fault. `place` is the number of these bytes up to and including the one at
+-- which it is found.
 abbrev pub IsFault : ℕ → List Shape → List Record → List ℕ → RecvError → ℕ → Type 0
 IsFault pages shapes before tail BadTag place = IsBadTag shapes before tail place
 IsFault pages shapes before tail BadPage place = IsBadPage pages shapes before tail place
@@ -149,20 +150,20 @@ pub record MayCount (pages count : ℕ) : Type 0 where
   pub some_device : 1 ≤ count
   pub few_devices : count ≤ 16
 
--- 1, told at the fourth byte.
+-- BadMagic (1), found at the fourth byte.
 pub record IsBadMagic (bytes : List ℕ) (at : ℕ) : Type 0 where
   pub long : 4 ≤ length bytes
   pub never : number_at bytes 0 4 ≢ 0x47494d56
   pub there : at ≡ 4
 
--- 2, told at the eighth byte.
+-- BadVersion (2), found at the eighth byte.
 pub record IsBadVersion (bytes : List ℕ) (at : ℕ) : Type 0 where
   pub long : 8 ≤ length bytes
   pub magic : number_at bytes 0 4 ≡ 0x47494d56
   pub never : number_at bytes 4 4 ≢ 1
   pub there : at ≡ 8
 
--- The first 16 bytes say so many pages and devices.
+-- The first 16 bytes have the magic bytes and the version, and these counts of pages and devices.
 pub record Says (bytes : List ℕ) (pages count : ℕ) : Type 0 where
   pub long : 16 ≤ length bytes
   pub magic : number_at bytes 0 4 ≡ 0x47494d56
@@ -170,7 +171,7 @@ pub record Says (bytes : List ℕ) (pages count : ℕ) : Type 0 where
   pub pages_are : number_at bytes 8 4 ≡ pages
   pub count_is : number_at bytes 12 4 ≡ count
 
--- 3, told at the sixteenth byte.
+-- BadShape (3), found at the sixteenth byte.
 pub record IsBadCount (bytes : List ℕ) (at : ℕ) : Type 0 where
   pub pages : ℕ
   pub count : ℕ
@@ -178,8 +179,8 @@ pub record IsBadCount (bytes : List ℕ) (at : ℕ) : Type 0 where
   pub never : ¬ (MayCount pages count)
   pub there : at ≡ 16
 
--- A number that no device has, told at this number; and as many bytes as the shape has that begins with their number, which
--- are the spelling of no shape that a device may have.
+-- Bytes that are no shape: a device ID that no device has, found at this byte; or (`IsBeyond`) as many bytes as a shape with
+-- their first byte as device ID has, which are the encoding of no shape that a device may have.
 pub record IsUnknown (bad : List ℕ) : Type 0 where
   pub number : ℕ
   pub is : bad ≡ number ∷ []
@@ -195,7 +196,7 @@ pub record IsBeyond (bad : List ℕ) : Type 0 where
 abbrev pub IsNoShape : List ℕ → Type 0
 IsNoShape bad = IsUnknown bad ⊎ IsBeyond bad
 
--- 3, told at the number of a device that is unknown, or at the end of its shape.
+-- BadShape (3), found at a device ID that is unknown, or at the end of the shape.
 pub record IsBadShape (bytes : List ℕ) (at : ℕ) : Type 0 where
   pub pages : ℕ
   pub count : ℕ
@@ -210,7 +211,7 @@ pub record IsBadShape (bytes : List ℕ) (at : ℕ) : Type 0 where
   pub never : IsNoShape bad
   pub there : at ≡ 16 + (length (spelled_shapes shapes) + length bad)
 
--- 4, told at the header's end.
+-- ShapeMismatch (4), found at the end of the header.
 pub record IsMismatch (sizes bytes : List ℕ) (at : ℕ) : Type 0 where
   pub pages : ℕ
   pub shapes : List Shape
@@ -226,7 +227,7 @@ IsHeaderFault sizes bytes BadShape at = IsBadCount bytes at ⊎ IsBadShape bytes
 IsHeaderFault sizes bytes ShapeMismatch at = IsMismatch sizes bytes at
 IsHeaderFault sizes bytes _ at = ⊥
 
--- The bytes begin with a header of a machine with these disks, and whole good records behind it.
+-- The bytes begin with a header of a machine with disks of these sizes, then come whole good records, then `tail`.
 pub record IsFront (sizes bytes : List ℕ) (pages : ℕ) (shapes : List Shape) (before : List Record) (tail : List ℕ) : Type 0 where
   pub begins : Begins bytes pages shapes (texts before ++ tail)
   pub fits : sizes ≡ disk_sizes shapes
@@ -242,6 +243,6 @@ pub record IsRecordFault (sizes bytes : List ℕ) (k : RecvError) (at : ℕ) : T
   pub fault : IsFault pages shapes before tail k place
   pub there : at ≡ length (header pages shapes ++ texts before) + place
 
--- For disks of these sizes the bytes hold this fault, told at this place.
+-- For disks of these sizes the bytes have this fault, found at this place.
 abbrev pub Fault : List ℕ → List ℕ → RecvError → ℕ → Type 0
 Fault sizes bytes k at = IsHeaderFault sizes bytes k at ⊎ IsRecordFault sizes bytes k at

@@ -24,16 +24,17 @@ use Rattle.receiver.specs.declared.part.Part.TheVariants as parts
 use Rattle.receiver.specs.declared.recv_error.RecvError.{RecvError}
 use Rattle.receiver.specs.declared.recv_error.RecvError.TheVariants.{DiskFailed, NoMemory}
 
--- The records of devices, numbered from here on.
+-- The records of devices, numbered from `number` on.
 unfoldable pub device_records : ℕ → List DeviceState → List Record
 device_records number [] = []
 device_records number (d ∷ ds) = device number (body d) ∷ device_records (number + 1) ds
 
--- What the disks of these devices hold, of which these sectors are marked bad.
+-- The sectors of the disks of these devices, where the sectors with these marks are bad.
 abbrev pub held_sectors : List Shape → List DiskState → List (List Bool) → List (List Sector)
 held_sectors shapes disks bad = dealt_sectors shapes (marked_sectors disks bad)
 
--- The intake has taken these bytes, a header and these whole good records, and the disks are of the devices.
+-- The intake has taken in these bytes, a header and these whole good records, and the disks have the sizes of those of the
+-- devices.
 pub record HasRead (disks : List DiskState) (pages : ℕ) (shapes : List Shape) (before : List Record) (i : Intake) (front : List ℕ) : Type 0 where
   pub head : IsHeader pages shapes
   pub fits : sizes_in disks ≡ disk_sizes shapes
@@ -51,18 +52,18 @@ pub record HasRead (disks : List DiskState) (pages : ℕ) (shapes : List Shape) 
   pub devices_are : shapes_in i.devices.items ≡ take (length i.devices.items) shapes
   pub sound : AllByRecursion (IsSoundDevice (4096 * pages)) i.devices.items
 
--- A refusal tells a fault, want of memory and a disk that failed aside.
+-- What a refusal means: there is this fault, unless memory was refused or a disk failed.
 abbrev pub Tells : RecvError → Type 0 → Type 0
 Tells NoMemory F = Unit {0}
 Tells DiskFailed F = Unit {0}
 Tells _ F = F
 
--- The bytes behind whole good records begin with no record and no fault.
+-- The bytes after whole good records begin with no whole record and with no fault.
 pub record Waits (pages : ℕ) (shapes : List Shape) (before : List Record) (tail : List ℕ) : Type 0 where
   pub no_record : BeginsNoRecord tail
   pub no_fault : (k : RecvError) (place : ℕ) → ¬ (IsFault pages shapes before tail k place)
 
--- The bytes behind all records begin with their digest.
+-- The bytes after all records begin with the tag and the digest of all bytes before them.
 pub record Ends (pages : ℕ) (shapes : List Shape) (before : List Record) (tail : List ℕ) : Type 0 where
   pub more : List ℕ
   pub opens : Opens pages shapes before tail 5 (sha256 (header pages shapes ++ texts before) ++ more)
@@ -76,26 +77,26 @@ size_of parts.Wait = 0
 size_of (parts.Record len) = len
 size_of parts.End = 33
 
--- A record has some bytes.
+-- A record is not empty.
 abbrev pub IsLong : Part → Type 0
 IsLong parts.Wait = Unit {0}
 IsLong (parts.Record len) = 0 < len
 IsLong parts.End = Unit {0}
 
--- The disks, and the intake after it looked at the bytes behind those that it has taken.
+-- The disks and the intake, after it looked at the bytes that follow those that it has taken in.
 abbrev pub After : List DiskState → List DiskState → ℕ → List Shape → List Record → Intake → List ℕ → List ℕ → Result Part RecvError → Type 0
 After old disks pages shapes before new front tail (Ok parts.Wait) = AreKept old disks × HasRead disks pages shapes before new front × Waits pages shapes before tail
 After old disks pages shapes before new front tail (Ok (parts.Record len)) = AreKept old disks × ((r : Record) × HasRead disks pages shapes (before ++ r ∷ []) new (front ++ take len tail))
 After old disks pages shapes before new front tail (Ok parts.End) = AreKept old disks × HasRead disks pages shapes before new front × Ends pages shapes before tail
 After old disks pages shapes before new front tail (Err e) = AreRefused old disks e × Tells e ((place : ℕ) × IsFault pages shapes before tail e place)
 
--- The intake has taken a beginning of the bytes, and waits for more.
+-- The intake has taken in the front of the bytes, and waits for more.
 pub record IsOpen (disks : List DiskState) (pages : ℕ) (shapes : List Shape) (i : Intake) (front tail : List ℕ) : Type 0 where
   pub before : List Record
   pub read : HasRead disks pages shapes before i front
   pub waits : Waits pages shapes before tail
 
--- The intake has taken a whole stream.
+-- The intake has taken in a whole stream.
 pub record IsEnded (disks : List DiskState) (pages : ℕ) (shapes : List Shape) (i : Intake) (bytes : List ℕ) : Type 0 where
   pub before : List Record
   pub front : List ℕ

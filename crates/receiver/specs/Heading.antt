@@ -1,4 +1,4 @@
--- What stands at the front of a stream, as far as it came.
+-- What is at the front of a stream, of which a part may still be missing.
 use Rattle.std.specs.Prelude.{◌≡◌, ◌<◌, ℕ, List, ◌++◌, length, All, Option, Some, None, Result, Ok, Err}
 use Rattle.wire.specs.Header.{Begins, spelled_shape, spelled_shapes}
 use Rattle.machine.specs.Sound.{IsSoundShape}
@@ -7,7 +7,7 @@ use Rattle.receiver.specs.Faults.{IsNoShape, IsHeaderFault}
 use Rattle.receiver.specs.declared.recv_error.RecvError.{RecvError}
 use Rattle.receiver.specs.declared.recv_error.RecvError.TheVariants.{BadShape, NoMemory}
 
--- The bytes begin with no shape, and with none that is wrong.
+-- The bytes begin with no whole shape, and with none that is wrong.
 pub record ShapeWaits (bytes : List ℕ) : Type 0 where
   pub no_shape : (s : Shape) (rest : List ℕ) → IsSoundShape s → ¬ (bytes ≡ spelled_shape s ++ rest)
   pub no_bad : (bad rest : List ℕ) → IsNoShape bad → ¬ (bytes ≡ bad ++ rest)
@@ -23,7 +23,7 @@ FirstShape view bytes (Ok None) = ShapeWaits bytes
 FirstShape view bytes (Ok (Some found)) = IsSoundShape found.0 × (bytes ≡ spelled_shape found.0 ++ view found.1)
 FirstShape view bytes (Err e) = (e ≡ BadShape) × BadFirst bytes
 
--- Fewer shapes than there are to be, and what is behind them.
+-- Fewer than `count` shapes, and the bytes after them.
 pub record FewShapes (count : ℕ) (bytes : List ℕ) : Type 0 where
   pub shapes : List Shape
   pub rest : List ℕ
@@ -54,12 +54,12 @@ ReadShapes shapes view count bytes (Ok None) = ShapesWait count bytes
 ReadShapes shapes view count bytes (Ok (Some found)) = ShapesRead count bytes (shapes found.0) (view found.1)
 ReadShapes shapes view count bytes (Err e) = OnBad e (ShapesBad count bytes)
 
--- A refusal tells a fault of the header, want of memory aside.
+-- What a refusal means: there is this fault of the header, unless memory was refused.
 abbrev pub TellsHead : RecvError → Type 0 → Type 0
 TellsHead NoMemory F = Unit {0}
 TellsHead _ F = F
 
--- The bytes begin with no header, and with no fault of one.
+-- The bytes begin with no whole header, and with no fault of one.
 pub record WaitsHead (bytes : List ℕ) : Type 0 where
   pub no_header : (pages : ℕ) (shapes : List Shape) (rest : List ℕ) → ¬ (Begins bytes pages shapes rest)
   pub no_fault : (sizes : List ℕ) (k : RecvError) (at : ℕ) → ¬ (IsHeaderFault sizes bytes k at)

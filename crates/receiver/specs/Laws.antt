@@ -1,4 +1,4 @@
--- What the laws of faults say.
+-- The laws of faults.
 use Rattle.std.specs.Prelude.{◌≡◌, ◌≤◌, ℕ, List, ◌++◌, length}
 use Rattle.wire.specs.Stream.{IsStream, rounds, shapes_in, whole}
 use Rattle.machine.specs.Seen.{Marks}
@@ -11,34 +11,34 @@ use Rattle.receiver.specs.Faults.{Fault}
 use Rattle.receiver.specs.declared.recv_error.RecvError.{RecvError}
 use Rattle.receiver.specs.declared.recv_error.RecvError.TheVariants.{DiskFailed, NoMemory}
 
--- In one list of bytes stands one fault at most, at one place: it is the first.
+-- A list of bytes has at most one fault, at one place: it is the first.
 abbrev pub OneFault : Type 0
 OneFault = (sizes bytes : List ℕ) (k j : RecvError) (at bt : ℕ) → Fault sizes bytes k at → Fault sizes bytes j bt → (k ≡ j) × (at ≡ bt)
 
--- In a stream of a machine with these disks stands no fault.
+-- A stream of a machine with disks of these sizes has no fault.
 abbrev pub NoFaultInStream : Type 0
 NoFaultInStream = (sizes bytes : List ℕ) (m : MachineState) → IsStream bytes m → sizes ≡ disk_sizes (shapes_in m.devices) → NoFault sizes bytes
 
--- What stands in bytes stands in longer bytes, at the same place.
+-- A fault in some bytes is a fault, at the same place, in every extension of them.
 abbrev pub FaultsStay : Type 0
 FaultsStay = (sizes b c : List ℕ) (k : RecvError) (at : ℕ) → Fault sizes b k at → Fault sizes (b ++ c) k at
 
--- A fault of longer bytes stands in each beginning of them that reaches its place.
+-- A fault in some bytes is a fault, at the same place, in every prefix of them that reaches its place.
 abbrev pub FaultsStandEarly : Type 0
 FaultsStandEarly = (sizes b c : List ℕ) (k : RecvError) (at : ℕ) → at ≤ length b → Fault sizes (b ++ c) k at → Fault sizes b k at
 
--- The rounds of a stream are the ends of rounds among its records.
+-- The rounds that a stream has (`HasRounds`) are the ends of rounds among its records.
 abbrev pub RoundsOfStream : Type 0
 RoundsOfStream = (sizes bytes : List ℕ) (m : MachineState) (n : ℕ) (s : IsStream bytes m) → sizes ≡ disk_sizes (shapes_in m.devices) → HasRounds sizes bytes n → rounds s.entries ≡ n
 
--- A refusal for want of memory, or since a disk failed, of which one is not steady.
+-- A refusal because memory was refused, or because a disk failed, where some disk is not steady.
 abbrev pub IsSpoilt : List Marks → RecvError → Type 0
 IsSpoilt marks NoMemory = Unit {0}
 IsSpoilt marks DiskFailed = IsUnsteady marks
 IsSpoilt marks _ = ⊥
 
--- What is saved of a sound machine is received, with disks of the sizes of its own, want of memory and a disk that fails
--- aside, as this machine and no other.
+-- A saved sound machine is received, with disks of the sizes of its own, unless memory is refused or a disk fails, where some
+-- disk is not steady. What is received is this machine and no other.
 abbrev pub SavedIsReceived : Type 0
 SavedIsReceived = (sizes : List ℕ) (marks : List Marks) (m : MachineState) → IsSound m → sizes ≡ disk_sizes (shapes_in m.devices)
     → ((e : RecvError) → RefusesSlice sizes marks (whole m) e → IsSpoilt marks e) × ((k : MachineState) → IsStream (whole m) k → k ≡ m)

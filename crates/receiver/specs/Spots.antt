@@ -13,7 +13,7 @@ use Rattle.receiver.specs.declared.intake.Spot.{Spot}
 use Rattle.receiver.specs.declared.recv_error.RecvError.{RecvError}
 use Rattle.receiver.specs.declared.recv_error.RecvError.TheVariants.{DiskFailed}
 
--- How many of the devices before a place have a disk.
+-- How many of the devices before the index `place` have a disk.
 abbrev pub disks_before : List Shape → ℕ → ℕ
 disks_before shapes place = count_by (λ shape. nat_lt 0 (sector_count shape)) (take place shapes)
 
@@ -27,13 +27,13 @@ pub record HasMarks (i : Intake) (number : ℕ) (spot : Spot) : Type 0 where
   pub sector : number < length (slice_index_or i.bad.items spot.disk [])
   pub item : spot.item < length i.named
 
--- The device has this sector, and it is there.
+-- The device has this sector, and `spot` has the index of its disk among all disks and the number of its item.
 pub record IsSpotOf (pages : ℕ) (shapes : List Shape) (dev number : ℕ) (spot : Spot) : Type 0 where
   pub there : IsItemIn (layout_by pages shapes) (items.sector dev number)
   pub disk : spot.disk ≡ disks_before shapes dev
   pub item : spot.item ≡ number_of (layout_by pages shapes) (items.sector dev number)
 
--- A record more was taken, or its disk failed.
+-- One more record was taken in, or a disk failed.
 abbrev pub Taking : List DiskState → List DiskState → ℕ → List Shape → List Record → Intake → List ℕ → Record → Result (Unit {0}) RecvError → Type 0
 Taking old disks pages shapes before new front r (Ok x) = AreKept old disks × HasRead disks pages shapes (before ++ r ∷ []) new (front ++ spelled_record r)
 Taking old disks pages shapes before new front r (Err e) = (e ≡ DiskFailed) × AreRefused old disks DiskFailed

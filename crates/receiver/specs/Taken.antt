@@ -1,4 +1,4 @@
--- What came of the items of a machine.
+-- What was received of the items of a machine.
 use Rattle.std.specs.Prelude.{◌≡◌, ℕ, ◌*◌, Bool, true, false, List, length, get_or, is_some, Option, Some, None}
 use Rattle.guestmem.specs.Item.{Item}
 use Rattle.machine.specs.Layout.{Layout, IsItemIn, number_of, size_of}
@@ -10,8 +10,8 @@ abbrev pub shown : {A : Type 0} → Bool → A → Option A
 shown true x = Some x
 shown false x = None
 
--- An item is marked exactly where a record names it. Where the disks are trusted, RAM and disks hold of each marked item what
--- the last record says that names it.
+-- An item is marked exactly if a record names it. If the disks are trusted, RAM and the disks hold for each marked item the
+-- contents that the last record that names it gives.
 pub record AreTaken (trusted : Type 0) (ram : List ℕ) (disks : List (List Sector)) (named : List Bool) (l : Layout) (es : List Record) : Type 0 where
   pub ram_size : length ram ≡ 4096 * l.pages
   pub named_size : length named ≡ size_of l

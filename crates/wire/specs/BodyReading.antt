@@ -1,4 +1,4 @@
--- How the body of a device is read. That this is the spelling the other way round is proved beside it.
+-- How the body of a device is decoded. That this is the inverse of the encoding is proved in `proofs/`.
 use Rattle.std.specs.Prelude.{ℕ, zero, suc, ◌+◌, ◌*◌, ◌≤◌, ◌==◌, ◌||◌, not, nat_eq, nat_lt, if◌then◌else◌, List, [], ◌∷◌, drop, length, Option, Some, None}
 use Rattle.std.specs.Option.{option_map}
 use Rattle.guestmem.specs.Number.{number_at}
@@ -55,7 +55,7 @@ pub record HasFlags (bytes : List ℕ) : Type 0 where
   pub taking : number_at bytes 32 1 ≤ 1
   pub used : number_at bytes 35 1 ≤ 1
 
--- So many queues, of 36 bytes each, their positions, and their flags.
+-- The first n queues, of 36 bytes each, then their positions, and that each of their flags is 0 or 1.
 unfoldable pub queues_in : ℕ → List ℕ → List Queue
 queues_in zero bytes = []
 queues_in (suc n) bytes = queue_of bytes ∷ queues_in n (drop 36 bytes)
@@ -68,34 +68,34 @@ abbrev pub HaveFlags : ℕ → List ℕ → Type 0
 HaveFlags zero bytes = Unit {0}
 HaveFlags (suc n) bytes = HasFlags bytes × HaveFlags n (drop 36 bytes)
 
--- The bytes begin with the registers that a device has once, and so many queues.
+-- The bytes are long enough for the common registers and `queues` queues, whose flags are 0 or 1.
 pub record HasFront (queues : ℕ) (bytes : List ℕ) : Type 0 where
   pub long : 26 + 36 * queues ≤ length bytes
   pub flags : HaveFlags queues (drop 26 bytes)
 
--- What a device has that has all these, where nothing stands behind them.
+-- The kind-specific state that has all these, if no bytes follow them.
 abbrev pub all_of : {A : Type 0} → (List A → Own) → Option (List A × List ℕ) → Option Own
 all_of has None = None
 all_of has (Some found) = if length found.1 == 0 then Some (has found.0) else None
 
--- What only a network device has: its frames.
+-- The kind-specific state of a network device: its frames.
 unfoldable pub net_own_of : List ℕ → Option Own
 net_own_of bytes =
     if nat_lt (length bytes) 2 || nat_lt INBOX_MAX (number_at bytes 0 2) then None
     else all_of own.Network (several frame_of (number_at bytes 0 2) (drop 2 bytes))
 
--- What only a block device has: its requests.
+-- The kind-specific state of a block device: its requests.
 unfoldable pub block_own_of : List ℕ → Option Own
 block_own_of [] = None
 block_own_of (count ∷ bytes) = if nat_lt REQUESTS_MAX count then None else all_of own.Block (several request_of count bytes)
 
--- Bytes of the host, which are all that stands behind their number.
+-- Bytes of the host, which are all that follows their count in two bytes, and at most 4,096.
 unfoldable pub held_of : List ℕ → Option (List ℕ)
 held_of bytes =
     if nat_lt (length bytes) 2 || not (number_at bytes 0 2 + 2 == length bytes) || nat_lt HOST_BYTES_MAX (number_at bytes 0 2) then None
     else Some (drop 2 bytes)
 
--- What only a console has: its size, in the first 4 bytes, and the bytes held for its driver.
+-- The kind-specific state of a console: its size, in the first 4 bytes, and the bytes held for its driver.
 abbrev pub size_from : List ℕ → ConsoleSize
 size_from (a ∷ b ∷ rest) = record { columns = a; rows = b }
 size_from numbers = first_size
@@ -106,23 +106,24 @@ size_of bytes = size_from (numbers size_widths 0 bytes)
 unfoldable pub console_own_of : List ℕ → Option Own
 console_own_of bytes = if nat_lt (length bytes) 4 then None else option_map (own.Console (size_of bytes)) (held_of (drop 4 bytes))
 
--- What only an entropy device has: its pool.
+-- The kind-specific state of an entropy device: its pool.
 abbrev pub entropy_own_of : List ℕ → Option Own
 entropy_own_of bytes = option_map own.Entropy (held_of bytes)
 
--- What only the kind of device has that a shape says, in the bytes behind its queues.
+-- The kind-specific state of a device of this shape, in the bytes after its queues.
 abbrev pub own_of : Shape → List ℕ → Option Own
 own_of (Net mac) bytes = net_own_of bytes
 own_of (Block sectors read_only id) bytes = block_own_of bytes
 own_of Console bytes = console_own_of bytes
 own_of Entropy bytes = entropy_own_of bytes
 
--- The device of a shape, in a machine with so many bytes of RAM, whose body begins with these bytes and that has this.
+-- The device of this shape, in a machine with `ram_len` bytes of RAM, whose common registers and queues are encoded in the
+-- first of these bytes, and whose kind-specific state is `own_is`.
 abbrev pub device_of : ℕ → Shape → List ℕ → Own → DeviceState
 device_of ram_len shape bytes own_is =
     saved_device ram_len shape (common_of bytes) (queues_in (queues_of shape) (drop 26 bytes)) (positions_in (queues_of shape) (drop 26 bytes)) own_is
 
--- What an error tells of bytes that are no body.
+-- What an error says of the bytes: with `BadBody` they are the body of no such device; `NoMemory` says nothing of them.
 abbrev pub RefusesBody : Shape → ℕ → List ℕ → DecodeError → Type 0
 RefusesBody shape ram_len bytes BadBody = (d : DeviceState) → ¬ (IsBodyOf shape ram_len bytes d)
 RefusesBody shape ram_len bytes NoMemory = Unit {0}

@@ -1,5 +1,5 @@
--- The body of a device's record: the registers that it has once, each queue with its positions, and what else its shape
--- has. Every number is little-endian.
+-- The body of a device's record: the registers that it has once, each queue with its positions, and its kind-specific state.
+-- Every number is little-endian.
 use Rattle.std.specs.Prelude.{◌≡◌, ℕ, List, [], ◌∷◌, ◌++◌, length}
 use Rattle.chains.specs.declared.position.Positions.{Positions}
 use Rattle.console.specs.declared.size.ConsoleSize.{ConsoleSize}
@@ -25,8 +25,8 @@ common_numbers c = c.status ∷ c.interrupts ∷ c.device_select ∷ c.driver_se
 unfoldable pub common_text : Common → List ℕ
 common_text c = spelled common_widths (common_numbers c)
 
--- A queue, in 36 bytes: its size, the addresses of its descriptor, driver and device areas, whether it is ready and
--- notified, and where the next chain is taken and published: a place and a wrap counter each.
+-- A queue, in 36 bytes: its size, the addresses of its descriptor, driver and device areas, whether it is ready and notified,
+-- and the positions where the next chain is taken and published: an index and a wrap counter each.
 abbrev pub queue_widths : List ℕ
 queue_widths = 4 ∷ 8 ∷ 8 ∷ 8 ∷ 1 ∷ 1 ∷ 2 ∷ 1 ∷ 2 ∷ 1 ∷ []
 
@@ -42,7 +42,7 @@ abbrev pub queues_text : List Queue → List Positions → List ℕ
 queues_text (q ∷ qs) (p ∷ ps) = queue_text q p ++ queues_text qs ps
 queues_text qs ps = []
 
--- Bytes with their number before them, in two bytes.
+-- Bytes, with their count before them in two bytes.
 abbrev pub held_text : List ℕ → List ℕ
 held_text bytes = digits 2 (length bytes) ++ bytes
 
@@ -56,9 +56,9 @@ size_numbers s = s.columns ∷ s.rows ∷ []
 unfoldable pub size_text : ConsoleSize → List ℕ
 size_text s = spelled size_widths (size_numbers s)
 
--- What only a kind of device has: a network device the frames of its inbox, the oldest first; a block device its outstanding
--- requests in the order of taking; a console its size and the bytes held for its driver; an entropy device the bytes of its
--- pool.
+-- The kind-specific state: of a network device the frames of its inbox, the oldest first; of a block device its outstanding
+-- requests in the order of taking; of a console its size and the bytes held for its driver; of an entropy device the bytes of
+-- its pool.
 abbrev pub own_text : Own → List ℕ
 own_text (Network frames) = frames_text frames
 own_text (Block requests) = requests_text requests
@@ -68,7 +68,7 @@ own_text (Entropy pool) = held_text pool
 abbrev pub body : DeviceState → List ℕ
 body d = common_text d.registers.common ++ (queues_text d.registers.queues d.positions ++ own_text d.own)
 
--- The bytes are the body of this device, which has this shape and is sound in a machine with so many bytes of RAM.
+-- The bytes are the body of this device, which has this shape and is sound in a machine with `ram_len` bytes of RAM.
 pub record IsBodyOf (shape : Shape) (ram_len : ℕ) (bytes : List ℕ) (d : DeviceState) : Type 0 where
   pub shape_is : d.shape ≡ shape
   pub sound : IsSoundDevice ram_len d

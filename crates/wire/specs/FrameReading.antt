@@ -1,13 +1,13 @@
--- How frames are read. That this is the spelling the other way round is proved beside it.
+-- How frames are decoded. That this is the inverse of the encoding is proved in `proofs/`.
 use Rattle.std.specs.Prelude.{ℕ, List, length, take, drop, nat_lt, not, ◌||◌, if◌then◌else◌, Option, Some, None}
 use Rattle.guestmem.specs.Number.{number_at}
 use Rattle.net.specs.Inbox.{is_frame_len}
 
--- The frame of so many bytes at the front of the bytes, and the bytes after it.
+-- The frame of `len` bytes at the front of the bytes, and the bytes after it.
 abbrev pub frame_with : ℕ → List ℕ → Option (List ℕ × List ℕ)
 frame_with len bytes = if nat_lt (length bytes) len then None else Some (take len bytes, drop len bytes)
 
--- The frame at the front of the bytes, behind its length, and the bytes after it.
+-- The frame at the front of the bytes, after its length in two bytes, and the bytes after the frame.
 unfoldable pub frame_of : List ℕ → Option (List ℕ × List ℕ)
 frame_of bytes =
     if nat_lt (length bytes) 2 || not (is_frame_len (number_at bytes 0 2)) then None

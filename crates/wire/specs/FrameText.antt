@@ -7,6 +7,6 @@ use Rattle.wire.specs.Numbers.{digits}
 unfoldable pub frame_text : List ℕ → List ℕ
 frame_text frame = digits 2 (length frame) ++ frame
 
--- Frames one after another, the oldest first, with their number before them, in two bytes.
+-- Frames one after another, the oldest first, with their count before them in two bytes.
 abbrev pub frames_text : List (List ℕ) → List ℕ
 frames_text frames = digits 2 (length frames) ++ flat_map frame_text frames

@@ -6,7 +6,7 @@ use Rattle.machine.specs.Sound.{IsSoundShape}
 use Rattle.machine.specs.declared.shape.Shape.{Shape}
 use Rattle.machine.specs.declared.shape.Shape.TheVariants.{Net, Block, Console, Entropy}
 
--- A device's number, and what else its shape says: of a network device its MAC, and of a block device how many sectors it
+-- The encoding of a shape: the device ID, and then for a network device its MAC, and for a block device how many sectors it
 -- has, whether it is read-only, and its id.
 unfoldable pub spelled_shape : Shape → List ℕ
 spelled_shape (Net mac) = 1 ∷ mac
@@ -17,7 +17,7 @@ spelled_shape Entropy = 4 ∷ []
 abbrev pub spelled_shapes : List Shape → List ℕ
 spelled_shapes shapes = flat_map spelled_shape shapes
 
--- The magic bytes, version 1, and how many pages and devices there are.
+-- The magic bytes, version 1, and the counts of pages and of devices.
 unfoldable pub front : ℕ → ℕ → List ℕ
 front pages count = codes "VMIG" ++ (digits 4 1 ++ (digits 4 pages ++ digits 4 count))
 
@@ -32,7 +32,7 @@ pub record IsHeader (pages : ℕ) (shapes : List Shape) : Type 0 where
   pub few_devices : length shapes ≤ 16
   pub sound : All IsSoundShape shapes
 
--- The bytes begin with this header, and the rest stands behind it.
+-- The bytes begin with this header, and `rest` follows it.
 pub record Begins (bytes : List ℕ) (pages : ℕ) (shapes : List Shape) (rest : List ℕ) : Type 0 where
   pub good : IsHeader pages shapes
   pub whole : bytes ≡ header pages shapes ++ rest

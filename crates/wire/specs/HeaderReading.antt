@@ -1,4 +1,4 @@
--- How a header is read. That this is the spelling the other way round is proved beside it.
+-- How a header is decoded. That this is the inverse of the encoding is proved in `proofs/`.
 use Rattle.std.specs.Prelude.{ℕ, not, List, length, drop, nat_lt, ◌||◌, ◌==◌, if◌then◌else◌, Option, Some, None}
 use Rattle.guestmem.specs.Number.{number_at}
 use Rattle.machine.specs.declared.shape.Shape.{Shape}

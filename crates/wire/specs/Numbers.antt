@@ -3,19 +3,19 @@ use Rattle.std.specs.Prelude.{ℕ, zero, suc, ◌+◌, ◌<◌, ◌^◌, List, [
 use Rattle.byteorder.specs.Endian.{little_bytes}
 use Rattle.guestmem.specs.Number.{number_at}
 
--- The bytes of a number of so many bytes. A number of one byte is that byte.
+-- The encoding of a number in as many bytes as the first argument says. In one byte it is the number itself.
 abbrev pub digits : ℕ → ℕ → List ℕ
 digits zero n = []
 digits (suc zero) n = n ∷ []
 digits (suc (suc w)) n = little_bytes (suc (suc w)) n
 
--- The bytes of numbers of these widths, one after another.
+-- The encodings of numbers in these widths, one after another.
 abbrev pub spelled : List ℕ → List ℕ → List ℕ
 spelled [] ns = []
 spelled (w ∷ ws) [] = []
 spelled (w ∷ ws) (n ∷ ns) = digits w n ++ spelled ws ns
 
--- The numbers of these widths that stand in the bytes from a place on.
+-- The numbers of these widths that the bytes encode from the offset `at` on.
 abbrev pub numbers : List ℕ → ℕ → List ℕ → List ℕ
 numbers [] at bytes = []
 numbers (w ∷ ws) at bytes = number_at bytes at w ∷ numbers ws (at + w) bytes
@@ -27,12 +27,12 @@ Fit [] (n ∷ ns) = ⊥
 Fit (w ∷ ws) [] = ⊥
 Fit (w ∷ ws) (n ∷ ns) = (n < 256 ^ w) × Fit ws ns
 
--- How many bytes these widths make.
+-- The sum of these widths, in bytes.
 abbrev pub size_of : List ℕ → ℕ
 size_of [] = 0
 size_of (w ∷ ws) = w + size_of ws
 
--- The number that stands for a truth value.
+-- The number that encodes a truth value.
 abbrev pub flag : Bool → ℕ
 flag true = 1
 flag false = 0

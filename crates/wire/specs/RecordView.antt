@@ -1,4 +1,4 @@
--- What a record that was read from a slice tells.
+-- The record that was read from a slice, as a record of the definitions (`Records`).
 use Rattle.std.specs.Prelude.{Option, Some, None}
 use Rattle.wire.specs.Records as records
 use Rattle.wire.specs.declared.record.Record.{Record}

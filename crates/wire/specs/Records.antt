@@ -1,4 +1,4 @@
--- The records of a stream, each with its spelling: a tag, and what the record tells.
+-- The records of a stream, each with its encoding: a tag, and then what the record holds.
 use Rattle.std.specs.Prelude.{◌≡◌, ◌<◌, ◌^◌, ℕ, List, [], ◌∷◌, ◌++◌, length, drop, Option, Some, None}
 use Rattle.guestmem.specs.Number.{IsBytes}
 use Rattle.wire.specs.Numbers.{digits}
@@ -20,7 +20,7 @@ spelled_record (round_end n) = 3 ∷ digits 4 n
 spelled_record (device d body) = 4 ∷ (d ∷ (digits 4 (length body) ++ body))
 spelled_record (commit digest) = 5 ∷ digest
 
--- A record has a spelling where each number fits its field, and a page, a sector and a digest have their lengths.
+-- A record can be encoded if each number fits its field, and a page, a sector and a digest have their lengths.
 abbrev pub HasSpelling : Record → Type 0
 HasSpelling (page n bytes) = (n < 2 ^ 32) × (length bytes ≡ 4096) × IsBytes bytes
 HasSpelling (sector d n (Some bytes)) = (d < 256) × (n < 2 ^ 32) × (length bytes ≡ 512) × IsBytes bytes
@@ -29,12 +29,12 @@ HasSpelling (round_end n) = n < 2 ^ 32
 HasSpelling (device d body) = (d < 256) × (length body < 2 ^ 32) × IsBytes body
 HasSpelling (commit digest) = (length digest ≡ 32) × IsBytes digest
 
--- The first bytes, so many, are the spelling of this record.
+-- The first `len` bytes are the encoding of this record.
 pub record BeginsRecord (bytes : List ℕ) (r : Record) (len : ℕ) : Type 0 where
   pub spells : HasSpelling r
   pub long : length (spelled_record r) ≡ len
   pub whole : bytes ≡ spelled_record r ++ drop len bytes
 
--- The bytes begin with the spelling of no record.
+-- The bytes do not begin with the encoding of any record.
 abbrev pub BeginsNoRecord : List ℕ → Type 0
 BeginsNoRecord bytes = (r : Record) (rest : List ℕ) → HasSpelling r → ¬ (bytes ≡ spelled_record r ++ rest)

@@ -1,4 +1,4 @@
--- How requests are read. That this is the spelling the other way round is proved beside it.
+-- How requests are decoded. That this is the inverse of the encoding is proved in `proofs/`.
 use Rattle.std.specs.Prelude.{ℕ, zero, suc, ◌+◌, ◌*◌, List, [], ◌∷◌, length, take, drop, nat_lt, ◌==◌, ◌||◌, if◌then◌else◌, Option, Some, None}
 use Rattle.guestmem.specs.Number.{number_at}
 use Rattle.chains.specs.declared.segs.Seg.{Seg}
@@ -18,12 +18,12 @@ seg_from numbers = record { addr = 0; len = 0 }
 unfoldable pub seg_of : List ℕ → Seg
 seg_of bytes = seg_from (numbers seg_widths 0 bytes)
 
--- So many segments.
+-- The first n segments, of 12 bytes each.
 unfoldable pub segs_of : ℕ → List ℕ → List Seg
 segs_of zero bytes = []
 segs_of (suc n) bytes = seg_of bytes ∷ segs_of n (drop 12 bytes)
 
--- What a request does, by a number that is at most 4, and how it went, by one that is at most 2.
+-- The kind of a request, by a number that is at most 4, and its verdict, by one that is at most 2.
 abbrev pub kind_of : ℕ → Kind
 kind_of n = if n == 0 then Refused else if n == 1 then In else if n == 2 then Out else if n == 3 then Flush else GetId
 
@@ -38,7 +38,8 @@ request_from numbers readable writable = record { id = 0; slots = 0; kind = Refu
 unfoldable pub headed_by : List ℕ → List Seg → List Seg → Request
 headed_by bytes readable writable = request_from (numbers request_widths 0 bytes) readable writable
 
--- The request whose head is in the first bytes, with so many segments in the bytes after them.
+-- The request whose head is at the front of `bytes`, with this many readable and writable segments at the front of `rest`, and
+-- the bytes after them.
 abbrev pub request_with : List ℕ → ℕ → ℕ → List ℕ → Option (Request × List ℕ)
 request_with bytes readable writable rest =
     if nat_lt (length rest) (12 * (readable + writable)) then None

@@ -21,7 +21,7 @@ seg_text s = spelled seg_widths (seg_numbers s)
 abbrev pub segs_text : List Seg → List ℕ
 segs_text segs = flat_map seg_text segs
 
--- The number of what a request does.
+-- The number that encodes the kind of a request.
 abbrev pub kind_number : Kind → ℕ
 kind_number Refused = 0
 kind_number In = 1
@@ -29,8 +29,8 @@ kind_number Out = 2
 kind_number Flush = 3
 kind_number GetId = 4
 
--- The head of a request, in 26 bytes: its id and its slots, what it does and how it went, its first sector, its units and
--- how many of them are done, and the numbers of its readable and its writable segments.
+-- The head of a request, in 26 bytes: its id and its slots, its kind and its verdict (the number of the status), its first
+-- sector, its units and how many of them are done, and the counts of its readable and of its writable segments.
 abbrev pub request_widths : List ℕ
 request_widths = 2 ∷ 2 ∷ 1 ∷ 1 ∷ 8 ∷ 4 ∷ 4 ∷ 2 ∷ 2 ∷ []
 
@@ -44,6 +44,6 @@ head_text r readable writable = spelled request_widths (request_numbers r readab
 abbrev pub request_text : Request → List ℕ
 request_text r = head_text r (length r.readable) (length r.writable) ++ (segs_text r.readable ++ segs_text r.writable)
 
--- Requests one after another, with their number before them, in one byte.
+-- Requests one after another, with their count before them in one byte.
 abbrev pub requests_text : List Request → List ℕ
 requests_text requests = digits 1 (length requests) ++ flat_map request_text requests

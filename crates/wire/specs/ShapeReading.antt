@@ -1,4 +1,4 @@
--- How shapes are read. That this is the spelling the other way round is proved beside it.
+-- How shapes are decoded. That this is the inverse of the encoding is proved in `proofs/`.
 use Rattle.std.specs.Prelude.{ℕ, List, [], ◌∷◌, length, take, drop, nat_eq, nat_lt, ◌==◌, ◌||◌, if◌then◌else◌, Option, Some, None}
 use Rattle.guestmem.specs.Number.{number_at}
 use Rattle.machine.specs.declared.shape.Shape.{Shape}
@@ -6,15 +6,15 @@ use Rattle.machine.specs.declared.shape.Shape.TheVariants.{Net, Block, Console, 
 use Rattle.machine.specs.declared.shape.TheConstants.{SECTORS_MAX}
 use Rattle.wire.specs.Several.{several}
 
--- How many bytes the shape has whose first byte this is, the device's number.
+-- How many bytes the encoding of a shape has, given its first byte, the device ID.
 abbrev pub shape_length : ℕ → Option ℕ
 shape_length number = if number == 1 then Some 7 else if number == 2 then Some 30 else if number == 3 then Some 1 else if number == 4 then Some 1 else None
 
--- The shape of a network device, whose number stands before the bytes, and the bytes after it.
+-- The shape of a network device, whose device ID comes before the bytes, and the bytes after the shape.
 unfoldable pub net_shape_of : List ℕ → Option (Shape × List ℕ)
 net_shape_of bytes = if nat_lt (length bytes) 6 then None else Some (Net (take 6 bytes), drop 6 bytes)
 
--- The shape of a block device, whose number stands before the bytes, and the bytes after it.
+-- The shape of a block device, whose device ID comes before the bytes, and the bytes after the shape.
 unfoldable pub block_shape_of : List ℕ → Option (Shape × List ℕ)
 block_shape_of bytes =
     if nat_lt (length bytes) 29 || nat_lt 1 (number_at bytes 8 1) then None
@@ -31,6 +31,6 @@ shape_of (number ∷ bytes) =
     else if number == 4 then Some (Entropy, bytes)
     else None
 
--- So many shapes, and the bytes after them.
+-- As many shapes as the first argument says, and the bytes after them.
 abbrev pub shapes_of : ℕ → List ℕ → Option (List Shape × List ℕ)
 shapes_of = several shape_of

@@ -1,4 +1,4 @@
--- What a sink means, and what is said of bytes on their way to one.
+-- The state of a sink, and what contracts say of bytes on their way to one.
 use Rattle.std.specs.Prelude.{◌≡◌, ℕ, ◌++◌, List, [], Bool, IsTrue, Option, Some, None, Result, OnOk, is_ok, is_some}
 use Rattle.guestmem.specs.Failures.{counted}
 
@@ -10,23 +10,23 @@ pub record SinkState : Type 0 where
   pub honest : Bool
   pub is_flushed : Bool
 
--- A call that adds these bytes to a sink: the count of failures rises exactly where it fails, and an honest sink stays so
--- and holds, where it succeeds, the bytes behind what it held.
+-- A call that appends these bytes to a sink: the failure count goes up exactly if the call fails. If it succeeds and the sink
+-- was honest, the sink is still honest, and holds what it held before, followed by these bytes.
 pub record Appends {T E : Type 0} (old : SinkState) (bytes : List ℕ) (result : Result T E) (new : SinkState) : Type 0 where
   pub count : new.failures ≡ counted old.failures result
   pub holds : OnOk result (IsTrue old.honest → IsTrue new.honest × (new.held ≡ old.held ++ bytes))
 
--- A call that adds nothing, and flushes the sink exactly where it succeeds.
+-- A call that appends nothing. The sink is flushed after it exactly if it succeeds.
 pub record Flushes {T E : Type 0} (old : SinkState) (result : Result T E) (new : SinkState) : Type 0 where
   pub count : new.failures ≡ counted old.failures result
   pub holds : OnOk result (IsTrue old.honest → IsTrue new.honest × (new.held ≡ old.held))
   pub flushed : new.is_flushed ≡ is_ok result
 
--- What is kept of bytes goes on by these: had it taken some, it has taken them and these now.
+-- These bytes were taken in: whatever bytes had been taken in before, those followed by these have been taken in now.
 abbrev pub Takes : (List ℕ → Type 0) → List ℕ → (List ℕ → Type 0) → Type 0
 Takes has_taken bytes has_taken_now = (before : List ℕ) → has_taken before → has_taken_now (before ++ bytes)
 
--- What a sink over a writer means: it is honest where the writer tells its bytes.
+-- The state of a sink over a writer: it is honest if the contents of the writer are known.
 abbrev pub known : Option (List ℕ) → List ℕ
 known None = []
 known (Some bytes) = bytes

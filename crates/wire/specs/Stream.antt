@@ -19,7 +19,7 @@ use Rattle.wire.specs.Records.{Record, page, sector, round_end, device, commit, 
 abbrev pub shapes_in : List DeviceState → List Shape
 shapes_in devices = map (λ d. d.shape) devices
 
--- The records that may stand before the devices: pages and sectors that there are, and ends of rounds.
+-- The records that may come before the devices: pages and sectors that exist, and ends of rounds.
 abbrev pub MayStand : Layout → Record → Type 0
 MayStand l (page n bytes) = IsItemIn l (items.page n)
 MayStand l (sector dev n content) = IsItemIn l (items.sector dev n)
@@ -30,13 +30,13 @@ pub record IsEntry (l : Layout) (r : Record) : Type 0 where
   pub spells : HasSpelling r
   pub stands : MayStand l r
 
--- The ends of rounds are numbered one after another, from here on.
+-- The ends of rounds are numbered one after another, from `k` on.
 abbrev pub AreNumbered : ℕ → List Record → Type 0
 AreNumbered k [] = Unit {0}
 AreNumbered k (round_end n ∷ rs) = (n ≡ k) × AreNumbered (k + 1) rs
 AreNumbered k (_ ∷ rs) = AreNumbered k rs
 
--- How many rounds ended.
+-- The number of rounds that ended.
 unfoldable pub rounds : List Record → ℕ
 rounds [] = 0
 rounds (round_end n ∷ rs) = rounds rs + 1
@@ -62,7 +62,7 @@ unfoldable pub last_named : Item → List Record → Option Record
 last_named i [] = None
 last_named i (r ∷ rs) = or_else (last_named i rs) (says_of i r)
 
--- The record of an item, as RAM and disks have it.
+-- The record of an item, with the contents that RAM and the disks have for it.
 abbrev pub content_of : Option Sector → Sector
 content_of None = None
 content_of (Some content) = content
@@ -74,12 +74,12 @@ record_in ram disks (items.sector dev n) = sector dev n (content_of (sector_on (
 abbrev pub record_of : MachineState → Item → Record
 record_of m i = record_in m.ram m.disks i
 
--- Records one after another.
+-- The encodings of records, one after another.
 unfoldable pub texts : List Record → List ℕ
 texts [] = []
 texts (r ∷ rs) = spelled_record r ++ texts rs
 
--- The records of devices, numbered from here on.
+-- The encodings of the records of devices, which are numbered from `number` on.
 unfoldable pub device_texts : ℕ → List DeviceState → List ℕ
 device_texts number [] = []
 device_texts number (d ∷ ds) = spelled_record (device number (body d)) ++ device_texts (number + 1) ds
@@ -87,8 +87,8 @@ device_texts number (d ∷ ds) = spelled_record (device number (body d)) ++ devi
 abbrev pub before_commit : ℕ → List Record → List DeviceState → List ℕ
 before_commit pages entries devices = header pages (shapes_in devices) ++ (texts entries ++ device_texts 0 devices)
 
--- The bytes are a stream of this machine, with these records before its devices: each item of the machine is named, and is
--- what the last record that names it says.
+-- The bytes are a stream of this machine, with these records before its devices: each item of the machine is named, and the
+-- last record that names it holds its contents in the machine.
 pub record IsStreamBy (bytes : List ℕ) (m : MachineState) (entries : List Record) : Type 0 where
   pub each : AllByRecursion (IsEntry (layout_of m)) entries
   pub numbered : AreNumbered 1 entries
@@ -105,7 +105,8 @@ unfoldable pub records_below : MachineState → ℕ → List Record
 records_below m zero = []
 records_below m (suc n) = records_below m n ++ record_of m (item_at (layout_of m) n) ∷ []
 
--- The stream of a machine that names each item once, in order, and ends no round: what is saved.
+-- The stream of a machine that names each item once, in order, and ends no round: what is saved, up to the digest. `whole` is
+-- with the digest.
 abbrev pub saved : MachineState → List ℕ
 saved m = before_commit (pages_of m) (records_below m (size_of (layout_of m))) m.devices
 

@@ -1,20 +1,20 @@
--- What the laws of streams say.
+-- The laws of streams.
 use Rattle.std.specs.Prelude.{◌≡◌, List, ◌++◌, ℕ}
 use Rattle.wire.specs.Records.{Record, HasSpelling, spelled_record}
 use Rattle.machine.specs.Sound.{IsSound}
 use Rattle.machine.specs.State.{MachineState}
 use Rattle.wire.specs.Stream.{IsStream, rounds, whole}
 
--- Bytes that begin with the spellings of two records begin with one record: no spelling of a record is the beginning of
--- another's.
+-- Bytes that begin with the encodings of two records begin with one and the same record: no encoding of a record is a proper
+-- prefix of another's.
 abbrev pub OneRecord : Type 0
 OneRecord = (r s : Record) (x y : List ℕ) → HasSpelling r → HasSpelling s → spelled_record r ++ x ≡ spelled_record s ++ y → (r ≡ s) × (x ≡ y)
 
--- One stream has one machine.
+-- A stream determines its machine.
 abbrev pub OneMachine : Type 0
 OneMachine = (bytes : List ℕ) (m k : MachineState) → IsStream bytes m → IsStream bytes k → m ≡ k
 
--- One stream has one number of rounds that ended.
+-- A stream determines the number of rounds that ended in it.
 abbrev pub OneCount : Type 0
 OneCount = (bytes : List ℕ) (m k : MachineState) (a : IsStream bytes m) (b : IsStream bytes k) → rounds a.entries ≡ rounds b.entries
 
