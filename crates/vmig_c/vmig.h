@@ -39,12 +39,12 @@
  * devices, and a bit for each sector), vmig_save (the whole stream, for the time of the call), and vmig_step for a chain of
  * many descriptors or a message of the guest; vmig_begin for two bits for each page and sector, and vmig_begin, vmig_copy,
  * vmig_end_round and vmig_stop for what they write, which waits until it is taken: a stop of a machine of which nothing was
- * copied before writes the whole machine; vmig_feed, for all bytes of the stream until vmig_finish, and for RAM and disks as
- * soon as the header is whole; and vmig_finish. No other call does.
+ * copied before writes the whole machine; vmig_feed, for a buffer of 128 KiB, in which the front of a record waits for the
+ * rest, for RAM and disks as soon as the header is whole, and for devices; and vmig_finish. No other call does.
  *
  * A MACHINE IS SENT WHILE IT RUNS: vmig_begin, then vmig_copy until VMIG_ROUND_DONE and vmig_end_round, as often as you like,
- * then vmig_stop. The guest is served as before between these: all other calls are allowed, but for vmig_save and
- * vmig_sector_read. The bytes that are written wait inside, and vmig_take hands them out when you like. After vmig_stop the
+ * then vmig_stop. The guest is served as before between these: all other calls are allowed, but for vmig_save,
+ * vmig_saved_len and vmig_sector_read. The bytes that are written wait inside, and vmig_take hands them out when you like. After vmig_stop the
  * bytes taken, in their order, are one stream. After vmig_stop the guest is paused for good: its events are refused with
  * VMIG_STOPPED, and RAM and the lines can be read, until vmig_abort or vmig_free. After vmig_abort the machine continues as
  * one that was never sent.
@@ -53,7 +53,7 @@
  * wire, and vmig_finish after the last; or vmig_receive with all of them at once. Until vmig_finish the handle has no machine
  * for any other call but vmig_rounds and vmig_free, and is in use for vmig_make, vmig_make_with, vmig_make_mapped and
  * vmig_receive. Before its guest runs read the lines and make the steps that vmig_next_work names: a kick and an interrupt
- * that were not served come with the machine. The digest is computed at the last record, over all bytes: some 4 ms a MiB.
+ * that were not served come with the machine. The digest is computed as the bytes come, by some 4 ms a MiB.
  *
  * A GUEST WHOSE RAM IS YOURS, as under hardware virtualization, runs on memory of your own. The machine has RAM beside it,
  * and you mirror the one into the other: uint8_t ram[4096 * pages], and uint64_t seen[pages], which notes for each page the
@@ -113,7 +113,7 @@ enum {
                             * vmig_unmap: your slots */
     VMIG_BAD_SHAPE = 12,   /* vmig_make, vmig_make_with, vmig_make_mapped: pages, count of devices, or a device beyond the
                             * limits or of an unknown kind */
-    VMIG_MOVING = 13,      /* vmig_save, vmig_sector_read: the machine is being sent */
+    VMIG_MOVING = 13,      /* vmig_save, vmig_saved_len, vmig_sector_read: the machine is being sent */
     VMIG_NOT_MAPPED = 14,  /* vmig_unmap: the disks are in memory of the library */
     VMIG_BAD_IMAGES = 15,  /* vmig_make_with, vmig_make_mapped: the images' length or counts are not those of the disks;
                             * vmig_unmap: a slot is not VMIG_NO_IMAGE */
@@ -229,7 +229,7 @@ uint32_t vmig_make_mapped(uint32_t pages, const vmig_shape *shapes, size_t count
 uint32_t vmig_unmap(vmig_machine *machine, vmig_image *images, size_t count);
 
 /* Frees the machine, if there is one. The handle is VMIG_NONE again. The bytes of its images stay where they are, and are
- * yours again. */
+ * yours again. What they hold is promised by vmig_unmap, which frees the machine too. */
 void vmig_free(vmig_machine *machine);
 
 /* The driver reads a register: 1, 2 or 4 bytes (width) at an offset in the device's window; its configuration begins at
@@ -313,9 +313,13 @@ uint16_t vmig_lines(vmig_machine *machine);
  * VMIG_NO_MACHINE, VMIG_MOVING, VMIG_NO_DEVICE, VMIG_WRONG_KIND (it has no disk), VMIG_NO_SECTOR, VMIG_TOO_SMALL. */
 uint32_t vmig_sector_read(vmig_machine *machine, uint8_t dev, uint64_t sector, uint8_t *buf, size_t size);
 
+/* *len is the length in bytes of the stream that vmig_save makes of the machine as it is: the size of the buffer that it needs.
+ * No stream is made, and no memory is taken. The machine is as it was.
+ * VMIG_NO_MACHINE, VMIG_MOVING. */
+uint32_t vmig_saved_len(vmig_machine *machine, size_t *len);
+
 /* Saves the machine: its whole stream goes to the front of buf. *len is the length of the stream in bytes, also at
- * VMIG_TOO_SMALL, where buf is as it was: a first call with a size of 0 asks for the length. The machine is as it was, and
- * continues.
+ * VMIG_TOO_SMALL, where buf is as it was; vmig_saved_len tells it before. The machine is as it was, and continues.
  * VMIG_NO_MACHINE, VMIG_MOVING, VMIG_NO_MEMORY, VMIG_TOO_SMALL. */
 uint32_t vmig_save(vmig_machine *machine, uint8_t *buf, size_t size, size_t *len);
 

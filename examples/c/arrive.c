@@ -29,6 +29,7 @@ static void is_no_machine(vmig_machine *m)
     expect("step", vmig_step(m, 0, 0, buf, 0, &number), VMIG_NO_MACHINE);
     expect("input", vmig_input(m, 0, buf, sizeof buf, &number), VMIG_NO_MACHINE);
     expect("save", vmig_save(m, buf, sizeof buf, &len), VMIG_NO_MACHINE);
+    expect("length of a save", vmig_saved_len(m, &len), VMIG_NO_MACHINE);
     expect("begin", vmig_begin(m), VMIG_NO_MACHINE);
     expect("take", vmig_take(m, buf, sizeof buf, &len), VMIG_NO_MACHINE);
     expect("remaining", vmig_remaining(m, &due, &dirty), VMIG_NO_MACHINE);

@@ -62,6 +62,7 @@ static void refuses(vmig_machine *m)
     expect("no number", number, 77);
     expect("stop again", vmig_stop(m, &pages, &sectors), VMIG_STOPPED);
     expect("save", vmig_save(m, &byte, 0, &len), VMIG_MOVING);
+    expect("length of a save", vmig_saved_len(m, &len), VMIG_MOVING);
     expect("no length", len, 77);
 }
 

@@ -1,17 +1,19 @@
-/* A machine is saved and received into another handle. Both continue with equal replies, and end as equal machines. */
+/* A machine is saved into one allocation of the length that is asked for before, and received into another handle. Both continue
+ * with equal replies, and end as equal machines. */
 #include <stdlib.h>
 #include <string.h>
 #include "driver.h"
 
-/* The whole stream of a machine, which the caller frees. */
+/* The whole stream of a machine, in memory that fits it, which the caller frees. */
 static uint8_t *stream_of(vmig_machine *m, size_t *len)
 {
-    uint8_t none[1];
     size_t written = 0;
 
-    expect("length asked for", vmig_save(m, none, 0, len), VMIG_TOO_SMALL);
+    expect("length asked for", vmig_saved_len(m, len), VMIG_OK);
     uint8_t *stream = malloc(*len);
     if (stream == NULL) exit(2);
+    expect("too short by one", vmig_save(m, stream, *len - 1, &written), VMIG_TOO_SMALL);
+    expect("the length wanted", written, *len);
     expect("save", vmig_save(m, stream, *len, &written), VMIG_OK);
     expect("its length", written, *len);
     return stream;

@@ -57,6 +57,7 @@ static void streams(void)
     vmig_machine m = VMIG_NONE;
     uint32_t rounds = 77, kept = 77;
     uint8_t buf[512];
+    size_t len = 77;
 
     spell_bad_sector();
     refuses("version", 4, 3, VMIG_STREAM_BAD_VERSION);
@@ -72,6 +73,8 @@ static void streams(void)
 
     expect("receive", vmig_receive(stream, stream_len, &m, &rounds), VMIG_OK);
     expect("a bad sector", vmig_sector_read(&m, 0, 0, buf, sizeof buf), VMIG_BAD_SECTOR);
+    expect("length with a bad sector", vmig_saved_len(&m, &len), VMIG_OK);
+    expect("as that of its stream", len, stream_len);
     expect("no input", vmig_input(&m, 0, buf, 1, &kept), VMIG_WRONG_KIND);
     vmig_free(&m);
 }

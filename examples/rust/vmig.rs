@@ -110,6 +110,7 @@ unsafe extern "C" {
     pub fn vmig_resize(machine: *mut Machine, dev: u8, cols: u16, rows: u16) -> u32;
     pub fn vmig_lines(machine: *mut Machine) -> u16;
     pub fn vmig_sector_read(machine: *mut Machine, dev: u8, sector: u64, buf: *mut u8, size: usize) -> u32;
+    pub fn vmig_saved_len(machine: *mut Machine, len: *mut usize) -> u32;
     pub fn vmig_save(machine: *mut Machine, buf: *mut u8, size: usize, len: *mut usize) -> u32;
     pub fn vmig_receive(bytes: *const u8, len: usize, machine: *mut Machine, rounds: *mut u32) -> u32;
     pub fn vmig_begin(machine: *mut Machine) -> u32;

@@ -1,6 +1,7 @@
 -- A request that ends.
-use Rattle.std.proofs.Common.{◌≡◌, ℕ, List, set, Bool, true, false, Some, None, slice_get, refl, sym, ap, ◌∙◌, append-nil}
-use Rattle.std.specs.List.{remove}
+use Rattle.std.proofs.Common.{◌≡◌, ℕ, List, set, Bool, true, false, Some, None, slice_get, take, drop, suc, refl, sym, ap, ◌∙◌, append-nil}
+use Rattle.std.proofs.lemmas.List.Elements.{All-append, All-take, All-drop}
+use Rattle.std.specs.List.{remove, All}
 use Rattle.guestmem.specs.Item.{Item, after_all}
 use Rattle.guestmem.specs.Writes.{set_all, touched}
 use Rattle.chains.specs.State.{RingState}
@@ -60,3 +61,7 @@ stayed after honest device shape ram content log q requests k is_fine none whole
   requests_are = rw none refl;
   log_is = rw none refl;
 }
+
+-- What holds of each holds of those that are left.
+pub all_left : (P : Request → Type 0) (requests : List Request) (k : ℕ) → All P requests → All P (remove requests k)
+all_left P requests k h = All-append P (take k requests) (drop (suc k) requests) (All-take P k requests h) (All-drop P (suc k) requests h)

@@ -1,5 +1,7 @@
 -- The sectors of a disk whose marks change.
-use Rattle.std.proofs.Common.{◌≡◌, ◌∙◌, sym, ℕ, zero, suc, ◌<◌, List, [], ◌∷◌, length, map, set, get_or, Bool, true, false, Some, None, refl, ap, arith}
+use Rattle.std.proofs.Common.{◌≡◌, ◌∙◌, sym, ℕ, zero, suc, ◌+◌, ◌<◌, cond, List, [], ◌∷◌, length, map, set, get_or, Bool, true, false, Some, None, refl, ap, arith}
+use Rattle.std.specs.Prelude.{count_by}
+use Rattle.std.proofs.lemmas.List.Sums.{sum_by-cons}
 use Rattle.std.proofs.lemmas.List.{length-set, map-set}
 use Rattle.blk.specs.Disk.{SameBut, IsSector, AreSectors}
 use Rattle.blk.specs.Sectors.{Sector, sectors_of, sector_if, is_bad, IsWhole, AreWhole}
@@ -61,7 +63,7 @@ bad_if false s = refl
 pub bad_marked : (ss : List (List ℕ)) (bs : List Bool) (n : ℕ) → length bs ≡ length ss → n < length ss → is_bad (get_or (sectors_of ss bs) n None) ≡ get_or bs n false
 bad_marked ss bs n e h = rw (sector_marked ss bs n e h) (bad_if (get_or bs n false) (get_or ss n []))
 
-marks_of : (ss : List (List ℕ)) (bs : List Bool) → length bs ≡ length ss → map is_bad (sectors_of ss bs) ≡ bs
+pub marks_of : (ss : List (List ℕ)) (bs : List Bool) → length bs ≡ length ss → map is_bad (sectors_of ss bs) ≡ bs
 marks_of [] [] e = refl
 marks_of [] (b ∷ bs) e = absurd (omega (arith, e))
 marks_of (s ∷ ss) [] e = absurd (omega (arith, e))
@@ -72,3 +74,16 @@ pub good_again : (ss ts : List (List ℕ)) (bs : List Bool) (n : ℕ) (x : List 
 good_again ss ts bs n x e f =
     let long : length (set bs n false) ≡ length ts = length-set bs n false ∙ e ∙ sym f in
     rw (marks_of ts (set bs n false) long, map-set is_bad (sectors_of ss bs) n (Some x), marks_of ss bs e) refl
+
+-- As many sectors are bad as there are marks.
+count_one : {A : Type 0} (p : A → Bool) (x : A) (xs : List A) → count_by p (x ∷ xs) ≡ cond (p x) 1 0 + count_by p xs
+count_one p x xs = sum_by-cons (λ y. cond (p y) 1 0) x xs
+
+pub bad_counted : (ss : List (List ℕ)) (bs : List Bool) → length bs ≡ length ss → count_by is_bad (sectors_of ss bs) ≡ count_by (λ b. b) bs
+bad_counted [] [] e = refl
+bad_counted [] (b ∷ bs) e = absurd (omega (arith, e))
+bad_counted (s ∷ ss) [] e = absurd (omega (arith, e))
+bad_counted (s ∷ ss) (true ∷ bs) e =
+    count_one is_bad None (sectors_of ss bs) ∙ ap (λ n. 1 + n) (bad_counted ss bs (omega (arith, e))) ∙ sym (count_one (λ b. b) true bs)
+bad_counted (s ∷ ss) (false ∷ bs) e =
+    count_one is_bad (Some s) (sectors_of ss bs) ∙ ap (λ n. 0 + n) (bad_counted ss bs (omega (arith, e))) ∙ sym (count_one (λ b. b) false bs)

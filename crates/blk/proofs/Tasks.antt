@@ -1,21 +1,24 @@
 -- What is taken is sound.
-use Rattle.std.proofs.Common.{◌≡◌, ◌≢◌, sym, ◌∙◌, ℕ, zero, suc, ◌+◌, ◌-◌, ◌*◌, ◌/◌, ◌%◌, ◌^◌, ◌<◌, ◌≤◌, ◌==◌, nat_lt, not, ◌||◌, List, [], ◌∷◌, ◌++◌, Bool, true, false, refl, inl, inr, arith, length}
+use Rattle.std.proofs.Common.{◌≡◌, ◌≢◌, sym, ◌∙◌, ℕ, zero, suc, ◌+◌, ◌-◌, ◌*◌, ◌/◌, ◌%◌, ◌^◌, ◌<◌, ◌≤◌, ◌==◌, nat_lt, not, ◌&&◌, List, [], ◌∷◌, ◌++◌, Bool, true, false, refl, inl, inr, arith, length}
 use Rattle.std.specs.Bool.{if◌then◌else◌}
 use Rattle.std.specs.List.{All}
-use Rattle.std.proofs.lemmas.Bool.{cases_Bool, ltb-false, eqb-true, eq-eqb, true≢false}
+use Rattle.std.proofs.lemmas.Bool.{and_parts, cases_Bool, ltb-false, eqb-true, eq-eqb, true≢false}
 use Rattle.std.proofs.lemmas.List.Elements.{All-append}
 use Rattle.guestmem.specs.Number.{number_at}
 use Rattle.chains.specs.State.{RingState}
+use Rattle.chains.specs.Look.{fits}
 use Rattle.chains.specs.Places.{places}
 use Rattle.chains.specs.Ring.{IsBounded}
 use Rattle.chains.specs.declared.chain.Chain.{Chain}
+use Rattle.chains.specs.declared.looking.Wanted.TheVariants as wanted
 use Rattle.blk.specs.declared.request.Kind.TheVariants.{In, Out, Flush, GetId}
 use Rattle.blk.specs.declared.request.Verdict.TheVariants.{Good, IoError, Unsupported}
 use Rattle.blk.specs.declared.request.Request.{Request}
 use Rattle.blk.specs.declared.shape.BlockShape.{BlockShape}
 use Rattle.blk.specs.declared.task.Task.{Task}
 use Rattle.blk.specs.Task.{task_of, transfer, refused}
-use Rattle.blk.specs.Take.{is_no_request, request_for}
+use Rattle.blk.specs.declared.request.TheConstants.{HEADER_SIZE}
+use Rattle.blk.specs.Take.{request_for}
 use Rattle.blk.specs.Sound.{IsSoundWork, IsSoundRequest, AreSound}
 
 -- A task on which nothing is done yet is sound.
@@ -24,6 +27,10 @@ IsSoundTask readable writable capacity read_only t = IsSoundWork t.kind readable
 
 either : (b : Bool) (P : Bool → Type 0) → (b ≡ true → P true) → (b ≡ false → P false) → P b
 either b P when_true when_false = elim (cases_Bool b) as (λ _. P b) [ inl e ↦ rw e (when_true e) | inr e ↦ rw e (when_false e) ]
+
+not-true : (b : Bool) → not b ≡ true → b ≡ false
+not-true true e = sym e
+not-true false e = refl
 
 not-false : (b : Bool) → not b ≡ false → b ≡ true
 not-false true e = refl
@@ -86,30 +93,26 @@ task_sound header readable writable capacity read_only enough some =
     (λ i. id_sound readable writable capacity read_only)
     (λ i. (refl, refl, refl, refl)))))
 
-neither : (a b : Bool) → (a || b) ≡ false → (a ≡ false) × (b ≡ false)
-neither true b e = absurd (true≢false e)
-neither false b e = (refl, e)
-
-enough_bytes : (readable writable : ℕ) → (nat_lt readable 16 || writable == 0) ≡ false → (16 ≤ readable) × (1 ≤ writable)
+enough_bytes : (readable writable : ℕ) → (not (nat_lt readable 16) && not (writable == 0)) ≡ true → (16 ≤ readable) × (1 ≤ writable)
 enough_bytes readable writable e =
-    let both = neither (nat_lt readable 16) (writable == 0) e in
-    let some : writable ≢ 0 = λ f. true≢false (sym (eq-eqb writable 0 f) ∙ both.1) in
-    (ltb-false readable 16 both.0, omega (arith, some))
+    let both = and_parts (not (nat_lt readable 16)) (not (writable == 0)) e in
+    let some : writable ≢ 0 = λ f. true≢false (sym (eq-eqb writable 0 f) ∙ not-true (writable == 0) both.1) in
+    (ltb-false readable 16 (not-true (nat_lt readable 16) both.0), omega (arith, some))
 
 all_one : {X : Type 0} (P : X → Type 0) (x : X) → P x → All P (x ∷ [])
 all_one P x p zero d h = p
 all_one P x p (suc k) d h = absurd (omega (arith, h))
 
 -- A request that was just taken is sound.
-pub taken_sound : (len : ℕ) (q : RingState) (shape : BlockShape) (requests : List Request) (header : List ℕ) (c : Chain) → c.id < 2 ^ 16 → IsBounded len q c → is_no_request c ≡ false → AreSound len q shape requests
+pub taken_sound : (len : ℕ) (q : RingState) (shape : BlockShape) (requests : List Request) (header : List ℕ) (c : Chain) → c.id < 2 ^ 16 → IsBounded len q c → fits (wanted.Request HEADER_SIZE) c ≡ true → AreSound len q shape requests
     → AreSound len q shape (requests ++ request_for c (task_of header (length (places c.readable)) (length (places c.writable)) shape.sectors shape.read_only) ∷ [])
-taken_sound len q shape requests header c fits b test sound =
+taken_sound len q shape requests header c below b test sound =
     let enough = enough_bytes (length (places c.readable)) (length (places c.writable)) test in
     let R : Request = request_for c (task_of header (length (places c.readable)) (length (places c.writable)) shape.sectors shape.read_only) in
     let one : IsSoundRequest len q.is_packed q.size shape R = record {
       some = b.some;
       slots = b.slots;
-      id_fits = fits;
+      id_fits = below;
       id = b.id;
       few = b.few;
       readable = b.readable;

@@ -1,5 +1,5 @@
 -- The step that advances a request, or ends it (VIRTIO 1.2, 5.2.6).
-use Rattle.std.specs.Prelude.{◌≡◌, ℕ, ◌+◌, ◌-◌, ◌*◌, ◌==◌, Bool, true, List, [], ◌∷◌, ◌++◌, take, drop, length, slice_set, slice_get, Option, Some, None, if◌then◌else◌}
+use Rattle.std.specs.Prelude.{◌≡◌, ℕ, ◌+◌, ◌-◌, ◌*◌, ◌==◌, Bool, IsTrue, true, List, [], ◌∷◌, ◌++◌, take, drop, length, slice_set, slice_get, Option, Some, None, if◌then◌else◌}
 use Rattle.std.specs.List.{remove}
 use Rattle.guestmem.specs.Item.{Item, after_all}
 use Rattle.guestmem.specs.Writes.{Write, set_all, touched}
@@ -16,7 +16,7 @@ use Rattle.blk.specs.declared.request.Kind.TheVariants as kind
 use Rattle.blk.specs.declared.request.Request.{Request}
 use Rattle.blk.specs.declared.shape.BlockShape.{BlockShape}
 use Rattle.blk.specs.declared.advancing.Advanced.{Advanced}
-use Rattle.blk.specs.declared.advancing.Advanced.TheVariants.{Idle, Completed}
+use Rattle.blk.specs.declared.advancing.Advanced.TheVariants.{Idle, Moved, Completed}
 
 -- The bytes of data that were written into a request of which `done` units are done.
 abbrev pub data_written : Kind → ℕ → ℕ
@@ -83,3 +83,8 @@ pub record IsAfterAdvancing {L : Type 0} (after : L → Item → L) (honest : Bo
   pub content_is : AreSet honest content (step given).sets new_content
   pub requests_are : new_requests ≡ (step given).requests
   pub log_is : new_log ≡ after_all after log (touched (step given).writes ++ sectors_touched device (step given).sets)
+
+-- A request to flush that advanced has left its disk flushed.
+abbrev pub HasFlushed : List Request → ℕ → Advanced → Bool → Type 0
+HasFlushed requests k answer is_flushed =
+    (r : Request) → slice_get requests k ≡ Some r → r.kind ≡ kind.Flush → answer ≡ Moved → IsTrue is_flushed

@@ -12,9 +12,9 @@ pub record FaultState : Type 0 where
   pub calls : ℕ
   pub failures : ℕ
 
--- As a disk: it holds what the disk below holds, and is as honest.
+-- As a disk: it holds what the disk below holds, and is as honest and as flushed.
 abbrev pub disk_of : FaultState → DiskState
-disk_of f = record { sectors = f.disk.sectors; failures = f.failures; honest = f.disk.honest; steady = false }
+disk_of f = record { sectors = f.disk.sectors; failures = f.failures; honest = f.disk.honest; steady = false; is_flushed = f.disk.is_flushed }
 
 -- The number of the next call: calls are counted from 1, and the count stays once it is 2^64 - 1.
 abbrev pub next_call : FaultState → ℕ

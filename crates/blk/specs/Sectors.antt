@@ -45,15 +45,16 @@ abbrev pub sector_in : List Sector → ℕ → Sector
 sector_in content n = slice_index_or content n None
 
 -- The model of a disk with its marks of bad sectors: the sectors, how often a call failed (modulo 2^64), and whether the
--- disk is honest and steady.
+-- disk is honest, steady, and flushed.
 pub record SectorsState : Type 0 where
   pub content : List Sector
   pub failures : ℕ
   pub honest : Bool
   pub steady : Bool
+  pub is_flushed : Bool
 
 abbrev pub seen_of : DiskState → List Bool → SectorsState
-seen_of d marks = record { content = sectors_of d.sectors marks; failures = d.failures; honest = d.honest; steady = d.steady }
+seen_of d marks = record { content = sectors_of d.sectors marks; failures = d.failures; honest = d.honest; steady = d.steady; is_flushed = d.is_flushed }
 
 -- The same state, with sector n replaced.
 abbrev pub set_sector : SectorsState → ℕ → Sector → SectorsState

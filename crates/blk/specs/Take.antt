@@ -1,11 +1,12 @@
 -- The step that takes a request (VIRTIO 1.2, 5.2.6).
-use Rattle.std.specs.Prelude.{◌≡◌, ℕ, ◌==◌, ◌||◌, nat_lt, Bool, List, [], ◌∷◌, ◌++◌, length, take, if◌then◌else◌}
+use Rattle.std.specs.Prelude.{◌≡◌, ℕ, List, [], ◌∷◌, ◌++◌, length, take}
 use Rattle.guestmem.specs.Item.{Item, after_all}
 use Rattle.guestmem.specs.Writes.{Write, set_all, touched}
 use Rattle.chains.specs.State.{RingState}
 use Rattle.chains.specs.Places.{places, read_places}
 use Rattle.chains.specs.Publish.{event_note, after_take}
-use Rattle.chains.specs.Ring.{Answers}
+use Rattle.chains.specs.Look.{Sees}
+use Rattle.chains.specs.declared.looking.Wanted.TheVariants as wanted
 use Rattle.chains.specs.declared.chain.Chain.{Chain}
 use Rattle.chains.specs.declared.next.Next.{Next}
 use Rattle.chains.specs.declared.next.Next.TheVariants as next
@@ -23,10 +24,6 @@ pub record TakeStep : Type 0 where
   pub writes : List Write
   pub ring : RingState
   pub requests : List Request
-
--- A chain that cannot be a request: it has fewer readable bytes than a header, or no writable byte.
-abbrev pub is_no_request : Chain → Bool
-is_no_request c = nat_lt (length (places c.readable)) HEADER_SIZE || length (places c.writable) == 0
 
 -- The header: the bytes at the first HEADER_SIZE readable places.
 abbrev pub header_of : List ℕ → Chain → List ℕ
@@ -61,12 +58,12 @@ take_chain ram q shape requests c = record {
   requests = requests ++ request_for c (task_for ram shape c) ∷ [];
 }
 
--- The step if there is room for a request, by what the queue answers about its next chain. If the queue is empty the event
--- note is written. A chain that cannot be a request is malformed too.
+-- The step if there is room for a request, by what the device sees in the queue. If the queue is empty the event note is
+-- written.
 abbrev pub take_step : List ℕ → RingState → BlockShape → List Request → Next → TakeStep
 take_step ram q shape requests next.Empty = record { answer = taken.Empty; writes = event_note q; ring = q; requests = requests }
 take_step ram q shape requests next.Malformed = refuse q requests
-take_step ram q shape requests (next.Chain c) = if is_no_request c then refuse q requests else take_chain ram q shape requests c
+take_step ram q shape requests (next.Chain c) = take_chain ram q shape requests c
 
 -- RAM, the ring, the requests and a log after such a step.
 pub record IsAfterTaking {L : Type 0} (after : L → Item → L) (ram : List ℕ) (log : L) (s : TakeStep) (new_ram : List ℕ) (new_ring : RingState) (new_requests : List Request) (new_log : L) : Type 0 where
@@ -75,9 +72,9 @@ pub record IsAfterTaking {L : Type 0} (after : L → Item → L) (ram : List ℕ
   pub requests_are : new_requests ≡ s.requests
   pub log_is : new_log ≡ after_all after log (touched s.writes)
 
--- Such a step was made, by what the queue answers.
+-- Such a step was made, by what the device sees.
 pub record IsTaken {L : Type 0} (after : L → Item → L) (ram : List ℕ) (q : RingState) (shape : BlockShape) (requests : List Request) (log : L) (answer : Taken) (new_ram : List ℕ) (new_ring : RingState) (new_requests : List Request) (new_log : L) : Type 0 where
   pub seen : Next
-  pub answers : Answers ram q seen
+  pub sees : Sees (wanted.Request HEADER_SIZE) ram q seen
   pub answer_is : answer ≡ (take_step ram q shape requests seen).answer
   pub changes : IsAfterTaking after ram log (take_step ram q shape requests seen) new_ram new_ring new_requests new_log

@@ -1,13 +1,12 @@
 //! The step that advances a request.
 
 ghost use Rattle.std.specs.Prelude.{◌≡◌, ◌≤◌, ◌<◌, ◌^◌, length, not};
-ghost use Rattle.guestmem.specs.Item.{MayPages, after_all};
-ghost use Rattle.guestmem.specs.Later.{IsLater};
+ghost use Rattle.guestmem.specs.Item.{after_all};
 ghost use Rattle.guestmem.specs.Writes.{set_all, touched};
-ghost use Rattle.chains.specs.State.{HasAreas};
+ghost use Rattle.chains.specs.Frame.{MayServe, HasServed};
 ghost use Rattle.chains.specs.Places.{places, AreSegmentsInside};
 ghost use Rattle.chains.specs.Publish.{after_publish, is_interrupt_due};
-ghost use Rattle.blk.specs.Advance.{end_writes, used_len, data_written, IsAfterAdvancing, advance_step};
+ghost use Rattle.blk.specs.Advance.{end_writes, used_len, data_written, HasFlushed, IsAfterAdvancing, advance_step};
 ghost use Rattle.blk.specs.Sectors.{IsKept, AreWhole};
 ghost use Rattle.blk.specs.Move.{MaySectors, is_disk_failed};
 ghost use Rattle.blk.specs.Sound.{AreSound};
@@ -19,9 +18,8 @@ use crate::request::{Kind, Request};
 use crate::requests::Requests;
 use crate::sectors::Sectors;
 use crate::shape::{BlockShape, ID_SIZE};
-use chains::{Ring, copy_in, total_len};
+use chains::{Ring, copy_in};
 use guestmem::{Ram, TouchLog};
-use mmio::QUEUE_SIZE_MAX;
 
 /// How advancing a request went.
 #[derive(Clone, Copy, Debug, PartialEq, Eq)]
@@ -61,19 +59,17 @@ impl Requests {
         ram: &mut Ram,
         log: &mut L,
     ) -> Advanced
-        requires areas { HasAreas (length ram.old.bytes) (R.state ring.old) }
-        requires few { (R.state ring.old).size ≤ QUEUE_SIZE_MAX }
+        requires ready { MayServe L.may (length ram.old.bytes) (R.state ring.old) log.old }
         requires capacity { length sectors.old.content ≡ shape.now.sectors }
         requires sound { AreSound (length ram.old.bytes) (R.state ring.old) shape.now self.old }
-        requires may { MayPages L.may log.old (length ram.old.bytes) }
         requires may_sectors { MaySectors L.may log.old device (length sectors.old.content) }
         ensures changes { IsAfterAdvancing L.after sectors.old.honest device ram.old.bytes sectors.old.content log.old (λ given. advance_step shape.now ram.old.bytes (R.state ring.old) given self.old k (not (is_disk_failed result))) result ram.new.bytes (R.state ring.new) sectors.new.content self.new log.new }
         ensures kept { IsKept sectors.old (is_disk_failed result) sectors.new }
+        ensures flushed { HasFlushed self.old k result sectors.new.is_flushed }
         ensures whole { AreWhole sectors.new.content }
         ensures sound { AreSound (length ram.new.bytes) (R.state ring.new) shape.now self.new }
-        ensures size { length ram.new.bytes ≡ length ram.old.bytes }
-        ensures later { IsLater ram.old ram.new }
-        ensures may { MayPages L.may log.new (length ram.new.bytes) }
+        ensures after { HasServed L.may ram.old ram.new log.new }
+        ensures decoder { R.decoder ring.new ≡ R.decoder ring.old }
     {
         if k >= self.list.len() {
             sectors.recall();
@@ -98,24 +94,21 @@ fn complete<R: Ring, L: TouchLog>(
     ram: &mut Ram,
     log: &mut L,
 ) -> Advanced
-    requires areas { HasAreas (length ram.old.bytes) (R.state ring.old) }
+    requires ready { MayServe L.may (length ram.old.bytes) (R.state ring.old) log.old }
     requires slots { request.now.slots ≤ (R.state ring.old).size }
     requires segments { AreSegmentsInside (length ram.old.bytes) request.now.writable }
-    requires few { length request.now.writable ≤ QUEUE_SIZE_MAX }
     requires status { 1 ≤ length (places request.now.writable) }
     requires total { length (places request.now.writable) < 2 ^ 32 }
     requires data { data_written request.now.kind request.now.done < length (places request.now.writable) }
-    requires may { MayPages L.may log.old (length ram.old.bytes) }
     ensures answer { result ≡ Completed (used_len request.now) (is_interrupt_due (R.state ring.old) request.now.slots (set_all ram.old.bytes (end_writes (R.state ring.old) request.now))) }
     ensures bytes { ram.new.bytes ≡ set_all ram.old.bytes (end_writes (R.state ring.old) request.now) }
     ensures ring { R.state ring.new ≡ after_publish (R.state ring.old) request.now.slots }
     ensures log { log.new ≡ after_all L.after log.old (touched (end_writes (R.state ring.old) request.now)) }
-    ensures size { length ram.new.bytes ≡ length ram.old.bytes }
-    ensures later { IsLater ram.old ram.new }
-    ensures may { MayPages L.may log.new (length ram.new.bytes) }
+    ensures after { HasServed L.may ram.old ram.new log.new }
+    ensures decoder { R.decoder ring.new ≡ R.decoder ring.old }
 {
+    let count = request.writable.total_len();
     let segs = request.writable.as_slice();
-    let count = total_len(segs);
     copy_in(ram, segs, count - 1, &[request.verdict.byte()], log);
     let len = used_len(request, count);
     let is_due = ring.publish(request.id, request.slots, len, true, ram, log);

@@ -1,7 +1,7 @@
 //! A disk in a file.
 
 ghost use Rattle.std.specs.Prelude.{◌≡◌, ◌<◌, ◌*◌, ◌^◌, IfOk, is_ok};
-ghost use Rattle.blk.specs.Disk.{Flushes};
+ghost use Rattle.guestmem.specs.Failures.{counted};
 
 use crate::disk::{Disk, DiskFault, SECTOR_SIZE};
 use std::fs::{OpenFile, OpenOptions};
@@ -19,6 +19,9 @@ pub struct FileDisk<F: Drop> {
     count: u64,
     failures: u64,
 
+    /// Whether the file was synchronized after its last write.
+    is_flushed: bool,
+
     /// The sector at which the file's position is, where that is known. A call that begins there needs no seek.
     next: Option<u64>,
 }
@@ -30,7 +33,7 @@ impl<F: Drop> Model for FileDisk<F> {
 
     ghost Value = { DiskState };
 
-    ghost view = { λ d. file_state d.count d.failures };
+    ghost view = { λ d. file_state d.count d.failures d.is_flushed };
 
     ghost invariant = { λ d. 512 * d.count < 2 ^ 64 };
 }
@@ -50,6 +53,7 @@ impl<F: Read + Write + Seek + OpenFile + Drop> FileDisk<F> {
             file,
             count: len / SECTOR_SIZE as u64,
             failures: 0,
+            is_flushed: false,
             next: None,
         })
     }
@@ -57,7 +61,7 @@ impl<F: Read + Write + Seek + OpenFile + Drop> FileDisk<F> {
     /// Counts how a read or a write of a sector went. After one that failed the file's position is not known.
     fn moved(&mut self, n: u64, outcome: io::Result<()>) -> Result<(), DiskFault>
         ensures told { is_ok result ≡ is_ok outcome }
-        ensures counted { Flushes self.old result self.new }
+        ensures counted { self.new ≡ record self.old { failures = counted self.old.failures result } }
     {
         self.next = if outcome.is_ok() {
             n.checked_add(1)
@@ -70,7 +74,7 @@ impl<F: Read + Write + Seek + OpenFile + Drop> FileDisk<F> {
     /// Counts how a call of the file went.
     fn told(&mut self, outcome: io::Result<()>) -> Result<(), DiskFault>
         ensures told { is_ok result ≡ is_ok outcome }
-        ensures counted { Flushes self.old result self.new }
+        ensures counted { self.new ≡ record self.old { failures = counted self.old.failures result } }
     {
         if outcome.is_ok() {
             return Ok(());
@@ -131,12 +135,14 @@ impl<F: Read + Write + Seek + OpenFile + Drop> Disk for FileDisk<F> {
     }
 
     fn write(&mut self, n: u64, bytes: &[u8; 512]) -> Result<(), DiskFault> {
+        self.is_flushed = false;
         let outcome = write_sector(&mut self.file, n, self.next, bytes);
         self.moved(n, outcome)
     }
 
     fn flush(&mut self) -> Result<(), DiskFault> {
         let outcome = self.file.sync_data();
+        self.is_flushed = outcome.is_ok();
         self.told(outcome)
     }
 }

@@ -20,6 +20,8 @@
 //! - The count of failures rises by one exactly where the answer is `DiskFailed`, and a steady disk never fails. Requests stay
 //!   sound and sectors whole, whatever the disk does.
 //! - `Requests::are_sound` tests what every outstanding request keeps, for requests that come from elsewhere.
+//! - `Sectors::next_bad` names the least bad sector from one on, and `Sectors::read_good` reads one that is not bad, with no look
+//!   at the marks.
 //!
 //! Other definitions: `specs/Task` (what a request asks for, by its header), `specs/Move` (one unit of a request),
 //! `specs/Sound` (what every outstanding request keeps), `specs/Request`, `specs/FaultDisk` and `specs/FileDisk`. Nothing is

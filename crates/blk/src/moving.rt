@@ -1,15 +1,16 @@
 //! One unit of a request.
 
-ghost use Rattle.std.specs.Prelude.{◌≡◌, ◌≤◌, ◌<◌, ◌+◌, ◌^◌, ◌*◌, length, not, true};
+ghost use Rattle.std.specs.Prelude.{◌≡◌, ◌≤◌, ◌<◌, ◌+◌, ◌^◌, ◌*◌, IsTrue, length, not, true};
 ghost use Rattle.guestmem.specs.Item.{MayPages, after_all};
-ghost use Rattle.guestmem.specs.Later.{IsLater};
 ghost use Rattle.guestmem.specs.Writes.{set_all, touched};
+ghost use Rattle.chains.specs.Frame.{HasServed};
 ghost use Rattle.chains.specs.Places.{places, AreSegmentsInside};
 ghost use Rattle.blk.specs.Request.{is_open};
 ghost use Rattle.blk.specs.Sectors.{IsKept, AreWhole};
 ghost use Rattle.blk.specs.Move.{IsMoved, MaySectors, move_in, move_out, move_flush, move_id, move_of, after_unit, is_disk_failed};
 ghost use Rattle.blk.specs.Sound.{IsSoundWork};
 ghost use Rattle.blk.specs.declared.advancing.Advanced.TheVariants.{Moved};
+ghost use Rattle.blk.specs.declared.request.Kind.TheVariants as kinds;
 
 use crate::advancing::Advanced;
 use crate::disk::{Disk, SECTOR_SIZE};
@@ -37,9 +38,7 @@ fn move_in<D: Disk, L: TouchLog>(
     ensures moved { IsMoved L.after sectors.old.honest device ram.old.bytes sectors.old.content log.old (λ given. move_in given request.old (not (is_disk_failed result))) result request.new ram.new.bytes sectors.new.content log.new }
     ensures request { request.new ≡ after_unit request.old result }
     ensures kept { IsKept sectors.old (is_disk_failed result) sectors.new }
-    ensures size { length ram.new.bytes ≡ length ram.old.bytes }
-    ensures later { IsLater ram.old ram.new }
-    ensures may { MayPages L.may log.new (length ram.new.bytes) }
+    ensures after { HasServed L.may ram.old ram.new log.new }
 {
     let n = request.next_sector();
     let mut buffer = [0; SECTOR_SIZE];
@@ -85,9 +84,7 @@ fn move_out<D: Disk, L: TouchLog>(
     ensures moved { IsMoved L.after sectors.old.honest device ram.old.bytes sectors.old.content log.old (λ given. move_out ram.old.bytes request.old (not (is_disk_failed result))) result request.new ram.new.bytes sectors.new.content log.new }
     ensures request { request.new ≡ after_unit request.old result }
     ensures kept { IsKept sectors.old (is_disk_failed result) sectors.new }
-    ensures size { length ram.new.bytes ≡ length ram.old.bytes }
-    ensures later { IsLater ram.old ram.new }
-    ensures may { MayPages L.may log.new (length ram.new.bytes) }
+    ensures after { HasServed L.may ram.old ram.new log.new }
 {
     sectors.recall();
     let n = request.next_sector();
@@ -108,7 +105,7 @@ fn move_out<D: Disk, L: TouchLog>(
     Advanced::Moved
 }
 
-/// Flushes the disk.
+/// Flushes the disk. A flush that is done has left the disk flushed.
 fn move_flush<D: Disk>(request: &mut Request, sectors: &mut Sectors<D>) -> Advanced
     requires open { request.old.done < request.old.units }
     ensures answer { result ≡ (move_flush request.old (not (is_disk_failed result))).answer }
@@ -116,6 +113,7 @@ fn move_flush<D: Disk>(request: &mut Request, sectors: &mut Sectors<D>) -> Advan
     ensures request { request.new ≡ after_unit request.old result }
     ensures kept { IsKept sectors.old (is_disk_failed result) sectors.new }
     ensures same { sectors.new.content ≡ sectors.old.content }
+    ensures flushed { result ≡ Moved → IsTrue sectors.new.is_flushed }
 {
     if sectors.flush().is_err() {
         request.verdict = Verdict::IoError;
@@ -140,9 +138,7 @@ fn move_id<L: TouchLog>(
     ensures request { request.new ≡ (move_id id.now request.old).request }
     ensures bytes { ram.new.bytes ≡ set_all ram.old.bytes (move_id id.now request.old).writes }
     ensures log { log.new ≡ after_all L.after log.old (touched (move_id id.now request.old).writes) }
-    ensures size { length ram.new.bytes ≡ length ram.old.bytes }
-    ensures later { IsLater ram.old ram.new }
-    ensures may { MayPages L.may log.new (length ram.new.bytes) }
+    ensures after { HasServed L.may ram.old ram.new log.new }
 {
     copy_in(ram, request.writable.as_slice(), 0, id, log);
     request.done += 1;
@@ -169,9 +165,8 @@ pub(crate) fn move_unit<D: Disk, L: TouchLog>(
     ensures request { request.new ≡ after_unit request.old result }
     ensures sound { IsSoundWork request.new.kind (length (places request.new.readable)) (length (places request.new.writable)) shape.now.sectors shape.now.read_only request.new.verdict request.new.first request.new.units request.new.done }
     ensures kept { IsKept sectors.old (is_disk_failed result) sectors.new }
-    ensures size { length ram.new.bytes ≡ length ram.old.bytes }
-    ensures later { IsLater ram.old ram.new }
-    ensures may { MayPages L.may log.new (length ram.new.bytes) }
+    ensures flushed { request.old.kind ≡ kinds.Flush → result ≡ Moved → IsTrue sectors.new.is_flushed }
+    ensures after { HasServed L.may ram.old ram.new log.new }
 {
     sectors.recall();
     match request.kind {

@@ -1,8 +1,9 @@
 //! The sectors of a block device: a disk, and which of its sectors are bad.
 
-ghost use Rattle.std.specs.Prelude.{◌≡◌, ◌<◌, ◌^◌, length, map, IfOk, IsTrue, OnOk, OnErr, Some, None, false, replicate, slice_set, is_ok, not};
+ghost use Rattle.std.specs.Prelude.{◌≡◌, ◌≤◌, ◌<◌, ◌^◌, count_by, length, map, IfOk, IsTrue, OnOk, OnErr, Some, None, false, replicate, slice_set, is_ok, not};
 ghost use Rattle.blk.specs.Disk.{AreSectors};
-ghost use Rattle.blk.specs.Sectors.{seen_of, sector_in, is_bad, set_sector, AreWhole, IsKept, IsFetched, is_failed};
+ghost use Rattle.dirtylog.specs.Members.{IsLeastFrom};
+ghost use Rattle.blk.specs.Sectors.{bytes_of, seen_of, sector_in, is_bad, set_sector, AreWhole, IsKept, IsFetched, is_failed};
 
 use crate::disk::{Disk, DiskFault, SECTOR_SIZE};
 use dirtylog::BitSet;
@@ -85,12 +86,27 @@ impl<D: Disk> Sectors<D> {
         self.disk.sectors()
     }
 
+    /// How many sectors are bad. It takes constant time.
+    pub fn bad_count(&self) -> u64
+        ensures { result ≡ count_by is_bad self.now.content }
+    {
+        self.bad.count()
+    }
+
     /// Whether a sector is bad. The disk is not asked.
     pub fn is_bad(&self, n: u64) -> bool
         requires { n < length self.now.content }
         ensures { result ≡ is_bad (sector_in self.now.content n) }
     {
         self.bad.contains(n)
+    }
+
+    /// The least bad sector from sector `from` on, or None if there is none. The disk is not asked.
+    pub fn next_bad(&self, from: u64) -> Option<u64>
+        requires { from ≤ length self.now.content }
+        ensures { IsLeastFrom (map is_bad self.now.content) from result }
+    {
+        self.bad.first_from(from)
     }
 
     /// Makes a sector bad. The disk is not asked.
@@ -106,6 +122,7 @@ impl<D: Disk> Sectors<D> {
         requires { n < length self.old.content }
         ensures kept { IsKept self.old (is_failed result) self.new }
         ensures same { self.new.content ≡ self.old.content }
+        ensures flushed { self.new.is_flushed ≡ self.old.is_flushed }
         ensures fetched { IsFetched self.old.honest (sector_in self.old.content n) buf.new result }
     {
         if self.bad.contains(n) {
@@ -115,6 +132,18 @@ impl<D: Disk> Sectors<D> {
             return Fetched::Failed;
         }
         Fetched::Read
+    }
+
+    /// Reads a sector that is not bad, without a look at the marks. Where the disk fails, the buffer may hold anything.
+    pub fn read_good(&mut self, n: u64, buf: &mut [u8; SECTOR_SIZE]) -> Result<(), DiskFault>
+        requires inside { n < length self.old.content }
+        requires good { is_bad (sector_in self.old.content n) ≡ false }
+        ensures kept { IsKept self.old (not (is_ok result)) self.new }
+        ensures same { self.new.content ≡ self.old.content }
+        ensures flushed { self.new.is_flushed ≡ self.old.is_flushed }
+        ensures fetched { OnOk result (IsTrue self.old.honest → buf.new ≡ bytes_of (sector_in self.old.content n)) }
+    {
+        self.disk.read(n, buf)
     }
 
     /// Writes a sector. One that is written is good, and one whose write fails is bad.
@@ -133,10 +162,11 @@ impl<D: Disk> Sectors<D> {
         Ok(())
     }
 
-    /// Makes what was written durable.
+    /// Makes what was written durable. After it the disk is flushed, unless this fails.
     pub fn flush(&mut self) -> Result<(), DiskFault>
         ensures kept { IsKept self.old (not (is_ok result)) self.new }
         ensures same { self.new.content ≡ self.old.content }
+        ensures flushed { OnOk result (IsTrue self.new.is_flushed) }
     {
         self.disk.flush()
     }

@@ -10,7 +10,7 @@ use crate::disk::SECTOR_SIZE;
 use crate::request::{HEADER_SIZE, Kind, Request, Verdict};
 use crate::requests::Requests;
 use crate::shape::{BlockShape, ID_SIZE};
-use chains::{Seg, total_len};
+use chains::Seg;
 
 impl Requests {
     /// Whether each of them may be outstanding (see `Request::is_sound`).
@@ -57,12 +57,10 @@ impl Request {
 
     /// Whether its bytes are not too many, have room for its header and its verdict, and fit its kind.
     fn has_sound_bytes(&self, shape: &BlockShape) -> bool
-        requires readable { length self.now.readable < 2 ^ 32 }
-        requires writable { length self.now.writable < 2 ^ 32 }
         ensures { IsTrue result ↔ ((length (places self.now.readable) + length (places self.now.writable) < 2 ^ 32) × (HEADER_SIZE ≤ length (places self.now.readable)) × (1 ≤ length (places self.now.writable)) × IsSoundWork self.now.kind (length (places self.now.readable)) (length (places self.now.writable)) shape.now.sectors shape.now.read_only self.now.verdict self.now.first self.now.units self.now.done) }
     {
-        let readable = total_len(self.readable.as_slice());
-        let writable = total_len(self.writable.as_slice());
+        let readable = self.readable.total_len();
+        let writable = self.writable.total_len();
         let most = 1 << 32;
         readable < most
             && writable < most - readable

@@ -1,12 +1,16 @@
 pub mod State
 pub mod RingCore
+pub mod RingSeen
 pub mod Places
 pub mod Descriptor
+pub mod Decoder
+pub mod DecoderLaws
 pub mod Whole
 pub mod SplitChain
 pub mod PackedChain
 pub mod Ring
 pub mod LongQueue
+pub mod Gives
 pub mod Publish
 pub mod SplitLaws
 pub mod EffectLaws
@@ -15,3 +19,8 @@ pub mod PackedLaws
 pub mod ChainLaws
 pub mod ReceiveBuffer
 pub mod Transmit
+pub mod Frame
+pub mod FrameLaws
+pub mod Look
+pub mod LookLaws
+pub mod Transmitted

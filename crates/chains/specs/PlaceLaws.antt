@@ -24,6 +24,13 @@ pub places_append : (xs ys : List Seg) → places (xs ++ ys) ≡ places xs ++ pl
 places_append [] ys = refl
 places_append (x ∷ xs) ys = rw (places_append xs ys) (sym (append_assoc (addresses x.addr x.len) (places xs) (places ys)))
 
+-- A segment more has its bytes more places.
+pub length_places_push : (segs : List Seg) (seg : Seg) → length (places (segs ++ seg ∷ [])) ≡ length (places segs) + seg.len
+length_places_push segs seg =
+    let e = length-append (places segs) (addresses seg.addr seg.len ++ []) in
+    let f = length-append (addresses seg.addr seg.len) (places []) in
+    rw places_append (omega (arith, length_addresses seg.addr seg.len))
+
 -- Segments have as many places as bytes.
 pub length_places : (segs : List Seg) → length (places segs) ≡ sum_by (λ seg. seg.len) segs
 length_places [] = refl

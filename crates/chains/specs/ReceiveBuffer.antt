@@ -1,15 +1,11 @@
 -- Chains of a queue through which a device gives bytes to the guest: the receive queues of a network device and of a
 -- console (VIRTIO 1.2, 5.1.6.3 and 5.3.6) and the queue of an entropy device (VIRTIO 1.2, 5.4.6).
-use Rattle.std.specs.Prelude.{ℕ, nat_lt, ◌==◌, ◌&&◌, not, Bool, List, ◌++◌, length}
+use Rattle.std.specs.Prelude.{ℕ, nat_lt, List, ◌++◌, length}
 use Rattle.guestmem.specs.Writes.{Write}
 use Rattle.chains.specs.State.{RingState}
 use Rattle.chains.specs.Places.{places, place_writes}
 use Rattle.chains.specs.Publish.{published, after_take}
 use Rattle.chains.specs.declared.chain.Chain.{Chain}
-
--- A chain into which the device may write: it has no readable byte, and at least one writable byte.
-abbrev pub takes_bytes : Chain → Bool
-takes_bytes c = length (places c.readable) == 0 && not (length (places c.writable) == 0)
 
 -- What giving bytes to a chain writes: they go to the first writable places, and the chain is published with their count as
 -- its used length, as written into if there are any.

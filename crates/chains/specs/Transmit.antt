@@ -1,8 +1,7 @@
 -- The step of a queue through which the guest sends: the transmit queue of a network device (VIRTIO 1.2, 5.1.6.2) and of
 -- a console (VIRTIO 1.2, 5.3.6).
-use Rattle.std.specs.Prelude.{◌≡◌, ℕ, nat_lt, ◌&&◌, not, Bool, true, false, List, [], length, drop, if◌then◌else◌, ◌⊎◌}
-use Rattle.guestmem.specs.Item.{Item, after_all}
-use Rattle.guestmem.specs.Writes.{Write, set_all, touched}
+use Rattle.std.specs.Prelude.{◌≡◌, ℕ, nat_lt, ◌&&◌, not, Bool, true, false, List, [], length, drop, ◌⊎◌}
+use Rattle.guestmem.specs.Writes.{Write, set_all}
 use Rattle.chains.specs.State.{RingState}
 use Rattle.chains.specs.Places.{places, read_places}
 use Rattle.chains.specs.Publish.{published, event_note, is_interrupt_due, after_take, after_publish}
@@ -44,21 +43,11 @@ send ram q header c = record {
 abbrev pub refuse_message : RingState → Transmission
 refuse_message q = record { answer = Malformed; writes = []; ring = q }
 
--- The step, by what the queue answers about its next chain. If the queue is empty the event note is written. A chain that
--- holds no message is malformed too.
+-- The step, by what the device sees in the queue. If the queue is empty the event note is written.
 abbrev pub transmit_step : List ℕ → RingState → MessageForm → Next → Transmission
 transmit_step ram q form next.Empty = record { answer = Empty; writes = event_note q; ring = q }
 transmit_step ram q form next.Malformed = refuse_message q
-transmit_step ram q form (next.Chain c) = if is_message form c then send ram q form.header c else refuse_message q
-
--- Such a step was made, by what the queue answers: RAM, the ring and a log after it.
-pub record IsTransmitted {L : Type 0} (after : L → Item → L) (ram : List ℕ) (q : RingState) (form : MessageForm) (log : L) (answer : Transmitted) (new_ram : List ℕ) (new_ring : RingState) (new_log : L) : Type 0 where
-  pub seen : Next
-  pub answers : Answers ram q seen
-  pub answer_is : answer ≡ (transmit_step ram q form seen).answer
-  pub ram_is : new_ram ≡ set_all ram (transmit_step ram q form seen).writes
-  pub ring_is : new_ring ≡ (transmit_step ram q form seen).ring
-  pub log_is : new_log ≡ after_all after log (touched (transmit_step ram q form seen).writes)
+transmit_step ram q form (next.Chain c) = send ram q form.header c
 
 -- A message waits in a queue.
 pub record HasMessage (ram : List ℕ) (q : RingState) (form : MessageForm) : Type 0 where

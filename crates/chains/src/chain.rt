@@ -1,6 +1,9 @@
 //! A chain of buffers.
 
+ghost use Rattle.std.specs.Prelude.{◌≡◌, []};
+
 use crate::segs::Segs;
+use std::alloc::Global;
 
 /// A chain of buffers that the driver made available. Segments of no bytes are kept.
 #[derive(Drop)]
@@ -17,4 +20,18 @@ pub struct Chain {
 
     /// The segments that the device may write, in order. They come after the readable ones.
     pub writable: Segs,
+}
+
+impl Chain {
+    /// A chain of no segments, for a ring to fill in. It takes no memory: long lists go to memory of this allocator.
+    pub fn new(alloc: Global) -> Chain
+        ensures { result ≡ record { id = 0; slots = 1; readable = []; writable = [] } }
+    {
+        Chain {
+            id: 0,
+            slots: 1,
+            readable: Segs::new(alloc),
+            writable: Segs::new(alloc),
+        }
+    }
 }

@@ -2,20 +2,12 @@
 
 ghost use Rattle.std.specs.Prelude.{◌≡◌, ◌+◌, ◌*◌, ◌<◌, ◌≤◌, ◌^◌, length, take, drop};
 ghost use Rattle.guestmem.specs.Item.{after_all, MayPages};
-ghost use Rattle.guestmem.specs.Later.{IsLater};
 ghost use Rattle.guestmem.specs.Writes.{set_all, touched};
+ghost use Rattle.chains.specs.Frame.{HasServed};
 ghost use Rattle.chains.specs.Places.{places, read_places, place_writes, AreSegmentsInside};
 
 use crate::segs::Seg;
 use guestmem::{ACCESS_MAX, Ram, TouchLog};
-
-/// The number of bytes of a list of fewer than 2^32 segments.
-pub fn total_len(segs: &[Seg]) -> u64
-    requires { length segs.now < 2 ^ 32 }
-    ensures { result ≡ length (places segs.now) }
-{
-    segs.iter().map(|seg| seg.len as u64).sum()
-}
 
 /// Fills the buffer with the bytes of the concatenated segments, from offset `at` on. The segments lie inside RAM, and
 /// have at least `at + buf.len()` bytes. It takes no memory.
@@ -62,10 +54,8 @@ pub fn copy_in<L: TouchLog>(ram: &mut Ram, segs: &[Seg], at: u64, bytes: &[u8], 
     requires room { at + length bytes.now ≤ length (places segs.now) }
     requires may { MayPages L.may log.old (length ram.old.bytes) }
     ensures bytes { ram.new.bytes ≡ set_all ram.old.bytes (place_writes (take (length bytes.now) (drop at (places segs.now))) bytes.now) }
-    ensures size { length ram.new.bytes ≡ length ram.old.bytes }
-    ensures later { IsLater ram.old ram.new }
     ensures log { log.new ≡ after_all L.after log.old (touched (place_writes (take (length bytes.now) (drop at (places segs.now))) bytes.now)) }
-    ensures may { MayPages L.may log.new (length ram.new.bytes) }
+    ensures after { HasServed L.may ram.old ram.new log.new }
 {
     ram.recall();
     let mut skip = at;

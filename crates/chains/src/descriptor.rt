@@ -1,7 +1,7 @@
 //! Descriptors of guest memory.
 
-ghost use Rattle.std.specs.Prelude.{◌≡◌, ◌+◌, ◌*◌, ◌≤◌, length, IsTrue, ◌↔◌};
-ghost use Rattle.chains.specs.Descriptor.{descriptor_at};
+ghost use Rattle.std.specs.Prelude.{◌≡◌, ◌+◌, ◌≤◌, length, IsTrue, ◌↔◌};
+ghost use Rattle.chains.specs.Descriptor.{descriptor_in};
 
 use crate::flags::{AVAIL, INDIRECT, NEXT, USED, WRITE};
 use guestmem::Ram;
@@ -40,19 +40,19 @@ pub struct Descriptor {
     pub used_flag: bool,
 }
 
-/// Reads the descriptor at an index of a table of the layout. This is the one call that decodes a descriptor.
-#[tactic(auto, unfolding(crate::specs::Descriptor::descriptor_at))]
-pub fn read_descriptor(ram: &Ram, is_packed: bool, table: u64, index: u16) -> Descriptor
-    requires inside { table + DESCRIPTOR_SIZE * index + DESCRIPTOR_SIZE ≤ length ram.now.bytes }
-    ensures { result ≡ descriptor_at is_packed ram.now.bytes table index }
+/// Decodes the descriptor at an address, in a table of the layout. This is the one function that reads descriptors, and only a
+/// `Decoder` calls it, once, where it counts.
+#[tactic(auto, unfolding(crate::specs::Descriptor::descriptor_in))]
+pub(crate) fn decode(ram: &Ram, is_packed: bool, address: u64) -> Descriptor
+    requires inside { address + DESCRIPTOR_SIZE ≤ length ram.now.bytes }
+    ensures { result ≡ descriptor_in is_packed ram.now.bytes address }
 {
     ram.recall();
-    let entry = table + DESCRIPTOR_SIZE * index as u64;
-    let (low, high) = (ram.u16_at(entry + 12), ram.u16_at(entry + 14));
+    let (low, high) = (ram.u16_at(address + 12), ram.u16_at(address + 14));
     let flags = if is_packed { high } else { low };
     Descriptor {
-        addr: ram.u64_at(entry),
-        len: ram.u32_at(entry + 8),
+        addr: ram.u64_at(address),
+        len: ram.u32_at(address + 8),
         next: if is_packed { 0 } else { high },
         id: if is_packed { low } else { 0 },
         has_next: flags & NEXT != 0,

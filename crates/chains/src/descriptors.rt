@@ -48,6 +48,13 @@ impl Descriptors {
         Ok(())
     }
 
+    /// Removes all descriptors. The memory stays.
+    pub fn clear(&mut self)
+        ensures { self.new ≡ [] }
+    {
+        self.list.clear();
+    }
+
     /// Takes out the last descriptor, if there is one.
     pub fn remove_last(&mut self)
         ensures { self.new ≡ take (length self.old - 1) self.old }

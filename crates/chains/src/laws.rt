@@ -2,6 +2,9 @@
 //! contract.
 
 ghost use Rattle.std.specs.Prelude.{◌≡◌, ℕ, List, length};
+ghost use Rattle.guestmem.specs.Memory.{Memory};
+ghost use Rattle.guestmem.specs.Later.{IsLater};
+ghost use Rattle.chains.specs.Decoder.{DecoderState, Fits};
 ghost use Rattle.chains.specs.State.{RingState};
 ghost use Rattle.chains.specs.Ring.{IsEmptyQueue, IsChain, Answers, IsBounded};
 ghost use Rattle.chains.specs.LongQueue.{IsLongQueue};
@@ -23,6 +26,11 @@ pub fn one_answer()
 /// Every chain of a queue keeps the bounds, whatever the driver wrote.
 pub fn chains_are_bounded()
     ensures { (ram : List ℕ) (q : RingState) (c : Chain) → IsChain ram q c → IsBounded (length ram) q c }
+{}
+
+/// What a decoder keeps fits every later RAM. So whoever writes RAM by the calls of `Ram` may look again at once.
+pub fn fits_later()
+    ensures { (d : DecoderState) (old new : Memory) → Fits d old → IsLater old new → Fits d new }
 {}
 
 /// Memory is taken only at a queue that is not empty: for its next chain, and for a message in it.

@@ -12,18 +12,25 @@
 //!   handed in, whatever it holds. The state of the ring stays as it was. Every chain is bounded: its segments lie inside RAM, and
 //!   are no more than slots. Its only error is out of memory, and that only at a long queue (`IsLongQueue`): one that is not empty,
 //!   with more than four descriptors in a row at the taking position.
+//! - `next_into(ram, chain)` is `next` with the chain filled in where the caller has it.
+//! - Both decode at most one descriptor more than there are slots, whatever RAM holds. They keep some by a `Decoder`, and use a
+//!   kept one only while its page has not changed. The caller's part is that what is kept fits RAM (`Fits`): every RAM fits a new
+//!   ring, and every later RAM fits still (`laws::fits_later`). `decoded()` is the count.
 //! - `take(chain)` advances the taking position by the chain's slots.
 //! - `publish(id, slots, len, wrote, ram, log)` writes the bytes of `published` and no others; the log takes in exactly their pages;
 //!   the result is whether an interrupt is due in the RAM after that.
 //! - `note_empty(ram, log)` writes the event note and no other byte.
 //! - The caller's part: the queue's areas are aligned and lie inside RAM (`HasAreas`), as those of every ready queue do (`mmio`),
-//!   and the log may name the pages of RAM.
+//!   and the log may name the pages of RAM. Where RAM is written, both stand in one word, `MayServe`, and what every step leaves
+//!   in another, `HasServed`: RAM that is later, and a log that may name its pages still.
 //!
 //! And on these functions:
 //! - `copy_out` and `copy_in` read and write the bytes of the concatenated segments, from an offset on; where segments overlap the
 //!   later byte wins; the log takes in exactly the pages written.
 //! - `fill(ring, chain, front, back, ram, log)` gives bytes to a chain: they go to its first writable bytes, and the chain is
-//!   published with their count. `takes_bytes` says which chains a device may write into.
+//!   published with their count.
+//! - `look(ring, wanted, chain, ram, log)` is the look of every device: it finds the ring empty, which is noted, or malformed, or
+//!   fills in a chain that the device can use, by what it has `Wanted`. A chain that it cannot use is malformed for it.
 //! - `transmit(alloc, ring, form, ram, log)` is `transmit_step` over any `Ring`: it reads the message of the next chain, which a
 //!   `MessageForm` separates from a malformed one, and publishes the chain with nothing written. An error is out of memory, at a long
 //!   chain or where a message waits, and changes nothing.
@@ -38,12 +45,17 @@
 //! - `specs/RingCore`: what a ring means by what it keeps;
 //! - `specs/Places`: the addresses of the bytes of segments, in order;
 //! - `specs/Descriptor`: the descriptor at an index of a table;
+//! - `specs/Decoder`: what is kept of descriptors, and when it fits a RAM; `specs/RingSeen`: a ring with that;
 //! - `specs/Whole`: the rules that the descriptors of a chain keep in either layout, and their segments;
 //! - `specs/SplitChain` and `specs/PackedChain`: the chain at the taking position, and when there is none;
 //! - `specs/Ring`: the answers of a ring, by its layout;
 //! - `specs/LongQueue`: the queues at which memory may be taken;
+//! - `specs/Gives`: the answers of a ring that fills in a chain;
 //! - `specs/Publish`: what publishing and the event note write, and when an interrupt is due;
-//! - `specs/PlaceLaws`, `EffectLaws`, `SplitLaws`, `PackedLaws` and `ChainLaws`: what follows, for proofs above.
+//! - `specs/Frame`: what is asked before every step, and what holds after it;
+//! - `specs/Look`: what a device sees in a queue, by the chains that it can use;
+//! - `specs/ReceiveBuffer`, `Transmit` and `Transmitted`: what giving bytes to a chain writes, and the step that takes a message;
+//! - `specs/PlaceLaws`, `EffectLaws`, `DecoderLaws`, `FrameLaws`, `SplitLaws`, `PackedLaws`, `ChainLaws` and `LookLaws`: what follows, for proofs above.
 //!
 //! A chain is a relation on whole lists of descriptors: it says which list is the chain, and not how to find it. What no list meets
 //! is malformed. Nothing is trusted here beside the toolchain and the crates below.
@@ -51,30 +63,38 @@
 
 mod chain;
 mod copy;
+mod decoder;
 mod descriptor;
 mod descriptors;
 pub mod flags;
 pub mod laws;
 mod limits;
+mod looking;
 mod next;
+mod next_kind;
 mod position;
 mod receive_buffer;
 mod ring;
 mod ring_core;
 mod segs;
 mod transmitting;
+mod walked;
 mod whole;
 
 pub use chain::Chain;
-pub use copy::{copy_in, copy_out, total_len};
-pub use descriptor::{DESCRIPTOR_SIZE, Descriptor, is_table, read_descriptor};
+pub use copy::{copy_in, copy_out};
+pub use decoder::{Decoder, Kept, PLACES};
+pub use descriptor::{DESCRIPTOR_SIZE, Descriptor, is_table};
 pub use descriptors::Descriptors;
 pub use limits::SHORT_CHAIN_MAX;
+pub use looking::{Wanted, look};
 pub use next::Next;
+pub use next_kind::NextKind;
 pub use position::{Position, Positions};
-pub use receive_buffer::{fill, takes_bytes};
+pub use receive_buffer::fill;
 pub use ring::Ring;
 pub use ring_core::RingCore;
 pub use segs::{Seg, Segs};
 pub use transmitting::{MessageForm, Transmitted, transmit};
-pub use whole::{is_whole, segments};
+pub use walked::Walked;
+pub use whole::{fill_segments, is_whole};

@@ -1,28 +1,18 @@
 //! Chains into which a device writes.
 
 ghost use Rattle.std.specs.Prelude.{◌≡◌, ◌≤◌, ◌<◌, ◌+◌, ◌^◌, ◌++◌, length};
-ghost use Rattle.guestmem.specs.Item.{after_all, MayPages};
-ghost use Rattle.guestmem.specs.Later.{IsLater};
+ghost use Rattle.guestmem.specs.Item.{after_all};
 ghost use Rattle.guestmem.specs.Writes.{set_all, touched};
-ghost use Rattle.chains.specs.State.{HasAreas};
+ghost use Rattle.chains.specs.Frame.{MayServe, HasServed};
 ghost use Rattle.chains.specs.Places.{places};
 ghost use Rattle.chains.specs.Publish.{is_interrupt_due, after_take, after_publish};
 ghost use Rattle.chains.specs.Ring.{IsBounded};
-ghost use Rattle.chains.specs.ReceiveBuffer.{takes_bytes, filled};
+ghost use Rattle.chains.specs.ReceiveBuffer.{filled};
 
 use crate::chain::Chain;
-use crate::copy::{copy_in, total_len};
+use crate::copy::copy_in;
 use crate::ring::Ring;
 use guestmem::{Ram, TouchLog};
-
-/// Whether a chain is one to write into: it has no readable byte, and a writable one.
-pub fn takes_bytes(chain: &Chain) -> bool
-    requires readable { length chain.now.readable < 2 ^ 32 }
-    requires writable { length chain.now.writable < 2 ^ 32 }
-    ensures { result ≡ takes_bytes chain.now }
-{
-    total_len(chain.readable.as_slice()) == 0 && total_len(chain.writable.as_slice()) != 0
-}
 
 /// Gives bytes to the chain that `Ring::next` found: two slices, one after the other, go to its first writable bytes.
 /// The chain is taken, and published with the count of these bytes. The result is whether an interrupt is due.
@@ -34,15 +24,13 @@ pub fn fill<R: Ring, L: TouchLog>(
     ram: &mut Ram,
     log: &mut L,
 ) -> bool
-    requires areas { HasAreas (length ram.old.bytes) (R.state ring.old) }
-    requires may { MayPages L.may log.old (length ram.old.bytes) }
+    requires ready { MayServe L.may (length ram.old.bytes) (R.state ring.old) log.old }
     requires bounded { IsBounded (length ram.old.bytes) (R.state ring.old) chain.now }
     requires room { length front.now + length back.now ≤ length (places chain.now.writable) }
     ensures bytes { ram.new.bytes ≡ set_all ram.old.bytes (filled (R.state ring.old) chain.now (front.now ++ back.now)) }
-    ensures size { length ram.new.bytes ≡ length ram.old.bytes }
-    ensures later { IsLater ram.old ram.new }
     ensures log { log.new ≡ after_all L.after log.old (touched (filled (R.state ring.old) chain.now (front.now ++ back.now))) }
-    ensures may { MayPages L.may log.new (length ram.new.bytes) }
+    ensures after { HasServed L.may ram.old ram.new log.new }
+    ensures decoder { R.decoder ring.new ≡ R.decoder ring.old }
     ensures state { R.state ring.new ≡ after_publish (after_take (R.state ring.old) chain.now.slots) chain.now.slots }
     ensures due { result ≡ is_interrupt_due (after_take (R.state ring.old) chain.now.slots) chain.now.slots ram.new.bytes }
 {

@@ -1,6 +1,7 @@
 //! Segments of guest memory.
 
-ghost use Rattle.std.specs.Prelude.{◌≡◌, ◌==◌, ◌<◌, ◌≤◌, [], ◌∷◌, ◌++◌, length, OnOk, OnErr, IsOk, IfOk};
+ghost use Rattle.std.specs.Prelude.{◌≡◌, ◌==◌, ◌<◌, ◌^◌, [], ◌∷◌, ◌++◌, length, OnOk, OnErr, IsOk};
+ghost use Rattle.chains.specs.Places.{places};
 
 use crate::limits::SHORT_CHAIN_MAX;
 use guestmem::NoMemory;
@@ -23,18 +24,22 @@ pub struct Seg {
 #[derive(Drop)]
 pub struct Segs {
     list: SmallVec<Seg, SHORT_CHAIN_MAX>,
+
+    /// The bytes of all of them.
+    total: u64,
 }
 
 impl Model for Segs {
-    ghost use Rattle.std.specs.Prelude.{List, ◌≤◌};
+    ghost use Rattle.std.specs.Prelude.{List, ◌≡◌, ◌≤◌, ◌*◌, length};
     ghost use Rattle.chains.specs.declared.segs.Seg.{Seg};
     ghost use Rattle.chains.specs.declared.limits.TheConstants.{SHORT_CHAIN_MAX};
+    ghost use Rattle.chains.specs.Places.{places};
 
     ghost Value = { List Seg };
 
     ghost view = { λ s. s.list.items };
 
-    ghost invariant = { λ s. SHORT_CHAIN_MAX ≤ s.list.capacity };
+    ghost invariant = { λ s. (SHORT_CHAIN_MAX ≤ s.list.capacity) × (s.total ≡ length (places s.list.items)) × (s.total ≤ 4294967295 * length s.list.items) };
 }
 
 impl Segs {
@@ -44,27 +49,29 @@ impl Segs {
     {
         Segs {
             list: SmallVec::new(alloc),
+            total: 0,
         }
     }
 
-    /// A list of these segments. It fails only if memory is refused, and never for up to `SHORT_CHAIN_MAX` segments.
-    pub fn from_slice(alloc: Global, segs: &[Seg]) -> Result<Segs, NoMemory>
-        ensures ok { IfOk result (λ list. list ≡ segs.now) }
-        ensures short { length segs.now ≤ SHORT_CHAIN_MAX → IsOk result }
+    /// Removes all segments. The memory stays.
+    pub fn clear(&mut self)
+        ensures { self.new ≡ [] }
     {
-        let list = SmallVec::from_slice(alloc, segs)?;
-        prove!(list.capacity() >= SHORT_CHAIN_MAX);
-        Ok(Segs { list })
+        self.list.clear();
+        self.total = 0;
     }
 
     /// Adds a segment at the end. Its only error is out of memory, and then nothing has changed. It never fails on a
     /// list of fewer than `SHORT_CHAIN_MAX`.
+    #[tactic(auto, using(crate::specs::PlaceLaws::length_places_push))]
     pub fn push(&mut self, seg: Seg) -> Result<(), NoMemory>
+        requires few { length self.old < 2 ^ 32 }
         ensures ok { OnOk result (self.new ≡ self.old ++ seg ∷ []) }
         ensures err { OnErr result (self.new ≡ self.old) }
         ensures short { length self.old < SHORT_CHAIN_MAX → IsOk result }
     {
         self.list.push(seg)?;
+        self.total += seg.len as u64;
         Ok(())
     }
 
@@ -80,6 +87,13 @@ impl Segs {
         ensures { result ≡ length self.now }
     {
         self.list.len()
+    }
+
+    /// The number of bytes of all segments.
+    pub fn total_len(&self) -> u64
+        ensures { result ≡ length (places self.now) }
+    {
+        self.total
     }
 
     /// Whether there is no segment.

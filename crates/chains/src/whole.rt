@@ -1,13 +1,12 @@
 //! The rules for the descriptors of a chain, whatever the layout.
 
-ghost use Rattle.std.specs.Prelude.{◌≡◌, ◌<◌, ◌≤◌, ◌+◌, ◌^◌, length, IsTrue, ◌↔◌, All, sum, map, IfOk, OnErr};
+ghost use Rattle.std.specs.Prelude.{◌≡◌, ◌<◌, ◌≤◌, ◌+◌, ◌^◌, length, IsTrue, ◌↔◌, All, sum, map, OnOk, OnErr};
 ghost use Rattle.chains.specs.Whole.{IsWhole, IsInOrder, readable_of, writable_of};
 
 use crate::descriptor::Descriptor;
 use crate::limits::SHORT_CHAIN_MAX;
 use crate::segs::{Seg, Segs};
 use guestmem::{NoMemory, Ram};
-use std::alloc::Global;
 
 /// Whether the descriptors of a chain, which are at most `most`, keep the rules of both layouts: each buffer lies
 /// inside RAM, no readable one comes after a writable one, and all have together less than 4 GiB.
@@ -44,14 +43,20 @@ fn total(descriptors: &[Descriptor]) -> u64
     descriptors.iter().map(|d| d.len as u64).sum()
 }
 
-/// The segments of descriptors: those that the device may read, and those that it may write. It fails only if memory is
-/// refused, and never for up to `SHORT_CHAIN_MAX` descriptors.
-pub fn segments(alloc: Global, descriptors: &[Descriptor]) -> Result<(Segs, Segs), NoMemory>
-    ensures segments { IfOk result (λ segs. (segs.0 ≡ readable_of descriptors.now) × (segs.1 ≡ writable_of descriptors.now)) }
+/// Fills in the segments of descriptors: those that the device may read, and those that it may write. It fails only if
+/// memory is refused, and never for up to `SHORT_CHAIN_MAX` descriptors.
+pub fn fill_segments(
+    descriptors: &[Descriptor],
+    readable: &mut Segs,
+    writable: &mut Segs,
+) -> Result<(), NoMemory>
+    requires few { length descriptors.now < 2 ^ 32 }
+    ensures readable { OnOk result (readable.new ≡ readable_of descriptors.now) }
+    ensures writable { OnOk result (writable.new ≡ writable_of descriptors.now) }
     ensures memory { OnErr result (SHORT_CHAIN_MAX < length descriptors.now) }
 {
-    let mut readable = Segs::new(alloc);
-    let mut writable = Segs::new(alloc);
+    readable.clear();
+    writable.clear();
     for descriptor in descriptors {
         let seg = Seg {
             addr: descriptor.addr,
@@ -63,5 +68,5 @@ pub fn segments(alloc: Global, descriptors: &[Descriptor]) -> Result<(Segs, Segs
             readable.push(seg)?;
         }
     }
-    Ok((readable, writable))
+    Ok(())
 }

@@ -1,14 +1,14 @@
 -- The step of a queue through which a device gives bytes to the guest: the receive queue of a console (VIRTIO 1.2, 5.3.6)
 -- and the queue of an entropy device (VIRTIO 1.2, 5.4.6).
-use Rattle.std.specs.Prelude.{◌≡◌, ℕ, min, List, [], length, take, drop, if◌then◌else◌}
+use Rattle.std.specs.Prelude.{◌≡◌, ℕ, min, List, [], length, take, drop}
 use Rattle.guestmem.specs.Item.{Item, after_all}
 use Rattle.guestmem.specs.Writes.{Write, set_all, touched}
 use Rattle.chains.specs.State.{RingState}
 use Rattle.chains.specs.Places.{places}
 use Rattle.chains.specs.Publish.{event_note, is_interrupt_due, after_take, after_publish}
 use Rattle.chains.specs.ReceiveBuffer.{filled}
-pub use Rattle.chains.specs.ReceiveBuffer.{takes_bytes}
-use Rattle.chains.specs.Ring.{Answers}
+use Rattle.chains.specs.Look.{Sees}
+use Rattle.chains.specs.declared.looking.Wanted.TheVariants.{Room}
 use Rattle.chains.specs.declared.chain.Chain.{Chain}
 use Rattle.chains.specs.declared.next.Next.{Next}
 use Rattle.chains.specs.declared.next.Next.TheVariants as next
@@ -43,12 +43,11 @@ give ram q held c = record {
 abbrev pub refuse : RingState → List ℕ → Step
 refuse q held = record { answer = Malformed; writes = []; ring = q; left = held }
 
--- The step with bytes held, by what the queue answers about its next chain. If the queue is empty the event note is
--- written. A chain that the device may not write into is malformed too.
+-- The step with bytes held, by what the device sees in the queue. If the queue is empty the event note is written.
 abbrev pub receive_step : List ℕ → RingState → List ℕ → Next → Step
 receive_step ram q held next.Empty = record { answer = Empty; writes = event_note q; ring = q; left = held }
 receive_step ram q held next.Malformed = refuse q held
-receive_step ram q held (next.Chain c) = if takes_bytes c then give ram q held c else refuse q held
+receive_step ram q held (next.Chain c) = give ram q held c
 
 -- RAM, the ring, the bytes held and a log after such a step.
 pub record IsAfter {L : Type 0} (after : L → Item → L) (ram : List ℕ) (log : L) (s : Step) (new_ram : List ℕ) (new_ring : RingState) (new_held : List ℕ) (new_log : L) : Type 0 where
@@ -57,9 +56,9 @@ pub record IsAfter {L : Type 0} (after : L → Item → L) (ram : List ℕ) (log
   pub held_is : new_held ≡ s.left
   pub log_is : new_log ≡ after_all after log (touched s.writes)
 
--- Such a step was made, by what the queue answers.
+-- Such a step was made, by what the device sees.
 pub record IsReceived {L : Type 0} (after : L → Item → L) (ram : List ℕ) (q : RingState) (held : List ℕ) (log : L) (answer : Received) (new_ram : List ℕ) (new_ring : RingState) (new_held : List ℕ) (new_log : L) : Type 0 where
   pub seen : Next
-  pub answers : Answers ram q seen
+  pub sees : Sees Room ram q seen
   pub answer_is : answer ≡ (receive_step ram q held seen).answer
   pub changes : IsAfter after ram log (receive_step ram q held seen) new_ram new_ring new_held new_log

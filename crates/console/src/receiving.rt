@@ -1,17 +1,15 @@
 //! The step that gives bytes to the guest.
 
 ghost use Rattle.std.specs.Prelude.{◌≡◌, ◌≤◌, ◌<◌, ◌+◌, ◌^◌, length, IfOk, OnErr, Some};
-ghost use Rattle.guestmem.specs.Item.{MayPages};
-ghost use Rattle.guestmem.specs.Later.{IsLater};
-ghost use Rattle.chains.specs.State.{HasAreas};
+ghost use Rattle.chains.specs.Frame.{MayServe, HasServed, MayLook, HasLooked, IsUntouched};
 ghost use Rattle.chains.specs.Ring.{IsBounded};
 ghost use Rattle.chains.specs.LongQueue.{IsLongQueue};
 ghost use Rattle.console.specs.Receive.{give, IsAfter, IsReceived};
 
 use crate::host_bytes::HostBytes;
-use chains::{Chain, Next, Ring, fill, takes_bytes, total_len};
+use chains::{Chain, NextKind, Ring, Wanted, fill, look};
 use guestmem::{NoMemory, Ram, TouchLog};
-use mmio::QUEUE_SIZE_MAX;
+use std::alloc::Global;
 
 /// How a step on a queue of receive buffers went.
 #[derive(Clone, Copy, Debug, PartialEq, Eq)]
@@ -35,40 +33,25 @@ pub enum Received {
 /// Gives the first of the bytes held to the next chain, as many as it takes, and publishes it. Its only error is out of
 /// memory for the chain, and then nothing has changed.
 pub fn receive<R: Ring, L: TouchLog>(
+    alloc: Global,
     ring: &mut R,
     held: &mut HostBytes,
     ram: &mut Ram,
     log: &mut L,
 ) -> Result<Received, NoMemory>
-    requires areas { HasAreas (length ram.old.bytes) (R.state ring.old) }
-    requires may { MayPages L.may log.old (length ram.old.bytes) }
-    requires few { (R.state ring.old).size ≤ QUEUE_SIZE_MAX }
+    requires ready { MayLook L.may ram.old (R.state ring.old) (R.decoder ring.old) log.old }
     ensures received { IfOk result (λ answer. IsReceived L.after ram.old.bytes (R.state ring.old) held.old log.old answer ram.new.bytes (R.state ring.new) held.new log.new) }
     ensures memory { OnErr result (IsLongQueue ram.old.bytes (R.state ring.old)) }
-    ensures ram_stays { OnErr result (ram.new ≡ ram.old) }
-    ensures ring_stays { OnErr result (R.state ring.new ≡ R.state ring.old) }
+    ensures untouched { OnErr result (IsUntouched ram.old ram.new (R.state ring.old) (R.state ring.new) log.old log.new) }
     ensures held_stay { OnErr result (held.new ≡ held.old) }
-    ensures log_stays { OnErr result (log.new ≡ log.old) }
-    ensures size { length ram.new.bytes ≡ length ram.old.bytes }
-    ensures later { IsLater ram.old ram.new }
-    ensures may { MayPages L.may log.new (length ram.new.bytes) }
+    ensures after { HasLooked L.may ram.old ram.new (R.decoder ring.new) log.new }
 {
-    let next = match ring.next(ram) {
-        Ok(next) => next,
-        Err(error) => return Err(error),
-    };
-    match next {
-        Next::Empty => {
-            ring.note_empty(ram, log);
-            Ok(Received::Empty)
-        }
-        Next::Malformed => Ok(Received::Malformed),
-        Next::Chain(chain) => {
-            if !takes_bytes(&chain) {
-                return Ok(Received::Malformed);
-            }
-            Ok(give(ring, held, &chain, ram, log))
-        }
+    let mut chain = Chain::new(alloc);
+    match look(ring, Wanted::Room, &mut chain, ram, log) {
+        NextKind::Empty => Ok(Received::Empty),
+        NextKind::Malformed => Ok(Received::Malformed),
+        NextKind::Chain => Ok(give(ring, held, &chain, ram, log)),
+        NextKind::NoMemory => Err(NoMemory),
     }
 }
 
@@ -81,17 +64,14 @@ fn give<R: Ring, L: TouchLog>(
     ram: &mut Ram,
     log: &mut L,
 ) -> Received
-    requires areas { HasAreas (length ram.old.bytes) (R.state ring.old) }
-    requires may { MayPages L.may log.old (length ram.old.bytes) }
+    requires ready { MayServe L.may (length ram.old.bytes) (R.state ring.old) log.old }
     requires bounded { IsBounded (length ram.old.bytes) (R.state ring.old) chain.now }
-    requires few { (R.state ring.old).size ≤ QUEUE_SIZE_MAX }
     ensures answer { result ≡ (give ram.old.bytes (R.state ring.old) held.old chain.now).answer }
     ensures changes { IsAfter L.after ram.old.bytes log.old (give ram.old.bytes (R.state ring.old) held.old chain.now) ram.new.bytes (R.state ring.new) held.new log.new }
-    ensures size { length ram.new.bytes ≡ length ram.old.bytes }
-    ensures later { IsLater ram.old ram.new }
-    ensures may { MayPages L.may log.new (length ram.new.bytes) }
+    ensures after { HasServed L.may ram.old ram.new log.new }
+    ensures decoder { R.decoder ring.new ≡ R.decoder ring.old }
 {
-    let room = total_len(chain.writable.as_slice());
+    let room = chain.writable.total_len();
     let count = room.min(held.len() as u64) as usize;
     let (front, back) = held.as_slices();
     let first = front.len().min(count);

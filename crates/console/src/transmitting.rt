@@ -1,15 +1,13 @@
 //! The step that takes text of the guest.
 
 ghost use Rattle.std.specs.Prelude.{◌≡◌, ◌≤◌, length, IfOk, OnErr};
-ghost use Rattle.guestmem.specs.Item.{MayPages};
-ghost use Rattle.guestmem.specs.Later.{IsLater};
-ghost use Rattle.chains.specs.State.{HasAreas};
-ghost use Rattle.chains.specs.Transmit.{IsTransmitted, MayWantMemory};
+ghost use Rattle.chains.specs.Frame.{MayLook, HasLooked, IsUntouched};
+ghost use Rattle.chains.specs.Transmit.{MayWantMemory};
+ghost use Rattle.chains.specs.Transmitted.{IsTransmitted};
 ghost use Rattle.console.specs.Transmit.{text_form};
 
 use chains::{MessageForm, Ring, Transmitted};
 use guestmem::{NoMemory, Ram, TouchLog};
-use mmio::QUEUE_SIZE_MAX;
 use std::alloc::Global;
 
 /// The most bytes of text that one chain may hold.
@@ -30,17 +28,11 @@ pub fn transmit<R: Ring, L: TouchLog>(
     ram: &mut Ram,
     log: &mut L,
 ) -> Result<Transmitted, NoMemory>
-    requires areas { HasAreas (length ram.old.bytes) (R.state ring.old) }
-    requires may { MayPages L.may log.old (length ram.old.bytes) }
-    requires few { (R.state ring.old).size ≤ QUEUE_SIZE_MAX }
+    requires ready { MayLook L.may ram.old (R.state ring.old) (R.decoder ring.old) log.old }
     ensures transmitted { IfOk result (λ answer. IsTransmitted L.after ram.old.bytes (R.state ring.old) text_form log.old answer ram.new.bytes (R.state ring.new) log.new) }
     ensures memory { OnErr result (MayWantMemory ram.old.bytes (R.state ring.old) text_form) }
-    ensures ram_stays { OnErr result (ram.new ≡ ram.old) }
-    ensures ring_stays { OnErr result (R.state ring.new ≡ R.state ring.old) }
-    ensures log_stays { OnErr result (log.new ≡ log.old) }
-    ensures size { length ram.new.bytes ≡ length ram.old.bytes }
-    ensures later { IsLater ram.old ram.new }
-    ensures may { MayPages L.may log.new (length ram.new.bytes) }
+    ensures untouched { OnErr result (IsUntouched ram.old ram.new (R.state ring.old) (R.state ring.new) log.old log.new) }
+    ensures after { HasLooked L.may ram.old ram.new (R.decoder ring.new) log.new }
 {
     chains::transmit(alloc, ring, TEXT, ram, log)
 }

@@ -103,8 +103,9 @@ impl BitSet {
         requires { n ≤ length self.now }
         ensures least { IsLeastFrom self.now n result.0 }
         ensures few { result.1 ≤ 16 + (length self.now + 4095) / 4096 }
+        ensures none { HasNone self.now → result.1 ≡ 0 }
     {
-        if self.members == 0 {
+        if self.is_empty() {
             return (None, 0);
         }
         if n >= self.len {

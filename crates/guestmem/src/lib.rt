@@ -46,3 +46,6 @@ pub use log::{NoLog, TouchLog};
 pub use ram::{Ram, recall_bytes};
 pub use std::alloc::AllocError as NoMemory;
 pub use touched::Touched;
+
+#[cfg(test)]
+mod tests;

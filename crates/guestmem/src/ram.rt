@@ -39,8 +39,18 @@ impl Ram {
         requires few { pages ≤ PAGES_MAX }
         ensures { IfOk result (λ ram. ram ≡ record { bytes = replicate (PAGE_SIZE * pages) 0; versions = replicate pages 0 }) }
     {
+        Ram::with_version(alloc, pages, 0)
+    }
+
+    /// Pages of zeros, each at version `start`, which may be any: near the greatest one, a test sees how a cache ends. Its
+    /// only error is out of memory.
+    pub fn with_version(alloc: Global, pages: u32, start: u64) -> Result<Ram, AllocError>
+        requires some { 1 ≤ pages }
+        requires few { pages ≤ PAGES_MAX }
+        ensures { IfOk result (λ ram. ram ≡ record { bytes = replicate (PAGE_SIZE * pages) 0; versions = replicate pages start }) }
+    {
         let bytes = vec![in alloc; 0u8; pages as usize * PAGE_SIZE]?;
-        let versions = vec![in alloc; 0u64; pages as usize]?;
+        let versions = vec![in alloc; start; pages as usize]?;
         Ok(Ram { bytes, versions })
     }
 

@@ -2,11 +2,11 @@
 use Rattle.std.proofs.Common.{◌≡◌, ℕ, List, [], ◌∷◌, Option, Some, None, refl, ap, sym, ◌∙◌, subst}
 use Rattle.std.specs.Prelude.{slice_get}
 use Rattle.blk.specs.Sectors.{Sector}
-use Rattle.chains.specs.ChainLaws.{answer_same}
+use Rattle.chains.specs.LookLaws.{sight_same}
 use Rattle.chains.specs.State.{RingState}
-use Rattle.chains.specs.declared.transmitting.MessageForm.{MessageForm}
+use Rattle.chains.specs.declared.looking.Wanted.{Wanted}
 use Rattle.chains.specs.declared.next.Next.{Next}
-use Rattle.machine.specs.DeviceStep.{device_step, looked_at, message_form, MayLook, step_at}
+use Rattle.machine.specs.DeviceStep.{device_step, looked_at, wanted_of, MayLook, step_at}
 use Rattle.machine.specs.Effect.{Effect, applied}
 use Rattle.machine.specs.Outcome.{Outcome, fine, disk_failed, no_memory}
 use Rattle.machine.specs.Run.{IsRun}
@@ -17,16 +17,16 @@ use Rattle.machine.specs.declared.event.Event.{Event}
 use Rattle.machine.specs.declared.event.Event.TheVariants.{RegRead, RegWrite, MemRead, MemWrite, Step, Input, Resize}
 use Rattle.machine.specs.declared.reply.Reply.{Reply}
 
-look_same : (form : Option MessageForm) (d : DeviceState) (ram : List ℕ) (content : List Sector) (pick : ℕ) (ring : Option RingState) (o : Outcome) (x y : Next) → MayLook form ring ram o x → MayLook form ring ram o y → step_at d ram content pick ring o x ≡ step_at d ram content pick ring o y
-look_same form d ram content pick None o x y h k = refl
-look_same form d ram content pick (Some q) fine x y h k = ap (λ seen. step_at d ram content pick (Some q) fine seen) (answer_same ram q x y h k)
-look_same form d ram content pick (Some q) disk_failed x y h k = refl
-look_same form d ram content pick (Some q) no_memory x y h k = refl
+look_same : (want : Wanted) (d : DeviceState) (ram : List ℕ) (content : List Sector) (pick : ℕ) (ring : Option RingState) (o : Outcome) (x y : Next) → MayLook want ring ram o x → MayLook want ring ram o y → step_at d ram content pick ring o x ≡ step_at d ram content pick ring o y
+look_same want d ram content pick None o x y h k = refl
+look_same want d ram content pick (Some q) fine x y h k = ap (λ seen. step_at d ram content pick (Some q) fine seen) (sight_same want ram q x y h k)
+look_same want d ram content pick (Some q) disk_failed x y h k = refl
+look_same want d ram content pick (Some q) no_memory x y h k = refl
 
 device_same : (number : ℕ) (d : Option DeviceState) (ram : List ℕ) (content : List Sector) (pick : ℕ) (o : Outcome) (x y : Next) → MaySeeAt d ram pick o x → MaySeeAt d ram pick o y → step_device number d ram content pick o x ≡ step_device number d ram content pick o y
 unfolding device_step
 device_same number None ram content pick o x y h k = refl
-device_same number (Some d) ram content pick o x y h k = rw (look_same (message_form d.own pick) d ram content pick (looked_at d pick) o x y h k) refl
+device_same number (Some d) ram content pick o x y h k = rw (look_same (wanted_of d.own pick) d ram content pick (looked_at d pick) o x y h k) refl
 
 answers_same : (m : MachineState) (e : Event) (o : Outcome) (x y : Next) → MaySee m e o x → MaySee m e o y → answer m e o x ≡ answer m e o y
 answers_same m (RegRead dev off width) o x y h k = refl

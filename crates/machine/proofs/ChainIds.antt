@@ -5,7 +5,7 @@ use Rattle.byteorder.specs.Numbers.{little_from-lt}
 use Rattle.guestmem.specs.ByteLaws.{IsBytes-drop}
 use Rattle.guestmem.specs.Number.{number_at, IsBytes}
 use Rattle.chains.specs.ChainLaws.{split_bounded}
-use Rattle.chains.specs.Descriptor.{descriptor_at}
+use Rattle.chains.specs.Descriptor.{descriptor_at, descriptor_in}
 use Rattle.chains.specs.PackedChain.{AreConsecutive, IsPackedChain}
 use Rattle.chains.specs.Ring.{IsChain}
 use Rattle.chains.specs.SplitChain.{IsSplitChain}
@@ -15,7 +15,7 @@ use Rattle.chains.specs.declared.descriptor.Descriptor.{Descriptor}
 
 -- The id in a descriptor is a number of two bytes.
 id_small : (ram : List ℕ) (table index : ℕ) → IsBytes ram → (descriptor_at true ram table index).id < 2 ^ 16
-unfolding descriptor_at number_at
+unfolding descriptor_at descriptor_in number_at
 id_small ram table index are = little_from-lt 0 2 (drop (table + 16 * index + 12) ram) (IsBytes-drop (table + 16 * index + 12) ram are)
 
 last_small : (ram : List ℕ) (table size slot : ℕ) (front : List Descriptor) (last : Descriptor) → IsBytes ram → AreConsecutive ram table size slot (front ++ last ∷ []) → last.id < 2 ^ 16

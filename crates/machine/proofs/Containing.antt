@@ -7,28 +7,23 @@ use Rattle.mmio.specs.State.{with_common, Registers}
 use Rattle.mmio.specs.Bits.{has}
 use Rattle.blk.specs.Advance.{advance_step}
 use Rattle.blk.specs.Sectors.{Sector}
-use Rattle.blk.specs.Take as take
-use Rattle.blk.specs.Take.{is_no_request, take_chain}
 use Rattle.blk.specs.declared.advancing.Advanced.{Advanced}
 use Rattle.blk.specs.declared.advancing.Advanced.TheVariants as advanced
-use Rattle.blk.specs.declared.request.Request.{Request}
 use Rattle.chains.specs.declared.chain.Chain.{Chain}
 use Rattle.chains.specs.declared.next.Next.{Next}
 use Rattle.chains.specs.declared.next.Next.TheVariants as next
 use Rattle.chains.specs.State.{RingState}
-use Rattle.std.proofs.lemmas.Bool.{true≢false}
 use Rattle.chains.specs.Places.{places}
-use Rattle.chains.specs.Transmit.{is_message, refuse_message, send}
 use Rattle.chains.specs.declared.transmitting.MessageForm.{MessageForm}
 use Rattle.console.specs.Transmit.{text_form}
 use Rattle.console.specs.declared.size.ConsoleSize.{ConsoleSize}
 use Rattle.net.specs.Receive as net
 use Rattle.net.specs.Transmit.{frame_form}
 use Rattle.net.specs.declared.header.TheConstants.{HEADER_SIZE}
-use Rattle.console.specs.Receive.{takes_bytes, give, refuse}
-use Rattle.machine.specs.DeviceStep.{advance_at, advanced_at, device_step, looked_at, MayLook, message_form, requests_of, reply_to_advance, step_at, serve, Service, served_frame, served_message, served_of, served_taking, take_message, reply_of, registers_after}
+use Rattle.console.specs.Receive.{give}
+use Rattle.machine.specs.DeviceStep.{advance_at, advanced_at, device_step, looked_at, MayLook, wanted_of, requests_of, reply_to_advance, step_at, serve, Service, served_frame, take_message, reply_of, registers_after}
 use Rattle.machine.specs.Effect.{Effect, applied, sets_on}
-use Rattle.machine.specs.Looked.{IsLookedAt, IsMalformed, LooksAtMalformed}
+use Rattle.machine.specs.Looked.{IsLookedAt, LooksAtMalformed}
 use Rattle.machine.specs.Outcome.{Outcome, fine, disk_failed, no_memory, disk_does}
 use Rattle.machine.specs.Shapes.{block_of}
 use Rattle.machine.specs.State.{MachineState, DeviceState}
@@ -57,103 +52,47 @@ record IsRefused (s : Service) (q : RingState) (own : Own) : Type 0 where
   ring : s.ring ≡ q
   own_is : s.own ≡ own
 
--- What a chain that is not malformed is published with is no call for a reset.
-record IsServedSo (own : Own) (number : ℕ) (seen : Next) (s : Service) (q : RingState) : Type 0 where
+-- A queue is served as malformed exactly if the device sees it so.
+record IsServedSo (own : Own) (seen : Next) (s : Service) (q : RingState) : Type 0 where
   refused : s.served ≡ served.Malformed → IsRefused s q own
-  there : s.served ≡ served.Malformed → IsMalformed own number seen
-  back : IsMalformed own number seen → s.served ≡ served.Malformed
+  there : s.served ≡ served.Malformed → seen ≡ next.Malformed
+  back : seen ≡ next.Malformed → s.served ≡ served.Malformed
   other : reply_of s.served ≡ NeedsReset → s.served ≡ served.Malformed
 
-chain_by : (ram : List ℕ) (q : RingState) (pool : List ℕ) (number : ℕ) (c : Chain) (takes : Bool) → takes_bytes c ≡ takes
-    → IsServedSo (Entropy pool) number (next.Chain c) (record {
-      served = served_of (cond takes (give ram q pool c) (refuse q pool)).answer;
-      writes = (cond takes (give ram q pool c) (refuse q pool)).writes;
-      ring = (cond takes (give ram q pool c) (refuse q pool)).ring;
-      own = Entropy (cond takes (give ram q pool c) (refuse q pool)).left;
-    }) q
-unfolding give
-chain_by ram q pool number c true is = record { refused = λ h. cc; there = λ h. cc; back = λ h. cc; other = λ h. cc }
-chain_by ram q pool number c false is = record { refused = λ h. record { writes = refl; ring = refl; own_is = refl }; there = λ h. is; back = λ h. refl; other = λ h. refl }
-
-taken_by : (shape : Shape) (ram : List ℕ) (q : RingState) (requests : List Request) (number : ℕ) (c : Chain) (none : Bool) → is_no_request c ≡ none
-    → IsServedSo (Block requests) number (next.Chain c) (record {
-      served = served_taking (cond none (take.refuse q requests) (take_chain ram q (block_of shape) requests c)).answer;
-      writes = (cond none (take.refuse q requests) (take_chain ram q (block_of shape) requests c)).writes;
-      ring = (cond none (take.refuse q requests) (take_chain ram q (block_of shape) requests c)).ring;
-      own = Block (cond none (take.refuse q requests) (take_chain ram q (block_of shape) requests c)).requests;
-    }) q
-taken_by shape ram q requests number c true is = record { refused = λ h. record { writes = refl; ring = refl; own_is = refl }; there = λ h. is; back = λ h. refl; other = λ h. refl }
-taken_by shape ram q requests number c false is = record { refused = λ h. cc; there = λ h. cc; back = λ h. cc; other = λ h. cc }
-
-text_by : (ram : List ℕ) (q : RingState) (size : ConsoleSize) (held : List ℕ) (c : Chain) (takes : Bool) → takes_bytes c ≡ takes
-    → IsServedSo (Console size held) 0 (next.Chain c) (record {
-      served = served_of (cond takes (give ram q held c) (refuse q held)).answer;
-      writes = (cond takes (give ram q held c) (refuse q held)).writes;
-      ring = (cond takes (give ram q held c) (refuse q held)).ring;
-      own = Console size (cond takes (give ram q held c) (refuse q held)).left;
-    }) q
-unfolding give
-text_by ram q size held c true is = record { refused = λ h. cc; there = λ h. cc; back = λ h. cc; other = λ h. cc }
-text_by ram q size held c false is = record { refused = λ h. record { writes = refl; ring = refl; own_is = refl }; there = λ h. is; back = λ h. refl; other = λ h. refl }
-
-no_chain : {A : Type 0} (c : Chain) → takes_bytes c ≡ false → takes_bytes c ≡ true → A
-no_chain c bad good = absurd (true≢false (sym good ∙ bad))
-
--- A frame that goes or is given is no call for a reset.
-first_by : (ram : List ℕ) (q : RingState) (frame : List ℕ) (rest : List (List ℕ)) (c : Chain) (short : Bool) → takes_bytes c ≡ true
-    → IsServedSo (Network (frame ∷ rest)) 0 (next.Chain c) (record {
+-- A frame that is dropped or given is no call for a reset.
+first_by : (ram : List ℕ) (q : RingState) (frame : List ℕ) (rest : List (List ℕ)) (c : Chain) (short : Bool)
+    → IsServedSo (Network (frame ∷ rest)) (next.Chain c) (record {
       served = served_frame (cond short (net.drop_frame q rest) (net.give ram q frame rest c)).answer;
       writes = (cond short (net.drop_frame q rest) (net.give ram q frame rest c)).writes;
       ring = (cond short (net.drop_frame q rest) (net.give ram q frame rest c)).ring;
       own = Network (cond short (net.drop_frame q rest) (net.give ram q frame rest c)).left;
     }) q
 unfolding net.give
-first_by ram q frame rest c true is = record { refused = λ h. cc; there = λ h. cc; back = λ h. no_chain c h is; other = λ h. cc }
-first_by ram q frame rest c false is = record { refused = λ h. cc; there = λ h. cc; back = λ h. no_chain c h is; other = λ h. cc }
+first_by ram q frame rest c true = record { refused = λ h. cc; there = λ h. cc; back = λ h. cc; other = λ h. cc }
+first_by ram q frame rest c false = record { refused = λ h. cc; there = λ h. cc; back = λ h. cc; other = λ h. cc }
 
-frame_by : (ram : List ℕ) (q : RingState) (frames : List (List ℕ)) (c : Chain) (takes : Bool) → takes_bytes c ≡ takes
-    → IsServedSo (Network frames) 0 (next.Chain c) (record {
-      served = served_frame (cond takes (net.give_first ram q frames c) (net.refuse q frames)).answer;
-      writes = (cond takes (net.give_first ram q frames c) (net.refuse q frames)).writes;
-      ring = (cond takes (net.give_first ram q frames c) (net.refuse q frames)).ring;
-      own = Network (cond takes (net.give_first ram q frames c) (net.refuse q frames)).left;
-    }) q
-frame_by ram q frames c false is = record { refused = λ h. record { writes = refl; ring = refl; own_is = refl }; there = λ h. is; back = λ h. refl; other = λ h. refl }
-frame_by ram q [] c true is = record { refused = λ h. cc; there = λ h. cc; back = λ h. no_chain c h is; other = λ h. cc }
-frame_by ram q (frame ∷ rest) c true is = first_by ram q frame rest c (ltb (length (places c.writable)) (HEADER_SIZE + length frame)) is
+message_so : (form : MessageForm) (own : Own) (ram : List ℕ) (q : RingState) (seen : Next) → IsServedSo own seen (take_message form own ram q seen) q
+message_so form own ram q next.Empty = record { refused = λ h. cc; there = λ h. cc; back = λ h. cc; other = λ h. cc }
+message_so form own ram q next.Malformed = record { refused = λ h. record { writes = refl; ring = refl; own_is = refl }; there = λ h. refl; back = λ h. refl; other = λ h. refl }
+message_so form own ram q (next.Chain c) = record { refused = λ h. cc; there = λ h. cc; back = λ h. cc; other = λ h. cc }
 
--- So is a message that is taken.
-message_by : (form : MessageForm) (own : Own) (number : ℕ) (ram : List ℕ) (q : RingState) (c : Chain) (is : Bool) → is_message form c ≡ is → (IsMalformed own number (next.Chain c) → is_message form c ≡ false) → (is_message form c ≡ false → IsMalformed own number (next.Chain c))
-    → IsServedSo own number (next.Chain c) (record {
-      served = served_message (cond is (send ram q form.header c) (refuse_message q)).answer;
-      writes = (cond is (send ram q form.header c) (refuse_message q)).writes;
-      ring = (cond is (send ram q form.header c) (refuse_message q)).ring;
-      own = own;
-    }) q
-message_by form own number ram q c true is there back = record { refused = λ h. cc; there = λ h. cc; back = λ h. absurd (true≢false (sym is ∙ there h)); other = λ h. cc }
-message_by form own number ram q c false is there back = record { refused = λ h. record { writes = refl; ring = refl; own_is = refl }; there = λ h. back is; back = λ h. refl; other = λ h. refl }
-
-message_so : (form : MessageForm) (own : Own) (number : ℕ) (ram : List ℕ) (q : RingState) (seen : Next) → ((c : Chain) → IsMalformed own number (next.Chain c) → is_message form c ≡ false) → ((c : Chain) → is_message form c ≡ false → IsMalformed own number (next.Chain c))
-    → IsServedSo own number seen (take_message form own ram q seen) q
-message_so form own number ram q next.Empty there back = record { refused = λ h. cc; there = λ h. cc; back = λ h. absurd h; other = λ h. cc }
-message_so form own number ram q next.Malformed there back = record { refused = λ h. record { writes = refl; ring = refl; own_is = refl }; there = λ h. tt; back = λ h. refl; other = λ h. refl }
-message_so form own number ram q (next.Chain c) there back = message_by form own number ram q c (is_message form c) refl (there c) (back c)
-
-served_so : (shape : Shape) (own : Own) (number : ℕ) (ram : List ℕ) (q : RingState) (seen : Next) → IsServedSo own number seen (serve shape own number ram q seen) q
-served_so shape (Block requests) number ram q next.Empty = record { refused = λ h. cc; there = λ h. cc; back = λ h. absurd h; other = λ h. cc }
-served_so shape (Block requests) number ram q next.Malformed = record { refused = λ h. record { writes = refl; ring = refl; own_is = refl }; there = λ h. tt; back = λ h. refl; other = λ h. refl }
-served_so shape (Block requests) number ram q (next.Chain c) = taken_by shape ram q requests number c (is_no_request c) refl
-served_so shape (Network frames) zero ram q next.Empty = record { refused = λ h. cc; there = λ h. cc; back = λ h. absurd h; other = λ h. cc }
-served_so shape (Network frames) zero ram q next.Malformed = record { refused = λ h. record { writes = refl; ring = refl; own_is = refl }; there = λ h. tt; back = λ h. refl; other = λ h. refl }
-served_so shape (Network frames) zero ram q (next.Chain c) = frame_by ram q frames c (takes_bytes c) refl
-served_so shape (Network frames) (suc number) ram q seen = message_so frame_form (Network frames) (suc number) ram q seen (λ c h. h) (λ c h. h)
-served_so shape (Console size held) zero ram q next.Empty = record { refused = λ h. cc; there = λ h. cc; back = λ h. absurd h; other = λ h. cc }
-served_so shape (Console size held) zero ram q next.Malformed = record { refused = λ h. record { writes = refl; ring = refl; own_is = refl }; there = λ h. tt; back = λ h. refl; other = λ h. refl }
-served_so shape (Console size held) zero ram q (next.Chain c) = text_by ram q size held c (takes_bytes c) refl
-served_so shape (Console size held) (suc number) ram q seen = message_so text_form (Console size held) (suc number) ram q seen (λ c h. h) (λ c h. h)
-served_so shape (Entropy pool) number ram q next.Empty = record { refused = λ h. cc; there = λ h. cc; back = λ h. absurd h; other = λ h. cc }
-served_so shape (Entropy pool) number ram q next.Malformed = record { refused = λ h. record { writes = refl; ring = refl; own_is = refl }; there = λ h. tt; back = λ h. refl; other = λ h. refl }
-served_so shape (Entropy pool) number ram q (next.Chain c) = chain_by ram q pool number c (takes_bytes c) refl
+served_so : (shape : Shape) (own : Own) (number : ℕ) (ram : List ℕ) (q : RingState) (seen : Next) → IsServedSo own seen (serve shape own number ram q seen) q
+unfolding give
+served_so shape (Block requests) number ram q next.Empty = record { refused = λ h. cc; there = λ h. cc; back = λ h. cc; other = λ h. cc }
+served_so shape (Block requests) number ram q next.Malformed = record { refused = λ h. record { writes = refl; ring = refl; own_is = refl }; there = λ h. refl; back = λ h. refl; other = λ h. refl }
+served_so shape (Block requests) number ram q (next.Chain c) = record { refused = λ h. cc; there = λ h. cc; back = λ h. cc; other = λ h. cc }
+served_so shape (Network frames) zero ram q next.Empty = record { refused = λ h. cc; there = λ h. cc; back = λ h. cc; other = λ h. cc }
+served_so shape (Network frames) zero ram q next.Malformed = record { refused = λ h. record { writes = refl; ring = refl; own_is = refl }; there = λ h. refl; back = λ h. refl; other = λ h. refl }
+served_so shape (Network []) zero ram q (next.Chain c) = record { refused = λ h. cc; there = λ h. cc; back = λ h. cc; other = λ h. cc }
+served_so shape (Network (frame ∷ rest)) zero ram q (next.Chain c) = first_by ram q frame rest c (ltb (length (places c.writable)) (HEADER_SIZE + length frame))
+served_so shape (Network frames) (suc number) ram q seen = message_so frame_form (Network frames) ram q seen
+served_so shape (Console size held) zero ram q next.Empty = record { refused = λ h. cc; there = λ h. cc; back = λ h. cc; other = λ h. cc }
+served_so shape (Console size held) zero ram q next.Malformed = record { refused = λ h. record { writes = refl; ring = refl; own_is = refl }; there = λ h. refl; back = λ h. refl; other = λ h. refl }
+served_so shape (Console size held) zero ram q (next.Chain c) = record { refused = λ h. cc; there = λ h. cc; back = λ h. cc; other = λ h. cc }
+served_so shape (Console size held) (suc number) ram q seen = message_so text_form (Console size held) ram q seen
+served_so shape (Entropy pool) number ram q next.Empty = record { refused = λ h. cc; there = λ h. cc; back = λ h. cc; other = λ h. cc }
+served_so shape (Entropy pool) number ram q next.Malformed = record { refused = λ h. record { writes = refl; ring = refl; own_is = refl }; there = λ h. refl; back = λ h. refl; other = λ h. refl }
+served_so shape (Entropy pool) number ram q (next.Chain c) = record { refused = λ h. cc; there = λ h. cc; back = λ h. cc; other = λ h. cc }
 
 set_same : {A : Type 0} (xs : List A) (n : ℕ) (x : A) → slice_get xs n ≡ Some x → set xs n x ≡ xs
 set_same [] n x h = refl
@@ -201,30 +140,30 @@ contained m dev pick o after h =
     contained_device m after dev pick o h.has.seen (slice_get m.devices dev) refl h.has.reply_is (h.changed ∙ ap (λ (f : Effect). applied m f) h.has.effect_is)
 
 -- A device asks for a reset exactly where it looks at a queue that is malformed.
-asks_ring : (form : Option MessageForm) (m : MachineState) (dev pick : ℕ) (seen : Next) (d : DeviceState) → slice_get m.devices dev ≡ Some d → (ring : Option RingState) → looked_at d pick ≡ ring → (o : Outcome) → MayLook form ring m.ram o seen
+asks_ring : (m : MachineState) (dev pick : ℕ) (seen : Next) (d : DeviceState) → slice_get m.devices dev ≡ Some d → (ring : Option RingState) → looked_at d pick ≡ ring → (o : Outcome) → MayLook (wanted_of d.own pick) ring m.ram o seen
     → NeedsReset ≡ (step_at d m.ram (disk_of m dev) pick ring o seen).reply → (o ≡ fine) × LooksAtMalformed m dev pick
-asks_ring form m dev pick seen d there None is o may replied = absurd (no_reset d m.ram (disk_of m dev) pick (advanced_at d pick) o (sym replied))
-asks_ring form m dev pick seen d there (Some q) is no_memory may replied = cc
-asks_ring form m dev pick seen d there (Some q) is disk_failed may replied = cc
-asks_ring form m dev pick seen d there (Some q) is fine may replied =
+asks_ring m dev pick seen d there None is o may replied = absurd (no_reset d m.ram (disk_of m dev) pick (advanced_at d pick) o (sym replied))
+asks_ring m dev pick seen d there (Some q) is no_memory may replied = cc
+asks_ring m dev pick seen d there (Some q) is disk_failed may replied = cc
+asks_ring m dev pick seen d there (Some q) is fine may replied =
     let so = served_so d.shape d.own pick m.ram q seen in
-    (refl, record { device = d; there = there; ring = q; looked = looked_is d pick q is; seen = seen; answers = may; malformed = so.there (so.other (sym replied)) })
+    (refl, record { device = d; there = there; ring = q; looked = looked_is d pick q is; sees = rw (so.there (so.other (sym replied))) at may })
 
 asks_device : (m : MachineState) (dev pick : ℕ) (o : Outcome) (seen : Next) (d : Option DeviceState) → slice_get m.devices dev ≡ d → MaySeeAt d m.ram pick o seen
     → NeedsReset ≡ (step_device dev d m.ram (disk_of m dev) pick o seen).reply → (o ≡ fine) × LooksAtMalformed m dev pick
 unfolding device_step
 asks_device m dev pick o seen None there may replied = cc
-asks_device m dev pick o seen (Some d) there may replied = asks_ring (message_form d.own pick) m dev pick seen d there (looked_at d pick) refl o may replied
+asks_device m dev pick o seen (Some d) there may replied = asks_ring m dev pick seen d there (looked_at d pick) refl o may replied
 
 -- What the step of a device that looks at a malformed queue has for an effect.
-malformed_effect : (m : MachineState) (dev pick : ℕ) (l : LooksAtMalformed m dev pick) → HasEffect m (Step dev pick) fine NeedsReset (answer m (Step dev pick) fine l.seen).effect
+malformed_effect : (m : MachineState) (dev pick : ℕ) (l : LooksAtMalformed m dev pick) → HasEffect m (Step dev pick) fine NeedsReset (answer m (Step dev pick) fine next.Malformed).effect
 unfolding device_step
 malformed_effect m dev pick l =
     let ring = is_looked l.device pick l.ring l.looked in
-    let malformed = (served_so l.device.shape l.device.own pick m.ram l.ring l.seen).back l.malformed in
+    let malformed = (served_so l.device.shape l.device.own pick m.ram l.ring next.Malformed).back refl in
     record {
-      seen = l.seen;
-      may_see = rw (l.there, ring) l.answers;
+      seen = next.Malformed;
+      may_see = rw (l.there, ring) l.sees;
       reply_is = rw (l.there, ring, malformed) refl;
       effect_is = refl;
       outcome_is = refl;
@@ -233,59 +172,43 @@ malformed_effect m dev pick l =
 pub asks : MalformedAsksForReset
 asks m dev pick o r after h = (
   (λ is. asks_device m dev pick o h.has.seen (slice_get m.devices dev) refl h.has.may_see (sym is ∙ h.has.reply_is)),
-  (λ l. (effects_same m (Step dev pick) fine r NeedsReset h.effect (answer m (Step dev pick) fine l.1.seen).effect (rw l.0 at h.has) (malformed_effect m dev pick l.1)).0),
+  (λ l. (effects_same m (Step dev pick) fine r NeedsReset h.effect (answer m (Step dev pick) fine next.Malformed).effect (rw l.0 at h.has) (malformed_effect m dev pick l.1)).0),
 )
 
 -- What is refused, or refused memory, changes nothing.
 same_record : (m : MachineState) (devices : List DeviceState) → devices ≡ m.devices → record m { devices = devices } ≡ m
 same_record m devices is = rw is refl
 
-quiet_chain : (ram : List ℕ) (q : RingState) (pool : List ℕ) (c : Chain) (takes : Bool) → IsRefusal (reply_of (served_of (cond takes (give ram q pool c) (refuse q pool)).answer)) → ⊥
-unfolding give
-quiet_chain ram q pool c true h = h
-quiet_chain ram q pool c false h = h
-
-quiet_taking : (shape : Shape) (ram : List ℕ) (q : RingState) (requests : List Request) (c : Chain) (none : Bool) → IsRefusal (reply_of (served_taking (cond none (take.refuse q requests) (take_chain ram q (block_of shape) requests c)).answer)) → ⊥
-quiet_taking shape ram q requests c true h = h
-quiet_taking shape ram q requests c false h = h
-
 quiet_first : (ram : List ℕ) (q : RingState) (frame : List ℕ) (rest : List (List ℕ)) (c : Chain) (short : Bool) → IsRefusal (reply_of (served_frame (cond short (net.drop_frame q rest) (net.give ram q frame rest c)).answer)) → ⊥
 unfolding net.give
 quiet_first ram q frame rest c true h = h
 quiet_first ram q frame rest c false h = h
 
-quiet_frame : (ram : List ℕ) (q : RingState) (frames : List (List ℕ)) (c : Chain) (takes : Bool) → IsRefusal (reply_of (served_frame (cond takes (net.give_first ram q frames c) (net.refuse q frames)).answer)) → ⊥
-quiet_frame ram q frames c false h = h
-quiet_frame ram q [] c true h = h
-quiet_frame ram q (frame ∷ rest) c true h = quiet_first ram q frame rest c (ltb (length (places c.writable)) (HEADER_SIZE + length frame)) h
-
-quiet_sent : (form : MessageForm) (ram : List ℕ) (q : RingState) (c : Chain) (is : Bool) → IsRefusal (reply_of (served_message (cond is (send ram q form.header c) (refuse_message q)).answer)) → ⊥
-quiet_sent form ram q c true h = h
-quiet_sent form ram q c false h = h
-
 quiet_message : (form : MessageForm) (own : Own) (ram : List ℕ) (q : RingState) (seen : Next) → IsRefusal (reply_of (take_message form own ram q seen).served) → ⊥
 quiet_message form own ram q next.Empty h = h
 quiet_message form own ram q next.Malformed h = h
-quiet_message form own ram q (next.Chain c) h = quiet_sent form ram q c (is_message form c) h
+quiet_message form own ram q (next.Chain c) h = h
 
 -- Serving a queue is never answered by a refusal.
-quiet_service : (shape : Shape) (own : Own) (number : ℕ) (ram : List ℕ) (q : RingState) (seen : Next) → IsRefusal (reply_of (serve shape own number ram q seen).served) → ⊥
+pub quiet_service : (shape : Shape) (own : Own) (number : ℕ) (ram : List ℕ) (q : RingState) (seen : Next) → IsRefusal (reply_of (serve shape own number ram q seen).served) → ⊥
+unfolding give
 quiet_service shape (Block requests) number ram q next.Empty h = h
 quiet_service shape (Block requests) number ram q next.Malformed h = h
-quiet_service shape (Block requests) number ram q (next.Chain c) h = quiet_taking shape ram q requests c (is_no_request c) h
+quiet_service shape (Block requests) number ram q (next.Chain c) h = h
 quiet_service shape (Network frames) zero ram q next.Empty h = h
 quiet_service shape (Network frames) zero ram q next.Malformed h = h
-quiet_service shape (Network frames) zero ram q (next.Chain c) h = quiet_frame ram q frames c (takes_bytes c) h
+quiet_service shape (Network []) zero ram q (next.Chain c) h = h
+quiet_service shape (Network (frame ∷ rest)) zero ram q (next.Chain c) h = quiet_first ram q frame rest c (ltb (length (places c.writable)) (HEADER_SIZE + length frame)) h
 quiet_service shape (Network frames) (suc number) ram q seen h = quiet_message frame_form (Network frames) ram q seen h
 quiet_service shape (Console size held) zero ram q next.Empty h = h
 quiet_service shape (Console size held) zero ram q next.Malformed h = h
-quiet_service shape (Console size held) zero ram q (next.Chain c) h = quiet_chain ram q held c (takes_bytes c) h
+quiet_service shape (Console size held) zero ram q (next.Chain c) h = h
 quiet_service shape (Console size held) (suc number) ram q seen h = quiet_message text_form (Console size held) ram q seen h
 quiet_service shape (Entropy pool) number ram q next.Empty h = h
 quiet_service shape (Entropy pool) number ram q next.Malformed h = h
-quiet_service shape (Entropy pool) number ram q (next.Chain c) h = quiet_chain ram q pool c (takes_bytes c) h
+quiet_service shape (Entropy pool) number ram q (next.Chain c) h = h
 
-quiet_advance : (d : DeviceState) (ram : List ℕ) (content : List Sector) (pick : ℕ) (ring : Option RingState) (o : Outcome) → IsRefusal (advance_at d ram content pick ring o).reply → ⊥
+pub quiet_advance : (d : DeviceState) (ram : List ℕ) (content : List Sector) (pick : ℕ) (ring : Option RingState) (o : Outcome) → IsRefusal (advance_at d ram content pick ring o).reply → ⊥
 quiet_advance d ram content pick None o h = h
 quiet_advance d ram content pick (Some q) o h = (advance_quiet (advance_step (block_of d.shape) ram q content (requests_of d.own) (pick - 1) (disk_does o)).answer).1 h
 
@@ -305,7 +228,7 @@ quiet_look : (m : MachineState) (d : Option DeviceState) (offset width : ℕ) �
 quiet_look m None offset width = refl
 quiet_look m (Some d) offset width = refl
 
-quiet_out : (out : Option ℕ) → IsRefusal (out_reply out) → ⊥
+pub quiet_out : (out : Option ℕ) → IsRefusal (out_reply out) → ⊥
 quiet_out None h = h
 quiet_out (Some byte) h = h
 
@@ -341,7 +264,7 @@ quiet_size : (m : MachineState) (dev : ℕ) (d : Option DeviceState) (size : Con
 quiet_size m dev None size h = refl
 quiet_size m dev (Some d) size h = quiet_size_by m dev d d.own size h
 
-quiet : (m : MachineState) (e : Event) (o : Outcome) (seen : Next) → IsRefusal (answer m e o seen).reply → applied m (answer m e o seen).effect ≡ m
+pub quiet : (m : MachineState) (e : Event) (o : Outcome) (seen : Next) → IsRefusal (answer m e o seen).reply → applied m (answer m e o seen).effect ≡ m
 quiet m (RegRead dev off width) o seen h = quiet_look m (slice_get m.devices dev) off width
 quiet m (RegWrite dev off width value) o seen h = quiet_set m dev (slice_get m.devices dev) off width value h
 quiet m (MemRead addr len) o seen h = quiet_read m addr len (refusal_of (length m.ram) addr len) o

@@ -1,5 +1,5 @@
 -- Disks as they are dealt to devices, one after another.
-use Rattle.std.proofs.Common.{◌≡◌, ℕ, ◌+◌, ◌<◌, List, [], ◌∷◌, ◌++◌, length, map, replicate, take, get_or, Bool, false, Option, Some, None, refl, ap, sym, ◌∙◌}
+use Rattle.std.proofs.Common.{◌≡◌, ℕ, suc, ◌+◌, ◌<◌, List, [], ◌∷◌, ◌++◌, length, map, replicate, take, get_or, Bool, false, Option, Some, None, refl, ap, sym, ◌∙◌}
 use Rattle.std.specs.Option.{option_to_list}
 use Rattle.std.proofs.lemmas.List.{length-replicate, map-append, take_more}
 use Rattle.guestmem.specs.Memory.{Memory}
@@ -117,3 +117,8 @@ pub marked_marks : {A : Type 0} (state : A → DiskState) (xs : List A) (bad : L
 marked_marks state [] bad are = refl
 marked_marks state (x ∷ xs) [] are = cc
 marked_marks state (x ∷ xs) (marks ∷ bad) are = let rest : AreMarksOf (map state xs) bad = cc in ap (λ ms. marks_in (state x) ∷ ms) (marked_marks state xs bad rest)
+
+-- There are as many devices as states.
+pub devices_long : (states : List DeviceState) (disks : List SectorsState) → length (seen_devices states disks) ≡ length states
+devices_long [] disks = refl
+devices_long (d ∷ ds) disks = ap suc (devices_long ds (left_over (disk_size_of d.shape) disks))

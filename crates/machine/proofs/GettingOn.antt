@@ -25,7 +25,7 @@ use Rattle.console.specs.declared.receiving.Received.{Received}
 use Rattle.console.specs.declared.receiving.Received.TheVariants as received
 use Rattle.net.specs.declared.receiving.Received as net
 use Rattle.net.specs.declared.receiving.Received.TheVariants as frames
-use Rattle.machine.specs.DeviceStep.{advance_on, advanced_at, after_service, device_step, looked_at, looked_step, message_form, reply_of, reply_to_advance, requests_of, serve, served_frame, served_message, served_of, served_taking, unmoved, MayLook, MayLookAt, Service}
+use Rattle.machine.specs.DeviceStep.{advance_on, advanced_at, after_service, device_step, looked_at, looked_step, wanted_of, reply_of, reply_to_advance, requests_of, serve, served_frame, served_message, served_of, served_taking, unmoved, MayLook, MayLookAt, Service}
 use Rattle.machine.specs.Effect.{Effect, applied}
 use Rattle.machine.specs.NextWork.{IdleWithoutWork, IsNotNotified, WorkGetsOn, device_has_work}
 use Rattle.machine.specs.Outcome.{Outcome, fine, disk_failed, no_memory, disk_does}
@@ -159,7 +159,7 @@ goes_on : (d : DeviceState) (ram : List ℕ) (content : List Sector) (pick : ℕ
 unfolding device_step
 goes_on d ram content pick q o seen looked advanced = rw (looked, advanced) refl
 
-by_look : (m after : MachineState) (w : Work) (d : DeviceState) (q : RingState) (o : Outcome) (seen : Next) (r : Reply) → slice_get m.devices w.dev ≡ Some d → looked_at d w.pick ≡ Some q → MayLookAt (message_form d.own w.pick) q m.ram o seen
+by_look : (m after : MachineState) (w : Work) (d : DeviceState) (q : RingState) (o : Outcome) (seen : Next) (r : Reply) → slice_get m.devices w.dev ≡ Some d → looked_at d w.pick ≡ Some q → MayLookAt (wanted_of d.own w.pick) q m.ram o seen
     → r ≡ (looked_step d m.ram w.pick q o seen).reply → after.devices ≡ set m.devices w.dev (looked_step d m.ram w.pick q o seen).device → (r ≢ Idle) ⊎ IsNotNotified after w.dev w.pick
 by_look m after w d q no_memory seen r there looked may is changed = inl (λ idle. cc)
 by_look m after w d q disk_failed seen r there looked may is changed = absurd may
@@ -169,7 +169,7 @@ by_look m after w d q fine seen r there looked may is changed =
     by_served m after w d look.queue s r s.served there look.there refl (idle_served d.shape d.own w.pick m.ram q seen) is changed
 
 by_work : (m after : MachineState) (w : Work) (d : DeviceState) (looked advanced : Option RingState) (o : Outcome) (seen : Next) (r : Reply) → IsSoundDevice (length m.ram) d → slice_get m.devices w.dev ≡ Some d → looked_at d w.pick ≡ looked → advanced_at d w.pick ≡ advanced
-    → (is_some looked || is_some advanced) ≡ true → MayLook (message_form d.own w.pick) looked m.ram o seen → r ≡ (device_step d m.ram (disk_of m w.dev) w.pick o seen).reply → after.devices ≡ set m.devices w.dev (device_step d m.ram (disk_of m w.dev) w.pick o seen).device
+    → (is_some looked || is_some advanced) ≡ true → MayLook (wanted_of d.own w.pick) looked m.ram o seen → r ≡ (device_step d m.ram (disk_of m w.dev) w.pick o seen).reply → after.devices ≡ set m.devices w.dev (device_step d m.ram (disk_of m w.dev) w.pick o seen).device
     → (r ≢ Idle) ⊎ IsNotNotified after w.dev w.pick
 by_work m after w d (Some q) advanced o seen r sound there looked goes work may is changed =
     by_look m after w d q o seen r there looked may (rw (looks_on d m.ram (disk_of m w.dev) w.pick q o seen looked) at is) (rw (looks_on d m.ram (disk_of m w.dev) w.pick q o seen looked) at changed)

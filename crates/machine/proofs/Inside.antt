@@ -9,27 +9,28 @@ use Rattle.guestmem.specs.Writes.{Write, byte_writes, set_all}
 use Rattle.chains.specs.Places.{addresses, places, place_writes, AreSegmentsInside}
 use Rattle.chains.specs.ReceiveBuffer.{filled}
 use Rattle.chains.specs.Publish.{published, split_published, packed_published, event_note, split_note, packed_note, after_take, bit_if}
-use Rattle.chains.specs.Ring.{Answers, IsBoundedNext}
-use Rattle.chains.specs.ChainLaws.{next_bounded}
+use Rattle.chains.specs.Look.{Sees}
+use Rattle.chains.specs.Ring.{IsBoundedNext}
+use Rattle.chains.specs.LookLaws.{sight_bounded}
 use Rattle.chains.specs.State.{RingState, HasAreas, MayRing}
 use Rattle.chains.specs.declared.chain.Chain.{Chain}
+use Rattle.chains.specs.declared.looking.Wanted.TheVariants as wanted
 use Rattle.chains.specs.declared.next.Next.{Next}
 use Rattle.chains.specs.declared.next.Next.TheVariants as next
 use Rattle.chains.specs.declared.segs.Seg.{Seg}
-use Rattle.chains.specs.Transmit.{is_message, refuse_message, send, transmit_step}
+use Rattle.chains.specs.Transmit.{transmit_step}
 use Rattle.chains.specs.declared.transmitting.MessageForm.{MessageForm}
 use Rattle.console.specs.Transmit.{text_form}
 use Rattle.net.specs.Header.{header}
 use Rattle.net.specs.Receive as net
 use Rattle.net.specs.Transmit.{frame_form}
 use Rattle.net.specs.declared.header.TheConstants.{HEADER_SIZE}
-use Rattle.console.specs.Receive.{receive_step, takes_bytes, give, refuse, count_into}
-use Rattle.blk.specs.Take as take
-use Rattle.blk.specs.Take.{take_step, take_chain, is_no_request}
+use Rattle.console.specs.Receive.{receive_step, give, count_into}
+use Rattle.blk.specs.Take.{take_step}
 use Rattle.blk.specs.declared.request.Request.{Request}
 use Rattle.blk.specs.declared.shape.BlockShape.{BlockShape}
 use Rattle.mmio.specs.State.{Registers}
-use Rattle.machine.specs.DeviceStep.{serve}
+use Rattle.machine.specs.DeviceStep.{serve, wanted_of}
 use Rattle.machine.specs.Shapes.{block_of}
 use Rattle.machine.specs.Sound.{AreFrames, AreHostBytes, IsSoundOwn}
 use Rattle.machine.specs.declared.own.Own.{Own}
@@ -169,27 +170,18 @@ filled_inside len q c bytes looked inside are =
     (published_inside len (after_take q c.slots) c.id c.slots (length bytes) (ltb 0 (length bytes)) (may_publish_taken len q c.slots looked))
 
 -- What the step that gives bytes writes.
-given_by : (ram : List ℕ) (q : RingState) (held : List ℕ) (c : Chain) (takes : Bool) → IsLookedRing (length ram) q → AreSegmentsInside (length ram) c.writable → AreHostBytes held
-    → AreInsideRam (length ram) (cond takes (give ram q held c) (refuse q held)).writes
-unfolding give
-given_by ram q held c false looked inside are = tt
-given_by ram q held c true looked inside are =
-    filled_inside (length ram) q c (take (count_into held c) held) looked inside (IsBytes-take (count_into held c) held are.are)
-
 given_inside : (ram : List ℕ) (q : RingState) (held : List ℕ) (seen : Next) → IsLookedRing (length ram) q → IsBoundedNext (length ram) q seen → AreHostBytes held → AreInsideRam (length ram) (receive_step ram q held seen).writes
+unfolding give
 given_inside ram q held next.Empty looked bounded are = note_inside (length ram) q looked.areas
 given_inside ram q held next.Malformed looked bounded are = tt
-given_inside ram q held (next.Chain c) looked bounded are = given_by ram q held c (takes_bytes c) looked bounded.writable are
+given_inside ram q held (next.Chain c) looked bounded are =
+    filled_inside (length ram) q c (take (count_into held c) held) looked bounded.writable (IsBytes-take (count_into held c) held are.are)
 
 -- What the step that takes a request writes.
-taken_by : (ram : List ℕ) (q : RingState) (shape : BlockShape) (requests : List Request) (c : Chain) (none : Bool) → AreInsideRam (length ram) (cond none (take.refuse q requests) (take_chain ram q shape requests c)).writes
-taken_by ram q shape requests c true = tt
-taken_by ram q shape requests c false = tt
-
 taken_inside : (ram : List ℕ) (q : RingState) (shape : BlockShape) (requests : List Request) (seen : Next) → IsLookedRing (length ram) q → AreInsideRam (length ram) (take_step ram q shape requests seen).writes
 taken_inside ram q shape requests next.Empty looked = note_inside (length ram) q looked.areas
 taken_inside ram q shape requests next.Malformed looked = tt
-taken_inside ram q shape requests (next.Chain c) looked = taken_by ram q shape requests c (is_no_request c)
+taken_inside ram q shape requests (next.Chain c) looked = tt
 
 -- What the step that gives a frame writes.
 header_bytes : IsBytes header
@@ -214,41 +206,33 @@ unfolding net.give
 one_framed ram q frame rest c true looked inside are = tt
 one_framed ram q frame rest c false looked inside are = filled_inside (length ram) q c (header ++ frame) looked inside (IsBytes-append header frame header_bytes are)
 
-frames_inside : (ram : List ℕ) (q : RingState) (frames : List (List ℕ)) (c : Chain) (takes : Bool) → IsLookedRing (length ram) q → AreSegmentsInside (length ram) c.writable → AreFrames frames
-    → AreInsideRam (length ram) (cond takes (net.give_first ram q frames c) (net.refuse q frames)).writes
-frames_inside ram q frames c false looked inside are = tt
-frames_inside ram q [] c true looked inside are = tt
-frames_inside ram q (frame ∷ rest) c true looked inside are = one_framed ram q frame rest c (ltb (length (places c.writable)) (HEADER_SIZE + length frame)) looked inside (are.are 0 frame (omega arith)).are
-
 framed_inside : (ram : List ℕ) (q : RingState) (frames : List (List ℕ)) (seen : Next) → IsLookedRing (length ram) q → IsBoundedNext (length ram) q seen → AreFrames frames → AreInsideRam (length ram) (net.receive_step ram q frames seen).writes
 framed_inside ram q frames next.Empty looked bounded are = note_inside (length ram) q looked.areas
 framed_inside ram q frames next.Malformed looked bounded are = tt
-framed_inside ram q frames (next.Chain c) looked bounded are = frames_inside ram q frames c (takes_bytes c) looked bounded.writable are
+framed_inside ram q [] (next.Chain c) looked bounded are = tt
+framed_inside ram q (frame ∷ rest) (next.Chain c) looked bounded are =
+    one_framed ram q frame rest c (ltb (length (places c.writable)) (HEADER_SIZE + length frame)) looked bounded.writable (are.are 0 frame (omega arith)).are
 
 -- What the step that takes a message writes.
-message_inside : (ram : List ℕ) (q : RingState) (form : MessageForm) (c : Chain) (is : Bool) → IsLookedRing (length ram) q → AreInsideRam (length ram) (cond is (send ram q form.header c) (refuse_message q)).writes
-message_inside ram q form c true looked = published_inside (length ram) (after_take q c.slots) c.id c.slots 0 false (may_publish_taken (length ram) q c.slots looked)
-message_inside ram q form c false looked = tt
-
 sent_inside : (ram : List ℕ) (q : RingState) (form : MessageForm) (seen : Next) → IsLookedRing (length ram) q → AreInsideRam (length ram) (transmit_step ram q form seen).writes
 sent_inside ram q form next.Empty looked = note_inside (length ram) q looked.areas
 sent_inside ram q form next.Malformed looked = tt
-sent_inside ram q form (next.Chain c) looked = message_inside ram q form c (is_message form c) looked
+sent_inside ram q form (next.Chain c) looked = published_inside (length ram) (after_take q c.slots) c.id c.slots 0 false (may_publish_taken (length ram) q c.slots looked)
 
 -- What serving a queue writes.
-pub served_inside : (len : ℕ) (r : Registers) (shape : Shape) (own : Own) (number : ℕ) (ram : List ℕ) (q : RingState) (seen : Next) → IsLookedRing (length ram) q → Answers ram q seen → IsSoundOwn len r shape own → AreInsideRam (length ram) (serve shape own number ram q seen).writes
-served_inside len r shape (Block requests) number ram q seen looked answers sound = taken_inside ram q (block_of shape) requests seen looked
-served_inside len r (shapes.Net mac) (Network frames) zero ram q seen looked answers sound = framed_inside ram q frames seen looked (next_bounded ram q seen answers) sound
-served_inside len r (shapes.Net mac) (Network frames) (suc number) ram q seen looked answers sound = sent_inside ram q frame_form seen looked
-served_inside len r shapes.Console (Console size held) zero ram q seen looked answers sound = given_inside ram q held seen looked (next_bounded ram q seen answers) sound.text
-served_inside len r shapes.Console (Console size held) (suc number) ram q seen looked answers sound = sent_inside ram q text_form seen looked
-served_inside len r shapes.Entropy (Entropy pool) number ram q seen looked answers sound = given_inside ram q pool seen looked (next_bounded ram q seen answers) sound
-served_inside len r (shapes.Net mac) (Console size held) number ram q seen looked answers sound = absurd sound
-served_inside len r (shapes.Net mac) (Entropy pool) number ram q seen looked answers sound = absurd sound
-served_inside len r (shapes.Block sectors read_only id) (Network frames) number ram q seen looked answers sound = absurd sound
-served_inside len r (shapes.Block sectors read_only id) (Console size held) number ram q seen looked answers sound = absurd sound
-served_inside len r (shapes.Block sectors read_only id) (Entropy pool) number ram q seen looked answers sound = absurd sound
-served_inside len r shapes.Console (Network frames) number ram q seen looked answers sound = absurd sound
-served_inside len r shapes.Console (Entropy pool) number ram q seen looked answers sound = absurd sound
-served_inside len r shapes.Entropy (Network frames) number ram q seen looked answers sound = absurd sound
-served_inside len r shapes.Entropy (Console size held) number ram q seen looked answers sound = absurd sound
+pub served_inside : (len : ℕ) (r : Registers) (shape : Shape) (own : Own) (number : ℕ) (ram : List ℕ) (q : RingState) (seen : Next) → IsLookedRing (length ram) q → Sees (wanted_of own number) ram q seen → IsSoundOwn len r shape own → AreInsideRam (length ram) (serve shape own number ram q seen).writes
+served_inside len r shape (Block requests) number ram q seen looked sees sound = taken_inside ram q (block_of shape) requests seen looked
+served_inside len r (shapes.Net mac) (Network frames) zero ram q seen looked sees sound = framed_inside ram q frames seen looked (sight_bounded wanted.Room ram q seen sees) sound
+served_inside len r (shapes.Net mac) (Network frames) (suc number) ram q seen looked sees sound = sent_inside ram q frame_form seen looked
+served_inside len r shapes.Console (Console size held) zero ram q seen looked sees sound = given_inside ram q held seen looked (sight_bounded wanted.Room ram q seen sees) sound.text
+served_inside len r shapes.Console (Console size held) (suc number) ram q seen looked sees sound = sent_inside ram q text_form seen looked
+served_inside len r shapes.Entropy (Entropy pool) number ram q seen looked sees sound = given_inside ram q pool seen looked (sight_bounded wanted.Room ram q seen sees) sound
+served_inside len r (shapes.Net mac) (Console size held) number ram q seen looked sees sound = absurd sound
+served_inside len r (shapes.Net mac) (Entropy pool) number ram q seen looked sees sound = absurd sound
+served_inside len r (shapes.Block sectors read_only id) (Network frames) number ram q seen looked sees sound = absurd sound
+served_inside len r (shapes.Block sectors read_only id) (Console size held) number ram q seen looked sees sound = absurd sound
+served_inside len r (shapes.Block sectors read_only id) (Entropy pool) number ram q seen looked sees sound = absurd sound
+served_inside len r shapes.Console (Network frames) number ram q seen looked sees sound = absurd sound
+served_inside len r shapes.Console (Entropy pool) number ram q seen looked sees sound = absurd sound
+served_inside len r shapes.Entropy (Network frames) number ram q seen looked sees sound = absurd sound
+served_inside len r shapes.Entropy (Console size held) number ram q seen looked sees sound = absurd sound

@@ -12,6 +12,7 @@ pub mod Staying
 pub mod Within
 pub mod ChainIds
 pub mod Containing
+pub mod Refusing
 pub mod Stepping
 pub mod At
 pub mod Raised
@@ -25,4 +26,5 @@ pub mod Outstanding
 pub mod Fresh
 pub mod Quiet
 pub mod Honest
+pub mod Keeping
 pub mod Alike

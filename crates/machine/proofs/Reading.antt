@@ -1,15 +1,16 @@
 -- A sector that is read from a device's disk.
 use Rattle.std.proofs.Common.{◌≡◌, ℕ, zero, suc, ◌<◌, List, [], ◌∷◌, length, map, set, Bool, true, false, Some, None, Result, Ok, Err, refl, ap, sym, ◌∙◌, arith}
-use Rattle.std.specs.Prelude.{slice_get, IsTrue}
+use Rattle.std.specs.Prelude.{slice_get, IsTrue, OnErr, OnOk, is_ok, not}
 use Rattle.std.proofs.lemmas.List.{map-set}
 use Rattle.blk.specs.Sectors.{Sector, IsFetched, bytes_of, is_bad, is_failed, sector_in}
 use Rattle.blk.specs.declared.sectors.Fetched.{Fetched}
 use Rattle.blk.specs.declared.sectors.Fetched.TheVariants.{Bad, Failed, Read}
 use Rattle.guestmem.specs.Item.{sector}
 use Rattle.guestmem.specs.Memory.{Memory}
-use Rattle.machine.specs.Applied.{ReadsSector}
-use Rattle.machine.specs.EffectLaws.{HasItem, sector_on}
+use Rattle.machine.specs.Applied.{IsGood, ReadsSector}
+use Rattle.machine.specs.EffectLaws.{HasItem, sector_on, sectors_on}
 use Rattle.machine.specs.Held.{IsHeld}
+use Rattle.machine.specs.NextBad.{found_good}
 use Rattle.machine.specs.Seen.{DeviceSeen, failed_if, state_of}
 use Rattle.machine.specs.declared.shape.Shape.{Shape}
 use Rattle.machine.proofs.At.{IsAt, map-set_same}
@@ -129,3 +130,32 @@ reads m ds dev n d new bytes Failed result read (e, told) =
       good = rw disk (bytes_of read.there.0, there ∙ ap Some good);
       found = tt;
     })
+
+-- A good sector is one that is there.
+pub good_there : (m : Memory) (ds : List DeviceSeen) (dev n : ℕ) → IsGood (sector_on (sectors_on (state_of (record { memory = m; devices = ds })) dev) n) → HasItem (state_of (record { memory = m; devices = ds })) (sector dev n)
+good_there m ds dev n (bytes, is) = (Some bytes, is)
+
+pub not_bad : (m : Memory) (ds : List DeviceSeen) (dev n : ℕ) (d : DeviceSeen) → IsAt ds dev d → IsGood (sector_on (sectors_on (state_of (record { memory = m; devices = ds })) dev) n) → is_bad (sector_in d.sectors n) ≡ false
+not_bad m ds dev n d at (bytes, is) =
+    let disk : slice_get (map (λ (x : DeviceSeen). x.sectors) ds) dev ≡ Some d.sectors = seen_at (λ (x : DeviceSeen). x.sectors) ds dev d at in
+    ap is_bad (content_at d.sectors n (Some bytes) (rw disk at is))
+
+-- A read of a good sector is a read that finds it good.
+pub record IsReadGood {T E : Type 0} (m : Memory) (ds : List DeviceSeen) (dev n : ℕ) (d new : DeviceSeen) (bytes : List ℕ) (result : Result T E) : Type 0 where
+  pub at : IsAt ds dev d
+  pub there : HasItem (state_of (record { memory = m; devices = ds })) (sector dev n)
+  pub good : is_bad (sector_in d.sectors n) ≡ false
+  pub state : new.state ≡ d.state
+  pub sectors : new.sectors ≡ d.sectors
+  pub marks : new.marks ≡ failed_if (not (is_ok result)) d.marks
+  pub unsteady : OnErr result (d.marks.steady ≡ false)
+  pub is : OnOk result (IsTrue d.marks.honest → bytes ≡ bytes_of (sector_in d.sectors n))
+
+pub reads_good : {T E : Type 0} (m : Memory) (ds : List DeviceSeen) (dev n : ℕ) (d new : DeviceSeen) (bytes : List ℕ) (result : Result T E) → IsReadGood m ds dev n d new bytes result
+    → ReadsSector (record { memory = m; devices = ds }) dev n bytes (found_good result) (record { memory = m; devices = set ds dev new })
+reads_good {E = E} m ds dev n d new bytes (Ok done) read =
+    reads {E = E} m ds dev n d new bytes Read (Ok true)
+    (record { at = read.at; there = read.there; state = read.state; sectors = read.sectors; marks = read.marks; unsteady = λ e. cc; is = (read.good, read.is) }) refl
+reads_good m ds dev n d new bytes (Err e) read =
+    reads m ds dev n d new bytes Failed (Err e)
+    (record { at = read.at; there = read.there; state = read.state; sectors = read.sectors; marks = read.marks; unsteady = λ e. read.unsteady; is = read.good }) (e, refl)

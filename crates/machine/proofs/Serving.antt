@@ -6,27 +6,29 @@ use Rattle.std.proofs.lemmas.List.{length-drop}
 use Rattle.guestmem.specs.ByteLaws.{IsBytes-drop}
 use Rattle.guestmem.specs.Number.{IsBytes}
 use Rattle.chains.specs.Places.{places}
-use Rattle.chains.specs.Ring.{Answers, IsBounded, IsBoundedNext}
-use Rattle.chains.specs.ChainLaws.{next_bounded}
+use Rattle.chains.specs.Look.{Sees}
+use Rattle.chains.specs.Ring.{IsBounded, IsBoundedNext}
+use Rattle.chains.specs.LookLaws.{sight_bounded, usable}
 use Rattle.chains.specs.State.{RingState}
 use Rattle.chains.specs.declared.chain.Chain.{Chain}
+use Rattle.chains.specs.declared.looking.Wanted.TheVariants as wanted
 use Rattle.chains.specs.declared.next.Next.{Next}
 use Rattle.chains.specs.declared.next.Next.TheVariants as next
-use Rattle.chains.specs.Transmit.{is_message, refuse_message, send, transmit_step}
+use Rattle.chains.specs.Transmit.{transmit_step}
 use Rattle.chains.specs.declared.transmitting.MessageForm.{MessageForm}
 use Rattle.console.specs.Transmit.{text_form}
 use Rattle.net.specs.Receive as net
 use Rattle.net.specs.Transmit.{frame_form}
 use Rattle.net.specs.declared.header.TheConstants.{HEADER_SIZE}
-use Rattle.console.specs.Receive.{receive_step, takes_bytes, give, refuse}
+use Rattle.console.specs.Receive.{receive_step, give}
 use Rattle.blk.proofs.Tasks.{taken_sound}
 use Rattle.machine.proofs.ChainIds.{id_fits}
 use Rattle.blk.specs.Sound.{AreSound}
-use Rattle.blk.specs.Take as take
-use Rattle.blk.specs.Take.{take_step, take_chain, is_no_request, request_for, task_for, header_of}
+use Rattle.blk.specs.Take.{take_step, request_for, task_for, header_of}
+use Rattle.blk.specs.declared.request.TheConstants.{HEADER_SIZE as REQUEST_HEADER_SIZE}
 use Rattle.blk.specs.declared.request.Request.{Request}
 use Rattle.blk.specs.declared.shape.BlockShape.{BlockShape}
-use Rattle.machine.specs.DeviceStep.{has_work, serve}
+use Rattle.machine.specs.DeviceStep.{has_work, serve, wanted_of}
 use Rattle.machine.specs.Shapes.{block_of}
 use Rattle.machine.specs.Sound.{AreFrames, AreHostBytes, IsSoundConsole}
 use Rattle.machine.specs.declared.own.Own.{Own}
@@ -49,23 +51,18 @@ record GivesOn (s new : RingState) (left : List ℕ) : Type 0 where
   ring : IsSameRing s new
   left_are : AreHostBytes left
 
-given_by : (len : ℕ) (ram : List ℕ) (s : RingState) (held : List ℕ) (c : Chain) (takes : Bool) → IsLookedRing len s → c.slots ≤ s.size → AreHostBytes held
-    → GivesOn s (cond takes (give ram s held c) (refuse s held)).ring (cond takes (give ram s held c) (refuse s held)).left
+given_on : (len : ℕ) (ram : List ℕ) (s : RingState) (held : List ℕ) (seen : Next) → IsLookedRing len s → IsBoundedNext (length ram) s seen → AreHostBytes held
+    → GivesOn s (receive_step ram s held seen).ring (receive_step ram s held seen).left
 unfolding give
-given_by len ram s held c false looked few are = record { ring = same_ring s looked.placed; left_are = are }
-given_by len ram s held c true looked few are = record {
-  ring = record { layout = refl; size = refl; placed = placed_by s c.slots s.is_packed refl looked.may looked.placed few };
+given_on len ram s held next.Empty looked bounded are = record { ring = same_ring s looked.placed; left_are = are }
+given_on len ram s held next.Malformed looked bounded are = record { ring = same_ring s looked.placed; left_are = are }
+given_on len ram s held (next.Chain c) looked bounded are = record {
+  ring = record { layout = refl; size = refl; placed = placed_by s c.slots s.is_packed refl looked.may looked.placed bounded.slots };
   left_are = record {
     few = omega (arith, length-drop (min (length (places c.writable)) (length held)) held, are.few);
     are = IsBytes-drop (min (length (places c.writable)) (length held)) held are.are;
   };
 }
-
-given_on : (len : ℕ) (ram : List ℕ) (s : RingState) (held : List ℕ) (seen : Next) → IsLookedRing len s → IsBoundedNext (length ram) s seen → AreHostBytes held
-    → GivesOn s (receive_step ram s held seen).ring (receive_step ram s held seen).left
-given_on len ram s held next.Empty looked bounded are = record { ring = same_ring s looked.placed; left_are = are }
-given_on len ram s held next.Malformed looked bounded are = record { ring = same_ring s looked.placed; left_are = are }
-given_on len ram s held (next.Chain c) looked bounded are = given_by len ram s held c (takes_bytes c) looked bounded.slots are
 
 -- What only a kind has, beside a ready ring in a RAM of so many bytes.
 pub record AreOutstanding (len : ℕ) (s : RingState) (shape : BlockShape) (requests : List Request) : Type 0 where
@@ -95,23 +92,20 @@ record TakesOn (len : ℕ) (s new : RingState) (shape : BlockShape) (requests : 
   ring : IsSameRing s new
   are : AreOutstanding len new shape requests
 
-taken_by : (ram : List ℕ) (s : RingState) (shape : BlockShape) (requests : List Request) (c : Chain) (none : Bool) → is_no_request c ≡ none → ltb (length requests) 8 ≡ true → IsLookedRing (length ram) s → c.id < 2 ^ 16 → IsBounded (length ram) s c → AreOutstanding (length ram) s shape requests
-    → TakesOn (length ram) s (cond none (take.refuse s requests) (take_chain ram s shape requests c)).ring shape (cond none (take.refuse s requests) (take_chain ram s shape requests c)).requests
-taken_by ram s shape requests c true is room looked fits bounded are = record { ring = same_ring s looked.placed; are = are }
-taken_by ram s shape requests c false is room looked fits bounded are = record {
-  ring = record { layout = refl; size = refl; placed = placed_taken s c.slots s.is_packed refl looked.may looked.placed bounded.slots };
-  are = record {
-    few = omega (arith, ltb-true (length requests) 8 room, length-append requests (request_for c (task_for ram shape c) ∷ []));
-    sound = taken_sound (length ram) s shape requests (header_of ram c) c fits bounded is are.sound;
-  };
-}
-
-taken_on : (ram : List ℕ) (s : RingState) (shape : BlockShape) (requests : List Request) (seen : Next) → ltb (length requests) 8 ≡ true → IsBytes ram → Answers ram s seen → IsLookedRing (length ram) s → AreOutstanding (length ram) s shape requests
+taken_on : (ram : List ℕ) (s : RingState) (shape : BlockShape) (requests : List Request) (seen : Next) → ltb (length requests) 8 ≡ true → IsBytes ram → Sees (wanted.Request REQUEST_HEADER_SIZE) ram s seen → IsLookedRing (length ram) s → AreOutstanding (length ram) s shape requests
     → TakesOn (length ram) s (take_step ram s shape requests seen).ring shape (take_step ram s shape requests seen).requests
-taken_on ram s shape requests next.Empty room bytes answers looked are = record { ring = same_ring s looked.placed; are = are }
-taken_on ram s shape requests next.Malformed room bytes answers looked are = record { ring = same_ring s looked.placed; are = are }
-taken_on ram s shape requests (next.Chain c) room bytes answers looked are =
-    taken_by ram s shape requests c (is_no_request c) refl room looked (id_fits ram s c bytes looked.may.few answers.1) (next_bounded ram s (next.Chain c) answers) are
+taken_on ram s shape requests next.Empty room bytes sees looked are = record { ring = same_ring s looked.placed; are = are }
+taken_on ram s shape requests next.Malformed room bytes sees looked are = record { ring = same_ring s looked.placed; are = are }
+taken_on ram s shape requests (next.Chain c) room bytes sees looked are =
+    let usage = usable (wanted.Request REQUEST_HEADER_SIZE) ram s c sees in
+    let bounded : IsBounded (length ram) s c = sight_bounded (wanted.Request REQUEST_HEADER_SIZE) ram s (next.Chain c) sees in
+    record {
+      ring = record { layout = refl; size = refl; placed = placed_taken s c.slots s.is_packed refl looked.may looked.placed bounded.slots };
+      are = record {
+        few = omega (arith, ltb-true (length requests) 8 room, length-append requests (request_for c (task_for ram shape c) ∷ []));
+        sound = taken_sound (length ram) s shape requests (header_of ram c) c (id_fits ram s c bytes looked.may.few usage.answers.1) bounded usage.fit are.sound;
+      };
+    }
 
 -- The step that gives a frame: the ring after it, and the frames that are left.
 record FramesOn (s new : RingState) (left : List (List ℕ)) : Type 0 where
@@ -130,58 +124,49 @@ one_given ram s frame rest c false looked few are = record {
   are = frames_left frame rest are;
 }
 
-frame_given : (ram : List ℕ) (s : RingState) (frames : List (List ℕ)) (c : Chain) (takes : Bool) → IsLookedRing (length ram) s → c.slots ≤ s.size → AreFrames frames
-    → FramesOn s (cond takes (net.give_first ram s frames c) (net.refuse s frames)).ring (cond takes (net.give_first ram s frames c) (net.refuse s frames)).left
-frame_given ram s frames c false looked few are = record { ring = same_ring s looked.placed; are = are }
-frame_given ram s [] c true looked few are = record { ring = same_ring s looked.placed; are = are }
-frame_given ram s (frame ∷ rest) c true looked few are = one_given ram s frame rest c (ltb (length (places c.writable)) (HEADER_SIZE + length frame)) looked few are
-
 framed_on : (ram : List ℕ) (s : RingState) (frames : List (List ℕ)) (seen : Next) → IsLookedRing (length ram) s → IsBoundedNext (length ram) s seen → AreFrames frames
     → FramesOn s (net.receive_step ram s frames seen).ring (net.receive_step ram s frames seen).left
 framed_on ram s frames next.Empty looked bounded are = record { ring = same_ring s looked.placed; are = are }
 framed_on ram s frames next.Malformed looked bounded are = record { ring = same_ring s looked.placed; are = are }
-framed_on ram s frames (next.Chain c) looked bounded are = frame_given ram s frames c (takes_bytes c) looked bounded.slots are
+framed_on ram s [] (next.Chain c) looked bounded are = record { ring = same_ring s looked.placed; are = are }
+framed_on ram s (frame ∷ rest) (next.Chain c) looked bounded are = one_given ram s frame rest c (ltb (length (places c.writable)) (HEADER_SIZE + length frame)) looked bounded.slots are
 
 -- The step that takes a message: the ring after it.
-message_on : (ram : List ℕ) (s : RingState) (form : MessageForm) (c : Chain) (is : Bool) → IsLookedRing (length ram) s → c.slots ≤ s.size → IsSameRing s (cond is (send ram s form.header c) (refuse_message s)).ring
-message_on ram s form c true looked few = record { layout = refl; size = refl; placed = placed_by s c.slots s.is_packed refl looked.may looked.placed few }
-message_on ram s form c false looked few = same_ring s looked.placed
-
 sent_on : (ram : List ℕ) (s : RingState) (form : MessageForm) (seen : Next) → IsLookedRing (length ram) s → IsBoundedNext (length ram) s seen → IsSameRing s (transmit_step ram s form seen).ring
 sent_on ram s form next.Empty looked bounded = same_ring s looked.placed
 sent_on ram s form next.Malformed looked bounded = same_ring s looked.placed
-sent_on ram s form (next.Chain c) looked bounded = message_on ram s form c (is_message form c) looked bounded.slots
+sent_on ram s form (next.Chain c) looked bounded = record { layout = refl; size = refl; placed = placed_by s c.slots s.is_packed refl looked.may looked.placed bounded.slots }
 
 -- The ring after a queue was served, and what the kind has.
 pub record ServesOn (len : ℕ) (shape : Shape) (s new : RingState) (own : Own) : Type 0 where
   pub ring : IsSameRing s new
   pub own_is : SoundBeside len new shape own
 
-pub served_on : (shape : Shape) (own : Own) (number : ℕ) (ram : List ℕ) (s : RingState) (seen : Next) → has_work own number ≡ true → IsBytes ram → IsLookedRing (length ram) s → Answers ram s seen → SoundBeside (length ram) s shape own
+pub served_on : (shape : Shape) (own : Own) (number : ℕ) (ram : List ℕ) (s : RingState) (seen : Next) → has_work own number ≡ true → IsBytes ram → IsLookedRing (length ram) s → Sees (wanted_of own number) ram s seen → SoundBeside (length ram) s shape own
     → ServesOn (length ram) shape s (serve shape own number ram s seen).ring (serve shape own number ram s seen).own
-served_on (shapes.Net mac) (Network frames) zero ram s seen work bytes looked answers sound =
-    let g = framed_on ram s frames seen looked (next_bounded ram s seen answers) sound in
+served_on (shapes.Net mac) (Network frames) zero ram s seen work bytes looked sees sound =
+    let g = framed_on ram s frames seen looked (sight_bounded wanted.Room ram s seen sees) sound in
     record { ring = g.ring; own_is = g.are }
-served_on (shapes.Net mac) (Network frames) (suc number) ram s seen work bytes looked answers sound = record { ring = sent_on ram s frame_form seen looked (next_bounded ram s seen answers); own_is = sound }
-served_on (shapes.Block sectors read_only id) (Block requests) number ram s seen work bytes looked answers sound =
-    let t = taken_on ram s (block_of (shapes.Block sectors read_only id)) requests seen work bytes answers looked sound in
+served_on (shapes.Net mac) (Network frames) (suc number) ram s seen work bytes looked sees sound = record { ring = sent_on ram s frame_form seen looked (sight_bounded (wanted.Message frame_form) ram s seen sees); own_is = sound }
+served_on (shapes.Block sectors read_only id) (Block requests) number ram s seen work bytes looked sees sound =
+    let t = taken_on ram s (block_of (shapes.Block sectors read_only id)) requests seen work bytes sees looked sound in
     record { ring = t.ring; own_is = t.are }
-served_on shapes.Console (Console size held) zero ram s seen work bytes looked answers sound =
-    let g = given_on (length ram) ram s held seen looked (next_bounded ram s seen answers) sound.text in
+served_on shapes.Console (Console size held) zero ram s seen work bytes looked sees sound =
+    let g = given_on (length ram) ram s held seen looked (sight_bounded wanted.Room ram s seen sees) sound.text in
     record { ring = g.ring; own_is = record { columns = sound.columns; rows = sound.rows; text = g.left_are } }
-served_on shapes.Console (Console size held) (suc number) ram s seen work bytes looked answers sound = record { ring = sent_on ram s text_form seen looked (next_bounded ram s seen answers); own_is = sound }
-served_on shapes.Entropy (Entropy pool) number ram s seen work bytes looked answers sound =
-    let g = given_on (length ram) ram s pool seen looked (next_bounded ram s seen answers) sound in
+served_on shapes.Console (Console size held) (suc number) ram s seen work bytes looked sees sound = record { ring = sent_on ram s text_form seen looked (sight_bounded (wanted.Message text_form) ram s seen sees); own_is = sound }
+served_on shapes.Entropy (Entropy pool) number ram s seen work bytes looked sees sound =
+    let g = given_on (length ram) ram s pool seen looked (sight_bounded wanted.Room ram s seen sees) sound in
     record { ring = g.ring; own_is = g.left_are }
-served_on (shapes.Net mac) (Block requests) number ram s seen work bytes looked answers sound = absurd sound
-served_on (shapes.Net mac) (Console size held) number ram s seen work bytes looked answers sound = absurd sound
-served_on (shapes.Net mac) (Entropy pool) number ram s seen work bytes looked answers sound = absurd sound
-served_on (shapes.Block sectors read_only id) (Network frames) number ram s seen work bytes looked answers sound = absurd sound
-served_on (shapes.Block sectors read_only id) (Console size held) number ram s seen work bytes looked answers sound = absurd sound
-served_on (shapes.Block sectors read_only id) (Entropy pool) number ram s seen work bytes looked answers sound = absurd sound
-served_on shapes.Console (Network frames) number ram s seen work bytes looked answers sound = absurd sound
-served_on shapes.Console (Block requests) number ram s seen work bytes looked answers sound = absurd sound
-served_on shapes.Console (Entropy pool) number ram s seen work bytes looked answers sound = absurd sound
-served_on shapes.Entropy (Network frames) number ram s seen work bytes looked answers sound = absurd sound
-served_on shapes.Entropy (Block requests) number ram s seen work bytes looked answers sound = absurd sound
-served_on shapes.Entropy (Console size held) number ram s seen work bytes looked answers sound = absurd sound
+served_on (shapes.Net mac) (Block requests) number ram s seen work bytes looked sees sound = absurd sound
+served_on (shapes.Net mac) (Console size held) number ram s seen work bytes looked sees sound = absurd sound
+served_on (shapes.Net mac) (Entropy pool) number ram s seen work bytes looked sees sound = absurd sound
+served_on (shapes.Block sectors read_only id) (Network frames) number ram s seen work bytes looked sees sound = absurd sound
+served_on (shapes.Block sectors read_only id) (Console size held) number ram s seen work bytes looked sees sound = absurd sound
+served_on (shapes.Block sectors read_only id) (Entropy pool) number ram s seen work bytes looked sees sound = absurd sound
+served_on shapes.Console (Network frames) number ram s seen work bytes looked sees sound = absurd sound
+served_on shapes.Console (Block requests) number ram s seen work bytes looked sees sound = absurd sound
+served_on shapes.Console (Entropy pool) number ram s seen work bytes looked sees sound = absurd sound
+served_on shapes.Entropy (Network frames) number ram s seen work bytes looked sees sound = absurd sound
+served_on shapes.Entropy (Block requests) number ram s seen work bytes looked sees sound = absurd sound
+served_on shapes.Entropy (Console size held) number ram s seen work bytes looked sees sound = absurd sound

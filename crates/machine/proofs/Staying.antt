@@ -2,7 +2,6 @@
 use Rattle.std.proofs.Common.{◌≡◌, ℕ, zero, suc, ◌+◌, ◌%◌, ◌^◌, ◌<◌, ◌≤◌, ◌⊎◌, inl, inr, Bool, true, false, cond, eqb, ltb, List, [], ◌∷◌, ◌++◌, length, take, set, get_or, Option, Some, None, refl, sym, ap, ◌∙◌, subst, arith, length-append}
 use Rattle.std.proofs.lemmas.List.Elements.{All-append}
 use borrow.Author.Tests.{ltb-true, ltb-false}
-use Rattle.chains.specs.declared.transmitting.MessageForm.{MessageForm}
 use Rattle.net.specs.Inbox.{IsFrame, is_frame_len}
 use Rattle.std.specs.Prelude.{◌-◌, ◌&&◌, not, bit_and, bit_or, slice_get, IsSomeAnd}
 use Rattle.std.proofs.lemmas.Option.{slice_get_within}
@@ -16,7 +15,7 @@ use Rattle.blk.specs.Sectors.{Sector, AreWhole}
 use Rattle.blk.specs.Sound.{AreSound}
 use Rattle.blk.specs.declared.request.Request.{Request}
 use Rattle.blk.specs.declared.shape.BlockShape.{BlockShape}
-use Rattle.chains.specs.Ring.{Answers}
+use Rattle.chains.specs.Look.{Sees}
 use Rattle.chains.specs.State.{RingState}
 use Rattle.chains.specs.declared.next.Next.{Next}
 use Rattle.chains.specs.declared.position.Positions.{Positions}
@@ -33,7 +32,7 @@ use Rattle.mmio.specs.State.{Registers, queue_at, with_common}
 use Rattle.mmio.specs.declared.queue.Queue.{Queue}
 use Rattle.mmio.proofs.StayingReady.{write_stays}
 use Rattle.mmio.proofs.StayingSound.{StaysSound, write_sound, used_sound, asked_sound, cleared_sound}
-use Rattle.machine.specs.DeviceStep.{serve, registers_after, after_service, after_advance, is_advance_due, requests_of, with_requests, advance_at, advanced_at, step_at, looked_at, device_step, message_form, MayLook}
+use Rattle.machine.specs.DeviceStep.{serve, registers_after, after_service, after_advance, is_advance_due, requests_of, with_requests, advance_at, advanced_at, step_at, looked_at, device_step, wanted_of, MayLook}
 use Rattle.machine.specs.Looked.{IsLookedAt}
 use Rattle.machine.specs.Outcome.{Outcome, fine, disk_failed, no_memory, disk_does}
 use Rattle.machine.specs.QueuePositions.{HavePositions, HasPositions, ArePlaced, first_positions, kept_positions, is_packed_by}
@@ -388,13 +387,13 @@ after_ready r pick served.Malformed packed size h = record { queue = h.queue; th
 after_ready r pick (served.Published reply true) packed size h = record { queue = h.queue; there = h.there; ready = h.ready; size_is = h.size_is; layout = h.layout }
 after_ready r pick (served.Published reply false) packed size h = h
 
-sound_served : (d : DeviceState) (ram : List ℕ) (pick : ℕ) (q : RingState) (seen : Next) → IsBytes ram → IsLookedAt d pick q → Answers ram q seen → IsSoundDevice (length ram) d → IsSoundDevice (length ram) (after_service d pick (serve d.shape d.own pick ram q seen))
-sound_served d ram pick q seen bytes look answers sound =
+sound_served : (d : DeviceState) (ram : List ℕ) (pick : ℕ) (q : RingState) (seen : Next) → IsBytes ram → IsLookedAt d pick q → Sees (wanted_of d.own pick) ram q seen → IsSoundDevice (length ram) d → IsSoundDevice (length ram) (after_service d pick (serve d.shape d.own pick ram q seen))
+sound_served d ram pick q seen bytes look sees sound =
     let s = serve d.shape d.own pick ram q seen in
     let ring = looked_ring (length ram) d pick q sound look in
     let q_layout : q.is_packed ≡ is_packed_by d.registers.common = ap (λ (r : RingState). r.is_packed) look.is ∙ packed_same d.registers.common.features in
     let q_size : q.size ≡ look.queue.size = ap (λ (r : RingState). r.size) look.is in
-    let on = served_on d.shape d.own pick ram q seen look.work bytes ring answers (beside (length ram) d.registers d.shape d.own pick look.queue q sound.queues look.there q_layout q_size sound.own) in
+    let on = served_on d.shape d.own pick ram q seen look.work bytes ring sees (beside (length ram) d.registers d.shape d.own pick look.queue q sound.queues look.there q_layout q_size sound.own) in
     let stays = served_registers d.registers pick s.served sound.registers in
     let new : Positions = record { taking = s.ring.taking; used = s.ring.used } in
     let layout : s.ring.is_packed ≡ is_packed_by d.registers.common = on.ring.layout ∙ q_layout in
@@ -525,14 +524,14 @@ sound_advance_at d ram content pick (Some q) o is are sound has =
     let look = advanced_is (length ram) d pick q sound is in
     sound_advanced (length ram) d pick q _ look sound (advanced_goes_on d ram content pick q (disk_does o) look are sound has)
 
-sound_stepped_at : (form : Option MessageForm) (d : DeviceState) (ram : List ℕ) (content : List Sector) (pick : ℕ) (ring : Option RingState) (o : Outcome) (seen : Next) → looked_at d pick ≡ ring → MayLook form ring ram o seen → IsBytes ram → IsSoundDevice (length ram) d → HasSectors d content
+sound_stepped_at : (d : DeviceState) (ram : List ℕ) (content : List Sector) (pick : ℕ) (ring : Option RingState) (o : Outcome) (seen : Next) → looked_at d pick ≡ ring → MayLook (wanted_of d.own pick) ring ram o seen → IsBytes ram → IsSoundDevice (length ram) d → HasSectors d content
     → IsSoundDevice (length ram) (step_at d ram content pick ring o seen).device
-sound_stepped_at form d ram content pick None o seen is may are sound has = sound_advance_at d ram content pick (advanced_at d pick) o refl are sound has
-sound_stepped_at form d ram content pick (Some q) fine seen is may are sound has = sound_served d ram pick q seen are (looked_is d pick q is) may sound
-sound_stepped_at form d ram content pick (Some q) disk_failed seen is may are sound has = sound
-sound_stepped_at form d ram content pick (Some q) no_memory seen is may are sound has = sound
+sound_stepped_at d ram content pick None o seen is may are sound has = sound_advance_at d ram content pick (advanced_at d pick) o refl are sound has
+sound_stepped_at d ram content pick (Some q) fine seen is may are sound has = sound_served d ram pick q seen are (looked_is d pick q is) may sound
+sound_stepped_at d ram content pick (Some q) disk_failed seen is may are sound has = sound
+sound_stepped_at d ram content pick (Some q) no_memory seen is may are sound has = sound
 
 -- A device does a piece of its work.
-pub sound_stepped : (d : DeviceState) (ram : List ℕ) (content : List Sector) (pick : ℕ) (o : Outcome) (seen : Next) → MayLook (message_form d.own pick) (looked_at d pick) ram o seen → IsBytes ram → IsSoundDevice (length ram) d → HasSectors d content → IsSoundDevice (length ram) (device_step d ram content pick o seen).device
+pub sound_stepped : (d : DeviceState) (ram : List ℕ) (content : List Sector) (pick : ℕ) (o : Outcome) (seen : Next) → MayLook (wanted_of d.own pick) (looked_at d pick) ram o seen → IsBytes ram → IsSoundDevice (length ram) d → HasSectors d content → IsSoundDevice (length ram) (device_step d ram content pick o seen).device
 unfolding device_step
-sound_stepped d ram content pick o seen may are sound has = sound_stepped_at (message_form d.own pick) d ram content pick (looked_at d pick) o seen refl may are sound has
+sound_stepped d ram content pick o seen may are sound has = sound_stepped_at d ram content pick (looked_at d pick) o seen refl may are sound has

@@ -18,7 +18,7 @@ use Rattle.mmio.specs.Interrupts.{used_raised}
 use Rattle.mmio.specs.State.{Registers, first_queue, queue_at, with_common}
 use Rattle.mmio.specs.declared.queue.Queue.{Queue}
 use Rattle.chains.specs.Transmit.{transmit_step}
-use Rattle.chains.specs.declared.transmitting.MessageForm.{MessageForm}
+use Rattle.chains.specs.declared.looking.Wanted.{Wanted}
 use Rattle.chains.specs.declared.transmitting.Transmitted.{Transmitted}
 use Rattle.chains.specs.declared.transmitting.Transmitted.TheVariants as messages
 use Rattle.console.specs.Transmit.{text_form}
@@ -33,7 +33,7 @@ use Rattle.chains.specs.declared.position.Positions.{Positions}
 use Rattle.console.specs.Receive.{receive_step}
 use Rattle.console.specs.declared.receiving.Received.{Received}
 use Rattle.console.specs.declared.receiving.Received.TheVariants as received
-use Rattle.machine.specs.DeviceStep.{advances, advanced_at, advanced_by, device_step, is_advance_due, looks, looked_at, looked_step, MayLookAt, requests_of, reply_to_advance, serve, message_form, MayRefuse, served_frame, served_message, served_of, served_taking, reply_of, registers_after, with_requests}
+use Rattle.machine.specs.DeviceStep.{advances, advanced_at, advanced_by, device_step, is_advance_due, looks, looked_at, looked_step, MayLookAt, requests_of, reply_to_advance, serve, wanted_of, MayRefuse, served_frame, served_message, served_of, served_taking, reply_of, registers_after, with_requests}
 use Rattle.machine.specs.DeviceWork.{IsServed, IsAdvancedStep, IsDeviceStep, IsLookedStep}
 use Rattle.machine.specs.Outcome.{Outcome, fine, disk_failed, no_memory, disk_does, is_failure, outcome_of}
 use Rattle.machine.specs.Shapes.{block_of, sector_count}
@@ -180,7 +180,7 @@ idle_step after number honest ram content log d pick whole none no_request = rec
 }
 
 -- A look that is refused memory, and one that serves a queue.
-pub refused_look : {L : Type 0} (after : L → Item → L) (ram : List ℕ) (log : L) (d : DeviceState) (pick : ℕ) (q : RingState) → MayRefuse (message_form d.own pick) ram q → IsLookedStep after ram log d pick q NoMemory ram log d
+pub refused_look : {L : Type 0} (after : L → Item → L) (ram : List ℕ) (log : L) (d : DeviceState) (pick : ℕ) (q : RingState) → MayRefuse (wanted_of d.own pick) ram q → IsLookedStep after ram log d pick q NoMemory ram log d
 refused_look after ram log d pick q full = record { seen = next.Empty; may_look = full; reply_is = refl; device_is = refl; ram_is = refl; log_is = refl }
 
 -- A queue that was served is answered by no refusal.
@@ -222,7 +222,7 @@ served_look after ram log shape r held own pick q s new_ram new_ring new_own new
     let place : take (length new_r.queues) (set held pick new) ≡ set (take (length r.queues) held) pick new = ap (λ n. take n (set held pick new)) count ∙ take-set-lt (length r.queues) held pick new there in
     record {
       seen = h.seen;
-      may_look = rw was_fine h.answers;
+      may_look = rw was_fine h.sees;
       reply_is = rw was_fine (ap reply_of h.served_is);
       device_is = rw (was_fine, place, registers, h.ring_is, h.own_is, h.served_is) refl;
       ram_is = rw was_fine h.ram_is;
@@ -270,13 +270,13 @@ no_failure replies.NoMemory h = refl
 no_failure (replies.Refused x) h = refl
 
 -- A look never tells that the disk failed.
-not_failed : (form : Option MessageForm) (ram : List ℕ) (q : RingState) (seen : Next) (o : Outcome) → o ≡ disk_failed → MayLookAt form q ram o seen → ⊥
-not_failed form ram q seen fine is h = cc
-not_failed form ram q seen disk_failed is h = h
-not_failed form ram q seen no_memory is h = cc
+not_failed : (want : Wanted) (ram : List ℕ) (q : RingState) (seen : Next) (o : Outcome) → o ≡ disk_failed → MayLookAt want q ram o seen → ⊥
+not_failed want ram q seen fine is h = cc
+not_failed want ram q seen disk_failed is h = h
+not_failed want ram q seen no_memory is h = cc
 
 pub fine_look : {L : Type 0} (after : L → Item → L) (ram : List ℕ) (log : L) (d : DeviceState) (pick : ℕ) (q : RingState) (reply : Reply) (new_ram : List ℕ) (new_log : L) (new : DeviceState) → IsLookedStep after ram log d pick q reply new_ram new_log new → is_failure reply ≡ false
-fine_look after ram log d pick q reply new_ram new_log new h = no_failure reply (λ is. not_failed (message_form d.own pick) ram q h.seen (outcome_of reply) (rw is refl) h.may_look)
+fine_look after ram log d pick q reply new_ram new_log new h = no_failure reply (λ is. not_failed (wanted_of d.own pick) ram q h.seen (outcome_of reply) (rw is refl) h.may_look)
 
 -- A request that went on.
 does_by : (a : Advanced) → disk_does (outcome_of (reply_to_advance a)) ≡ not (is_disk_failed a)

@@ -16,10 +16,9 @@ use Rattle.blk.specs.Move as blk
 use Rattle.blk.specs.Sectors.{Sector, AreWhole, IsWhole}
 use Rattle.guestmem.specs.Item.{sector}
 use Rattle.chains.specs.State.{RingState}
-use Rattle.chains.specs.declared.transmitting.MessageForm.{MessageForm}
 use Rattle.console.specs.declared.size.ConsoleSize.{ConsoleSize}
 use Rattle.chains.specs.declared.next.Next.{Next}
-use Rattle.machine.specs.DeviceStep.{advance_at, advanced_at, device_step, looked_at, message_form, MayLook, step_at}
+use Rattle.machine.specs.DeviceStep.{advance_at, advanced_at, device_step, looked_at, wanted_of, MayLook, step_at}
 use Rattle.machine.specs.Effect as effects
 use Rattle.machine.specs.Effect.{Effect, Replacement, applied, replaced_in}
 use Rattle.machine.specs.EffectLaws.{HasItem, IsSameShape, MayReplace, sector_on}
@@ -163,17 +162,17 @@ advance_inside : (d : DeviceState) (ram : List ℕ) (content : List Sector) (pic
 advance_inside d ram content pick None o is are sound has = tt
 advance_inside d ram content pick (Some q) o is are sound has = (advanced_goes_on d ram content pick q (disk_does o) (advanced_is (length ram) d pick q sound is) are sound has).inside
 
-worked_at : (form : Option MessageForm) (d : DeviceState) (ram : List ℕ) (content : List Sector) (pick : ℕ) (ring : Option RingState) (o : Outcome) (seen : Next) → looked_at d pick ≡ ring → MayLook form ring ram o seen → IsBytes ram → IsSoundDevice (length ram) d → HasSectors d content → AreInsideRam (length ram) (step_at d ram content pick ring o seen).writes
-worked_at form d ram content pick None o seen is may are sound has = advance_inside d ram content pick (advanced_at d pick) o refl are sound has
-worked_at form d ram content pick (Some q) fine seen is may are sound has = served_inside (length ram) d.registers d.shape d.own pick ram q seen (looked_ring (length ram) d pick q sound (looked_is d pick q is)) may sound.own
-worked_at form d ram content pick (Some q) disk_failed seen is may are sound has = tt
-worked_at form d ram content pick (Some q) no_memory seen is may are sound has = tt
+worked_at : (d : DeviceState) (ram : List ℕ) (content : List Sector) (pick : ℕ) (ring : Option RingState) (o : Outcome) (seen : Next) → looked_at d pick ≡ ring → MayLook (wanted_of d.own pick) ring ram o seen → IsBytes ram → IsSoundDevice (length ram) d → HasSectors d content → AreInsideRam (length ram) (step_at d ram content pick ring o seen).writes
+worked_at d ram content pick None o seen is may are sound has = advance_inside d ram content pick (advanced_at d pick) o refl are sound has
+worked_at d ram content pick (Some q) fine seen is may are sound has = served_inside (length ram) d.registers d.shape d.own pick ram q seen (looked_ring (length ram) d pick q sound (looked_is d pick q is)) may sound.own
+worked_at d ram content pick (Some q) disk_failed seen is may are sound has = tt
+worked_at d ram content pick (Some q) no_memory seen is may are sound has = tt
 
 worked_inside : (m : MachineState) (dev : ℕ) (found : Option DeviceState) (pick : ℕ) (o : Outcome) (seen : Next) → slice_get m.devices dev ≡ found → MaySeeAt found m.ram pick o seen → IsSound m
     → AreInsideRam (length m.ram) (step_device dev found m.ram (disk_of m dev) pick o seen).effect.writes
 unfolding device_step
 worked_inside m dev None pick o seen there may sound = tt
-worked_inside m dev (Some d) pick o seen there may sound = worked_at (message_form d.own pick) d m.ram (disk_of m dev) pick (looked_at d pick) o seen refl may sound.bytes (sound_at m dev d there sound) (has_sectors m dev d there sound)
+worked_inside m dev (Some d) pick o seen there may sound = worked_at d m.ram (disk_of m dev) pick (looked_at d pick) o seen refl may sound.bytes (sound_at m dev d there sound) (has_sectors m dev d there sound)
 
 no_writes_looked : (found : Option DeviceState) (offset width : ℕ) → (read_register found offset width).effect.writes ≡ []
 no_writes_looked None offset width = refl

@@ -1,11 +1,12 @@
 -- What follows for every event that was applied.
-use Rattle.std.specs.Prelude.{◌≡◌, map}
+use Rattle.std.specs.Prelude.{◌≡◌, [], map}
 use Rattle.machine.specs.Applied.{IsApplied, IsHonestFor}
-use Rattle.machine.specs.Effect.{Effect}
+use Rattle.machine.specs.Effect.{Effect, items_of}
 use Rattle.machine.specs.Outcome.{outcome_of}
 use Rattle.machine.specs.Seen.{Seen, all_marks, state_of}
 use Rattle.machine.specs.Sound.{IsSound}
 use Rattle.machine.specs.Step.{HasEffect}
+use Rattle.machine.specs.StepLaws.{IsRefusal}
 use Rattle.machine.specs.declared.event.Event.{Event}
 use Rattle.machine.specs.declared.reply.Reply.{Reply}
 
@@ -25,3 +26,13 @@ pub record IsAlike (a b : Effect) : Type 0 where
 -- at most in the bytes written.
 abbrev pub AnyDiskActsAlike : Type 0
 AnyDiskActsAlike = (old new : Seen) (e : Event) (reply : Reply) → IsSound (state_of old) → (h : IsApplied old e reply new) → (f : Effect) × HasEffect (state_of old) e (outcome_of reply) reply f × IsAlike f h.effect
+
+-- The state of the machine and the marks of its disks are as they were.
+pub record IsAsItWas (old new : Seen) : Type 0 where
+  pub state : state_of new ≡ state_of old
+  pub marks : all_marks new ≡ all_marks old
+
+-- Whatever the disks do, an event that is refused, or for which memory is refused, leaves the machine as it was, and writes into
+-- no page and no sector.
+abbrev pub RefusedChangesNothing : Type 0
+RefusedChangesNothing = (old new : Seen) (e : Event) (reply : Reply) (h : IsApplied old e reply new) → IsRefusal reply → IsAsItWas old new × (items_of h.effect ≡ [])

@@ -12,7 +12,9 @@ use Rattle.chains.specs.Transmit.{MayWantMemory, transmit_step}
 use Rattle.chains.specs.declared.transmitting.MessageForm.{MessageForm}
 use Rattle.chains.specs.declared.transmitting.Transmitted.{Transmitted}
 use Rattle.chains.specs.declared.transmitting.Transmitted.TheVariants as messages
-use Rattle.chains.specs.Ring.{Answers}
+use Rattle.chains.specs.Look.{Sees}
+use Rattle.chains.specs.declared.looking.Wanted.{Wanted}
+use Rattle.chains.specs.declared.looking.Wanted.TheVariants as wanted
 use Rattle.chains.specs.declared.next.Next.{Next}
 use Rattle.chains.specs.declared.position.Positions.{Positions}
 use Rattle.blk.specs.Advance.{AdvanceStep, advance_step}
@@ -22,6 +24,7 @@ use Rattle.blk.specs.Take.{take_step}
 use Rattle.blk.specs.declared.advancing.Advanced.{Advanced}
 use Rattle.blk.specs.declared.advancing.Advanced.TheVariants as advanced
 use Rattle.blk.specs.declared.request.Request.{Request}
+use Rattle.blk.specs.declared.request.TheConstants.{HEADER_SIZE}
 use Rattle.blk.specs.declared.requests.TheConstants.{REQUESTS_MAX}
 use Rattle.blk.specs.declared.taking.Taken.{Taken}
 use Rattle.blk.specs.declared.taking.Taken.TheVariants as taken
@@ -69,29 +72,33 @@ looked_by d number q p = None
 abbrev pub looked_at : DeviceState → ℕ → Option RingState
 looked_at d pick = looked_by d pick (queue_at d.registers pick) (slice_get d.positions pick)
 
--- The form of the messages that a device takes from its queue of this number: frames for a network device and text for a
--- console, both from queue 1.
-abbrev pub message_form : Own → ℕ → Option MessageForm
-message_form (Network frames) (suc number) = Some frame_form
-message_form (Console size held) (suc number) = Some text_form
-message_form _ _ = None
+-- The chains that a device can use in its queue of this number. A network device and a console fill those of queue 0, and send
+-- the messages of those of queue 1: frames, and text. A block device takes requests, and an entropy device fills its chains.
+abbrev pub wanted_of : Own → ℕ → Wanted
+wanted_of (Network frames) zero = wanted.Room
+wanted_of (Network frames) (suc number) = wanted.Message frame_form
+wanted_of (Console size held) zero = wanted.Room
+wanted_of (Console size held) (suc number) = wanted.Message text_form
+wanted_of (Block requests) number = wanted.Request HEADER_SIZE
+wanted_of (Entropy pool) number = wanted.Room
 
 -- Memory may be refused only at a queue with a longer row of descriptors than is handled without an allocation, or for a
 -- message.
-abbrev pub MayRefuse : Option MessageForm → List ℕ → RingState → Type 0
-MayRefuse None ram q = IsLongQueue ram q
-MayRefuse (Some form) ram q = MayWantMemory ram q form
+abbrev pub MayRefuse : Wanted → List ℕ → RingState → Type 0
+MayRefuse wanted.Room ram q = IsLongQueue ram q
+MayRefuse (wanted.Request header) ram q = IsLongQueue ram q
+MayRefuse (wanted.Message form) ram q = MayWantMemory ram q form
 
--- What a look at a queue may see: with the outcome `fine`, what the queue answers about its next chain. The disk does not fail
--- in a look.
-abbrev pub MayLookAt : Option MessageForm → RingState → List ℕ → Outcome → Next → Type 0
-MayLookAt form q ram fine seen = Answers ram q seen
-MayLookAt form q ram disk_failed seen = ⊥
-MayLookAt form q ram no_memory seen = MayRefuse form ram q
+-- What a look at a queue may see: with the outcome `fine`, what a device that wants such chains sees there. The disk does not
+-- fail in a look.
+abbrev pub MayLookAt : Wanted → RingState → List ℕ → Outcome → Next → Type 0
+MayLookAt want q ram fine seen = Sees want ram q seen
+MayLookAt want q ram disk_failed seen = ⊥
+MayLookAt want q ram no_memory seen = MayRefuse want ram q
 
-abbrev pub MayLook : Option MessageForm → Option RingState → List ℕ → Outcome → Next → Type 0
-MayLook form None ram o seen = Unit {0}
-MayLook form (Some q) ram o seen = MayLookAt form q ram o seen
+abbrev pub MayLook : Wanted → Option RingState → List ℕ → Outcome → Next → Type 0
+MayLook want None ram o seen = Unit {0}
+MayLook want (Some q) ram o seen = MayLookAt want q ram o seen
 
 -- The outstanding requests of a device: only a block device has any.
 abbrev pub requests_of : Own → List Request
@@ -150,7 +157,7 @@ take_message form own ram q seen =
     let s = transmit_step ram q form seen in
     record { served = served_message s.answer; writes = s.writes; ring = s.ring; own = own }
 
--- Serving the queue of this number, given what it answers about its next chain.
+-- Serving the queue of this number, given what the device sees there.
 abbrev pub serve : Shape → Own → ℕ → List ℕ → RingState → Next → Service
 serve shape (Network frames) zero ram q seen =
     let s = receiving.receive_step ram q frames seen in
@@ -232,14 +239,14 @@ abbrev pub advance_at : DeviceState → List ℕ → List Sector → ℕ → Opt
 advance_at d ram content pick None o = unmoved d Idle
 advance_at d ram content pick (Some q) o = advance_on d ram content pick q o
 
--- A look at the next chain of a ring, given the outcome and what the queue answers.
+-- A look at the next chain of a ring, given the outcome and what the device sees there.
 abbrev pub looked_step : DeviceState → List ℕ → ℕ → RingState → Outcome → Next → DeviceAnswer
 looked_step d ram pick q no_memory seen = unmoved d NoMemory
 looked_step d ram pick q disk_failed seen = unmoved d Idle
 looked_step d ram pick q fine seen = after_serving d pick (serve d.shape d.own pick ram q seen)
 
--- A step of a device whose disk has these sectors, given the ring that it looks at, if any, the outcome, and what the queue
--- answers.
+-- A step of a device whose disk has these sectors, given the ring that it looks at, if any, the outcome, and what the device
+-- sees there.
 abbrev pub step_at : DeviceState → List ℕ → List Sector → ℕ → Option RingState → Outcome → Next → DeviceAnswer
 step_at d ram content pick None o seen = advance_at d ram content pick (advanced_at d pick) o
 step_at d ram content pick (Some q) o seen = looked_step d ram pick q o seen

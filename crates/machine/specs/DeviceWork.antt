@@ -4,22 +4,22 @@ use Rattle.guestmem.specs.Item.{Item, after_all}
 use Rattle.guestmem.specs.Writes.{set_all, touched}
 use Rattle.blk.specs.Move.{AreSet, sectors_touched}
 use Rattle.blk.specs.Sectors.{IsGiven, Sector}
-use Rattle.chains.specs.Ring.{Answers}
+use Rattle.chains.specs.Look.{Sees}
 use Rattle.chains.specs.State.{RingState}
 use Rattle.chains.specs.declared.next.Next.{Next}
 use Rattle.machine.specs.State.{DeviceState}
-use Rattle.machine.specs.DeviceStep.{device_step, looked_at, looked_step, message_form, advance_on, serve, MayLook, MayLookAt}
+use Rattle.machine.specs.DeviceStep.{device_step, looked_at, looked_step, wanted_of, advance_on, serve, MayLook, MayLookAt}
 use Rattle.machine.specs.Outcome.{outcome_of}
 use Rattle.machine.specs.declared.own.Own.{Own}
 use Rattle.machine.specs.declared.reply.Reply.{Reply}
 use Rattle.machine.specs.declared.served.Served.{Served}
 use Rattle.machine.specs.declared.shape.Shape.{Shape}
 
--- The queue of this number was served, given what it answers: how it went, and RAM, the log, the ring and the kind-specific
+-- The queue of this number was served, given what the device sees there: how it went, and RAM, the log, the ring and the kind-specific
 -- state after it.
 pub record IsServed {L : Type 0} (after : L → Item → L) (ram : List ℕ) (q : RingState) (shape : Shape) (own : Own) (number : ℕ) (log : L) (served : Served) (new_ram : List ℕ) (new_ring : RingState) (new_own : Own) (new_log : L) : Type 0 where
   pub seen : Next
-  pub answers : Answers ram q seen
+  pub sees : Sees (wanted_of own number) ram q seen
   pub served_is : served ≡ (serve shape own number ram q seen).served
   pub ram_is : new_ram ≡ set_all ram (serve shape own number ram q seen).writes
   pub log_is : new_log ≡ after_all after log (touched (serve shape own number ram q seen).writes)
@@ -29,7 +29,7 @@ pub record IsServed {L : Type 0} (after : L → Item → L) (ram : List ℕ) (q 
 -- A step that looks at a ring was executed. The outcome is the one that the reply reports.
 pub record IsLookedStep {L : Type 0} (after : L → Item → L) (ram : List ℕ) (log : L) (d : DeviceState) (pick : ℕ) (q : RingState) (reply : Reply) (new_ram : List ℕ) (new_log : L) (new : DeviceState) : Type 0 where
   pub seen : Next
-  pub may_look : MayLookAt (message_form d.own pick) q ram (outcome_of reply) seen
+  pub may_look : MayLookAt (wanted_of d.own pick) q ram (outcome_of reply) seen
   pub reply_is : reply ≡ (looked_step d ram pick q (outcome_of reply) seen).reply
   pub device_is : new ≡ (looked_step d ram pick q (outcome_of reply) seen).device
   pub ram_is : new_ram ≡ set_all ram (looked_step d ram pick q (outcome_of reply) seen).writes
@@ -52,7 +52,7 @@ pub record IsDeviceStep {L : Type 0} (after : L → Item → L) (number : ℕ) (
   pub given : List Sector
   pub is_given : IsGiven honest content given
   pub seen : Next
-  pub may_look : MayLook (message_form d.own pick) (looked_at d pick) ram (outcome_of reply) seen
+  pub may_look : MayLook (wanted_of d.own pick) (looked_at d pick) ram (outcome_of reply) seen
   pub reply_is : reply ≡ (device_step d ram given pick (outcome_of reply) seen).reply
   pub device_is : new ≡ (device_step d ram given pick (outcome_of reply) seen).device
   pub ram_is : new_ram ≡ set_all ram (device_step d ram given pick (outcome_of reply) seen).writes

@@ -1,4 +1,5 @@
 pub mod AnyRing
+pub mod Rings
 pub mod Applied
 pub mod AppliedLaws
 pub mod DeviceStep
@@ -12,6 +13,7 @@ pub mod Layout
 pub mod Lines
 pub mod NextWork
 pub mod Looked
+pub mod NextBad
 pub mod Outcome
 pub mod Parts
 pub mod QueuePositions

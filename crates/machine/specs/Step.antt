@@ -17,7 +17,7 @@ use Rattle.console.specs.declared.size.ConsoleSize.{ConsoleSize}
 use Rattle.net.specs.Inbox.{is_frame_len, kept_of, frames_with}
 use Rattle.blk.specs.Sectors.{Sector}
 use Rattle.blk.specs.declared.request.Request.{Request}
-use Rattle.machine.specs.DeviceStep.{device_step, looked_at, message_form, MayLook}
+use Rattle.machine.specs.DeviceStep.{device_step, looked_at, wanted_of, MayLook}
 use Rattle.machine.specs.Effect.{Effect, no_effect, sets_on, applied, items_of}
 use Rattle.machine.specs.Outcome.{Outcome, fine, disk_failed, no_memory, outcome_of}
 use Rattle.machine.specs.QueuePositions.{kept_positions}
@@ -185,10 +185,10 @@ answer m (Step dev pick) o seen = step_device dev (slice_get m.devices dev) m.ra
 answer m (Input dev bytes) o seen = put_in dev (slice_get m.devices dev) bytes
 answer m (Resize dev cols rows) o seen = set_size dev (slice_get m.devices dev) (record { columns = cols; rows = rows })
 
--- What a step may see: if it looks at a queue, what that queue answers. This also says when memory may be refused.
+-- What a step may see: if it looks at a queue, what the device sees there. This also says when memory may be refused.
 abbrev pub MaySeeAt : Option DeviceState → List ℕ → ℕ → Outcome → Next → Type 0
 MaySeeAt None ram pick o seen = Unit {0}
-MaySeeAt (Some d) ram pick o seen = MayLook (message_form d.own pick) (looked_at d pick) ram o seen
+MaySeeAt (Some d) ram pick o seen = MayLook (wanted_of d.own pick) (looked_at d pick) ram o seen
 
 abbrev pub MaySee : MachineState → Event → Outcome → Next → Type 0
 MaySee m (Step dev pick) o seen = MaySeeAt (slice_get m.devices dev) m.ram pick o seen

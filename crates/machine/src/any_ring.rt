@@ -1,10 +1,15 @@
 //! A ring of the layout that the driver's features name.
 
-ghost use Rattle.std.specs.Prelude.{◌≡◌};
-ghost use Rattle.chains.specs.State.{state_of, MayRing};
-ghost use Rattle.machine.specs.AnyRing.{ring_in};
+ghost use Rattle.std.specs.Prelude.{◌≡◌, ◌<◌, true, false};
+ghost use Rattle.chains.specs.RingCore.{core_state};
+ghost use Rattle.guestmem.specs.Memory.{Memory};
+ghost use Rattle.chains.specs.Decoder.{Fits};
+ghost use Rattle.chains.specs.State.{state_of, has_bit, MayRing};
+ghost use Rattle.mmio.specs.declared.constants.TheConstants.{RING_PACKED};
+ghost use Rattle.machine.specs.Rings.{emptied};
+ghost use Rattle.machine.specs.AnyRing.{ring_in, decoder_in, is_packed_in};
 
-use chains::{Chain, Next, Positions, Ring};
+use chains::{Chain, Next, NextKind, Positions, Ring, RingCore};
 use guestmem::{NoMemory, Ram, TouchLog};
 use mmio::{Queue, RING_PACKED};
 use packedring::PackedRing;
@@ -19,16 +24,68 @@ pub(crate) enum AnyRing {
 }
 
 impl AnyRing {
-    /// The ring of a queue at these positions, under the features that the driver accepted: RING_PACKED names the
-    /// packed layout (VIRTIO 1.2, 6). It takes no memory.
-    pub fn new(alloc: Global, queue: &Queue, features: u64, positions: Positions) -> AnyRing
-        requires { MayRing (state_of queue.now features positions) }
-        ensures { ring_in result ≡ state_of queue.now features positions }
+    /// A ring of no queue yet, which keeps nothing. It takes no memory.
+    pub fn new(alloc: Global) -> AnyRing
+        ensures { (ram : Memory) → Fits (decoder_in result) ram }
     {
+        let queue = Queue {
+            size: 1,
+            descriptors: 0,
+            driver: 0,
+            device: 0,
+            is_ready: false,
+            is_notified: false,
+        };
+        AnyRing::Split(SplitRing::new(alloc, &queue, 0, Positions::FIRST))
+    }
+
+    /// Makes it the ring of a queue at these positions, under the features that the driver accepted: RING_PACKED names the
+    /// packed layout (VIRTIO 1.2, 6). What it keeps of descriptors stays, unless the layout is another one.
+    pub fn renew(&mut self, alloc: Global, queue: &Queue, features: u64, positions: Positions)
+        requires { MayRing (state_of queue.now features positions) }
+        ensures ring { ring_in self.new ≡ state_of queue.now features positions }
+        ensures kept { is_packed_in self.old ≡ has_bit features RING_PACKED → decoder_in self.new ≡ decoder_in self.old }
+        ensures fits { (ram : Memory) → Fits (decoder_in self.old) ram → Fits (decoder_in self.new) ram }
+    {
+        let core = RingCore::new(alloc, queue, features, positions);
         if features & RING_PACKED != 0 {
-            AnyRing::Packed(PackedRing::new(alloc, queue, features, positions))
+            self.renew_packed(core)
         } else {
-            AnyRing::Split(SplitRing::new(alloc, queue, features, positions))
+            self.renew_split(core)
+        }
+    }
+
+    fn renew_split(&mut self, core: RingCore)
+        ensures ring { ring_in self.new ≡ core_state false core }
+        ensures kept { is_packed_in self.old ≡ false → decoder_in self.new ≡ decoder_in self.old }
+        ensures fits { (ram : Memory) → Fits (decoder_in self.old) ram → Fits (decoder_in self.new) ram }
+    {
+        match self {
+            AnyRing::Split(ring) => ring.renew(core),
+            AnyRing::Packed(_) => *self = AnyRing::Split(SplitRing::of(core)),
+        }
+    }
+
+    fn renew_packed(&mut self, core: RingCore)
+        requires slots { (core.taking.place < core.size) × (core.used.place < core.size) }
+        ensures ring { ring_in self.new ≡ core_state true core }
+        ensures kept { is_packed_in self.old ≡ true → decoder_in self.new ≡ decoder_in self.old }
+        ensures fits { (ram : Memory) → Fits (decoder_in self.old) ram → Fits (decoder_in self.new) ram }
+    {
+        match self {
+            AnyRing::Packed(ring) => ring.renew(core),
+            AnyRing::Split(_) => *self = AnyRing::Packed(PackedRing::of(core)),
+        }
+    }
+
+    /// Empties the places for descriptors.
+    pub fn forget(&mut self)
+        ensures ring { self.new ≡ emptied self.old }
+        ensures fits { (ram : Memory) → Fits (decoder_in self.new) ram }
+    {
+        match self {
+            AnyRing::Split(ring) => ring.forget(),
+            AnyRing::Packed(ring) => ring.forget(),
         }
     }
 }
@@ -36,10 +93,19 @@ impl AnyRing {
 impl Ring for AnyRing {
     ghost state = { ring_in };
 
+    ghost decoder = { decoder_in };
+
     fn next(&mut self, ram: &Ram) -> Result<Next, NoMemory> {
         match self {
             AnyRing::Split(ring) => ring.next(ram),
             AnyRing::Packed(ring) => ring.next(ram),
+        }
+    }
+
+    fn next_into(&mut self, ram: &Ram, chain: &mut Chain) -> NextKind {
+        match self {
+            AnyRing::Split(ring) => ring.next_into(ram, chain),
+            AnyRing::Packed(ring) => ring.next_into(ram, chain),
         }
     }
 
@@ -69,6 +135,13 @@ impl Ring for AnyRing {
         match self {
             AnyRing::Split(ring) => ring.note_empty(ram, log),
             AnyRing::Packed(ring) => ring.note_empty(ram, log),
+        }
+    }
+
+    fn decoded(&self) -> u64 {
+        match self {
+            AnyRing::Split(ring) => ring.decoded(),
+            AnyRing::Packed(ring) => ring.decoded(),
         }
     }
 

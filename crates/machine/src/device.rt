@@ -1,13 +1,16 @@
 //! A device and its disk.
 
-ghost use Rattle.std.specs.Prelude.{◌≡◌, ◌<◌, ℕ, true, false, length};
+ghost use Rattle.std.specs.Prelude.{◌≡◌, ◌<◌, ◌≤◌, ℕ, IsTrue, OnErr, OnOk, count_by, is_ok, map, not, true, false, length};
+ghost use Rattle.dirtylog.specs.Members.{IsLeastFrom};
 ghost use Rattle.machine.specs.Seen.{DeviceSeen, sectors_of, marks_of};
 
+use crate::any_ring::AnyRing;
 use crate::reply::{Refusal, Reply};
 use crate::state::DeviceState;
-use blk::{Disk, Fetched, Sectors};
+use blk::{Disk, DiskFault, Fetched, Sectors};
 use console::ConsoleSize;
 use guestmem::{NoMemory, Ram, TouchLog};
+use mmio::Effect;
 use std::alloc::Global;
 use std::marker::Model;
 
@@ -27,12 +30,15 @@ impl<D: Disk> Model for Device<D> {
 impl<D: Disk> Device<D> {
     ghost use Rattle.machine.specs.Step.{ResizesDevice, register_value_of, register_set, input_of, with_input, written_out};
     ghost use Rattle.machine.specs.DeviceWork.{IsDeviceStep};
+    ghost use Rattle.chains.specs.Decoder.{Fits};
+    ghost use Rattle.machine.specs.AnyRing.{decoder_in};
+    ghost use Rattle.mmio.specs.RegisterWrite.{register_write};
     ghost use Rattle.guestmem.specs.Item.{MayPages};
     ghost use Rattle.guestmem.specs.Later.{IsLater};
     ghost use Rattle.guestmem.specs.Number.{IsBytes};
     ghost use Rattle.machine.specs.Sound.{IsSoundDevice};
     ghost use Rattle.blk.specs.Move.{MaySectors};
-    ghost use Rattle.blk.specs.Sectors.{AreWhole, IsFetched, is_failed, sector_in};
+    ghost use Rattle.blk.specs.Sectors.{AreWhole, IsFetched, bytes_of, is_bad, is_failed, sector_in};
     ghost use Rattle.machine.specs.Outcome.{is_failure};
     ghost use Rattle.machine.specs.Seen.{failed_if};
     ghost use Rattle.machine.specs.Shapes.{sector_count};
@@ -66,9 +72,15 @@ impl<D: Disk> Device<D> {
         self.state.read_register(offset, width)
     }
 
-    pub(crate) fn write_register(&mut self, offset: u32, width: u8, value: u32) -> Option<u8>
+    pub(crate) fn write_register(
+        &mut self,
+        offset: u32,
+        width: u8,
+        value: u32,
+    ) -> (Option<u8>, Effect)
         ensures device { self.new ≡ record self.old { state = register_set self.old.state offset width value } }
-        ensures out { result ≡ written_out self.old.state.own offset width value }
+        ensures out { result.0 ≡ written_out self.old.state.own offset width value }
+        ensures effect { result.1 ≡ (register_write self.old.state.registers offset width value).0 }
     {
         self.state.write_register(offset, width, value)
     }
@@ -92,9 +104,11 @@ impl<D: Disk> Device<D> {
         alloc: Global,
         number: u8,
         pick: u8,
+        ring: &mut AnyRing,
         ram: &mut Ram,
         log: &mut L,
     ) -> Reply
+        requires fits { Fits (decoder_in ring.old) ram.old }
         requires sound { IsSoundDevice (length ram.old.bytes) self.old.state }
         requires capacity { length self.old.sectors ≡ sector_count self.old.state.shape }
         requires may { MayPages L.may log.old (length ram.old.bytes) }
@@ -103,14 +117,16 @@ impl<D: Disk> Device<D> {
         ensures marks { self.new.marks ≡ failed_if (is_failure result) self.old.marks }
         ensures unsteady { is_failure result ≡ true → self.old.marks.steady ≡ false }
         ensures capacity { length self.new.sectors ≡ length self.old.sectors }
-        ensures size { length ram.new.bytes ≡ length ram.old.bytes }
         ensures bytes { IsBytes ram.new.bytes }
         ensures whole { AreWhole self.new.sectors }
         ensures later { IsLater ram.old ram.new }
+        ensures fits { Fits (decoder_in ring.new) ram.new }
     {
         let reply = match &mut self.disk {
-            Some(sectors) => self.state.step(alloc, number, pick, sectors, ram, log),
-            None => self.state.step_without_disk(alloc, pick, ram, log),
+            Some(sectors) => self
+                .state
+                .step(alloc, number, pick, ring, sectors, ram, log),
+            None => self.state.step_without_disk(alloc, pick, ring, ram, log),
         };
         ram.recall();
         self.recall();
@@ -123,6 +139,27 @@ impl<D: Disk> Device<D> {
     {
         if let Some(sectors) = &self.disk {
             sectors.recall();
+        }
+    }
+
+    /// How many sectors of its disk are bad.
+    pub(crate) fn bad_count(&self) -> u64
+        ensures { result ≡ count_by is_bad self.now.sectors }
+    {
+        match &self.disk {
+            Some(sectors) => sectors.bad_count(),
+            None => 0,
+        }
+    }
+
+    /// The least bad sector of its disk from sector `from` on, or None if there is none.
+    pub(crate) fn next_bad(&self, from: u64) -> Option<u64>
+        requires { from ≤ length self.now.sectors }
+        ensures { IsLeastFrom (map is_bad self.now.sectors) from result }
+    {
+        match &self.disk {
+            Some(sectors) => sectors.next_bad(from),
+            None => None,
         }
     }
 
@@ -139,6 +176,23 @@ impl<D: Disk> Device<D> {
             Some(sectors) => sectors.read(n, buf),
             // A device without a disk has no sectors, so this cannot be.
             None => Fetched::Bad,
+        }
+    }
+
+    /// Reads a sector of the disk that is not bad. Where the disk fails, the buffer may hold anything.
+    pub(crate) fn read_good(&mut self, n: u64, buf: &mut [u8; 512]) -> Result<(), DiskFault>
+        requires inside { n < length self.old.sectors }
+        requires good { is_bad (sector_in self.old.sectors n) ≡ false }
+        ensures state { self.new.state ≡ self.old.state }
+        ensures sectors { self.new.sectors ≡ self.old.sectors }
+        ensures marks { self.new.marks ≡ failed_if (not (is_ok result)) self.old.marks }
+        ensures unsteady { OnErr result (self.old.marks.steady ≡ false) }
+        ensures fetched { OnOk result (IsTrue self.old.marks.honest → buf.new ≡ bytes_of (sector_in self.old.sectors n)) }
+    {
+        match &mut self.disk {
+            Some(sectors) => sectors.read_good(n, buf),
+            // A device without a disk has no sectors, so this cannot be.
+            None => Err(DiskFault),
         }
     }
 }

@@ -2,7 +2,7 @@
 
 mod work;
 
-ghost use Rattle.machine.specs.AppliedLaws.{HonestDisksGiveTheirs, AnyDiskActsAlike};
+ghost use Rattle.machine.specs.AppliedLaws.{HonestDisksGiveTheirs, AnyDiskActsAlike, RefusedChangesNothing};
 ghost use Rattle.machine.specs.EffectLaws.{UntouchedStays, TouchedExists, ShapeStays};
 ghost use Rattle.machine.specs.StepLaws.{EffectsAgree, StepsAgree, RunsAgree, StepStaysWithin, StepKeepsShape, StepStaysSound, RefusalsChangeNothing, MalformedIsContained, MalformedAsksForReset};
 
@@ -77,4 +77,9 @@ pub fn honest_disks_give_theirs()
 /// that it writes.
 pub fn any_disk_acts_alike()
     ensures { AnyDiskActsAlike }
+{}
+
+/// An event that is answered `Refused` or `NoMemory` leaves the machine as it was and writes into nothing, whatever its disks do.
+pub fn refused_changes_nothing()
+    ensures { RefusedChangesNothing }
 {}

@@ -7,7 +7,8 @@
 //!
 //! A device finds its work in rings: split ones, or packed ones where the driver accepted them. What a step may see there is
 //! what the definitions of `chains` say of the RAM, so steps with equal outcomes are equal. The disk of a block device is any
-//! type that keeps the contract of the trait `Disk`.
+//! type that keeps the contract of the trait `Disk`. A machine holds two rings for each device (`specs/Rings`), with the descriptors
+//! that they keep; what they keep is part of no definition, and changes no answer.
 //!
 //! # What the layers above may rely on
 //! - `apply(event)` is a step in the sense of `specs/Step`, with the outcome that its reply reports, of the machine with its
@@ -26,7 +27,8 @@
 //! - `next_work(last)` names the next step that has something to do, in turn after `last` (`specs/NextWork`). Where it names
 //!   none, every step of every device is idle; a step that it names is not idle, or has cleared the notified flag of its queue.
 //!   It reads no RAM.
-//! - `read_sector` gives a sector, or says that it is bad, and then makes no call of the disk.
+//! - `read_sector` gives a sector, or says that it is bad, and then makes no call of the disk. `next_bad` names the next bad
+//!   sector of a disk, and `read_good_sector` reads one that is not bad, with no look at the marks.
 //! - `play(events)` is a run of steps (`specs/Run`), with a reply to each; where it is refused memory, nothing was played.
 //! - `Machine::new` gives zeros and first values, or the first of its refusals; `new_or_back` also gives the disks back.
 //!   `restore` gives the machine of what was saved. Every machine is sound (`specs/Sound`), and stays so. `lines` is the
@@ -34,9 +36,9 @@
 //! - `are_disks_of` says whether disks are those of some devices, in their order.
 //! - `laws`: what an effect does not touch stays, what it touches exists, the shape stays. Equal outcomes give equal effects,
 //!   replies and machines, whatever a guest wrote into its rings. A step of a sound machine stays within it, keeps its shape
-//!   and leaves it sound. What is refused changes nothing. A device asks for a reset exactly where it looks at a malformed
-//!   queue and memory was not refused, and nothing else changes then. An honest disk gives what it holds; over any disk a step
-//!   answers alike and writes into the same items as over an honest one.
+//!   and leaves it sound. What is refused changes nothing, whatever the disks do. A device asks for a reset exactly where it
+//!   looks at a malformed queue and memory was not refused, and nothing else changes then. An honest disk gives what it holds;
+//!   over any disk a step answers alike and writes into the same items as over an honest one.
 //!
 //! It uses `guestmem` (RAM), `mmio` (registers), the rings, `blk`, `net` and `console`, and trusts nothing else. Streams of
 //! machines are in `wire`, `sender` and `receiver`; an embedder takes all of it from the crate `vmig`.
@@ -46,6 +48,7 @@ mod any_ring;
 mod device;
 mod event;
 mod fitting;
+mod forgetting;
 pub mod laws;
 mod machine;
 mod new_error;

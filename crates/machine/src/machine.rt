@@ -1,12 +1,14 @@
 //! A machine: RAM and devices, to which one event after another is applied.
 
 mod apply;
+mod bad_sectors;
 mod direct;
 mod getters;
 mod making;
 mod next_work;
 mod parts;
 
+use crate::any_ring::AnyRing;
 use crate::device::Device;
 use crate::shape::Shape;
 use blk::Disk;
@@ -24,6 +26,8 @@ pub struct Machine<D: Disk> {
     ram: Ram,
     shapes: Vec<Shape>,
     devices: Vec<Device<D>>,
+    // Two for each device: a step makes the ring of its queue out of one, in place, with what it keeps of descriptors.
+    rings: Vec<AnyRing>,
 }
 
 impl<D: Disk> Model for Machine<D> {
@@ -31,9 +35,11 @@ impl<D: Disk> Model for Machine<D> {
 
     ghost Value = { Seen };
 
+    ghost use Rattle.std.specs.Prelude.{length};
     ghost use Rattle.machine.specs.Held.{IsHeld};
+    ghost use Rattle.machine.specs.Rings.{AreRings};
 
     ghost view = { λ m. record { memory = m.ram; devices = m.devices.items } };
 
-    ghost invariant = { λ m. IsHeld m.shapes.items (record { memory = m.ram; devices = m.devices.items }) };
+    ghost invariant = { λ m. IsHeld m.shapes.items (record { memory = m.ram; devices = m.devices.items }) × AreRings m.rings.items m.ram (length m.devices.items) };
 }

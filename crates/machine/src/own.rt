@@ -1,14 +1,12 @@
 //! What a device has that only its kind has.
 
 ghost use Rattle.std.specs.Prelude.{◌≡◌, ◌≤◌, ◌<◌, ℕ, length, not, IfOk, OnErr, true};
-ghost use Rattle.guestmem.specs.Item.{MayPages};
-ghost use Rattle.guestmem.specs.Later.{IsLater};
-ghost use Rattle.chains.specs.State.{HasAreas};
+ghost use Rattle.chains.specs.Frame.{MayServe, HasServed, MayLook, HasLooked, IsUntouched};
 ghost use Rattle.blk.specs.Advance.{advance_step, IsAfterAdvancing};
 ghost use Rattle.blk.specs.Move.{MaySectors, is_disk_failed};
 ghost use Rattle.blk.specs.Sectors.{AreWhole, IsKept};
 ghost use Rattle.blk.specs.Sound.{AreSound};
-ghost use Rattle.machine.specs.DeviceStep.{has_work, message_form, MayRefuse, served_frame, served_message, served_of, served_taking, requests_of, with_requests};
+ghost use Rattle.machine.specs.DeviceStep.{has_work, wanted_of, MayRefuse, served_frame, served_message, served_of, served_taking, requests_of, with_requests};
 ghost use Rattle.machine.specs.DeviceWork.{IsServed};
 ghost use Rattle.machine.specs.Shapes.{block_of, first_own, first_size};
 ghost use Rattle.machine.specs.Step.{IsResized, kept_own, input_of, own_with_input, written_out};
@@ -23,7 +21,7 @@ use blk::{Advanced, BlockShape, Disk, REQUESTS_MAX, Requests, Sectors, Taken};
 use chains::{Ring, Transmitted};
 use console::{ConsoleSize, HostBytes, Received, emergency_byte, receive};
 use guestmem::{NoMemory, Ram, TouchLog};
-use mmio::{QUEUE_SIZE_MAX, Queue, Regs};
+use mmio::{Queue, Regs};
 use net::{Inbox, is_frame_len};
 use std::alloc::Global;
 
@@ -156,29 +154,23 @@ impl Own {
         ram: &mut Ram,
         log: &mut L,
     ) -> Result<Served, NoMemory>
-        requires areas { HasAreas (length ram.old.bytes) (R.state ring.old) }
-        requires may { MayPages L.may log.old (length ram.old.bytes) }
-        requires few { (R.state ring.old).size ≤ QUEUE_SIZE_MAX }
+        requires ready { MayLook L.may ram.old (R.state ring.old) (R.decoder ring.old) log.old }
         requires room { has_work self.old number ≡ true }
         requires sound { AreSound (length ram.old.bytes) (R.state ring.old) (block_of shape) (requests_of self.old) }
         ensures served { IfOk result (λ served. IsServed L.after ram.old.bytes (R.state ring.old) shape self.old number log.old served ram.new.bytes (R.state ring.new) self.new log.new) }
-        ensures memory { OnErr result (MayRefuse (message_form self.old number) ram.old.bytes (R.state ring.old)) }
-        ensures ram_stays { OnErr result (ram.new ≡ ram.old) }
-        ensures ring_stays { OnErr result (R.state ring.new ≡ R.state ring.old) }
+        ensures memory { OnErr result (MayRefuse (wanted_of self.old number) ram.old.bytes (R.state ring.old)) }
+        ensures untouched { OnErr result (IsUntouched ram.old ram.new (R.state ring.old) (R.state ring.new) log.old log.new) }
         ensures own_stays { OnErr result (self.new ≡ self.old) }
-        ensures log_stays { OnErr result (log.new ≡ log.old) }
-        ensures size { length ram.new.bytes ≡ length ram.old.bytes }
-        ensures later { IsLater ram.old ram.new }
-        ensures may { MayPages L.may log.new (length ram.new.bytes) }
+        ensures after { HasLooked L.may ram.old ram.new (R.decoder ring.new) log.new }
     {
         match self {
             Own::Network(inbox) => serve_frames(alloc, inbox, number, ring, ram, log),
             Own::Console { held, .. } => serve_text(alloc, held, number, ring, ram, log),
-            Own::Block(requests) => match requests.take(ring, &block_of(shape), ram, log) {
+            Own::Block(requests) => match requests.take(alloc, ring, &block_of(shape), ram, log) {
                 Ok(taken) => Ok(served_taking(taken)),
                 Err(error) => Err(error),
             },
-            Own::Entropy(pool) => match receive(ring, pool, ram, log) {
+            Own::Entropy(pool) => match receive(alloc, ring, pool, ram, log) {
                 Ok(received) => Ok(served(received)),
                 Err(error) => Err(error),
             },
@@ -196,20 +188,17 @@ impl Own {
         ram: &mut Ram,
         log: &mut L,
     ) -> Advanced
-        requires areas { HasAreas (length ram.old.bytes) (R.state ring.old) }
-        requires few { (R.state ring.old).size ≤ QUEUE_SIZE_MAX }
+        requires ready { MayServe L.may (length ram.old.bytes) (R.state ring.old) log.old }
         requires capacity { length sectors.old.content ≡ (block_of shape).sectors }
         requires sound { AreSound (length ram.old.bytes) (R.state ring.old) (block_of shape) (requests_of self.old) }
-        requires may { MayPages L.may log.old (length ram.old.bytes) }
         requires may_sectors { MaySectors L.may log.old device (length sectors.old.content) }
         ensures changes { IsAfterAdvancing L.after sectors.old.honest device ram.old.bytes sectors.old.content log.old (λ given. advance_step (block_of shape) ram.old.bytes (R.state ring.old) given (requests_of self.old) k (not (is_disk_failed result))) result ram.new.bytes (R.state ring.new) sectors.new.content (requests_of self.new) log.new }
         ensures own { self.new ≡ with_requests self.old (requests_of self.new) }
         ensures kept { IsKept sectors.old (is_disk_failed result) sectors.new }
         ensures whole { AreWhole sectors.new.content }
         ensures sound { AreSound (length ram.new.bytes) (R.state ring.new) (block_of shape) (requests_of self.new) }
-        ensures size { length ram.new.bytes ≡ length ram.old.bytes }
-        ensures later { IsLater ram.old ram.new }
-        ensures may { MayPages L.may log.new (length ram.new.bytes) }
+        ensures after { HasServed L.may ram.old ram.new log.new }
+        ensures decoder { R.decoder ring.new ≡ R.decoder ring.old }
     {
         match self {
             Own::Block(requests) => {
@@ -232,22 +221,16 @@ fn serve_frames<R: Ring, L: TouchLog>(
     ram: &mut Ram,
     log: &mut L,
 ) -> Result<Served, NoMemory>
-    requires areas { HasAreas (length ram.old.bytes) (R.state ring.old) }
-    requires may { MayPages L.may log.old (length ram.old.bytes) }
-    requires few { (R.state ring.old).size ≤ QUEUE_SIZE_MAX }
+    requires ready { MayLook L.may ram.old (R.state ring.old) (R.decoder ring.old) log.old }
     requires work { has_work (owns.Network inbox.old) number ≡ true }
     ensures served { (shape : Shape) → IfOk result (λ served. IsServed L.after ram.old.bytes (R.state ring.old) shape (owns.Network inbox.old) number log.old served ram.new.bytes (R.state ring.new) (owns.Network inbox.new) log.new) }
-    ensures memory { OnErr result (MayRefuse (message_form (owns.Network inbox.old) number) ram.old.bytes (R.state ring.old)) }
-    ensures ram_stays { OnErr result (ram.new ≡ ram.old) }
-    ensures ring_stays { OnErr result (R.state ring.new ≡ R.state ring.old) }
+    ensures memory { OnErr result (MayRefuse (wanted_of (owns.Network inbox.old) number) ram.old.bytes (R.state ring.old)) }
+    ensures untouched { OnErr result (IsUntouched ram.old ram.new (R.state ring.old) (R.state ring.new) log.old log.new) }
     ensures inbox_stays { OnErr result (inbox.new ≡ inbox.old) }
-    ensures log_stays { OnErr result (log.new ≡ log.old) }
-    ensures size { length ram.new.bytes ≡ length ram.old.bytes }
-    ensures later { IsLater ram.old ram.new }
-    ensures may { MayPages L.may log.new (length ram.new.bytes) }
+    ensures after { HasLooked L.may ram.old ram.new (R.decoder ring.new) log.new }
 {
     if number == 0 {
-        return match net::receive(ring, inbox, ram, log) {
+        return match net::receive(alloc, ring, inbox, ram, log) {
             Ok(received) => Ok(served_frame(received)),
             Err(error) => Err(error),
         };
@@ -267,22 +250,16 @@ fn serve_text<R: Ring, L: TouchLog>(
     ram: &mut Ram,
     log: &mut L,
 ) -> Result<Served, NoMemory>
-    requires areas { HasAreas (length ram.old.bytes) (R.state ring.old) }
-    requires may { MayPages L.may log.old (length ram.old.bytes) }
-    requires few { (R.state ring.old).size ≤ QUEUE_SIZE_MAX }
+    requires ready { MayLook L.may ram.old (R.state ring.old) (R.decoder ring.old) log.old }
     requires work { has_work (owns.Console first_size held.old) number ≡ true }
     ensures served { (shape : Shape) (size : ConsoleSize) → IfOk result (λ served. IsServed L.after ram.old.bytes (R.state ring.old) shape (owns.Console size held.old) number log.old served ram.new.bytes (R.state ring.new) (owns.Console size held.new) log.new) }
-    ensures memory { OnErr result (MayRefuse (message_form (owns.Console first_size held.old) number) ram.old.bytes (R.state ring.old)) }
-    ensures ram_stays { OnErr result (ram.new ≡ ram.old) }
-    ensures ring_stays { OnErr result (R.state ring.new ≡ R.state ring.old) }
+    ensures memory { OnErr result (MayRefuse (wanted_of (owns.Console first_size held.old) number) ram.old.bytes (R.state ring.old)) }
+    ensures untouched { OnErr result (IsUntouched ram.old ram.new (R.state ring.old) (R.state ring.new) log.old log.new) }
     ensures held_stays { OnErr result (held.new ≡ held.old) }
-    ensures log_stays { OnErr result (log.new ≡ log.old) }
-    ensures size { length ram.new.bytes ≡ length ram.old.bytes }
-    ensures later { IsLater ram.old ram.new }
-    ensures may { MayPages L.may log.new (length ram.new.bytes) }
+    ensures after { HasLooked L.may ram.old ram.new (R.decoder ring.new) log.new }
 {
     if number == 0 {
-        return match receive(ring, held, ram, log) {
+        return match receive(alloc, ring, held, ram, log) {
             Ok(received) => Ok(served(received)),
             Err(error) => Err(error),
         };

@@ -44,10 +44,12 @@ impl Model for DeviceState {
 }
 
 impl DeviceState {
-    ghost use Rattle.std.specs.Prelude.{◌≡◌, ◌≤◌, ◌<◌, ℕ, [], true, false, IfOk, MatchOption, IsSome, None, Some, length, take};
+    ghost use Rattle.std.specs.Prelude.{◌≡◌, ◌≤◌, ◌<◌, ℕ, [], true, false, IfOk, None, Some, length, take};
     ghost use Rattle.guestmem.specs.Item.{MayPages};
     ghost use Rattle.guestmem.specs.Later.{IsLater};
-    ghost use Rattle.machine.specs.AnyRing.{ring_in};
+    ghost use Rattle.guestmem.specs.Memory.{Memory};
+    ghost use Rattle.chains.specs.Decoder.{Fits};
+    ghost use Rattle.machine.specs.AnyRing.{ring_in, decoder_in};
     ghost use Rattle.blk.specs.Move.{MaySectors, is_disk_failed};
     ghost use Rattle.blk.specs.Sectors.{IsKept, AreWhole};
     ghost use Rattle.machine.specs.DeviceStep.{advances, advanced_at, looks, looked_at};
@@ -55,6 +57,7 @@ impl DeviceState {
     ghost use Rattle.machine.specs.Outcome.{is_failure};
     ghost use Rattle.machine.specs.Shapes.{first_device, saved_device, sector_count, size_configuration};
     ghost use Rattle.mmio.specs.RegisterRead.{register_read};
+    ghost use Rattle.mmio.specs.RegisterWrite.{register_write};
     ghost use Rattle.machine.specs.Sound.{IsSoundDevice};
     ghost use Rattle.machine.specs.Step.{ResizesDevice, register_value_of, register_set, input_of, with_input, written_out};
 
@@ -160,17 +163,23 @@ impl DeviceState {
     }
 
     /// The driver writes a register. The result is the byte that it writes into the emergency register of a console, if
-    /// it does.
-    pub(crate) fn write_register(&mut self, offset: u32, width: u8, value: u32) -> Option<u8>
+    /// it does, and the effect of the write.
+    pub(crate) fn write_register(
+        &mut self,
+        offset: u32,
+        width: u8,
+        value: u32,
+    ) -> (Option<u8>, Effect)
         ensures device { self.new ≡ register_set self.old offset width value }
-        ensures out { result ≡ written_out self.old.own offset width value }
+        ensures out { result.0 ≡ written_out self.old.own offset width value }
+        ensures effect { result.1 ≡ (register_write self.old.registers offset width value).0 }
     {
         let out = self.own.written(offset, width, value);
-        let _effect: Effect = self.registers.write(offset, width, value);
+        let effect = self.registers.write(offset, width, value);
         let queues = self.registers.queues();
         self.positions = kept(queues, self.positions);
         self.own.keep(queues);
-        out
+        (out, effect)
     }
 
     /// Sets the size of a console.
@@ -195,27 +204,29 @@ impl DeviceState {
         alloc: Global,
         device: u8,
         pick: u8,
+        ring: &mut AnyRing,
         sectors: &mut Sectors<D>,
         ram: &mut Ram,
         log: &mut L,
     ) -> Reply
+        requires fits { Fits (decoder_in ring.old) ram.old }
         requires sound { IsSoundDevice (length ram.old.bytes) self.old }
         requires capacity { length sectors.old.content ≡ sector_count self.old.shape }
         requires may { MayPages L.may log.old (length ram.old.bytes) }
         requires may_sectors { MaySectors L.may log.old device (length sectors.old.content) }
         ensures step { IsDeviceStep L.after device sectors.old.honest ram.old.bytes sectors.old.content log.old self.old pick result ram.new.bytes sectors.new.content log.new self.new }
         ensures kept { IsKept sectors.old (is_failure result) sectors.new }
-        ensures size { length ram.new.bytes ≡ length ram.old.bytes }
         ensures later { IsLater ram.old ram.new }
+        ensures fits { Fits (decoder_in ring.new) ram.new }
     {
         sectors.recall();
-        if let Some(ring) = self.looked_ring(alloc, pick) {
+        if self.looked_ring(alloc, pick, ring) {
             return self.look(alloc, pick, ring, ram, log);
         }
-        match self.advanced_ring(alloc, pick) {
-            Some(ring) => self.advance(device, pick, ring, sectors, ram, log),
-            None => Reply::Idle,
+        if self.advanced_ring(alloc, pick, ring) {
+            return self.advance(device, pick, ring, sectors, ram, log);
         }
+        Reply::Idle
     }
 
     /// Does one piece of the work of a device that has no disk.
@@ -223,21 +234,23 @@ impl DeviceState {
         &mut self,
         alloc: Global,
         pick: u8,
+        ring: &mut AnyRing,
         ram: &mut Ram,
         log: &mut L,
     ) -> Reply
+        requires fits { Fits (decoder_in ring.old) ram.old }
         requires sound { IsSoundDevice (length ram.old.bytes) self.old }
         requires without { sector_count self.old.shape ≡ 0 }
         requires may { MayPages L.may log.old (length ram.old.bytes) }
         ensures step { (device : ℕ) → IsDeviceStep L.after device true ram.old.bytes [] log.old self.old pick result ram.new.bytes [] log.new self.new }
         ensures fine { is_failure result ≡ false }
-        ensures size { length ram.new.bytes ≡ length ram.old.bytes }
         ensures later { IsLater ram.old ram.new }
+        ensures fits { Fits (decoder_in ring.new) ram.new }
     {
-        match self.looked_ring(alloc, pick) {
-            Some(ring) => self.look(alloc, pick, ring, ram, log),
-            None => Reply::Idle,
+        if self.looked_ring(alloc, pick, ring) {
+            return self.look(alloc, pick, ring, ram, log);
         }
+        Reply::Idle
     }
 
     /// Looks at the next chain of a queue.
@@ -245,20 +258,20 @@ impl DeviceState {
         &mut self,
         alloc: Global,
         pick: u8,
-        ring: AnyRing,
+        ring: &mut AnyRing,
         ram: &mut Ram,
         log: &mut L,
     ) -> Reply
         requires sound { IsSoundDevice (length ram.old.bytes) self.old }
-        requires looked { looked_at self.old pick ≡ Some (ring_in ring) }
+        requires looked { looked_at self.old pick ≡ Some (ring_in ring.old) }
+        requires fits { Fits (decoder_in ring.old) ram.old }
         requires there { pick < length self.old.registers.queues }
         requires may { MayPages L.may log.old (length ram.old.bytes) }
-        ensures looked { IsLookedStep L.after ram.old.bytes log.old self.old pick (ring_in ring) result ram.new.bytes log.new self.new }
-        ensures size { length ram.new.bytes ≡ length ram.old.bytes }
+        ensures looked { IsLookedStep L.after ram.old.bytes log.old self.old pick (ring_in ring.old) result ram.new.bytes log.new self.new }
         ensures later { IsLater ram.old ram.new }
+        ensures fits { Fits (decoder_in ring.new) ram.new }
     {
-        let mut ring = ring;
-        match self.own.serve(alloc, self.shape, pick, &mut ring, ram, log) {
+        match self.own.serve(alloc, self.shape, pick, ring, ram, log) {
             Ok(served) => {
                 self.positions[pick as usize] = ring.positions();
                 tell(&mut self.registers, pick, served)
@@ -272,44 +285,47 @@ impl DeviceState {
         &mut self,
         device: u8,
         pick: u8,
-        ring: AnyRing,
+        ring: &mut AnyRing,
         sectors: &mut Sectors<D>,
         ram: &mut Ram,
         log: &mut L,
     ) -> Reply
         requires sound { IsSoundDevice (length ram.old.bytes) self.old }
         requires capacity { length sectors.old.content ≡ sector_count self.old.shape }
-        requires advanced { advanced_at self.old pick ≡ Some (ring_in ring) }
+        requires advanced { advanced_at self.old pick ≡ Some (ring_in ring.old) }
+        requires fits { Fits (decoder_in ring.old) ram.old }
         requires may { MayPages L.may log.old (length ram.old.bytes) }
         requires may_sectors { MaySectors L.may log.old device (length sectors.old.content) }
-        ensures advanced { IsAdvancedStep L.after device sectors.old.honest ram.old.bytes sectors.old.content log.old self.old pick (ring_in ring) result ram.new.bytes sectors.new.content log.new self.new }
+        ensures advanced { IsAdvancedStep L.after device sectors.old.honest ram.old.bytes sectors.old.content log.old self.old pick (ring_in ring.old) result ram.new.bytes sectors.new.content log.new self.new }
         ensures kept { IsKept sectors.old (is_failure result) sectors.new }
-        ensures size { length ram.new.bytes ≡ length ram.old.bytes }
         ensures later { IsLater ram.old ram.new }
+        ensures fits { Fits (decoder_in ring.new) ram.new }
     {
-        let mut ring = ring;
         let k = pick as usize - 1;
         let advanced = self
             .own
-            .advance(self.shape, k, &mut ring, sectors, device, ram, log);
+            .advance(self.shape, k, ring, sectors, device, ram, log);
         self.positions[0] = ring.positions();
         let reply = reply_to_advance(advanced);
         publish(&mut self.registers, reply, is_due(advanced))
     }
 
-    /// The ring on which the request of a pick is published, if there is such a request.
-    fn advanced_ring(&self, alloc: Global, pick: u8) -> Option<AnyRing>
+    /// Makes the ring the one on which the request of a pick is published, and says whether there is such a request.
+    fn advanced_ring(&self, alloc: Global, pick: u8, ring: &mut AnyRing) -> bool
         requires sound { (len : ℕ) × IsSoundDevice len self.now }
-        ensures ring { MatchOption result (advanced_at self.now pick ≡ None) (λ ring. advanced_at self.now pick ≡ Some (ring_in ring)) }
+        ensures ring { result ≡ true → advanced_at self.now pick ≡ Some (ring_in ring.new) }
+        ensures none { result ≡ false → advanced_at self.now pick ≡ None }
+        ensures fits { (ram : Memory) → Fits (decoder_in ring.old) ram → Fits (decoder_in ring.new) ram }
     {
         if !self.advances(pick) {
-            return None;
+            return false;
         }
         let [queue, ..] = self.registers.queues() else {
-            return None;
+            return false;
         };
         let features = self.registers.features();
-        Some(AnyRing::new(alloc, queue, features, self.positions[0]))
+        ring.renew(alloc, queue, features, self.positions[0]);
+        true
     }
 
     /// Whether a step with this pick advances an outstanding request.
@@ -319,24 +335,27 @@ impl DeviceState {
         self.registers.is_running() && pick > 0 && (pick as usize - 1) < self.own.outstanding()
     }
 
-    /// The ring that a step with this pick looks at, if it looks at one.
-    fn looked_ring(&self, alloc: Global, pick: u8) -> Option<AnyRing>
+    /// Makes the ring the one that a step with this pick looks at, and says whether it looks at one.
+    fn looked_ring(&self, alloc: Global, pick: u8, ring: &mut AnyRing) -> bool
         requires sound { (len : ℕ) × IsSoundDevice len self.now }
-        ensures ring { MatchOption result (looked_at self.now pick ≡ None) (λ ring. looked_at self.now pick ≡ Some (ring_in ring)) }
-        ensures there { IsSome result → pick < length self.now.registers.queues }
+        ensures ring { result ≡ true → looked_at self.now pick ≡ Some (ring_in ring.new) }
+        ensures none { result ≡ false → looked_at self.now pick ≡ None }
+        ensures fits { (ram : Memory) → Fits (decoder_in ring.old) ram → Fits (decoder_in ring.new) ram }
+        ensures there { result ≡ true → pick < length self.now.registers.queues }
     {
         let queues = self.registers.queues();
         let number = pick as usize;
         if number >= queues.len() {
-            return None;
+            return false;
         }
         let queue = queues[number];
         if !self.looks(pick, &queue) {
-            return None;
+            return false;
         }
         let features = self.registers.features();
         let positions = self.positions[number];
-        Some(AnyRing::new(alloc, &queue, features, positions))
+        ring.renew(alloc, &queue, features, positions);
+        true
     }
 
     /// Whether the device looks at a queue of its own.

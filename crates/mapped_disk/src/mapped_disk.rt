@@ -52,7 +52,7 @@ impl Drop for MappedDisk {
 }
 
 impl Disk for MappedDisk {
-    ghost state = { λ d. record { sectors = d.content; failures = 0; honest = true; steady = true } };
+    ghost state = { λ d. record { sectors = d.content; failures = 0; honest = true; steady = true; is_flushed = true } };
 
     fn sectors(&self) -> u64 {
         self.count

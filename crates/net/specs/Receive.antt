@@ -5,8 +5,9 @@ use Rattle.guestmem.specs.Writes.{Write, set_all, touched}
 use Rattle.chains.specs.State.{RingState}
 use Rattle.chains.specs.Places.{places}
 use Rattle.chains.specs.Publish.{event_note, is_interrupt_due, after_take, after_publish}
-use Rattle.chains.specs.ReceiveBuffer.{takes_bytes, filled}
-use Rattle.chains.specs.Ring.{Answers}
+use Rattle.chains.specs.ReceiveBuffer.{filled}
+use Rattle.chains.specs.Look.{Sees}
+use Rattle.chains.specs.declared.looking.Wanted.TheVariants.{Room}
 use Rattle.chains.specs.declared.chain.Chain.{Chain}
 use Rattle.chains.specs.declared.next.Next.{Next}
 use Rattle.chains.specs.declared.next.Next.TheVariants as next
@@ -49,12 +50,11 @@ give_first ram q [] c = drop_frame q []
 give_first ram q (frame ∷ rest) c =
     if nat_lt (length (places c.writable)) (HEADER_SIZE + length frame) then drop_frame q rest else give ram q frame rest c
 
--- The step, by what the queue answers about its next chain. If the queue is empty the event note is written. A chain that
--- the device may not write into is malformed too, and this is checked before whether the frame fits.
+-- The step, by what the device sees in the queue. If the queue is empty the event note is written.
 abbrev pub receive_step : List ℕ → RingState → List (List ℕ) → Next → Step
 receive_step ram q frames next.Empty = record { answer = Empty; writes = event_note q; ring = q; left = frames }
 receive_step ram q frames next.Malformed = refuse q frames
-receive_step ram q frames (next.Chain c) = if takes_bytes c then give_first ram q frames c else refuse q frames
+receive_step ram q frames (next.Chain c) = give_first ram q frames c
 
 -- RAM, the ring, the frames and a log after such a step.
 pub record IsAfter {L : Type 0} (after : L → Item → L) (ram : List ℕ) (log : L) (s : Step) (new_ram : List ℕ) (new_ring : RingState) (new_frames : List (List ℕ)) (new_log : L) : Type 0 where
@@ -63,9 +63,9 @@ pub record IsAfter {L : Type 0} (after : L → Item → L) (ram : List ℕ) (log
   pub frames_are : new_frames ≡ s.left
   pub log_is : new_log ≡ after_all after log (touched s.writes)
 
--- Such a step was made, by what the queue answers.
+-- Such a step was made, by what the device sees.
 pub record IsReceived {L : Type 0} (after : L → Item → L) (ram : List ℕ) (q : RingState) (frames : List (List ℕ)) (log : L) (answer : Received) (new_ram : List ℕ) (new_ring : RingState) (new_frames : List (List ℕ)) (new_log : L) : Type 0 where
   pub seen : Next
-  pub answers : Answers ram q seen
+  pub sees : Sees Room ram q seen
   pub answer_is : answer ≡ (receive_step ram q frames seen).answer
   pub changes : IsAfter after ram log (receive_step ram q frames seen) new_ram new_ring new_frames new_log

@@ -1,9 +1,7 @@
 //! The step that gives frames to the guest.
 
 ghost use Rattle.std.specs.Prelude.{◌≡◌, ◌≤◌, ◌<◌, ◌+◌, ◌∷◌, length, drop, IfOk, OnErr, slice_get, Some};
-ghost use Rattle.guestmem.specs.Item.{MayPages};
-ghost use Rattle.guestmem.specs.Later.{IsLater};
-ghost use Rattle.chains.specs.State.{HasAreas};
+ghost use Rattle.chains.specs.Frame.{MayServe, HasServed, MayLook, HasLooked, IsUntouched};
 ghost use Rattle.chains.specs.Places.{places};
 ghost use Rattle.chains.specs.Ring.{IsBounded};
 ghost use Rattle.chains.specs.LongQueue.{IsLongQueue};
@@ -11,9 +9,9 @@ ghost use Rattle.net.specs.Receive.{give_first, IsAfter, IsReceived};
 
 use crate::header::{HEADER, HEADER_SIZE};
 use crate::inbox::Inbox;
-use chains::{Chain, Next, Ring, fill, takes_bytes, total_len};
+use chains::{Chain, NextKind, Ring, Wanted, fill, look};
 use guestmem::{NoMemory, Ram, TouchLog};
-use mmio::QUEUE_SIZE_MAX;
+use std::alloc::Global;
 
 /// How a step on the receive queue went.
 #[derive(Clone, Copy, Debug, PartialEq, Eq)]
@@ -41,41 +39,26 @@ pub enum Received {
 /// Gives a header, followed by the oldest frame, to the next chain, and publishes it. Its only error is out of memory for
 /// the chain, and then nothing has changed.
 pub fn receive<R: Ring, L: TouchLog>(
+    alloc: Global,
     ring: &mut R,
     inbox: &mut Inbox,
     ram: &mut Ram,
     log: &mut L,
 ) -> Result<Received, NoMemory>
-    requires areas { HasAreas (length ram.old.bytes) (R.state ring.old) }
-    requires may { MayPages L.may log.old (length ram.old.bytes) }
-    requires few { (R.state ring.old).size ≤ QUEUE_SIZE_MAX }
+    requires ready { MayLook L.may ram.old (R.state ring.old) (R.decoder ring.old) log.old }
     requires waiting { 0 < length inbox.old }
     ensures received { IfOk result (λ answer. IsReceived L.after ram.old.bytes (R.state ring.old) inbox.old log.old answer ram.new.bytes (R.state ring.new) inbox.new log.new) }
     ensures memory { OnErr result (IsLongQueue ram.old.bytes (R.state ring.old)) }
-    ensures ram_stays { OnErr result (ram.new ≡ ram.old) }
-    ensures ring_stays { OnErr result (R.state ring.new ≡ R.state ring.old) }
+    ensures untouched { OnErr result (IsUntouched ram.old ram.new (R.state ring.old) (R.state ring.new) log.old log.new) }
     ensures frames_stay { OnErr result (inbox.new ≡ inbox.old) }
-    ensures log_stays { OnErr result (log.new ≡ log.old) }
-    ensures size { length ram.new.bytes ≡ length ram.old.bytes }
-    ensures later { IsLater ram.old ram.new }
-    ensures may { MayPages L.may log.new (length ram.new.bytes) }
+    ensures after { HasLooked L.may ram.old ram.new (R.decoder ring.new) log.new }
 {
-    let next = match ring.next(ram) {
-        Ok(next) => next,
-        Err(error) => return Err(error),
-    };
-    match next {
-        Next::Empty => {
-            ring.note_empty(ram, log);
-            Ok(Received::Empty)
-        }
-        Next::Malformed => Ok(Received::Malformed),
-        Next::Chain(chain) => {
-            if !takes_bytes(&chain) {
-                return Ok(Received::Malformed);
-            }
-            Ok(give_first(ring, inbox, &chain, ram, log))
-        }
+    let mut chain = Chain::new(alloc);
+    match look(ring, Wanted::Room, &mut chain, ram, log) {
+        NextKind::Empty => Ok(Received::Empty),
+        NextKind::Malformed => Ok(Received::Malformed),
+        NextKind::Chain => Ok(give_first(ring, inbox, &chain, ram, log)),
+        NextKind::NoMemory => Err(NoMemory),
     }
 }
 
@@ -89,20 +72,17 @@ fn give_first<R: Ring, L: TouchLog>(
     ram: &mut Ram,
     log: &mut L,
 ) -> Received
-    requires areas { HasAreas (length ram.old.bytes) (R.state ring.old) }
-    requires may { MayPages L.may log.old (length ram.old.bytes) }
+    requires ready { MayServe L.may (length ram.old.bytes) (R.state ring.old) log.old }
     requires bounded { IsBounded (length ram.old.bytes) (R.state ring.old) chain.now }
-    requires few { (R.state ring.old).size ≤ QUEUE_SIZE_MAX }
     requires waiting { 0 < length inbox.old }
     ensures answer { result ≡ (give_first ram.old.bytes (R.state ring.old) inbox.old chain.now).answer }
     ensures changes { IsAfter L.after ram.old.bytes log.old (give_first ram.old.bytes (R.state ring.old) inbox.old chain.now) ram.new.bytes (R.state ring.new) inbox.new log.new }
-    ensures size { length ram.new.bytes ≡ length ram.old.bytes }
-    ensures later { IsLater ram.old ram.new }
-    ensures may { MayPages L.may log.new (length ram.new.bytes) }
+    ensures after { HasServed L.may ram.old ram.new log.new }
+    ensures decoder { R.decoder ring.new ≡ R.decoder ring.old }
 {
     let frame = inbox.frame(0);
     let len = HEADER_SIZE + frame.len();
-    if total_len(chain.writable.as_slice()) < len as u64 {
+    if chain.writable.total_len() < len as u64 {
         inbox.remove_first();
         return Received::Dropped;
     }

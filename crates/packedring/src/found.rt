@@ -1,6 +1,7 @@
 //! What the slots at a position hold.
 
 use chains::Descriptors;
+use std::alloc::Global;
 
 /// The descriptors of consecutive slots. A table replaces the descriptor that names it.
 #[derive(Drop)]
@@ -13,4 +14,15 @@ pub(crate) struct Found {
 
     /// The descriptors, in order.
     pub(crate) all: Descriptors,
+}
+
+impl Found {
+    /// No descriptors yet.
+    pub(crate) fn new(alloc: Global) -> Found {
+        Found {
+            id: 0,
+            slots: 1,
+            all: Descriptors::new(alloc),
+        }
+    }
 }

@@ -2,15 +2,16 @@
 //!
 //! A packed queue has one ring of descriptors, which the driver and the device both write, and for each of them a small area that says
 //! when it wants to be notified. A wrap counter separates what was written this time round from what is left of the last one. The ring
-//! keeps nothing of what guest memory holds: it reads the chain anew at each call, and a hostile driver can make it return nothing but
-//! what is there.
+//! keeps up to sixteen of the descriptors that it has read, and uses one only while its page has not changed since: a hostile driver can
+//! make it return nothing but what is there. Publishing writes into that page, so mostly it is a look repeated on the same RAM that
+//! finds them.
 //!
 //! # What the layers above may rely on
 //! The contracts are those of the trait, over the definitions of `chains` (`PackedChain` and `Publish` among its specs). `new` makes
 //! the ring of a ready queue under the driver's features, at the positions given.
 //!
 //! Looking for a chain decodes at most one descriptor more than there are slots, whatever RAM holds: a walk stops after one round, and
-//! a table with more entries than slots is refused before it is read. That is argued here, and no contract says it.
+//! a table with more entries than slots is refused before it is read. That is the clause `few` of the trait.
 //!
 //! `specs/Walk` has the definitions for the functions inside. Nothing is trusted here beside the crates below.
 #![tactic(auto)]
@@ -23,3 +24,6 @@ mod table;
 mod walk;
 
 pub use ring::PackedRing;
+
+#[cfg(test)]
+mod tests;

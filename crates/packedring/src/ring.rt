@@ -1,6 +1,9 @@
 //! A packed ring.
 
-ghost use Rattle.std.specs.Prelude.{◌≡◌, ◌≤◌, ◌<◌, ◌+◌, ◌++◌, true, IfOk, OnErr, MatchOption, length, IsTrue, ◌↔◌};
+ghost use Rattle.std.specs.Prelude.{◌≡◌, ◌≤◌, ◌<◌, ◌+◌, ◌++◌, true, length, IsTrue, ◌↔◌};
+ghost use Rattle.guestmem.specs.Memory.{Memory};
+ghost use Rattle.chains.specs.Decoder.{Fits, empty_decoder};
+ghost use Rattle.chains.specs.RingCore.{core_state};
 ghost use Rattle.chains.specs.State.{state_of, MayRing, HasAreas};
 ghost use Rattle.chains.specs.Descriptor.{descriptor_at};
 ghost use Rattle.chains.specs.PackedChain.{IsAvailable};
@@ -8,13 +11,14 @@ ghost use Rattle.chains.specs.Publish.{is_packed_due, bit_if};
 ghost use Rattle.byteorder.specs.Endian.{little_bytes};
 
 use crate::events::{DESC, DISABLE, FLAG_VALUES, FLAGS, asking_at, is_covered};
+use crate::found::Found;
 use crate::going_on::going_on;
 use crate::table::find;
 use byteorder::{ByteOrder, LittleEndian};
 use chains::flags::{AVAIL, USED, WRITE};
 use chains::{
-    Chain, DESCRIPTOR_SIZE, Descriptor, Next, Positions, Ring, RingCore, is_whole, read_descriptor,
-    segments,
+    Chain, DESCRIPTOR_SIZE, Decoder, Descriptor, Next, NextKind, Positions, Ring, RingCore, Walked,
+    fill_segments, is_whole,
 };
 use guestmem::{NoMemory, Ram, TouchLog};
 use mmio::Queue;
@@ -28,71 +32,104 @@ const LENGTH: u64 = 8;
 #[derive(Drop)]
 pub struct PackedRing {
     core: RingCore,
+    decoder: Decoder,
 }
 
 impl Model for PackedRing {
     ghost use Rattle.std.specs.Prelude.{◌<◌, true};
-    ghost use Rattle.chains.specs.State.{RingState};
+    ghost use Rattle.chains.specs.RingSeen.{RingSeen};
     ghost use Rattle.chains.specs.RingCore.{core_state};
 
-    ghost Value = { RingState };
+    ghost Value = { RingSeen };
 
-    ghost view = { λ r. core_state true r.core };
+    ghost view = { λ r. record { state = core_state true r.core; decoder = r.decoder } };
 
     ghost invariant = { λ r. (r.core.taking.place < r.core.size) × (r.core.used.place < r.core.size) };
 }
 
 impl PackedRing {
-    ghost use Rattle.chains.specs.PackedChain.{IsPackedChain};
-    ghost use Rattle.chains.specs.LongQueue.{IsLongPacked};
-    ghost use Rattle.chains.specs.declared.chain.Chain.{Chain as C};
+    ghost use Rattle.packedring.specs.Walk.{ChainGives};
 
     /// The ring of a queue at these positions, under the features that the driver accepted. It takes no memory: the
-    /// allocator is for the chains that it finds.
+    /// allocator is for the chains that it finds. It has decoded nothing, so what it keeps fits every RAM.
     pub fn new(alloc: Global, queue: &Queue, features: u64, positions: Positions) -> PackedRing
         requires layout { (state_of queue.now features positions).is_packed ≡ true }
         requires state { MayRing (state_of queue.now features positions) }
-        ensures { result ≡ state_of queue.now features positions }
+        ensures state { result.state ≡ state_of queue.now features positions }
+        ensures decoder { result.decoder ≡ empty_decoder 0 }
+        ensures fits { (ram : Memory) → Fits result.decoder ram }
+    {
+        PackedRing::of(RingCore::new(alloc, queue, features, positions))
+    }
+
+    /// The ring of this core, which has decoded nothing.
+    pub fn of(core: RingCore) -> PackedRing
+        requires slots { (core.taking.place < core.size) × (core.used.place < core.size) }
+        ensures state { result.state ≡ core_state true core }
+        ensures decoder { result.decoder ≡ empty_decoder 0 }
+        ensures fits { (ram : Memory) → Fits result.decoder ram }
     {
         PackedRing {
-            core: RingCore::new(alloc, queue, features, positions),
+            core,
+            decoder: Decoder::new(),
         }
     }
 
-    /// The chain at the taking position, if there is one. `first` is the descriptor there, which is available.
-    fn chain(&self, ram: &Ram, first: Descriptor) -> Result<Option<Chain>, NoMemory>
-        requires areas { HasAreas (length ram.now.bytes) self.now }
-        requires first { first ≡ descriptor_at true ram.now.bytes self.now.descriptors self.now.taking.place }
-        ensures chain { IfOk result (λ found. MatchOption found
-            ((c : C) → ¬ (IsPackedChain ram.now.bytes self.now c))
-            (IsPackedChain ram.now.bytes self.now)) }
-        ensures memory { OnErr result (IsLongPacked ram.now.bytes self.now) }
+    /// Makes it the ring of this core, in place. What it keeps stays: each descriptor is kept with its address, so it may be the
+    /// core of another queue.
+    pub fn renew(&mut self, core: RingCore)
+        requires slots { (core.taking.place < core.size) × (core.used.place < core.size) }
+        ensures { self.new ≡ record { state = core_state true core; decoder = self.old.decoder } }
+    {
+        self.core = core;
+    }
+
+    /// Empties the places for descriptors.
+    pub fn forget(&mut self)
+        ensures ring { self.new ≡ record { state = self.old.state; decoder = empty_decoder self.old.decoder.decoded } }
+        ensures fits { (ram : Memory) → Fits self.new.decoder ram }
+    {
+        self.decoder.clear();
+    }
+
+    /// Fills in the chain at the taking position, if there is one. `first` is the descriptor there, which is available.
+    fn fill_chain(&mut self, ram: &Ram, first: Descriptor, chain: &mut Chain) -> Walked
+        requires areas { HasAreas (length ram.now.bytes) self.old.state }
+        requires first { first ≡ descriptor_at true ram.now.bytes self.old.state.descriptors self.old.state.taking.place }
+        requires fits { Fits self.old.decoder ram.now }
+        ensures gives { ChainGives ram.now.bytes self.old.state chain.new result }
+        ensures state { self.new.state ≡ self.old.state }
+        ensures fits { Fits self.new.decoder ram.now }
+        ensures few { self.new.decoder.decoded ≤ self.old.decoder.decoded + self.old.state.size }
+        ensures rises { self.old.decoder.decoded ≤ self.new.decoder.decoded }
     {
         ram.recall();
         let core = &self.core;
-        let Some(found) = find(core, ram, first)? else {
-            return Ok(None);
-        };
+        let mut found = Found::new(core.alloc);
+        match find(core, &mut self.decoder, ram, first, &mut found) {
+            Walked::Listed => {}
+            Walked::Missing => return Walked::Missing,
+            Walked::NoMemory => return Walked::NoMemory,
+        }
         let all = found.all.as_slice();
         // A rule of both layouts.
         if !is_whole(all, ram, core.size) {
-            return Ok(None);
+            return Walked::Missing;
         }
-        let (readable, writable) = segments(core.alloc, all)?;
-        Ok(Some(Chain {
-            id: found.id,
-            slots: found.slots,
-            readable,
-            writable,
-        }))
+        chain.id = found.id;
+        chain.slots = found.slots;
+        let Ok(()) = fill_segments(all, &mut chain.readable, &mut chain.writable) else {
+            return Walked::NoMemory;
+        };
+        Walked::Listed
     }
 
     /// Whether the driver asks for an interrupt for a chain of `slots` slots at the used position, by what it holds in
     /// RAM now.
     #[tactic(auto, unfolding(chains::specs::Publish::is_packed_due))]
     fn is_due(&self, slots: u16, ram: &Ram) -> bool
-        requires { HasAreas (length ram.now.bytes) self.now }
-        ensures { result ≡ is_packed_due self.now slots ram.now.bytes }
+        requires { HasAreas (length ram.now.bytes) self.now.state }
+        ensures { result ≡ is_packed_due self.now.state slots ram.now.bytes }
     {
         ram.recall();
         let core = &self.core;
@@ -108,18 +145,32 @@ impl PackedRing {
 }
 
 impl Ring for PackedRing {
-    ghost state = { λ r. r };
+    ghost state = { λ r. r.state };
+
+    ghost decoder = { λ r. r.decoder };
 
     fn next(&mut self, ram: &Ram) -> Result<Next, NoMemory> {
+        let mut chain = Chain::new(self.core.alloc);
+        match self.next_into(ram, &mut chain) {
+            NextKind::Empty => Ok(Next::Empty),
+            NextKind::Malformed => Ok(Next::Malformed),
+            NextKind::Chain => Ok(Next::Chain(chain)),
+            NextKind::NoMemory => Err(NoMemory),
+        }
+    }
+
+    fn next_into(&mut self, ram: &Ram, chain: &mut Chain) -> NextKind {
         ram.recall();
         let taking = self.core.taking;
-        let first = read_descriptor(ram, true, self.core.descriptors, taking.place);
+        let table = self.core.descriptors;
+        let first = self.decoder.read(ram, true, table, taking.place, true);
         if !is_available(&first, taking.wrap) {
-            return Ok(Next::Empty);
+            return NextKind::Empty;
         }
-        match self.chain(ram, first)? {
-            Some(chain) => Ok(Next::Chain(chain)),
-            None => Ok(Next::Malformed),
+        match self.fill_chain(ram, first, chain) {
+            Walked::Listed => NextKind::Chain,
+            Walked::Missing => NextKind::Malformed,
+            Walked::NoMemory => NextKind::NoMemory,
         }
     }
 
@@ -152,6 +203,10 @@ impl Ring for PackedRing {
         if self.core.has_event_index {
             ram.put(self.core.device, &asking_at(self.core.taking), log);
         }
+    }
+
+    fn decoded(&self) -> u64 {
+        self.decoder.decoded()
     }
 
     fn positions(&self) -> Positions {

@@ -1,7 +1,7 @@
 -- The rounds that ended in what was read, and what a slice is refused for.
-use Rattle.std.proofs.Common.{◌≡◌, ℕ, ◌<◌, ◌⊎◌, inl, inr, true, false, List, [], ◌∷◌, ◌++◌, drop, refl, sym, ap, ◌∙◌, append_assoc, append-nil}
-use Rattle.std.proofs.lemmas.List.{take-append-drop}
+use Rattle.std.proofs.Common.{◌≡◌, ℕ, ◌<◌, ◌⊎◌, inl, inr, true, List, [], ◌∷◌, ◌++◌, refl, sym, ap, ◌∙◌, append_assoc, append-nil}
 use Rattle.sha2.specs.Sha256.{sha256}
+use Rattle.sha2.specs.declared.Sha256.{Sha256}
 use Rattle.wire.specs.Records.{Record, spelled_record}
 use Rattle.wire.specs.Stream.{texts, rounds}
 use Rattle.blk.specs.Disk.{DiskState}
@@ -12,13 +12,13 @@ use Rattle.wire.proofs.Unique.{alike}
 use Rattle.receiver.specs.Disks.{MarksRefused, sizes_in}
 use Rattle.receiver.specs.Good.{AreGood}
 use Rattle.receiver.specs.Faults.{IsFront, Fault}
-use Rattle.receiver.specs.Receiving.{IsKnown, IsFinish, HasRounds, NoNext, NoFault, RefusesSlice, TellsFault, TellsNow, rounds_in, has_failed}
+use Rattle.receiver.specs.Receiving.{IsFinish, IsTaken, HasRounds, NoNext, NoFault, RefusesSlice, TellsFault, TellsNow, rounds_in, has_failed}
 use Rattle.receiver.specs.declared.stage.Stage.{Stage}
 use Rattle.receiver.specs.declared.stage.Stage.TheVariants as stages
 use Rattle.receiver.specs.declared.recv_error.RecvError.{RecvError}
 use Rattle.receiver.specs.declared.recv_error.RecvError.TheVariants as errors
 use Rattle.receiver.proofs.Aligned.{LongerRecords, records_led, good_spell, next_good}
-use Rattle.receiver.proofs.Knowing.{no_other}
+use Rattle.receiver.proofs.Knowing.{come_of, no_other}
 use Rattle.receiver.proofs.Working.{front_of, commit_text, tells_more}
 
 not_longer : (pages : ℕ) (shapes : List Shape) (before others : List Record) (tail rest : List ℕ) → AreGood pages shapes [] others → NoNext pages shapes before tail → (more : List Record) → others ≡ before ++ more → tail ≡ texts more ++ rest → others ≡ before
@@ -48,16 +48,20 @@ rounds_by sizes b p ss before tail n f none e = record {
   some = λ q ts others rest g nothing. e ∙ ap rounds (sym (same_records sizes b p q ss ts before others tail rest f none g nothing));
 }
 
-pub rounds_known : (ds : List DiskState) (held : List ℕ) (at : ℕ) (stage : Stage) → IsKnown ds held at stage → has_failed stage ≡ false → HasRounds (sizes_in ds) held (rounds_in stage)
-rounds_known ds held at stages.Head k f = record { none = λ never. refl; some = λ p ss before tail g none. absurd (k.0.no_header p ss (texts before ++ tail) g.begins) }
-rounds_known ds held at (stages.Records i) k f =
-    let o = k.open_at in
-    rounds_by (sizes_in ds) held k.pages k.shapes o.before (drop at held) i.rounds (front_of held (drop at held) o.read (sym (take-append-drop at held))) (λ r y g e. o.waits.no_record r y g.spells e) o.read.rounds_are
-rounds_known ds held at (stages.Ended i) k f =
-    let w = k.ended in
-    let whole : held ≡ w.front ++ (5 ∷ sha256 w.front) = w.whole ∙ ap (λ (x : List ℕ). w.front ++ x) (commit_text (sha256 w.front)) in
-    rounds_by (sizes_in ds) held k.pages k.shapes w.before (5 ∷ sha256 w.front) i.rounds (front_of held (5 ∷ sha256 w.front) w.read whole) (λ r y g e. no_other k.pages k.shapes w.before (sha256 w.front) r y g e) w.read.rounds_are
-rounds_known ds held at stages.Failed k f = absurd cc
+pub rounds_known : (ds : List DiskState) (digest : Sha256) (bytes held : List ℕ) (stage : Stage) → IsTaken ds digest bytes held stage → HasRounds (sizes_in ds) bytes (rounds_in stage)
+rounds_known ds digest bytes held stages.Head t =
+    let same : bytes ≡ held = t.whole ∙ ap (λ (x : List ℕ). x ++ held) t.known.0 in
+    rw same (record { none = λ never. refl; some = λ p ss before tail g none. absurd (t.known.2.no_header p ss (texts before ++ tail) g.begins) })
+rounds_known ds digest bytes held (stages.Records i) t =
+    let r = t.known.1 in
+    let o = r.open_at in
+    rounds_by (sizes_in ds) bytes r.pages r.shapes o.before held i.rounds (front_of bytes held o.read t.whole) (λ r y g e. o.waits.no_record r y g.spells e) o.read.rounds_are
+rounds_known ds digest bytes held (stages.Ended i) t =
+    let h = come_of ds digest bytes held i t in
+    let w = h.ended in
+    let whole : bytes ≡ w.front ++ (5 ∷ sha256 w.front) = w.whole ∙ ap (λ (x : List ℕ). w.front ++ x) (commit_text (sha256 w.front)) in
+    rounds_by (sizes_in ds) bytes h.pages h.shapes w.before (5 ∷ sha256 w.front) i.rounds (front_of bytes (5 ∷ sha256 w.front) w.read whole) (λ r y g e. no_other h.pages h.shapes w.before (sha256 w.front) r y g e) w.read.rounds_are
+rounds_known ds digest bytes held stages.Failed t = absurd t.known
 
 pub none_failed : (stage : Stage) → has_failed stage ≡ true → rounds_in stage ≡ 0
 none_failed stages.Head e = refl

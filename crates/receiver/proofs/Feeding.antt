@@ -1,41 +1,33 @@
 -- A piece more, and the end.
-use Rattle.std.proofs.Common.{◌≡◌, ℕ, ◌<◌, ◌≤◌, ◌⊎◌, inl, inr, Bool, true, false, suc, List, [], ◌∷◌, ◌++◌, length, map, take, drop, refl, sym, ap, ◌∙◌, arith}
+use Rattle.std.proofs.Common.{◌≡◌, ℕ, ◌<◌, ◌≤◌, ◌⊎◌, inl, inr, Bool, true, false, suc, List, [], ◌∷◌, ◌++◌, length, map, take, drop, refl, sym, ap, subst, ◌∙◌, append_assoc, append-nil}
+use Rattle.std.specs.Prelude.{Ok, Err}
 use Rattle.std.proofs.lemmas.Bool.{cases_lt}
-use Rattle.std.proofs.lemmas.List.{length-append, take_at}
+use Rattle.std.proofs.lemmas.List.{take_at}
+use Rattle.sha2.specs.declared.Sha256.{Sha256}
 use Rattle.blk.specs.Disk.{DiskState}
+use Rattle.guestmem.specs.Number.{IsBytes}
+use Rattle.guestmem.specs.ByteLaws.{IsBytes-append}
 use Rattle.wire.proofs.Spelling.{tail_same}
 use Rattle.machine.specs.First.{marks_in}
-use Rattle.machine.specs.Seen.{Marks}
-use Rattle.receiver.specs.Disks.{MarksRefused, disk_marks_of, sizes_in, sizes_of}
+use Rattle.receiver.specs.Disks.{MarksRefused, all_marks_in, disk_marks_of, sizes_in, sizes_of}
 use Rattle.receiver.specs.Faults.{Fault}
-use Rattle.receiver.specs.Receiving.{IsKnown, GoesOn, NoFault, TellsFault, TellsNow, has_failed}
+use Rattle.receiver.specs.Receiving.{HasBeenFed, IsKnown, IsReceiver, IsTaken, NoFault, Received, TellsFault, TellsNow, Took, has_failed, received_by}
 use Rattle.receiver.specs.declared.stage.Stage.{Stage}
 use Rattle.receiver.specs.declared.stage.Stage.TheVariants as stages
 use Rattle.receiver.specs.declared.recv_error.RecvError.{RecvError}
-use Rattle.receiver.proofs.Knowing.{place_within, no_fault_known}
+use Rattle.receiver.proofs.Knowing.{no_fault_known}
+use Rattle.receiver.proofs.Lists.{empty}
 use Rattle.receiver.proofs.Prefixes.{holds}
 use Rattle.receiver.proofs.Working.{tells_more}
-
-pub goes_on_of : (stage : Stage) → has_failed stage ≡ false → GoesOn stage
-goes_on_of stages.Head e = tt
-goes_on_of (stages.Records i) e = tt
-goes_on_of (stages.Ended i) e = tt
-goes_on_of stages.Failed e = absurd cc
-
-pub not_failed : (stage : Stage) → GoesOn stage → has_failed stage ≡ false
-not_failed stages.Head g = refl
-not_failed (stages.Records i) g = refl
-not_failed (stages.Ended i) g = refl
-not_failed stages.Failed g = absurd g
-
-pub within_more : (ds : List DiskState) (old piece held : List ℕ) (at : ℕ) (stage : Stage) → IsKnown ds old at stage → has_failed stage ≡ false → held ≡ old ++ piece → at ≤ length held
-within_more ds old piece held at stage k f e = omega (arith, place_within ds old at stage k (goes_on_of stage f), ap length e, length-append old piece)
 
 pub true_false : (b : Bool) → b ≡ true → b ≡ false → ⊥
 true_false b t f = let no : true ≡ false = sym t ∙ f in cc
 
-pub quiet_more : (ds : List DiskState) (old piece held b : List ℕ) (at : ℕ) (stage : Stage) → IsKnown ds held at stage → GoesOn stage → held ≡ old ++ piece → old ≡ b → NoFault (sizes_in ds) (b ++ piece)
-quiet_more ds old piece held b at stage k g e f = rw (e ∙ ap (λ (x : List ℕ). x ++ piece) f) at (no_fault_known ds held at stage k g)
+pub not_failed : (ds : List DiskState) (digest : Sha256) (front held : List ℕ) (stage : Stage) → IsKnown ds digest front held stage → has_failed stage ≡ false
+not_failed ds digest front held stages.Head k = refl
+not_failed ds digest front held (stages.Records i) k = refl
+not_failed ds digest front held (stages.Ended i) k = refl
+not_failed ds digest front held stages.Failed k = absurd k
 
 later_by : (sizes old piece : List ℕ) (e : RecvError) (at : ℕ) → NoFault sizes old → Fault sizes (old ++ piece) e at → (length old < at) ⊎ (at ≤ length old) → length old < at
 later_by sizes old piece e at none f (inl lt) = lt
@@ -45,10 +37,74 @@ later_by sizes old piece e at none f (inr le) = absurd (none e at (holds sizes o
 later : (sizes old piece : List ℕ) (e : RecvError) (at : ℕ) → NoFault sizes old → Fault sizes (old ++ piece) e at → length old < at
 later sizes old piece e at none f = later_by sizes old piece e at none f (cases_lt (length old) at)
 
-pub told_more : (sizes old piece held b : List ℕ) (e : RecvError) → TellsFault sizes held e → NoFault sizes old → held ≡ old ++ piece → old ≡ b → TellsNow sizes b piece e
-told_more sizes old piece held b e t none is f =
-    rw f at (tells_more ((at : ℕ) × Fault sizes held e at) ((at : ℕ) × (length old < at) × Fault sizes (old ++ piece) e at) e
-    (λ x. let here : Fault sizes (old ++ piece) e x.0 = rw is at x.1 in (x.0, later sizes old piece e x.0 none here, here)) t)
+told_more : (sizes b piece : List ℕ) (e : RecvError) → TellsFault sizes (b ++ piece) e → NoFault sizes b → TellsNow sizes b piece e
+told_more sizes b piece e t none =
+    tells_more ((at : ℕ) × Fault sizes (b ++ piece) e at) ((at : ℕ) × (length b < at) × Fault sizes (b ++ piece) e at) e (λ x. (x.0, later sizes b piece e x.0 none x.1, x.1)) t
+
+-- A piece is taken or refused.
+pub record GoesOn (r : Received) (piece : List ℕ) (next : Received) : Type 0 where
+  pub sizes : next.sizes ≡ r.sizes
+  pub marks : next.marks ≡ r.marks
+  pub fed : (b : List ℕ) → HasBeenFed r b → HasBeenFed next (b ++ piece)
+  pub quiet : (b : List ℕ) → HasBeenFed r b → NoFault r.sizes (b ++ piece)
+
+pub record IsRefused (r : Received) (piece : List ℕ) (disks : List DiskState) (e : RecvError) : Type 0 where
+  pub sizes : sizes_in disks ≡ r.sizes
+  pub marks : MarksRefused r.marks e (all_marks_in disks)
+  pub told : (b : List ℕ) → HasBeenFed r b → TellsNow r.sizes b piece e
+
+all_bytes : (front held piece b : List ℕ) → b ≡ front ++ held → b ++ piece ≡ front ++ (held ++ piece)
+all_bytes front held piece b is = ap (λ (x : List ℕ). x ++ piece) is ∙ append_assoc front held piece
+
+taken_on : (old ds : List DiskState) (digest : Sha256) (front held piece b rest : List ℕ) (next : Stage) → b ≡ front ++ held → Took old ds digest (front ++ (held ++ piece)) rest (Ok next) → IsTaken ds digest (b ++ piece) rest next
+taken_on old ds digest front held piece b rest next is t =
+    let P : List ℕ → Type 0 = λ x. IsTaken ds digest x rest next in
+    subst P (sym (all_bytes front held piece b is)) t.1
+
+pub goes_on : (ds new : List DiskState) (stage next : Stage) (d e : Sha256) (held rest piece : List ℕ) → IsBytes piece → (front : List ℕ) × IsKnown ds d front held stage
+    → ((front : List ℕ) → IsKnown ds d front held stage → Took ds new e (front ++ (held ++ piece)) rest (Ok next)) → GoesOn (received_by ds stage d held) piece (received_by new next e rest)
+goes_on ds new stage next d e held rest piece are some took =
+    let first = took some.0 some.1 in
+    let more : (b : List ℕ) → HasBeenFed (received_by ds stage d held) b → IsTaken new e (b ++ piece) rest next =
+    λ b h. taken_on ds new e h.taken.front held piece b rest next h.taken.whole (took h.taken.front h.taken.known) in
+    record {
+      sizes = first.0.sizes;
+      marks = first.0.marks;
+      fed = λ b h. record { goes_on = not_failed new e (more b h).front rest next (more b h).known; bytes = IsBytes-append b piece h.bytes are; taken = more b h };
+      quiet = λ b h. rw (← first.0.sizes) (no_fault_known new e (b ++ piece) rest next (more b h));
+    }
+
+pub is_refused : (ds new : List DiskState) (stage : Stage) (d f : Sha256) (held rest piece : List ℕ) (e : RecvError) → (front : List ℕ) × IsKnown ds d front held stage
+    → ((front : List ℕ) → IsKnown ds d front held stage → Took ds new f (front ++ (held ++ piece)) rest (Err e)) → IsRefused (received_by ds stage d held) piece new e
+is_refused ds new stage d f held rest piece e some took =
+    let first = took some.0 some.1 in
+    record {
+      sizes = first.0.sizes;
+      marks = first.0.marks;
+      told = λ b h.
+          let t = took h.taken.front h.taken.known in
+          let told : TellsFault (sizes_in ds) (b ++ piece) e = rw (all_bytes h.taken.front held piece b h.taken.whole) t.1 in
+          told_more (sizes_in ds) b piece e told (no_fault_known ds d b held stage h.taken);
+    }
+
+pub is_receiver : (ds : List DiskState) (digest : Sha256) (held : List ℕ) (room : ℕ) (stage : Stage) (front : List ℕ) → IsKnown ds digest front held stage → length held ≤ 131077 → 131078 ≤ room → IsReceiver ds digest held room stage
+is_receiver ds digest held room stage front known few roomy = record {
+  known = λ on. (front, known);
+  few = few;
+  gone = λ failed. absurd (true_false _ failed (not_failed ds digest front held stage known));
+  roomy = λ past. roomy;
+}
+
+-- An empty piece.
+pub nothing_more : (r : Received) (piece b : List ℕ) → length piece ≡ 0 → HasBeenFed r b → HasBeenFed r (b ++ piece)
+nothing_more r piece b none h =
+    let same : b ++ piece ≡ b = ap (λ (x : List ℕ). b ++ x) (empty piece none) ∙ append-nil b in
+    rw same h
+
+pub quiet_still : (ds : List DiskState) (stage : Stage) (d : Sha256) (held piece b : List ℕ) → length piece ≡ 0 → HasBeenFed (received_by ds stage d held) b → NoFault (sizes_in ds) (b ++ piece)
+quiet_still ds stage d held piece b none h =
+    let same : b ++ piece ≡ b = ap (λ (x : List ℕ). b ++ x) (empty piece none) ∙ append-nil b in
+    rw same (no_fault_known ds d b held stage h.taken)
 
 -- The disks that were lent, as they come back.
 pub same_count : {D : Type 0} (state : D → DiskState) (old new : List D) → sizes_of state new ≡ sizes_of state old → length new ≡ length old
@@ -63,7 +119,3 @@ given_back old new len same is = take_at new (drop (length new) old) len (same �
 pub marks_mapped : {D : Type 0} (state : D → DiskState) (disks : List D) → map (λ d. marks_in (state d)) disks ≡ disk_marks_of state disks
 marks_mapped state [] = refl
 marks_mapped state (d ∷ disks) = ap (λ ms. marks_in (state d) ∷ ms) (marks_mapped state disks)
-
--- Two lists of marks are as others were.
-pub marks_from : (a b c d : List Marks) (e : RecvError) → a ≡ b → c ≡ d → MarksRefused b e d → MarksRefused a e c
-marks_from a b c d e f g h = rw (f, g) h

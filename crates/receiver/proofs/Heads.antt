@@ -138,6 +138,21 @@ some_length number len e =
     has_some (eqb number 1) 7 _ (omega arith) (has_some (eqb number 2) 30 _ (omega arith)
     (has_some (eqb number 3) 1 _ (omega arith) (has_some (eqb number 4) 1 None (omega arith) (λ n none. absurd cc)))) len e
 
+-- No shape has more than 30.
+few_by : (b : Bool) (n : ℕ) (other : Option ℕ) → n ≤ 30 → ((len : ℕ) → other ≡ Some len → len ≤ 30) → (len : ℕ) → cond b (Some n) other ≡ Some len → len ≤ 30
+few_by true n other few others len e = let same : n ≡ len = same_found n len e in omega (arith, few, same)
+few_by false n other few others len e = others len e
+
+pub few_length : (number len : ℕ) → shape_length number ≡ Some len → len ≤ 30
+few_length number len e =
+    few_by (eqb number 1) 7 _ (omega arith) (few_by (eqb number 2) 30 _ (omega arith)
+    (few_by (eqb number 3) 1 _ (omega arith) (few_by (eqb number 4) 1 None (omega arith) (λ n none. absurd cc)))) len e
+
+pub few_spelled : (bytes rest : List ℕ) (s : Shape) → IsSoundShape s → bytes ≡ spelled_shape s ++ rest → length bytes ≤ length rest + 30
+few_spelled bytes rest s good e =
+    let l = length_shape s good in
+    omega (arith, few_length l.number (suc (length l.others)) l.long, ap length e, length-append (spelled_shape s) rest, ap length l.is)
+
 pub beyond_shape : (number len : ℕ) (bytes others : List ℕ) → shape_of bytes ≡ None → bytes ≡ number ∷ others → shape_length number ≡ Some len → 0 < len → len ≤ length bytes → BadFirst bytes
 beyond_shape number len bytes others none is long some le =
     let kept = first_kept bytes others number len is some in

@@ -1,9 +1,10 @@
 -- What a receiver knows of its bytes.
-use Rattle.std.proofs.Common.{◌≡◌, ℕ, ◌+◌, ◌/◌, ◌≤◌, ◌⊎◌, inl, inr, Some, None, Option, Bool, true, false, List, [], ◌∷◌, ◌++◌, length, map, drop, get_or, refl, sym, ap, ◌∙◌, append_assoc, append-nil, arith}
+use Rattle.std.proofs.Common.{◌≡◌, ℕ, ◌+◌, ◌/◌, ◌⊎◌, inl, inr, Some, None, Option, Bool, true, false, List, [], ◌∷◌, ◌++◌, length, map, get_or, refl, sym, ap, ◌∙◌, append_assoc, append-nil, arith}
 use Rattle.std.specs.Prelude.{All, is_some}
-use Rattle.std.proofs.lemmas.List.{length-append, take-append-drop}
+use Rattle.std.proofs.lemmas.List.{length-append}
 use Rattle.std.proofs.lemmas.List.Elements.{All-from_recursion}
 use Rattle.sha2.specs.Sha256.{sha256}
+use Rattle.sha2.specs.declared.Sha256.{Sha256}
 use Rattle.sha2.proofs.Facts256.{length-sha256}
 use Rattle.guestmem.specs.Number.{IsBytes}
 use Rattle.wire.specs.DeviceBody.{body}
@@ -29,7 +30,7 @@ use Rattle.receiver.specs.Good.{Follows, devices_in}
 use Rattle.receiver.specs.Faults.{IsComplete, IsBadDigest, IsTrailing, IsFault, IsFront}
 use Rattle.receiver.specs.Fed.{HasRead, IsEnded, device_records, held_sectors}
 use Rattle.receiver.specs.Heading.{WaitsHead}
-use Rattle.receiver.specs.Receiving.{IsKnown, IsReading, HasCome, GoesOn, IsWholeFor, NoFault}
+use Rattle.receiver.specs.Receiving.{IsKnown, IsReading, IsTaken, HasCome, IsWholeFor, NoFault}
 use Rattle.receiver.specs.declared.intake.Intake.{Intake}
 use Rattle.receiver.specs.declared.stage.Stage.{Stage}
 use Rattle.receiver.specs.declared.stage.Stage.TheVariants as stages
@@ -42,12 +43,6 @@ use Rattle.receiver.proofs.Working.{front_of, commit_text}
 
 pub nothing_known : WaitsHead []
 nothing_known = head_short [] (omega arith) (λ at h. omega (arith, h.long)) (λ at h. omega (arith, h.long))
-
-pub place_within : (ds : List DiskState) (held : List ℕ) (at : ℕ) (stage : Stage) → IsKnown ds held at stage → GoesOn stage → at ≤ length held
-place_within ds held at stages.Head k g = omega (arith, k.1)
-place_within ds held at (stages.Records i) k g = k.within
-place_within ds held at (stages.Ended i) k g = omega (arith, k.at_end)
-place_within ds held at stages.Failed k g = absurd g
 
 -- The digest is no other record, and has no fault.
 
@@ -90,24 +85,34 @@ no_fault_head : (sizes held : List ℕ) → WaitsHead held → NoFault sizes hel
 no_fault_head sizes held w k at (inl h) = w.no_fault sizes k at h
 no_fault_head sizes held w k at (inr h) = w.no_header h.pages h.shapes (texts h.before ++ h.tail) h.front.begins
 
-no_fault_reading : (ds : List DiskState) (held : List ℕ) (at : ℕ) (i : Intake) → IsReading ds held at i → NoFault (sizes_in ds) held
-no_fault_reading ds held at i r =
+no_fault_reading : (ds : List DiskState) (front held : List ℕ) (i : Intake) → IsReading ds front held i → NoFault (sizes_in ds) (front ++ held)
+no_fault_reading ds front held i r =
     let o = r.open_at in
-    quiet_front (sizes_in ds) held r.pages r.shapes o.before (drop at held) (front_of held (drop at held) o.read (sym (take-append-drop at held))) (λ s y f e. o.waits.no_record s y f.spells e) o.waits.no_fault
+    quiet_front (sizes_in ds) (front ++ held) r.pages r.shapes o.before held (front_of (front ++ held) held o.read refl) (λ s y f e. o.waits.no_record s y f.spells e) o.waits.no_fault
 
-no_fault_come : (ds : List DiskState) (held : List ℕ) (at : ℕ) (i : Intake) → HasCome ds held at i → NoFault (sizes_in ds) held
-no_fault_come ds held at i h =
+no_fault_come : (ds : List DiskState) (bytes : List ℕ) (i : Intake) → HasCome ds bytes i → NoFault (sizes_in ds) bytes
+no_fault_come ds bytes i h =
     let w = h.ended in
-    let whole : held ≡ w.front ++ (5 ∷ sha256 w.front) = w.whole ∙ ap (λ (x : List ℕ). w.front ++ x) (commit_text (sha256 w.front)) in
-    quiet_front (sizes_in ds) held h.pages h.shapes w.before (5 ∷ sha256 w.front) (front_of held (5 ∷ sha256 w.front) w.read whole)
+    let whole : bytes ≡ w.front ++ (5 ∷ sha256 w.front) = w.whole ∙ ap (λ (x : List ℕ). w.front ++ x) (commit_text (sha256 w.front)) in
+    quiet_front (sizes_in ds) bytes h.pages h.shapes w.before (5 ∷ sha256 w.front) (front_of bytes (5 ∷ sha256 w.front) w.read whole)
     (λ s y f e. no_other h.pages h.shapes w.before (sha256 w.front) s y f e) (end_quiet h.pages h.shapes w.before (sha256 w.front) w.complete (ap sha256 w.read.whole))
 
+none_held : (front held : List ℕ) → held ≡ [] → front ++ held ≡ front
+none_held front held none = ap (λ (x : List ℕ). front ++ x) none ∙ append-nil front
+
 -- No fault stands in what was fed while no refusal came.
-pub no_fault_known : (ds : List DiskState) (held : List ℕ) (at : ℕ) (stage : Stage) → IsKnown ds held at stage → GoesOn stage → NoFault (sizes_in ds) held
-no_fault_known ds held at stages.Head k g = no_fault_head (sizes_in ds) held k.0
-no_fault_known ds held at (stages.Records i) k g = no_fault_reading ds held at i k
-no_fault_known ds held at (stages.Ended i) k g = no_fault_come ds held at i k
-no_fault_known ds held at stages.Failed k g = absurd g
+no_fault_in_stage : (ds : List DiskState) (digest : Sha256) (front held : List ℕ) (stage : Stage) → IsKnown ds digest front held stage → NoFault (sizes_in ds) (front ++ held)
+no_fault_in_stage ds digest front held stages.Head k = rw (k.0) (no_fault_head (sizes_in ds) held k.2)
+no_fault_in_stage ds digest front held (stages.Records i) k = no_fault_reading ds front held i k.1
+no_fault_in_stage ds digest front held (stages.Ended i) k = rw (none_held front held k.0) (no_fault_come ds front i k.1)
+no_fault_in_stage ds digest front held stages.Failed k = absurd k
+
+pub no_fault_known : (ds : List DiskState) (digest : Sha256) (bytes held : List ℕ) (stage : Stage) → IsTaken ds digest bytes held stage → NoFault (sizes_in ds) bytes
+no_fault_known ds digest bytes held stage t = rw (t.whole) (no_fault_in_stage ds digest t.front held stage t.known)
+
+-- All bytes of a stream that has ended.
+pub come_of : (ds : List DiskState) (digest : Sha256) (bytes held : List ℕ) (i : Intake) → IsTaken ds digest bytes held (stages.Ended i) → HasCome ds bytes i
+come_of ds digest bytes held i t = rw (t.whole ∙ none_held t.front held t.known.0) t.known.1
 
 -- A whole stream.
 

@@ -110,7 +110,7 @@ says_at b c pages count long h = record {
   count_is = sym (number_at-append 12 4 b c (omega (arith, long))) ∙ h.count_is;
 }
 
-header_stays : (sizes b c : List ℕ) (k : RecvError) (p : ℕ) → IsHeaderFault sizes b k p → IsHeaderFault sizes (b ++ c) k p
+pub header_stays : (sizes b c : List ℕ) (k : RecvError) (p : ℕ) → IsHeaderFault sizes b k p → IsHeaderFault sizes (b ++ c) k p
 header_stays sizes b c errors.BadMagic p h = record { long = omega (arith, h.long, length-append b c); never = λ e. h.never (sym (number_at-append 0 4 b c (omega (arith, h.long))) ∙ e); there = h.there }
 header_stays sizes b c errors.BadVersion p h = record { long = omega (arith, h.long, length-append b c); magic = number_at-append 0 4 b c (omega (arith, h.long)) ∙ h.magic; never = λ e. h.never (sym (number_at-append 4 4 b c (omega (arith, h.long))) ∙ e); there = h.there }
 header_stays sizes b c errors.BadShape p (inl h) = inl (record { pages = h.pages; count = h.count; says = says_on b c h.pages h.count h.says; never = h.never; there = h.there })

@@ -44,7 +44,7 @@ there_by ds front pages shapes before i dev n h are has =
     let disk = disk_below shapes ds dev n h.head.sound h.fits has in
     let size = disk_size shapes ds dev n h.head.sound h.fits has in
     let l = layout_by pages shapes in
-    let first : DiskState = record { sectors = []; failures = 0; honest = true; steady = true } in
+    let first : DiskState = record { sectors = []; failures = 0; honest = true; steady = true; is_flushed = true } in
     record {
       place = rw are low;
       count = λ shape. rw are (count_at shapes dev n shape has);

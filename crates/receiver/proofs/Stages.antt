@@ -1,22 +1,27 @@
 -- From one stage to the next.
-use Rattle.std.proofs.Common.{◌≡◌, ◌≢◌, ℕ, ◌*◌, ◌<◌, ◌≤◌, false, inl, List, [], ◌∷◌, ◌++◌, length, take, drop, map, replicate, refl, sym, ap, ◌∙◌, append_assoc, append-nil, arith}
-use Rattle.std.proofs.lemmas.List.{take_at, length-append, length-drop, length-replicate, take-append-le}
+use Rattle.std.proofs.Common.{◌≡◌, ◌≢◌, ℕ, ◌+◌, ◌*◌, ◌<◌, ◌≤◌, false, inl, List, [], ◌∷◌, ◌++◌, length, take, drop, map, replicate, refl, sym, ap, ◌∙◌, append_assoc, append-nil, arith}
+use Rattle.std.proofs.lemmas.List.{take_at, length-append, length-drop, length-replicate, take-append-drop, drop-drop}
+use Rattle.std.proofs.Math.Seq.{take-add}
+use Rattle.sha2.specs.Hashers.{Holds256}
 use Rattle.sha2.specs.Sha256.{sha256}
+use Rattle.sha2.specs.declared.Sha256.{Sha256}
 use Rattle.wire.specs.Header.{header, Begins}
 use Rattle.wire.specs.Records.{Record}
 use Rattle.wire.specs.Stream.{texts, rounds}
 use Rattle.blk.specs.Disk.{DiskState}
 use Rattle.machine.specs.Layout.{firsts_of, layout_by, size_of}
 use Rattle.machine.specs.declared.shape.Shape.{Shape}
-use Rattle.receiver.proofs.Lists.{empty}
+use Rattle.receiver.proofs.Lists.{empty, take_all}
 use Rattle.receiver.proofs.Takings.{new_taken}
 use Rattle.receiver.specs.Good.{AreGood}
 use Rattle.machine.specs.Shapes.{disk_sizes}
-use Rattle.receiver.specs.Disks.{AreHonestDisks, AreRefused, all_marks_in, sizes_in}
+use Rattle.receiver.specs.Disks.{AreHonestDisks, AreKept, AreRefused, all_marks_in, sizes_in}
 use Rattle.receiver.specs.Heading.{TellsHead}
 use Rattle.receiver.specs.Faults.{IsComplete, IsTrailing, IsHeaderFault, Fault}
 use Rattle.receiver.specs.Fed.{HasRead, Tells, IsOpen, IsEnded, device_records, held_sectors}
-use Rattle.receiver.specs.Receiving.{IsReading, HasCome}
+use Rattle.receiver.specs.Receiving.{HasCome, IsKnown}
+use Rattle.receiver.specs.declared.stage.Stage.{Stage}
+use Rattle.receiver.specs.declared.stage.Stage.TheVariants as stages
 use Rattle.receiver.specs.declared.intake.Intake.{Intake}
 use Rattle.receiver.specs.declared.recv_error.RecvError.{RecvError}
 use Rattle.receiver.specs.declared.recv_error.RecvError.TheVariants as errors
@@ -83,17 +88,30 @@ header_refused ds held e t = (refused_kept ds e (never_disk_head (sizes_in ds) h
 
 -- Records were worked off.
 
-pub now_ended : (ds : List DiskState) (held : List ℕ) (pages : ℕ) (shapes : List Shape) (i : Intake) (at : ℕ) → (at ≡ length held) × IsEnded ds pages shapes i held → HasCome ds held at i
-now_ended ds held pages shapes i at h = record { pages = pages; shapes = shapes; ended = h.1; at_end = h.0 }
+pub now_ended : (ds : List DiskState) (digest : Sha256) (front bytes : List ℕ) (pages : ℕ) (shapes : List Shape) (i : Intake) (at : ℕ) → at ≡ length bytes → IsEnded ds pages shapes i (front ++ bytes)
+    → IsKnown ds digest (front ++ take at bytes) (drop at bytes) (stages.Ended i)
+now_ended ds digest front bytes pages shapes i at all h =
+    let rest : drop at bytes ≡ [] = empty (drop at bytes) (omega (arith, all, length-drop at bytes)) in
+    let same : front ++ take at bytes ≡ front ++ bytes = ap (λ (x : List ℕ). front ++ x) (take_all at bytes (omega (arith, all))) in
+    (rest, record { pages = pages; shapes = shapes; ended = rw same h })
 
-pub now_reading : (ds : List DiskState) (held : List ℕ) (pages : ℕ) (shapes : List Shape) (i : Intake) (at : ℕ) → at ≤ length held → IsOpen ds pages shapes i (take at held) (drop at held) → IsReading ds held at i
-now_reading ds held pages shapes i at le h = record { pages = pages; shapes = shapes; within = le; open_at = h }
+pub now_reading : (ds : List DiskState) (digest : Sha256) (front held : List ℕ) (pages : ℕ) (shapes : List Shape) (i : Intake) → Holds256 digest front → IsOpen ds pages shapes i front held → IsKnown ds digest front held (stages.Records i)
+now_reading ds digest front held pages shapes i d h = (d, record { pages = pages; shapes = shapes; open_at = h })
+
+-- The records after the header, which has `len` bytes.
+headed : (len at : ℕ) (bytes : List ℕ) → take len bytes ++ take at (drop len bytes) ≡ take (len + at) bytes
+headed len at bytes = sym (take-add len at bytes)
+
+pub behind_header : (old ds : List DiskState) (digest : Sha256) (bytes : List ℕ) (len at : ℕ) (stage : Stage) → AreKept old ds × IsKnown ds digest (take len bytes ++ take at (drop len bytes)) (drop at (drop len bytes)) stage
+    → AreKept old ds × IsKnown ds digest (take (len + at) bytes) (drop (len + at) bytes) stage
+behind_header old ds digest bytes len at stage h =
+    let rest : drop at (drop len bytes) ≡ drop (len + at) bytes = drop-drop at len bytes in
+    (h.0, rw (← headed len at bytes, ← rest) h.1)
+
+pub refused_behind : (old ds : List DiskState) (bytes : List ℕ) (len : ℕ) (e : RecvError) → AreRefused old ds e × Tells e ((at : ℕ) × Fault (sizes_in old) (take len bytes ++ drop len bytes) e at) → AreRefused old ds e × Tells e ((at : ℕ) × Fault (sizes_in old) bytes e at)
+refused_behind old ds bytes len e h = rw (take-append-drop len bytes) at h
 
 -- A piece more.
-
-pub still_read : (ds : List DiskState) (old piece held : List ℕ) (pages : ℕ) (shapes : List Shape) (before : List Record) (i : Intake) (at : ℕ) → at ≤ length old → held ≡ old ++ piece → HasRead ds pages shapes before i (take at old) → HasRead ds pages shapes before i (take at held)
-still_read ds old piece held pages shapes before i at le e h =
-    let same : take at held ≡ take at old = ap (take at) e ∙ take-append-le at old piece le in rw same h
 
 trailing_of : (pages : ℕ) (shapes : List Shape) (before : List Record) (digest front piece : List ℕ) → IsComplete pages shapes before 5 → front ≡ header pages shapes ++ texts before → 0 < length piece → digest ≡ sha256 front
     → IsTrailing pages shapes before ((5 ∷ digest) ++ piece) 34
@@ -109,16 +127,14 @@ trailing_of pages shapes before digest front (byte ∷ more) complete e some sam
   there = refl;
 }
 
-pub trailing_piece : (ds : List DiskState) (old piece held : List ℕ) (at : ℕ) (i : Intake) → HasCome ds old at i → held ≡ old ++ piece → at < length held → AreRefused ds ds errors.Trailing × ((k : ℕ) × Fault (sizes_in ds) held errors.Trailing k)
-trailing_piece ds old piece held at i h e lt =
-    let some : 0 < length piece = omega (arith, lt, h.at_end, ap length e, length-append old piece) in
+pub trailing_piece : (ds : List DiskState) (old piece : List ℕ) (i : Intake) → HasCome ds old i → 0 < length piece → AreRefused ds ds errors.Trailing × ((k : ℕ) × Fault (sizes_in ds) (old ++ piece) errors.Trailing k)
+trailing_piece ds old piece i h some =
     let w = h.ended in
     let text : old ≡ w.front ++ (5 ∷ sha256 w.front) = w.whole ∙ ap (λ (x : List ℕ). w.front ++ x) (commit_text (sha256 w.front)) in
-    let whole : held ≡ w.front ++ ((5 ∷ sha256 w.front) ++ piece) = e ∙ ap (λ (x : List ℕ). x ++ piece) text ∙ append_assoc w.front (5 ∷ sha256 w.front) piece in
-    (refused_kept ds errors.Trailing (λ same. cc), fault_here held ((5 ∷ sha256 w.front) ++ piece) errors.Trailing w.read whole (34, trailing_of h.pages h.shapes w.before (sha256 w.front) w.front piece w.complete w.read.whole some refl))
+    let whole : old ++ piece ≡ w.front ++ ((5 ∷ sha256 w.front) ++ piece) = ap (λ (x : List ℕ). x ++ piece) text ∙ append_assoc w.front (5 ∷ sha256 w.front) piece in
+    (refused_kept ds errors.Trailing (λ same. cc), fault_here (old ++ piece) ((5 ∷ sha256 w.front) ++ piece) errors.Trailing w.read whole (34, trailing_of h.pages h.shapes w.before (sha256 w.front) w.front piece w.complete w.read.whole some refl))
 
-pub still_come : (ds : List DiskState) (old piece held : List ℕ) (at : ℕ) (i : Intake) → HasCome ds old at i → held ≡ old ++ piece → length held ≤ at → HasCome ds held at i
-still_come ds old piece held at i h e le =
-    let none : piece ≡ [] = empty piece (omega (arith, le, h.at_end, ap length e, length-append old piece)) in
-    let same : held ≡ old = e ∙ ap (λ (x : List ℕ). old ++ x) none ∙ append-nil old in
-    rw same h
+pub still_come : (ds : List DiskState) (digest : Sha256) (front bytes : List ℕ) (i : Intake) → HasCome ds front i → length bytes ≡ 0 → IsKnown ds digest (front ++ take 0 bytes) (drop 0 bytes) (stages.Ended i)
+still_come ds digest front bytes i h none =
+    let same : front ++ take 0 bytes ≡ front = append-nil front in
+    (empty bytes none, rw same h)

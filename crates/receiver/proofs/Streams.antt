@@ -1,6 +1,6 @@
 -- A stream that is not whole.
-use Rattle.std.proofs.Common.{◌≡◌, ℕ, suc, ◌+◌, ◌≤◌, ◌⊎◌, inl, inr, List, [], ◌∷◌, ◌++◌, length, drop, refl, sym, ap, subst, ◌∙◌, append_assoc, append-nil, arith}
-use Rattle.std.proofs.lemmas.List.{take-append-drop, drop_at}
+use Rattle.std.proofs.Common.{◌≡◌, ℕ, suc, ◌+◌, ◌≤◌, ◌⊎◌, inl, inr, List, [], ◌∷◌, ◌++◌, length, refl, sym, ap, subst, ◌∙◌, append_assoc, append-nil, arith}
+use Rattle.std.proofs.lemmas.List.{drop_at}
 use Rattle.std.proofs.lemmas.List.Elements.{recursion_from_All}
 use Rattle.std.specs.List.{AllByRecursion}
 use Rattle.sha2.specs.Sha256.{sha256}
@@ -66,11 +66,10 @@ not_led pages shapes before others tail digest good spell none other (inr l) = n
 pub no_stream_head : (held : List ℕ) (m : MachineState) → WaitsHead held → ¬ (IsStream held m)
 no_stream_head held m w s = w.no_header (pages_of m) (shapes_in m.devices) _ (stream_begins s.by)
 
-pub no_stream_reading : (ds : List DiskState) (held : List ℕ) (at : ℕ) (i : Intake) (m : MachineState) → IsBytes held → IsReading ds held at i → ¬ (IsStream held m)
-no_stream_reading ds held at i m are r s =
+pub no_stream_reading : (ds : List DiskState) (read tail held : List ℕ) (i : Intake) (m : MachineState) → IsBytes held → held ≡ read ++ tail → IsReading ds read tail i → ¬ (IsStream held m)
+no_stream_reading ds read tail held i m are parts r s =
     let o = r.open_at in
-    let tail = drop at held in
-    let front = front_of held tail o.read (sym (take-append-drop at held)) in
+    let front = front_of held tail o.read parts in
     let before_all = before_commit (pages_of m) s.entries m.devices in
     let digest = sha256 before_all in
     let others = s.entries ++ device_records 0 m.devices in

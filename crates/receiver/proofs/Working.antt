@@ -2,7 +2,9 @@
 use Rattle.std.proofs.Common.{◌≡◌, ◌≢◌, ℕ, ◌+◌, ◌<◌, ◌≤◌, inr, List, [], ◌∷◌, ◌++◌, length, take, drop, refl, sym, ap, subst, ◌∙◌, append_assoc, append-nil, arith}
 use Rattle.std.proofs.lemmas.List.{take-append-drop, length-append, length-drop}
 use Rattle.std.proofs.Math.Seq.{take-add}
+use Rattle.sha2.specs.Hashers.{Holds256}
 use Rattle.sha2.specs.Sha256.{sha256}
+use Rattle.sha2.specs.declared.Sha256.{Sha256}
 use Rattle.sha2.proofs.Facts256.{length-sha256}
 use Rattle.wire.specs.Header.{header}
 use Rattle.wire.specs.Records.{Record, commit, spelled_record}
@@ -93,17 +95,26 @@ pub fault_refused : (ds : List DiskState) (pages : ℕ) (shapes : List Shape) (b
 fault_refused ds pages shapes before tail e f = (refused_kept ds e (never_disk pages shapes before tail e f.0 f.1), tells _ e f)
 
 -- Whole good records so far.
-pub record SoFar (old ds : List DiskState) (pages : ℕ) (shapes : List Shape) (i : Intake) (front : List ℕ) : Type 0 where
+pub record SoFar (old ds : List DiskState) (pages : ℕ) (shapes : List Shape) (i : Intake) (digest : Sha256) (front : List ℕ) : Type 0 where
   pub before : List Record
   pub same : AreKept old ds
+  pub digested : Holds256 digest front
   pub read : HasRead ds pages shapes before i front
 
-pub nothing_yet : (ds : List DiskState) (pages : ℕ) (shapes : List Shape) (before : List Record) (i : Intake) (front : List ℕ) → HasRead ds pages shapes before i front → SoFar ds ds pages shapes i front
-nothing_yet ds pages shapes before i front h = record { before = before; same = kept ds; read = h }
+pub nothing_yet : (ds : List DiskState) (pages : ℕ) (shapes : List Shape) (before : List Record) (i : Intake) (digest : Sha256) (front bytes : List ℕ) → Holds256 digest front → HasRead ds pages shapes before i front → SoFar ds ds pages shapes i digest (front ++ take 0 bytes)
+nothing_yet ds pages shapes before i digest front bytes d h =
+    let same : front ++ take 0 bytes ≡ front = append-nil front in
+    record { before = before; same = kept ds; digested = rw same d; read = rw same h }
 
-pub one_more : (old ds new : List DiskState) (pages : ℕ) (shapes : List Shape) (before : List Record) (i : Intake) (held : List ℕ) (at len : ℕ) → AreKept old ds → AreKept ds new × ((r : Record) × HasRead new pages shapes (before ++ r ∷ []) i (take at held ++ take len (drop at held)))
-    → SoFar old new pages shapes i (take (at + len) held)
-one_more old ds new pages shapes before i held at len same h = record { before = before ++ h.1.0 ∷ []; same = then_kept old ds new same h.0; read = rw (take-add at len held) h.1.1 }
+more_taken : (front bytes : List ℕ) (at len : ℕ) → (front ++ take at bytes) ++ take len (drop at bytes) ≡ front ++ take (at + len) bytes
+more_taken front bytes at len = append_assoc front (take at bytes) (take len (drop at bytes)) ∙ ap (λ (x : List ℕ). front ++ x) (sym (take-add at len bytes))
+
+pub one_more : (old ds new : List DiskState) (pages : ℕ) (shapes : List Shape) (before : List Record) (i : Intake) (digest : Sha256) (front bytes : List ℕ) (at len : ℕ) → AreKept old ds → Holds256 digest ((front ++ take at bytes) ++ take len (drop at bytes))
+    → AreKept ds new × ((r : Record) × HasRead new pages shapes (before ++ r ∷ []) i ((front ++ take at bytes) ++ take len (drop at bytes))) → SoFar old new pages shapes i digest (front ++ take (at + len) bytes)
+one_more old ds new pages shapes before i digest front bytes at len same d h =
+    let P : List ℕ → Type 0 = λ x. Holds256 digest x in
+    let Q : List ℕ → Type 0 = λ x. HasRead new pages shapes (before ++ h.1.0 ∷ []) i x in
+    record { before = before ++ h.1.0 ∷ []; same = then_kept old ds new same h.0; digested = subst P (more_taken front bytes at len) d; read = subst Q (more_taken front bytes at len) h.1.1 }
 
 pub front_of : {ds : List DiskState} {pages : ℕ} {shapes : List Shape} {before : List Record} {i : Intake} {front : List ℕ} (bytes tail : List ℕ) → HasRead ds pages shapes before i front → bytes ≡ front ++ tail → IsFront (sizes_in ds) bytes pages shapes before tail
 front_of {pages = pages} {shapes = shapes} {before = before} bytes tail h e = record {
@@ -117,30 +128,32 @@ pub fault_here : {ds : List DiskState} {pages : ℕ} {shapes : List Shape} {befo
 fault_here {pages = pages} {shapes = shapes} {before = before} bytes tail e h is f =
     (length (header pages shapes ++ texts before) + f.0, inr (record { pages = pages; shapes = shapes; before = before; tail = tail; place = f.0; front = front_of bytes tail h is; fault = f.1; there = refl }))
 
-cut : (held : List ℕ) (at : ℕ) → held ≡ take at held ++ drop at held
-cut held at = sym (take-append-drop at held)
+pub cut : (front bytes : List ℕ) (at : ℕ) → front ++ bytes ≡ (front ++ take at bytes) ++ drop at bytes
+cut front bytes at = ap (λ (x : List ℕ). front ++ x) (sym (take-append-drop at bytes)) ∙ sym (append_assoc front (take at bytes) (drop at bytes))
 
-pub refused : (old ds new : List DiskState) (pages : ℕ) (shapes : List Shape) (before : List Record) (i : Intake) (held : List ℕ) (at : ℕ) (e : RecvError) → AreKept old ds → HasRead ds pages shapes before i (take at held)
-    → AreRefused ds new e × Tells e ((place : ℕ) × IsFault pages shapes before (drop at held) e place) → AreRefused old new e × Tells e ((k : ℕ) × Fault (sizes_in old) held e k)
-refused old ds new pages shapes before i held at e same h t =
-    (then_refused old ds new e same t.0, tells_more _ _ e (λ f. subst (λ sizes. (k : ℕ) × Fault sizes held e k) same.sizes (fault_here held (drop at held) e h (cut held at) f)) t.1)
+pub refused : (old ds new : List DiskState) (pages : ℕ) (shapes : List Shape) (before : List Record) (i : Intake) (front bytes : List ℕ) (at : ℕ) (e : RecvError) → AreKept old ds → HasRead ds pages shapes before i (front ++ take at bytes)
+    → AreRefused ds new e × Tells e ((place : ℕ) × IsFault pages shapes before (drop at bytes) e place) → AreRefused old new e × Tells e ((k : ℕ) × Fault (sizes_in old) (front ++ bytes) e k)
+refused old ds new pages shapes before i front bytes at e same h t =
+    (then_refused old ds new e same t.0, tells_more _ _ e (λ f. subst (λ sizes. (k : ℕ) × Fault sizes (front ++ bytes) e k) same.sizes (fault_here (front ++ bytes) (drop at bytes) e h (cut front bytes at) f)) t.1)
 
-pub waiting : (old ds new : List DiskState) (pages : ℕ) (shapes : List Shape) (before : List Record) (i : Intake) (front tail : List ℕ) → AreKept old ds → AreKept ds new × HasRead new pages shapes before i front × Waits pages shapes before tail → AreKept old new × IsOpen new pages shapes i front tail
-waiting old ds new pages shapes before i front tail same h = (then_kept old ds new same h.0, record { before = before; read = h.1; waits = h.2 })
+pub waiting : (old ds new : List DiskState) (pages : ℕ) (shapes : List Shape) (before : List Record) (i : Intake) (digest : Sha256) (front tail : List ℕ) → AreKept old ds → Holds256 digest front → AreKept ds new × HasRead new pages shapes before i front × Waits pages shapes before tail
+    → AreKept old new × Holds256 digest front × IsOpen new pages shapes i front tail
+waiting old ds new pages shapes before i digest front tail same d h = (then_kept old ds new same h.0, d, record { before = before; read = h.1; waits = h.2 })
 
-pub at_end : (old ds : List DiskState) (pages : ℕ) (shapes : List Shape) (i : Intake) (held : List ℕ) (at : ℕ) → SoFar old ds pages shapes i (take at held) → length held ≤ at → AreKept old ds × IsOpen ds pages shapes i (take at held) (drop at held)
-at_end old ds pages shapes i held at h le = (h.same, record { before = h.before; read = h.read; waits = nothing_waits pages shapes h.before (drop at held) (omega (arith, le, length-drop at held)) })
+pub at_end : (old ds : List DiskState) (pages : ℕ) (shapes : List Shape) (i : Intake) (digest : Sha256) (front bytes : List ℕ) (at : ℕ) → SoFar old ds pages shapes i digest (front ++ take at bytes) → length bytes ≤ at
+    → AreKept old ds × Holds256 digest (front ++ take at bytes) × IsOpen ds pages shapes i (front ++ take at bytes) (drop at bytes)
+at_end old ds pages shapes i digest front bytes at h le = (h.same, h.digested, record { before = h.before; read = h.read; waits = nothing_waits pages shapes h.before (drop at bytes) (omega (arith, le, length-drop at bytes)) })
 
 trailing_by : (pages : ℕ) (shapes : List Shape) (before : List Record) (tail more : List ℕ) → Opens pages shapes before tail 5 (sha256 (header pages shapes ++ texts before) ++ more) → 33 < length tail → IsTrailing pages shapes before tail 34
 trailing_by pages shapes before tail [] o long = absurd (omega (arith, long, ap length o.whole, length-append (sha256 (header pages shapes ++ texts before)) [], length-sha256 (header pages shapes ++ texts before)))
 trailing_by pages shapes before tail (byte ∷ more) o long = record { byte = byte; more = more; opens = o; there = refl }
 
-pub trailing : (old ds new : List DiskState) (pages : ℕ) (shapes : List Shape) (before : List Record) (i : Intake) (held : List ℕ) (at : ℕ) → AreKept old ds → AreKept ds new × HasRead new pages shapes before i (take at held) × Ends pages shapes before (drop at held) → at + 33 < length held
-    → AreRefused old new errors.Trailing × ((k : ℕ) × Fault (sizes_in old) held errors.Trailing k)
-trailing old ds new pages shapes before i held at same h long =
+pub trailing : (old ds new : List DiskState) (pages : ℕ) (shapes : List Shape) (before : List Record) (i : Intake) (front bytes : List ℕ) (at : ℕ) → AreKept old ds → AreKept ds new × HasRead new pages shapes before i (front ++ take at bytes) × Ends pages shapes before (drop at bytes) → at + 33 < length bytes
+    → AreRefused old new errors.Trailing × ((k : ℕ) × Fault (sizes_in old) (front ++ bytes) errors.Trailing k)
+trailing old ds new pages shapes before i front bytes at same h long =
     let both = then_kept old ds new same h.0 in (
       record { sizes = both.sizes; marks = both.marks },
-      subst (λ sizes. (k : ℕ) × Fault sizes held errors.Trailing k) both.sizes (fault_here held (drop at held) errors.Trailing h.1 (cut held at) (34, trailing_by pages shapes before (drop at held) h.2.more h.2.opens (omega (arith, long, length-drop at held)))),
+      subst (λ sizes. (k : ℕ) × Fault sizes (front ++ bytes) errors.Trailing k) both.sizes (fault_here (front ++ bytes) (drop at bytes) errors.Trailing h.1 (cut front bytes at) (34, trailing_by pages shapes before (drop at bytes) h.2.more h.2.opens (omega (arith, long, length-drop at bytes)))),
     )
 
 ended_by : (pages : ℕ) (shapes : List Shape) (before : List Record) (tail more : List ℕ) → Opens pages shapes before tail 5 (sha256 (header pages shapes ++ texts before) ++ more) → length tail ≤ 33 → tail ≡ 5 ∷ sha256 (header pages shapes ++ texts before)
@@ -151,18 +164,19 @@ pub commit_text : (digest : List ℕ) → spelled_record (commit digest) ≡ 5 �
 unfolding spelled_record
 commit_text digest = refl
 
-pub ended : (old ds new : List DiskState) (pages : ℕ) (shapes : List Shape) (before : List Record) (i : Intake) (held : List ℕ) (at : ℕ) → AreKept old ds → AreKept ds new × HasRead new pages shapes before i (take at held) × Ends pages shapes before (drop at held) → length held ≤ at + 33 → at + 33 ≡ length held
-    → AreKept old new × (at + 33 ≡ length held) × IsEnded new pages shapes i held
-ended old ds new pages shapes before i held at same h short all =
-    let tail = ended_by pages shapes before (drop at held) h.2.more h.2.opens (omega (arith, short, length-drop at held)) in (
+pub ended : (old ds new : List DiskState) (pages : ℕ) (shapes : List Shape) (before : List Record) (i : Intake) (front bytes : List ℕ) (at : ℕ) → AreKept old ds → AreKept ds new × HasRead new pages shapes before i (front ++ take at bytes) × Ends pages shapes before (drop at bytes) → length bytes ≤ at + 33
+    → at + 33 ≡ length bytes → AreKept old new × (at + 33 ≡ length bytes) × IsEnded new pages shapes i (front ++ bytes)
+ended old ds new pages shapes before i front bytes at same h short all =
+    let tail = ended_by pages shapes before (drop at bytes) h.2.more h.2.opens (omega (arith, short, length-drop at bytes)) in
+    let read = front ++ take at bytes in (
       then_kept old ds new same h.0,
       all,
       record {
         before = before;
-        front = take at held;
+        front = read;
         read = h.1;
         complete = h.2.opens.complete (omega arith);
-        whole = cut held at ∙ ap (λ (x : List ℕ). take at held ++ x) (tail ∙ ap (λ (x : List ℕ). 5 ∷ sha256 x) (sym h.1.whole) ∙ sym (commit_text (sha256 (take at held))));
+        whole = cut front bytes at ∙ ap (λ (x : List ℕ). read ++ x) (tail ∙ ap (λ (x : List ℕ). 5 ∷ sha256 x) (sym h.1.whole) ∙ sym (commit_text (sha256 read)));
       },
     )
 

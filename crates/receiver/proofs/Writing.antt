@@ -98,7 +98,7 @@ pub took_bad : (ds : List DiskState) (front : List ℕ) (pages : ℕ) (shapes : 
     → HasRead ds pages shapes (before ++ sector dev n None ∷ []) j (front ++ spelled_record (sector dev n None))
 took_bad ds front pages shapes before i j dev n spot h none spells at bad named ram ends same_shapes same_devices same_firsts =
     let k = disks_before shapes dev in
-    let first : DiskState = record { sectors = []; failures = 0; honest = true; steady = true } in
+    let first : DiskState = record { sectors = []; failures = 0; honest = true; steady = true; is_flushed = true } in
     let d = get_or ds k first in
     let again : get_or ds k d ≡ d = get_again ds k first in
     let low = disk_below shapes ds dev n h.head.sound h.fits at.there in

@@ -1,7 +1,9 @@
 -- What a receiver has read of the bytes that it was fed.
 use Rattle.std.specs.Prelude.{◌≡◌, ◌<◌, ℕ, ◌+◌, ◌*◌, Bool, true, false, List, [], ◌∷◌, ◌++◌, length, take, drop, Result, Ok, Err}
 use Rattle.std.specs.List.{AllByRecursion}
+use Rattle.sha2.specs.Hashers.{Holds256}
 use Rattle.sha2.specs.Sha256.{sha256}
+use Rattle.sha2.specs.declared.Sha256.{Sha256}
 use Rattle.wire.specs.DeviceBody.{body}
 use Rattle.wire.specs.Header.{header, IsHeader}
 use Rattle.blk.specs.Disk.{DiskState}
@@ -83,6 +85,12 @@ IsLong parts.Wait = Unit {0}
 IsLong (parts.Record len) = 0 < len
 IsLong parts.End = Unit {0}
 
+-- The digest of the bytes taken in is as before, except at the end of the stream.
+abbrev pub IsUntouched : Sha256 → Sha256 → Result Part RecvError → Type 0
+IsUntouched old new (Ok parts.Wait) = new ≡ old
+IsUntouched old new (Ok (parts.Record len)) = new ≡ old
+IsUntouched old new _ = Unit {0}
+
 -- The disks and the intake, after it looked at the bytes that follow those that it has taken in.
 abbrev pub After : List DiskState → List DiskState → ℕ → List Shape → List Record → Intake → List ℕ → List ℕ → Result Part RecvError → Type 0
 After old disks pages shapes before new front tail (Ok parts.Wait) = AreKept old disks × HasRead disks pages shapes before new front × Waits pages shapes before tail
@@ -104,7 +112,8 @@ pub record IsEnded (disks : List DiskState) (pages : ℕ) (shapes : List Shape) 
   pub complete : IsComplete pages shapes before 5
   pub whole : bytes ≡ front ++ spelled_record (commit (sha256 front))
 
-abbrev pub Worked : List DiskState → List DiskState → ℕ → List Shape → Intake → List ℕ → Result (ℕ × Bool) RecvError → Type 0
-Worked old disks pages shapes new held (Ok (at, false)) = AreKept old disks × IsOpen disks pages shapes new (take at held) (drop at held)
-Worked old disks pages shapes new held (Ok (at, true)) = AreKept old disks × (at ≡ length held) × IsEnded disks pages shapes new held
-Worked old disks pages shapes new held (Err e) = AreRefused old disks e × Tells e ((at : ℕ) × Fault (sizes_in old) held e at)
+-- The disks, the digest and the intake, after it worked through these bytes, which follow those of `front`, up to `at`.
+abbrev pub Worked : List DiskState → List DiskState → ℕ → List Shape → Intake → Sha256 → List ℕ → List ℕ → Result (ℕ × Bool) RecvError → Type 0
+Worked old disks pages shapes new digest front bytes (Ok (at, false)) = AreKept old disks × Holds256 digest (front ++ take at bytes) × IsOpen disks pages shapes new (front ++ take at bytes) (drop at bytes)
+Worked old disks pages shapes new digest front bytes (Ok (at, true)) = AreKept old disks × (at ≡ length bytes) × IsEnded disks pages shapes new (front ++ bytes)
+Worked old disks pages shapes new digest front bytes (Err e) = AreRefused old disks e × Tells e ((at : ℕ) × Fault (sizes_in old) (front ++ bytes) e at)

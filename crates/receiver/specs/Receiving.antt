@@ -1,14 +1,17 @@
 -- What a receiver knows of the bytes that it was fed.
-use Rattle.std.specs.Prelude.{◌≡◌, ◌<◌, ◌≤◌, ℕ, List, ◌++◌, length, take, drop, Result, Ok, Err, Bool, true, false}
+use Rattle.std.specs.Prelude.{◌≡◌, ◌<◌, ◌≤◌, ℕ, List, [], ◌++◌, length, take, drop, Result, Ok, Err, Bool, true, false}
+use Rattle.sha2.specs.Hashers.{Holds256}
 use Rattle.sha2.specs.Sha256.{sha256}
+use Rattle.sha2.specs.declared.Sha256.{Sha256}
+use Rattle.guestmem.specs.Number.{IsBytes}
 use Rattle.wire.specs.Header.{Begins, header}
-use Rattle.wire.specs.Records.{Record, commit, spelled_record}
+use Rattle.wire.specs.Records.{Record, commit, device, spelled_record}
 use Rattle.wire.specs.Stream.{IsStream, rounds, texts}
 use Rattle.blk.specs.Disk.{DiskState}
 use Rattle.machine.specs.Seen.{Marks}
 use Rattle.machine.specs.State.{MachineState}
 use Rattle.machine.specs.declared.shape.Shape.{Shape}
-use Rattle.receiver.specs.Disks.{AreKept, AreRefused, IsUnsteady, sizes_in}
+use Rattle.receiver.specs.Disks.{AreKept, AreRefused, IsUnsteady, all_marks_in, sizes_in}
 use Rattle.receiver.specs.Good.{Follows}
 use Rattle.receiver.specs.Faults.{Fault, IsComplete, IsFront}
 use Rattle.receiver.specs.Fed.{IsOpen, IsEnded, Tells}
@@ -19,29 +22,38 @@ use Rattle.receiver.specs.declared.stage.Stage.TheVariants as stages
 use Rattle.receiver.specs.declared.recv_error.RecvError.{RecvError}
 use Rattle.receiver.specs.declared.recv_error.RecvError.TheVariants.{DiskFailed, NoMemory, Truncated}
 
-pub record IsReading (disks : List DiskState) (held : List ℕ) (at : ℕ) (i : Intake) : Type 0 where
+-- The intake has taken the front of the bytes in, and those after it wait.
+pub record IsReading (disks : List DiskState) (front held : List ℕ) (i : Intake) : Type 0 where
   pub pages : ℕ
   pub shapes : List Shape
-  pub within : at ≤ length held
-  pub open_at : IsOpen disks pages shapes i (take at held) (drop at held)
+  pub open_at : IsOpen disks pages shapes i front held
 
-pub record HasCome (disks : List DiskState) (held : List ℕ) (at : ℕ) (i : Intake) : Type 0 where
+-- The intake has taken in a whole stream.
+pub record HasCome (disks : List DiskState) (bytes : List ℕ) (i : Intake) : Type 0 where
   pub pages : ℕ
   pub shapes : List Shape
-  pub ended : IsEnded disks pages shapes i held
-  pub at_end : at ≡ length held
+  pub ended : IsEnded disks pages shapes i bytes
 
--- What a receiver with these disks, at this stage, knows of the bytes, which it has read up to the offset `at`.
-abbrev pub IsKnown : List DiskState → List ℕ → ℕ → Stage → Type 0
-IsKnown disks held at stages.Head = WaitsHead held × (at ≡ 0)
-IsKnown disks held at (stages.Records i) = IsReading disks held at i
-IsKnown disks held at (stages.Ended i) = HasCome disks held at i
-IsKnown disks held at stages.Failed = Unit {0}
+-- What a receiver with these disks, at this stage, knows of the bytes: those of `front` are worked off, and those after it are held.
+-- The digest is that of the front.
+abbrev pub IsKnown : List DiskState → Sha256 → List ℕ → List ℕ → Stage → Type 0
+IsKnown disks digest front held stages.Head = (front ≡ []) × Holds256 digest [] × WaitsHead held
+IsKnown disks digest front held (stages.Records i) = Holds256 digest front × IsReading disks front held i
+IsKnown disks digest front held (stages.Ended i) = (held ≡ []) × HasCome disks front i
+IsKnown disks digest front held stages.Failed = ⊥
 
--- There was no refusal.
-abbrev pub GoesOn : Stage → Type 0
-GoesOn stages.Failed = ⊥
-GoesOn _ = Unit {0}
+-- These are all bytes that were fed, and what of them is not worked off is held.
+pub record IsTaken (disks : List DiskState) (digest : Sha256) (bytes held : List ℕ) (stage : Stage) : Type 0 where
+  pub front : List ℕ
+  pub whole : bytes ≡ front ++ held
+  pub known : IsKnown disks digest front held stage
+
+-- The header was read.
+abbrev pub IsPastHead : Stage → Type 0
+IsPastHead stages.Head = ⊥
+IsPastHead (stages.Records i) = Unit {0}
+IsPastHead (stages.Ended i) = Unit {0}
+IsPastHead stages.Failed = ⊥
 
 -- The bytes have no fault.
 abbrev pub NoFault : List ℕ → List ℕ → Type 0
@@ -56,9 +68,15 @@ TellsFault sizes bytes e = Tells e ((at : ℕ) × Fault sizes bytes e at)
 abbrev pub TellsNow : List ℕ → List ℕ → List ℕ → RecvError → Type 0
 TellsNow sizes b piece e = Tells e ((at : ℕ) × (length b < at) × Fault sizes (b ++ piece) e at)
 
-abbrev pub Stepped : List DiskState → List DiskState → List ℕ → Result (ℕ × Stage) RecvError → Type 0
-Stepped old disks held (Ok next) = AreKept old disks × IsKnown disks held next.0 next.1 × GoesOn next.1
-Stepped old disks held (Err e) = AreRefused old disks e × Tells e ((at : ℕ) × Fault (sizes_in old) held e at)
+-- After a look at these bytes, which follow those of the front: some of them are worked off.
+abbrev pub Stepped : List DiskState → List DiskState → Sha256 → List ℕ → List ℕ → Result (ℕ × Stage) RecvError → Type 0
+Stepped old disks digest front bytes (Ok next) = AreKept old disks × IsKnown disks digest (front ++ take next.0 bytes) (drop next.0 bytes) next.1
+Stepped old disks digest front bytes (Err e) = AreRefused old disks e × Tells e ((at : ℕ) × Fault (sizes_in old) (front ++ bytes) e at)
+
+-- After more bytes, which make these bytes in all.
+abbrev pub Took : List DiskState → List DiskState → Sha256 → List ℕ → List ℕ → Result Stage RecvError → Type 0
+Took old disks digest bytes held (Ok stage) = AreKept old disks × IsTaken disks digest bytes held stage
+Took old disks digest bytes held (Err e) = AreRefused old disks e × Tells e ((at : ℕ) × Fault (sizes_in old) bytes e at)
 
 -- The number of rounds that ended in what was read.
 abbrev pub rounds_in : Stage → ℕ
@@ -73,25 +91,52 @@ has_failed (stages.Records i) = false
 has_failed (stages.Ended i) = false
 has_failed stages.Failed = true
 
--- What contracts see of a receiver: the sizes of its disks and what else is known of them, the bytes that it was fed, the
--- number of rounds that ended, and whether there was a refusal.
+-- What contracts see of a receiver: the sizes of its disks and what else is known of them, the number of rounds that ended, and
+-- whether there was a refusal; its disks, how far it has come, the digest of the bytes that were worked off, and the bytes that it
+-- holds: those that were fed since the end of the last whole header or record.
 pub record Received : Type 0 where
   pub sizes : List ℕ
   pub marks : List Marks
-  pub bytes : List ℕ
   pub rounds : ℕ
   pub failed : Bool
+  pub disks : List DiskState
+  pub stage : Stage
+  pub digest : Sha256
+  pub held : List ℕ
+
+abbrev pub received_by : List DiskState → Stage → Sha256 → List ℕ → Received
+received_by disks stage digest held = record { sizes = sizes_in disks; marks = all_marks_in disks; rounds = rounds_in stage; failed = has_failed stage; disks = disks; stage = stage; digest = digest; held = held }
 
 -- The receiver was fed these bytes, and there was no refusal.
 pub record HasBeenFed (r : Received) (b : List ℕ) : Type 0 where
-  pub fed : r.bytes ≡ b
   pub goes_on : r.failed ≡ false
+  pub bytes : IsBytes b
+  pub taken : IsTaken r.disks r.digest b r.held r.stage
+
+-- What holds of each receiver. Bytes that wait for the rest of a record are fewer than the longest record has, and there is room
+-- for such a record once the header was read. After a refusal nothing is held.
+pub record IsReceiver (disks : List DiskState) (digest : Sha256) (held : List ℕ) (room : ℕ) (stage : Stage) : Type 0 where
+  pub known : has_failed stage ≡ false → (front : List ℕ) × IsKnown disks digest front held stage
+  pub few : length held ≤ 131077
+  pub gone : has_failed stage ≡ true → held ≡ []
+  pub roomy : IsPastHead stage → 131078 ≤ room
 
 -- A refusal at the end of the bytes: memory was refused, or (`Truncated`) they are not a stream of any machine.
 abbrev pub IsFinish : List ℕ → RecvError → Type 0
 IsFinish b NoMemory = Unit {0}
 IsFinish b Truncated = (m : MachineState) → ¬ (IsStream b m)
 IsFinish b _ = ⊥
+
+-- A record of a device is whole in these bytes, behind whole good records, and none of its bytes is among the first `from`.
+pub record HasDevice (sizes bytes : List ℕ) (from : ℕ) : Type 0 where
+  pub pages : ℕ
+  pub shapes : List Shape
+  pub before : List Record
+  pub number : ℕ
+  pub body : List ℕ
+  pub more : List ℕ
+  pub front : IsFront sizes bytes pages shapes before (spelled_record (device number body) ++ more)
+  pub behind : from ≤ length (header pages shapes ++ texts before)
 
 -- What a refusal of a whole slice means: a fault of the bytes; or (`Truncated`) that they have no fault but are not a stream of
 -- any machine; or that a disk failed, where some disk is not steady; or that memory was refused.

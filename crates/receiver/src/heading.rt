@@ -1,20 +1,15 @@
 //! Reads the header of a stream, as far as it has arrived.
 
-ghost use Rattle.std.specs.Prelude.{◌≡◌, ◌↔◌, ◌≤◌, IsTrue, IfOk, IfErr, MatchOption, drop, length, ℕ, List};
+ghost use Rattle.std.specs.Prelude.{◌≡◌, ◌↔◌, ◌≤◌, ◌<◌, ◌+◌, ◌*◌, IsTrue, IfOk, IfErr, MatchOption, drop, false, is_some, length, ℕ, List};
 ghost use Rattle.wire.specs.Header.{Begins};
 ghost use Rattle.receiver.specs.Faults.{MayCount, IsHeaderFault};
 ghost use Rattle.receiver.specs.Heading.{FirstShape, WaitsHead, ReadShapes, TellsHead};
 
 use crate::recv_error::RecvError;
-use machine::Shape;
+use guestmem::PAGES_MAX;
+use machine::{DEVICES_MAX, Shape};
 use std::alloc::Global;
-use wire::{shape_at, shape_len, u32_at};
-
-/// "VMIG" as a little-endian number.
-const MAGIC: u32 = 0x4749_4d56;
-
-/// How many bytes of the header come before the shapes.
-const FRONT_LEN: usize = 16;
+use wire::{FRONT_LEN, MAGIC, VERSION, shape_at, shape_len, u32_at};
 
 /// What the header of a stream says.
 #[derive(Drop)]
@@ -26,7 +21,8 @@ pub struct Heading {
 
 /// The shape at the front of the bytes, if it is complete, and the bytes after it.
 fn first_shape(bytes: &[u8]) -> Result<Option<(Shape, &[u8])>, RecvError>
-    ensures { FirstShape (λ x. x.now) bytes.now result }
+    ensures first { FirstShape (λ x. x.now) bytes.now result }
+    ensures few { IfOk result (λ found. MatchOption found (length bytes.now < 30) (λ x. length bytes.now ≤ length x.1.now + 30)) }
 {
     if let Some((shape, rest)) = shape_at(bytes) {
         return Ok(Some((shape, rest)));
@@ -49,7 +45,8 @@ fn read_shapes(
     count: u32,
     bytes: &[u8],
 ) -> Result<Option<(Vec<Shape>, &[u8])>, RecvError>
-    ensures { ReadShapes (λ x. x.items) (λ x. x.now) count bytes.now result }
+    ensures read { ReadShapes (λ x. x.items) (λ x. x.now) count bytes.now result }
+    ensures few { IfOk result (λ found. is_some found ≡ false → length bytes.now < 30 * count) }
 {
     let mut shapes = Vec::new(alloc);
     let mut rest = bytes;
@@ -72,13 +69,14 @@ fn read_shapes(
 fn may_count(pages: u32, count: u32) -> bool
     ensures { IsTrue result ↔ MayCount pages count }
 {
-    1 <= pages && pages <= 16384 && 1 <= count && count <= 16
+    1 <= pages && pages <= PAGES_MAX && 1 <= count && count <= DEVICES_MAX as u32
 }
 
 /// The header at the front of the bytes. `None` if it is incomplete, with no fault so far.
 pub fn read_heading(alloc: Global, bytes: &[u8]) -> Result<Option<Heading>, RecvError>
     ensures read { IfOk result (λ found. MatchOption found (WaitsHead bytes.now)
         (λ h. (h.len ≤ length bytes.now) × Begins bytes.now h.pages h.shapes.items (drop h.len bytes.now))) }
+    ensures few { IfOk result (λ found. is_some found ≡ false → length bytes.now ≤ 495) }
     ensures refused { IfErr result (λ e. TellsHead e ((sizes : List ℕ) → (at : ℕ) × IsHeaderFault sizes bytes.now e at)) }
 {
     if bytes.len() < 4 {
@@ -90,7 +88,7 @@ pub fn read_heading(alloc: Global, bytes: &[u8]) -> Result<Option<Heading>, Recv
     if bytes.len() < 8 {
         return Ok(None);
     }
-    if u32_at(bytes, 4) != 1 {
+    if u32_at(bytes, 4) != VERSION {
         return Err(RecvError::BadVersion);
     }
     if bytes.len() < FRONT_LEN {

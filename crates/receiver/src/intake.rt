@@ -1,19 +1,25 @@
 //! Records taken one by one from a stream.
 
-ghost use Rattle.std.specs.Prelude.{◌≡◌, ◌++◌, ◌+◌, ◌≤◌, ◌<◌, ◌*◌, ◌∷◌, ◌↔◌, [], ℕ, List, All, IsTrue, IfOk, IfSome, MatchOption, Some, None, count_by, nat_lt, map, take, drop, length, slice_index_or, true};
+ghost use Rattle.std.specs.Prelude.{◌≡◌, ◌≢◌, ◌++◌, ◌+◌, ◌≤◌, ◌<◌, ◌*◌, ◌∷◌, ◌↔◌, [], ℕ, List, All, IsTrue, IfErr, IfOk, IfSome, OnOk, MatchOption, Some, None, Err, count_by, nat_lt, map, take, drop, length, slice_index_or, true};
 ghost use Rattle.wire.specs.Records as records;
+ghost use Rattle.sha2.specs.Hashers.{Holds256};
 ghost use Rattle.sha2.specs.Sha256.{sha256};
-ghost use Rattle.wire.specs.Records.{page, sector, spelled_record, HasSpelling};
+ghost use Rattle.wire.specs.RecordHeads.{body_len, spelled_head};
+ghost use Rattle.wire.specs.Records.{page, sector, record_with, spelled_record, HasSpelling};
+ghost use Rattle.wire.specs.declared.record_head.RecordHead.TheVariants as heads;
 ghost use Rattle.blk.specs.Disk.{DiskState};
 ghost use Rattle.guestmem.specs.Item as items;
 ghost use Rattle.machine.specs.Layout.{IsItemIn, layout_by};
 ghost use Rattle.machine.specs.Shapes.{sector_count};
 ghost use Rattle.machine.specs.declared.shape.Shape as shapes;
 ghost use Rattle.receiver.specs.Disks.{sizes_of};
-ghost use Rattle.receiver.specs.Faults.{MayTag, Opens};
-ghost use Rattle.receiver.specs.Good.{devices_in};
-ghost use Rattle.receiver.specs.Fed.{HasRead, Checked, After, Worked, size_of, IsLong};
+ghost use Rattle.receiver.specs.Faults.{IsNextHead, MayTag};
+ghost use Rattle.receiver.specs.Good.{AreNamed, devices_in};
+ghost use Rattle.receiver.specs.Fed.{HasRead, Checked, After, IsUntouched, Worked, size_of, IsLong};
+ghost use Rattle.receiver.specs.Receiving.{HasDevice};
 ghost use Rattle.receiver.specs.Spots.{HasMarks, HasSector, IsSpotOf, Taking, disks_before};
+ghost use Rattle.receiver.specs.Standing.{BeginsDevice, HasRoom, IsDeviceHead, Judged, MayHead, OpensHead, TakingDevice};
+ghost use Rattle.receiver.specs.declared.recv_error.RecvError.TheVariants as errors;
 
 use crate::part::Part;
 use crate::recv_error::RecvError;
@@ -22,10 +28,10 @@ use guestmem::{NoLog, NoMemory, PAGE_SIZE, Ram};
 use machine::{DeviceState, Disk, SECTOR_SIZE, Shape};
 use sha2::{Digest, Sha256};
 use std::alloc::Global;
-use wire::{DecodeError, decode_device, u8_at, u32_at};
-
-/// The greatest length of a body, in bytes.
-const BODY_MAX: usize = 131_072;
+use wire::{
+    BODY_MAX, COMMIT_RECORD, COMMIT_TAG, DEVICE_TAG, DecodeError, FoundHead, PAGE_TAG,
+    ROUND_END_TAG, RecordHead, decode_device, read_head,
+};
 
 /// What was read of a stream: the shapes of its devices, the pages, the marks of the bad sectors of each disk, how many
 /// rounds ended, and the devices that arrived so far. The good sectors were written to the disks.
@@ -54,7 +60,10 @@ struct Spot {
 fn may_stand(count: usize, devices: usize, tag: u8) -> bool
     ensures { IsTrue result ↔ MayTag count devices tag }
 {
-    1 <= tag && tag <= 5 && (tag > 3 || devices == 0) && (tag != 4 || devices < count)
+    PAGE_TAG <= tag
+        && tag <= COMMIT_TAG
+        && (tag > ROUND_END_TAG || devices == 0)
+        && (tag != DEVICE_TAG || devices < count)
 }
 
 /// Whether each item is named. It compares two counts, which takes constant time.
@@ -66,18 +75,19 @@ fn is_named(named: &BitSet) -> bool
 
 /// Checks that a record with this tag may come next.
 fn check_tag(intake: &Intake, tag: u8) -> Result<(), RecvError>
-    ensures { (ds : List DiskState) (front more : List ℕ) (pages : ℕ) (shapes : List shapes.Shape) (before : List records.Record) → HasRead ds pages shapes before intake.now front → Checked pages shapes before tag more result }
+    ensures memory { IfErr result (λ e. e ≢ errors.NoMemory) }
+    ensures checked { (ds : List DiskState) (front more : List ℕ) (pages : ℕ) (shapes : List shapes.Shape) (before : List records.Record) → HasRead ds pages shapes before intake.now front → Checked pages shapes before tag more result }
 {
     if !may_stand(intake.shapes.len(), intake.devices.len(), tag) {
         return Err(RecvError::BadTag);
     }
-    if tag < 4 {
+    if tag < DEVICE_TAG {
         return Ok(());
     }
     if !is_named(&intake.named) {
         return Err(RecvError::Missing);
     }
-    if tag == 4 {
+    if tag == DEVICE_TAG {
         return Ok(());
     }
     if intake.devices.len() != intake.shapes.len() {
@@ -97,32 +107,6 @@ fn take_page(intake: &mut Intake, number: u32, bytes: &[u8])
         .ram
         .put(number as u64 * PAGE_SIZE as u64, bytes, &mut NoLog);
     intake.named.insert(number as u64);
-}
-
-/// Takes the record of a page; `rest` is what follows its tag.
-fn page_part(intake: &mut Intake, rest: &[u8]) -> Result<Part, RecvError>
-    ensures room { IfOk result (λ part. size_of part ≤ 1 + length rest.now) }
-    ensures some { IfOk result (λ part. IsLong part) }
-    ensures after { (ds : List DiskState) (front : List ℕ) (pages : ℕ) (shapes : List shapes.Shape) (before : List records.Record) → HasRead ds pages shapes before intake.old front → Opens pages shapes before (1 ∷ rest.now) 1 rest.now → After ds ds pages shapes before intake.new front (1 ∷ rest.now) result }
-{
-    if rest.len() < 4 {
-        return Ok(Part::Wait);
-    }
-    let number = u32_at(rest, 0);
-    // RAM and marks are of the same pages.
-    if number as u64 >= intake.ram.len() / PAGE_SIZE as u64 {
-        return Err(RecvError::BadPage);
-    }
-    if number as u64 >= intake.named.len() {
-        return Err(RecvError::BadPage);
-    }
-    if rest.len() < 4 + PAGE_SIZE {
-        return Ok(Part::Wait);
-    }
-    let (_, bytes) = rest.split_at(4);
-    let (bytes, _) = bytes.split_at(PAGE_SIZE);
-    take_page(intake, number, bytes);
-    Ok(Part::Record(5 + PAGE_SIZE))
 }
 
 /// How many of the devices before index `place` have a disk.
@@ -193,7 +177,8 @@ fn take_good<D: Disk>(
 ) -> Result<(), RecvError>
     requires marked { HasMarks intake.old number spot }
     requires there { HasSector (sizes_of D.state disks.old) spot.disk number }
-    ensures { (front : List ℕ) (pages : ℕ) (shapes : List shapes.Shape) (before : List records.Record) → HasRead (map D.state disks.old) pages shapes before intake.old front → devices_in before ≡ 0 → IsSpotOf pages shapes dev number spot
+    ensures memory { IfErr result (λ e. e ≢ errors.NoMemory) }
+    ensures taking { (front : List ℕ) (pages : ℕ) (shapes : List shapes.Shape) (before : List records.Record) → HasRead (map D.state disks.old) pages shapes before intake.old front → devices_in before ≡ 0 → IsSpotOf pages shapes dev number spot
         → Taking (map D.state disks.old) (map D.state disks.new) pages shapes before intake.new front (sector dev number (Some bytes.now)) result }
 {
     match disks[spot.disk].write(number as u64, bytes) {
@@ -205,100 +190,28 @@ fn take_good<D: Disk>(
     Ok(())
 }
 
-/// Takes the record of a sector; `rest` is what follows its tag. A good sector is written to its disk.
-fn sector_part<D: Disk>(
+/// Takes the record of a sector. One that has no bytes is bad.
+fn take_sector<D: Disk>(
     intake: &mut Intake,
     disks: &mut [D],
-    rest: &[u8],
-) -> Result<Part, RecvError>
-    ensures room { IfOk result (λ part. size_of part ≤ 1 + length rest.now) }
-    ensures some { IfOk result (λ part. IsLong part) }
-    ensures after { (front : List ℕ) (pages : ℕ) (shapes : List shapes.Shape) (before : List records.Record) → HasRead (map D.state disks.old) pages shapes before intake.old front → Opens pages shapes before (2 ∷ rest.now) 2 rest.now
-        → After (map D.state disks.old) (map D.state disks.new) pages shapes before intake.new front (2 ∷ rest.now) result }
+    dev: u8,
+    number: u32,
+    is_good: bool,
+    body: &[u8],
+) -> Result<(), RecvError>
+    requires { length body.now ≡ body_len (heads.Sector dev number is_good) }
+    ensures memory { IfErr result (λ e. e ≢ errors.NoMemory) }
+    ensures taking { (front : List ℕ) (pages : ℕ) (shapes : List shapes.Shape) (before : List records.Record) → HasRead (map D.state disks.old) pages shapes before intake.old front → devices_in before ≡ 0 → IsItemIn (layout_by pages shapes) (items.sector dev number)
+        → Taking (map D.state disks.old) (map D.state disks.new) pages shapes before intake.new front (record_with (heads.Sector dev number is_good) body.now) result }
 {
-    if rest.len() < 6 {
-        return Ok(Part::Wait);
-    }
-    let dev = u8_at(rest, 0);
-    let number = u32_at(rest, 1);
-    let good = u8_at(rest, 5);
     let Some(spot) = find_sector(intake, disks, dev, number) else {
         return Err(RecvError::BadSector);
     };
-    if good > 1 {
-        return Err(RecvError::BadSector);
-    }
-    if good == 0 {
+    let Some(bytes) = body.first_chunk::<SECTOR_SIZE>() else {
         take_bad(intake, spot, dev, number);
-        return Ok(Part::Record(7));
-    }
-    let (_, behind) = rest.split_at(6);
-    let Some(bytes) = behind.first_chunk::<SECTOR_SIZE>() else {
-        return Ok(Part::Wait);
+        return Ok(());
     };
-    if let Err(error) = take_good(intake, disks, spot, dev, number, bytes) {
-        return Err(error);
-    }
-    Ok(Part::Record(7 + SECTOR_SIZE))
-}
-
-/// Takes the record of the end of a round; `rest` is what follows its tag.
-fn round_part(intake: &mut Intake, rest: &[u8]) -> Result<Part, RecvError>
-    ensures room { IfOk result (λ part. size_of part ≤ 1 + length rest.now) }
-    ensures some { IfOk result (λ part. IsLong part) }
-    ensures after { (ds : List DiskState) (front : List ℕ) (pages : ℕ) (shapes : List shapes.Shape) (before : List records.Record) → HasRead ds pages shapes before intake.old front → Opens pages shapes before (3 ∷ rest.now) 3 rest.now → After ds ds pages shapes before intake.new front (3 ∷ rest.now) result }
-{
-    if rest.len() < 4 {
-        return Ok(Part::Wait);
-    }
-    let number = u32_at(rest, 0);
-    if number == 0 {
-        return Err(RecvError::BadRound);
-    }
-    if number - 1 != intake.rounds {
-        return Err(RecvError::BadRound);
-    }
-    intake.rounds = number;
-    Ok(Part::Record(5))
-}
-
-/// Takes the record of a device; `rest` is what follows its tag.
-fn device_part(alloc: Global, intake: &mut Intake, rest: &[u8]) -> Result<Part, RecvError>
-    ensures room { IfOk result (λ part. size_of part ≤ 1 + length rest.now) }
-    ensures some { IfOk result (λ part. IsLong part) }
-    ensures after { (ds : List DiskState) (front : List ℕ) (pages : ℕ) (shapes : List shapes.Shape) (before : List records.Record) → HasRead ds pages shapes before intake.old front → Opens pages shapes before (4 ∷ rest.now) 4 rest.now → After ds ds pages shapes before intake.new front (4 ∷ rest.now) result }
-{
-    if rest.len() < 5 {
-        return Ok(Part::Wait);
-    }
-    let number = u8_at(rest, 0) as usize;
-    let len = u32_at(rest, 1) as usize;
-    if number != intake.devices.len() {
-        return Err(RecvError::BadDevice);
-    }
-    if len > BODY_MAX {
-        return Err(RecvError::BadDevice);
-    }
-    let (_, body) = rest.split_at(5);
-    if body.len() < len {
-        return Ok(Part::Wait);
-    }
-    let (body, _) = body.split_at(len);
-    if number >= intake.shapes.len() {
-        return Err(RecvError::BadDevice);
-    }
-    let shape = nth(&intake.shapes, number);
-    let ram_len = intake.ram.len();
-    match decode_device(alloc, shape, ram_len, body) {
-        Ok(state) => {
-            let Ok(()) = intake.devices.push(state) else {
-                return Err(RecvError::NoMemory);
-            };
-            Ok(Part::Record(6 + len))
-        }
-        Err(DecodeError::BadBody) => Err(RecvError::BadDevice),
-        Err(DecodeError::NoMemory) => Err(RecvError::NoMemory),
-    }
+    take_good(intake, disks, spot, dev, number, bytes)
 }
 
 fn nth(shapes: &[Shape], i: usize) -> Shape
@@ -308,82 +221,206 @@ fn nth(shapes: &[Shape], i: usize) -> Shape
     shapes[i]
 }
 
-fn is_digest(front: &[u8], digest: &[u8]) -> bool
-    ensures { IsTrue result ↔ (digest.now ≡ sha256 front.now) }
+/// Takes the record of a device.
+fn take_device(alloc: Global, intake: &mut Intake, number: u8, body: &[u8]) -> Result<(), RecvError>
+    requires { number < length intake.old.shapes.items }
+    ensures { (ds : List DiskState) (front : List ℕ) (pages : ℕ) (shapes : List shapes.Shape) (before : List records.Record) → HasRead ds pages shapes before intake.old front → AreNamed (layout_by pages shapes) before → IsNextHead before number (length body.now)
+        → TakingDevice ds pages shapes before intake.new front number body.now result }
 {
-    let sum = Sha256::digest(front);
+    let shape = nth(&intake.shapes, number as usize);
+    let ram_len = intake.ram.len();
+    match decode_device(alloc, shape, ram_len, body) {
+        Ok(state) => {
+            let Ok(()) = intake.devices.push(state) else {
+                return Err(RecvError::NoMemory);
+            };
+            Ok(())
+        }
+        Err(DecodeError::BadBody) => Err(RecvError::BadDevice),
+        Err(DecodeError::NoMemory) => Err(RecvError::NoMemory),
+    }
+}
+
+/// Whether the digest is that of the bytes that were taken in. Nothing is taken in after it.
+fn is_digest(taken: &mut Sha256, digest: &[u8]) -> bool
+    ensures { (front : List ℕ) → Holds256 taken.old front → IsTrue result ↔ (digest.now ≡ sha256 front) }
+{
+    let sum = taken.finalize_reset();
     sum.as_slice() == digest
 }
 
-/// Compares the digest; `rest` is what follows the tag of its record.
-fn commit_part(intake: &mut Intake, front: &[u8], rest: &[u8]) -> Result<Part, RecvError>
-    ensures room { IfOk result (λ part. size_of part ≤ 1 + length rest.now) }
-    ensures some { IfOk result (λ part. IsLong part) }
-    ensures after { (ds : List DiskState) (pages : ℕ) (shapes : List shapes.Shape) (before : List records.Record) → HasRead ds pages shapes before intake.old front.now → Opens pages shapes before (5 ∷ rest.now) 5 rest.now → After ds ds pages shapes before intake.new front.now (5 ∷ rest.now) result }
+/// Whether there is this page: in RAM, and among the marks, which are of the same pages.
+fn has_page(intake: &Intake, number: u32) -> bool
+    ensures { IsTrue result ↔ HasRoom intake.now (heads.Page number) }
 {
-    if rest.len() < 32 {
-        return Ok(Part::Wait);
-    }
-    let (digest, _) = rest.split_at(32);
-    if !is_digest(front, digest) {
-        return Err(RecvError::BadDigest);
-    }
-    Ok(Part::End)
+    (number as u64) < intake.ram.len() / PAGE_SIZE as u64 && (number as u64) < intake.named.len()
 }
 
-/// Takes the record at the front of `rest`, if it is complete.
+/// Whether a device of this number is the next.
+fn is_next(intake: &Intake, number: u8) -> bool
+    ensures { IsTrue result ↔ ((number ≡ length intake.now.devices.items) × (number < length intake.now.shapes.items)) }
+{
+    number as usize == intake.devices.len() && (number as usize) < intake.shapes.len()
+}
+
+/// Checks that a record with this head may come next, as far as the head tells.
+fn check_head<D: Disk>(intake: &Intake, disks: &[D], head: RecordHead) -> Result<(), RecvError>
+    ensures room { OnOk result (HasRoom intake.now head) }
+    ensures memory { IfErr result (λ e. e ≢ errors.NoMemory) }
+    ensures judged { (front tail rest : List ℕ) (pages : ℕ) (shapes : List shapes.Shape) (before : List records.Record) → HasRead (map D.state disks.now) pages shapes before intake.now front → OpensHead pages shapes before tail head rest
+        → Judged pages shapes before head result }
+{
+    match head {
+        RecordHead::Page { number } => {
+            if !has_page(intake, number) {
+                return Err(RecvError::BadPage);
+            }
+        }
+        RecordHead::Sector { device, number, .. } => {
+            let Some(_) = find_sector(intake, disks, device, number) else {
+                return Err(RecvError::BadSector);
+            };
+        }
+        RecordHead::RoundEnd { number } => {
+            if number == 0 {
+                return Err(RecvError::BadRound);
+            }
+            if number - 1 != intake.rounds {
+                return Err(RecvError::BadRound);
+            }
+        }
+        RecordHead::Device { number, len } => {
+            if !is_next(intake, number) {
+                return Err(RecvError::BadDevice);
+            }
+            if len as usize > BODY_MAX {
+                return Err(RecvError::BadDevice);
+            }
+        }
+        RecordHead::Commit => {}
+    }
+    Ok(())
+}
+
+/// Takes a record whose head may come next. `taken` is the digest of all bytes before it.
+fn take_record<D: Disk>(
+    alloc: Global,
+    intake: &mut Intake,
+    disks: &mut [D],
+    taken: &mut Sha256,
+    head: RecordHead,
+    body: &[u8],
+) -> Result<Part, RecvError>
+    requires room { HasRoom intake.old head }
+    requires long { length body.now ≡ body_len head }
+    ensures size { IfOk result (λ part. size_of part ≡ length (spelled_head head) + length body.now) }
+    ensures untouched { IsUntouched taken.old taken.new result }
+    ensures memory { IfErr result (λ e. e ≡ errors.NoMemory → IsDeviceHead head) }
+    ensures after { (front tail more : List ℕ) (pages : ℕ) (shapes : List shapes.Shape) (before : List records.Record) → Holds256 taken.old front → HasRead (map D.state disks.old) pages shapes before intake.old front
+        → OpensHead pages shapes before tail head (body.now ++ more) → MayHead pages shapes before head → After (map D.state disks.old) (map D.state disks.new) pages shapes before intake.new front tail result }
+{
+    let len = head.head_len() + body.len();
+    match head {
+        RecordHead::Page { number } => {
+            take_page(intake, number, body);
+            Ok(Part::Record(len))
+        }
+        RecordHead::Sector {
+            device,
+            number,
+            is_good,
+        } => match take_sector(intake, disks, device, number, is_good, body) {
+            Ok(()) => Ok(Part::Record(len)),
+            Err(error) => Err(error),
+        },
+        RecordHead::RoundEnd { number } => {
+            intake.rounds = number;
+            Ok(Part::Record(len))
+        }
+        RecordHead::Device { number, .. } => match take_device(alloc, intake, number, body) {
+            Ok(()) => Ok(Part::Record(len)),
+            Err(error) => Err(error),
+        },
+        RecordHead::Commit => {
+            if !is_digest(taken, body) {
+                return Err(RecvError::BadDigest);
+            }
+            Ok(Part::End)
+        }
+    }
+}
+
+/// Takes the record at the front of the bytes, if it is complete. `taken` is the digest of all bytes before it.
 fn take_part<D: Disk>(
     alloc: Global,
     intake: &mut Intake,
     disks: &mut [D],
-    front: &[u8],
-    rest: &[u8],
+    taken: &mut Sha256,
+    bytes: &[u8],
 ) -> Result<Part, RecvError>
-    ensures room { IfOk result (λ part. size_of part ≤ length rest.now) }
+    ensures room { IfOk result (λ part. size_of part ≤ length bytes.now) }
     ensures some { IfOk result (λ part. IsLong part) }
-    ensures after { (pages : ℕ) (shapes : List shapes.Shape) (before : List records.Record) → HasRead (map D.state disks.old) pages shapes before intake.old front.now
-        → After (map D.state disks.old) (map D.state disks.new) pages shapes before intake.new front.now rest.now result }
+    ensures few { IfOk result (λ part. size_of part ≡ 0 → length bytes.now ≤ 131077) }
+    ensures untouched { IsUntouched taken.old taken.new result }
+    ensures memory { result ≡ Err errors.NoMemory → BeginsDevice bytes.now }
+    ensures after { (front : List ℕ) (pages : ℕ) (shapes : List shapes.Shape) (before : List records.Record) → Holds256 taken.old front → HasRead (map D.state disks.old) pages shapes before intake.old front
+        → After (map D.state disks.old) (map D.state disks.new) pages shapes before intake.new front bytes.now result }
 {
-    let Some((tag, rest)) = rest.split_first() else {
+    let Some((tag, _)) = bytes.split_first() else {
         return Ok(Part::Wait);
     };
     if let Err(error) = check_tag(intake, *tag) {
         return Err(error);
     }
-    match *tag {
-        1 => page_part(intake, rest),
-        2 => sector_part(intake, disks, rest),
-        3 => round_part(intake, rest),
-        4 => device_part(alloc, intake, rest),
-        _ => commit_part(intake, front, rest),
+    let head = match read_head(bytes) {
+        FoundHead::Whole(head) => head,
+        FoundHead::More(_) => return Ok(Part::Wait),
+        FoundHead::NoSuchTag => return Err(RecvError::BadTag),
+        FoundHead::NoSuchMark => return Err(RecvError::BadSector),
+    };
+    if let Err(error) = check_head(intake, disks, head) {
+        return Err(error);
     }
+    let (_, behind) = bytes.split_at(head.head_len());
+    if behind.len() < head.body_len() {
+        return Ok(Part::Wait);
+    }
+    let (body, _) = behind.split_at(head.body_len());
+    take_record(alloc, intake, disks, taken, head, body)
 }
 
-/// Takes the complete records from offset `from` on; returns the offset after them, and whether the last is the digest.
+/// Takes the complete records at the front of the bytes, and their bytes into the digest of all bytes before them. Returns how many
+/// bytes they have, and whether the last is the digest.
 pub fn work_off<D: Disk>(
     alloc: Global,
     intake: &mut Intake,
     disks: &mut [D],
-    held: &[u8],
-    from: usize,
+    taken: &mut Sha256,
+    bytes: &[u8],
 ) -> Result<(usize, bool), RecvError>
-    requires { from ≤ length held.now }
-    ensures room { IfOk result (λ x. x.0 ≤ length held.now) }
-    ensures worked { (pages : ℕ) (shapes : List shapes.Shape) (before : List records.Record) → HasRead (map D.state disks.old) pages shapes before intake.old (take from held.now)
-        → Worked (map D.state disks.old) (map D.state disks.new) pages shapes intake.new held.now result }
+    ensures room { IfOk result (λ x. x.0 ≤ length bytes.now) }
+    ensures few { IfOk result (λ x. length bytes.now ≤ 131077 + x.0) }
+    ensures memory { (front : List ℕ) (pages : ℕ) (shapes : List shapes.Shape) (before : List records.Record) → Holds256 taken.old front → HasRead (map D.state disks.old) pages shapes before intake.old front
+        → result ≡ Err errors.NoMemory → HasDevice (sizes_of D.state disks.old) (front ++ bytes.now) (length front) }
+    ensures worked { (front : List ℕ) (pages : ℕ) (shapes : List shapes.Shape) (before : List records.Record) → Holds256 taken.old front → HasRead (map D.state disks.old) pages shapes before intake.old front
+        → Worked (map D.state disks.old) (map D.state disks.new) pages shapes intake.new taken.new front bytes.now result }
 {
-    let mut at = from;
-    while at < held.len() {
-        let (front, rest) = held.split_at(at);
-        match take_part(alloc, intake, disks, front, rest) {
+    let mut at = 0;
+    while at < bytes.len() {
+        let (_, rest) = bytes.split_at(at);
+        match take_part(alloc, intake, disks, taken, rest) {
             Err(error) => return Err(error),
             Ok(Part::Wait) => return Ok((at, false)),
-            Ok(Part::Record(len)) => at += len,
+            Ok(Part::Record(len)) => {
+                let (record, _) = rest.split_at(len);
+                taken.update(record);
+                at += len;
+            }
             Ok(Part::End) => {
-                if at + 33 < held.len() {
+                if at + COMMIT_RECORD < bytes.len() {
                     return Err(RecvError::Trailing);
                 }
-                return Ok((at + 33, true));
+                return Ok((at + COMMIT_RECORD, true));
             }
         }
     }

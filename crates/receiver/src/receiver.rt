@@ -7,12 +7,13 @@ ghost use Rattle.receiver.specs.Receiving.{has_failed, rounds_in};
 use crate::intake::Intake;
 use crate::recv_error::RecvError;
 use crate::stage::Stage;
-use crate::stepping::step;
-use guestmem::recall_bytes;
+use crate::taking::take_piece;
 use machine::{Disk, Machine};
+use sha2::{Digest, Sha256};
 use std::alloc::Global;
 use std::marker::Model;
 use std::mem;
+use wire::RECORD_MAX;
 
 /// A receiver that is fed a stream of a machine in any pieces.
 #[derive(Drop)]
@@ -20,31 +21,33 @@ pub struct Receiver<D: Disk> {
     alloc: Global,
     disks: Vec<D>,
     held: Vec<u8>,
-    at: usize,
+    taken: Sha256,
     stage: Stage,
 }
 
 impl<D: Disk> Model for Receiver<D> {
     ghost use Rattle.std.specs.Prelude.{map};
-    ghost use Rattle.receiver.specs.Disks.{disk_marks_of, sizes_of};
-    ghost use Rattle.receiver.specs.Receiving.{IsKnown, Received, has_failed, rounds_in};
+    ghost use Rattle.std.specs.Vec.{vec_capacity};
+    ghost use Rattle.receiver.specs.Receiving.{IsReceiver, Received, received_by};
 
     ghost Value = { Received };
 
-    ghost view = { λ r. record { sizes = sizes_of D.state r.disks.items; marks = disk_marks_of D.state r.disks.items; bytes = r.held.items; rounds = rounds_in r.stage; failed = has_failed r.stage } };
+    ghost view = { λ r. received_by (map D.state r.disks.items) r.stage r.taken r.held.items };
 
-    ghost invariant = { λ r. IsKnown (map D.state r.disks.items) r.held.items r.at r.stage };
+    ghost invariant = { λ r. IsReceiver (map D.state r.disks.items) r.taken r.held.items (vec_capacity r.held) r.stage };
 }
 
 impl<D: Disk + Drop> Receiver<D> {
-    ghost use Rattle.std.specs.Prelude.{◌≡◌, ◌++◌, [], ℕ, List, IfOk, IfErr, OnOk, OnErr, Err, true, false};
+    ghost use Rattle.std.specs.Prelude.{◌≡◌, ◌++◌, ◌+◌, [], ℕ, List, ◌≤◌, IfOk, IfErr, OnOk, OnErr, Err, length, true, false};
     ghost use Rattle.machine.specs.First.{dealt_marks};
     ghost use Rattle.machine.specs.Seen.{all_marks, state_of};
     ghost use Rattle.machine.specs.Shapes.{disk_sizes};
+    ghost use Rattle.machine.specs.declared.shape.Shape.{Shape};
+    ghost use Rattle.wire.specs.Header.{Begins};
     ghost use Rattle.wire.specs.Stream.{IsStream, shapes_in};
     ghost use Rattle.receiver.specs.declared.recv_error.RecvError.TheVariants as errors;
     ghost use Rattle.receiver.specs.Disks.{AreHonestDisks, MarksAfter, disk_marks_of, sizes_of};
-    ghost use Rattle.receiver.specs.Receiving.{HasBeenFed, NoFault, IsFinish, HasRounds, IsWholeFor, TellsNow};
+    ghost use Rattle.receiver.specs.Receiving.{HasBeenFed, HasDevice, NoFault, IsFinish, HasRounds, IsWholeFor, TellsNow};
 
     /// A receiver that was fed nothing, with these disks. It takes no memory.
     pub fn new(alloc: Global, disks: Vec<D>) -> Receiver<D>
@@ -56,13 +59,13 @@ impl<D: Disk + Drop> Receiver<D> {
             alloc,
             disks,
             held: Vec::new(alloc),
-            at: 0,
+            taken: Sha256::new(),
             stage: Stage::Head,
         }
     }
 
     /// Takes the next piece. The good sectors in it are written to the disks. `DiskFailed` is returned exactly if a
-    /// disk failed.
+    /// disk failed. After the header `NoMemory` is returned only with the last byte of a device's record.
     pub fn feed(&mut self, piece: &[u8]) -> Result<(), RecvError>
         ensures sizes { self.new.sizes ≡ self.old.sizes }
         ensures marks { MarksAfter self.old.marks result self.new.marks }
@@ -71,23 +74,48 @@ impl<D: Disk + Drop> Receiver<D> {
         ensures told { IfErr result (λ e. (b : List ℕ) → HasBeenFed self.old b → TellsNow self.old.sizes b piece.now e) }
         ensures failed { OnErr result (self.new.failed ≡ true) }
         ensures already { self.old.failed ≡ true → result ≡ Err errors.AlreadyFailed }
+        ensures memory { result ≡ Err errors.NoMemory → (b : List ℕ) → HasBeenFed self.old b → (pages : ℕ) (shapes : List Shape) (rest : List ℕ) → Begins b pages shapes rest
+            → (from : ℕ) → from + length self.old.held ≡ length b → HasDevice self.old.sizes (b ++ piece.now) from }
     {
         if is_failed(&self.stage) {
             return Err(RecvError::AlreadyFailed);
         }
-        if self.held.extend_from_slice(piece).is_err() {
+        if piece.is_empty() {
+            return Ok(());
+        }
+        let room = RECORD_MAX - self.held.len();
+        if self.held.reserve_exact(room).is_err() {
+            self.held.clear();
             self.stage = Stage::Failed;
             return Err(RecvError::NoMemory);
         }
         let stage = mem::replace(&mut self.stage, Stage::Failed);
-        match step(self.alloc, &mut self.disks, &self.held, self.at, stage) {
-            Ok((at, stage)) => {
-                self.at = at;
+        match take_piece(
+            self.alloc,
+            &mut self.disks,
+            &mut self.held,
+            &mut self.taken,
+            stage,
+            piece,
+        ) {
+            Ok(stage) => {
                 self.stage = stage;
                 Ok(())
             }
-            Err(error) => Err(error),
+            Err(error) => {
+                self.held.clear();
+                Err(error)
+            }
         }
+    }
+
+    /// The number of bytes that are held: those that were fed since the end of the last whole header or record.
+    pub fn held(&self) -> u64
+        ensures held { result ≡ length self.now.held }
+        ensures few { result ≤ 131077 }
+        ensures failed { self.now.failed ≡ true → result ≡ 0 }
+    {
+        self.held.len() as u64
     }
 
     /// How many rounds ended in what was read.
@@ -115,11 +143,10 @@ impl<D: Disk + Drop> Receiver<D> {
         let Receiver {
             alloc,
             disks,
-            held,
-            at: _,
+            held: _,
+            taken: _,
             stage,
         } = self;
-        recall_bytes(&held);
         recall_disks(&disks);
         match stage {
             Stage::Ended(intake) => {

@@ -1,6 +1,7 @@
 //! From one stage to the next.
 
-ghost use Rattle.std.specs.Prelude.{◌≡◌, ◌≤◌, ◌++◌, [], ℕ, List, IfOk, false, map, replicate, take, length};
+ghost use Rattle.std.specs.Prelude.{◌≡◌, ◌≤◌, ◌+◌, ◌++◌, [], ℕ, List, Err, IfOk, false, map, replicate, length};
+ghost use Rattle.sha2.specs.Hashers.{Holds256};
 ghost use Rattle.blk.specs.Disk.{DiskState};
 ghost use Rattle.wire.specs.Header.{header, Begins, IsHeader};
 ghost use Rattle.wire.specs.Records as records;
@@ -9,7 +10,8 @@ ghost use Rattle.machine.specs.declared.shape.Shape as shapes;
 ghost use Rattle.machine.specs.Shapes.{disk_sizes};
 ghost use Rattle.receiver.specs.Disks.{sizes_in, sizes_of};
 ghost use Rattle.receiver.specs.Fed.{HasRead};
-ghost use Rattle.receiver.specs.Receiving.{IsKnown, GoesOn, Stepped};
+ghost use Rattle.receiver.specs.declared.recv_error.RecvError.TheVariants as errors;
+ghost use Rattle.receiver.specs.Receiving.{HasDevice, IsKnown, IsPastHead, Stepped};
 
 use crate::heading::read_heading;
 use crate::intake::{Intake, work_off};
@@ -18,6 +20,7 @@ use crate::stage::Stage;
 use dirtylog::BitSet;
 use guestmem::{NoMemory, Ram};
 use machine::{Disk, Shape, are_disks_of};
+use sha2::{Digest, Sha256};
 use std::alloc::Global;
 
 /// The item number of the first sector of each device, and the count of items.
@@ -72,30 +75,41 @@ fn new_intake<D: Disk>(
     })
 }
 
-/// Takes the complete records from offset `from` on.
+/// Takes the complete records at the front of the bytes; returns how many bytes they have.
 fn advance<D: Disk>(
     alloc: Global,
     intake: Intake,
     disks: &mut [D],
-    held: &[u8],
-    from: usize,
+    taken: &mut Sha256,
+    bytes: &[u8],
 ) -> Result<(usize, Stage), RecvError>
-    requires { from ≤ length held.now }
-    ensures { (pages : ℕ) (shapes : List shapes.Shape) (before : List records.Record) → HasRead (map D.state disks.old) pages shapes before intake (take from held.now) → Stepped (map D.state disks.old) (map D.state disks.new) held.now result }
+    ensures room { IfOk result (λ x. x.0 ≤ length bytes.now) }
+    ensures few { IfOk result (λ x. length bytes.now ≤ 131077 + x.0) }
+    ensures past { IfOk result (λ x. IsPastHead x.1) }
+    ensures memory { (front : List ℕ) (pages : ℕ) (shapes : List shapes.Shape) (before : List records.Record) → Holds256 taken.old front → HasRead (map D.state disks.old) pages shapes before intake front
+        → result ≡ Err errors.NoMemory → HasDevice (sizes_of D.state disks.old) (front ++ bytes.now) (length front) }
+    ensures stepped { (front : List ℕ) (pages : ℕ) (shapes : List shapes.Shape) (before : List records.Record) → Holds256 taken.old front → HasRead (map D.state disks.old) pages shapes before intake front → Stepped (map D.state disks.old) (map D.state disks.new) taken.new front bytes.now result }
 {
     let mut intake = intake;
-    match work_off(alloc, &mut intake, disks, held, from) {
+    match work_off(alloc, &mut intake, disks, taken, bytes) {
         Ok((at, true)) => Ok((at, Stage::Ended(intake))),
         Ok((at, false)) => Ok((at, Stage::Records(intake))),
         Err(error) => Err(error),
     }
 }
 
-/// Reads the header, if it is complete, and the complete records after it.
-fn begin<D: Disk>(alloc: Global, disks: &mut [D], held: &[u8]) -> Result<(usize, Stage), RecvError>
-    ensures { Stepped (map D.state disks.old) (map D.state disks.new) held.now result }
+/// Reads the header, if it is complete, and the complete records after it; returns how many bytes they have.
+fn begin<D: Disk>(
+    alloc: Global,
+    disks: &mut [D],
+    taken: &mut Sha256,
+    bytes: &[u8],
+) -> Result<(usize, Stage), RecvError>
+    ensures room { IfOk result (λ x. x.0 ≤ length bytes.now) }
+    ensures few { IfOk result (λ x. length bytes.now ≤ 131077 + x.0) }
+    ensures stepped { Holds256 taken.old [] → Stepped (map D.state disks.old) (map D.state disks.new) taken.new [] bytes.now result }
 {
-    let heading = match read_heading(alloc, held) {
+    let heading = match read_heading(alloc, bytes) {
         Ok(Some(heading)) => heading,
         Ok(None) => return Ok((0, Stage::Head)),
         Err(error) => return Err(error),
@@ -103,32 +117,40 @@ fn begin<D: Disk>(alloc: Global, disks: &mut [D], held: &[u8]) -> Result<(usize,
     if !are_disks_of(&heading.shapes, disks) {
         return Err(RecvError::ShapeMismatch);
     }
+    let len = heading.len;
     let Ok(intake) = new_intake(alloc, disks, heading.pages, heading.shapes) else {
         return Err(RecvError::NoMemory);
     };
-    advance(alloc, intake, disks, held, heading.len)
+    let (header, rest) = bytes.split_at(len);
+    taken.update(header);
+    match advance(alloc, intake, disks, taken, rest) {
+        Ok((at, stage)) => Ok((len + at, stage)),
+        Err(error) => Err(error),
+    }
 }
 
-/// Continues with the bytes held, which are one piece more than before.
+/// Takes what is complete at the front of the bytes, which follow those that were worked off; returns how many bytes it has.
 pub fn step<D: Disk>(
     alloc: Global,
     disks: &mut [D],
-    held: &[u8],
-    at: usize,
+    taken: &mut Sha256,
+    bytes: &[u8],
     stage: Stage,
 ) -> Result<(usize, Stage), RecvError>
-    requires goes_on { GoesOn stage }
-    requires within { at ≤ length held.now }
-    ensures { (old piece : List ℕ) → held.now ≡ old ++ piece → IsKnown (map D.state disks.old) old at stage → Stepped (map D.state disks.old) (map D.state disks.new) held.now result }
+    ensures room { IfOk result (λ x. x.0 ≤ length bytes.now) }
+    ensures few { IfOk result (λ x. length bytes.now ≤ 131077 + x.0) }
+    ensures past { IsPastHead stage → IfOk result (λ x. IsPastHead x.1) }
+    ensures memory { (front held : List ℕ) → IsKnown (map D.state disks.old) taken.old front held stage → IsPastHead stage → result ≡ Err errors.NoMemory → HasDevice (sizes_of D.state disks.old) (front ++ bytes.now) (length front) }
+    ensures stepped { (front held : List ℕ) → IsKnown (map D.state disks.old) taken.old front held stage → Stepped (map D.state disks.old) (map D.state disks.new) taken.new front bytes.now result }
 {
     match stage {
-        Stage::Head => begin(alloc, disks, held),
-        Stage::Records(intake) => advance(alloc, intake, disks, held, at),
+        Stage::Head => begin(alloc, disks, taken, bytes),
+        Stage::Records(intake) => advance(alloc, intake, disks, taken, bytes),
         Stage::Ended(intake) => {
-            if at < held.len() {
+            if !bytes.is_empty() {
                 return Err(RecvError::Trailing);
             }
-            Ok((at, Stage::Ended(intake)))
+            Ok((0, Stage::Ended(intake)))
         }
         Stage::Failed => Err(RecvError::AlreadyFailed),
     }

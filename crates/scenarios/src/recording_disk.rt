@@ -38,7 +38,7 @@ impl<'w> RecordingDisk<'w> {
 }
 
 impl Disk for RecordingDisk<'_> {
-    ghost state = { λ d. record { sectors = d.disk; failures = d.failures; honest = true; steady = false } };
+    ghost state = { λ d. record { sectors = d.disk; failures = d.failures; honest = true; steady = false; is_flushed = true } };
 
     fn sectors(&self) -> u64 {
         self.disk.sectors()

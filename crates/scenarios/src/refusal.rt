@@ -6,6 +6,7 @@ use crate::stream::{PIECES, refusal_in_pieces, refusal_of};
 use anyhow::{Context, Result, ensure};
 use books::{Script, spelled};
 use machine::{FaultDisk, MemDisk};
+use receiver::Receiver;
 use std::alloc::Global;
 use wire::decode_header;
 
@@ -22,8 +23,14 @@ const SELDOM: usize = 16;
 ///
 /// A line may stand for many streams (`Streams`). Then the numbers are encoded like a stream, and of the offsets `PLACE*COUNT`
 /// stands for COUNT equal ones.
+///
+/// After `HELD OF` and a stream come numbers of bytes, ` AT ` and offsets: so many bytes a receiver holds when it was fed the
+/// stream up to each offset, in pieces of any size.
 pub fn tells(alloc: Global, line: &str) -> Result<()> {
     let (streams, told) = line.split_once(" -> ").context("no number")?;
+    if let Some(stream) = streams.strip_prefix("HELD OF ") {
+        return holds(alloc, stream, told).context(line);
+    }
     let (numbers, places) = told.split_once(" AT ").unwrap_or((told, ""));
     let (disks, streams) = streams.split_once(", AND ").unwrap_or(("", streams));
     let streams = Streams::read(alloc, streams)?;
@@ -35,6 +42,35 @@ pub fn tells(alloc: Global, line: &str) -> Result<()> {
     ensure!(refusals.numbers.len() == streams.count(), "{line}");
     for place in 0..streams.count() {
         refusals.tell(alloc, &streams, place).context(line)?;
+    }
+    Ok(())
+}
+
+/// Fails if a receiver holds another number of bytes of a stream.
+fn holds(alloc: Global, stream: &str, told: &str) -> Result<()> {
+    let streams = Streams::read(alloc, stream)?;
+    let (counts, places) = told.split_once(" AT ").context("no offsets")?;
+    let counts = counted(alloc, counts)?;
+    let places = counted(alloc, places)?;
+    ensure!(counts.len() == places.len(), "as many offsets");
+    for size in PIECES {
+        let disks = disks_by(alloc, "", streams.whole())?;
+        let mut receiver = Receiver::new(alloc, disks);
+        let mut fed = 0usize;
+        for (place, count) in places.iter().zip(counts.iter()) {
+            let part = streams.whole().get(fed..*place).context("an offset")?;
+            feed_in_pieces(&mut receiver, part, size)?;
+            let held = receiver.held();
+            ensure!(held == *count as u64, "{held} of {place} in pieces of {size}");
+            fed = *place;
+        }
+    }
+    Ok(())
+}
+
+fn feed_in_pieces(receiver: &mut Receiver<TestDisk>, part: &[u8], size: usize) -> Result<()> {
+    for piece in part.chunks(size.max(1)) {
+        receiver.feed(piece)?;
     }
     Ok(())
 }

@@ -47,7 +47,7 @@ member_below (b ∷ s) zero is = omega arith
 member_below (b ∷ s) (suc i) is = omega (arith, member_below s i is)
 
 -- What is no member stays none.
-still_none : (s : List Bool) (n k : ℕ) → has s k ≡ false → has (set s n false) k ≡ false
+pub still_none : (s : List Bool) (n k : ℕ) → has s k ≡ false → has (set s n false) k ≡ false
 still_none [] n k none = none
 still_none (b ∷ s) zero zero none = refl
 still_none (b ∷ s) zero (suc k) none = none

@@ -70,3 +70,7 @@ sends_nothing m out x done e = record { memory = refl; state = refl; marks = ref
 
 pub takes_nothing : {A : Type 0} (m : Seen) (a : List ℕ → Type 0) (x : List ℕ) (done : A) → x ≡ [] → TakesOn m a x (Ok done) a
 takes_nothing m a x done e = λ disks before h. subst a (sym (ap (λ bytes. before ++ bytes) e ∙ append-nil before)) h
+
+-- What a call that succeeded returned is no part of what it sent.
+pub sends_alike : {A B : Type 0} (old new : Seen) (out new_out : SinkState) (x : List ℕ) (done : A) (other : B) → Sends old out x (Ok done) new new_out → Sends old out x (Ok other) new new_out
+sends_alike old new out new_out x done other sent = record { memory = sent.memory; state = sent.state; marks = sent.marks; named = tt; count = sent.count; holds = sent.holds }

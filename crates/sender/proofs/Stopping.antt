@@ -114,8 +114,13 @@ sent_one old mid new i h due_in dirty_in member sent =
 more_counted : (p : ℕ → Bool) (q : ℕ → Bool) (i : ℕ) → p i ≡ true → how_many (λ k. p k && q k) (i + 1) ≡ how_many (λ k. p k && q k) i + cond (q i) 1 0
 more_counted p q i is = rw (add-one, is) refl
 
-none_counted : (p : ℕ → Bool) (q : ℕ → Bool) (i : ℕ) → p i ≡ false → how_many (λ k. p k && q k) (i + 1) ≡ how_many (λ k. p k && q k) i
-none_counted p q i is = rw (add-one, is) (omega arith)
+none_counted : (p q : ℕ → Bool) (at i : ℕ) → at ≤ i → ((k : ℕ) → at ≤ k → k < i → p k ≡ false) → how_many (λ k. p k && q k) i ≡ how_many (λ k. p k && q k) at
+none_counted p q at zero h none = let e : at ≡ 0 = omega (arith, h) in rw e refl
+none_counted p q at (suc i) h none =
+    elim (or_equal at i h) as (λ _. how_many (λ k. p k && q k) (suc i) ≡ how_many (λ k. p k && q k) at) [
+      | inl a ↦ rw (none i a (omega arith)) (let before = none_counted p q at i a (λ k l b. none k l (omega (arith, b))) in omega (arith, before))
+      | inr e ↦ rw e refl
+    ]
 
 fails_after : (old mid new : LiveSeen) (at : ℕ) → AreSent old at mid → Fails mid new → Fails old new
 fails_after old mid new at h f = record { machine = f.machine ∙ h.machine; phase = f.phase; count = rw h.wrote.took.count at f.count }
@@ -186,18 +191,18 @@ along_more old mid new at pages item sent after h below member s e =
       sectors_are = rw (e, h.pages_size) (one_sector sent (nat_lt at (pages_of (now old))) _ h.sectors_are ∙ sym (more_counted (in_either old) (λ k. not (nat_lt k (pages_of (now old)))) at is));
     }
 
--- It is in none of them.
-pub along_past : (old mid : LiveSeen) (at pages : ℕ) (sent : Stopped) → Along old at pages sent mid → in_either mid at ≡ false → Along old (at + 1) pages sent mid
-along_past old mid at pages sent h none =
-    let is : in_either old at ≡ false = sym (either_same old mid at at h.are_sent.sets (omega arith)) ∙ none in
+-- No item from one number on, before another, is in one of them.
+pub along_to : (old mid : LiveSeen) (at to pages : ℕ) (sent : Stopped) → Along old at pages sent mid → at ≤ to → ((k : ℕ) → at ≤ k → k < to → in_either mid k ≡ false) → Along old to pages sent mid
+along_to old mid at to pages sent h le none =
+    let was : (k : ℕ) → at ≤ k → k < to → in_either old k ≡ false = λ k from below. sym (either_same old mid at k h.are_sent.sets from) ∙ none k from below in
     record {
       places = h.places;
       pages_size = h.pages_size;
-      are_sent = sent_to old mid at (at + 1) h.are_sent (omega arith) (λ k le below. (let same : k ≡ at = omega (arith, le, below) in rw same none));
+      are_sent = sent_to old mid at to h.are_sent le none;
       due_size = h.due_size;
       dirty_size = h.dirty_size;
-      pages_are = h.pages_are ∙ sym (none_counted (in_either old) (λ k. nat_lt k (pages_of (now old))) at is);
-      sectors_are = h.sectors_are ∙ sym (none_counted (in_either old) (λ k. not (nat_lt k (pages_of (now old)))) at is);
+      pages_are = h.pages_are ∙ sym (none_counted (in_either old) (λ k. nat_lt k (pages_of (now old))) at to le was);
+      sectors_are = h.sectors_are ∙ sym (none_counted (in_either old) (λ k. not (nat_lt k (pages_of (now old)))) at to le was);
     }
 
 pub short_of : (old mid new : LiveSeen) (at pages : ℕ) (sent : Stopped) (e : MigError) → Along old at pages sent mid → at < length old.due → in_either mid at ≡ true → SendsItem mid at (Err e) new → SendsAll old (Err e) new

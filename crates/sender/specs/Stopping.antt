@@ -1,5 +1,5 @@
 -- The parts of a copy and of a stop.
-use Rattle.std.specs.Prelude.{◌≡◌, ℕ, ◌+◌, ◌<◌, ◌≤◌, ◌^◌, if◌then◌else◌, List, Bool, true, false, Result, Ok, Err, length}
+use Rattle.std.specs.Prelude.{◌≡◌, ℕ, ◌+◌, ◌<◌, ◌≤◌, ◌^◌, if◌then◌else◌, List, Bool, true, false, Option, Some, None, Result, Ok, Err, length, min}
 use Rattle.dirtylog.specs.Members.{has}
 use Rattle.sha2.specs.Hashers.{Holds256}
 use Rattle.guestmem.specs.Item as items
@@ -74,6 +74,16 @@ SendsAll old (Ok s) new = AllSent old s.pages s.sectors new
 SendsAll old (Err (errors.DiskFailed dev n)) new = StopsShort old dev n new
 SendsAll old (Err errors.StreamFailed) new = Fails old new
 SendsAll old (Err _) new = ⊥
+
+-- The lesser of two numbers, of which each may be missing.
+abbrev pub lesser : Option ℕ → Option ℕ → Option ℕ
+lesser None b = b
+lesser (Some a) None = Some a
+lesser (Some a) (Some b) = Some (min a b)
+
+-- A set has no member up to a number.
+abbrev pub HasNoneUpTo : List Bool → ℕ → Type 0
+HasNoneUpTo set n = (k : ℕ) → k ≤ n → has set k ≡ false
 
 -- The stream was closed, and the writer flushed.
 pub record IsClosed (old new : LiveSeen) : Type 0 where

@@ -5,7 +5,8 @@
 //!   `specs/Stream`), if the disks are honest. An error is returned exactly if a count of failures rose: `StreamFailed`
 //!   if the sink's did, and `DiskFailed` with the sector if a disk's did. A bad sector is written with no call of its
 //!   disk. After an Ok the sink was flushed after its last byte. The machine stays equal. It takes no memory of its
-//!   own.
+//!   own, and asks the marks of a disk once for each bad sector, not once for each sector.
+//! - `saved_len(machine)` is the length of that stream, made without it.
 //! - `Live` is a machine that is migrated while it runs. Contracts see of it the machine, the phase (fresh, a round
 //!   open, stopped, failed), two sets of items, *due* and *dirty*, what its digest may have taken, and what its writer
 //!   holds. One clause, `Serves` (`specs/Calls`), says what each call does, by its reply:
@@ -46,6 +47,7 @@ mod dirty;
 mod event;
 pub mod laws;
 mod live;
+mod measuring;
 mod mig_error;
 mod numbering;
 mod phase;
@@ -55,6 +57,7 @@ mod saving;
 
 pub use event::{CopyAnswer, End, Item, LiveEvent, LiveReply, Remaining, Stopped};
 pub use live::Live;
+pub use measuring::saved_len;
 pub use mig_error::MigError;
 pub use phase::Phase;
 pub use played::Replay;

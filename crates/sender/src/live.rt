@@ -1,13 +1,13 @@
 //! A machine that is migrated while it runs.
 
-ghost use Rattle.std.specs.Prelude.{◌≡◌, ◌<◌, ◌^◌, ◌-◌, IfOk, IfErr, []};
-ghost use Rattle.dirtylog.specs.Members.{HasNone, member_count};
+ghost use Rattle.std.specs.Prelude.{◌≡◌, ◌≢◌, ◌<◌, ◌^◌, ◌-◌, IfOk, IfErr, Some, [], length};
+ghost use Rattle.dirtylog.specs.Members.{HasNone, IsLeastFrom, member_count};
 ghost use Rattle.sha2.specs.Hashers.{Holds256};
 ghost use Rattle.machine.specs.declared.event.Event.TheVariants as events;
 ghost use Rattle.machine.specs.Layout.{layout_of, size_of};
 ghost use Rattle.sender.specs.LiveState.{now, refusal_for};
-ghost use Rattle.sender.specs.Calls.{Serves, begun_reply, copied_reply, ended_reply, guest_reply, in_either, stopped_reply};
-ghost use Rattle.sender.specs.Stopping.{Closes, HasPlaces, SendsAll, SendsItem, one_more, phase_after};
+ghost use Rattle.sender.specs.Calls.{Serves, begun_reply, copied_reply, ended_reply, guest_reply, stopped_reply};
+ghost use Rattle.sender.specs.Stopping.{Closes, HasNoneUpTo, HasPlaces, SendsAll, SendsItem, lesser, one_more, phase_after};
 
 use crate::dirty::Dirty;
 use crate::event::{CopyAnswer, End, Item, LiveEvent, LiveReply, Remaining, Stopped};
@@ -177,9 +177,8 @@ impl<D: Disk, W: Sink> Live<D, W> {
     pub fn apply(&mut self, event: &Event) -> Result<Reply, MigError>
         ensures { Serves self.old (LiveEvent.Guest event.now) (guest_reply result) self.new }
     {
-        match self.stage {
-            Phase::Stopped => return Err(MigError::AlreadyStopped),
-            _ => {}
+        if let Phase::Stopped = self.stage {
+            return Err(MigError::AlreadyStopped);
         }
         Ok(self.source.apply_logged(event, &mut self.changed))
     }
@@ -189,9 +188,8 @@ impl<D: Disk, W: Sink> Live<D, W> {
     pub fn write_ram(&mut self, addr: u64, bytes: &[u8]) -> Result<Reply, MigError>
         ensures { Serves self.old (LiveEvent.Guest (events.MemWrite addr bytes.now)) (guest_reply result) self.new }
     {
-        match self.stage {
-            Phase::Stopped => return Err(MigError::AlreadyStopped),
-            _ => {}
+        if let Phase::Stopped = self.stage {
+            return Err(MigError::AlreadyStopped);
         }
         let answer = self.source.write_ram_logged(addr, bytes, &mut self.changed);
         Ok(Reply::from_done(answer))
@@ -201,9 +199,8 @@ impl<D: Disk, W: Sink> Live<D, W> {
     pub fn input(&mut self, dev: u8, bytes: &[u8]) -> Result<Reply, MigError>
         ensures { Serves self.old (LiveEvent.Guest (events.Input dev bytes.now)) (guest_reply result) self.new }
     {
-        match self.stage {
-            Phase::Stopped => return Err(MigError::AlreadyStopped),
-            _ => {}
+        if let Phase::Stopped = self.stage {
+            return Err(MigError::AlreadyStopped);
         }
         Ok(Reply::from_accepted(self.source.input(dev, bytes)))
     }
@@ -212,22 +209,18 @@ impl<D: Disk, W: Sink> Live<D, W> {
     pub fn begin(&mut self) -> Result<u32, MigError>
         ensures { Serves self.old LiveEvent.Begin (begun_reply result) self.new }
     {
-        match self.refusal(&LiveEvent::Begin) {
-            Some(error) => return Err(error),
-            None => {}
+        if let Some(error) = self.refusal(&LiveEvent::Begin) {
+            return Err(error);
         }
         let pages = page_count(&self.source);
-        match write_header(
+        if let Err(_) = write_header(
             pages as u32,
             self.source.shapes(),
             &mut self.writer,
             &mut self.taken,
         ) {
-            Ok(()) => {}
-            Err(_) => {
-                self.stage = Phase::Failed;
-                return Err(MigError::StreamFailed);
-            }
+            self.stage = Phase::Failed;
+            return Err(MigError::StreamFailed);
         }
         self.left.fill();
         self.at = 0;
@@ -242,12 +235,9 @@ impl<D: Disk, W: Sink> Live<D, W> {
         ensures { SendsItem self.old number result self.new }
     {
         let item = item_at(&self.source, number);
-        match send_item(&mut self.source, item, &mut self.writer, &mut self.taken) {
-            Ok(()) => {}
-            Err(error) => {
-                self.stage = phase_after(self.stage, error);
-                return Err(error);
-            }
+        if let Err(error) = send_item(&mut self.source, item, &mut self.writer, &mut self.taken) {
+            self.stage = phase_after(self.stage, error);
+            return Err(error);
         }
         self.left.remove(number);
         self.changed.set.remove(number);
@@ -259,29 +249,23 @@ impl<D: Disk, W: Sink> Live<D, W> {
     pub fn copy(&mut self) -> Result<CopyAnswer, MigError>
         ensures { Serves self.old LiveEvent.Copy (copied_reply result) self.new }
     {
-        match self.refusal(&LiveEvent::Copy) {
-            Some(error) => return Err(error),
-            None => {}
+        if let Some(error) = self.refusal(&LiveEvent::Copy) {
+            return Err(error);
         }
         let Some(number) = self.left.first_from(self.at) else {
             return Ok(CopyAnswer::RoundDone);
         };
-        match self.send(number) {
-            Ok(item) => {
-                self.at = number + 1;
-                return Ok(CopyAnswer::Copied(item));
-            }
-            Err(error) => return Err(error),
-        }
+        let item = self.send(number)?;
+        self.at = number + 1;
+        Ok(CopyAnswer::Copied(item))
     }
 
     /// Ends a round: the dirty items become due.
     pub fn end_round(&mut self) -> Result<End, MigError>
         ensures { Serves self.old LiveEvent.EndRound (ended_reply result) self.new }
     {
-        match self.refusal(&LiveEvent::EndRound) {
-            Some(error) => return Err(error),
-            None => {}
+        if let Some(error) = self.refusal(&LiveEvent::EndRound) {
+            return Err(error);
         }
         let Phase::Open(round) = self.stage else {
             return Err(MigError::NotBegun);
@@ -289,12 +273,9 @@ impl<D: Disk, W: Sink> Live<D, W> {
         if !self.left.is_empty() {
             return Ok(End::RoundOpen);
         }
-        match write_round(round, &mut self.writer, &mut self.taken) {
-            Ok(()) => {}
-            Err(_) => {
-                self.stage = Phase::Failed;
-                return Err(MigError::StreamFailed);
-            }
+        if let Err(_) = write_round(round, &mut self.writer, &mut self.taken) {
+            self.stage = Phase::Failed;
+            return Err(MigError::StreamFailed);
         }
         self.changed.set.swap_out(&mut self.left);
         self.at = 0;
@@ -302,15 +283,8 @@ impl<D: Disk, W: Sink> Live<D, W> {
         Ok(End::Begun(round + 1))
     }
 
-    /// Whether an item is due or dirty.
-    fn is_left(&self, number: u64) -> bool
-        requires { number < size_of (layout_of (now self.now)) }
-        ensures { result ≡ in_either self.now number }
-    {
-        self.left.contains(number) || self.changed.set.contains(number)
-    }
-
-    /// Sends all items of the two sets.
+    /// Sends all items of the two sets. A set is searched again only once the member that was found in it is sent, so all searches
+    /// together go over each set once.
     fn send_all(&mut self) -> Result<Stopped, MigError>
         ensures { SendsAll self.old result self.new }
     {
@@ -320,14 +294,15 @@ impl<D: Disk, W: Sink> Live<D, W> {
             pages: 0,
             sectors: 0,
         };
-        for number in 0..self.left.len() {
-            if self.is_left(number) {
-                match self.send(number) {
-                    Ok(_) => {}
-                    Err(error) => return Err(error),
-                }
-                sent = counted(sent, number < pages);
+        let mut due = self.left.first_from(0);
+        let mut dirty = self.changed.set.first_from(0);
+        'items: while let Some(number) = lesser(due, dirty) {
+            if let Err(error) = self.send(number) {
+                return Err(error);
             }
+            sent = counted(sent, number < pages);
+            due = next_past(&self.left, number, due);
+            dirty = next_past(&self.changed.set, number, dirty);
         }
         Ok(sent)
     }
@@ -336,20 +311,14 @@ impl<D: Disk, W: Sink> Live<D, W> {
     fn close(&mut self) -> Result<(), MigError>
         ensures { Closes self.old result self.new }
     {
-        match write_devices(&self.source, &mut self.writer, &mut self.taken) {
-            Ok(()) => {}
-            Err(_) => {
-                self.stage = Phase::Failed;
-                return Err(MigError::StreamFailed);
-            }
+        if let Err(_) = write_devices(&self.source, &mut self.writer, &mut self.taken) {
+            self.stage = Phase::Failed;
+            return Err(MigError::StreamFailed);
         }
         let digest = mem::replace(&mut self.taken, Sha256::new());
-        match write_end(&digest.finalize(), &mut self.writer) {
-            Ok(()) => {}
-            Err(_) => {
-                self.stage = Phase::Failed;
-                return Err(MigError::StreamFailed);
-            }
+        if let Err(_) = write_end(&digest.finalize(), &mut self.writer) {
+            self.stage = Phase::Failed;
+            return Err(MigError::StreamFailed);
         }
         self.stage = Phase::Stopped;
         Ok(())
@@ -360,18 +329,12 @@ impl<D: Disk, W: Sink> Live<D, W> {
     pub fn stop(&mut self) -> Result<Stopped, MigError>
         ensures { Serves self.old LiveEvent.Stop (stopped_reply result) self.new }
     {
-        match self.refusal(&LiveEvent::Stop) {
-            Some(error) => return Err(error),
-            None => {}
+        if let Some(error) = self.refusal(&LiveEvent::Stop) {
+            return Err(error);
         }
-        let sent = match self.send_all() {
-            Ok(sent) => sent,
-            Err(error) => return Err(error),
-        };
-        match self.close() {
-            Ok(()) => return Ok(sent),
-            Err(error) => return Err(error),
-        }
+        let sent = self.send_all()?;
+        self.close()?;
+        Ok(sent)
     }
 
     /// Serves any live event.
@@ -412,6 +375,30 @@ fn phase_after(phase: Phase, error: MigError) -> Phase
     match error {
         MigError::StreamFailed => Phase::Failed,
         _ => phase,
+    }
+}
+
+/// The lesser of two numbers, of which each may be missing.
+fn lesser(a: Option<u64>, b: Option<u64>) -> Option<u64>
+    ensures { result ≡ lesser a b }
+{
+    match (a, b) {
+        (Some(a), Some(b)) => Some(a.min(b)),
+        (None, found) | (found, None) => found,
+    }
+}
+
+/// The least member of a set that has none up to `number`: the one that was found, unless it was this number.
+fn next_past(set: &BitSet, number: u64, found: Option<u64>) -> Option<u64>
+    requires inside { number < length set.now }
+    requires passed { HasNoneUpTo set.now number }
+    requires found { found ≢ Some number → IsLeastFrom set.now 0 found }
+    ensures { IsLeastFrom set.now 0 result }
+{
+    if found == Some(number) {
+        set.first_from(number)
+    } else {
+        found
     }
 }
 

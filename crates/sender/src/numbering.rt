@@ -25,10 +25,11 @@ pub(crate) fn page_count<D: Disk>(machine: &Machine<D>) -> u64
 }
 
 /// How many sectors the disk of a device has.
-fn sector_count<D: Disk>(machine: &Machine<D>, dev: u8) -> u64
+pub(crate) fn sector_count<D: Disk>(machine: &Machine<D>, dev: u8) -> u64
     requires { dev < length (state_of machine.now).devices }
     ensures count { result ≡ size_on (state_of machine.now) dev }
     ensures few { result ≤ 4294967295 }
+    ensures sound { IsSound (state_of machine.now) }
 {
     machine.shapes()[dev as usize].sectors()
 }

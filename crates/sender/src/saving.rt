@@ -1,9 +1,11 @@
 //! Saves a whole machine to a sink.
 
-ghost use Rattle.std.specs.Prelude.{◌≡◌, ◌<◌, ◌++◌, ℕ, List, IfErr, OnOk, length, true};
+ghost use Rattle.std.specs.Prelude.{◌≡◌, ◌<◌, ◌+◌, ◌++◌, ℕ, List, IfErr, IfOk, OnOk, length, true};
 ghost use Rattle.guestmem.specs.Item.{page, sector};
-ghost use Rattle.machine.specs.EffectLaws.{HasItem};
+ghost use Rattle.machine.specs.Applied.{IsGood};
+ghost use Rattle.machine.specs.EffectLaws.{HasItem, sector_on, sectors_on};
 ghost use Rattle.machine.specs.Layout.{pages_of};
+ghost use Rattle.machine.specs.NextBad.{IsNextBad};
 ghost use Rattle.machine.specs.Seen.{state_of};
 ghost use Rattle.wire.specs.Records.{commit, spelled_record};
 ghost use Rattle.wire.specs.Sinks.{Appends, Takes};
@@ -109,7 +111,8 @@ fn write_disks<D: Disk, S: Sink, T: Tally>(
     Ok(())
 }
 
-/// Writes the record of each sector of a device's disk, in order.
+/// Writes the record of each sector of a device's disk, in order. The marks are asked for the next bad sector alone, so each
+/// other one is read without a look at them.
 fn write_disk<D: Disk, S: Sink, T: Tally>(
     machine: &mut Machine<D>,
     dev: u8,
@@ -120,9 +123,57 @@ fn write_disk<D: Disk, S: Sink, T: Tally>(
     ensures sent { Sends machine.old (S.state out.old) (disk_text (state_of machine.old) dev) result machine.new (S.state out.new) }
     ensures taken { TakesOn machine.old (T.has_taken tally.old) (disk_text (state_of machine.old) dev) result (T.has_taken tally.new) }
 {
+    let mut next_bad = machine.next_bad(dev, 0);
     for number in 0..machine.shapes()[dev as usize].sectors() {
-        send_sector(machine, dev, number as u32, out, tally)?;
+        next_bad = send_in_turn(machine, dev, number as u32, next_bad, out, tally)?;
     }
+    Ok(())
+}
+
+/// Writes the record of a sector, given the next bad one from it on, and returns the next bad one after it. A bad sector is
+/// written without a call of its disk.
+fn send_in_turn<D: Disk, S: Sink, T: Tally>(
+    machine: &mut Machine<D>,
+    dev: u8,
+    number: u32,
+    next_bad: Option<u64>,
+    out: &mut S,
+    tally: &mut T,
+) -> Result<Option<u64>, MigError>
+    requires there { HasItem (state_of machine.old) (sector dev number) }
+    requires next { IsNextBad (state_of machine.old) dev number next_bad }
+    ensures sent { Sends machine.old (S.state out.old) (spelled_record (record_of (state_of machine.old) (sector dev number))) result machine.new (S.state out.new) }
+    ensures taken { TakesOn machine.old (T.has_taken tally.old) (spelled_record (record_of (state_of machine.old) (sector dev number))) result (T.has_taken tally.new) }
+    ensures next { IfOk result (λ next. IsNextBad (state_of machine.old) dev (number + 1) next) }
+{
+    if next_bad == Some(number as u64) {
+        write_bad_sector(dev, number, out, tally)?;
+        return Ok(machine.next_bad(dev, number as u64 + 1));
+    }
+    send_good(machine, dev, number, out, tally)?;
+    Ok(next_bad)
+}
+
+/// Writes the record of a sector that is not bad.
+fn send_good<D: Disk, S: Sink, T: Tally>(
+    machine: &mut Machine<D>,
+    dev: u8,
+    number: u32,
+    out: &mut S,
+    tally: &mut T,
+) -> Result<(), MigError>
+    requires { IsGood (sector_on (sectors_on (state_of machine.old) dev) number) }
+    ensures sent { Sends machine.old (S.state out.old) (spelled_record (record_of (state_of machine.old) (sector dev number))) result machine.new (S.state out.new) }
+    ensures taken { TakesOn machine.old (T.has_taken tally.old) (spelled_record (record_of (state_of machine.old) (sector dev number))) result (T.has_taken tally.new) }
+{
+    let mut bytes = [0; SECTOR_SIZE];
+    if let Err(_) = machine.read_good_sector(dev, number as u64, &mut bytes) {
+        return Err(MigError::DiskFailed {
+            dev,
+            sector: number,
+        });
+    }
+    write_sector(dev, number, &bytes, out, tally)?;
     Ok(())
 }
 

@@ -7,7 +7,11 @@ use Rattle.chains.specs.State.{RingState}
 use Rattle.chains.specs.Whole.{ArePlain}
 use Rattle.chains.specs.SplitChain.{AreLinked, IsFromTable, head}
 use Rattle.chains.specs.LongQueue.{AreInRow, IsSplitRow, IsLongSplit}
-use Rattle.splitring.specs.Walk.{AreFound, IsLongReplacement}
+use Rattle.chains.specs.declared.walked.Walked.{Walked}
+use Rattle.chains.specs.declared.walked.Walked.TheVariants.{Listed, Missing, NoMemory}
+use Rattle.splitring.specs.Walk.{AreListed, AreFound, IsLongReplacement, ReplaceGives, FindGives}
+use Rattle.splitring.proofs.Found.{none_replaced}
+use Rattle.splitring.proofs.Leading.{listed_alone}
 
 -- A list is a row.
 linked_in_row : (ram : List ℕ) (table entries index : ℕ) (ds : List Descriptor) → AreLinked ram table entries index ds → AreInRow ram table entries index ds
@@ -60,3 +64,16 @@ long_replaced ram q first direct is linked few r =
       long = omega (arith, r.behind.long);
       few = omega (arith, r.behind.few);
     }
+
+-- What a replacement gives for a list is what a search gives for the queue whose list it is.
+pub found_after : (ram : List ℕ) (q : RingState) (first : ℕ) (direct all : List Descriptor) (gives : Walked) → first ≡ head ram q → AreListed ram q.descriptors q.size first q.size [] direct
+    → ReplaceGives ram q.has_indirect q.size direct all gives → FindGives ram q all gives
+found_after ram q first direct all Listed is listed r =
+    let d = listed_alone ram q.descriptors q.size first q.size direct listed in
+    record { direct = direct; linked = rw is at d.0; replaced = r.0; few = r.1 }
+found_after ram q first direct all Missing is listed r =
+    let d = listed_alone ram q.descriptors q.size first q.size direct listed in
+    none_replaced ram q first direct is d.0 r
+found_after ram q first direct all NoMemory is listed r =
+    let d = listed_alone ram q.descriptors q.size first q.size direct listed in
+    long_replaced ram q first direct is d.0 d.1 r

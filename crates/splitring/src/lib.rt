@@ -1,16 +1,16 @@
 //! Split rings (VIRTIO 1.2, 2.7): the trait `Ring` of `chains` in the split layout.
 //!
 //! A split queue has a table of descriptors, an area that the driver writes (its index, and the heads of the chains that it makes
-//! available) and an area that the device writes (its index, and the chains that it has used). The ring keeps nothing of what guest
-//! memory holds: it reads the chain anew at each call, and a hostile driver can make it return nothing but what is there.
+//! available) and an area that the device writes (its index, and the chains that it has used). The ring keeps up to sixteen descriptors
+//! of the table, and uses one only while its page has not changed since: a hostile driver can make it return nothing but what is there.
 //!
 //! # What the layers above may rely on
 //! The contracts are those of the trait, over the definitions of `chains` (`SplitChain` and `Publish` among its specs). `new` makes
 //! the ring of a ready queue under the driver's features, at the positions given.
 //!
 //! Looking for a chain decodes at most one descriptor more than there are slots, whatever RAM holds: a walk stops after as many as
-//! there are slots, and a table gets the room that the descriptors before the one that names it left. That is argued here, and no
-//! contract says it.
+//! there are slots, and a table gets the room that the descriptors before the one that names it left. That is the clause `few` of
+//! the trait.
 //!
 //! `specs/Walk` has the definitions for the functions inside. Nothing is trusted here beside the crates below.
 #![tactic(auto)]
@@ -20,3 +20,6 @@ mod table;
 mod walk;
 
 pub use ring::SplitRing;
+
+#[cfg(test)]
+mod tests;

@@ -1,6 +1,9 @@
 //! A split ring.
 
-ghost use Rattle.std.specs.Prelude.{◌≡◌, ◌++◌, false, IfOk, OnErr, MatchOption, length};
+ghost use Rattle.std.specs.Prelude.{◌≡◌, ◌+◌, ◌++◌, ◌≤◌, false, length};
+ghost use Rattle.guestmem.specs.Memory.{Memory};
+ghost use Rattle.chains.specs.Decoder.{Fits, empty_decoder};
+ghost use Rattle.chains.specs.RingCore.{core_state};
 ghost use Rattle.chains.specs.State.{state_of, MayRing, HasAreas};
 ghost use Rattle.chains.specs.SplitChain.{available_index};
 ghost use Rattle.chains.specs.Publish.{is_split_due, next_index};
@@ -8,7 +11,10 @@ ghost use Rattle.byteorder.specs.Endian.{little_bytes};
 
 use crate::table::find;
 use byteorder::{ByteOrder, LittleEndian};
-use chains::{Chain, Next, Position, Positions, Ring, RingCore, is_whole, segments};
+use chains::{
+    Chain, Decoder, Descriptors, Next, NextKind, Position, Positions, Ring, RingCore, Walked,
+    fill_segments, is_whole,
+};
 use guestmem::{NoMemory, Ram, TouchLog};
 use mmio::Queue;
 use std::alloc::Global;
@@ -33,74 +39,105 @@ const NO_INTERRUPT: u16 = 1;
 #[derive(Drop)]
 pub struct SplitRing {
     core: RingCore,
+    decoder: Decoder,
 }
 
 impl Model for SplitRing {
     ghost use Rattle.std.specs.Prelude.{false};
-    ghost use Rattle.chains.specs.State.{RingState};
+    ghost use Rattle.chains.specs.RingSeen.{RingSeen};
     ghost use Rattle.chains.specs.RingCore.{core_state};
 
-    ghost Value = { RingState };
+    ghost Value = { RingSeen };
 
-    ghost view = { λ r. core_state false r.core };
+    ghost view = { λ r. record { state = core_state false r.core; decoder = r.decoder } };
 }
 
 impl SplitRing {
-    ghost use Rattle.chains.specs.SplitChain.{IsSplitChain};
-    ghost use Rattle.chains.specs.LongQueue.{IsLongSplit};
-    ghost use Rattle.chains.specs.declared.chain.Chain.{Chain as C};
+    ghost use Rattle.splitring.specs.Walk.{ChainGives};
 
     /// The ring of a queue at these positions, under the features that the driver accepted. It takes no memory: the
-    /// allocator is for the chains that it finds.
+    /// allocator is for the chains that it finds. It has decoded nothing, so what it keeps fits every RAM.
     pub fn new(alloc: Global, queue: &Queue, features: u64, positions: Positions) -> SplitRing
         requires layout { (state_of queue.now features positions).is_packed ≡ false }
         requires state { MayRing (state_of queue.now features positions) }
-        ensures { result ≡ state_of queue.now features positions }
+        ensures state { result.state ≡ state_of queue.now features positions }
+        ensures decoder { result.decoder ≡ empty_decoder 0 }
+        ensures fits { (ram : Memory) → Fits result.decoder ram }
+    {
+        SplitRing::of(RingCore::new(alloc, queue, features, positions))
+    }
+
+    /// The ring of this core, which has decoded nothing.
+    pub fn of(core: RingCore) -> SplitRing
+        ensures state { result.state ≡ core_state false core }
+        ensures decoder { result.decoder ≡ empty_decoder 0 }
+        ensures fits { (ram : Memory) → Fits result.decoder ram }
     {
         SplitRing {
-            core: RingCore::new(alloc, queue, features, positions),
+            core,
+            decoder: Decoder::new(),
         }
     }
 
-    /// The chain at the taking position, if there is one. `available` is the driver's index, which is not that
+    /// Makes it the ring of this core, in place. What it keeps stays: each descriptor is kept with its address, so it may be the
+    /// core of another queue.
+    pub fn renew(&mut self, core: RingCore)
+        ensures { self.new ≡ record { state = core_state false core; decoder = self.old.decoder } }
+    {
+        self.core = core;
+    }
+
+    /// Empties the places for descriptors.
+    pub fn forget(&mut self)
+        ensures ring { self.new ≡ record { state = self.old.state; decoder = empty_decoder self.old.decoder.decoded } }
+        ensures fits { (ram : Memory) → Fits self.new.decoder ram }
+    {
+        self.decoder.clear();
+    }
+
+    /// Fills in the chain at the taking position, if there is one. `available` is the driver's index, which is not that
     /// position.
-    fn chain(&self, ram: &Ram, available: u16) -> Result<Option<Chain>, NoMemory>
-        requires areas { HasAreas (length ram.now.bytes) self.now }
-        requires available { available ≡ available_index ram.now.bytes self.now }
-        ensures chain { IfOk result (λ found. MatchOption found
-            ((c : C) → ¬ (IsSplitChain ram.now.bytes self.now c))
-            (IsSplitChain ram.now.bytes self.now)) }
-        ensures memory { OnErr result (IsLongSplit ram.now.bytes self.now) }
+    fn fill_chain(&mut self, ram: &Ram, available: u16, chain: &mut Chain) -> Walked
+        requires areas { HasAreas (length ram.now.bytes) self.old.state }
+        requires available { available ≡ available_index ram.now.bytes self.old.state }
+        requires fits { Fits self.old.decoder ram.now }
+        ensures gives { ChainGives ram.now.bytes self.old.state chain.new result }
+        ensures state { self.new.state ≡ self.old.state }
+        ensures fits { Fits self.new.decoder ram.now }
+        ensures few { self.new.decoder.decoded ≤ self.old.decoder.decoded + (self.old.state.size + 1) }
+        ensures rises { self.old.decoder.decoded ≤ self.new.decoder.decoded }
     {
         ram.recall();
         let core = &self.core;
         // More chains than there are slots.
         if available.wrapping_sub(core.taking.place) > core.size {
-            return Ok(None);
+            return Walked::Missing;
         }
         let slot = core.taking.place % core.size;
         let head = ram.u16_at(core.driver + RING + HEAD_SIZE * slot as u64);
-        let Some(all) = find(core, ram, head)? else {
-            return Ok(None);
-        };
+        let mut all = Descriptors::new(core.alloc);
+        match find(core, &mut self.decoder, ram, head, &mut all) {
+            Walked::Listed => {}
+            Walked::Missing => return Walked::Missing,
+            Walked::NoMemory => return Walked::NoMemory,
+        }
         // A rule of both layouts.
         if !is_whole(all.as_slice(), ram, core.size) {
-            return Ok(None);
+            return Walked::Missing;
         }
-        let (readable, writable) = segments(core.alloc, all.as_slice())?;
-        Ok(Some(Chain {
-            id: head,
-            slots: 1,
-            readable,
-            writable,
-        }))
+        chain.id = head;
+        chain.slots = 1;
+        let Ok(()) = fill_segments(all.as_slice(), &mut chain.readable, &mut chain.writable) else {
+            return Walked::NoMemory;
+        };
+        Walked::Listed
     }
 
     /// Whether the driver asks for an interrupt at the used index, by what it holds in RAM now.
     #[tactic(auto, unfolding(chains::specs::Publish::is_split_due))]
     fn is_due(&self, ram: &Ram) -> bool
-        requires { HasAreas (length ram.now.bytes) self.now }
-        ensures { result ≡ is_split_due self.now ram.now.bytes }
+        requires { HasAreas (length ram.now.bytes) self.now.state }
+        ensures { result ≡ is_split_due self.now.state ram.now.bytes }
     {
         ram.recall();
         let core = &self.core;
@@ -113,17 +150,30 @@ impl SplitRing {
 }
 
 impl Ring for SplitRing {
-    ghost state = { λ r. r };
+    ghost state = { λ r. r.state };
+
+    ghost decoder = { λ r. r.decoder };
 
     fn next(&mut self, ram: &Ram) -> Result<Next, NoMemory> {
+        let mut chain = Chain::new(self.core.alloc);
+        match self.next_into(ram, &mut chain) {
+            NextKind::Empty => Ok(Next::Empty),
+            NextKind::Malformed => Ok(Next::Malformed),
+            NextKind::Chain => Ok(Next::Chain(chain)),
+            NextKind::NoMemory => Err(NoMemory),
+        }
+    }
+
+    fn next_into(&mut self, ram: &Ram, chain: &mut Chain) -> NextKind {
         ram.recall();
         let available = ram.u16_at(self.core.driver + INDEX);
         if available == self.core.taking.place {
-            return Ok(Next::Empty);
+            return NextKind::Empty;
         }
-        match self.chain(ram, available)? {
-            Some(chain) => Ok(Next::Chain(chain)),
-            None => Ok(Next::Malformed),
+        match self.fill_chain(ram, available, chain) {
+            Walked::Listed => NextKind::Chain,
+            Walked::Missing => NextKind::Malformed,
+            Walked::NoMemory => NextKind::NoMemory,
         }
     }
 
@@ -158,6 +208,10 @@ impl Ring for SplitRing {
             let event = self.core.device + RING + ELEMENT_SIZE * self.core.size as u64;
             ram.put(event, &index_bytes(self.core.taking.place), log);
         }
+    }
+
+    fn decoded(&self) -> u64 {
+        self.decoder.decoded()
     }
 
     fn positions(&self) -> Positions {

@@ -8,6 +8,7 @@ pub mod ComparingVerdict
 pub mod HonestDisks
 pub mod Likeness
 pub mod MemoryDisks
+pub mod NoMemoryTold
 pub mod PlayedLines
 pub mod Statuses
 pub mod TakenSteps

@@ -16,7 +16,7 @@ use Rattle.vmig.proofs.HonestDisks.{IsHonest}
 use Rattle.vmig.specs.Checking.{AreSizesOf, TellsSizes, zero_disks}
 
 abbrev pub in_memory : List (List ℕ) → DiskState
-in_memory d = record { sectors = d; failures = 0; honest = true; steady = true }
+in_memory d = record { sectors = d; failures = 0; honest = true; steady = true; is_flushed = true }
 
 pub sizes_are : (disks : List (List (List ℕ))) → sizes_of in_memory disks ≡ map length disks
 sizes_are [] = refl

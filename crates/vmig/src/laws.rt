@@ -1,8 +1,9 @@
 //! The laws of machines, streams and traces: functions that do nothing, whose contracts are the laws.
 
 pub use machine::laws::{
-    effects_agree, idle_without_work, malformed_asks_for_reset, malformed_is_contained,
-    refusals_change_nothing, runs_agree, shape_stays, step_keeps_shape, step_stays_sound,
+    any_disk_acts_alike, effects_agree, honest_disks_give_theirs, idle_without_work,
+    malformed_asks_for_reset, malformed_is_contained, refusals_change_nothing,
+    refused_changes_nothing, runs_agree, shape_stays, step_keeps_shape, step_stays_sound,
     step_stays_within, steps_agree, touched_exists, untouched_stays, work_gets_on,
 };
 pub use receiver::laws::{

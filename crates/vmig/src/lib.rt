@@ -1,7 +1,7 @@
 //! All that an embedder needs, from one crate, and the program `vmig` as a library.
 //!
-//! Machines, their events and their replies are those of `machine`; `Live`, `replay` and `save` are those of `sender`, and
-//! `Receiver` and `receive` those of `receiver`, over the sinks and records of `wire`; `rehearse` is that of `rehearsal`, and
+//! Machines, their events and their replies are those of `machine`; `Live`, `replay`, `save` and `saved_len` are those of `sender`,
+//! and `Receiver` and `receive` those of `receiver`, over the sinks and records of `wire`; `rehearse` is that of `rehearsal`, and
 //! `parse`, `write_reply` and what belongs to them are those of `traces`.
 //! The functions of `laws` are the laws of all of these.
 //!
@@ -49,7 +49,7 @@ pub use receiver::{Receiver, RecvError, receive};
 pub use rehearsal::{Rehearsal, rehearse};
 pub use sender::{
     CopyAnswer, End, Item, Live, LiveEvent, LiveReply, MigError, Phase, Remaining, Replay, Stopped,
-    replay, save,
+    replay, save, saved_len,
 };
 pub use traces::{
     Trace, TraceError, WriteFault, parse, parse_events, write_checked, write_guest_reply,

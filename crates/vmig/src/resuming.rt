@@ -4,10 +4,9 @@ ghost use Rattle.std.specs.Prelude.{◌≡◌, [], IfOk, IfErr, OnOk, None, fals
 ghost use Rattle.machine.specs.First.{dealt_marks};
 ghost use Rattle.machine.specs.Seen.{all_marks, state_of};
 ghost use Rattle.receiver.specs.Disks.{AreHonestDisks, disk_marks_of, sizes_of};
-ghost use Rattle.receiver.specs.Receiving.{NoFault};
 ghost use Rattle.wire.specs.Stream.{shapes_in};
 ghost use Rattle.vmig.specs.Output.{Fails, FailsOnFile, HasDoneFile, HasWritten, Silently};
-ghost use Rattle.vmig.specs.Resuming.{AreResumed, AreResumedOver, HasArrived, TellsOfArrival, TellsOfResuming, TellsOfStreamOver};
+ghost use Rattle.vmig.specs.Resuming.{AreResumed, AreResumedOver, HasArrived, IsFed, IsFedQuietly, TellsOfArrival, TellsOfResuming, TellsOfStreamOver};
 ghost use Rattle.vmig.specs.Words.{name_in};
 
 use crate::fault::Fault;
@@ -126,11 +125,10 @@ fn feed_all<'a, F: Read, D: Disk + Drop>(
     piece: &mut [u8],
     receiver: &mut Receiver<D>,
 ) -> Result<(), Fault<'a>>
-    requires { receiver.old.failed ≡ false }
+    requires { IsFed receiver.old }
     ensures sizes { receiver.new.sizes ≡ receiver.old.sizes }
     ensures marks { OnOk result (receiver.new.marks ≡ receiver.old.marks) }
-    ensures goes_on { OnOk result (receiver.new.failed ≡ false) }
-    ensures quiet { OnOk result (NoFault receiver.old.sizes receiver.new.bytes) }
+    ensures quiet { OnOk result (IsFedQuietly receiver.new) }
     ensures failed { IfErr result (TellsOfArrival name.entry.now receiver.old.sizes receiver.old.marks) }
 {
     for _ in 0..u64::MAX {
@@ -148,11 +146,11 @@ fn feed_piece<'a, F: Read, D: Disk + Drop>(
     piece: &mut [u8],
     receiver: &mut Receiver<D>,
 ) -> Result<bool, Fault<'a>>
-    requires { receiver.old.failed ≡ false }
+    requires { IsFed receiver.old }
     ensures sizes { receiver.new.sizes ≡ receiver.old.sizes }
     ensures marks { OnOk result (receiver.new.marks ≡ receiver.old.marks) }
-    ensures goes_on { OnOk result (receiver.new.failed ≡ false) }
-    ensures quiet { IfOk result (λ ended. ended ≡ true → NoFault receiver.old.sizes receiver.new.bytes) }
+    ensures goes_on { OnOk result (IsFed receiver.new) }
+    ensures quiet { IfOk result (λ ended. ended ≡ true → IsFedQuietly receiver.new) }
     ensures failed { IfErr result (TellsOfArrival name.entry.now receiver.old.sizes receiver.old.marks) }
 {
     let count = match file.read(piece) {

@@ -1,7 +1,7 @@
 -- Machines whose streams arrive in pieces.
-use Rattle.std.proofs.Common.{◌≡◌, ℕ, true, false, List, [], ◌∷◌, ◌++◌, refl, sym, ap, ◌∙◌, subst, map, length, inl, inr, append_assoc, append-nil, arith, true≢false}
-use Rattle.std.specs.Prelude.{IsTrue, IfOk, Result, Ok, Err, slice_get}
-use Rattle.std.proofs.lemmas.List.{length-append}
+use Rattle.std.proofs.Common.{◌≡◌, ℕ, true, false, List, [], ◌∷◌, ◌++◌, refl, sym, ap, ◌∙◌, subst, map, length, take, drop, inl, inr, append_assoc, append-nil, arith, true≢false}
+use Rattle.std.specs.Prelude.{IsTrue, IfErr, IfOk, Result, Ok, Err, slice_get}
+use Rattle.std.proofs.lemmas.List.{length-append, take-append-drop}
 use Rattle.std.proofs.lemmas.List.Elements.{All-map}
 use Rattle.std.proofs.lemmas.Option.{slice_get-map}
 use Rattle.machine.specs.First.{dealt_marks}
@@ -17,8 +17,12 @@ use Rattle.receiver.specs.Disks.{AreHonestDisks, HasFailed, MarksRefused, disk_m
 use Rattle.receiver.specs.Receiving.{HasBeenFed, HasRounds, IsFinish, NoFault, Received, TellsNow}
 use Rattle.receiver.specs.declared.recv_error.RecvError.{RecvError}
 use Rattle.receiver.specs.declared.recv_error.RecvError.TheVariants.{BadMagic, BadVersion, BadShape, ShapeMismatch, BadTag, BadPage, BadSector, BadRound, BadDevice, BadDigest, Missing, Trailing, Truncated, DiskFailed, NoMemory, AlreadyFailed}
-use Rattle.receiver.proofs.Prefixes.{stays}
-use Rattle.vmig_c.specs.Awaited.{AreSteady, CountsRounds, GoesOnWith, HasArrived, IsBegun, IsFaulty, IsFed, IsFedTo, TellsEnd, TellsOf}
+use Rattle.receiver.proofs.Heads.{no_header_fault}
+use Rattle.receiver.proofs.Prefixes.{header_stays, stays}
+use Rattle.receiver.specs.Faults.{Fault, IsHeaderFault}
+use Rattle.vmig_c.specs.ArrivalSeen.{ArrivalSeen, AtHead, AtBody, Refused}
+use Rattle.vmig_c.specs.Awaited.{AreSteady, CountsRounds, GoesOnWith, HasArrived, HasCome, IsFaulty, IsFed, IsFedTo, TellsEnd, TellsOf, TellsWhy, awaited_by}
+use Rattle.vmig_c.specs.declared.arrival.Progress.{Progress}
 use Rattle.vmig_c.specs.Headed.{AreFitting, HasHeader, HasNoHeader}
 use Rattle.vmig_c.specs.Plain.{mem_state}
 use Rattle.vmig_c.proofs.Plain.{as_many}
@@ -53,7 +57,7 @@ never_failed : (r : Received) (new : List Marks) (e : RecvError) → AreSteady r
 never_failed r new e steady h is = no_failure r new steady (subst (λ (x : RecvError). MarksRefused r.marks x new) is h)
 
 -- What a refusal of a receiver tells.
-told : (sizes b piece : List ℕ) (e : RecvError) → AreFitting (b ++ piece) sizes → TellsNow sizes b piece e → ¬ (e ≡ DiskFailed) → TellsOf false (b ++ piece) e
+told : (sizes b piece : List ℕ) (e : RecvError) → AreFitting (b ++ piece) sizes → TellsNow sizes b piece e → ¬ (e ≡ DiskFailed) → TellsWhy (b ++ piece) e
 told sizes b piece NoMemory fit t never = tt
 told sizes b piece DiskFailed fit t never = absurd (never refl)
 told sizes b piece BadMagic fit t never = record { sizes = sizes; fit = fit; at = t.0; fault = t.2 }
@@ -72,59 +76,50 @@ told sizes b piece Truncated fit t never = record { sizes = sizes; fit = fit; at
 told sizes b piece AlreadyFailed fit t never = record { sizes = sizes; fit = fit; at = t.0; fault = t.2 }
 
 -- A receiver whose header was read is fed a piece.
-fed_so : (r : Received) → IsBegun r → HasBeenFed r r.bytes
-fed_so r h = record { fed = refl; goes_on = h.goes_on }
+pub more_steady : (r next : Received) → AreSteady r → next.sizes ≡ r.sizes → next.marks ≡ r.marks → AreSteady next
+more_steady r next steady sizes marks = rw (sizes, marks) steady
 
-pub more_begun : (r next : Received) (piece : List ℕ) → IsBegun r → next.sizes ≡ r.sizes → next.marks ≡ r.marks → ((b : List ℕ) → HasBeenFed r b → HasBeenFed next (b ++ piece)) → ((b : List ℕ) → HasBeenFed r b → NoFault r.sizes (b ++ piece)) → IsBegun next
-more_begun r next piece h sizes marks fed quiet =
-    let now = fed r.bytes (fed_so r h) in
-    record {
-      goes_on = now.goes_on;
-      header = rw (sizes, now.fed) (longer r.bytes piece r.sizes h.header);
-      quiet = rw (sizes, now.fed) (quiet r.bytes (fed_so r h));
-      steady = rw (sizes, marks) h.steady;
-    }
+more_come : (r next : Received) (piece b : List ℕ) → next.sizes ≡ r.sizes → ((b : List ℕ) → HasBeenFed r b → HasBeenFed next (b ++ piece)) → ((b : List ℕ) → HasBeenFed r b → NoFault r.sizes (b ++ piece)) → HasCome (AtBody r) b → GoesOnWith (b ++ piece) (AtBody next)
+more_come r next piece b sizes fed quiet h =
+    let header : HasHeader (b ++ piece) next.sizes = rw sizes (longer b piece r.sizes h.1) in
+    record { come = (fed b h.0, header); fit = inl header; quiet = rw sizes (quiet b h.0) }
 
-pub more_fed : (r next : Received) (piece : List ℕ) → IsBegun r → next.sizes ≡ r.sizes → ((b : List ℕ) → HasBeenFed r b → HasBeenFed next (b ++ piece)) → ((b : List ℕ) → HasBeenFed r b → NoFault r.sizes (b ++ piece)) → IsFed r piece next
-more_fed r next piece h sizes fed quiet =
-    let now = fed r.bytes (fed_so r h) in
-    record {
-      went_on = h.goes_on;
-      goes_on = record {
-        goes_on = now.goes_on;
-        bytes_are = now.fed;
-        fit = rw sizes (inl (longer r.bytes piece r.sizes h.header));
-        quiet = rw sizes (quiet r.bytes (fed_so r h));
-      };
-    }
+pub more_fed : (r next : Received) (piece : List ℕ) → next.sizes ≡ r.sizes → ((b : List ℕ) → HasBeenFed r b → HasBeenFed next (b ++ piece)) → ((b : List ℕ) → HasBeenFed r b → NoFault r.sizes (b ++ piece)) → IsFed (AtBody r) piece (AtBody next)
+more_fed r next piece sizes fed quiet = record { went_on = λ e. cc; goes_on = λ b h. more_come r next piece b sizes fed quiet h }
 
-pub more_refused : (r : Received) (new : List Marks) (piece : List ℕ) (e : RecvError) → IsBegun r → MarksRefused r.marks e new → ((b : List ℕ) → HasBeenFed r b → TellsNow r.sizes b piece e) → TellsOf r.failed (r.bytes ++ piece) e
-more_refused r new piece e h marks tells =
-    rw (h.goes_on) (told r.sizes r.bytes piece e (inl (longer r.bytes piece r.sizes h.header)) (tells r.bytes (fed_so r h)) (never_failed r new e (h.steady) marks))
+pub more_refused : (r : Received) (new : List Marks) (piece : List ℕ) (e : RecvError) → AreSteady r → MarksRefused r.marks e new → ((b : List ℕ) → HasBeenFed r b → TellsNow r.sizes b piece e) → TellsOf (AtBody r) piece e
+more_refused r new piece e steady marks tells = λ b h. told r.sizes b piece e (inl (longer b piece r.sizes h.1)) (tells b h.0) (never_failed r new e steady marks)
+
+-- The rest of a piece that completed the header.
+pub cut_piece : (held all piece front rest : List ℕ) (few : ℕ) → all ≡ held ++ front → front ≡ take few piece → rest ≡ drop few piece → all ++ rest ≡ held ++ piece
+cut_piece held all piece front rest few is first last =
+    ap (λ (b : List ℕ). b ++ rest) is ∙ append_assoc held front rest ∙ ap (λ (b : List ℕ). held ++ (b ++ rest)) first ∙ ap (λ (b : List ℕ). held ++ (take few piece ++ b)) last ∙ ap (λ (b : List ℕ). held ++ b) (take-append-drop few piece)
+
+pub rest_taken : (result : Result Progress RecvError) (r : Received) (front rest bytes : List ℕ) → GoesOnWith front (AtBody r) → front ++ rest ≡ bytes → IfOk result (λ next. IsFed (AtBody r) rest (awaited_by next)) → IfOk result (λ next. GoesOnWith bytes (awaited_by next))
+rest_taken (Ok next) r front rest bytes begun all h = subst (λ (b : List ℕ). GoesOnWith b (awaited_by next)) all (h.goes_on front begun.come)
+rest_taken (Err e) r front rest bytes begun all h = tt
+
+pub rest_refused : (result : Result Progress RecvError) (r : Received) (front rest bytes : List ℕ) → GoesOnWith front (AtBody r) → front ++ rest ≡ bytes → IfErr result (λ e. TellsOf (AtBody r) rest e) → IfErr result (λ e. TellsWhy bytes e)
+rest_refused (Ok next) r front rest bytes begun all h = tt
+rest_refused (Err e) r front rest bytes begun all h = subst (λ (b : List ℕ). TellsWhy b e) all (h front begun.come)
 
 -- A new receiver is fed all bytes.
 pub all_fed : (r next : Received) (bytes sizes : List ℕ) → HasBeenFed r [] → r.sizes ≡ sizes → next.sizes ≡ r.sizes → AreSteady r → next.marks ≡ r.marks → ((b : List ℕ) → HasBeenFed r b → HasBeenFed next (b ++ bytes)) → ((b : List ℕ) → HasBeenFed r b → NoFault r.sizes (b ++ bytes)) → IsFedTo sizes bytes next
-all_fed r next bytes sizes first are same steady marks fed quiet =
-    let now = fed [] first in
-    record {
-      goes_on = now.goes_on;
-      sizes_are = same ∙ are;
-      bytes_are = now.fed;
-      steady = rw (same, marks) steady;
-      quiet = rw (← are) (quiet [] first);
-    }
+all_fed r next bytes sizes first are same steady marks fed quiet = record {
+  fed = fed [] first;
+  sizes_are = same ∙ are;
+  steady = rw (same, marks) steady;
+  quiet = rw (← are) (quiet [] first);
+}
 
-pub all_refused : (r : Received) (new : List Marks) (bytes sizes : List ℕ) (e : RecvError) → HasBeenFed r [] → r.sizes ≡ sizes → AreSteady r → AreFitting bytes sizes → MarksRefused r.marks e new → ((b : List ℕ) → HasBeenFed r b → TellsNow r.sizes b bytes e) → TellsOf false bytes e
+pub all_refused : (r : Received) (new : List Marks) (bytes sizes : List ℕ) (e : RecvError) → HasBeenFed r [] → r.sizes ≡ sizes → AreSteady r → AreFitting bytes sizes → MarksRefused r.marks e new → ((b : List ℕ) → HasBeenFed r b → TellsNow r.sizes b bytes e) → TellsWhy bytes e
 all_refused r new bytes sizes e first are steady fit marks tells = told r.sizes [] bytes e (rw are fit) (tells [] first) (never_failed r new e steady marks)
 
 -- The header was found, or not.
-pub begun_coming : (r : Received) (bytes : List ℕ) (pages : ℕ) (shapes : List Shape) (rest : List ℕ) → Begins bytes pages shapes rest → IsFedTo (disk_sizes shapes) bytes r → IsBegun r
-begun_coming r bytes pages shapes rest begins h = record {
-  goes_on = h.goes_on;
-  header = rw (h.bytes_are) (record { pages = pages; shapes = shapes; rest = rest; begins = begins; sizes_are = h.sizes_are });
-  quiet = rw (h.sizes_are, h.bytes_are) (h.quiet);
-  steady = h.steady;
-}
+pub begun_coming : (r : Received) (bytes : List ℕ) (pages : ℕ) (shapes : List Shape) (rest : List ℕ) → Begins bytes pages shapes rest → IsFedTo (disk_sizes shapes) bytes r → GoesOnWith bytes (AtBody r)
+begun_coming r bytes pages shapes rest begins h =
+    let header : HasHeader bytes r.sizes = record { pages = pages; shapes = shapes; rest = rest; begins = begins; sizes_are = h.sizes_are } in
+    record { come = (h.fed, header); fit = inl header; quiet = rw (h.sizes_are) (h.quiet) }
 
 pub fits_header : (bytes : List ℕ) (pages : ℕ) (shapes : List Shape) (rest : List ℕ) → Begins bytes pages shapes rest → AreFitting bytes (disk_sizes shapes)
 fits_header bytes pages shapes rest begins = inl (record { pages = pages; shapes = shapes; rest = rest; begins = begins; sizes_are = refl })
@@ -136,44 +131,48 @@ headless bytes none m s =
     let front : List ℕ = texts s.entries ++ device_texts 0 m.devices in
     none (pages_of m) (shapes_in m.devices) _ (record { good = pages_limits m s.by.sound; whole = s.by.whole ∙ append_assoc head front _ })
 
-pub head_ends : (held : List ℕ) → HasNoHeader held → TellsEnd false held Truncated
-head_ends held none m = headless held none m
+pub head_ends : (held : List ℕ) → HasNoHeader held → TellsEnd (AtHead held) Truncated
+head_ends held none = λ b is m. headless b (subst HasNoHeader (sym is) none) m
 
 -- The end of a stream whose header was read.
 honest_marks : (sizes : List ℕ) → AreHonestDisks (map (λ (n : ℕ). no_marks) sizes)
 honest_marks sizes = All-map (λ (k : Marks). IsTrue k.honest) (λ (n : ℕ). no_marks) sizes (λ k n below. refl)
 
-pub arrived : (r : Received) (m : Seen) → IsBegun r → (AreHonestDisks r.marks → (b : List ℕ) → HasBeenFed r b → IsStream b (state_of m)) → all_marks m ≡ dealt_marks (shapes_in (state_of m).devices) r.marks → HasArrived r m
-arrived r m h received marks =
+arrived : (r : Received) (m : Seen) → AreSteady r → (AreHonestDisks r.marks → (b : List ℕ) → HasBeenFed r b → IsStream b (state_of m)) → all_marks m ≡ dealt_marks (shapes_in (state_of m).devices) r.marks → HasArrived (AtBody r) m
+arrived r m steady received marks =
     let shapes = shapes_in (state_of m).devices in
-    let over : all_marks m ≡ dealt_marks shapes (map (λ (n : ℕ). no_marks) r.sizes) = marks ∙ ap (λ (l : List Marks). dealt_marks shapes l) h.steady in
+    let over : all_marks m ≡ dealt_marks shapes (map (λ (n : ℕ). no_marks) r.sizes) = marks ∙ ap (λ (l : List Marks). dealt_marks shapes l) steady in
     record {
-      goes_on = h.goes_on;
-      stream = received (rw (h.steady) (honest_marks r.sizes)) r.bytes (fed_so r h);
+      went_on = λ e. cc;
+      stream = λ b h. received (rw steady (honest_marks r.sizes)) b h.0;
       plain = as_many no_marks (λ (d : DeviceSeen). d.marks) m.devices shapes (over ∙ alike shapes r.sizes);
     }
 
-pub arrived_if : (r : Received) (result : Result Seen RecvError) → IsBegun r → IfOk result (λ m. AreHonestDisks r.marks → (b : List ℕ) → HasBeenFed r b → IsStream b (state_of m))
-    → IfOk result (λ m. all_marks m ≡ dealt_marks (shapes_in (state_of m).devices) r.marks) → IfOk result (λ m. HasArrived r m)
-arrived_if r (Ok m) h received marks = arrived r m h received marks
-arrived_if r (Err e) h received marks = tt
+pub arrived_if : (r : Received) (result : Result Seen RecvError) → AreSteady r → IfOk result (λ m. AreHonestDisks r.marks → (b : List ℕ) → HasBeenFed r b → IsStream b (state_of m))
+    → IfOk result (λ m. all_marks m ≡ dealt_marks (shapes_in (state_of m).devices) r.marks) → IfOk result (λ m. HasArrived (AtBody r) m)
+arrived_if r (Ok m) steady received marks = arrived r m steady received marks
+arrived_if r (Err e) steady received marks = tt
 
-pub not_arrived : (r : Received) (e : RecvError) → IsBegun r → ((b : List ℕ) → HasBeenFed r b → IsFinish b e) → TellsEnd r.failed r.bytes e
-not_arrived r e h why = rw (h.goes_on) (why r.bytes (fed_so r h))
+pub not_arrived_if : (r : Received) (result : Result Seen RecvError) → IfErr result (λ e. (b : List ℕ) → HasBeenFed r b → IsFinish b e) → IfErr result (λ e. TellsEnd (AtBody r) e)
+not_arrived_if r (Ok m) why = tt
+not_arrived_if r (Err e) why = λ b h. why b h.0
 
 -- Rounds.
-pub counts : (r : Received) (n : ℕ) → IsBegun r → ((b : List ℕ) → HasBeenFed r b → HasRounds r.sizes b n) → CountsRounds r.failed r n
-counts r n h rounds = rw (h.goes_on) (rounds r.bytes (fed_so r h))
+pub body_counts : (r : Received) (n : ℕ) → ((b : List ℕ) → HasBeenFed r b → HasRounds r.sizes b n) → CountsRounds (AtBody r) n
+body_counts r n rounds = λ b h. rounds b h.0
 
-pub head_counts : (held : List ℕ) → HasNoHeader held → HasRounds [] held 0
-head_counts held none = record { none = λ _. refl; some = λ pages shapes before tail front last. absurd (none pages shapes _ front.begins) }
+pub head_counts : (held : List ℕ) → HasNoHeader held → CountsRounds (AtHead held) 0
+head_counts held none = λ b is. record { none = λ _. refl; some = λ pages shapes before tail front last. absurd (subst HasNoHeader (sym is) none pages shapes _ front.begins) }
 
 -- A header that is not whole.
-pub head_goes_on : (held : List ℕ) (r : Received) → HasNoHeader held → IsFedTo [] held r → GoesOnWith held (record { sizes = []; marks = []; bytes = held; rounds = 0; failed = false })
-head_goes_on held r none h = record { goes_on = refl; bytes_are = refl; fit = inr none; quiet = h.quiet }
+pub head_goes_on : (held : List ℕ) (r : Received) → HasNoHeader held → IsFedTo [] held r → GoesOnWith held (AtHead held)
+head_goes_on held r none h = record { come = refl; fit = inr none; quiet = h.quiet }
 
-pub head_fed : (held piece more : List ℕ) (next : Received) → more ≡ held ++ piece → GoesOnWith more next → IsFed (record { sizes = []; marks = []; bytes = held; rounds = 0; failed = false }) piece next
-head_fed held piece more next is h = record { went_on = refl; goes_on = subst (λ (b : List ℕ). GoesOnWith b next) is h }
+pub head_fed : (held piece : List ℕ) (next : ArrivalSeen) → GoesOnWith (held ++ piece) next → IsFed (AtHead held) piece next
+head_fed held piece next h = record { went_on = λ e. cc; goes_on = λ b is. subst (λ (x : List ℕ). GoesOnWith (x ++ piece) next) (sym is) h }
+
+pub head_refused : (held piece : List ℕ) (e : RecvError) → TellsWhy (held ++ piece) e → TellsOf (AtHead held) piece e
+head_refused held piece e h = λ b is. subst (λ (x : List ℕ). TellsWhy (x ++ piece) e) (sym is) h
 
 front_size : (pages count : ℕ) → length (front pages count) ≡ 16
 unfolding front
@@ -191,7 +190,7 @@ faulty_longer bytes rest sizes e header f = elim f.fit as (λ _. IsFaulty (bytes
   | inr none ↦ absurd (none header.pages header.shapes header.rest header.begins)
 ]
 
-pub told_longer : (bytes rest sizes : List ℕ) (e : RecvError) → HasHeader bytes sizes → TellsOf false bytes e → TellsOf false (bytes ++ rest) e
+pub told_longer : (bytes rest sizes : List ℕ) (e : RecvError) → HasHeader bytes sizes → TellsWhy bytes e → TellsWhy (bytes ++ rest) e
 told_longer bytes rest sizes NoMemory header t = tt
 told_longer bytes rest sizes BadMagic header t = faulty_longer bytes rest sizes BadMagic header t
 told_longer bytes rest sizes BadVersion header t = faulty_longer bytes rest sizes BadVersion header t
@@ -209,8 +208,53 @@ told_longer bytes rest sizes Truncated header t = faulty_longer bytes rest sizes
 told_longer bytes rest sizes DiskFailed header t = faulty_longer bytes rest sizes DiskFailed header t
 told_longer bytes rest sizes AlreadyFailed header t = faulty_longer bytes rest sizes AlreadyFailed header t
 
-pub begun_goes_with : (r : Received) (bytes : List ℕ) → IsBegun r → r.bytes ≡ bytes → GoesOnWith bytes r
-begun_goes_with r bytes h are = record { goes_on = h.goes_on; bytes_are = are; fit = rw (← are) (inl h.header); quiet = rw (← are) h.quiet }
-
-pub told_of_all : (bytes : List ℕ) (e : RecvError) → ((rest : List ℕ) → TellsOf false (bytes ++ rest) e) → TellsOf false bytes e
+pub told_of_all : (bytes : List ℕ) (e : RecvError) → ((rest : List ℕ) → TellsWhy (bytes ++ rest) e) → TellsWhy bytes e
 told_of_all bytes e t = rw append-nil at (t [])
+
+-- A fault in bytes that begin with no header is one of all longer bytes.
+other_sizes : (sizes others bytes : List ℕ) (e : RecvError) (at : ℕ) → HasNoHeader bytes → IsHeaderFault sizes bytes e at → IsHeaderFault others bytes e at
+other_sizes sizes others bytes BadMagic at none h = h
+other_sizes sizes others bytes BadVersion at none h = h
+other_sizes sizes others bytes BadShape at none h = h
+other_sizes sizes others bytes ShapeMismatch at none h = absurd (none h.pages h.shapes h.more h.begins)
+other_sizes sizes others bytes BadTag at none h = absurd h
+other_sizes sizes others bytes BadPage at none h = absurd h
+other_sizes sizes others bytes BadSector at none h = absurd h
+other_sizes sizes others bytes BadRound at none h = absurd h
+other_sizes sizes others bytes BadDevice at none h = absurd h
+other_sizes sizes others bytes BadDigest at none h = absurd h
+other_sizes sizes others bytes Missing at none h = absurd h
+other_sizes sizes others bytes Trailing at none h = absurd h
+other_sizes sizes others bytes Truncated at none h = absurd h
+other_sizes sizes others bytes DiskFailed at none h = absurd h
+other_sizes sizes others bytes NoMemory at none h = absurd h
+other_sizes sizes others bytes AlreadyFailed at none h = absurd h
+
+in_header : (sizes others bytes : List ℕ) (e : RecvError) (at : ℕ) → HasNoHeader bytes → Fault sizes bytes e at → IsHeaderFault others bytes e at
+in_header sizes others bytes e at none (inl h) = other_sizes sizes others bytes e at none h
+in_header sizes others bytes e at none (inr h) = absurd (none h.pages h.shapes _ h.front.begins)
+
+still_headless : (sizes bytes rest : List ℕ) (e : RecvError) (at : ℕ) → HasNoHeader bytes → Fault sizes bytes e at → HasNoHeader (bytes ++ rest)
+still_headless sizes bytes rest e at none f pages shapes more begins =
+    no_header_fault (disk_sizes shapes) (bytes ++ rest) pages shapes more begins refl e at (header_stays (disk_sizes shapes) bytes rest e at (in_header sizes (disk_sizes shapes) bytes e at none f))
+
+faulty_headless : (bytes rest : List ℕ) (e : RecvError) → HasNoHeader bytes → IsFaulty bytes e → IsFaulty (bytes ++ rest) e
+faulty_headless bytes rest e none f = record { sizes = f.sizes; fit = inr (still_headless f.sizes bytes rest e f.at none f.fault); at = f.at; fault = stays f.sizes bytes rest e f.at f.fault }
+
+pub told_headless : (bytes rest : List ℕ) (e : RecvError) → HasNoHeader bytes → TellsWhy bytes e → TellsWhy (bytes ++ rest) e
+told_headless bytes rest BadMagic none t = faulty_headless bytes rest BadMagic none t
+told_headless bytes rest BadVersion none t = faulty_headless bytes rest BadVersion none t
+told_headless bytes rest BadShape none t = faulty_headless bytes rest BadShape none t
+told_headless bytes rest ShapeMismatch none t = faulty_headless bytes rest ShapeMismatch none t
+told_headless bytes rest BadTag none t = faulty_headless bytes rest BadTag none t
+told_headless bytes rest BadPage none t = faulty_headless bytes rest BadPage none t
+told_headless bytes rest BadSector none t = faulty_headless bytes rest BadSector none t
+told_headless bytes rest BadRound none t = faulty_headless bytes rest BadRound none t
+told_headless bytes rest BadDevice none t = faulty_headless bytes rest BadDevice none t
+told_headless bytes rest BadDigest none t = faulty_headless bytes rest BadDigest none t
+told_headless bytes rest Missing none t = faulty_headless bytes rest Missing none t
+told_headless bytes rest Trailing none t = faulty_headless bytes rest Trailing none t
+told_headless bytes rest Truncated none t = faulty_headless bytes rest Truncated none t
+told_headless bytes rest DiskFailed none t = faulty_headless bytes rest DiskFailed none t
+told_headless bytes rest NoMemory none t = tt
+told_headless bytes rest AlreadyFailed none t = faulty_headless bytes rest AlreadyFailed none t

@@ -6,6 +6,7 @@ pub mod ByHandle
 pub mod ByKept
 pub mod Handing
 pub mod Imaging
+pub mod Lengths
 pub mod MappingImages
 pub mod Migration
 pub mod MigrationCalls

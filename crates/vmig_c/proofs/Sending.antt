@@ -21,8 +21,11 @@ use Rattle.blk.specs.declared.taking.Taken.{Taken}
 use Rattle.blk.specs.declared.taking.Taken.TheVariants as taken
 use Rattle.chains.specs.Places.{places, read_places}
 use Rattle.chains.specs.State.{RingState}
-use Rattle.chains.specs.Transmit.{is_message, message_of, transmit_step, send, refuse_message}
+use Rattle.chains.specs.Look.{Sees}
+use Rattle.chains.specs.LookLaws.{usable}
+use Rattle.chains.specs.Transmit.{is_message, message_of, transmit_step, send}
 use Rattle.chains.specs.declared.chain.Chain.{Chain}
+use Rattle.chains.specs.declared.looking.Wanted.TheVariants as wanted
 use Rattle.chains.specs.declared.next.Next.{Next}
 use Rattle.chains.specs.declared.next.Next.TheVariants as next
 use Rattle.chains.specs.declared.transmitting.MessageForm.{MessageForm}
@@ -31,11 +34,11 @@ use Rattle.console.specs.declared.receiving.Received.TheVariants as received
 use Rattle.net.specs.declared.receiving.Received as net
 use Rattle.net.specs.declared.receiving.Received.TheVariants as frames
 use Rattle.machine.specs.Applied.{IsApplied, as_given}
-use Rattle.machine.specs.DeviceStep.{device_step, step_at, looked_step, advance_at, advanced_at, looked_at, message_form, reply_of, reply_to_advance, serve, served_of, served_taking, served_frame}
+use Rattle.machine.specs.DeviceStep.{device_step, step_at, looked_step, advance_at, advanced_at, looked_at, wanted_of, reply_of, reply_to_advance, serve, MayLook, MayLookAt, served_of, served_taking, served_frame}
 use Rattle.machine.specs.Outcome.{Outcome, fine, disk_failed, no_memory, outcome_of}
 use Rattle.machine.specs.Seen.{Seen, state_of}
 use Rattle.machine.specs.State.{DeviceState}
-use Rattle.machine.specs.Step.{step_device, disk_of}
+use Rattle.machine.specs.Step.{step_device, disk_of, MaySeeAt}
 use Rattle.machine.specs.declared.event.Event.TheVariants.{Step}
 use Rattle.machine.specs.declared.own.Own.{Own}
 use Rattle.machine.specs.declared.own.Own.TheVariants.{Network, Block, Console, Entropy}
@@ -62,18 +65,17 @@ message_len ram header c =
     let all = read_places ram (places c.readable) in
     length-drop header all ∙ ap (λ (n : ℕ). n - header) (length-map (places c.readable) (slice_index ram))
 
-of_message : (ram : List ℕ) (q : RingState) (form : MessageForm) (c : Chain) (b : Bool) → is_message form c ≡ b
-    → Within (reply_of (served_message (if b then send ram q form.header c else refuse_message q).answer)) (form.most - form.header)
-of_message ram q form c true is =
+of_message : (ram : List ℕ) (q : RingState) (form : MessageForm) (c : Chain) → is_message form c ≡ true
+    → Within (reply_of (served_message (send ram q form.header c).answer)) (form.most - form.header)
+of_message ram q form c is =
     let few = few_enough form.least form.most (length (places c.readable)) is in
     omega (arith, message_len ram form.header c, few)
-of_message ram q form c false is = nothing_sent (form.most - form.header)
 
-of_transmission : (ram : List ℕ) (q : RingState) (form : MessageForm) (seen : Next)
+of_transmission : (ram : List ℕ) (q : RingState) (form : MessageForm) (seen : Next) → Sees (wanted.Message form) ram q seen
     → Within (reply_of (served_message (transmit_step ram q form seen).answer)) (form.most - form.header)
-of_transmission ram q form next.Empty = nothing_sent (form.most - form.header)
-of_transmission ram q form next.Malformed = nothing_sent (form.most - form.header)
-of_transmission ram q form (next.Chain c) = of_message ram q form c (is_message form c) refl
+of_transmission ram q form next.Empty sees = nothing_sent (form.most - form.header)
+of_transmission ram q form next.Malformed sees = nothing_sent (form.most - form.header)
+of_transmission ram q form (next.Chain c) sees = of_message ram q form c (usable (wanted.Message form) ram q c sees).fit
 
 -- The other ways in which a queue is served send nothing.
 of_bytes : (r : Received) (most : ℕ) → Within (reply_of (served_of r)) most
@@ -99,45 +101,45 @@ of_advance advanced.BadSector most = nothing_sent most
 of_advance advanced.DiskFailed most = nothing_sent most
 of_advance (advanced.Completed len due) most = nothing_sent most
 
-of_service : (shape : Shape) (own : Own) (pick : ℕ) (ram : List ℕ) (q : RingState) (seen : Next)
-    → Within (reply_of (serve shape own pick ram q seen).served) (most_of (message_form own pick))
-of_service shape (Network frames) zero ram q seen = of_frame (receiving.receive_step ram q frames seen).answer 0
-of_service shape (Network frames) (suc n) ram q seen = of_transmission ram q frame_form seen
-of_service shape (Console size held) zero ram q seen = of_bytes (receive_step ram q held seen).answer 0
-of_service shape (Console size held) (suc n) ram q seen = of_transmission ram q text_form seen
-of_service shape (Block requests) n ram q seen = of_taking (take_step ram q (block_of shape) requests seen).answer 0
-of_service shape (Entropy pool) n ram q seen = of_bytes (receive_step ram q pool seen).answer 0
+of_service : (shape : Shape) (own : Own) (pick : ℕ) (ram : List ℕ) (q : RingState) (seen : Next) → Sees (wanted_of own pick) ram q seen
+    → Within (reply_of (serve shape own pick ram q seen).served) (most_of (wanted_of own pick))
+of_service shape (Network frames) zero ram q seen sees = of_frame (receiving.receive_step ram q frames seen).answer 0
+of_service shape (Network frames) (suc n) ram q seen sees = of_transmission ram q frame_form seen sees
+of_service shape (Console size held) zero ram q seen sees = of_bytes (receive_step ram q held seen).answer 0
+of_service shape (Console size held) (suc n) ram q seen sees = of_transmission ram q text_form seen sees
+of_service shape (Block requests) n ram q seen sees = of_taking (take_step ram q (block_of shape) requests seen).answer 0
+of_service shape (Entropy pool) n ram q seen sees = of_bytes (receive_step ram q pool seen).answer 0
 
-of_look : (d : DeviceState) (ram : List ℕ) (pick : ℕ) (q : RingState) (o : Outcome) (seen : Next)
-    → Within (looked_step d ram pick q o seen).reply (most_of (message_form d.own pick))
-of_look d ram pick q no_memory seen = nothing_sent (most_of (message_form d.own pick))
-of_look d ram pick q disk_failed seen = nothing_sent (most_of (message_form d.own pick))
-of_look d ram pick q fine seen = of_service d.shape d.own pick ram q seen
+of_look : (d : DeviceState) (ram : List ℕ) (pick : ℕ) (q : RingState) (o : Outcome) (seen : Next) → MayLookAt (wanted_of d.own pick) q ram o seen
+    → Within (looked_step d ram pick q o seen).reply (most_of (wanted_of d.own pick))
+of_look d ram pick q no_memory seen may = nothing_sent (most_of (wanted_of d.own pick))
+of_look d ram pick q disk_failed seen may = nothing_sent (most_of (wanted_of d.own pick))
+of_look d ram pick q fine seen may = of_service d.shape d.own pick ram q seen may
 
 of_request : (d : DeviceState) (ram : List ℕ) (content : List Sector) (pick : ℕ) (at : Option RingState) (o : Outcome) (most : ℕ)
     → Within (advance_at d ram content pick at o).reply most
 of_request d ram content pick None o most = nothing_sent most
 of_request d ram content pick (Some q) o most = of_advance (advance_step (block_of d.shape) ram q content (requests_of d.own) (pick - 1) (disk_does o)).answer most
 
-of_step : (d : DeviceState) (ram : List ℕ) (content : List Sector) (pick : ℕ) (at : Option RingState) (o : Outcome) (seen : Next)
-    → Within (step_at d ram content pick at o seen).reply (most_of (message_form d.own pick))
-of_step d ram content pick None o seen = of_request d ram content pick (advanced_at d pick) o (most_of (message_form d.own pick))
-of_step d ram content pick (Some q) o seen = of_look d ram pick q o seen
+of_step : (d : DeviceState) (ram : List ℕ) (content : List Sector) (pick : ℕ) (at : Option RingState) (o : Outcome) (seen : Next) → MayLook (wanted_of d.own pick) at ram o seen
+    → Within (step_at d ram content pick at o seen).reply (most_of (wanted_of d.own pick))
+of_step d ram content pick None o seen may = of_request d ram content pick (advanced_at d pick) o (most_of (wanted_of d.own pick))
+of_step d ram content pick (Some q) o seen may = of_look d ram pick q o seen may
 
-of_device : (dev : ℕ) (d : Option DeviceState) (ram : List ℕ) (content : List Sector) (pick : ℕ) (o : Outcome) (seen : Next)
+of_device : (dev : ℕ) (d : Option DeviceState) (ram : List ℕ) (content : List Sector) (pick : ℕ) (o : Outcome) (seen : Next) → MaySeeAt d ram pick o seen
     → Within (step_device dev d ram content pick o seen).reply (most_sent d pick)
 unfolding device_step
-of_device dev None ram content pick o seen = nothing_sent 0
-of_device dev (Some d) ram content pick o seen = of_step d ram content pick (looked_at d pick) o seen
+of_device dev None ram content pick o seen may = nothing_sent 0
+of_device dev (Some d) ram content pick o seen may = of_step d ram content pick (looked_at d pick) o seen may
 
 -- What a machine sends in a step.
 pub sends_within : (m after : Seen) (dev pick : ℕ) (reply : Reply) → IsApplied m (Step dev pick) reply after → length (sent_in reply) ≤ most_sent_by m dev pick
 sends_within m after dev pick reply applied =
     let s = as_given (state_of m) (Step dev pick) applied.given in let o = outcome_of reply in
-    rw (applied.has.reply_is) (of_device dev (slice_get s.devices dev) s.ram (disk_of s dev) pick o applied.has.seen)
+    rw (applied.has.reply_is) (of_device dev (slice_get s.devices dev) s.ram (disk_of s dev) pick o applied.has.seen applied.has.may_see)
 
 -- No step sends more than 65,536 bytes.
-most_of_own : (own : Own) (pick : ℕ) → most_of (message_form own pick) ≤ 65536
+most_of_own : (own : Own) (pick : ℕ) → most_of (wanted_of own pick) ≤ 65536
 most_of_own (Network frames) zero = omega arith
 most_of_own (Network frames) (suc n) = omega arith
 most_of_own (Console size held) zero = omega arith

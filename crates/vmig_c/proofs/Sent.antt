@@ -82,9 +82,8 @@ stopped_is_whole m h taken l is sound stopped =
     subst P (sym (w.whole refl)) w.is_stream
 
 pub arrived_is_sent : ArrivedIsSent
-arrived_is_sent m h taken l r arrived is sound stopped bytes there =
-    let P : List ℕ → Type 0 = λ b. IsStream b (state_of arrived) in
-    one_machine (taken ++ l.out.held) (state_of arrived) (now l) (subst P bytes there.stream) (stopped_is_whole m h taken l is sound stopped)
+arrived_is_sent m h taken l r arrived is sound stopped come there =
+    one_machine (taken ++ l.out.held) (state_of arrived) (now l) (there.stream (taken ++ l.out.held) come) (stopped_is_whole m h taken l is sound stopped)
 
 pub received_is_sent : ReceivedIsSent
 received_is_sent m h taken l received rounds is sound stopped there =

@@ -1,25 +1,25 @@
 -- The arrival of a machine behind a handle, call by call.
-use Rattle.std.specs.Prelude.{◌≡◌, ◌⊎◌, ℕ, true, List, ◌++◌, Option, Some, None}
+use Rattle.std.specs.Prelude.{◌≡◌, ◌⊎◌, ℕ, List, Option, Some, None}
 use Rattle.machine.specs.Seen.{Seen}
-use Rattle.receiver.specs.Receiving.{Received}
 use Rattle.receiver.specs.declared.recv_error.RecvError.{RecvError}
-use Rattle.vmig_c.specs.Awaited.{CountsRounds, HasArrived, IsFed, TellsEnd, TellsOf, nothing_fed, stream_status}
+use Rattle.vmig_c.specs.ArrivalSeen.{ArrivalSeen}
+use Rattle.vmig_c.specs.Awaited.{CountsRounds, HasArrived, IsFed, TellsEnd, TellsOf, nothing_fed, refused_for_good, stream_status}
 use Rattle.vmig_c.specs.Status.{done, in_use, no_machine, no_memory}
 use Rattle.vmig_c.specs.Kept.{KeptSeen, own, State, Still, Moving, Arriving}
 
 -- A piece was taken.
-pub record HasFed (r : Received) (piece : List ℕ) (status : ℕ) (next : Received) : Type 0 where
+pub record HasFed (r : ArrivalSeen) (piece : List ℕ) (status : ℕ) (next : ArrivalSeen) : Type 0 where
   pub status_is : status ≡ done
   pub fed : IsFed r piece next
 
 -- A piece was refused, and the stream with it.
-pub record HasNotFed (r : Received) (piece : List ℕ) (status : ℕ) (next : Received) : Type 0 where
+pub record HasNotFed (r : ArrivalSeen) (piece : List ℕ) (status : ℕ) (next : ArrivalSeen) : Type 0 where
   pub error : RecvError
-  pub why : TellsOf r.failed (r.bytes ++ piece) error
+  pub why : TellsOf r piece error
   pub status_is : status ≡ stream_status error
-  pub failed : next.failed ≡ true
+  pub failed : next ≡ refused_for_good
 
-abbrev pub Feeds : Received → List ℕ → ℕ → Received → Type 0
+abbrev pub Feeds : ArrivalSeen → List ℕ → ℕ → ArrivalSeen → Type 0
 Feeds r piece status next = HasFed r piece status next ⊎ HasNotFed r piece status next
 
 -- The handle has a machine already: nothing changed.
@@ -43,16 +43,16 @@ Fed None piece status after = DoesFed (own (Arriving nothing_fed)) piece status 
 Fed (Some k) piece status after = DoesFed k piece status after
 
 -- The machine has arrived.
-pub record HasFinished (r : Received) (status : ℕ) (m : Seen) : Type 0 where
+pub record HasFinished (r : ArrivalSeen) (status : ℕ) (m : Seen) : Type 0 where
   pub status_is : status ≡ done
   pub arrived : HasArrived r m
 
 -- The end was refused, and the stream with it.
-pub record HasNotFinished (r : Received) (status : ℕ) (next : Received) : Type 0 where
+pub record HasNotFinished (r : ArrivalSeen) (status : ℕ) (next : ArrivalSeen) : Type 0 where
   pub error : RecvError
-  pub why : TellsEnd r.failed r.bytes error
+  pub why : TellsEnd r error
   pub status_is : status ≡ stream_status error
-  pub failed : next.failed ≡ true
+  pub failed : next ≡ refused_for_good
 
 abbrev pub FinishesKept : State → ℕ → State → Type 0
 FinishesKept (Arriving r) status (Still m) = HasFinished r status m
@@ -72,7 +72,7 @@ Finished None status after = (status ≡ no_machine) × (after ≡ None)
 Finished (Some k) status after = DoesFinished k status after
 
 abbrev pub CountsKept : State → ℕ → ℕ → ℕ → Type 0
-CountsKept (Arriving r) status rounds old_rounds = (status ≡ done) × CountsRounds r.failed r rounds
+CountsKept (Arriving r) status rounds old_rounds = (status ≡ done) × CountsRounds r rounds
 CountsKept _ status rounds old_rounds = (status ≡ in_use) × (rounds ≡ old_rounds)
 
 -- How many rounds ended in what was fed.

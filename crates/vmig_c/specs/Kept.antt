@@ -1,8 +1,8 @@
 -- The contents of a handle, as contracts see them.
 use Rattle.std.specs.Prelude.{Bool, true, false}
 use Rattle.machine.specs.Seen.{Seen}
-use Rattle.receiver.specs.Receiving.{Received}
 use Rattle.sender.specs.LiveState.{LiveSeen}
+use Rattle.vmig_c.specs.ArrivalSeen.{ArrivalSeen}
 use Rattle.vmig_c.specs.declared.kept.Contents.{Contents}
 use Rattle.vmig_c.specs.declared.kept.Contents.TheVariants as contents
 
@@ -10,7 +10,7 @@ use Rattle.vmig_c.specs.declared.kept.Contents.TheVariants as contents
 pub data State : Type 0 where
   Still : Seen → State
   Moving : LiveSeen → State
-  Arriving : Received → State
+  Arriving : ArrivalSeen → State
 
 -- Whether its disks lie in memory of the caller, and in which state it is.
 pub record KeptSeen : Type 0 where

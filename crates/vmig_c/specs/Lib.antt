@@ -1,3 +1,4 @@
+pub mod ArrivalSeen
 pub mod Arriving
 pub mod Awaited
 pub mod Headed
@@ -6,6 +7,7 @@ pub mod Kept
 pub mod Lending
 pub mod Making
 pub mod Mapping
+pub mod Measured
 pub mod Migrated
 pub mod Mirror
 pub mod Moving

@@ -14,7 +14,7 @@ ArePlain m = all_marks m ≡ map (λ d. no_marks) m.devices
 
 -- What a disk in memory means.
 abbrev pub mem_state : List (List ℕ) → DiskState
-mem_state d = record { sectors = d; failures = 0; honest = true; steady = true }
+mem_state d = record { sectors = d; failures = 0; honest = true; steady = true; is_flushed = true }
 
 -- Such a machine stays so, whatever is applied to it.
 abbrev pub PlainStays : Type 0

@@ -6,7 +6,6 @@ use Rattle.machine.specs.Effect.{Effect}
 use Rattle.machine.specs.Seen.{AreHonest, Seen, state_of}
 use Rattle.machine.specs.Sound.{IsSound}
 use Rattle.machine.specs.State.{MachineState}
-use Rattle.receiver.specs.Receiving.{Received}
 use Rattle.sender.specs.Calls.{Serves}
 use Rattle.sender.specs.Follows.{Relates}
 use Rattle.sender.specs.History.{History, has_fault, nothing, phase_of, then_came}
@@ -18,7 +17,8 @@ use Rattle.sender.specs.declared.event.LiveReply.{LiveReply}
 use Rattle.sender.specs.declared.phase.Phase.TheVariants as phases
 use Rattle.wire.specs.Sinks.{over_writer}
 use Rattle.wire.specs.Stream.{IsStream}
-use Rattle.vmig_c.specs.Awaited.{HasArrived}
+use Rattle.vmig_c.specs.ArrivalSeen.{ArrivalSeen}
+use Rattle.vmig_c.specs.Awaited.{HasArrived, HasCome}
 use Rattle.vmig_c.specs.Migrated.{HasTaken, IsFresh}
 use Rattle.vmig_c.specs.Moving.{IsReceivedAs}
 
@@ -49,7 +49,7 @@ StoppedIsWhole = (m : MachineState) (h : History) (taken : List ℕ) (l : LiveSe
 
 -- What arrives, or is received, of these bytes is the machine.
 abbrev pub ArrivedIsSent : Type 0
-ArrivedIsSent = (m : MachineState) (h : History) (taken : List ℕ) (l : LiveSeen) (r : Received) (arrived : Seen) → IsSent m h taken l → IsSound m → phase_of h ≡ phases.Stopped → r.bytes ≡ taken ++ l.out.held → HasArrived r arrived
+ArrivedIsSent = (m : MachineState) (h : History) (taken : List ℕ) (l : LiveSeen) (r : ArrivalSeen) (arrived : Seen) → IsSent m h taken l → IsSound m → phase_of h ≡ phases.Stopped → HasCome r (taken ++ l.out.held) → HasArrived r arrived
     → state_of arrived ≡ now l
 
 abbrev pub ReceivedIsSent : Type 0

@@ -1,8 +1,9 @@
 -- What a step returns to C, and what a device sends.
 use Rattle.std.specs.Prelude.{◌≡◌, ℕ, ◌-◌, nat_lt, List, [], ◌++◌, Bool, true, false, Option, Some, None, length, drop, slice_get}
-use Rattle.chains.specs.declared.transmitting.MessageForm.{MessageForm}
+use Rattle.chains.specs.declared.looking.Wanted.{Wanted}
+use Rattle.chains.specs.declared.looking.Wanted.TheVariants as wanted
 use Rattle.machine.specs.Applied.{IsApplied}
-use Rattle.machine.specs.DeviceStep.{message_form}
+use Rattle.machine.specs.DeviceStep.{wanted_of}
 use Rattle.machine.specs.Seen.{Seen, state_of}
 use Rattle.machine.specs.State.{DeviceState}
 use Rattle.machine.specs.declared.event.Event.TheVariants.{Step}
@@ -18,15 +19,16 @@ use Rattle.vmig_c.specs.Status.{status_of, live_status, no_machine, too_small}
 use Rattle.vmig_c.specs.Told.{IsNotThere, live_number, number_of}
 use Rattle.vmig_c.specs.Kept.{KeptSeen, State, Still, Moving, Arriving}
 
--- How many bytes a message of this form has at most.
-abbrev pub most_of : Option MessageForm → ℕ
-most_of None = 0
-most_of (Some form) = form.most - form.header
+-- How many bytes a device sends at most for one of the chains that it can use: those of a message, and none of others.
+abbrev pub most_of : Wanted → ℕ
+most_of wanted.Room = 0
+most_of (wanted.Request header) = 0
+most_of (wanted.Message form) = form.most - form.header
 
 -- How many bytes a step of this pick may send: 1,514 of a network device, 65,536 of a console, and none of others.
 abbrev pub most_sent : Option DeviceState → ℕ → ℕ
 most_sent None pick = 0
-most_sent (Some d) pick = most_of (message_form d.own pick)
+most_sent (Some d) pick = most_of (wanted_of d.own pick)
 
 abbrev pub most_sent_by : Seen → ℕ → ℕ → ℕ
 most_sent_by m dev pick = most_sent (slice_get (state_of m).devices dev) pick

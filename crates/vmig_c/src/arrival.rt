@@ -1,9 +1,10 @@
 //! A machine whose stream arrives in pieces.
 
-ghost use Rattle.std.specs.Prelude.{◌≡◌, ◌++◌, ℕ, List, IfErr, IfOk, MatchOption, true, false};
+ghost use Rattle.std.specs.Prelude.{◌++◌, ℕ, List, IfErr, IfOk, MatchOption};
 ghost use Rattle.machine.specs.Shapes.{disk_sizes};
 ghost use Rattle.receiver.specs.Disks.{sizes_of};
-ghost use Rattle.vmig_c.specs.Awaited.{GoesOnWith, IsBegun, IsComing, IsFed, IsFedTo, TellsOf, awaited_by};
+ghost use Rattle.vmig_c.specs.ArrivalSeen.{AtBody};
+ghost use Rattle.vmig_c.specs.Awaited.{AreSteady, GoesOnWith, IsComing, IsFed, IsFedTo, TellsOf, TellsWhy, awaited_by};
 ghost use Rattle.vmig_c.specs.Headed.{AreFitting, HasNoHeader};
 ghost use Rattle.vmig_c.specs.Plain.{mem_state};
 
@@ -42,10 +43,11 @@ pub struct Arrival {
 }
 
 impl Model for Arrival {
-    ghost use Rattle.receiver.specs.Receiving.{Received};
-    ghost use Rattle.vmig_c.specs.Awaited.{IsComing, awaited_by};
+    ghost use Rattle.vmig_c.specs.ArrivalSeen.{ArrivalSeen};
 
-    ghost Value = { Received };
+    ghost Value = { ArrivalSeen };
+
+    ghost use Rattle.vmig_c.specs.Awaited.{IsComing, awaited_by};
 
     ghost view = { λ a. awaited_by a.progress };
 
@@ -53,7 +55,7 @@ impl Model for Arrival {
 }
 
 impl Arrival {
-    ghost use Rattle.std.specs.Prelude.{◌≡◌, ◌++◌, IfErr, IfOk, true};
+    ghost use Rattle.std.specs.Prelude.{◌≡◌, IfErr, IfOk};
     ghost use Rattle.vmig_c.specs.Awaited.{CountsRounds, HasArrived, IsFed, TellsEnd, TellsOf, nothing_fed, refused_for_good};
 
     /// An arrival that was fed nothing yet. It takes no memory.
@@ -80,7 +82,7 @@ impl Arrival {
     /// Takes the next piece.
     pub(crate) fn feed(&mut self, piece: &[u8]) -> Result<(), RecvError>
         ensures fed { IfOk result (λ x. IsFed self.old piece.now self.new) }
-        ensures refused { IfErr result (λ e. TellsOf self.old.failed (self.old.bytes ++ piece.now) e × (self.new.failed ≡ true)) }
+        ensures refused { IfErr result (λ e. TellsOf self.old piece.now e × (self.new ≡ refused_for_good)) }
     {
         let before = mem::replace(&mut self.progress, Progress::Failed);
         match go_on(self.alloc, before, piece) {
@@ -93,9 +95,9 @@ impl Arrival {
     }
 
     /// The number of rounds that ended in the bytes fed so far.
-    #[tactic(auto, using(crate::proofs::Awaited::counts, crate::proofs::Awaited::head_counts))]
+    #[tactic(auto, using(crate::proofs::Awaited::body_counts, crate::proofs::Awaited::head_counts))]
     pub(crate) fn rounds(&self) -> u32
-        ensures { CountsRounds self.now.failed self.now result }
+        ensures { CountsRounds self.now result }
     {
         match &self.progress {
             Progress::Body(receiver) => receiver.rounds(),
@@ -104,10 +106,9 @@ impl Arrival {
     }
 
     /// The machine whose stream was fed.
-    #[tactic(auto, using(crate::proofs::Awaited::arrived, crate::proofs::Awaited::not_arrived, crate::proofs::Awaited::head_ends))]
     pub(crate) fn finish(self) -> Result<Machine<MemDisk>, RecvError>
         ensures arrived { IfOk result (λ m. HasArrived self m) }
-        ensures refused { IfErr result (λ e. TellsEnd self.failed self.bytes e) }
+        ensures refused { IfErr result (λ e. TellsEnd self e) }
     {
         let Arrival { alloc: _, progress } = self;
         match progress {
@@ -119,12 +120,12 @@ impl Arrival {
 }
 
 /// Takes the next piece.
-#[tactic(auto, using(crate::proofs::Awaited::head_fed))]
+#[tactic(auto, using(crate::proofs::Awaited::head_fed, crate::proofs::Awaited::head_refused))]
 fn go_on(alloc: Global, progress: Progress, piece: &[u8]) -> Result<Progress, RecvError>
     requires { IsComing progress }
     ensures coming { IfOk result (λ next. IsComing next) }
     ensures fed { IfOk result (λ next. IsFed (awaited_by progress) piece.now (awaited_by next)) }
-    ensures refused { IfErr result (λ e. TellsOf (awaited_by progress).failed ((awaited_by progress).bytes ++ piece.now) e) }
+    ensures refused { IfErr result (λ e. TellsOf (awaited_by progress) piece.now e) }
 {
     match progress {
         Progress::Head(held) => take_head(alloc, held, piece),
@@ -135,10 +136,10 @@ fn go_on(alloc: Global, progress: Progress, piece: &[u8]) -> Result<Progress, Re
 
 /// Takes the next piece of a stream whose header was read.
 fn take_body(receiver: Receiver<MemDisk>, piece: &[u8]) -> Result<Progress, RecvError>
-    requires { IsBegun receiver }
+    requires { AreSteady receiver }
     ensures coming { IfOk result (λ next. IsComing next) }
-    ensures fed { IfOk result (λ next. IsFed receiver piece.now (awaited_by next)) }
-    ensures refused { IfErr result (λ e. TellsOf receiver.failed (receiver.bytes ++ piece.now) e) }
+    ensures fed { IfOk result (λ next. IsFed (AtBody receiver) piece.now (awaited_by next)) }
+    ensures refused { IfErr result (λ e. TellsOf (AtBody receiver) piece.now e) }
 {
     let mut receiver = receiver;
     match receiver.feed(piece) {
@@ -152,29 +153,46 @@ fn take_body(receiver: Receiver<MemDisk>, piece: &[u8]) -> Result<Progress, Recv
 fn take_head(alloc: Global, held: Vec<u8>, piece: &[u8]) -> Result<Progress, RecvError>
     ensures coming { IfOk result (λ next. IsComing next) }
     ensures goes_on { IfOk result (λ next. GoesOnWith (held.items ++ piece.now) (awaited_by next)) }
-    ensures refused { IfErr result (λ e. TellsOf false (held.items ++ piece.now) e) }
+    ensures refused { IfErr result (λ e. TellsWhy (held.items ++ piece.now) e) }
 {
     let mut held = held;
     let few = piece.len().min(HEADER_MAX.saturating_sub(held.len()));
-    if held.extend_from_slice(&piece[..few]).is_err() {
+    let (front, rest) = piece.split_at(few);
+    if held.extend_from_slice(front).is_err() {
         return Err(RecvError::NoMemory);
     }
     match headed(alloc, &held) {
-        Ok(Some(receiver)) => take_body(receiver, &piece[few..]),
-        Ok(None) => {
-            if held.extend_from_slice(&piece[few..]).is_err() {
-                return Err(RecvError::NoMemory);
-            }
-            begin(alloc, held)
-        }
+        Ok(Some(receiver)) => take_body(receiver, rest),
+        Ok(None) => go_on_headless(alloc, held, rest),
         Err(error) => Err(error),
     }
 }
 
+/// Takes the rest of a piece behind bytes that begin with no header. It is copied only if nothing is wrong with them.
+#[tactic(auto, using(crate::proofs::Awaited::head_goes_on))]
+fn go_on_headless(alloc: Global, held: Vec<u8>, rest: &[u8]) -> Result<Progress, RecvError>
+    requires { HasNoHeader held.items }
+    ensures coming { IfOk result (λ next. IsComing next) }
+    ensures goes_on { IfOk result (λ next. GoesOnWith (held.items ++ rest.now) (awaited_by next)) }
+    ensures refused { IfErr result (λ e. TellsWhy (held.items ++ rest.now) e) }
+{
+    if let Err(error) = fed(alloc, Vec::new(alloc), &held) {
+        return Err(error);
+    }
+    if rest.is_empty() {
+        return Ok(Progress::Head(held));
+    }
+    let mut held = held;
+    if held.extend_from_slice(rest).is_err() {
+        return Err(RecvError::NoMemory);
+    }
+    begin(alloc, held)
+}
+
 /// A receiver that was fed the bytes, if they begin with a header.
 fn headed(alloc: Global, bytes: &[u8]) -> Result<Option<Receiver<MemDisk>>, RecvError>
-    ensures begun { IfOk result (λ found. MatchOption found (HasNoHeader bytes.now) (λ r. IsBegun r × (r.bytes ≡ bytes.now))) }
-    ensures refused { IfErr result (λ e. (rest : List ℕ) → TellsOf false (bytes.now ++ rest) e) }
+    ensures begun { IfOk result (λ found. MatchOption found (HasNoHeader bytes.now) (λ r. GoesOnWith bytes.now (AtBody r) × AreSteady r)) }
+    ensures refused { IfErr result (λ e. (rest : List ℕ) → TellsWhy (bytes.now ++ rest) e) }
 {
     let Ok(found) = decode_header(alloc, bytes) else {
         return Err(RecvError::NoMemory);
@@ -193,7 +211,7 @@ fn headed(alloc: Global, bytes: &[u8]) -> Result<Option<Receiver<MemDisk>>, Recv
 fn begin(alloc: Global, held: Vec<u8>) -> Result<Progress, RecvError>
     ensures coming { IfOk result (λ next. IsComing next) }
     ensures goes_on { IfOk result (λ next. GoesOnWith held.items (awaited_by next)) }
-    ensures refused { IfErr result (λ e. TellsOf false held.items e) }
+    ensures refused { IfErr result (λ e. TellsWhy held.items e) }
 {
     match headed(alloc, &held) {
         Ok(Some(receiver)) => Ok(Progress::Body(receiver)),
@@ -208,7 +226,7 @@ fn begin(alloc: Global, held: Vec<u8>) -> Result<Progress, RecvError>
 /// A receiver over disks of zeros for these devices, which was fed the bytes.
 fn begun(alloc: Global, shapes: &[Shape], bytes: &[u8]) -> Result<Receiver<MemDisk>, RecvError>
     ensures begun { IfOk result (λ r. IsFedTo (disk_sizes shapes.now) bytes.now r) }
-    ensures refused { AreFitting bytes.now (disk_sizes shapes.now) → IfErr result (λ e. TellsOf false bytes.now e) }
+    ensures refused { AreFitting bytes.now (disk_sizes shapes.now) → IfErr result (λ e. TellsWhy bytes.now e) }
 {
     let Ok(disks) = zero_disks(alloc, shapes) else {
         return Err(RecvError::NoMemory);
@@ -220,7 +238,7 @@ fn begun(alloc: Global, shapes: &[Shape], bytes: &[u8]) -> Result<Receiver<MemDi
 #[tactic(auto, using(crate::proofs::Awaited::all_fed, crate::proofs::Awaited::all_refused, crate::proofs::Awaited::memory_disks))]
 fn fed(alloc: Global, disks: Vec<MemDisk>, bytes: &[u8]) -> Result<Receiver<MemDisk>, RecvError>
     ensures fed { IfOk result (λ r. IsFedTo (sizes_of mem_state disks.items) bytes.now r) }
-    ensures refused { AreFitting bytes.now (sizes_of mem_state disks.items) → IfErr result (λ e. TellsOf false bytes.now e) }
+    ensures refused { AreFitting bytes.now (sizes_of mem_state disks.items) → IfErr result (λ e. TellsWhy bytes.now e) }
 {
     let mut receiver = Receiver::new(alloc, disks);
     match receiver.feed(bytes) {

@@ -10,6 +10,7 @@
 //!   one table (`specs/Status`): from 1 to 63 nothing has changed, but for 20 (the writer failed) and for a stream that is
 //!   refused as it arrives. `vmig_step` is not done where what it sends might not fit.
 //! - `vmig_next_work` names the next step that has something to do (`specs/NextWork`).
+//! - `vmig_saved_len` is the length of the stream that `vmig_save` makes (`specs/Measured`), without that stream.
 //! - Every call has its clause in each state: the calls of a migration those of `Live` (`specs/Migrated`), over a writer into
 //!   memory from which `vmig_take` takes; the calls of an arrival those of `Receiver` (`specs/Awaited`, `specs/Arriving`), over
 //!   disks that are made as soon as the header is whole. What arrives is no machine for the other calls.
@@ -36,6 +37,7 @@ ghost use Rattle.vmig_c.specs.Arriving.{Counted, Fed, Finished};
 ghost use Rattle.vmig_c.specs.Images.{MakesWith, SectorRead};
 ghost use Rattle.vmig_c.specs.Making.{Makes};
 ghost use Rattle.vmig_c.specs.Mapping.{Maps};
+ghost use Rattle.vmig_c.specs.Measured.{Measured};
 ghost use Rattle.vmig_c.specs.Migrated.{Aborted, Begun, Copied, EndedRound, HasBeenStopped, Remaining, Taken};
 ghost use Rattle.vmig_c.specs.Mirror.{Pulled, Pushed};
 ghost use Rattle.vmig_c.specs.Moving.{Received, Saved};
@@ -53,6 +55,7 @@ mod kept;
 pub mod laws;
 mod making;
 mod mapping;
+mod measuring;
 mod migrating;
 mod mirror;
 mod moving;
@@ -72,6 +75,7 @@ use kept::{Contents, Kept};
 use making::{are_beyond_limits, machine_of};
 use mapped_disk::Image;
 use mapping::{are_counted, machine_over};
+use measuring::measure_kept;
 use migrating::{abort, begin, copy, end_round, remaining, stop, take, taken_out};
 use mirror::{pull, push};
 use moving::{machine_in, save_kept};
@@ -376,6 +380,19 @@ pub extern "C" fn vmig_sector_read(
         return NO_MACHINE;
     }
     read_sector(machine.get_mut(), dev, sector, buf)
+}
+
+/// The length of the machine's stream, in bytes. No stream is made, and no memory taken.
+#[unsafe(no_mangle)]
+#[tactic(auto, using(crate::proofs::Lengths::measured_none, crate::proofs::Lengths::measured_some))]
+pub extern "C" fn vmig_saved_len(machine: &mut Handle, len: &mut usize) -> u32
+    ensures measured { Measured machine.old.machine result len.new len.old }
+    ensures same { machine.new.machine ≡ machine.old.machine }
+{
+    if !machine.is_made() {
+        return NO_MACHINE;
+    }
+    measure_kept(machine.get_mut(), len)
 }
 
 /// Saves the machine into a buffer. `len` becomes the length of its stream in bytes, also if the buffer is too small for it.

@@ -1,7 +1,7 @@
 //! Steps of devices, and what they send.
 
 ghost use Rattle.std.specs.Prelude.{◌≡◌, ◌≤◌, ◌++◌, IfOk, length, drop};
-ghost use Rattle.machine.specs.DeviceStep.{message_form};
+ghost use Rattle.machine.specs.DeviceStep.{wanted_of};
 ghost use Rattle.machine.specs.Seen.{state_of};
 ghost use Rattle.sender.specs.Calls.{guest_reply};
 ghost use Rattle.vmig_c.specs.Status.{live_status, status_of};
@@ -99,7 +99,7 @@ fn room_for<D: Disk>(machine: &Machine<D>, dev: u8, pick: u8) -> usize
 }
 
 fn most_sent(own: &Own, pick: u8) -> usize
-    ensures { result ≡ most_of (message_form own.now pick) }
+    ensures { result ≡ most_of (wanted_of own.now pick) }
 {
     match own {
         Own::Network(_) if pick > 0 => 1_514,

@@ -1,13 +1,14 @@
 pub mod Bodies
 pub mod Choices
-pub mod Decoding
 pub mod DeviceTexts
 pub mod Digits
 pub mod FrameLemmas
 pub mod HeaderLemmas
+pub mod Heads
 pub mod ItemRecords
 pub mod Lists
 pub mod OwnTexts
+pub mod PartLengths
 pub mod RequestFits
 pub mod RequestLemmas
 pub mod Saving

@@ -39,7 +39,7 @@ tail_same e = cc
 pub head_same : {a b : ℕ} {x y : List ℕ} → a ∷ x ≡ b ∷ y → a ≡ b
 head_same e = cc
 
-sector_same : (c d m n : ℕ) (f g : ℕ) (a b x y : List ℕ) → m < 2 ^ 32 → n < 2 ^ 32 → 2 ∷ (c ∷ ((digits 4 m ++ (f ∷ a)) ++ x)) ≡ 2 ∷ (d ∷ ((digits 4 n ++ (g ∷ b)) ++ y))
+pub sector_same : (c d m n : ℕ) (f g : ℕ) (a b x y : List ℕ) → m < 2 ^ 32 → n < 2 ^ 32 → 2 ∷ (c ∷ ((digits 4 m ++ (f ∷ a)) ++ x)) ≡ 2 ∷ (d ∷ ((digits 4 n ++ (g ∷ b)) ++ y))
     → (c ≡ d) × ((m ≡ n) × ((f ≡ g) × (a ++ x ≡ b ++ y)))
 sector_same c d m n f g a b x y lm ln e =
     let h : digits 4 m ++ (f ∷ (a ++ x)) ≡ digits 4 n ++ (g ∷ (b ++ y)) = sym (append_assoc (digits 4 m) (f ∷ a) x) ∙ tail_same (tail_same e) ∙ append_assoc (digits 4 n) (g ∷ b) y in

@@ -5,6 +5,7 @@ pub mod FrameText
 pub mod Header
 pub mod HeaderReading
 pub mod Numbers
+pub mod RecordHeads
 pub mod RecordView
 pub mod Records
 pub mod RequestReading

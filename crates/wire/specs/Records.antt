@@ -1,7 +1,9 @@
--- The records of a stream, each with its encoding: a tag, and then what the record holds.
-use Rattle.std.specs.Prelude.{◌≡◌, ◌<◌, ◌^◌, ℕ, List, [], ◌∷◌, ◌++◌, length, drop, Option, Some, None}
+-- The records of a stream. The encoding of each is a head and a body.
+use Rattle.std.specs.Prelude.{◌≡◌, ◌<◌, ◌^◌, ℕ, true, false, List, [], ◌++◌, length, drop, Option, Some, None}
 use Rattle.guestmem.specs.Number.{IsBytes}
-use Rattle.wire.specs.Numbers.{digits}
+use Rattle.wire.specs.RecordHeads.{spelled_head}
+use Rattle.wire.specs.declared.record_head.RecordHead.{RecordHead}
+use Rattle.wire.specs.declared.record_head.RecordHead.TheVariants.{Page, Sector, RoundEnd, Device, Commit}
 
 -- A page of RAM; a sector of a device's disk, bad where it has no bytes; the end of a round of copying; a device, by its
 -- number and its body; and the digest of all bytes before it, with which a stream ends.
@@ -12,13 +14,33 @@ pub data Record : Type 0 where
   device : ℕ → List ℕ → Record
   commit : List ℕ → Record
 
+abbrev pub head_of : Record → RecordHead
+head_of (page n bytes) = Page n
+head_of (sector d n (Some bytes)) = Sector d n true
+head_of (sector d n None) = Sector d n false
+head_of (round_end n) = RoundEnd n
+head_of (device d body) = Device d (length body)
+head_of (commit digest) = Commit
+
+abbrev pub body_of : Record → List ℕ
+body_of (page n bytes) = bytes
+body_of (sector d n (Some bytes)) = bytes
+body_of (sector d n None) = []
+body_of (round_end n) = []
+body_of (device d body) = body
+body_of (commit digest) = digest
+
 unfoldable pub spelled_record : Record → List ℕ
-spelled_record (page n bytes) = 1 ∷ (digits 4 n ++ bytes)
-spelled_record (sector d n (Some bytes)) = 2 ∷ (d ∷ (digits 4 n ++ (1 ∷ bytes)))
-spelled_record (sector d n None) = 2 ∷ (d ∷ (digits 4 n ++ (0 ∷ [])))
-spelled_record (round_end n) = 3 ∷ digits 4 n
-spelled_record (device d body) = 4 ∷ (d ∷ (digits 4 (length body) ++ body))
-spelled_record (commit digest) = 5 ∷ digest
+spelled_record r = spelled_head (head_of r) ++ body_of r
+
+-- The record with this head and this body. Where a body has no bytes, `bytes` has none.
+abbrev pub record_with : RecordHead → List ℕ → Record
+record_with (Page n) bytes = page n bytes
+record_with (Sector d n true) bytes = sector d n (Some bytes)
+record_with (Sector d n false) bytes = sector d n None
+record_with (RoundEnd n) bytes = round_end n
+record_with (Device d len) bytes = device d bytes
+record_with Commit bytes = commit bytes
 
 -- A record can be encoded if each number fits its field, and a page, a sector and a digest have their lengths.
 abbrev pub HasSpelling : Record → Type 0

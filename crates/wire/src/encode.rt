@@ -6,6 +6,7 @@ ghost use Rattle.wire.specs.Header.{header};
 ghost use Rattle.wire.specs.Records.{commit, device, page, round_end, spelled_record};
 ghost use Rattle.wire.specs.Sinks.{Appends};
 
+use crate::record_head::COMMIT_TAG;
 use crate::sink::{Sink, SinkFault};
 use crate::tally::NoTally;
 use crate::writing::{write_device, write_header, write_page, write_round};
@@ -44,6 +45,6 @@ pub fn encode_device<S: Sink>(number: u8, state: &DeviceState, out: &mut S) -> R
 pub fn encode_commit<S: Sink>(digest: &[u8; 32], out: &mut S) -> Result<(), SinkFault>
     ensures out { Appends (S.state out.old) (spelled_record (commit digest.now)) result (S.state out.new) }
 {
-    out.put(&[5])?;
+    out.put(&[COMMIT_TAG])?;
     out.put(digest)
 }

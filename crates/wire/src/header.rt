@@ -8,7 +8,8 @@ ghost use Rattle.machine.specs.declared.shape.Shape.{Shape};
 
 use crate::numbers::u32_at;
 use crate::shape_spelling::shape_at;
-use machine::Shape;
+use guestmem::PAGES_MAX;
+use machine::{DEVICES_MAX, Shape};
 use std::alloc::{AllocError, Global};
 
 /// "VMIG" as a little-endian number.
@@ -55,7 +56,7 @@ fn header_at(alloc: Global, bytes: &[u8]) -> Result<Option<(u32, Vec<Shape>, &[u
     }
     let pages = u32_at(bytes, 8);
     let count = u32_at(bytes, 12);
-    if pages == 0 || pages > 16384 || count == 0 || count > 16 {
+    if pages == 0 || pages > PAGES_MAX || count == 0 || count > DEVICES_MAX as u32 {
         return Ok(None);
     }
     let (_, rest) = bytes.split_at(FRONT_LEN);

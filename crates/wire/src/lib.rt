@@ -28,9 +28,11 @@ mod frame_reading;
 mod frame_writing;
 mod header;
 pub mod laws;
+mod lengths;
 mod numbers;
 mod own_reading;
 mod record;
+mod record_head;
 mod registers_text;
 mod request_text;
 mod request_writing;
@@ -45,8 +47,15 @@ pub use decode_error::DecodeError;
 pub use device_reading::decode_device;
 pub use encode::{encode_commit, encode_device, encode_header, encode_page, encode_round};
 pub use header::{FRONT_LEN, Header, MAGIC, VERSION, decode_header};
+pub use lengths::{
+    BAD_SECTOR_LEN, COMMIT_LEN, GOOD_SECTOR_LEN, PAGE_RECORD_LEN, device_len, header_len,
+};
 pub use numbers::{u8_at, u32_at};
 pub use record::{Record, decode_record};
+pub use record_head::{
+    BODY_MAX, COMMIT_RECORD, COMMIT_TAG, DEVICE_TAG, FoundHead, PAGE_TAG, RECORD_MAX,
+    ROUND_END_TAG, RecordHead, read_head,
+};
 pub use sector_writing::{encode_sector, write_bad_sector, write_sector};
 pub use shape_spelling::{shape_at, shape_len};
 pub use sink::{Sink, SinkFault, WriteSink};

@@ -1,17 +1,11 @@
 //! Decodes the records of a stream.
 
-ghost use Rattle.std.specs.Prelude.{◌≡◌, ◌≤◌, ◌<◌, ◌∷◌, ◌+◌, IfSome, MatchOption, length};
+ghost use Rattle.std.specs.Prelude.{◌≡◌, ◌≤◌, IfSome, MatchOption, length};
+ghost use Rattle.wire.specs.RecordHeads.{body_len};
 ghost use Rattle.wire.specs.RecordView.{told};
-ghost use Rattle.wire.specs.Records.{BeginsRecord, BeginsNoRecord};
+ghost use Rattle.wire.specs.Records.{BeginsRecord, BeginsNoRecord, record_with};
 
-use crate::numbers::{u8_at, u32_at};
-use guestmem::PAGE_SIZE;
-
-/// The length of a sector, in bytes.
-const SECTOR_LEN: usize = 512;
-
-/// The length of the digest with which a stream ends, in bytes.
-const DIGEST_LEN: usize = 32;
+use crate::record_head::{FoundHead, RecordHead, read_head};
 
 /// One record of a stream, as it is in the bytes.
 #[derive(Clone, Copy, Debug, PartialEq, Eq)]
@@ -44,116 +38,50 @@ pub enum Record<'a> {
 
 /// Decodes the record at the front of the bytes; returns it and its length. `None` if no whole record is there. It
 /// takes no memory.
-#[tactic(auto, using(crate::proofs::Decoding::no_tag))]
 pub fn decode_record(bytes: &[u8]) -> Option<(Record<'_>, usize)>
     ensures record { MatchOption result (BeginsNoRecord bytes.now) (λ x. BeginsRecord bytes.now (told x.0) x.1) }
     ensures within { IfSome result (λ x. x.1 ≤ length bytes.now) }
 {
-    let Some((tag, rest)) = bytes.split_first() else {
-        return None;
+    let head = match read_head(bytes) {
+        FoundHead::Whole(head) => head,
+        _ => return None,
     };
-    match *tag {
-        1 => page_at(rest),
-        2 => sector_at(rest),
-        3 => round_at(rest),
-        4 => device_at(rest),
-        5 => commit_at(rest),
-        _ => None,
+    let (_, behind) = bytes.split_at(head.head_len());
+    if behind.len() < head.body_len() {
+        return None;
     }
+    let (body, _) = behind.split_at(head.body_len());
+    Some((record_of(head, body), head.head_len() + body.len()))
 }
 
-#[tactic(auto, using(crate::proofs::Decoding::page_short))]
-fn page_at(rest: &[u8]) -> Option<(Record<'_>, usize)>
-    ensures record { MatchOption result (BeginsNoRecord (1 ∷ rest.now)) (λ x. BeginsRecord (1 ∷ rest.now) (told x.0) x.1) }
-    ensures within { IfSome result (λ x. x.1 ≤ 1 + length rest.now) }
+fn record_of(head: RecordHead, body: &[u8]) -> Record<'_>
+    ensures { told result ≡ record_with head body.now }
 {
-    if rest.len() < 4 + PAGE_SIZE {
-        return None;
-    }
-    let number = u32_at(rest, 0);
-    let (_, after) = rest.split_at(4);
-    let (bytes, _) = after.split_at(PAGE_SIZE);
-    Some((Record::Page { number, bytes }, 5 + PAGE_SIZE))
-}
-
-#[tactic(auto, using(crate::proofs::Decoding::sector_short, crate::proofs::Decoding::sector_mark, crate::proofs::Decoding::sector_cut))]
-fn sector_at(rest: &[u8]) -> Option<(Record<'_>, usize)>
-    ensures record { MatchOption result (BeginsNoRecord (2 ∷ rest.now)) (λ x. BeginsRecord (2 ∷ rest.now) (told x.0) x.1) }
-    ensures within { IfSome result (λ x. x.1 ≤ 1 + length rest.now) }
-{
-    if rest.len() < 6 {
-        return None;
-    }
-    let device = u8_at(rest, 0);
-    let number = u32_at(rest, 1);
-    let mark = u8_at(rest, 5);
-    let (_, after) = rest.split_at(6);
-    if mark == 0 {
-        let bytes = None;
-        return Some((
-            Record::Sector {
-                device,
-                number,
-                bytes,
-            },
-            7,
-        ));
-    }
-    if mark != 1 {
-        return None;
-    }
-    if after.len() < SECTOR_LEN {
-        return None;
-    }
-    let (bytes, _) = after.split_at(SECTOR_LEN);
-    let bytes = Some(bytes);
-    Some((
-        Record::Sector {
+    match head {
+        RecordHead::Page { number } => Record::Page {
+            number,
+            bytes: body,
+        },
+        RecordHead::Sector {
             device,
             number,
-            bytes,
+            is_good: true,
+        } => Record::Sector {
+            device,
+            number,
+            bytes: Some(body),
         },
-        7 + SECTOR_LEN,
-    ))
-}
-
-#[tactic(auto, using(crate::proofs::Decoding::round_short))]
-fn round_at(rest: &[u8]) -> Option<(Record<'_>, usize)>
-    ensures record { MatchOption result (BeginsNoRecord (3 ∷ rest.now)) (λ x. BeginsRecord (3 ∷ rest.now) (told x.0) x.1) }
-    ensures within { IfSome result (λ x. x.1 ≤ 1 + length rest.now) }
-{
-    if rest.len() < 4 {
-        return None;
+        RecordHead::Sector {
+            device,
+            number,
+            is_good: false,
+        } => Record::Sector {
+            device,
+            number,
+            bytes: None,
+        },
+        RecordHead::RoundEnd { number } => Record::RoundEnd(number),
+        RecordHead::Device { number, .. } => Record::Device { number, body },
+        RecordHead::Commit => Record::Commit(body),
     }
-    Some((Record::RoundEnd(u32_at(rest, 0)), 5))
-}
-
-#[tactic(auto, using(crate::proofs::Decoding::device_short, crate::proofs::Decoding::device_cut))]
-fn device_at(rest: &[u8]) -> Option<(Record<'_>, usize)>
-    ensures record { MatchOption result (BeginsNoRecord (4 ∷ rest.now)) (λ x. BeginsRecord (4 ∷ rest.now) (told x.0) x.1) }
-    ensures within { IfSome result (λ x. x.1 ≤ 1 + length rest.now) }
-{
-    if rest.len() < 5 {
-        return None;
-    }
-    let number = u8_at(rest, 0);
-    let len = u32_at(rest, 1) as usize;
-    let (_, after) = rest.split_at(5);
-    if after.len() < len {
-        return None;
-    }
-    let (body, _) = after.split_at(len);
-    Some((Record::Device { number, body }, 6 + len))
-}
-
-#[tactic(auto, using(crate::proofs::Decoding::commit_short))]
-fn commit_at(rest: &[u8]) -> Option<(Record<'_>, usize)>
-    ensures record { MatchOption result (BeginsNoRecord (5 ∷ rest.now)) (λ x. BeginsRecord (5 ∷ rest.now) (told x.0) x.1) }
-    ensures within { IfSome result (λ x. x.1 ≤ 1 + length rest.now) }
-{
-    if rest.len() < DIGEST_LEN {
-        return None;
-    }
-    let (digest, _) = rest.split_at(DIGEST_LEN);
-    Some((Record::Commit(digest), 1 + DIGEST_LEN))
 }

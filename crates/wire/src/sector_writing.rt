@@ -4,15 +4,11 @@ ghost use Rattle.std.specs.Prelude.{◌≡◌, MatchOption, None, OnOk, Some};
 ghost use Rattle.wire.specs.Records.{sector, spelled_record};
 ghost use Rattle.wire.specs.Sinks.{Appends, Takes};
 
+use crate::record_head::{GOOD_SECTOR_RECORD, RecordHead, SECTOR_HEAD, head_bytes};
 use crate::sink::{Sink, SinkFault};
 use crate::tally::{NoTally, Tally};
 use crate::writing::put;
-use byteorder::{ByteOrder, LittleEndian};
 use machine::SECTOR_SIZE;
-
-/// The length of the record of a good sector: its tag, the numbers of the device and of the sector, the mark that it is
-/// good, and the sector.
-const SECTOR_RECORD: usize = 519;
 
 /// Writes the record of a sector: its 512 bytes, or none if it is bad.
 pub fn encode_sector<S: Sink>(
@@ -47,15 +43,17 @@ pub fn write_sector<S: Sink, T: Tally>(
 
 /// The whole record of a good sector, so that a sink is called once for it.
 #[tactic(auto, unfolding(crate::specs::Records::spelled_record))]
-fn sector_record(device: u8, number: u32, bytes: &[u8; SECTOR_SIZE]) -> [u8; SECTOR_RECORD]
+fn sector_record(device: u8, number: u32, bytes: &[u8; SECTOR_SIZE]) -> [u8; GOOD_SECTOR_RECORD]
     ensures { result ≡ spelled_record (sector device number (Some bytes.now)) }
 {
-    let mut record = [0; SECTOR_RECORD];
-    record[0] = 2;
-    record[1] = device;
-    LittleEndian::write_u32(&mut record[2..], number);
-    record[6] = 1;
-    record[7..].copy_from_slice(bytes);
+    let head = head_bytes(RecordHead::Sector {
+        device,
+        number,
+        is_good: true,
+    });
+    let mut record = [0; GOOD_SECTOR_RECORD];
+    record[..SECTOR_HEAD].copy_from_slice(&head[..SECTOR_HEAD]);
+    record[SECTOR_HEAD..].copy_from_slice(bytes);
     record
 }
 
@@ -70,7 +68,10 @@ pub fn write_bad_sector<S: Sink, T: Tally>(
     ensures out { Appends (S.state out.old) (spelled_record (sector device number None)) result (S.state out.new) }
     ensures taken { OnOk result (Takes (T.has_taken tally.old) (spelled_record (sector device number None)) (T.has_taken tally.new)) }
 {
-    let mut head = [2, device, 0, 0, 0, 0, 0];
-    LittleEndian::write_u32(&mut head[2..], number);
-    put(&head, out, tally)
+    let head = head_bytes(RecordHead::Sector {
+        device,
+        number,
+        is_good: false,
+    });
+    put(&head[..SECTOR_HEAD], out, tally)
 }

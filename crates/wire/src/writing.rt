@@ -1,6 +1,6 @@
 //! Writes records to a sink, and their bytes to a tally.
 
-ghost use Rattle.std.specs.Prelude.{◌≡◌, ◌∷◌, ◌++◌, ◌≤◌, ◌<◌, ◌^◌, ◌/◌, ◌%◌, ℕ, List, IsTrue, OnOk, length};
+ghost use Rattle.std.specs.Prelude.{◌≡◌, ◌∷◌, ◌++◌, take, ◌≤◌, ◌<◌, ◌^◌, ◌/◌, ◌%◌, ℕ, List, IsTrue, OnOk, length};
 ghost use Rattle.wire.specs.DeviceBody.{body, held_text, own_text, queues_text};
 ghost use Rattle.wire.specs.Numbers.{digits};
 ghost use Rattle.wire.specs.Header.{front, header, spelled_shape, spelled_shapes};
@@ -8,7 +8,11 @@ ghost use Rattle.wire.specs.Records.{page, round_end, device, spelled_record};
 ghost use Rattle.wire.specs.Sinks.{Appends, Takes};
 
 use crate::frame_writing::{frames_len, write_frames};
+use crate::header::{FRONT_LEN, MAGIC, VERSION};
 use crate::numbers::{COUNT_LEN, count_bytes};
+use crate::record_head::{
+    DEVICE_HEAD, HEAD_MAX, PAGE_HEAD, PAGE_RECORD, ROUND_END_HEAD, RecordHead, head_bytes,
+};
 use crate::registers_text::{COMMON_LEN, QUEUE_LEN, common_bytes, queue_bytes};
 use crate::request_writing::{requests_len, write_requests};
 use crate::sink::{Sink, SinkFault};
@@ -25,9 +29,6 @@ const COUNT_END: usize = 1 << 32;
 
 /// One past the greatest length that the field of a device's record can hold.
 const LEN_END: u64 = 1 << 32;
-
-/// The length of the record of a page: its tag, the page's number, and the page.
-const PAGE_RECORD: usize = 4101;
 
 /// Puts bytes into the sink, and if that succeeds, into the tally.
 pub fn put<S: Sink, T: Tally>(bytes: &[u8], out: &mut S, tally: &mut T) -> Result<(), SinkFault>
@@ -56,10 +57,12 @@ pub fn write_header<S: Sink, T: Tally>(
 }
 
 #[tactic(auto, unfolding(crate::specs::Header::front))]
-fn front_bytes(pages: u32, count: u32) -> [u8; 16]
+fn front_bytes(pages: u32, count: u32) -> [u8; FRONT_LEN]
     ensures { result ≡ front pages count }
 {
-    let mut bytes = [b'V', b'M', b'I', b'G', 1, 0, 0, 0, 0, 0, 0, 0, 0, 0, 0, 0];
+    let mut bytes = [0; FRONT_LEN];
+    LittleEndian::write_u32(&mut bytes, MAGIC);
+    LittleEndian::write_u32(&mut bytes[4..], VERSION);
     LittleEndian::write_u32(&mut bytes[8..], pages);
     LittleEndian::write_u32(&mut bytes[12..], count);
     bytes
@@ -123,10 +126,10 @@ pub fn write_page<S: Sink, T: Tally>(
 fn page_record(number: u32, bytes: &[u8; 4096]) -> [u8; PAGE_RECORD]
     ensures { result ≡ spelled_record (page number bytes.now) }
 {
+    let head = head_bytes(RecordHead::Page { number });
     let mut record = [0; PAGE_RECORD];
-    record[0] = 1;
-    LittleEndian::write_u32(&mut record[1..], number);
-    record[5..].copy_from_slice(bytes);
+    record[..PAGE_HEAD].copy_from_slice(&head[..PAGE_HEAD]);
+    record[PAGE_HEAD..].copy_from_slice(bytes);
     record
 }
 
@@ -140,9 +143,8 @@ pub fn write_round<S: Sink, T: Tally>(
     ensures out { Appends (S.state out.old) (spelled_record (round_end number)) result (S.state out.new) }
     ensures taken { OnOk result (Takes (T.has_taken tally.old) (spelled_record (round_end number)) (T.has_taken tally.new)) }
 {
-    let mut record = [3, 0, 0, 0, 0];
-    LittleEndian::write_u32(&mut record[1..], number);
-    put(&record, out, tally)
+    let head = head_bytes(RecordHead::RoundEnd { number });
+    put(&head[..ROUND_END_HEAD], out, tally)
 }
 
 /// Writes the record of a device.
@@ -156,28 +158,21 @@ pub fn write_device<S: Sink, T: Tally>(
     ensures out { Appends (S.state out.old) (spelled_record (device number (body state.now))) result (S.state out.new) }
     ensures taken { OnOk result (Takes (T.has_taken tally.old) (spelled_record (device number (body state.now))) (T.has_taken tally.new)) }
 {
-    put(&device_head(number, state), out, tally)?;
+    put(&device_head(number, state)[..DEVICE_HEAD], out, tally)?;
     write_body(state, out, tally)
 }
 
-/// What precedes the body of a device: the tag of its record, its number, and the length of the body.
-fn device_head(number: u8, state: &DeviceState) -> [u8; 6]
-    ensures { result ≡ 4 ∷ (number ∷ digits 4 (length (body state.now))) }
+/// What precedes the body of a device in its record.
+fn device_head(number: u8, state: &DeviceState) -> [u8; HEAD_MAX]
+    ensures { take 6 result ≡ 4 ∷ (number ∷ digits 4 (length (body state.now))) }
 {
-    device_head_with(number, body_len(state))
-}
-
-fn device_head_with(number: u8, len: u32) -> [u8; 6]
-    ensures { result ≡ 4 ∷ (number ∷ digits 4 len) }
-{
-    let mut head = [4, number, 0, 0, 0, 0];
-    LittleEndian::write_u32(&mut head[2..], len);
-    head
+    let len = body_len(state);
+    head_bytes(RecordHead::Device { number, len })
 }
 
 /// The encoded length of the body of a device, modulo 2^32. The body of a sound device is shorter than 2^32 bytes.
 #[tactic(auto, using(crate::proofs::Saving::length_body))]
-fn body_len(state: &DeviceState) -> u32
+pub(crate) fn body_len(state: &DeviceState) -> u32
     ensures { result ≡ length (body state.now) % 2 ^ 32 }
 {
     let queues = state.positions().len() as u64;

@@ -1,18 +1,27 @@
 //! The events of a machine as calls of their own: for a host that has the numbers and the bytes at hand, and needs no list of
 //! events. Each is the step of its event.
 
-ghost use Rattle.std.specs.Prelude.{◌≡◌, length, OnErr};
+ghost use Rattle.std.specs.Prelude.{◌≡◌, ◌≤◌, ◌+◌, ◌*◌, ◌==◌, if◌then◌else◌, length, OnErr};
 ghost use Rattle.guestmem.specs.Item.{MayPages};
+ghost use Rattle.guestmem.specs.Memory.{Memory};
+ghost use Rattle.mmio.specs.RegisterWrite.{register_write};
 ghost use Rattle.machine.specs.Applied.{IsApplied, IsAppliedLogged, MayItems};
 ghost use Rattle.machine.specs.Direct.{value_reply, done_reply, bytes_reply, accepted_reply, written_result};
+ghost use Rattle.machine.specs.Rings.{FitAll, forgotten};
 ghost use Rattle.machine.specs.Seen.{state_of};
+ghost use Rattle.machine.specs.Step.{register_set, written_out};
+ghost use Rattle.machine.specs.declared.any_ring.AnyRing.{AnyRing};
 ghost use Rattle.machine.specs.declared.event.Event.TheVariants as events;
 
+use crate::any_ring::AnyRing;
+use crate::device::Device;
+use crate::forgetting::forget;
 use crate::machine::Machine;
 use crate::reply::{Refusal, Reply};
 use blk::Disk;
 use console::ConsoleSize;
 use guestmem::{NoLog, TouchLog, recall_bytes};
+use mmio::QUEUE_COUNT_MAX;
 
 impl<D: Disk> Machine<D> {
     /// The driver reads a register of a device, `width` bytes at an offset of its window (VIRTIO 1.2, 4.2.2).
@@ -38,11 +47,12 @@ impl<D: Disk> Machine<D> {
     ) -> Result<Option<u8>, Refusal>
         ensures { IsApplied self.old (events.RegWrite dev offset width value) (written_result result) self.new }
     {
-        let dev = dev as usize;
-        if dev >= self.devices.len() {
+        let number = dev as usize;
+        if number >= self.devices.len() {
             return Err(Refusal::NoDevice);
         }
-        Ok(self.devices[dev].write_register(offset, width, value))
+        let device = &mut self.devices[number];
+        Ok(write_one(device, &mut self.rings, dev, offset, width, value))
     }
 
     /// The host sets the size of a console, in characters.
@@ -125,6 +135,37 @@ impl<D: Disk> Machine<D> {
             return Reply::Refused(Refusal::NoDevice);
         }
         let device = &mut self.devices[number];
-        device.step(self.alloc, dev, pick, &mut self.ram, log)
+        let ring = &mut self.rings[ring_place(dev, pick)];
+        device.step(self.alloc, dev, pick, ring, &mut self.ram, log)
     }
+}
+
+/// Which of the rings a step of a device makes its own: that of the queue which the pick names, or the second for a request of
+/// a block device, which has one queue.
+fn ring_place(dev: u8, pick: u8) -> usize
+    ensures { result ≡ QUEUE_COUNT_MAX * dev + (if pick == 0 then 0 else 1) }
+{
+    let first = QUEUE_COUNT_MAX * dev as usize;
+    if pick == 0 { first } else { first + 1 }
+}
+
+/// Writes a register of the device of a number, and empties what its rings keep where the effect is so.
+fn write_one<D: Disk>(
+    device: &mut Device<D>,
+    rings: &mut Vec<AnyRing>,
+    number: u8,
+    offset: u32,
+    width: u8,
+    value: u32,
+) -> Option<u8>
+    requires there { QUEUE_COUNT_MAX * number + QUEUE_COUNT_MAX ≤ length rings.old.items }
+    ensures device { device.new ≡ record device.old { state = register_set device.old.state offset width value } }
+    ensures out { result ≡ written_out device.old.state.own offset width value }
+    ensures rings { (any : AnyRing) → rings.new.items ≡ forgotten number (register_write device.old.state.registers offset width value).0 any rings.old.items }
+    ensures fit { (ram : Memory) → FitAll rings.old.items ram → FitAll rings.new.items ram }
+    ensures each { length rings.new.items ≡ length rings.old.items }
+{
+    let (out, effect) = device.write_register(offset, width, value);
+    forget(rings, number, effect);
+    out
 }

@@ -1,12 +1,14 @@
 //! What a machine is.
 
-ghost use Rattle.std.specs.Prelude.{◌≡◌, ◌<◌, ◌==◌, if◌then◌else◌, length, map, Some, slice_get};
+ghost use Rattle.std.specs.Prelude.{◌≡◌, ◌<◌, ◌==◌, count_by, if◌then◌else◌, length, map, Some, slice_get};
+ghost use Rattle.blk.specs.Sectors.{is_bad};
 ghost use Rattle.guestmem.specs.Item.{sector};
 ghost use Rattle.machine.specs.Applied.{ReadsSector};
 ghost use Rattle.machine.specs.EffectLaws.{HasItem};
 ghost use Rattle.machine.specs.Seen.{state_of};
 ghost use Rattle.machine.specs.Lines.{lines_of};
 ghost use Rattle.machine.specs.Sound.{IsSound};
+ghost use Rattle.machine.specs.Step.{disk_of};
 
 use crate::device::Device;
 use crate::machine::Machine;
@@ -46,6 +48,14 @@ impl<D: Disk> Machine<D> {
         self.devices[dev as usize].state()
     }
 
+    /// How many sectors of a device's disk are bad. It takes constant time.
+    pub fn bad_sectors(&self, dev: u8) -> u64
+        requires { dev < length (state_of self.now).devices }
+        ensures { result ≡ count_by is_bad (disk_of (state_of self.now) dev) }
+    {
+        self.devices[dev as usize].bad_count()
+    }
+
     /// Reads a sector of a device's disk. A bad sector is not read, and the result is `false`; then, and where the disk
     /// fails, the buffer may hold anything.
     pub fn read_sector(
@@ -73,6 +83,7 @@ impl<D: Disk> Machine<D> {
             ram: _,
             shapes: _,
             devices,
+            rings: _,
         } = self;
         devices
     }

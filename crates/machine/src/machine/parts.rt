@@ -3,9 +3,11 @@
 ghost use Rattle.std.specs.Prelude.{◌≡◌, ◌≤◌, [], IfOk, length, map, vec_capacity};
 ghost use Rattle.machine.specs.First.{AreMarksOf, dealt_marks, marked, marks_in, seen_devices};
 ghost use Rattle.machine.specs.Parts.{ArePartsFor, machine_of};
+ghost use Rattle.machine.specs.Rings.{AreNewRings};
 ghost use Rattle.machine.specs.Seen.{all_marks, state_of};
 ghost use Rattle.machine.specs.Sound.{IsSound};
 
+use crate::any_ring::AnyRing;
 use crate::device::Device;
 use crate::fitting::disk_size;
 use crate::machine::Machine;
@@ -29,17 +31,19 @@ pub struct Parts<D: Disk> {
     // Empty lists, of which one has room for each disk, and the other for each device.
     sectors: Vec<Sectors<D>>,
     devices: Vec<Device<D>>,
+    rings: Vec<AnyRing>,
 }
 
 impl<D: Disk> Model for Parts<D> {
     ghost use Rattle.std.specs.Prelude.{length, vec_capacity};
     ghost use Rattle.machine.specs.Parts.{HasRoom, PartsSeen};
+    ghost use Rattle.machine.specs.Rings.{AreNewRings};
 
     ghost Value = { PartsSeen };
 
     ghost view = { λ p. record { ram = p.ram.bytes; shapes = p.shapes.items; states = p.states.items; bad = p.bad.items } };
 
-    ghost invariant = { λ p. HasRoom (length p.bad.items) p.sectors.items (vec_capacity p.sectors) × HasRoom (length p.states.items) p.devices.items (vec_capacity p.devices) };
+    ghost invariant = { λ p. HasRoom (length p.bad.items) p.sectors.items (vec_capacity p.sectors) × HasRoom (length p.states.items) p.devices.items (vec_capacity p.devices) × AreNewRings p.rings.items (length p.states.items) };
 }
 
 impl<D: Disk + Drop> Parts<D> {
@@ -55,6 +59,7 @@ impl<D: Disk + Drop> Parts<D> {
     {
         let sectors = Vec::with_capacity(alloc, bad.len())?;
         let devices = Vec::with_capacity(alloc, states.len())?;
+        let rings = new_rings(alloc, states.len())?;
         Ok(Parts {
             alloc,
             ram,
@@ -63,6 +68,7 @@ impl<D: Disk + Drop> Parts<D> {
             bad,
             sectors,
             devices,
+            rings,
         })
     }
 
@@ -81,6 +87,7 @@ impl<D: Disk + Drop> Parts<D> {
             bad,
             sectors,
             devices,
+            rings,
         } = self;
         let sectors = all_marked(disks, bad, sectors);
         let devices = with_sectors(states, sectors, devices);
@@ -89,8 +96,21 @@ impl<D: Disk + Drop> Parts<D> {
             ram,
             shapes,
             devices,
+            rings,
         }
     }
+}
+
+/// Two rings for each of so many devices. Its only error is out of memory.
+fn new_rings(alloc: Global, count: usize) -> Result<Vec<AnyRing>, NoMemory>
+    ensures { IfOk result (λ rings. AreNewRings rings.items count) }
+{
+    let mut rings = Vec::new(alloc);
+    for _device in 0..count {
+        rings.push(AnyRing::new(alloc))?;
+        rings.push(AnyRing::new(alloc))?;
+    }
+    Ok(rings)
 }
 
 /// The disks with these marks of bad sectors, in a list that has room for them.

@@ -33,11 +33,7 @@ impl Regs {
     pub fn raise_used(&mut self)
         ensures { self.new ≡ with_common self.old (used_raised self.old.common) }
     {
-        let common = self.common();
-        self.set_common(Common {
-            interrupts: common.interrupts | USED_BUFFER,
-            ..common
-        });
+        self.common.interrupts |= USED_BUFFER;
     }
 
     /// Reports to the driver that the configuration has changed. The change is counted, modulo 2^32. It interrupts

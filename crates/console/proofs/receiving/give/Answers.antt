@@ -8,7 +8,7 @@ pub returns-clause-answer : goal.returns-clause-answer
 unfolding give
 returns-clause-answer g c =
     let into = count_into c.args.held.now c.args.chain.now in
-    let count_is : c.min-count.result ≡ into = rw (← c.as_slice.ensures, ← c.total_len-room.ensures, ← c.len.ensures.len) c.min-count.ensures in
+    let count_is : c.min-count.result ≡ into = rw (← c.total_len-room.ensures, ← c.len.ensures.len) c.min-count.ensures in
     let first_is : c.min-first.result ≡ min (length c.as_slices.result.0.now) into = rw count_is at c.min-first.ensures in
     let parts = given c.as_slices.result.0.now c.as_slices.result.1.now c.args.held.now into c.min-first.result c.as_slices.ensures first_is in
     let ram_is = rw (count_is, parts) at c.fill-is_due.ensures.bytes in
@@ -18,7 +18,7 @@ pub returns-clause-changes : goal.returns-clause-changes
 unfolding give
 returns-clause-changes g c =
     let into = count_into c.args.held.now c.args.chain.now in
-    let count_is : c.min-count.result ≡ into = rw (← c.as_slice.ensures, ← c.total_len-room.ensures, ← c.len.ensures.len) c.min-count.ensures in
+    let count_is : c.min-count.result ≡ into = rw (← c.total_len-room.ensures, ← c.len.ensures.len) c.min-count.ensures in
     let first_is : c.min-first.result ≡ min (length c.as_slices.result.0.now) into = rw count_is at c.min-first.ensures in
     let parts = given c.as_slices.result.0.now c.as_slices.result.1.now c.args.held.now into c.min-first.result c.as_slices.ensures first_is in
     record {

@@ -29,20 +29,20 @@ returns-in-Err-clause-refused c =
     let says : Says c.args.bytes.now c.u32_at-pages.result c.u32_at-count.result = record { long = omega arith; magic = search rules; version = search rules; pages_are = search rules; count_is = search rules } in
     let may = c.may_count.ensures.0 (search rules) in
     let rest : c.split_at.result.1.now ≡ drop 16 c.args.bytes.now = search rules in
-    told_shapes c.args.bytes.now c.u32_at-pages.result c.u32_at-count.result c.in-Err.error says may (rw rest at c.in-Err.ensures)
+    told_shapes c.args.bytes.now c.u32_at-pages.result c.u32_at-count.result c.in-Err.error says may (rw rest at c.in-Err.ensures.read)
 
 pub returns-in-Ok-None-clause-read : goal.returns-in-Ok-None-clause-read
 returns-in-Ok-None-clause-read c =
     let says : Says c.args.bytes.now c.u32_at-pages.result c.u32_at-count.result = record { long = omega arith; magic = search rules; version = search rules; pages_are = search rules; count_is = search rules } in
     let may = c.may_count.ensures.0 (search rules) in
     let rest : c.split_at.result.1.now ≡ drop 16 c.args.bytes.now = search rules in
-    head_part c.args.bytes.now c.u32_at-pages.result c.u32_at-count.result says may (rw (c.in-Ok-None.field-0-is, rest) at c.in-Ok-None.ensures)
+    head_part c.args.bytes.now c.u32_at-pages.result c.u32_at-count.result says may (rw (c.in-Ok-None.field-0-is, rest) at c.in-Ok-None.ensures.read)
 
 pub returns-in-Ok-Some-clause-read : goal.returns-in-Ok-Some-clause-read
 returns-in-Ok-Some-clause-read c =
     let says : Says c.args.bytes.now c.u32_at-pages.result c.u32_at-count.result = record { long = omega arith; magic = search rules; version = search rules; pages_are = search rules; count_is = search rules } in
     let may = c.may_count.ensures.0 (search rules) in
     let rest : c.split_at.result.1.now ≡ drop 16 c.args.bytes.now = search rules in
-    let begins = begins_so c.args.bytes.now c.u32_at-pages.result c.u32_at-count.result _ _ (λ i. omega (arith, c.type_inv.bytes i)) says may (rw (c.in-Ok-Some.field-0-is, rest) at c.in-Ok-Some.ensures) in
+    let begins = begins_so c.args.bytes.now c.u32_at-pages.result c.u32_at-count.result _ _ (λ i. omega (arith, c.type_inv.bytes i)) says may (rw (c.in-Ok-Some.field-0-is, rest) at c.in-Ok-Some.ensures.read) in
     let after = behind _ c.in-Ok-Some.rest.now c.args.bytes.now begins.whole in
     (omega (arith, after.shorter), rw after.dropped begins)

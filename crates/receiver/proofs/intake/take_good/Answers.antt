@@ -7,8 +7,8 @@ use Rattle.receiver.proofs.intake.take_good.Goals as goal
 pub write-requires : goal.write-requires
 write-requires g c = size_told g.D.Disk.state c.args.disks.now c.args.spot.disk c.index-disks-spot.result c.args.number c.requires.there
 
-pub returns-in-Err : goal.returns-in-Err
-returns-in-Err g c = λ front pages shapes before h none at.
+pub returns-in-Err-clause-taking : goal.returns-in-Err-clause-taking
+returns-in-Err-clause-taking g c = λ front pages shapes before h none at.
     let state = g.D.Disk.state in
     let low = disk_told state c.args.disks.now c.args.spot.disk c.args.number c.requires.there in
     let ds = map state c.args.disks.now in
@@ -19,8 +19,8 @@ returns-in-Err g c = λ front pages shapes before h none at.
           (write_failed ds c.args.spot.disk c.args.number c.args.bytes.now _ (state c.write.new.self) (omega (arith, low, length-map c.args.disks.now state)) wrote),
     )
 
-pub returns : goal.returns
-returns g c = λ front pages shapes before h none at.
+pub returns-clause-taking : goal.returns-clause-taking
+returns-clause-taking g c = λ front pages shapes before h none at.
     let state = g.D.Disk.state in
     let low = disk_told state c.args.disks.now c.args.spot.disk c.args.number c.requires.there in
     let ds = map state c.args.disks.now in

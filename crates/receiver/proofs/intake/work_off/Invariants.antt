@@ -1,4 +1,5 @@
-use Rattle.std.proofs.Common.{ℕ, List, ◌≤◌, ◌-◌, map, take, length}
+use Rattle.std.proofs.Common.{ℕ, List, ◌≤◌, ◌++◌, ◌-◌, map, take, length}
+use Rattle.sha2.specs.Hashers.{Holds256}
 use Rattle.wire.specs.Records.{Record}
 use Rattle.machine.specs.declared.shape.Shape.{Shape}
 use Rattle.receiver.specs.Fed.{HasRead}
@@ -7,9 +8,10 @@ use Rattle.receiver.proofs.intake.work_off.Given as goal
 
 abbrev pub invariant-loop-at : goal.invariant-loop-at
 invariant-loop-at g l = record {
-  room : l.at ≤ length l.held;
-  read : (pages : ℕ) (shapes : List Shape) (before : List Record) → HasRead (map g.D.Disk.state l.fn.disks) pages shapes before l.fn.intake (take l.from l.held) → SoFar (map g.D.Disk.state l.fn.disks) (map g.D.Disk.state l.disks) pages shapes l.intake (take l.at l.held);
+  room : l.at ≤ length l.bytes;
+  read : (front : List ℕ) (pages : ℕ) (shapes : List Shape) (before : List Record) → Holds256 l.fn.taken front → HasRead (map g.D.Disk.state l.fn.disks) pages shapes before l.fn.intake front
+      → SoFar (map g.D.Disk.state l.fn.disks) (map g.D.Disk.state l.disks) pages shapes l.intake l.taken (front ++ take l.at l.bytes);
 }
 
 abbrev pub decreases-loop-at : goal.decreases-loop-at
-decreases-loop-at g l = length l.held - l.at
+decreases-loop-at g l = length l.bytes - l.at

@@ -1,12 +1,13 @@
-use Rattle.std.proofs.Common.{◌≡◌, ◌+◌, ◌++◌, Ok, sym, ◌∙◌, arith}
+use Rattle.std.proofs.Common.{◌≡◌, ◌+◌, ◌++◌, Ok, sym, subst, ◌∙◌, arith}
 use Rattle.guestmem.specs.Item.{sector}
+use Rattle.machine.specs.NextBad.{IsNextBad}
 use Rattle.machine.specs.Seen.{state_of}
 use Rattle.wire.specs.Records.{spelled_record}
 use Rattle.wire.specs.Stream.{record_of, texts}
 use Rattle.sender.specs.Items.{first_sector, records_from}
 use Rattle.sender.proofs.Disks.{few_told, sector_there, size_told}
 use Rattle.sender.proofs.Parts.{none_from, sector_more}
-use Rattle.sender.proofs.Sending.{sends_next, sends_nothing, takes_next, takes_nothing}
+use Rattle.sender.proofs.Sending.{sends_alike, sends_next, sends_nothing, takes_next, takes_nothing}
 use Rattle.sender.proofs.saving.write_disk.Goals as goal
 
 pub loop-number-init : goal.loop-number-init
@@ -15,15 +16,20 @@ loop-number-init g c =
     record {
       sound = c.shapes.ensures.sound;
       end = c.sectors-number-end.ensures ∙ size_told m c.shapes.result.now c.args.dev _ c.shapes.ensures.sound c.shapes.ensures.shapes c.requires;
+      next = c.next_bad-next_bad.ensures;
       few = rw c.sectors-number-end.ensures (few_told m c.shapes.result.now c.args.dev _ c.shapes.ensures.sound c.shapes.ensures.shapes c.requires);
       sent = sends_nothing c.args.machine.now (g.S.Sink.state c.args.out.now) (texts (records_from m (first_sector m c.args.dev) 0)) (tt {0}) (none_from m (first_sector m c.args.dev));
       taken = takes_nothing {A = Unit {0}} c.args.machine.now (g.T.Tally.has_taken c.args.tally.now) (texts (records_from m (first_sector m c.args.dev) 0)) (tt {0}) (none_from m (first_sector m c.args.dev));
     }
 
-pub send_sector-requires : goal.send_sector-requires
-send_sector-requires g c =
+pub send_in_turn-requires-clause-there : goal.send_in_turn-requires-clause-there
+send_in_turn-requires-clause-there g c =
     sector_there (state_of c.args.machine.now) (state_of c.loop-number.machine) c.args.dev c.loop-number.number c.loop-number.invariant.sound c.loop-number.invariant.sent.state
     (omega (arith, c.loop-number-test.true, c.loop-number.invariant.end))
+
+pub send_in_turn-requires-clause-next : goal.send_in_turn-requires-clause-next
+send_in_turn-requires-clause-next g c =
+    subst (λ k. IsNextBad k c.args.dev c.loop-number.number c.loop-number.next_bad) (sym c.loop-number.invariant.sent.state) c.loop-number.invariant.next
 
 pub loop-number-preserved : goal.loop-number-preserved
 loop-number-preserved g c =
@@ -31,12 +37,14 @@ loop-number-preserved g c =
     let before = texts (records_from m (first_sector m c.args.dev) c.loop-number.number) in
     let after = texts (records_from m (first_sector m c.args.dev) (c.loop-number.number + 1)) in
     let more : before ++ spelled_record (record_of m (sector c.args.dev c.loop-number.number)) ≡ after = sym (sector_more m c.args.dev c.loop-number.number (omega (arith, c.loop-number-test.true, c.loop-number.invariant.end))) in
+    let one = sends_alike c.loop-number.machine c.send_in_turn.new.machine (g.S.Sink.state c.loop-number.out) (g.S.Sink.state c.send_in_turn.new.out) (spelled_record (record_of (state_of c.loop-number.machine) (sector c.args.dev c.loop-number.number))) c.in_ok-next_bad.next_bad (tt {0}) (rw c.in_ok-next_bad.was at c.send_in_turn.ensures.sent) in
     record {
       sound = c.loop-number.invariant.sound;
       end = c.loop-number.invariant.end;
       few = c.loop-number.invariant.few;
-      sent = sends_next c.args.machine.now c.loop-number.machine c.send_sector.new.machine (g.S.Sink.state c.args.out.now) (g.S.Sink.state c.loop-number.out) (g.S.Sink.state c.send_sector.new.out) before after (λ k. spelled_record (record_of k (sector c.args.dev c.loop-number.number))) (tt {0}) (Ok (tt {0})) more
-          c.loop-number.invariant.sent (rw c.in_ok-send_sector.was at c.send_sector.ensures.sent);
-      taken = takes_next {B = Unit {0}} c.args.machine.now c.loop-number.machine c.send_sector.new.machine (g.S.Sink.state c.args.out.now) (g.S.Sink.state c.loop-number.out) (g.T.Tally.has_taken c.args.tally.now) (g.T.Tally.has_taken c.loop-number.tally) (g.T.Tally.has_taken c.send_sector.new.tally) before after (λ k. spelled_record (record_of k (sector c.args.dev c.loop-number.number))) (tt {0}) (Ok (tt {0})) more
-          c.loop-number.invariant.sent c.loop-number.invariant.taken (rw c.in_ok-send_sector.was at c.send_sector.ensures.taken);
+      next = subst (λ k. IsNextBad k c.args.dev (c.loop-number.number + 1) c.in_ok-next_bad.next_bad) c.loop-number.invariant.sent.state (rw c.in_ok-next_bad.was at c.send_in_turn.ensures.next);
+      sent = sends_next c.args.machine.now c.loop-number.machine c.send_in_turn.new.machine (g.S.Sink.state c.args.out.now) (g.S.Sink.state c.loop-number.out) (g.S.Sink.state c.send_in_turn.new.out) before after (λ k. spelled_record (record_of k (sector c.args.dev c.loop-number.number))) (tt {0}) (Ok (tt {0})) more
+          c.loop-number.invariant.sent one;
+      taken = takes_next {B = Unit {0}} c.args.machine.now c.loop-number.machine c.send_in_turn.new.machine (g.S.Sink.state c.args.out.now) (g.S.Sink.state c.loop-number.out) (g.T.Tally.has_taken c.args.tally.now) (g.T.Tally.has_taken c.loop-number.tally) (g.T.Tally.has_taken c.send_in_turn.new.tally) before after (λ k. spelled_record (record_of k (sector c.args.dev c.loop-number.number))) (tt {0}) (Ok (tt {0})) more
+          c.loop-number.invariant.sent c.loop-number.invariant.taken (rw c.in_ok-next_bad.was at c.send_in_turn.ensures.taken);
     }

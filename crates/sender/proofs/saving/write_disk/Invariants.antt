@@ -1,4 +1,5 @@
 use Rattle.std.proofs.Common.{◌≡◌, ◌≤◌, Ok}
+use Rattle.machine.specs.NextBad.{IsNextBad}
 use Rattle.machine.specs.Seen.{state_of}
 use Rattle.machine.specs.Sound.{IsSound}
 use Rattle.wire.specs.Stream.{texts}
@@ -11,6 +12,7 @@ invariant-loop-number g l = record {
   sound : IsSound (state_of l.fn.machine);
   end : l.number-end ≡ size_on (state_of l.fn.machine) l.dev;
   few : l.number-end ≤ 4294967295;
+  next : IsNextBad (state_of l.fn.machine) l.dev l.number l.next_bad;
   sent : Sends l.fn.machine (g.S.Sink.state l.fn.out) (texts (records_from (state_of l.fn.machine) (first_sector (state_of l.fn.machine) l.dev) l.number)) (Ok (tt {0})) l.machine (g.S.Sink.state l.out);
   taken : TakesOn l.fn.machine (g.T.Tally.has_taken l.fn.tally) (texts (records_from (state_of l.fn.machine) (first_sector (state_of l.fn.machine) l.dev) l.number)) (Ok (tt {0})) (g.T.Tally.has_taken l.tally);
 }

@@ -1,8 +1,8 @@
 use Rattle.std.proofs.Common.{◌≡◌, ℕ, List, subst}
-use Rattle.std.specs.Prelude.{IfErr, IfOk, false}
+use Rattle.std.specs.Prelude.{IfErr, IfOk}
 use Rattle.machine.specs.Shapes.{disk_sizes}
 use Rattle.receiver.specs.Disks.{sizes_of}
-use Rattle.vmig_c.specs.Awaited.{IsFedTo, TellsOf}
+use Rattle.vmig_c.specs.Awaited.{IsFedTo, TellsWhy}
 use Rattle.vmig_c.specs.Headed.{AreFitting}
 use Rattle.vmig_c.specs.Plain.{mem_state}
 use Rattle.vmig_c.proofs.Streams.{zero_fit}
@@ -16,4 +16,4 @@ returns-clause-begun c =
 pub returns-clause-refused : goal.returns-clause-refused
 returns-clause-refused c =
     let sizes : sizes_of mem_state c.in-Ok.disks.items ≡ disk_sizes c.args.shapes.now = zero_fit c.in-Ok.disks.items (disk_sizes c.args.shapes.now) c.in-Ok.ensures in
-    subst (λ (l : List ℕ). AreFitting c.args.bytes.now l → IfErr c.fed.result (λ e. TellsOf false c.args.bytes.now e)) sizes c.fed.ensures.refused
+    subst (λ (l : List ℕ). AreFitting c.args.bytes.now l → IfErr c.fed.result (λ e. TellsWhy c.args.bytes.now e)) sizes c.fed.ensures.refused

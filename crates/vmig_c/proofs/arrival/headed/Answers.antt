@@ -8,7 +8,7 @@ pub returns-in-Ok-begun-clause-begun : goal.returns-in-Ok-begun-clause-begun
 returns-in-Ok-begun-clause-begun c =
     let found = rw c.in-Some.is at c.in-Ok.ensures in
     let fed = rw c.deref.ensures.value at c.in-Ok-begun.ensures.begun in
-    (begun_coming c.in-Ok-begun.receiver c.args.bytes.now c.in-Some.header.pages c.in-Some.header.shapes.items _ found.1 fed, fed.bytes_are)
+    (begun_coming c.in-Ok-begun.receiver c.args.bytes.now c.in-Some.header.pages c.in-Some.header.shapes.items _ found.1 fed, fed.steady)
 
 pub returns-in-Some-clause-refused : goal.returns-in-Some-clause-refused
 returns-in-Some-clause-refused c = λ rest.

@@ -1,10 +1,23 @@
-use Rattle.std.proofs.Common.{◌≡◌, ◌++◌, List, ℕ, arith, drop, subst}
-use Rattle.std.specs.Prelude.{false}
-use Rattle.std.proofs.lemmas.Grind.{common_steps}
-use Rattle.vmig_c.specs.Awaited.{TellsOf}
+use Rattle.std.proofs.Common.{◌≡◌, ◌++◌, List, ℕ, rules, take, drop, ap, append_assoc, sym, subst, ◌∙◌}
+use Rattle.std.proofs.lemmas.List.{take-append-drop}
+use Rattle.vmig_c.specs.Awaited.{TellsWhy}
+use Rattle.vmig_c.proofs.Awaited.{cut_piece, rest_refused, rest_taken}
 use Rattle.vmig_c.proofs.arrival.take_head.Goals as goal
+
+pub returns-in-Ok-Some-clause-goes_on : goal.returns-in-Ok-Some-clause-goes_on
+returns-in-Ok-Some-clause-goes_on c =
+    let held : c.deref.result.now ≡ c.args.held.items ++ c.split_at.result.0.now = search rules in
+    let begun = rw c.in-Ok-Some.field-0-is at c.in-Ok-Some.ensures.begun in
+    rest_taken c.take_body.result c.in-Ok-Some.receiver c.deref.result.now c.split_at.result.1.now _ begun.0 (cut_piece c.args.held.items c.deref.result.now c.args.piece.now _ _ c.min-few.result held (search rules) (search rules)) c.take_body.ensures.fed
+
+pub returns-in-Ok-Some-clause-refused : goal.returns-in-Ok-Some-clause-refused
+returns-in-Ok-Some-clause-refused c =
+    let held : c.deref.result.now ≡ c.args.held.items ++ c.split_at.result.0.now = search rules in
+    let begun = rw c.in-Ok-Some.field-0-is at c.in-Ok-Some.ensures.begun in
+    rest_refused c.take_body.result c.in-Ok-Some.receiver c.deref.result.now c.split_at.result.1.now _ begun.0 (cut_piece c.args.held.items c.deref.result.now c.args.piece.now _ _ c.min-few.result held (search rules) (search rules)) c.take_body.ensures.refused
 
 pub returns-in-Err-clause-refused : goal.returns-in-Err-clause-refused
 returns-in-Err-clause-refused c =
-    let all : c.deref.result.now ++ drop c.min-few.result c.args.piece.now ≡ c.args.held.items ++ c.args.piece.now = grind (arith, common_steps) in
-    subst (λ (b : List ℕ). TellsOf false b c.in-Err.error) all (c.in-Err.ensures.refused (drop c.min-few.result c.args.piece.now))
+    let held : c.deref.result.now ≡ c.args.held.items ++ c.split_at.result.0.now = search rules in
+    let all = cut_piece c.args.held.items c.deref.result.now c.args.piece.now _ _ c.min-few.result held (search rules) (search rules) in
+    subst (λ (b : List ℕ). TellsWhy b c.in-Err.error) all (c.in-Err.ensures.refused c.split_at.result.1.now)

@@ -4,6 +4,7 @@ use Rattle.wire.proofs.request_text.segs_at.Given as goal
 
 abbrev pub invariant-loop : goal.invariant-loop
 invariant-loop l = record {
+  count : length l.segs ≡ l.counter;
   room : 12 * (l.count - l.counter) ≤ length l.rest;
   whole : l.segs ++ segs_of (l.count - l.counter) l.rest ≡ segs_of l.count l.bytes;
 }

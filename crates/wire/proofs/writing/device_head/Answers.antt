@@ -6,6 +6,6 @@ use Rattle.wire.proofs.writing.device_head.Goals as goal
 
 pub returns : goal.returns
 returns c =
-    c.device_head_with.ensures
-    ∙ ap (λ (n : ℕ). 4 ∷ (c.args.number ∷ digits 4 n)) c.body_len.ensures
+    c.head_bytes.ensures
+    ∙ ap (λ (n : ℕ). 4 ∷ (c.args.number ∷ digits 4 n)) c.body_len-len.ensures
     ∙ ap (λ (x : List ℕ). 4 ∷ (c.args.number ∷ x)) (low_digits (length (body c.args.state.now)))

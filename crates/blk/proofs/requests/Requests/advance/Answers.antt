@@ -2,8 +2,9 @@ use Rattle.std.proofs.Common.{◌≡◌, ◌<◌, ◌≤◌, ◌∙◌, sym, tru
 use Rattle.std.specs.List.{remove}
 use Rattle.std.proofs.lemmas.Option.{slice_get_read, slice_get_past, get_or_from_slice_get}
 use Rattle.blk.specs.Request.{is_open}
+use Rattle.blk.specs.Sound.{IsSoundRequest}
 use Rattle.blk.proofs.Units.{goes_on}
-use Rattle.blk.proofs.Ending.{ended, stayed, went_on}
+use Rattle.blk.proofs.Ending.{ended, stayed, went_on, all_left}
 use Rattle.blk.proofs.requests.Requests.advance.Goals as goal
 
 pub returns-then-k-len-clause-changes : goal.returns-then-k-len-clause-changes
@@ -42,5 +43,11 @@ pub returns-then-is_open-clause-sound : goal.returns-then-is_open-clause-sound
 returns-then-is_open-clause-sound g c =
     let items = c.self.inside.list.items in
     let below : c.args.k < length items = omega (arith, c.if-k-len.false, c.len.ensures) in
-    rw c.move_unit-moved.ensures.size (goes_on (length c.args.ram.now.bytes) (g.R.Ring.state c.args.ring.now) c.args.shape.now items c.args.k c.index_mut.result.now c.move_unit-moved.new.request c.move_unit-moved.result
+    rw c.move_unit-moved.ensures.after.later.bytes (goes_on (length c.args.ram.now.bytes) (g.R.Ring.state c.args.ring.now) c.args.shape.now items c.args.k c.index_mut.result.now c.move_unit-moved.new.request c.move_unit-moved.result
     (rw (← c.self.view_is) at c.requires.sound) below c.index_mut.ensures.value c.move_unit-moved.ensures.request c.move_unit-moved.ensures.sound)
+
+pub returns-clause-sound : goal.returns-clause-sound
+returns-clause-sound g c =
+    let q = g.R.Ring.state c.args.ring.now in
+    let P = IsSoundRequest (length c.args.ram.now.bytes) q.is_packed q.size c.args.shape.now in
+    rw (c.complete.ensures.after.later.bytes, c.complete.ensures.ring, c.remove-request.ensures.items) (all_left P c.self.inside.list.items c.args.k (rw (← c.self.view_is) at c.requires.sound))

@@ -1,12 +1,8 @@
-use Rattle.std.proofs.Common.{◌≡◌, false, length, ap, sym, ◌∙◌, arith}
+use Rattle.std.proofs.Common.{◌≡◌, false, length, ap, arith}
 use Rattle.std.proofs.lemmas.List.{get_or_past}
 use Rattle.dirtylog.specs.Words.{flags_of}
-use Rattle.dirtylog.proofs.Counts.{none_counted}
 use Rattle.dirtylog.proofs.Flags.{flags_length, least_member}
 use Rattle.dirtylog.proofs.bit_set.BitSet.first_counted.Goals as goal
-
-pub returns-then-self-eq0-clause-least : goal.returns-then-self-eq0-clause-least
-returns-then-self-eq0-clause-least c = λ k a. rw (← c.self.view_is) (none_counted (flags_of c.self.inside.words.items c.self.inside.len) (sym c.self.invariant.1.counted ∙ c.if-self-eq0.true) k)
 
 pub returns-then-n-self-clause-least : goal.returns-then-n-self-clause-least
 returns-then-n-self-clause-least c = λ k a. rw (← c.self.view_is) (get_or_past (flags_of c.self.inside.words.items c.self.inside.len) k false (omega (arith, a, c.if-n-self.true, flags_length c.self.inside.words.items c.self.inside.len)))

@@ -6,7 +6,7 @@ use Rattle.machine.proofs.Raised.{no_lines, one_more, lines_low, line_low, bit_l
 use Rattle.machine.proofs.machine.Machine.lines.Goals as goal
 
 pub loop-device-init : goal.loop-device-init
-loop-device-init g c = rw c.deref-device-items.ensures.value (no_lines c.self.inside.devices.items (rw length-map at c.self.invariant.sound.few_devices))
+loop-device-init g c = rw c.deref-device-items.ensures.value (no_lines c.self.inside.devices.items (rw length-map at c.self.invariant.0.sound.few_devices))
 
 pub overflow_add-lines : goal.overflow_add-lines
 overflow_add-lines g c =

@@ -1,3 +1,4 @@
+use Rattle.machine.proofs.Keeping.{rings_stay}
 use Rattle.machine.proofs.At.{IsAt}
 use Rattle.machine.proofs.Reading.{IsRead, Tells, device_there, held_so, reads}
 use Rattle.machine.proofs.machine.Machine.read_sector.Goals as goal
@@ -5,8 +6,10 @@ use Rattle.machine.proofs.machine.Machine.read_sector.Goals.{in-Read, in-Bad, in
 
 pub invariant_of-self : goal.invariant_of-self
 invariant_of-self g c =
-    let at : IsAt c.self.inside.devices.items c.args.dev c.index_mut.result.now = record { below = device_there c.self.inside.ram c.self.inside.devices.items c.args.dev c.args.n (rw (← c.self.view_is) at c.requires); is = c.index_mut.ensures.value } in
-    held_so c.self.inside.shapes.items c.self.inside.ram c.self.inside.devices.items c.args.dev c.index_mut.result.now c.read_sector.new.self at c.read_sector.ensures.state c.read_sector.ensures.sectors c.self.invariant
+    let at : IsAt c.self.inside.devices.items c.args.dev c.index_mut.result.now = record { below = device_there c.self.inside.ram c.self.inside.devices.items c.args.dev c.args.n (rw (← c.self.view_is) at c.requires); is = c.index_mut.ensures.value } in (
+      held_so c.self.inside.shapes.items c.self.inside.ram c.self.inside.devices.items c.args.dev c.index_mut.result.now c.read_sector.new.self at c.read_sector.ensures.state c.read_sector.ensures.sectors c.self.invariant.0,
+      rings_stay c.self.inside.rings.items c.self.inside.ram c.self.inside.devices.items c.args.dev c.read_sector.new.self c.self.invariant.1,
+    )
 
 pub returns : goal.returns
 returns g c =

@@ -3,4 +3,4 @@ use Rattle.machine.proofs.At.{shapes_seen}
 use Rattle.machine.proofs.machine.Machine.shapes.Goals as goal
 
 pub returns-clause-shapes : goal.returns-clause-shapes
-returns-clause-shapes g c = rw (← c.self.view_is) (c.as_slice.ensures.value ∙ c.self.invariant.shapes_are ∙ shapes_seen c.self.inside.devices.items)
+returns-clause-shapes g c = rw (← c.self.view_is) (c.as_slice.ensures.value ∙ c.self.invariant.0.shapes_are ∙ shapes_seen c.self.inside.devices.items)

@@ -1,16 +1,19 @@
 use Rattle.std.proofs.Common.{ap, ◌∙◌, length}
+use Rattle.chains.specs.FrameLaws.{fits_on}
 use Rattle.machine.specs.AnyRing.{ring_in}
 use Rattle.machine.specs.DeviceStep.{is_advance_due}
 use Rattle.machine.proofs.Staying.{due_registers}
 use Rattle.machine.proofs.Stepping.{advanced_ring, advanced_sound, advanced_step, has_queue, held_device}
 use Rattle.machine.proofs.state.DeviceState.advance.Goals as goal
 
-pub advance-advanced-requires-clause-areas : goal.advance-advanced-requires-clause-areas
-advance-advanced-requires-clause-areas g c = (advanced_ring (length c.args.ram.now.bytes) c.args.self.now c.args.pick (ring_in c.args.ring) c.requires.sound c.requires.advanced).areas
+pub advance-advanced-requires-clause-ready : goal.advance-advanced-requires-clause-ready
+advance-advanced-requires-clause-ready g c =
+    let ring = advanced_ring (length c.args.ram.now.bytes) c.args.self.now c.args.pick (ring_in c.args.ring.now) c.requires.sound c.requires.advanced in
+    record { areas = ring.areas; pages = c.requires.may }
 
 pub advance-advanced-requires-clause-sound : goal.advance-advanced-requires-clause-sound
 advance-advanced-requires-clause-sound g c =
-    rw (← c.self.view_is) at (advanced_sound (length c.args.ram.now.bytes) c.args.self.now c.args.pick (ring_in c.args.ring) c.requires.sound c.requires.advanced)
+    rw (← c.self.view_is) at (advanced_sound (length c.args.ram.now.bytes) c.args.self.now c.args.pick (ring_in c.args.ring.now) c.requires.sound c.requires.advanced)
 
 pub returns-clause-advanced : goal.returns-clause-advanced
 returns-clause-advanced g c =
@@ -19,7 +22,10 @@ returns-clause-advanced g c =
     let sound = rw (← c.self.view_is) at c.requires.sound in
     let a = c.advance-advanced.result in
     rw (← c.self.view_is, c.publish.ensures.reply, c.reply_to_advance-reply.ensures, c.positions.ensures)
-    (advanced_step g.L.TouchLog.after c.args.device c.args.sectors.now.honest c.args.ram.now.bytes c.args.sectors.now.content c.args.log.now i.shape i.registers i.positions i.own c.args.pick (ring_in c.args.ring) a c.advance-advanced.new.ram.bytes (ring_in c.advance-advanced.new.ring) c.advance-advanced.new.sectors.content c.advance-advanced.new.self c.advance-advanced.new.log c.publish.new.registers
-    (has_queue d c.args.pick (ring_in c.args.ring) (length c.args.ram.now.bytes) sound (rw (← c.self.view_is) at c.requires.advanced))
+    (advanced_step g.L.TouchLog.after c.args.device c.args.sectors.now.honest c.args.ram.now.bytes c.args.sectors.now.content c.args.log.now i.shape i.registers i.positions i.own c.args.pick (ring_in c.args.ring.now) a c.advance-advanced.new.ram.bytes (ring_in c.advance-advanced.new.ring) c.advance-advanced.new.sectors.content c.advance-advanced.new.self c.advance-advanced.new.log c.publish.new.registers
+    (has_queue d c.args.pick (ring_in c.args.ring.now) (length c.args.ram.now.bytes) sound (rw (← c.self.view_is) at c.requires.advanced))
     c.advance-advanced.ensures.changes c.advance-advanced.ensures.own (rw c.is_due.ensures at c.publish.ensures.registers)
     (ap (λ r. length r.queues) (rw c.is_due.ensures at c.publish.ensures.registers) ∙ (due_registers i.registers (is_advance_due a) sound.registers).same.queue_count))
+
+pub returns-clause-fits : goal.returns-clause-fits
+returns-clause-fits g c = fits_on _ _ _ _ c.requires.fits c.advance-advanced.ensures.after.later c.advance-advanced.ensures.decoder

@@ -6,18 +6,20 @@ use Rattle.machine.proofs.Staying.{served_registers}
 use Rattle.machine.proofs.Stepping.{held_device, looked_sound, served_look}
 use Rattle.machine.proofs.state.DeviceState.look.Goals as goal
 
-pub serve-requires-clause-areas : goal.serve-requires-clause-areas
-serve-requires-clause-areas g c = (looked_ring (length c.args.ram.now.bytes) c.args.self.now c.args.pick (ring_in c.args.ring) c.requires.sound (looked_is c.args.self.now c.args.pick (ring_in c.args.ring) c.requires.looked)).areas
+pub serve-requires-clause-ready : goal.serve-requires-clause-ready
+serve-requires-clause-ready g c =
+    let ring = looked_ring (length c.args.ram.now.bytes) c.args.self.now c.args.pick (ring_in c.args.ring.now) c.requires.sound (looked_is c.args.self.now c.args.pick (ring_in c.args.ring.now) c.requires.looked) in
+    record { areas = ring.areas; pages = c.requires.may; fits = c.requires.fits }
 
 pub serve-requires-clause-sound : goal.serve-requires-clause-sound
 serve-requires-clause-sound g c =
     let i = c.self.inside in
-    looked_sound (length c.args.ram.now.bytes) (held_device i.shape i.registers i.positions i.own) c.args.pick (ring_in c.args.ring) (rw (← c.self.view_is) at c.requires.sound) (rw (← c.self.view_is) at c.requires.looked)
+    looked_sound (length c.args.ram.now.bytes) (held_device i.shape i.registers i.positions i.own) c.args.pick (ring_in c.args.ring.now) (rw (← c.self.view_is) at c.requires.sound) (rw (← c.self.view_is) at c.requires.looked)
 
 pub returns-in-Ok-clause-looked : goal.returns-in-Ok-clause-looked
 returns-in-Ok-clause-looked g c =
     let i = c.self.inside in
     let sound = rw (← c.self.view_is) at c.requires.sound in
     rw (← c.self.view_is, c.tell.ensures.reply, c.positions.ensures)
-    (served_look g.L.TouchLog.after c.args.ram.now.bytes c.args.log.now i.shape i.registers i.positions i.own c.args.pick (ring_in c.args.ring) c.in-Ok.served c.serve.new.ram.bytes (ring_in c.serve.new.ring) c.serve.new.self c.serve.new.log c.tell.new.registers
+    (served_look g.L.TouchLog.after c.args.ram.now.bytes c.args.log.now i.shape i.registers i.positions i.own c.args.pick (ring_in c.args.ring.now) c.in-Ok.served c.serve.new.ram.bytes (ring_in c.serve.new.ring) c.serve.new.self c.serve.new.log c.tell.new.registers
     (rw (← c.self.view_is) at c.requires.there) c.in-Ok.ensures.served c.tell.ensures.registers (ap (λ r. length r.queues) c.tell.ensures.registers ∙ (served_registers i.registers c.args.pick c.in-Ok.served sound.registers).same.queue_count))

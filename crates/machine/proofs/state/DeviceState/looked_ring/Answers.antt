@@ -1,8 +1,8 @@
 use Rattle.machine.proofs.Stepping.{made_look, made_ring}
 use Rattle.machine.proofs.state.DeviceState.looked_ring.Goals as goal
 
-pub new-requires : goal.new-requires
-new-requires c =
+pub renew-requires : goal.renew-requires
+renew-requires c =
     let i = c.self.inside in
     (made_ring c.requires.sound.0 i.shape i.registers i.positions i.own c.args.pick c.queues-queues.result.now c.features-features.result (rw (← c.self.view_is) at c.requires.sound.1) c.queues-queues.ensures.value c.if-number-queues.false
     (rw (← c.self.view_is) at c.if-not-looks.ensures) c.features-features.ensures).may
@@ -10,6 +10,6 @@ new-requires c =
 pub returns-clause-ring : goal.returns-clause-ring
 returns-clause-ring c =
     let i = c.self.inside in
-    rw (← c.self.view_is, c.new.ensures)
+    λ _. rw (← c.self.view_is, c.renew.ensures.ring)
     (made_look c.requires.sound.0 i.shape i.registers i.positions i.own c.args.pick c.queues-queues.result.now c.features-features.result (rw (← c.self.view_is) at c.requires.sound.1) c.queues-queues.ensures.value c.if-number-queues.false
     (rw (← c.self.view_is) at c.if-not-looks.ensures) c.features-features.ensures)

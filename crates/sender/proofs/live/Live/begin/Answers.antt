@@ -17,12 +17,12 @@ invariant_of-self-2 g c =
 pub returns : goal.returns
 returns g c =
     let i = c.self.inside in
-    let free = rw (← c.self.view_is) at (sym c.refusal.ensures ∙ c.in-None.is) in
+    let free = rw (← c.self.view_is) at (sym c.refusal.ensures ∙ c.in_default.is) in
     let room = c.self.invariant.room in
     rw (← c.self.view_is) (served_begin _ _ free (record {
       machine = refl;
       phase = refl;
       due = c.fill.ensures ∙ ap (λ n. replicate n true) room.due_size;
       dirty = c.clear.ensures ∙ ap (λ n. replicate n false) room.dirty_size;
-      wrote = wrote_by _ _ _ _ _ (header_told (state_of i.source) c.page_count-pages.result c.shapes.result.now c.page_count-pages.ensures.count c.shapes.ensures.shapes) c.in-Ok.ensures.out c.in-Ok.ensures.taken;
+      wrote = wrote_by _ _ _ _ _ (header_told (state_of i.source) c.page_count-pages.result c.shapes.result.now c.page_count-pages.ensures.count c.shapes.ensures.shapes) c.in_default-write_header.ensures.out c.in_default-write_header.ensures.taken;
     }))

@@ -10,7 +10,7 @@ invariant_of-self g c = let i = c.self.inside in live_again i.source i.source i.
 pub invariant_of-self-2 : goal.invariant_of-self-2
 invariant_of-self-2 g c =
     let i = c.self.inside in
-    let free = rw (← c.self.view_is) at (sym c.refusal.ensures ∙ c.in-None.is) in
+    let free = rw (← c.self.view_is) at (sym c.refusal.ensures ∙ c.in_default.is) in
     let even = c.self.invariant.room.dirty_size ∙ sym c.self.invariant.room.due_size in
     live_begun i.source i.stage _ i.left c.swap_out.new.other i.changed.set c.swap_out.new.self i.changed.firsts.items i.at c.self.invariant
     (ap length c.swap_out.ensures.given ∙ even) (ap length c.swap_out.ensures.left ∙ length-replicate (length i.changed.set) false) (round_fits i.stage c.in-Open.round c.in-Open.is c.self.invariant.round free)
@@ -18,7 +18,7 @@ invariant_of-self-2 g c =
 pub returns : goal.returns
 returns g c =
     let i = c.self.inside in
-    let free = rw (← c.self.view_is) at (sym c.refusal.ensures ∙ c.in-None.is) in
+    let free = rw (← c.self.view_is) at (sym c.refusal.ensures ∙ c.in_default.is) in
     let room = c.self.invariant.room in
     rw (← c.self.view_is) (served_round _ _ _ free (c.if-not-is_empty.ensures.0 refl) (record {
       round = c.in-Open.round;
@@ -28,5 +28,5 @@ returns g c =
       phase = refl;
       due = c.swap_out.ensures.given;
       dirty = c.swap_out.ensures.left ∙ ap (λ n. replicate n false) room.dirty_size;
-      wrote = wrote_by _ _ _ _ _ refl c.in-Ok.ensures.out c.in-Ok.ensures.taken;
+      wrote = wrote_by _ _ _ _ _ refl c.in_default-write_round.ensures.out c.in_default-write_round.ensures.taken;
     }))

@@ -14,7 +14,7 @@ invariant_of-self g c =
 pub invariant_of-self-2 : goal.invariant_of-self-2
 invariant_of-self-2 g c =
     let i = c.self.inside in
-    live_sent i.source c.send_item.new.machine i.stage i.left c.remove.new.self i.changed.set c.remove-2.new.self i.changed.firsts.items i.at c.args.number c.self.invariant c.in-Ok.ensures.sent.state c.remove.ensures c.remove-2.ensures
+    live_sent i.source c.send_item.new.machine i.stage i.left c.remove.new.self i.changed.set c.remove-2.new.self i.changed.firsts.items i.at c.args.number c.self.invariant c.in_default.ensures.sent.state c.remove.ensures c.remove-2.ensures
 
 pub returns-in-Err : goal.returns-in-Err
 returns-in-Err g c =
@@ -26,4 +26,4 @@ returns-in-Err g c =
 
 pub returns : goal.returns
 returns g c =
-    rw (← c.self.view_is) (item_sent _ _ c.args.number c.item_at-item.result _ c.item_at-item.ensures.item c.in-Ok.ensures.sent c.in-Ok.ensures.taken refl c.remove.ensures c.remove-2.ensures)
+    rw (← c.self.view_is) (item_sent _ _ c.args.number c.item_at-item.result _ c.item_at-item.ensures.item c.in_default.ensures.sent c.in_default.ensures.taken refl c.remove.ensures c.remove-2.ensures)

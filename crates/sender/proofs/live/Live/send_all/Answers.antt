@@ -1,49 +1,56 @@
-use Rattle.std.proofs.Common.{◌≡◌, length, subst, sym, ◌∙◌, arith}
+use Rattle.std.proofs.Common.{◌≡◌, ◌+◌, ◌<◌, false, length, set, subst, sym, ap, ◌∙◌}
+use Rattle.std.specs.Prelude.{Some}
+use Rattle.dirtylog.specs.Members.{IsLeastFrom}
 use Rattle.machine.specs.Layout.{pages_of}
 use Rattle.sender.specs.LiveState.{LiveSeen, now}
-use Rattle.sender.proofs.Stopping.{all_along, along_first, along_more, along_past, few_counted, inside, short_of}
+use Rattle.sender.specs.Stopping.{lesser}
+use Rattle.sender.proofs.NextLeft.{along_here, along_next, later, next_inside, next_member, onward_first, onward_more, shorter, still_next}
+use Rattle.sender.proofs.Stopping.{Along, few_counted, short_of}
 use Rattle.sender.proofs.live.Live.send_all.Goals as goal
-use Rattle.sender.proofs.live.Live.send_all.Goals.{then-is_left+in-Ok, else-is_left}
 
-pub loop-number-init : goal.loop-number-init
-loop-number-init g c =
-    along_first c.args.self.now c.page_count-pages.result c.recall.ensures (subst (λ (v : LiveSeen). c.page_count-pages.result ≡ pages_of (now v)) c.self.view_is c.page_count-pages.ensures.count)
-
-pub is_left-requires : goal.is_left-requires
-is_left-requires g c =
-    let end : c.len-number-end.result ≡ length c.args.self.now.due = subst (λ (v : LiveSeen). c.len-number-end.result ≡ length v.due) c.self.view_is c.len-number-end.ensures in
-    inside _ c.loop-number.self _ _ c.loop-number.sent c.loop-number.invariant (omega (arith, c.loop-number-test.true, end))
-
-pub send-requires : goal.send-requires
-send-requires g c =
-    let end : c.len-number-end.result ≡ length c.args.self.now.due = subst (λ (v : LiveSeen). c.len-number-end.result ≡ length v.due) c.self.view_is c.len-number-end.ensures in
-    inside _ c.loop-number.self _ _ c.loop-number.sent c.loop-number.invariant (omega (arith, c.loop-number-test.true, end))
+pub items-init : goal.items-init
+items-init g c =
+    onward_first c.args.self.now c.first_from-due.result c.first_from-dirty.result c.page_count-pages.result c.recall.ensures
+    (subst (λ (v : LiveSeen). c.page_count-pages.result ≡ pages_of (now v)) c.self.view_is c.page_count-pages.ensures.count)
+    (subst (λ (v : LiveSeen). IsLeastFrom v.due 0 c.first_from-due.result) c.self.view_is c.first_from-due.ensures)
+    (subst (λ (v : LiveSeen). IsLeastFrom v.dirty 0 c.first_from-dirty.result) c.self.view_is c.first_from-dirty.ensures)
 
 pub returns-in-Err : goal.returns-in-Err
 returns-in-Err g c =
-    let end : c.len-number-end.result ≡ length c.args.self.now.due = subst (λ (v : LiveSeen). c.len-number-end.result ≡ length v.due) c.self.view_is c.len-number-end.ensures in
-    short_of _ _ _ _ _ c.loop-number.sent c.in-Err.error c.loop-number.invariant (omega (arith, c.loop-number-test.true, end)) (sym c.is_left.ensures ∙ c.if-is_left.true) c.in-Err.ensures
+    let is : lesser c.items.due c.items.dirty ≡ Some c.in-Some.number = sym c.in-Some.ensures in
+    short_of _ _ _ _ _ c.items.sent c.in-Err.error (along_here _ _ _ _ _ _ _ c.items.invariant is) (next_inside _ _ _ _ _ _ _ c.items.invariant is) (next_member _ _ _ _ _ _ _ c.items.invariant is) c.in-Err.ensures
 
 pub counted-sent-requires-clause-pages : goal.counted-sent-requires-clause-pages
 counted-sent-requires-clause-pages g c =
-    let end : c.len-number-end.result ≡ length c.args.self.now.due = subst (λ (v : LiveSeen). c.len-number-end.result ≡ length v.due) c.self.view_is c.len-number-end.ensures in
-    few_counted _ c.loop-number.self _ _ _ _ c.loop-number.sent c.loop-number.invariant (omega (arith, c.loop-number-test.true, end)) c.loop-number.invariant.pages_are
+    let is : lesser c.items.due c.items.dirty ≡ Some c.in-Some.number = sym c.in-Some.ensures in
+    let along : Along c.args.self.now c.in-Some.number c.page_count-pages.result c.items.sent c.items.self = along_here _ _ _ _ _ _ _ c.items.invariant is in
+    few_counted _ c.items.self _ _ _ _ c.items.sent along (next_inside _ _ _ _ _ _ _ c.items.invariant is) along.pages_are
 
 pub counted-sent-requires-clause-sectors : goal.counted-sent-requires-clause-sectors
 counted-sent-requires-clause-sectors g c =
-    let end : c.len-number-end.result ≡ length c.args.self.now.due = subst (λ (v : LiveSeen). c.len-number-end.result ≡ length v.due) c.self.view_is c.len-number-end.ensures in
-    few_counted _ c.loop-number.self _ _ _ _ c.loop-number.sent c.loop-number.invariant (omega (arith, c.loop-number-test.true, end)) c.loop-number.invariant.sectors_are
+    let is : lesser c.items.due c.items.dirty ≡ Some c.in-Some.number = sym c.in-Some.ensures in
+    let along : Along c.args.self.now c.in-Some.number c.page_count-pages.result c.items.sent c.items.self = along_here _ _ _ _ _ _ _ c.items.invariant is in
+    few_counted _ c.items.self _ _ _ _ c.items.sent along (next_inside _ _ _ _ _ _ _ c.items.invariant is) along.sectors_are
 
-pub loop-number-preserved : goal.loop-number-preserved
-loop-number-preserved g c =
-    let end : c.len-number-end.result ≡ length c.args.self.now.due = subst (λ (v : LiveSeen). c.len-number-end.result ≡ length v.due) c.self.view_is c.len-number-end.ensures in
-    elim c.if-is_left.branch [
-      | then-is_left+in-Ok w ↦ rw (w.self-is, w.sent-is)
-          (along_more _ c.loop-number.self _ _ _ _ c.loop-number.sent _ c.loop-number.invariant (omega (arith, c.loop-number-test.true, end)) (sym c.is_left.ensures ∙ w.if-is_left.true) w.in-Ok.ensures w.counted-sent.ensures)
-      | else-is_left w ↦ rw (w.self-is, w.sent-is) (along_past _ c.loop-number.self _ _ c.loop-number.sent c.loop-number.invariant (sym c.is_left.ensures ∙ w.if-is_left.false))
-    ]
+pub next_past-dirty-requires-clause-found : goal.next_past-dirty-requires-clause-found
+next_past-dirty-requires-clause-found g c = λ other.
+    let taken : c.self-in-Some.inside.changed.set ≡ set c.items.self.dirty c.in-Some.number false = ap (λ (v : LiveSeen). v.dirty) c.self-in-Some.view_is ∙ c.in_default-send.ensures.sent.dirty in
+    subst (λ s. IsLeastFrom s 0 c.items.dirty) (sym taken) (still_next c.items.self.dirty c.in-Some.number c.items.dirty c.items.invariant.dirty_next other)
 
-pub returns : goal.returns
-returns g c =
-    let end : c.len-number-end.result ≡ length c.args.self.now.due = subst (λ (v : LiveSeen). c.len-number-end.result ≡ length v.due) c.self.view_is c.len-number-end.ensures in
-    all_along _ _ _ _ c.loop-number.sent c.loop-number.invariant (omega (arith, c.loop-number-test.false, c.loop-number.auto.number-end, end))
+pub items-smaller : goal.items-smaller
+items-smaller g c =
+    let is : lesser c.items.due c.items.dirty ≡ Some c.in-Some.number = sym c.in-Some.ensures in
+    let within : c.in-Some.number < length c.args.self.now.due = next_inside _ _ _ _ _ _ _ c.items.invariant is in
+    let along : Along c.args.self.now (c.in-Some.number + 1) c.page_count-pages.result c.counted-sent.result c.send.new.self = along_next _ _ _ _ _ _ _ c.items.invariant is _ _ _ c.in_default-send.ensures c.counted-sent.ensures in
+    shorter (lesser c.items.due c.items.dirty) (lesser c.next_past-due.result c.next_past-dirty.result) c.in-Some.number _ is within (later _ c.send.new.self c.next_past-due.result c.next_past-dirty.result c.in-Some.number c.page_count-pages.result c.counted-sent.result along within
+    (subst (λ (v : LiveSeen). IsLeastFrom v.due 0 c.next_past-due.result) c.self-in-Some.view_is c.next_past-due.ensures)
+    (subst (λ (v : LiveSeen). IsLeastFrom v.dirty 0 c.next_past-dirty.result) c.self-in-Some.view_is c.next_past-dirty.ensures))
+
+pub items-preserved : goal.items-preserved
+items-preserved g c =
+    let is : lesser c.items.due c.items.dirty ≡ Some c.in-Some.number = sym c.in-Some.ensures in
+    let within : c.in-Some.number < length c.args.self.now.due = next_inside _ _ _ _ _ _ _ c.items.invariant is in
+    let along : Along c.args.self.now (c.in-Some.number + 1) c.page_count-pages.result c.counted-sent.result c.send.new.self = along_next _ _ _ _ _ _ _ c.items.invariant is _ _ _ c.in_default-send.ensures c.counted-sent.ensures in
+    onward_more _ c.send.new.self c.next_past-due.result c.next_past-dirty.result c.in-Some.number c.page_count-pages.result c.counted-sent.result along within
+    (subst (λ (v : LiveSeen). IsLeastFrom v.due 0 c.next_past-due.result) c.self-in-Some.view_is c.next_past-due.ensures)
+    (subst (λ (v : LiveSeen). IsLeastFrom v.dirty 0 c.next_past-dirty.result) c.self-in-Some.view_is c.next_past-dirty.ensures)

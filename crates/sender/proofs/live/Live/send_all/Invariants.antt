@@ -1,5 +1,10 @@
-use Rattle.sender.proofs.Stopping.{Along}
+use Rattle.std.proofs.Common.{◌-◌, length}
+use Rattle.sender.specs.Stopping.{lesser}
+use Rattle.sender.proofs.NextLeft.{Onward, reached}
 use Rattle.sender.proofs.live.Live.send_all.Given as goal
 
-abbrev pub invariant-loop-number : goal.invariant-loop-number
-invariant-loop-number g l = Along l.fn.self l.number l.pages l.sent l.self
+abbrev pub invariant-items : goal.invariant-items
+invariant-items g l = Onward l.fn.self l.due l.dirty l.pages l.sent l.self
+
+abbrev pub decreases-items : goal.decreases-items
+decreases-items g l = length l.fn.self.due - reached (lesser l.due l.dirty) (length l.fn.self.due)

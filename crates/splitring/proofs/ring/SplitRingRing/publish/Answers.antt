@@ -11,5 +11,5 @@ pub returns-clause-log : goal.returns-clause-log
 unfolding split_published
 returns-clause-log g c = rw (← c.self.view_is) (simp (c.put-2.ensures.log, c.put.ensures.log, c.element_bytes.ensures, c.index_bytes.ensures) refl)
 
-pub returns-clause-later : goal.returns-clause-later
-returns-clause-later g c = later_trans _ _ _ c.put.ensures.later c.put-2.ensures.later
+pub returns-clause-after : goal.returns-clause-after
+returns-clause-after g c = record { later = later_trans _ _ _ c.put.ensures.later c.put-2.ensures.later; pages = c.put-2.ensures.may }

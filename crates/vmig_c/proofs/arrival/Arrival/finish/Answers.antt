@@ -1,10 +1,10 @@
 use Rattle.std.proofs.Common.{◌≡◌, ap, sym, subst, ◌∙◌}
-use Rattle.std.specs.Prelude.{IfOk}
-use Rattle.receiver.specs.Receiving.{Received}
+use Rattle.std.specs.Prelude.{IfErr, IfOk}
 use Rattle.receiver.specs.declared.recv_error.RecvError.TheVariants.{Truncated}
-use Rattle.vmig_c.specs.Awaited.{HasArrived, IsBegun, IsComing, TellsEnd, awaited_by}
+use Rattle.vmig_c.specs.ArrivalSeen.{ArrivalSeen, AtBody}
+use Rattle.vmig_c.specs.Awaited.{AreSteady, HasArrived, IsComing, TellsEnd, awaited_by}
 use Rattle.vmig_c.specs.Headed.{HasNoHeader}
-use Rattle.vmig_c.proofs.Awaited.{arrived_if, head_ends}
+use Rattle.vmig_c.proofs.Awaited.{arrived_if, head_ends, not_arrived_if}
 use Rattle.vmig_c.proofs.arrival.Arrival.finish.Goals as goal
 
 pub returns-in-Head-clause-refused : goal.returns-in-Head-clause-refused
@@ -13,12 +13,18 @@ returns-in-Head-clause-refused c =
     let none : HasNoHeader c.in-Head.field-0.items = rw c.in-Head.is at coming in
     let view : awaited_by c.self.inside.progress ≡ c.args.self = c.self.view_is in
     let seen = sym (ap awaited_by c.in-Head.is) ∙ view in
-    subst (λ (r : Received). TellsEnd r.failed r.bytes Truncated) seen (head_ends c.in-Head.field-0.items none)
+    subst (λ (a : ArrivalSeen). TellsEnd a Truncated) seen (head_ends c.in-Head.field-0.items none)
 
 pub returns-in-Body-clause-arrived : goal.returns-in-Body-clause-arrived
 returns-in-Body-clause-arrived c =
     let coming : IsComing c.self.inside.progress = c.self.invariant in
-    let h : IsBegun c.in-Body.receiver = rw c.in-Body.is at coming in
+    let steady : AreSteady c.in-Body.receiver = rw c.in-Body.is at coming in
     let view : awaited_by c.self.inside.progress ≡ c.args.self = c.self.view_is in
-    let seen : c.in-Body.receiver ≡ c.args.self = sym (ap awaited_by c.in-Body.is) ∙ view in
-    subst (λ (r : Received). IfOk c.finish.result (λ m. HasArrived r m)) seen (arrived_if c.in-Body.receiver c.finish.result h c.finish.ensures.received c.finish.ensures.marks)
+    let seen : AtBody c.in-Body.receiver ≡ c.args.self = sym (ap awaited_by c.in-Body.is) ∙ view in
+    subst (λ (a : ArrivalSeen). IfOk c.finish.result (λ m. HasArrived a m)) seen (arrived_if c.in-Body.receiver c.finish.result steady c.finish.ensures.received c.finish.ensures.marks)
+
+pub returns-in-Body-clause-refused : goal.returns-in-Body-clause-refused
+returns-in-Body-clause-refused c =
+    let view : awaited_by c.self.inside.progress ≡ c.args.self = c.self.view_is in
+    let seen : AtBody c.in-Body.receiver ≡ c.args.self = sym (ap awaited_by c.in-Body.is) ∙ view in
+    subst (λ (a : ArrivalSeen). IfErr c.finish.result (λ e. TellsEnd a e)) seen (not_arrived_if c.in-Body.receiver c.finish.result c.finish.ensures.refused)

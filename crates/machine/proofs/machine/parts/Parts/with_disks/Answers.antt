@@ -1,13 +1,16 @@
-use Rattle.std.proofs.Common.{map, refl}
+use Rattle.std.proofs.Common.{length, map, refl}
 use Rattle.machine.specs.First.{marks_in}
-use Rattle.machine.proofs.Dealt.{are_marks, is_held, is_made, marked_marks}
+use Rattle.machine.proofs.Keeping.{rings_made}
+use Rattle.machine.proofs.Dealt.{are_marks, devices_long, is_held, is_made, marked_marks}
 use Rattle.machine.proofs.machine.parts.Parts.with_disks.Goals as goal
 
 pub invariant_of-result : goal.invariant_of-result
 invariant_of-result g c =
     let i = c.self.inside in
-    let fit = rw (← c.self.view_is) at c.requires in
-    is_held i.shapes.items i.ram i.states.items c.all_marked-sectors.result.items c.with_sectors-devices.result.items c.with_sectors-devices.ensures (rw c.all_marked-sectors.ensures fit.sound) fit.shapes
+    let fit = rw (← c.self.view_is) at c.requires in (
+      is_held i.shapes.items i.ram i.states.items c.all_marked-sectors.result.items c.with_sectors-devices.result.items c.with_sectors-devices.ensures (rw c.all_marked-sectors.ensures fit.sound) fit.shapes,
+      rings_made i.rings.items i.ram c.with_sectors-devices.result.items (length i.states.items) c.self.invariant.2 (rw c.with_sectors-devices.ensures (devices_long i.states.items c.all_marked-sectors.result.items)),
+    )
 
 pub returns-clause-made : goal.returns-clause-made
 returns-clause-made g c =

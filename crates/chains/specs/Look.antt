@@ -1,0 +1,57 @@
+-- The look of a device at the next chain of a queue.
+use Rattle.std.specs.Prelude.{◌≡◌, ℕ, nat_lt, ◌==◌, ◌&&◌, not, Bool, true, List, [], length, if◌then◌else◌}
+use Rattle.guestmem.specs.Writes.{Write}
+use Rattle.chains.specs.State.{RingState}
+use Rattle.chains.specs.Places.{places}
+use Rattle.chains.specs.Publish.{event_note}
+use Rattle.chains.specs.Ring.{Answers}
+use Rattle.chains.specs.LongQueue.{IsLongQueue}
+use Rattle.chains.specs.declared.chain.Chain.{Chain}
+use Rattle.chains.specs.declared.next.Next.{Next}
+use Rattle.chains.specs.declared.next.Next.TheVariants.{Empty, Malformed, Chain as Found}
+use Rattle.chains.specs.declared.next_kind.NextKind.{NextKind}
+use Rattle.chains.specs.declared.next_kind.NextKind.TheVariants as kinds
+use Rattle.chains.specs.declared.looking.Wanted.{Wanted}
+use Rattle.chains.specs.declared.looking.Wanted.TheVariants.{Room, Message, Request}
+use Rattle.chains.specs.Transmit.{is_message}
+
+-- A chain that a device can use. Into one that takes bytes it only writes: the receive queues of a network device and of a
+-- console (VIRTIO 1.2, 5.1.6.3 and 5.3.6) and the queue of an entropy device (5.4.6.1). From one with a message it only reads
+-- (5.1.6.2 and 5.3.6). One with a request has a header, and a byte for the status (5.2.6).
+abbrev pub fits : Wanted → Chain → Bool
+fits Room c = length (places c.readable) == 0 && not (length (places c.writable) == 0)
+fits (Message form) c = is_message form c
+fits (Request header) c = not (nat_lt (length (places c.readable)) header) && not (length (places c.writable) == 0)
+
+-- What a device sees where a queue answers so: a chain that it cannot use is malformed too.
+abbrev pub seen_as : Wanted → Next → Next
+seen_as wanted Empty = Empty
+seen_as wanted Malformed = Malformed
+seen_as wanted (Found c) = if fits wanted c then Found c else Malformed
+
+-- A device that wants such chains sees this at the taking position of a queue.
+pub record Sees (wanted : Wanted) (ram : List ℕ) (q : RingState) (seen : Next) : Type 0 where
+  pub answer : Next
+  pub answers : Answers ram q answer
+  pub is : seen ≡ seen_as wanted answer
+
+-- What a look may return, with the chain that it has filled in.
+abbrev pub LookGives : Wanted → List ℕ → RingState → NextKind → Chain → Type 0
+LookGives wanted ram q kinds.Empty c = Sees wanted ram q Empty
+LookGives wanted ram q kinds.Malformed c = Sees wanted ram q Malformed
+LookGives wanted ram q kinds.Chain c = Sees wanted ram q (Found c) × (fits wanted c ≡ true)
+LookGives wanted ram q kinds.NoMemory c = IsLongQueue ram q
+
+-- What a look writes: the event note if the queue is empty.
+abbrev pub look_writes : RingState → NextKind → List Write
+look_writes q kinds.Empty = event_note q
+look_writes q kinds.Malformed = []
+look_writes q kinds.Chain = []
+look_writes q kinds.NoMemory = []
+
+-- `P`, unless the queue is empty.
+abbrev pub UnlessEmpty : NextKind → Type 0 → Type 0
+UnlessEmpty kinds.Empty P = Unit {0}
+UnlessEmpty kinds.Malformed P = P
+UnlessEmpty kinds.Chain P = P
+UnlessEmpty kinds.NoMemory P = P

@@ -1,0 +1,151 @@
+//! Reading descriptors, with those kept whose pages have not changed.
+
+ghost use Rattle.std.specs.Prelude.{◌≡◌, ◌+◌, ◌*◌, ◌%◌, ◌<◌, ◌≤◌, ◌&&◌, if◌then◌else◌, length, true, false};
+ghost use Rattle.guestmem.specs.Memory.{Memory};
+ghost use Rattle.guestmem.specs.Write.{raised};
+ghost use Rattle.chains.specs.Descriptor.{descriptor_at, descriptor_in};
+ghost use Rattle.chains.specs.Decoder.{Fits, empty_decoder, is_kept};
+
+use crate::descriptor::{DESCRIPTOR_SIZE, Descriptor, decode};
+use guestmem::{PAGE_SIZE, Ram};
+use std::marker::Model;
+
+/// The number of places of a decoder.
+pub const PLACES: usize = 16;
+
+/// A descriptor that was decoded, and what tells whether it is still so in RAM.
+#[derive(Clone, Copy)]
+pub struct Kept {
+    /// The address at which it was read.
+    pub address: u64,
+
+    /// Whether it was read as one of a packed ring.
+    pub is_packed: bool,
+
+    /// The version of its page when it was read.
+    pub version: u64,
+
+    /// What was read.
+    pub descriptor: Descriptor,
+}
+
+/// Reads descriptors, counts those that it decodes, and keeps some of the queue's own table: descriptor i in place i mod
+/// `PLACES`. A kept one is used only where the version of its page is the same and below the greatest. An entry of an
+/// indirect table is never kept.
+#[derive(Drop)]
+pub struct Decoder {
+    decoded: u64,
+    places: [Option<Kept>; PLACES],
+}
+
+impl Model for Decoder {
+    ghost use Rattle.chains.specs.Decoder.{DecoderState};
+
+    ghost Value = { DecoderState };
+
+    ghost view = { λ d. record { decoded = d.decoded; places = d.places } };
+}
+
+impl Decoder {
+    /// One that has decoded no descriptor and keeps none. It takes no memory.
+    pub fn new() -> Decoder
+        ensures empty { result ≡ empty_decoder 0 }
+        ensures fits { (ram : Memory) → Fits result ram }
+    {
+        Decoder {
+            decoded: 0,
+            places: [None; PLACES],
+        }
+    }
+
+    /// The number of descriptors decoded since it was made. It stays at its greatest value.
+    pub fn decoded(&self) -> u64
+        ensures { result ≡ self.now.decoded }
+    {
+        self.decoded
+    }
+
+    /// Empties the places. The count stays.
+    pub fn clear(&mut self)
+        ensures empty { self.new ≡ empty_decoder self.old.decoded }
+        ensures fits { (ram : Memory) → Fits self.new ram }
+    {
+        self.places = [None; PLACES];
+    }
+
+    /// The descriptor at an index of a table of the layout. `is_own` says that the table is the queue's own, so that its
+    /// descriptors may be kept; the caller's part is then that what is kept fits RAM, and that the table is aligned, so
+    /// that no descriptor lies in two pages.
+    #[tactic(auto, unfolding(crate::specs::Descriptor::descriptor_at))]
+    pub fn read(
+        &mut self,
+        ram: &Ram,
+        is_packed: bool,
+        table: u64,
+        index: u16,
+        is_own: bool,
+    ) -> Descriptor
+        requires inside { table + DESCRIPTOR_SIZE * index + DESCRIPTOR_SIZE ≤ length ram.now.bytes }
+        requires aligned { is_own ≡ true → table % DESCRIPTOR_SIZE ≡ 0 }
+        requires fits { Fits self.old ram.now }
+        ensures descriptor { result ≡ descriptor_at is_packed ram.now.bytes table index }
+        ensures fits { Fits self.new ram.now }
+        ensures few { self.new.decoded ≤ self.old.decoded + 1 }
+        ensures rises { self.old.decoded ≤ self.new.decoded }
+        ensures count { self.new.decoded ≡ (if is_own && is_kept self.old ram.now is_packed (table + DESCRIPTOR_SIZE * index) (index % PLACES) then self.old.decoded else raised self.old.decoded) }
+        ensures apart { is_own ≡ false → self.new.places ≡ self.old.places }
+    {
+        ram.recall();
+        let address = table + DESCRIPTOR_SIZE * index as u64;
+        if is_own {
+            self.read_own(ram, is_packed, address, index as usize % PLACES)
+        } else {
+            self.read_anew(ram, is_packed, address)
+        }
+    }
+
+    fn read_own(&mut self, ram: &Ram, is_packed: bool, address: u64, place: usize) -> Descriptor
+        requires inside { address + DESCRIPTOR_SIZE ≤ length ram.now.bytes }
+        requires aligned { address % DESCRIPTOR_SIZE ≡ 0 }
+        requires place { place < PLACES }
+        requires fits { Fits self.old ram.now }
+        ensures descriptor { result ≡ descriptor_in is_packed ram.now.bytes address }
+        ensures fits { Fits self.new ram.now }
+        ensures few { self.new.decoded ≤ self.old.decoded + 1 }
+        ensures rises { self.old.decoded ≤ self.new.decoded }
+        ensures count { self.new.decoded ≡ (if is_kept self.old ram.now is_packed address place then self.old.decoded else raised self.old.decoded) }
+    {
+        ram.recall();
+        let version = ram.version(address / PAGE_SIZE as u64);
+        if let Some(kept) = self.places[place] {
+            if kept.address == address
+                && kept.is_packed == is_packed
+                && kept.version == version
+                && version < u64::MAX
+            {
+                return kept.descriptor;
+            }
+        }
+        let descriptor = self.read_anew(ram, is_packed, address);
+        self.places[place] = Some(Kept {
+            address,
+            is_packed,
+            version,
+            descriptor,
+        });
+        descriptor
+    }
+
+    /// Decodes a descriptor and counts it: each one that is decoded is decoded here.
+    fn read_anew(&mut self, ram: &Ram, is_packed: bool, address: u64) -> Descriptor
+        requires inside { address + DESCRIPTOR_SIZE ≤ length ram.now.bytes }
+        ensures descriptor { result ≡ descriptor_in is_packed ram.now.bytes address }
+        ensures few { self.new.decoded ≤ self.old.decoded + 1 }
+        ensures rises { self.old.decoded ≤ self.new.decoded }
+        ensures count { self.new.decoded ≡ raised self.old.decoded }
+        ensures places { self.new.places ≡ self.old.places }
+    {
+        self.decoded = self.decoded.saturating_add(1);
+        decode(ram, is_packed, address)
+    }
+}

@@ -1,0 +1,17 @@
+//! What a ring returns of its next chain, where the chain itself is filled in.
+
+/// The kinds of answers of a ring about its next chain.
+#[derive(Clone, Copy, Debug, PartialEq, Eq)]
+pub enum NextKind {
+    /// The driver has made nothing available there.
+    Empty,
+
+    /// The driver has made something available there that breaks a rule of the layout. The device asks for a reset.
+    Malformed,
+
+    /// The driver has made a chain available there, which was filled in.
+    Chain,
+
+    /// Memory was refused for what is there, which is long.
+    NoMemory,
+}

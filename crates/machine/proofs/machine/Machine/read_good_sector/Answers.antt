@@ -1,0 +1,34 @@
+use Rattle.machine.proofs.At.{IsAt}
+use Rattle.machine.proofs.Keeping.{rings_stay}
+use Rattle.machine.proofs.Reading.{IsReadGood, device_there, good_there, held_so, not_bad, reads_good}
+use Rattle.machine.proofs.machine.Machine.read_good_sector.Goals as goal
+
+pub invariant_of-self : goal.invariant_of-self
+invariant_of-self g c =
+    let ram = c.self.inside.ram in
+    let ds = c.self.inside.devices.items in
+    let there = good_there ram ds c.args.dev c.args.n (rw (← c.self.view_is) at c.requires) in
+    let at : IsAt ds c.args.dev c.index_mut.result.now = record { below = device_there ram ds c.args.dev c.args.n there; is = c.index_mut.ensures.value } in
+    (
+      held_so c.self.inside.shapes.items ram ds c.args.dev c.index_mut.result.now c.read_good.new.self at c.read_good.ensures.state c.read_good.ensures.sectors c.self.invariant.0,
+      rings_stay c.self.inside.rings.items ram ds c.args.dev c.read_good.new.self c.self.invariant.1,
+    )
+
+pub returns : goal.returns
+returns g c =
+    let ram = c.self.inside.ram in
+    let ds = c.self.inside.devices.items in
+    let good = rw (← c.self.view_is) at c.requires in
+    let there = good_there ram ds c.args.dev c.args.n good in
+    let at : IsAt ds c.args.dev c.index_mut.result.now = record { below = device_there ram ds c.args.dev c.args.n there; is = c.index_mut.ensures.value } in
+    let read : IsReadGood ram ds c.args.dev c.args.n c.index_mut.result.now c.read_good.new.self c.read_good.new.buf c.read_good.result = record {
+      at = at;
+      there = there;
+      good = not_bad ram ds c.args.dev c.args.n c.index_mut.result.now at good;
+      state = c.read_good.ensures.state;
+      sectors = c.read_good.ensures.sectors;
+      marks = c.read_good.ensures.marks;
+      unsteady = c.read_good.ensures.unsteady;
+      is = c.read_good.ensures.fetched;
+    } in
+    rw (← c.self.view_is) (reads_good ram ds c.args.dev c.args.n c.index_mut.result.now c.read_good.new.self c.read_good.new.buf c.read_good.result read)

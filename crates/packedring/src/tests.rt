@@ -1,0 +1,177 @@
+//! What a ring decodes again, and what it has kept.
+
+ghost use Rattle.std.specs.Prelude.{◌≡◌, ◌≤◌, length};
+ghost use Rattle.chains.specs.Decoder.{Fits};
+ghost use Rattle.chains.specs.State.{HasAreas};
+
+use crate::PackedRing;
+use chains::laws::fits_later;
+use chains::{Next, Positions, Ring};
+use guestmem::{NoMemory, Ram};
+use mmio::Queue;
+use std::alloc::Global;
+use std::test::Fail;
+
+/// The features VERSION_1, INDIRECT_DESC and RING_PACKED.
+const FEATURES: u64 = 0x5_1000_0000;
+
+/// A new ring of some slots, whose three areas are in page 0.
+fn ring_of(alloc: Global, ram: &Ram, size: u32) -> PackedRing
+    requires some { 1 ≤ size }
+    requires few { size ≤ 16 }
+    ensures areas { HasAreas (length ram.now.bytes) result.state }
+    ensures fits { Fits result.decoder ram.now }
+{
+    ram.recall();
+    let queue = Queue {
+        size,
+        descriptors: 0,
+        driver: 0x200,
+        device: 0x300,
+        is_ready: true,
+        is_notified: true,
+    };
+    PackedRing::new(alloc, &queue, FEATURES, Positions::FIRST)
+}
+
+/// Writes where a test says. The RAM is a later one, so what the ring keeps fits it.
+fn store(ring: &PackedRing, ram: &mut Ram, addr: u64, bytes: &[u8])
+    requires areas { HasAreas (length ram.old.bytes) ring.now.state }
+    requires fits { Fits ring.now.decoder ram.old }
+    ensures areas { HasAreas (length ram.new.bytes) ring.now.state }
+    ensures fits { Fits ring.now.decoder ram.new }
+{
+    fits_later();
+    let _touched = ram.write(addr, bytes);
+}
+
+/// What a look finds: how many segments may be written, and the first one's address and length; and how many descriptors were
+/// decoded by then.
+fn look(ring: &mut PackedRing, ram: &Ram) -> Result<(usize, u64, u32, u64), NoMemory>
+    requires areas { HasAreas (length ram.now.bytes) ring.old.state }
+    requires fits { Fits ring.old.decoder ram.now }
+    ensures areas { HasAreas (length ram.now.bytes) ring.new.state }
+    ensures fits { Fits ring.new.decoder ram.now }
+{
+    let next = ring.next(ram)?;
+    let decoded = ring.decoded();
+    let Next::Chain(chain) = next else {
+        return Ok((0, 0, 0, decoded));
+    };
+    match chain.writable.as_slice() {
+        [] => Ok((0, 0, 0, decoded)),
+        [seg, ..] => Ok((chain.writable.len(), seg.addr, seg.len, decoded)),
+    }
+}
+
+/// Descriptor 0 is one byte to be written at 0x800, and available.
+fn one_buffer(ring: &PackedRing, ram: &mut Ram)
+    requires areas { HasAreas (length ram.old.bytes) ring.now.state }
+    requires fits { Fits ring.now.decoder ram.old }
+    ensures areas { HasAreas (length ram.new.bytes) ring.now.state }
+    ensures fits { Fits ring.now.decoder ram.new }
+{
+    store(
+        ring,
+        ram,
+        0,
+        &[0, 8, 0, 0, 0, 0, 0, 0, 1, 0, 0, 0, 7, 0, 0x82, 0],
+    );
+}
+
+/// The bytes of sixteen descriptors of one byte each at 0x800, each but the last followed by another.
+fn sixteen() -> [u8; 256] {
+    let mut bytes = [0; 256];
+    for index in 0..16usize {
+        let entry = 16 * index;
+        bytes[entry + 1] = 8;
+        bytes[entry + 8] = 1;
+        bytes[entry + 12] = 7;
+        bytes[entry + 14] = if index < 15 { 0x83 } else { 0x82 };
+    }
+    bytes
+}
+
+/// A kept descriptor is used until its page is written, whatever is written there.
+#[test]
+fn kept_until_the_page_is_written(rt: HostRuntime) -> Result<(), Fail> {
+    let mut ram = Ram::new(rt.alloc(), 2)?;
+    let mut ring = ring_of(rt.alloc(), &ram, 1);
+    one_buffer(&ring, &mut ram);
+    assert_eq!(rt; look(&mut ring, &ram)?, (1, 0x800, 1, 1));
+    assert_eq!(rt; look(&mut ring, &ram)?, (1, 0x800, 1, 1));
+    store(&ring, &mut ram, 0x1000, &[1]);
+    assert_eq!(rt; look(&mut ring, &ram)?, (1, 0x800, 1, 1));
+    store(&ring, &mut ram, 0x900, &[1]);
+    assert_eq!(rt; look(&mut ring, &ram)?, (1, 0x800, 1, 2));
+    store(&ring, &mut ram, 8, &[2, 0, 0, 0]);
+    assert_eq!(rt; look(&mut ring, &ram)?, (1, 0x800, 2, 3));
+    Ok(())
+}
+
+/// The greatest version says nothing of the page: it stays when the page is written.
+#[test]
+fn never_used_at_the_greatest_version(rt: HostRuntime) -> Result<(), Fail> {
+    let mut ram = Ram::with_version(rt.alloc(), 1, u64::MAX - 2)?;
+    let mut ring = ring_of(rt.alloc(), &ram, 1);
+    one_buffer(&ring, &mut ram);
+    assert_eq!(rt; look(&mut ring, &ram)?, (1, 0x800, 1, 1));
+    assert_eq!(rt; look(&mut ring, &ram)?, (1, 0x800, 1, 1));
+    store(&ring, &mut ram, 8, &[2, 0, 0, 0]);
+    assert_eq!(rt; look(&mut ring, &ram)?, (1, 0x800, 2, 2));
+    assert_eq!(rt; look(&mut ring, &ram)?, (1, 0x800, 2, 3));
+    Ok(())
+}
+
+/// Sixteen descriptors have a place each, also where none of them is the last: then one more is looked at than there are slots.
+#[test]
+fn sixteen_are_kept(rt: HostRuntime) -> Result<(), Fail> {
+    let mut ram = Ram::new(rt.alloc(), 2)?;
+    let mut ring = ring_of(rt.alloc(), &ram, 16);
+    store(&ring, &mut ram, 0, &sixteen());
+    assert_eq!(rt; look(&mut ring, &ram)?, (16, 0x800, 1, 16));
+    assert_eq!(rt; look(&mut ring, &ram)?, (16, 0x800, 1, 16));
+    store(&ring, &mut ram, 0xfe, &[0x83]);
+    assert_eq!(rt; look(&mut ring, &ram)?, (0, 0, 0, 32));
+    assert_eq!(rt; look(&mut ring, &ram)?, (0, 0, 0, 32));
+    Ok(())
+}
+
+/// The entries of an indirect table are decoded at each look.
+#[test]
+fn tables_are_decoded_again(rt: HostRuntime) -> Result<(), Fail> {
+    let mut ram = Ram::new(rt.alloc(), 2)?;
+    let mut ring = ring_of(rt.alloc(), &ram, 2);
+    store(
+        &ring,
+        &mut ram,
+        0,
+        &[0, 9, 0, 0, 0, 0, 0, 0, 32, 0, 0, 0, 7, 0, 0x84, 0],
+    );
+    store(
+        &ring,
+        &mut ram,
+        0x900,
+        &[0, 8, 0, 0, 0, 0, 0, 0, 1, 0, 0, 0, 0, 0, 2, 0],
+    );
+    store(
+        &ring,
+        &mut ram,
+        0x910,
+        &[0, 10, 0, 0, 0, 0, 0, 0, 1, 0, 0, 0, 0, 0, 2, 0],
+    );
+    assert_eq!(rt; look(&mut ring, &ram)?, (2, 0x800, 1, 3));
+    assert_eq!(rt; look(&mut ring, &ram)?, (2, 0x800, 1, 5));
+    Ok(())
+}
+
+/// Where every version is the greatest, nothing is kept, and a ring of which no descriptor is the last costs the most.
+#[test]
+fn one_more_than_slots_at_most(rt: HostRuntime) -> Result<(), Fail> {
+    let mut ram = Ram::with_version(rt.alloc(), 1, u64::MAX)?;
+    let mut ring = ring_of(rt.alloc(), &ram, 4);
+    store(&ring, &mut ram, 0, &sixteen());
+    assert_eq!(rt; look(&mut ring, &ram)?, (0, 0, 0, 5));
+    assert_eq!(rt; look(&mut ring, &ram)?, (0, 0, 0, 10));
+    Ok(())
+}

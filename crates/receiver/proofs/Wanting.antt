@@ -1,0 +1,108 @@
+-- Memory is wanted for devices alone.
+use Rattle.std.proofs.Common.{◌≡◌, ℕ, ◌+◌, ◌≤◌, List, [], ◌++◌, length, refl, sym, ap, subst, ◌∙◌, append_assoc, append-nil, arith}
+use Rattle.std.specs.Prelude.{Result, Ok, Err, OnErr, true}
+use Rattle.std.specs.Result.{is_err}
+use Rattle.std.proofs.lemmas.List.{length-append}
+use Rattle.sha2.specs.declared.Sha256.{Sha256}
+use Rattle.blk.specs.Disk.{DiskState}
+use Rattle.wire.specs.Header.{Begins, header}
+use Rattle.wire.specs.RecordHeads.{body_len, spelled_head}
+use Rattle.wire.specs.Records.{Record, device, spelled_record}
+use Rattle.wire.specs.Stream.{texts}
+use Rattle.wire.specs.declared.record_head.RecordHead.{RecordHead}
+use Rattle.wire.specs.declared.record_head.RecordHead.TheVariants as heads
+use Rattle.wire.proofs.Heads.{spelled_with}
+use Rattle.machine.specs.declared.shape.Shape.{Shape}
+use Rattle.receiver.specs.Disks.{sizes_in}
+use Rattle.receiver.specs.Fed.{HasRead}
+use Rattle.receiver.specs.Receiving.{HasBeenFed, HasDevice, IsKnown, IsPastHead, IsTaken, Received, received_by}
+use Rattle.receiver.specs.Standing.{BeginsDevice, IsDeviceHead}
+use Rattle.receiver.specs.declared.intake.Intake.{Intake}
+use Rattle.receiver.specs.declared.recv_error.RecvError.{RecvError}
+use Rattle.receiver.specs.declared.stage.Stage.{Stage}
+use Rattle.receiver.specs.declared.stage.Stage.TheVariants as stages
+use Rattle.receiver.proofs.Pieces.{IsPartly, regrouped}
+use Rattle.receiver.proofs.Working.{front_of}
+
+-- One error, as results of two types.
+pub err_again : {A B : Type 0} {x y : RecvError} → (◌≡◌ {A = Result A RecvError} (Err x) (Err y)) → (◌≡◌ {A = Result B RecvError} (Err x) (Err y))
+err_again {x = x} {y = y} e = let same : x ≡ y = cc in rw same refl
+
+pub on_err : {A E : Type 0} (r : Result A E) (P : Type 0) → OnErr r P → true ≡ is_err r → P
+on_err (Ok x) P h e = absurd cc
+on_err (Err x) P h e = h
+
+pub device_begins : (tail rest body more : List ℕ) (head : RecordHead) → IsDeviceHead head → tail ≡ spelled_head head ++ rest → rest ≡ body ++ more → length body ≡ body_len head → BeginsDevice tail
+device_begins tail rest body more (heads.Page n) is e parts many = absurd is
+device_begins tail rest body more (heads.Sector d n good) is e parts many = absurd is
+device_begins tail rest body more (heads.RoundEnd n) is e parts many = absurd is
+device_begins tail rest body more (heads.Device d len) is e parts many = record {
+  number = d;
+  body = body;
+  more = more;
+  whole = e ∙ ap (λ (x : List ℕ). spelled_head (heads.Device d len) ++ x) parts ∙ sym (append_assoc (spelled_head (heads.Device d len)) body more) ∙ ap (λ (x : List ℕ). x ++ more) (sym (spelled_with (heads.Device d len) body many));
+}
+device_begins tail rest body more heads.Commit is e parts many = absurd is
+
+pub device_here : {ds : List DiskState} {pages : ℕ} {shapes : List Shape} {before : List Record} {i : Intake} {front : List ℕ} (bytes tail : List ℕ) (from : ℕ) → HasRead ds pages shapes before i front → bytes ≡ front ++ tail → BeginsDevice tail → from ≤ length front → HasDevice (sizes_in ds) bytes from
+device_here {pages = pages} {shapes = shapes} {before = before} {front = front} bytes tail from h e b le = record {
+  pages = pages;
+  shapes = shapes;
+  before = before;
+  number = b.number;
+  body = b.body;
+  more = b.more;
+  front = front_of bytes (spelled_record (device b.number b.body) ++ b.more) h (e ∙ ap (λ (x : List ℕ). front ++ x) b.whole);
+  behind = omega (arith, le, ap length h.whole);
+}
+
+-- In more bytes, and behind fewer.
+pub device_on : (sizes b c all : List ℕ) (low from : ℕ) → HasDevice sizes b from → all ≡ b ++ c → low ≤ from → HasDevice sizes all low
+device_on sizes b c all low from h e le =
+    let text = spelled_record (device h.number h.body) in
+    let head = header h.pages h.shapes in
+    let parts : all ≡ head ++ (texts h.before ++ (text ++ (h.more ++ c))) =
+    e ∙ ap (λ (x : List ℕ). x ++ c) h.front.begins.whole ∙ append_assoc head (texts h.before ++ (text ++ h.more)) c
+    ∙ ap (λ (x : List ℕ). head ++ x) (append_assoc (texts h.before) (text ++ h.more) c ∙ ap (λ (x : List ℕ). texts h.before ++ x) (append_assoc text h.more c)) in
+    record {
+      pages = h.pages;
+      shapes = h.shapes;
+      before = h.before;
+      number = h.number;
+      body = h.body;
+      more = h.more ++ c;
+      front = record { begins = record { good = h.front.begins.good; whole = parts }; fits = h.front.fits; good = h.front.good };
+      behind = omega (arith, le, h.behind);
+    }
+
+-- A header is whole in what was fed: it was read.
+pub past_head : (ds : List DiskState) (digest : Sha256) (b held : List ℕ) (stage : Stage) (pages : ℕ) (shapes : List Shape) (rest : List ℕ) → IsTaken ds digest b held stage → Begins b pages shapes rest → IsPastHead stage
+past_head ds digest b held stages.Head pages shapes rest t begins =
+    let k = t.known in
+    let same : b ≡ held = t.whole ∙ ap (λ (x : List ℕ). x ++ held) k.0 in
+    absurd (k.2.no_header pages shapes rest (rw same at begins))
+past_head ds digest b held (stages.Records i) pages shapes rest t begins = tt
+past_head ds digest b held (stages.Ended i) pages shapes rest t begins = tt
+past_head ds digest b held stages.Failed pages shapes rest t begins = absurd t.known
+
+abbrev pub WantsAt : Received → List ℕ → Type 0
+WantsAt r piece = (b : List ℕ) → HasBeenFed r b → (pages : ℕ) (shapes : List Shape) (rest : List ℕ) → Begins b pages shapes rest → (from : ℕ) → from + length r.held ≡ length b → HasDevice r.sizes (b ++ piece) from
+
+pub fed_wants : (ds : List DiskState) (stage : Stage) (digest : Sha256) (held piece b : List ℕ) (pages : ℕ) (shapes : List Shape) (rest : List ℕ) (from : ℕ)
+    → ((front : List ℕ) → IsKnown ds digest front held stage → IsPastHead stage → HasDevice (sizes_in ds) (front ++ (held ++ piece)) (length front))
+    → HasBeenFed (received_by ds stage digest held) b → Begins b pages shapes rest → from + length held ≡ length b → HasDevice (sizes_in ds) (b ++ piece) from
+fed_wants ds stage digest held piece b pages shapes rest from memory fed begins at =
+    let t = fed.taken in
+    let d = memory t.front t.known (past_head ds digest b held stage pages shapes rest t begins) in
+    let all : b ++ piece ≡ (t.front ++ (held ++ piece)) ++ [] = ap (λ (x : List ℕ). x ++ piece) t.whole ∙ append_assoc t.front held piece ∙ sym (append-nil (t.front ++ (held ++ piece))) in
+    device_on (sizes_in ds) (t.front ++ (held ++ piece)) [] (b ++ piece) from (length t.front) d all (omega (arith, at, ap length t.whole, length-append t.front held))
+
+pub part_wants : (old ds : List DiskState) (digest : Sha256) (bytes held rest part after : List ℕ) (stage : Stage) (low : ℕ) → (p : IsPartly old ds digest bytes held rest stage) → rest ≡ part ++ after → low ≤ length p.front
+    → HasDevice (sizes_in ds) (p.front ++ (held ++ part)) (length p.front) → HasDevice (sizes_in old) bytes low
+part_wants old ds digest bytes held rest part after stage low p is le d =
+    let all : bytes ≡ (p.front ++ (held ++ part)) ++ after = p.whole ∙ ap (λ (x : List ℕ). p.front ++ (held ++ x)) is ∙ regrouped p.front held part after in
+    subst (λ (sizes : List ℕ). HasDevice sizes bytes low) p.same.sizes (device_on (sizes_in ds) (p.front ++ (held ++ part)) after bytes low (length p.front) d all le)
+
+pub not_before : (old ds : List DiskState) (digest : Sha256) (front first piece held rest : List ℕ) (stage : Stage) → (p : IsPartly old ds digest (front ++ (first ++ piece)) held rest stage) → length held + length rest ≤ length first + length piece → length front ≤ length p.front
+not_before old ds digest front first piece held rest stage p le =
+    omega (arith, le, ap length p.whole, length-append front (first ++ piece), length-append first piece, length-append p.front (held ++ rest), length-append held rest)

@@ -1,0 +1,18 @@
+use Rattle.std.proofs.Common.{ℕ, List, ◌+◌, ◌≤◌, ◌++◌, map, length}
+use Rattle.std.specs.Vec.{vec_capacity}
+use Rattle.receiver.specs.Receiving.{IsKnown, IsPastHead}
+use Rattle.receiver.proofs.Pieces.{IsPartly}
+use Rattle.receiver.proofs.taking.take_piece.Given as goal
+
+abbrev pub invariant-loop-rest : goal.invariant-loop-rest
+invariant-loop-rest g l = record {
+  few : length l.held.items ≤ 131077;
+  room : vec_capacity l.fn.held ≤ vec_capacity l.held;
+  shorter : length l.held.items + length l.rest ≤ length l.fn.held.items + length l.piece;
+  past : IsPastHead l.fn.stage → IsPastHead l.stage;
+  partly : (front : List ℕ) → IsKnown (map g.D.Disk.state l.fn.disks) l.fn.taken front l.fn.held.items l.fn.stage
+      → IsPartly (map g.D.Disk.state l.fn.disks) (map g.D.Disk.state l.disks) l.taken (front ++ (l.fn.held.items ++ l.piece)) l.held.items l.rest l.stage;
+}
+
+abbrev pub decreases-loop-rest : goal.decreases-loop-rest
+decreases-loop-rest g l = length l.rest

@@ -1,0 +1,55 @@
+//! How long the stream of a saved machine is.
+
+ghost use Rattle.std.specs.Prelude.{◌≡◌, ◌<◌, ◌≤◌, length};
+ghost use Rattle.machine.specs.Seen.{state_of};
+ghost use Rattle.wire.specs.Stream.{device_texts, whole};
+ghost use Rattle.sender.specs.Items.{disk_text, sectors_text};
+
+use crate::numbering::{page_count, sector_count};
+use machine::{Disk, Machine};
+use wire::{BAD_SECTOR_LEN, COMMIT_LEN, GOOD_SECTOR_LEN, PAGE_RECORD_LEN, device_len, header_len};
+
+/// The length in bytes of the stream that `save` writes of a machine. It makes none of it: it takes no memory, looks at no
+/// page and calls no disk.
+pub fn saved_len<D: Disk>(machine: &Machine<D>) -> u64
+    ensures { result ≡ length (whole (state_of machine.now)) }
+{
+    let pages = PAGE_RECORD_LEN * page_count(machine);
+    let parts = sectors_len(machine) + devices_len(machine);
+    header_len(machine.shapes()) + pages + parts + COMMIT_LEN
+}
+
+/// The length of the records of all sectors.
+fn sectors_len<D: Disk>(machine: &Machine<D>) -> u64
+    ensures len { result ≡ length (sectors_text (state_of machine.now)) }
+    ensures short { result ≤ 35665408417680 }
+{
+    let mut len = 0;
+    for dev in 0..machine.shapes().len() as u8 {
+        len += disk_len(machine, dev);
+    }
+    len
+}
+
+/// The length of the records of the sectors of a device's disk.
+fn disk_len<D: Disk>(machine: &Machine<D>, dev: u8) -> u64
+    requires { dev < length (state_of machine.now).devices }
+    ensures len { result ≡ length (disk_text (state_of machine.now) dev) }
+    ensures short { result ≤ 2229088026105 }
+{
+    let bad = machine.bad_sectors(dev);
+    let good = sector_count(machine, dev) - bad;
+    GOOD_SECTOR_LEN * good + BAD_SECTOR_LEN * bad
+}
+
+/// The length of the records of all devices.
+fn devices_len<D: Disk>(machine: &Machine<D>) -> u64
+    ensures len { result ≡ length (device_texts 0 (state_of machine.now).devices) }
+    ensures short { result ≤ 2097248 }
+{
+    let mut len = 0;
+    for number in 0..machine.shapes().len() as u8 {
+        len += device_len(machine.state(number));
+    }
+    len
+}

@@ -1,0 +1,169 @@
+//! What a ring decodes again, and what it has kept.
+
+ghost use Rattle.std.specs.Prelude.{◌≡◌, ◌≤◌, length};
+ghost use Rattle.chains.specs.Decoder.{Fits};
+ghost use Rattle.chains.specs.State.{HasAreas};
+
+use crate::SplitRing;
+use chains::laws::fits_later;
+use chains::{Next, Positions, Ring};
+use guestmem::{NoMemory, Ram};
+use mmio::Queue;
+use std::alloc::Global;
+use std::test::Fail;
+
+/// The features VERSION_1 and INDIRECT_DESC.
+const FEATURES: u64 = 0x1_1000_0000;
+
+/// A new ring of some slots, whose three areas are in page 0.
+fn ring_of(alloc: Global, ram: &Ram, size: u32) -> SplitRing
+    requires some { 1 ≤ size }
+    requires few { size ≤ 16 }
+    ensures areas { HasAreas (length ram.now.bytes) result.state }
+    ensures fits { Fits result.decoder ram.now }
+{
+    ram.recall();
+    let queue = Queue {
+        size,
+        descriptors: 0,
+        driver: 0x200,
+        device: 0x300,
+        is_ready: true,
+        is_notified: true,
+    };
+    SplitRing::new(alloc, &queue, FEATURES, Positions::FIRST)
+}
+
+/// Writes where a test says. The RAM is a later one, so what the ring keeps fits it.
+fn store(ring: &SplitRing, ram: &mut Ram, addr: u64, bytes: &[u8])
+    requires areas { HasAreas (length ram.old.bytes) ring.now.state }
+    requires fits { Fits ring.now.decoder ram.old }
+    ensures areas { HasAreas (length ram.new.bytes) ring.now.state }
+    ensures fits { Fits ring.now.decoder ram.new }
+{
+    fits_later();
+    let _touched = ram.write(addr, bytes);
+}
+
+/// What a look finds: how many segments may be written, and the first one's address and length; and how many descriptors were
+/// decoded by then.
+fn look(ring: &mut SplitRing, ram: &Ram) -> Result<(usize, u64, u32, u64), NoMemory>
+    requires areas { HasAreas (length ram.now.bytes) ring.old.state }
+    requires fits { Fits ring.old.decoder ram.now }
+    ensures areas { HasAreas (length ram.now.bytes) ring.new.state }
+    ensures fits { Fits ring.new.decoder ram.now }
+{
+    let next = ring.next(ram)?;
+    let decoded = ring.decoded();
+    let Next::Chain(chain) = next else {
+        return Ok((0, 0, 0, decoded));
+    };
+    match chain.writable.as_slice() {
+        [] => Ok((0, 0, 0, decoded)),
+        [seg, ..] => Ok((chain.writable.len(), seg.addr, seg.len, decoded)),
+    }
+}
+
+/// Descriptor 0 is one byte to be written at 0x800, and the driver has made its chain available.
+fn one_buffer(ring: &SplitRing, ram: &mut Ram)
+    requires areas { HasAreas (length ram.old.bytes) ring.now.state }
+    requires fits { Fits ring.now.decoder ram.old }
+    ensures areas { HasAreas (length ram.new.bytes) ring.now.state }
+    ensures fits { Fits ring.now.decoder ram.new }
+{
+    store(
+        ring,
+        ram,
+        0,
+        &[0, 8, 0, 0, 0, 0, 0, 0, 1, 0, 0, 0, 2, 0, 0, 0],
+    );
+    store(ring, ram, 0x200, &[0, 0, 1, 0, 0, 0]);
+}
+
+/// The bytes of sixteen descriptors of one byte each at 0x800, each but the last followed by another.
+fn sixteen() -> [u8; 256] {
+    let mut bytes = [0; 256];
+    for index in 0..16usize {
+        let entry = 16 * index;
+        bytes[entry + 1] = 8;
+        bytes[entry + 8] = 1;
+        bytes[entry + 12] = if index < 15 { 3 } else { 2 };
+        bytes[entry + 14] = if index < 15 { index as u8 + 1 } else { 0 };
+    }
+    bytes
+}
+
+/// A kept descriptor is used until its page is written, whatever is written there.
+#[test]
+fn kept_until_the_page_is_written(rt: HostRuntime) -> Result<(), Fail> {
+    let mut ram = Ram::new(rt.alloc(), 2)?;
+    let mut ring = ring_of(rt.alloc(), &ram, 1);
+    one_buffer(&ring, &mut ram);
+    assert_eq!(rt; look(&mut ring, &ram)?, (1, 0x800, 1, 1));
+    assert_eq!(rt; look(&mut ring, &ram)?, (1, 0x800, 1, 1));
+    store(&ring, &mut ram, 0x1000, &[1]);
+    assert_eq!(rt; look(&mut ring, &ram)?, (1, 0x800, 1, 1));
+    store(&ring, &mut ram, 0x900, &[1]);
+    assert_eq!(rt; look(&mut ring, &ram)?, (1, 0x800, 1, 2));
+    store(&ring, &mut ram, 8, &[2, 0, 0, 0]);
+    assert_eq!(rt; look(&mut ring, &ram)?, (1, 0x800, 2, 3));
+    Ok(())
+}
+
+/// The greatest version says nothing of the page: it stays when the page is written.
+#[test]
+fn never_used_at_the_greatest_version(rt: HostRuntime) -> Result<(), Fail> {
+    let mut ram = Ram::with_version(rt.alloc(), 1, u64::MAX - 1)?;
+    let mut ring = ring_of(rt.alloc(), &ram, 1);
+    one_buffer(&ring, &mut ram);
+    assert_eq!(rt; look(&mut ring, &ram)?, (1, 0x800, 1, 1));
+    store(&ring, &mut ram, 8, &[2, 0, 0, 0]);
+    assert_eq!(rt; look(&mut ring, &ram)?, (1, 0x800, 2, 2));
+    assert_eq!(rt; look(&mut ring, &ram)?, (1, 0x800, 2, 3));
+    Ok(())
+}
+
+/// Sixteen descriptors have a place each. What follows them is another one's place.
+#[test]
+fn sixteen_are_kept(rt: HostRuntime) -> Result<(), Fail> {
+    let mut ram = Ram::new(rt.alloc(), 2)?;
+    let mut ring = ring_of(rt.alloc(), &ram, 16);
+    store(&ring, &mut ram, 0, &sixteen());
+    store(&ring, &mut ram, 0x200, &[0, 0, 1, 0, 0, 0]);
+    assert_eq!(rt; look(&mut ring, &ram)?, (16, 0x800, 1, 16));
+    assert_eq!(rt; look(&mut ring, &ram)?, (16, 0x800, 1, 16));
+    Ok(())
+}
+
+/// The entries of an indirect table are decoded at each look. A chain of as many descriptors as there are slots, of which the
+/// last names a table, is where one more is decoded than there are slots.
+#[test]
+fn tables_are_decoded_again(rt: HostRuntime) -> Result<(), Fail> {
+    let mut ram = Ram::new(rt.alloc(), 2)?;
+    let mut ring = ring_of(rt.alloc(), &ram, 2);
+    store(
+        &ring,
+        &mut ram,
+        0,
+        &[0, 8, 0, 0, 0, 0, 0, 0, 1, 0, 0, 0, 3, 0, 1, 0],
+    );
+    store(
+        &ring,
+        &mut ram,
+        16,
+        &[0, 9, 0, 0, 0, 0, 0, 0, 32, 0, 0, 0, 4, 0, 0, 0],
+    );
+    store(
+        &ring,
+        &mut ram,
+        0x900,
+        &[0, 10, 0, 0, 0, 0, 0, 0, 1, 0, 0, 0, 2, 0, 0, 0],
+    );
+    store(&ring, &mut ram, 0x200, &[0, 0, 1, 0, 0, 0]);
+    assert_eq!(rt; look(&mut ring, &ram)?, (2, 0x800, 1, 3));
+    assert_eq!(rt; look(&mut ring, &ram)?, (2, 0x800, 1, 4));
+    // The first entry of the table names the second one, for which there is no slot.
+    store(&ring, &mut ram, 0x90c, &[3, 0, 1, 0]);
+    assert_eq!(rt; look(&mut ring, &ram)?, (0, 0, 0, 7));
+    Ok(())
+}

@@ -1,0 +1,10 @@
+-- What contracts see of a machine whose stream arrives in pieces.
+use Rattle.std.specs.Prelude.{ℕ, List}
+use Rattle.receiver.specs.Receiving.{Received}
+
+-- The bytes so far, in which the header is not whole; then the receiver over disks of the sizes that the header says; or nothing,
+-- after a refusal.
+pub data ArrivalSeen : Type 0 where
+  AtHead : List ℕ → ArrivalSeen
+  AtBody : Received → ArrivalSeen
+  Refused : ArrivalSeen

@@ -1,0 +1,62 @@
+//! How many bytes the parts of a stream have.
+
+ghost use Rattle.std.specs.Prelude.{◌≡◌, ◌≤◌, All, ℕ, length};
+ghost use Rattle.machine.specs.Sound.{IsSoundDevice, IsSoundShape};
+ghost use Rattle.wire.specs.DeviceBody.{body};
+ghost use Rattle.wire.specs.Header.{header, spelled_shape};
+ghost use Rattle.wire.specs.Records.{device, spelled_record};
+
+use crate::header::FRONT_LEN;
+use crate::record_head::{
+    COMMIT_RECORD, DEVICE_HEAD, GOOD_SECTOR_RECORD, PAGE_RECORD, SECTOR_HEAD,
+};
+use crate::writing::body_len;
+use machine::{DeviceState, Shape};
+
+/// The length of the record of a page.
+pub const PAGE_RECORD_LEN: u64 = PAGE_RECORD as u64;
+
+/// The length of the record of a good sector.
+pub const GOOD_SECTOR_LEN: u64 = GOOD_SECTOR_RECORD as u64;
+
+/// The length of the record of a bad sector.
+pub const BAD_SECTOR_LEN: u64 = SECTOR_HEAD as u64;
+
+/// The length of the record with which a stream ends.
+pub const COMMIT_LEN: u64 = COMMIT_RECORD as u64;
+
+/// The length of the header of a machine with these devices.
+pub fn header_len(shapes: &[Shape]) -> u64
+    requires few { length shapes.now ≤ 16 }
+    requires sound { All IsSoundShape shapes.now }
+    ensures len { (pages : ℕ) → result ≡ length (header pages shapes.now) }
+    ensures short { result ≤ 496 }
+{
+    let mut len = FRONT_LEN as u64;
+    for i in 0..shapes.len() {
+        len += spelled_len(shapes[i]);
+    }
+    len
+}
+
+#[tactic(auto, unfolding(crate::specs::Header::spelled_shape))]
+fn spelled_len(shape: Shape) -> u64
+    requires { IsSoundShape shape }
+    ensures len { result ≡ length (spelled_shape shape) }
+    ensures short { result ≤ 30 }
+{
+    match shape {
+        Shape::Net { .. } => 7,
+        Shape::Block { .. } => 30,
+        Shape::Console | Shape::Entropy => 1,
+    }
+}
+
+/// The length of the record of a device.
+pub fn device_len(state: &DeviceState) -> u64
+    requires sound { (ram_len : ℕ) × IsSoundDevice ram_len state.now }
+    ensures len { (number : ℕ) → result ≡ length (spelled_record (device number (body state.now))) }
+    ensures short { result ≤ 131078 }
+{
+    DEVICE_HEAD as u64 + body_len(state) as u64
+}
