@@ -61,7 +61,10 @@ fn holds(alloc: Global, stream: &str, told: &str) -> Result<()> {
             let part = streams.whole().get(fed..*place).context("an offset")?;
             feed_in_pieces(&mut receiver, part, size)?;
             let held = receiver.held();
-            ensure!(held == *count as u64, "{held} of {place} in pieces of {size}");
+            ensure!(
+                held == *count as u64,
+                "{held} of {place} in pieces of {size}"
+            );
             fed = *place;
         }
     }

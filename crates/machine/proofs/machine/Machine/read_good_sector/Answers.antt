@@ -8,8 +8,7 @@ invariant_of-self g c =
     let ram = c.self.inside.ram in
     let ds = c.self.inside.devices.items in
     let there = good_there ram ds c.args.dev c.args.n (rw (← c.self.view_is) at c.requires) in
-    let at : IsAt ds c.args.dev c.index_mut.result.now = record { below = device_there ram ds c.args.dev c.args.n there; is = c.index_mut.ensures.value } in
-    (
+    let at : IsAt ds c.args.dev c.index_mut.result.now = record { below = device_there ram ds c.args.dev c.args.n there; is = c.index_mut.ensures.value } in (
       held_so c.self.inside.shapes.items ram ds c.args.dev c.index_mut.result.now c.read_good.new.self at c.read_good.ensures.state c.read_good.ensures.sectors c.self.invariant.0,
       rings_stay c.self.inside.rings.items ram ds c.args.dev c.read_good.new.self c.self.invariant.1,
     )
