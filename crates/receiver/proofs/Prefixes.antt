@@ -55,7 +55,7 @@ stays_here pages shapes before tail c errors.DiskFailed p h = absurd h
 stays_here pages shapes before tail c errors.NoMemory p h = absurd h
 stays_here pages shapes before tail c errors.AlreadyFailed p h = absurd h
 
-holds_here : (pages : ℕ) (shapes : List Shape) (before : List Record) (tail c : List ℕ) (k : RecvError) (p : ℕ) → p ≤ length tail → IsFault pages shapes before (tail ++ c) k p → IsFault pages shapes before tail k p
+pub holds_here : (pages : ℕ) (shapes : List Shape) (before : List Record) (tail c : List ℕ) (k : RecvError) (p : ℕ) → p ≤ length tail → IsFault pages shapes before (tail ++ c) k p → IsFault pages shapes before tail k p
 holds_here pages shapes before tail c errors.BadMagic p le h = absurd h
 holds_here pages shapes before tail c errors.BadVersion p le h = absurd h
 holds_here pages shapes before tail c errors.BadShape p le h = absurd h

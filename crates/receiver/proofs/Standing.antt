@@ -39,7 +39,7 @@ opens_at {tag = tag} {more = more} t x o e =
     rw (first, others) at o
 
 -- The first two bytes of a device's record.
-second_low : (tail x : List ℕ) (t d : ℕ) → IsBytes tail → tail ≡ t ∷ (d ∷ x) → d < 256
+pub second_low : (tail x : List ℕ) (t d : ℕ) → IsBytes tail → tail ≡ t ∷ (d ∷ x) → d < 256
 second_low tail x t d are e = (subst IsBytes e are) 1
 
 -- A head that is cut waits.

@@ -8,6 +8,7 @@ use crate::intake::Intake;
 use crate::recv_error::RecvError;
 use crate::stage::Stage;
 use crate::taking::take_piece;
+use crate::waiting::is_within_body;
 use machine::{Disk, Machine};
 use sha2::{Digest, Sha256};
 use std::alloc::Global;
@@ -81,6 +82,10 @@ impl<D: Disk + Drop> Receiver<D> {
             return Err(RecvError::AlreadyFailed);
         }
         if piece.is_empty() {
+            return Ok(());
+        }
+        if is_within_body(&self.stage, &self.held, piece) {
+            self.held.extend_from_slice(piece).unwrap();
             return Ok(());
         }
         let room = RECORD_MAX - self.held.len();

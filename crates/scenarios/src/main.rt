@@ -9,6 +9,7 @@
 mod changes;
 mod disks;
 mod failing_sink;
+mod failing_writer;
 mod journey;
 mod leg;
 mod migration;
@@ -54,5 +55,7 @@ fn main(rt: HostRuntime) -> Result<()> {
     }
     failing_sink::fails(rt.alloc())?;
     println!(rt; "a writer that fails at any byte")?;
+    failing_writer::fails(rt.alloc())?;
+    println!(rt; "a migration whose writer fails at any byte")?;
     Ok(())
 }

@@ -1,36 +1,66 @@
--- What a refusal of a stream tells that is fed as it is read.
-use Rattle.std.proofs.Common.{◌≡◌, ◌<◌, inr, ℕ, List, ◌++◌, length}
+-- What is known of a stream that is fed as its file is read: a front, and what came after it.
+use Rattle.std.proofs.Common.{◌≡◌, ◌<◌, inl, inr, sym, subst, ℕ, List, [], ◌++◌, length, append_assoc, append-nil}
 use Rattle.machine.specs.Seen.{Marks}
-use Rattle.receiver.proofs.Counting.{slice_cut, slice_told}
+use Rattle.receiver.proofs.Counting.{slice_cut, slice_told, told_at_once}
 use Rattle.receiver.proofs.Working.{tells_more}
 use Rattle.receiver.specs.Disks.{MarksRefused}
 use Rattle.receiver.specs.Faults.{Fault as StreamFault}
-use Rattle.receiver.specs.Receiving.{IsFinish, NoFault, TellsFault, TellsNow}
+use Rattle.receiver.specs.Receiving.{HasBeenFed, IsFinish, NoFault, Received, RefusesSlice, TellsFault, TellsNow}
 use Rattle.receiver.specs.declared.recv_error.RecvError.{RecvError}
 use Rattle.vmig.specs.Faults.{stream_fault}
+use Rattle.vmig.specs.Feeding.{IsFedOn, IsFedQuietly, TellsOfRest}
 use Rattle.vmig.specs.Resuming.{TellsOfArrival}
 use Rattle.vmig.specs.declared.fault.Fault.{Fault}
 
+-- The front was fed, or one piece more.
+pub front_fed : (r : Received) (front : List ℕ) → HasBeenFed r front → IsFedOn r front
+front_fed r front fed = record { more = []; fed = subst (λ (b : List ℕ). HasBeenFed r b) (sym (append-nil front)) fed }
+
+pub fed_on : (r : Received) (front more piece : List ℕ) → HasBeenFed r ((front ++ more) ++ piece) → IsFedOn r front
+fed_on r front more piece fed = record { more = more ++ piece; fed = subst (λ (b : List ℕ). HasBeenFed r b) (append_assoc front more piece) fed }
+
+pub fed_quietly : (r : Received) (front more piece : List ℕ) → HasBeenFed r ((front ++ more) ++ piece) → NoFault r.sizes ((front ++ more) ++ piece) → IsFedQuietly r front
+fed_quietly r front more piece fed quiet = record {
+  more = more ++ piece;
+  fed = subst (λ (b : List ℕ). HasBeenFed r b) (append_assoc front more piece) fed;
+  quiet = subst (λ (b : List ℕ). NoFault r.sizes b) (append_assoc front more piece) quiet;
+}
+
+-- The front is refused.
+pub front_refused : (stream front sizes : List ℕ) (marks new : List Marks) (e : RecvError) (fault : Fault)
+    → fault ≡ stream_fault e → MarksRefused marks e new → TellsNow sizes [] front e → TellsOfRest stream front sizes marks fault
+front_refused stream front sizes marks new e fault is m t = inr (record {
+  more = [];
+  refusal = e;
+  refused = subst (λ (b : List ℕ). RefusesSlice sizes marks b e) (sym (append-nil front)) (slice_told sizes marks new front e m (told_at_once sizes front e t));
+  is = is;
+})
+
+-- A piece is refused.
 told_so_far : (sizes b piece : List ℕ) (e : RecvError) → TellsNow sizes b piece e → TellsFault sizes (b ++ piece) e
 told_so_far sizes b piece e t =
     tells_more ((at : ℕ) × (length b < at) × StreamFault sizes (b ++ piece) e at) ((at : ℕ) × StreamFault sizes (b ++ piece) e at) e (λ x. (x.0, x.2)) t
 
--- A piece is refused.
-pub piece_refused : (stream sizes : List ℕ) (marks new : List Marks) (b piece : List ℕ) (e : RecvError) (fault : Fault)
-    → fault ≡ stream_fault e → MarksRefused marks e new → TellsNow sizes b piece e → TellsOfArrival stream sizes marks fault
-piece_refused stream sizes marks new b piece e fault is m t = inr (record {
-  bytes = b ++ piece;
+pub piece_refused : (stream front more piece sizes : List ℕ) (marks new : List Marks) (e : RecvError) (fault : Fault)
+    → fault ≡ stream_fault e → MarksRefused marks e new → TellsNow sizes (front ++ more) piece e → TellsOfRest stream front sizes marks fault
+piece_refused stream front more piece sizes marks new e fault is m t = inr (record {
+  more = more ++ piece;
   refusal = e;
-  refused = slice_told sizes marks new (b ++ piece) e m (told_so_far sizes b piece e t);
+  refused = subst (λ (b : List ℕ). RefusesSlice sizes marks b e) (append_assoc front more piece) (slice_told sizes marks new ((front ++ more) ++ piece) e m (told_so_far sizes (front ++ more) piece e t));
   is = is;
 })
 
 -- All of it was fed, and it is no whole stream.
-pub end_refused : (stream sizes : List ℕ) (marks : List Marks) (b : List ℕ) (e : RecvError) (fault : Fault)
-    → fault ≡ stream_fault e → IsFinish b e → NoFault sizes b → TellsOfArrival stream sizes marks fault
-end_refused stream sizes marks b e fault is h quiet = inr (record {
-  bytes = b;
+pub end_refused : (stream front more sizes : List ℕ) (marks : List Marks) (e : RecvError) (fault : Fault)
+    → fault ≡ stream_fault e → IsFinish (front ++ more) e → NoFault sizes (front ++ more) → TellsOfRest stream front sizes marks fault
+end_refused stream front more sizes marks e fault is h quiet = inr (record {
+  more = more;
   refusal = e;
-  refused = slice_cut sizes marks b e h quiet;
+  refused = slice_cut sizes marks (front ++ more) e h quiet;
   is = is;
 })
+
+-- A fault that tells of a front and the rest tells of all of it.
+pub of_arrival : (stream front sizes : List ℕ) (marks : List Marks) (fault : Fault) → TellsOfRest stream front sizes marks fault → TellsOfArrival stream sizes marks fault
+of_arrival stream front sizes marks fault (inl file) = inl file
+of_arrival stream front sizes marks fault (inr told) = inr (record { bytes = front ++ told.more; refusal = told.refusal; refused = told.refused; is = told.is })

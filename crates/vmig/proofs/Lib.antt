@@ -14,3 +14,5 @@ pub mod Statuses
 pub mod TakenSteps
 pub mod TakenWords
 pub mod Written
+pub mod FaultWriters
+pub mod Checked

@@ -8,7 +8,7 @@ use Rattle.receiver.specs.Receiving.{IsReceived, RefusesSlice}
 use Rattle.receiver.specs.declared.recv_error.RecvError.{RecvError}
 use Rattle.traces.specs.Replies.{checked_line}
 use Rattle.wire.specs.Header.{Begins}
-use Rattle.vmig.specs.Faults.{stream_fault}
+use Rattle.vmig.specs.Faults.{TellsOfFile, stream_fault}
 use Rattle.vmig.specs.declared.fault.Fault.{Fault}
 use Rattle.vmig.specs.declared.fault.Fault.TheVariants.{NoMemory}
 
@@ -23,6 +23,11 @@ pub record IsStreamLine (bytes line : List ℕ) : Type 0 where
   pub received : IsReceived bytes machine rounds
   pub spelled : line ≡ checked_line (length machine.ram / PAGE_SIZE) (length machine.devices) rounds
 
+-- The machine of some stream, in which `n` rounds ended. No contract says what the file of a stream holds.
+pub record HasCome (machine : MachineState) (n : ℕ) : Type 0 where
+  pub bytes : List ℕ
+  pub received : IsReceived bytes machine n
+
 -- The header of a machine with disks of these sizes.
 pub record TellsSizes (bytes sizes : List ℕ) : Type 0 where
   pub pages : ℕ
@@ -32,8 +37,11 @@ pub record TellsSizes (bytes sizes : List ℕ) : Type 0 where
   pub sizes_are : sizes ≡ disk_sizes shapes
 
 -- The bytes begin with no header.
+abbrev pub BeginsNot : List ℕ → Type 0
+BeginsNot bytes = (pages : ℕ) (shapes : List Shape) (rest : List ℕ) → ¬ (Begins bytes pages shapes rest)
+
 pub record TellsNone (bytes sizes : List ℕ) : Type 0 where
-  pub no_header : (pages : ℕ) (shapes : List Shape) (rest : List ℕ) → ¬ (Begins bytes pages shapes rest)
+  pub no_header : BeginsNot bytes
   pub none : sizes ≡ []
 
 -- Disks of these sizes fit the header with which the bytes begin; there are none where they begin with no header.
@@ -51,3 +59,7 @@ pub record TellsOfBytes (bytes : List ℕ) (fault : Fault) : Type 0 where
 
 abbrev pub TellsOfStream : List ℕ → Fault → Type 0
 TellsOfStream bytes fault = (fault ≡ NoMemory) ⊎ TellsOfBytes bytes fault
+
+-- What a fault says of the stream in the file of this name: the file could not be read, or it is about the bytes that were read.
+abbrev pub TellsOfChecked : List ℕ → Fault → Type 0
+TellsOfChecked stream fault = TellsOfFile stream fault ⊎ ((bytes : List ℕ) × TellsOfStream bytes fault)

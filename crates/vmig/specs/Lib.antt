@@ -3,6 +3,8 @@ pub mod Commands
 pub mod Faults
 pub mod Output
 pub mod Playing
+pub mod Feeding
+pub mod FaultWriter
 pub mod Resuming
 pub mod Checking
 pub mod Comparing

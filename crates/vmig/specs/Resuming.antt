@@ -6,7 +6,7 @@ use Rattle.machine.specs.Seen.{Marks}
 use Rattle.machine.specs.State.{MachineState}
 use Rattle.machine.specs.declared.event.Event.{Event}
 use Rattle.machine.specs.declared.reply.Reply.{Reply}
-use Rattle.receiver.specs.Receiving.{HasBeenFed, NoFault, Received, RefusesSlice}
+use Rattle.receiver.specs.Receiving.{RefusesSlice}
 use Rattle.receiver.specs.declared.recv_error.RecvError.{RecvError}
 use Rattle.traces.specs.Trace.{HoldsEvents, RefusesEvents}
 use Rattle.traces.specs.Replies.{reply_line}
@@ -54,17 +54,6 @@ pub record TellsOfEvents (text : List ℕ) (fault : Fault) : Type 0 where
   pub refusal : TraceError
   pub refused : RefusesEvents text refusal
   pub is : fault ≡ trace_fault refusal
-
--- The receiver was fed some bytes, and there was no refusal.
-pub record IsFed (r : Received) : Type 0 where
-  pub bytes : List ℕ
-  pub fed : HasBeenFed r bytes
-
--- And they have no fault.
-pub record IsFedQuietly (r : Received) : Type 0 where
-  pub bytes : List ℕ
-  pub fed : HasBeenFed r bytes
-  pub quiet : NoFault r.sizes bytes
 
 -- What a fault says of some bytes that were received over disks of these sizes and marks: they are refused.
 pub record TellsOfPieces (sizes : List ℕ) (marks : List Marks) (fault : Fault) : Type 0 where

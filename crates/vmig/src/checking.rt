@@ -1,20 +1,20 @@
 //! The command `check`: a stream is received over disks in memory.
 
-ghost use Rattle.std.specs.Prelude.{◌≡◌, ◌∷◌, ◌++◌, [], IfOk, IfErr, OnOk, OnErr, length, map};
+ghost use Rattle.std.specs.Prelude.{◌≡◌, ◌≤◌, ◌∷◌, ◌++◌, [], IfOk, IfErr, OnOk, OnErr, length};
 ghost use Rattle.std.specs.Io.KnownBytes.{Appends};
 ghost use Rattle.machine.specs.Seen.{state_of};
-ghost use Rattle.receiver.specs.Receiving.{IsReceived};
 ghost use Rattle.traces.specs.Replies.{checked_line, AppendsBeginning};
-ghost use Rattle.vmig.specs.Checking.{AreSizesOf, IsStreamLine, TellsOfStream, zero_disks};
-ghost use Rattle.vmig.specs.Output.{Fails, FailsOnFile, HasDoneFile, HasWritten, Silently};
+ghost use Rattle.vmig.specs.Checking.{BeginsNot, HasCome, IsStreamLine, TellsOfChecked, TellsOfStream, zero_disks};
+ghost use Rattle.vmig.specs.Output.{FailsOnFile, HasDoneFile, Silently};
 
 use crate::fault::Fault;
-use crate::output::{flush, read_file};
+use crate::feeding::{PIECE_SIZE, read_front, receive_rest};
+use crate::output::{flush, open_file};
 use guestmem::{NoMemory, PAGE_SIZE};
 use machine::{Machine, MemDisk, Shape};
 use receiver::receive;
 use std::alloc::Global;
-use std::io::Write;
+use std::io::{Read, Write};
 use std::rt::Files;
 use traces::{WriteFault, write_checked};
 use wire::decode_header;
@@ -28,40 +28,61 @@ pub fn check_stream<'a, R: Files + AllocGlobal, O: Write>(
     ensures done { OnOk result (HasDoneFile (λ bytes. Silently (IsStreamLine bytes)) (O.contents out.old) (O.contents out.new)) }
     ensures failed { IfErr result (FailsOnFile name.entry.now TellsOfStream (λ bytes. Silently (IsStreamLine bytes)) (O.contents out.old) (O.contents out.new)) }
 {
-    let bytes = read_file(rt, name)?;
-    check_bytes(rt.alloc(), bytes.as_slice(), out)
-}
-
-/// Reads the stream of a machine, and writes its line.
-fn check_bytes<O: Write>(alloc: Global, bytes: &[u8], out: &mut O) -> Result<(), Fault<'static>>
-    ensures done { OnOk result (HasWritten (IsStreamLine bytes.now) (O.contents out.old) (O.contents out.new)) }
-    ensures failed { IfErr result (Fails (TellsOfStream bytes.now) (Silently (IsStreamLine bytes.now)) (O.contents out.old) (O.contents out.new)) }
-{
-    let (machine, rounds) = receive_in_memory(alloc, bytes)?;
+    let (machine, rounds) = receive_file(rt, name)?;
     let pages = machine.ram().len() / PAGE_SIZE as u64;
     let devices = machine.shapes().len();
     write_line(pages as u32, devices as u32, rounds, out)?;
     Ok(())
 }
 
-/// The machine of a stream, over disks in memory, and the number of rounds that ended in it.
-fn receive_in_memory(alloc: Global, bytes: &[u8]) -> Result<(Machine<MemDisk>, u32), Fault<'static>>
-    ensures received { IfOk result (λ x. IsReceived bytes.now (state_of x.0) x.1) }
-    ensures failed { IfErr result (TellsOfStream bytes.now) }
+/// The machine of the stream in the file of this name, over disks in memory, and the number of rounds that ended in it. Its
+/// bytes are received as they are read.
+fn receive_file<'a, R: Files + AllocGlobal>(
+    rt: &R,
+    name: &'a str,
+) -> Result<(Machine<MemDisk>, u32), Fault<'a>>
+    ensures received { IfOk result (λ x. HasCome (state_of x.0) x.1) }
+    ensures failed { IfErr result (TellsOfChecked name.entry.now) }
 {
-    let disks = memory_disks(alloc, bytes)?;
-    let received = receive(alloc, bytes, disks)?;
-    Ok(received)
+    let alloc = rt.alloc();
+    let mut file = open_file(rt, name)?;
+    let Ok(mut piece) = vec![in alloc; 0u8; PIECE_SIZE] else {
+        return Err(Fault::NoMemory);
+    };
+    let count = read_front(&mut file, name, piece.as_mut_slice())?;
+    receive_in_memory(alloc, &mut file, name, piece.as_mut_slice(), count)
 }
 
-/// Disks of zeros in memory for the devices that the header of a stream names. None where the bytes begin with no header.
-fn memory_disks(alloc: Global, bytes: &[u8]) -> Result<Vec<MemDisk>, NoMemory>
-    ensures { IfOk result (λ disks. AreSizesOf bytes.now (map length disks.items)) }
+/// Receives a stream over disks of zeros in memory. The first `count` bytes of the piece are its front, and the file has the rest.
+fn receive_in_memory<'a, F: Read>(
+    alloc: Global,
+    file: &mut F,
+    name: &'a str,
+    piece: &mut [u8],
+    count: usize,
+) -> Result<(Machine<MemDisk>, u32), Fault<'a>>
+    requires { count ≤ length piece.old }
+    ensures received { IfOk result (λ x. HasCome (state_of x.0) x.1) }
+    ensures failed { IfErr result (TellsOfChecked name.entry.now) }
 {
-    match decode_header(alloc, bytes)? {
-        Some(header) => disks_of(alloc, header.shapes.as_slice()),
-        None => Ok(Vec::new(alloc)),
+    match decode_header(alloc, &piece[..count])? {
+        Some(header) => {
+            let disks = disks_of(alloc, header.shapes.as_slice())?;
+            receive_rest(alloc, file, name, piece, count, disks)
+        }
+        None => receive_headless(alloc, &piece[..count]),
     }
+}
+
+/// Refuses bytes that begin with no header, as a receiver without disks does.
+fn receive_headless(alloc: Global, bytes: &[u8]) -> Result<(Machine<MemDisk>, u32), Fault<'static>>
+    requires { BeginsNot bytes.now }
+    ensures received { IfOk result (λ x. HasCome (state_of x.0) x.1) }
+    ensures failed { IfErr result (TellsOfStream bytes.now) }
+{
+    let none: Vec<MemDisk> = Vec::new(alloc);
+    let received = receive(alloc, bytes, none)?;
+    Ok(received)
 }
 
 /// Disks of zeros in memory for devices of these shapes.

@@ -21,7 +21,7 @@
 //!
 //! The definitions are in `specs/`: `Words` the program's words, `Faults` for which refusal each fault is, its status and its
 //! line, `Playing`, `Resuming`, `Checking` and `Comparing` what `run`, `resume`, `check` and `rehearse` write and what a fault
-//! of theirs says, `Output` how much of it was written, and `Run` all of it by the words. `Commands` is for the private parts
+//! of theirs says, `Feeding` what is known of a stream whose file is read in pieces, `Output` how much of it was written, and `Run` all of it by the words. `Commands` is for the private parts
 //! of `words` alone.
 //!
 //! It uses the crates that it re-exports, and `clap` for the words. It first checks itself that the words are one of its
@@ -31,6 +31,8 @@
 mod checking;
 mod comparing;
 mod fault;
+mod fault_writer;
+mod feeding;
 pub mod laws;
 mod output;
 mod playing;
@@ -39,6 +41,7 @@ mod resuming;
 mod words;
 
 pub use dirtylog::BitSet;
+pub use fault_writer::FaultWriter;
 pub use guestmem::{ACCESS_MAX, NoMemory, PAGE_SIZE, PAGES_MAX, Ram, RamError, Touched};
 pub use machine::{
     Bytes, DEVICES_MAX, DeviceState, Disk, DiskFault, Event, FaultDisk, FileDisk, Machine, MemDisk,

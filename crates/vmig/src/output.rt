@@ -25,7 +25,7 @@ pub fn read_file<'a, R: Files + AllocGlobal>(rt: &R, name: &'a str) -> Result<Ve
 }
 
 /// The file of this name, to be read.
-fn open_file<'a, R: Files>(rt: &R, name: &'a str) -> Result<R::File, Fault<'a>>
+pub fn open_file<'a, R: Files>(rt: &R, name: &'a str) -> Result<R::File, Fault<'a>>
     ensures { IfErr result (TellsOfFile name.entry.now) }
 {
     match fs::open(rt, name) {

@@ -1,26 +1,22 @@
 //! The command `resume`: a machine arrives from a stream, and continues.
 
-ghost use Rattle.std.specs.Prelude.{◌≡◌, [], IfOk, IfErr, OnOk, None, false, length, true};
+ghost use Rattle.std.specs.Prelude.{◌≡◌, IfOk, IfErr, OnOk, None, length};
 ghost use Rattle.machine.specs.First.{dealt_marks};
 ghost use Rattle.machine.specs.Seen.{all_marks, state_of};
 ghost use Rattle.receiver.specs.Disks.{AreHonestDisks, disk_marks_of, sizes_of};
 ghost use Rattle.wire.specs.Stream.{shapes_in};
 ghost use Rattle.vmig.specs.Output.{Fails, FailsOnFile, HasDoneFile, HasWritten, Silently};
-ghost use Rattle.vmig.specs.Resuming.{AreResumed, AreResumedOver, HasArrived, IsFed, IsFedQuietly, TellsOfArrival, TellsOfResuming, TellsOfStreamOver};
+ghost use Rattle.vmig.specs.Resuming.{AreResumed, AreResumedOver, HasArrived, TellsOfArrival, TellsOfResuming, TellsOfStreamOver};
 ghost use Rattle.vmig.specs.Words.{name_in};
 
 use crate::fault::Fault;
+use crate::feeding::{PIECE_SIZE, read_front, receive_rest};
 use crate::output::{open_apart, read_file, write_all};
 use crate::playing::image_disks;
 use machine::{Disk, Event, Machine, MemDisk, Reply};
-use receiver::Receiver;
-use std::alloc::Global;
-use std::io::{ErrorKind, Read, Write};
+use std::io::Write;
 use std::rt::Files;
 use traces::parse_events;
-
-/// How many bytes of a stream are read at once.
-const PIECE_SIZE: usize = 65_536;
 
 /// Receives the machine of the stream in the file of this name, over the image of a disk or over none, and plays the trace in
 /// the file of the other name on it.
@@ -93,7 +89,7 @@ fn replies_to<'a, R: Files + AllocGlobal, D: Disk + Drop>(
     }
 }
 
-/// The machine of the stream in the file of this name, with these disks. Its bytes are fed as they are read. It is not the
+/// The machine of the stream in the file of this name, with these disks. Its bytes are received as they are read. It is not the
 /// image, which is written meanwhile.
 fn receive_file<'a, R: Files + AllocGlobal, D: Disk + Drop>(
     rt: &R,
@@ -110,60 +106,7 @@ fn receive_file<'a, R: Files + AllocGlobal, D: Disk + Drop>(
     let Ok(mut piece) = vec![in alloc; 0u8; PIECE_SIZE] else {
         return Err(Fault::NoMemory);
     };
-    let mut receiver = Receiver::new(alloc, disks);
-    feed_all(&mut file, name, piece.as_mut_slice(), &mut receiver)?;
-    match receiver.finish() {
-        Ok(machine) => Ok(machine),
-        Err(refusal) => Err(Fault::from(refusal)),
-    }
-}
-
-/// Feeds the rest of a file, up to its end.
-fn feed_all<'a, F: Read, D: Disk + Drop>(
-    file: &mut F,
-    name: &'a str,
-    piece: &mut [u8],
-    receiver: &mut Receiver<D>,
-) -> Result<(), Fault<'a>>
-    requires { IsFed receiver.old }
-    ensures sizes { receiver.new.sizes ≡ receiver.old.sizes }
-    ensures marks { OnOk result (receiver.new.marks ≡ receiver.old.marks) }
-    ensures quiet { OnOk result (IsFedQuietly receiver.new) }
-    ensures failed { IfErr result (TellsOfArrival name.entry.now receiver.old.sizes receiver.old.marks) }
-{
-    for _ in 0..u64::MAX {
-        if feed_piece(file, name, piece, receiver)? {
-            return Ok(());
-        }
-    }
-    Err(Fault::File(name))
-}
-
-/// Feeds the next piece of a file, and returns whether the file has ended: then the piece is empty.
-fn feed_piece<'a, F: Read, D: Disk + Drop>(
-    file: &mut F,
-    name: &'a str,
-    piece: &mut [u8],
-    receiver: &mut Receiver<D>,
-) -> Result<bool, Fault<'a>>
-    requires { IsFed receiver.old }
-    ensures sizes { receiver.new.sizes ≡ receiver.old.sizes }
-    ensures marks { OnOk result (receiver.new.marks ≡ receiver.old.marks) }
-    ensures goes_on { OnOk result (IsFed receiver.new) }
-    ensures quiet { IfOk result (λ ended. ended ≡ true → IsFedQuietly receiver.new) }
-    ensures failed { IfErr result (TellsOfArrival name.entry.now receiver.old.sizes receiver.old.marks) }
-{
-    let count = match file.read(piece) {
-        Ok(count) => count,
-        Err(error) => {
-            if error.kind() == ErrorKind::Interrupted {
-                return Ok(false);
-            }
-            return Err(Fault::of_file(name, error.kind()));
-        }
-    };
-    match receiver.feed(&piece[..count]) {
-        Ok(()) => Ok(count == 0),
-        Err(refusal) => Err(Fault::from(refusal)),
-    }
+    let count = read_front(&mut file, name, piece.as_mut_slice())?;
+    let (machine, _) = receive_rest(alloc, &mut file, name, piece.as_mut_slice(), count, disks)?;
+    Ok(machine)
 }

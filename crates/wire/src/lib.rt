@@ -53,7 +53,7 @@ pub use lengths::{
 pub use numbers::{u8_at, u32_at};
 pub use record::{Record, decode_record};
 pub use record_head::{
-    BODY_MAX, COMMIT_RECORD, COMMIT_TAG, DEVICE_TAG, FoundHead, PAGE_TAG, RECORD_MAX,
+    BODY_MAX, COMMIT_RECORD, COMMIT_TAG, DEVICE_TAG, FoundHead, HEAD_MAX, PAGE_TAG, RECORD_MAX,
     ROUND_END_TAG, RecordHead, read_head,
 };
 pub use sector_writing::{encode_sector, write_bad_sector, write_sector};

@@ -1,18 +1,20 @@
-use Rattle.std.proofs.Common.{inr}
-use Rattle.std.proofs.lemmas.Result.{err_from_is_err_and}
-use Rattle.vmig.proofs.MemoryDisks.{honest_disks, refused_steadily}
+use Rattle.std.proofs.Common.{◌≡◌, ◌++◌, drop, inr, take, rules}
+use Rattle.std.proofs.lemmas.Result.{IfErr-weaker, IfOk-weaker}
+use Rattle.machine.specs.Seen.{state_of}
+use Rattle.wire.specs.Header.{Begins}
+use Rattle.vmig.proofs.Checked.{rest_told}
+use Rattle.vmig.proofs.MemoryDisks.{honest_disks}
+use Rattle.vmig.specs.Checking.{HasCome, TellsOfChecked, TellsOfStream}
 use Rattle.vmig.proofs.checking.receive_in_memory.Goals as goal
 
-pub returns-clause-received : goal.returns-clause-received
-returns-clause-received c = c.in_ok-received.ensures.received (honest_disks c.in_ok-disks.disks.items)
+pub returns-in_ok-disks-in-Some-clause-received : goal.returns-in_ok-disks-in-Some-clause-received
+returns-in_ok-disks-in-Some-clause-received g c =
+    IfOk-weaker c.receive_rest.result _ (λ x. HasCome (state_of x.0) x.1) (λ x h. let r = h (honest_disks c.in_ok-disks-in-Some.disks.items) in record { bytes = _ ++ r.more; received = r.received }) c.receive_rest.ensures.received
 
-pub returns-in_err-received-clause-failed : goal.returns-in_err-received-clause-failed
-returns-in_err-received-clause-failed c =
-    let told = err_from_is_err_and c.from_residual-in_err-received.result c.from_residual-in_err-received.ensures.1 in
-    rw told.1 (inr (record {
-      sizes = _;
-      fit = c.in_ok-disks.ensures;
-      refusal = _;
-      refused = refused_steadily c.in_ok-disks.disks.items c.args.bytes.now _ c.in_err-received.ensures.refused;
-      is = told.2;
-    }))
+pub returns-in_ok-disks-in-Some-clause-failed : goal.returns-in_ok-disks-in-Some-clause-failed
+returns-in_ok-disks-in-Some-clause-failed g c =
+    let front = take c.args.count c.args.piece.now in
+    let found = rw c.in-Some.is at c.in_ok-header.ensures in
+    let shapes : c.as_slice.result.now ≡ c.in-Some.header.shapes.items = search rules in
+    let begins : Begins front c.in-Some.header.pages c.as_slice.result.now (drop c.in-Some.header.len front) = rw shapes found.1 in
+    IfErr-weaker c.receive_rest.result _ (TellsOfChecked c.args.name.now) (λ fault told. rest_told c.args.name.now front c.in-Some.header.pages c.as_slice.result.now _ c.in_ok-disks-in-Some.disks.items fault begins c.in_ok-disks-in-Some.ensures told) c.receive_rest.ensures.failed

@@ -1,23 +1,19 @@
-use Rattle.std.proofs.Common.{◌≡◌, sym, subst, List, ℕ, ◌∙◌}
-use Rattle.receiver.specs.Disks.{AreHonestDisks, disk_marks_of, sizes_of}
-use Rattle.receiver.specs.Receiving.{NoFault}
-use Rattle.vmig.proofs.Arriving.{end_refused}
+use Rattle.std.proofs.Common.{◌++◌, subst, sym}
+use Rattle.std.proofs.lemmas.Result.{err_from_is_err_and}
+use Rattle.receiver.specs.Disks.{disk_marks_of, sizes_of}
+use Rattle.vmig.proofs.Arriving.{of_arrival}
+use Rattle.vmig.specs.Resuming.{TellsOfArrival}
+use Rattle.vmig.specs.declared.fault.Fault.{Fault}
 use Rattle.vmig.proofs.resuming.receive_file.Goals as goal
 
-pub feed_all-requires : goal.feed_all-requires
-feed_all-requires g c = record { bytes = _; fed = c.new-receiver.ensures.fed }
+pub returns-in_err-machine-clause-failed : goal.returns-in_err-machine-clause-failed
+returns-in_err-machine-clause-failed g c =
+    let sizes = sizes_of g.D.Disk.state c.args.disks.items in
+    let marks = disk_marks_of g.D.Disk.state c.args.disks.items in
+    let told = err_from_is_err_and c.from_residual-in_err-machine.result c.from_residual-in_err-machine.ensures.1 in
+    rw told.1 (subst (λ (f : Fault). TellsOfArrival c.args.name.now sizes marks f) (sym told.2) (of_arrival c.args.name.now _ sizes marks _ c.in_err-machine.ensures.failed))
 
-pub returns-in-Ok-finish-clause-arrived : goal.returns-in-Ok-finish-clause-arrived
-returns-in-Ok-finish-clause-arrived g c = λ honest.
-    let same : c.feed_all.new.receiver.marks ≡ disk_marks_of g.D.Disk.state c.args.disks.items = c.in_ok-feed_all.ensures.marks ∙ c.new-receiver.ensures.marks in
-    let fed = c.in_ok-feed_all.ensures.quiet in
-    record {
-      bytes = fed.bytes;
-      stream = c.in-Ok-finish.ensures.received (subst AreHonestDisks (sym same) honest) fed.bytes fed.fed;
-    }
-
-pub returns-clause-failed : goal.returns-clause-failed
-returns-clause-failed g c =
-    let fed = c.in_ok-feed_all.ensures.quiet in
-    let sizes : c.feed_all.new.receiver.sizes ≡ sizes_of g.D.Disk.state c.args.disks.items = c.feed_all.ensures.sizes ∙ c.new-receiver.ensures.sizes in
-    end_refused _ _ _ fed.bytes c.in-Err.refusal _ c.from.ensures (c.in-Err.ensures.refused fed.bytes fed.fed) (subst (λ (s : List ℕ). NoFault s fed.bytes) sizes fed.quiet)
+pub returns-clause-arrived : goal.returns-clause-arrived
+returns-clause-arrived g c = λ honest.
+    let arrived = c.in_ok-machine.ensures.received honest in
+    record { bytes = _ ++ arrived.more; stream = arrived.received.stream }

@@ -1,0 +1,119 @@
+-- Bytes that wait for a body wait on, while it is incomplete.
+use Rattle.std.proofs.Common.{◌≡◌, ℕ, ◌+◌, ◌<◌, ◌≤◌, inl, inr, false, List, ◌∷◌, ◌++◌, length, drop, refl, sym, ap, ◌∙◌, append_assoc, arith}
+use Rattle.std.proofs.lemmas.List.{length-append}
+use Rattle.sha2.specs.Sha256.{sha256}
+use Rattle.sha2.specs.declared.Sha256.{Sha256}
+use Rattle.sha2.proofs.Facts256.{length-sha256}
+use Rattle.blk.specs.Disk.{DiskState}
+use Rattle.guestmem.specs.Number.{IsBytes}
+use Rattle.guestmem.specs.ByteLaws.{IsBytes-append}
+use Rattle.machine.specs.declared.shape.Shape.{Shape}
+use Rattle.wire.specs.Header.{header}
+use Rattle.wire.specs.RecordHeads.{BeginsHead, body_len, spelled_head}
+use Rattle.wire.specs.Records.{Record}
+use Rattle.wire.specs.Stream.{texts}
+use Rattle.wire.specs.declared.record_head.RecordHead.{RecordHead}
+use Rattle.wire.specs.declared.record_head.RecordHead.TheVariants as heads
+use Rattle.wire.proofs.Heads.{no_body, one_head}
+use Rattle.receiver.specs.Good.{devices_in}
+use Rattle.receiver.specs.Faults.{IsFault}
+use Rattle.receiver.specs.Fed.{Waits}
+use Rattle.receiver.specs.Receiving.{HasBeenFed, IsKnown, IsPastHead, IsReceiver, IsTaken, has_failed, received_by}
+use Rattle.receiver.specs.Waiting.{IsWithinBody, ReadsRecords}
+use Rattle.receiver.specs.declared.stage.Stage.{Stage}
+use Rattle.receiver.specs.declared.stage.Stage.TheVariants as stages
+use Rattle.receiver.specs.declared.recv_error.RecvError.{RecvError}
+use Rattle.receiver.specs.declared.recv_error.RecvError.TheVariants as errors
+use Rattle.receiver.proofs.Feeding.{GoesOn, is_receiver}
+use Rattle.receiver.proofs.Knowing.{no_fault_known}
+use Rattle.receiver.proofs.Prefixes.{holds_here}
+use Rattle.receiver.proofs.Standing.{second_low}
+
+-- The head, and what is behind it.
+behind_head : (held piece : List ℕ) (head : RecordHead) → BeginsHead held head → held ++ piece ≡ spelled_head head ++ (drop (length (spelled_head head)) held ++ piece)
+behind_head held piece head b = ap (λ (x : List ℕ). x ++ piece) b.whole ∙ append_assoc (spelled_head head) (drop (length (spelled_head head)) held) piece
+
+short_body : (held piece : List ℕ) (head : RecordHead) → BeginsHead held head → length held + length piece < length (spelled_head head) + body_len head → length (drop (length (spelled_head head)) held ++ piece) < body_len head
+short_body held piece head b short =
+    let rest = drop (length (spelled_head head)) held in
+    omega (arith, short, ap length b.whole, length-append (spelled_head head) rest, length-append rest piece)
+
+-- Its faults stand within the bytes that wait.
+within : (pages : ℕ) (shapes : List Shape) (before : List Record) (held piece : List ℕ) (head : RecordHead) → IsBytes (held ++ piece) → BeginsHead held head → 7 ≤ length held → length held + length piece < length (spelled_head head) + body_len head
+    → (k : RecvError) (place : ℕ) → IsFault pages shapes before (held ++ piece) k place → place ≤ length held
+within pages shapes before held piece head are b long short errors.BadMagic place h = absurd h
+within pages shapes before held piece head are b long short errors.BadVersion place h = absurd h
+within pages shapes before held piece head are b long short errors.BadShape place h = absurd h
+within pages shapes before held piece head are b long short errors.ShapeMismatch place h = absurd h
+within pages shapes before held piece head are b long short errors.BadTag place h = omega (arith, long, h.there)
+within pages shapes before held piece head are b long short errors.BadPage place h = omega (arith, long, h.there)
+within pages shapes before held piece head are b long short errors.BadSector place h = omega (arith, long, h.there)
+within pages shapes before held piece head are b long short errors.BadRound place h = omega (arith, long, h.there)
+within pages shapes before held piece head are b long short errors.BadDevice place (inl h) = omega (arith, long, h.there)
+within pages shapes before held piece head are b long short errors.BadDevice place (inr h) =
+    let rest = drop (length (spelled_head head)) held ++ piece in
+    let t = one_head head (heads.Device (devices_in before) (length h.body)) rest (h.body ++ h.more) b.fits (second_low (held ++ piece) _ 4 (devices_in before) are h.opens.whole, omega (arith, h.few)) (sym (behind_head held piece head b) ∙ h.opens.whole) in
+    absurd (omega (arith, short_body held piece head b short, ap body_len t.0, ap length t.1, length-append h.body h.more))
+within pages shapes before held piece head are b long short errors.BadDigest place h =
+    let rest = drop (length (spelled_head head)) held ++ piece in
+    let t = one_head head heads.Commit rest (h.digest ++ h.more) b.fits tt (sym (behind_head held piece head b) ∙ h.opens.whole) in
+    absurd (omega (arith, short_body held piece head b short, ap body_len t.0, ap length t.1, length-append h.digest h.more, h.long))
+within pages shapes before held piece head are b long short errors.Missing place h = omega (arith, long, h.there)
+within pages shapes before held piece head are b long short errors.Trailing place h =
+    let sum = sha256 (header pages shapes ++ texts before) in
+    let rest = drop (length (spelled_head head)) held ++ piece in
+    let t = one_head head heads.Commit rest (sum ++ (h.byte ∷ h.more)) b.fits tt (sym (behind_head held piece head b) ∙ h.opens.whole) in
+    absurd (omega (arith, short_body held piece head b short, ap body_len t.0, ap length t.1, length-append sum (h.byte ∷ h.more), length-sha256 (header pages shapes ++ texts before)))
+within pages shapes before held piece head are b long short errors.Truncated place h = absurd h
+within pages shapes before held piece head are b long short errors.DiskFailed place h = absurd h
+within pages shapes before held piece head are b long short errors.NoMemory place h = absurd h
+within pages shapes before held piece head are b long short errors.AlreadyFailed place h = absurd h
+
+waits_on : (pages : ℕ) (shapes : List Shape) (before : List Record) (stage : Stage) (held piece : List ℕ) → IsWithinBody stage held piece → Waits pages shapes before held → Waits pages shapes before (held ++ piece)
+waits_on pages shapes before stage held piece w waits = record {
+  no_record = no_body (held ++ piece) (drop (length (spelled_head w.head)) held ++ piece) w.head w.begins.fits (behind_head held piece w.head w.begins) (short_body held piece w.head w.begins w.short);
+  no_fault = λ k place h. waits.no_fault k place (holds_here pages shapes before held piece k place (within pages shapes before held piece w.head w.bytes w.begins w.long w.short k place h) h);
+}
+
+-- What is known of the bytes stays known.
+known_on : (ds : List DiskState) (digest : Sha256) (front held piece : List ℕ) (stage : Stage) → IsWithinBody stage held piece → IsKnown ds digest front held stage → IsKnown ds digest front (held ++ piece) stage
+known_on ds digest front held piece stages.Head w known = absurd w.reads
+known_on ds digest front held piece (stages.Records i) w known =
+    let reading = known.1 in
+    let here = reading.open_at in (
+      known.0,
+      record {
+        pages = reading.pages;
+        shapes = reading.shapes;
+        open_at = record { before = here.before; read = here.read; waits = waits_on reading.pages reading.shapes here.before (stages.Records i) held piece w here.waits };
+      },
+    )
+known_on ds digest front held piece (stages.Ended i) w known = absurd w.reads
+known_on ds digest front held piece stages.Failed w known = absurd w.reads
+
+-- The piece is taken, and the receiver is one still.
+pub held_on : (ds : List DiskState) (stage : Stage) (digest : Sha256) (held piece : List ℕ) → IsBytes piece → IsWithinBody stage held piece → GoesOn (received_by ds stage digest held) piece (received_by ds stage digest (held ++ piece))
+held_on ds stage digest held piece are w =
+    let more : (b : List ℕ) → HasBeenFed (received_by ds stage digest held) b → IsTaken ds digest (b ++ piece) (held ++ piece) stage =
+    λ b h. record {
+      front = h.taken.front;
+      whole = ap (λ (x : List ℕ). x ++ piece) h.taken.whole ∙ append_assoc h.taken.front held piece;
+      known = known_on ds digest h.taken.front held piece stage w h.taken.known;
+    } in
+    record {
+      sizes = refl;
+      marks = refl;
+      fed = λ b h. record { goes_on = h.goes_on; bytes = IsBytes-append b piece h.bytes are; taken = more b h };
+      quiet = λ b h. no_fault_known ds digest (b ++ piece) (held ++ piece) stage (more b h);
+    }
+
+past_reading : (stage : Stage) → ReadsRecords stage → IsPastHead stage
+past_reading stages.Head reads = absurd reads
+past_reading (stages.Records i) reads = tt
+past_reading (stages.Ended i) reads = absurd reads
+past_reading stages.Failed reads = absurd reads
+
+pub receiver_on : (ds : List DiskState) (digest : Sha256) (held piece : List ℕ) (room more : ℕ) (stage : Stage) → IsWithinBody stage held piece → has_failed stage ≡ false → IsReceiver ds digest held room stage → room ≤ more → IsReceiver ds digest (held ++ piece) more stage
+receiver_on ds digest held piece room more stage w on kept le =
+    let some = kept.known on in
+    is_receiver ds digest (held ++ piece) more stage some.0 (known_on ds digest some.0 held piece stage w some.1) (omega (arith, w.few, length-append held piece)) (omega (arith, kept.roomy (past_reading stage w.reads), le))

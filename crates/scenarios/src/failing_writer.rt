@@ -1,0 +1,122 @@
+//! Migrations to a writer that takes some bytes and then fails, for each number of bytes.
+
+use crate::disks::TestDisk;
+use crate::sameness::are_same;
+use crate::serving::{Way, serve, serve_and_abort};
+use crate::stream::arrived;
+use anyhow::{Context, Result, ensure};
+use machine::Machine;
+use sender::LiveReply;
+use std::alloc::Global;
+use traces::{Trace, parse, write_reply};
+use vmig::FaultWriter;
+use wire::WriteSink;
+
+/// A page is copied and then touched, and the machine stops; then everything is tried again.
+const TEXT: &[u8] =
+    b"ram 1\nentropy\nbegin\ncopy\nmw 0x0 00\nstop\nbegin\ncopy\nround\nstop\nmw 0x1 11\n";
+
+/// The replies, each with the number of bytes that the writer has to take for it: a header has 17 bytes, and the record of a page
+/// 4,101. Where it takes fewer the reply is `mig 4`.
+const REPLIES: [(&[u8], usize); 9] = [
+    (b"begun 1\n", 17),
+    (b"copied page 0\n", 4118),
+    (b"done\n", 0),
+    (b"mig 4\n", 0),
+    (b"mig 4\n", 0),
+    (b"mig 4\n", 0),
+    (b"mig 4\n", 0),
+    (b"mig 4\n", 0),
+    (b"done\n", 0),
+];
+
+const FAILED: &[u8] = b"mig 4\n";
+
+/// A second migration, and its replies.
+const AGAIN: &[u8] = b"ram 1\nentropy\nbegin\nstop\n";
+
+const REPLIES_AGAIN: &[u8] = b"begun 1\nstopped 1 0\n";
+
+/// The length of the first stream where the writer does not fail: a header, two pages, a device of 70 bytes and the digest.
+const LEN: usize = 8322;
+
+/// From the first failure on each call of the migration is refused, and the guest goes on. What the writer took is the beginning
+/// of the stream. After the host gave up, a second migration of the machine arrives.
+pub fn fails(alloc: Global) -> Result<()> {
+    let trace = parse(alloc, TEXT)?;
+    let stream = stream_of(alloc, &trace)?;
+    ensure!(stream.len() == LEN, "another length");
+    for take in 0..LEN {
+        fails_at(alloc, &trace, stream.as_slice(), take, false).context("a part")?;
+    }
+    fails_at(alloc, &trace, stream.as_slice(), LEN, true).context("the flush")
+}
+
+fn fresh_machine(alloc: Global, trace: &Trace) -> Result<Machine<TestDisk>> {
+    let shapes = trace.shapes.as_slice();
+    Ok(Machine::new(alloc, trace.pages, shapes, Vec::new(alloc))?)
+}
+
+/// The stream that the first stop closes.
+fn stream_of(alloc: Global, trace: &Trace) -> Result<Vec<u8>> {
+    let machine = fresh_machine(alloc, trace)?;
+    let writer = WriteSink::new(Vec::new(alloc));
+    let events = trace.events.as_slice();
+    let (_, writer) = serve(alloc, Way::Calls, machine, &events[..4], writer)?;
+    Ok(writer.into_inner())
+}
+
+/// A migration to a writer that takes `take` bytes.
+fn fails_at(
+    alloc: Global,
+    trace: &Trace,
+    stream: &[u8],
+    take: usize,
+    flush_fails: bool,
+) -> Result<()> {
+    let mut place = vec![in alloc; 0; LEN]?;
+    let inner = WriteSink::new(place.as_mut_slice());
+    let writer = FaultWriter::new(inner, take as u64, flush_fails);
+    let machine = fresh_machine(alloc, trace)?;
+    let events = trace.events.as_slice();
+    let served = serve_and_abort(alloc, Way::Calls, machine, events, writer)?;
+    let told = lines_of(alloc, served.replies.as_slice())?;
+    let expected = lines_for(alloc, take)?;
+    ensure!(told == expected, "other replies after {take} bytes");
+    ensure!(
+        place[..take] == stream[..take],
+        "other bytes after {take} bytes"
+    );
+    arrives_again(alloc, served.machine)
+}
+
+/// The replies to the events where the writer takes `take` bytes.
+fn lines_for(alloc: Global, take: usize) -> Result<Vec<u8>> {
+    let mut lines = Vec::new(alloc);
+    for (line, needed) in REPLIES {
+        let line = if take < needed { FAILED } else { line };
+        lines.extend_from_slice(line)?;
+    }
+    Ok(lines)
+}
+
+fn lines_of(alloc: Global, replies: &[LiveReply]) -> Result<Vec<u8>> {
+    let mut lines = Vec::new(alloc);
+    for reply in replies {
+        write_reply(reply, &mut lines)?;
+    }
+    Ok(lines)
+}
+
+/// A second migration of the machine, to a writer that takes all.
+fn arrives_again(alloc: Global, machine: Machine<TestDisk>) -> Result<()> {
+    let trace = parse(alloc, AGAIN)?;
+    let writer = WriteSink::new(Vec::new(alloc));
+    let events = trace.events.as_slice();
+    let (mut served, writer) = serve(alloc, Way::Calls, machine, events, writer)?;
+    let told = lines_of(alloc, served.replies.as_slice())?;
+    ensure!(told.as_slice() == REPLIES_AGAIN, "other replies again");
+    let stream = writer.into_inner();
+    let mut copy = arrived(alloc, stream.as_slice(), 0)?;
+    are_same(alloc, &mut served.machine, &mut copy)
+}

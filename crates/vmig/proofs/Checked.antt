@@ -1,0 +1,66 @@
+-- What is told of a stream that is checked: its header was read from a front of it.
+use Rattle.std.proofs.Common.{◌≡◌, inl, inr, ℕ, List, ◌++◌, length, map, ap, ◌∙◌, ◌/◌, append_assoc, refl, Option, None}
+use Rattle.guestmem.specs.declared.limits.TheConstants.{PAGE_SIZE}
+use Rattle.machine.specs.State.{MachineState}
+use Rattle.machine.specs.declared.shape.Shape.{Shape}
+use Rattle.receiver.specs.Disks.{disk_marks_of, sizes_of}
+use Rattle.traces.specs.Replies.{AppendsBeginning, checked_line}
+use Rattle.wire.specs.Header.{Begins, header}
+use Rattle.vmig.proofs.MemoryDisks.{in_memory, refused_steadily, zeros_sized}
+use Rattle.vmig.proofs.Written.{keeps_same}
+use Rattle.vmig.specs.Checking.{AreSizesOf, HasCome, IsStreamLine, TellsOfChecked, TellsOfStream, zero_disks}
+use Rattle.vmig.specs.Faults.{TellsOfOutput}
+use Rattle.vmig.specs.Feeding.{TellsOfRest}
+use Rattle.vmig.specs.Output.{FailsOnFile, Silently}
+use Rattle.vmig.specs.declared.fault.Fault.{Fault}
+
+-- The disks fit the header, whatever comes after the front.
+begins_on : (front more : List ℕ) (pages : ℕ) (shapes : List Shape) (rest : List ℕ) → Begins front pages shapes rest → Begins (front ++ more) pages shapes (rest ++ more)
+begins_on front more pages shapes rest b = record {
+  good = b.good;
+  whole = ap (λ (x : List ℕ). x ++ more) b.whole ∙ append_assoc (header pages shapes) rest more;
+}
+
+front_sized : (front more : List ℕ) (pages : ℕ) (shapes : List Shape) (rest : List ℕ) (disks : List (List (List ℕ))) → Begins front pages shapes rest → disks ≡ zero_disks shapes → AreSizesOf (front ++ more) (map length disks)
+front_sized front more pages shapes rest disks b are = inl (record {
+  pages = pages;
+  shapes = shapes;
+  rest = rest ++ more;
+  begins = begins_on front more pages shapes rest b;
+  sizes_are = zeros_sized shapes disks are;
+})
+
+pub rest_told : (stream front : List ℕ) (pages : ℕ) (shapes : List Shape) (rest : List ℕ) (disks : List (List (List ℕ))) (fault : Fault) → Begins front pages shapes rest → disks ≡ zero_disks shapes
+    → TellsOfRest stream front (sizes_of in_memory disks) (disk_marks_of in_memory disks) fault → TellsOfChecked stream fault
+rest_told stream front pages shapes rest disks fault b are (inl file) = inl file
+rest_told stream front pages shapes rest disks fault b are (inr told) = inr (
+  front ++ told.more,
+  inr (record {
+    sizes = map length disks;
+    fit = front_sized front told.more pages shapes rest disks b are;
+    refusal = told.refusal;
+    refused = refused_steadily disks (front ++ told.more) told.refusal told.refused;
+    is = told.is;
+  }),
+)
+
+-- It is told before anything is written.
+pub told_first : (named : List ℕ) (out : Option (List ℕ)) (fault : Fault) → TellsOfChecked named fault → FailsOnFile named TellsOfStream (λ bytes. Silently (IsStreamLine bytes)) out out fault
+told_first named out fault (inl file) = inl (file, keeps_same out)
+told_first named out fault (inr told) = inr (told.0, inl (told.1, keeps_same out))
+
+-- The line of a stream could not be written, or not all of it.
+pub told_of_line : (named : List ℕ) (m : MachineState) (pages devices rounds : ℕ) (old new : Option (List ℕ)) (fault : Fault) → HasCome m rounds → pages ≡ length m.ram / PAGE_SIZE → devices ≡ length m.devices → TellsOfOutput fault
+    → AppendsBeginning old new (checked_line pages devices rounds) → FailsOnFile named TellsOfStream (λ bytes. Silently (IsStreamLine bytes)) old new fault
+told_of_line named m pages devices rounds old new fault come p d told begun = inr (
+  come.bytes,
+  inr (inl (
+    told,
+    record {
+      ending = None;
+      output = checked_line pages devices rounds;
+      asked = record { machine = m; rounds = rounds; received = come.received; spelled = rw (p, d) refl };
+      begun = begun;
+    },
+  )),
+)
