@@ -1,0 +1,277 @@
+/* Each request for memory is refused once, at each place: in a script that makes every call which takes memory, the n-th request
+ * gets null, for every n. What is refused says so, nothing is lost by it, and the host goes on as the header says: it makes the
+ * call again; or ends a migration that failed, and begins another; or frees what arrived in part, and feeds the stream anew. All
+ * that was given is freed in the end. The requests are counted by a malloc of its own, before the C library's. */
+#include <stdlib.h>
+#include "driver.h"
+
+enum { PAGES = 16, PAGE = 4096, STREAM_MAX = 1 << 20, LONG_CHAIN = 6 };
+
+/* The C library's own allocator, under the names that it keeps for a program with its own malloc. */
+void *__libc_malloc(size_t size);
+void *__libc_calloc(size_t count, size_t size);
+void *__libc_realloc(void *at, size_t size);
+void __libc_free(void *at);
+
+static int counts;              /* whether a call of the library is being made */
+static uint64_t requests;       /* how many it has made so far */
+static uint64_t refused_one;    /* which of them is refused, counted from 1 */
+static int64_t given;           /* how many are not freed yet */
+
+static int is_refused(void)
+{
+    return counts && ++requests == refused_one;
+}
+
+void *malloc(size_t size)
+{
+    void *at = is_refused() ? NULL : __libc_malloc(size);
+    given += counts && at != NULL;
+    return at;
+}
+
+void *calloc(size_t count, size_t size)
+{
+    void *at = is_refused() ? NULL : __libc_calloc(count, size);
+    given += counts && at != NULL;
+    return at;
+}
+
+void *realloc(void *old, size_t size)
+{
+    void *at = is_refused() ? NULL : __libc_realloc(old, size);
+    given += counts && at != NULL && old == NULL;
+    return at;
+}
+
+void free(void *at)
+{
+    given -= counts && at != NULL;
+    __libc_free(at);
+}
+
+static uint32_t answer;     /* of the last call */
+static int told;            /* how many calls said that memory was refused */
+
+static uint32_t ended_call(void)
+{
+    counts = 0;
+    return answer;
+}
+
+/* A call of the library, and what it answers. */
+#define CALL(call) (counts = 1, answer = (call), ended_call())
+
+/* A call that is made again where it was refused memory: then it has to succeed. */
+#define CALL_AGAIN(what, call, wanted)                                                           \
+    do {                                                                                         \
+        if (CALL(call) == VMIG_NO_MEMORY) { told++; CALL(call); }                                \
+        expect(what, answer, wanted);                                                            \
+    } while (0)
+
+static const vmig_shape shapes[] = {
+    {.kind = VMIG_BLOCK, .sectors = 8},
+    {.kind = VMIG_CONSOLE},
+    {.kind = VMIG_NETWORK, .mac = {2, 0, 0, 0, 0, 1}},
+    {.kind = VMIG_ENTROPY},
+};
+enum { DEVICES = 4, CONSOLE = 1, ENTROPY = 3 };
+
+static uint8_t sent[VMIG_SENT_MAX];
+
+static void write_dev(vmig_machine *m, uint8_t dev, uint32_t off, uint32_t value)
+{
+    uint32_t out;
+    expect("register", CALL(vmig_reg_write(m, dev, off, 4, value, &out)), VMIG_OK);
+}
+
+/* The driver makes a queue of a device ready, with its rings from `base` on. */
+static void ready(vmig_machine *m, uint8_t dev, uint32_t queue, uint32_t base)
+{
+    static const uint32_t begin[][2] = {{0x070, 0}, {0x070, 1}, {0x070, 3}, {0x024, 1}, {0x020, 1}, {0x070, 0xb}};
+
+    for (size_t i = 0; i < sizeof begin / sizeof *begin; i++) write_dev(m, dev, begin[i][0], begin[i][1]);
+    write_dev(m, dev, 0x030, queue);
+    write_dev(m, dev, 0x038, 8);
+    write_dev(m, dev, 0x080, base);
+    write_dev(m, dev, 0x090, base + 0x400);
+    write_dev(m, dev, 0x0a0, base + 0x800);
+    write_dev(m, dev, 0x044, 1);
+    write_dev(m, dev, 0x070, 0xf);
+}
+
+static void put_dev(vmig_machine *m, uint64_t addr, uint64_t value, size_t width)
+{
+    uint8_t bytes[8];
+
+    for (size_t i = 0; i < width; i++) bytes[i] = (uint8_t)(value >> (8 * i));
+    expect("write", CALL(vmig_ram_write(m, addr, bytes, width)), VMIG_OK);
+}
+
+/* A chain of `count` descriptors of one byte each. */
+static void chain(vmig_machine *m, uint32_t base, uint32_t count, uint32_t flags)
+{
+    for (uint32_t i = 0; i < count; i++) {
+        put_dev(m, base + 16 * i, 0x8000 + 16 * i, 8);
+        put_dev(m, base + 16 * i + 8, 1, 4);
+        put_dev(m, base + 16 * i + 12, flags | (i + 1 < count ? HAS_NEXT : 0), 2);
+        put_dev(m, base + 16 * i + 14, i + 1, 2);
+    }
+    put_dev(m, base + 0x404, 0, 2);
+    put_dev(m, base + 0x402, 1, 2);
+}
+
+/* A guest whose devices need memory for a step: an entropy device that fills a chain of many descriptors, and a console that sends
+ * the text of one. */
+static void run_guest(vmig_machine *m)
+{
+    uint32_t len, accepted;
+
+    ready(m, ENTROPY, 0, 0x1000);
+    chain(m, 0x1000, LONG_CHAIN, WRITABLE);
+    expect("input", CALL(vmig_input(m, ENTROPY, (const uint8_t *)"entropy", 7, &accepted)), VMIG_OK);
+    write_dev(m, ENTROPY, 0x050, 0);
+    CALL_AGAIN("a long chain", vmig_step(m, ENTROPY, 0, sent, sizeof sent, &len), VMIG_COMPLETED);
+    expect("its length", len, LONG_CHAIN);
+    ready(m, CONSOLE, 1, 0x2000);
+    chain(m, 0x2000, LONG_CHAIN, 0);
+    write_dev(m, CONSOLE, 0x050, 1);
+    CALL_AGAIN("a message", vmig_step(m, CONSOLE, 1, sent, sizeof sent, &len), VMIG_SENT);
+    expect("its length", len, LONG_CHAIN);
+    expect("the guest's text", (uint64_t)memcmp(sent, "e", 1), 0);
+}
+
+/* One migration: begin, a copy, a round, a write of the guest, and the stop. Returns whether its stream failed. */
+static int migrate(vmig_machine *m)
+{
+    uint64_t pages, sectors;
+    uint32_t number;
+    uint8_t dev;
+
+    CALL_AGAIN("begin", vmig_begin(m), VMIG_OK);
+    while (CALL(vmig_copy(m, &dev, &number)) == VMIG_PAGE || answer == VMIG_SECTOR) continue;
+    if (answer == VMIG_WRITER_FAILED) return 1;
+    expect("the round is sent", answer, VMIG_ROUND_DONE);
+    put_dev(m, 0x9000, 0x77, 1);
+    if (CALL(vmig_end_round(m, &number)) == VMIG_WRITER_FAILED) return 1;
+    expect("a second round", answer, VMIG_OK);
+    if (CALL(vmig_stop(m, &pages, &sectors)) == VMIG_WRITER_FAILED) return 1;
+    expect("stop", answer, VMIG_OK);
+    expect("pages of the stop", pages, 1);
+    expect("sectors of the stop", sectors, 0);
+    return 0;
+}
+
+/* A failed migration says so until it is ended, and the guest goes on meanwhile. */
+static void give_up(vmig_machine *m)
+{
+    uint64_t pages, sectors;
+    uint32_t number;
+    uint8_t dev;
+
+    told++;
+    expect("copy after it", CALL(vmig_copy(m, &dev, &number)), VMIG_WRITER_FAILED);
+    expect("round after it", CALL(vmig_end_round(m, &number)), VMIG_WRITER_FAILED);
+    expect("stop after it", CALL(vmig_stop(m, &pages, &sectors)), VMIG_WRITER_FAILED);
+    put_dev(m, 0x9000, 0x11, 1);
+    expect("abort", CALL(vmig_abort(m)), VMIG_OK);
+}
+
+static size_t take_all(vmig_machine *m, uint8_t *stream)
+{
+    size_t len = 0, got = 1;
+
+    while (got != 0) {
+        expect("take", CALL(vmig_take(m, stream + len, STREAM_MAX - len, &got)), VMIG_OK);
+        len += got;
+    }
+    return len;
+}
+
+/* Feeds a stream in pieces. Returns whether memory was refused. */
+static int feed(vmig_machine *m, const uint8_t *stream, size_t len)
+{
+    for (size_t at = 0; at < len; at += 1000) {
+        size_t more = len - at < 1000 ? len - at : 1000;
+        if (CALL(vmig_feed(m, stream + at, more)) == VMIG_NO_MEMORY) { told++; CALL(vmig_feed(m, stream + at, more)); }
+        if (answer == VMIG_STREAM_NO_MEMORY) return 1;
+        expect("feed", answer, VMIG_OK);
+    }
+    if (CALL(vmig_finish(m)) == VMIG_STREAM_NO_MEMORY) return 1;
+    expect("finish", answer, VMIG_OK);
+    return 0;
+}
+
+/* A stream that was refused for want of memory stays refused: it is freed, and fed anew. */
+static void arrive(vmig_machine *m, const uint8_t *stream, size_t len)
+{
+    if (feed(m, stream, len) == 0) return;
+    told++;
+    expect("feed after it", CALL(vmig_feed(m, stream, 1)), VMIG_STREAM_FAILED);
+    expect("finish after it", CALL(vmig_finish(m)), VMIG_STREAM_FAILED);
+    CALL((vmig_free(m), 0));
+    expect("fed anew", (uint64_t)feed(m, stream, len), 0);
+}
+
+/* Both machines are saved alike. */
+static void alike(const char *what, vmig_machine *one, vmig_machine *other)
+{
+    static uint8_t first[STREAM_MAX], second[STREAM_MAX];
+    size_t len, len_other;
+
+    CALL_AGAIN(what, vmig_save(one, first, sizeof first, &len), VMIG_OK);
+    CALL_AGAIN(what, vmig_save(other, second, sizeof second, &len_other), VMIG_OK);
+    expect(what, len_other, len);
+    expect(what, (uint64_t)memcmp(first, second, len), 0);
+}
+
+/* The whole script, with one request refused. Returns how many requests there were. */
+static uint64_t play(uint64_t refused)
+{
+    static uint8_t stream[STREAM_MAX], images[8 * 512], mapped[8 * 512];
+    vmig_image slots[] = {{mapped, 8}};
+    vmig_machine m = VMIG_NONE, copy = VMIG_NONE, twin = VMIG_NONE, on_images = VMIG_NONE;
+    uint32_t rounds;
+
+    requests = 0, refused_one = refused, told = 0, given = 0;
+    CALL_AGAIN("make", vmig_make(PAGES, shapes, DEVICES, &m), VMIG_OK);
+    run_guest(&m);
+    if (migrate(&m)) {
+        give_up(&m);
+        expect("a second migration", (uint64_t)migrate(&m), 0);
+    }
+    size_t len = take_all(&m, stream);
+    arrive(&copy, stream, len);
+    if (CALL(vmig_receive(stream, len, &twin, &rounds)) == VMIG_NO_MEMORY) { told++; CALL(vmig_receive(stream, len, &twin, &rounds)); }
+    expect("receive", answer, VMIG_OK);
+    expect("rounds", rounds, 1);
+    expect("abort", CALL(vmig_abort(&m)), VMIG_OK);
+    alike("what arrived", &m, &copy);
+    alike("what was received", &m, &twin);
+    expect("the guest's last write", get(&copy, 0x9000, 1), 0x77);
+    CALL((vmig_free(&m), vmig_free(&copy), vmig_free(&twin), 0));
+    CALL_AGAIN("images", vmig_make_with(PAGES, shapes, DEVICES, images, sizeof images, &m), VMIG_OK);
+    CALL_AGAIN("mapped", vmig_make_mapped(PAGES, shapes, DEVICES, slots, 1, &on_images), VMIG_OK);
+    alike("both kinds of images", &m, &on_images);
+    expect("unmap", CALL(vmig_unmap(&on_images, slots, 1)), VMIG_OK);
+    expect("the image is back", (uint64_t)(slots[0].at == mapped), 1);
+    CALL((vmig_free(&m), 0));
+    expect("calls that were refused", (uint64_t)told, refused != 0 && refused <= requests);
+    expect("requests that are not freed", (uint64_t)given, 0);
+    return requests;
+}
+
+int main(void)
+{
+    uint64_t all = play(0);
+
+    for (uint64_t n = 1; n <= all; n++) {
+        play(n);
+        if (failures != 0) {
+            printf("request %llu of %llu was refused\n", (unsigned long long)n, (unsigned long long)all);
+            break;
+        }
+    }
+    printf("requests refused, one in turn: %llu\n", (unsigned long long)all);
+    return ended("refused_memory");
+}
