@@ -1,5 +1,5 @@
 -- A put that does not fit.
-use Rattle.std.proofs.Common.{◌≡◌, ◌<◌, ℕ, List, length, Option, Some, None, Result, sym, subst, ◌∙◌, arith}
+use Rattle.std.proofs.Common.{◌≡◌, ◌<◌, ℕ, List, length, Some, None, Result, subst, arith}
 use Rattle.std.specs.Prelude.{IsErr}
 use Rattle.vmig.specs.FaultWriter.{FaultWriterState, HasPart, IsPut}
 

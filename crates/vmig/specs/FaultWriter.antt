@@ -1,6 +1,5 @@
 -- A sink that fails according to a plan.
 use Rattle.std.specs.Prelude.{◌≡◌, ◌≤◌, ◌<◌, ℕ, ◌-◌, List, length, take, Bool, true, false, Option, Some, None, Result, IsErr}
-use Rattle.guestmem.specs.Failures.{counted}
 use Rattle.wire.specs.Sinks.{Appends, Flushes, SinkState}
 use Rattle.wire.specs.declared.sink.SinkFault.{SinkFault}
 

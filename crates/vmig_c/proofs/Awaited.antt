@@ -258,3 +258,7 @@ told_headless bytes rest Truncated none t = faulty_headless bytes rest Truncated
 told_headless bytes rest DiskFailed none t = faulty_headless bytes rest DiskFailed none t
 told_headless bytes rest NoMemory none t = tt
 told_headless bytes rest AlreadyFailed none t = faulty_headless bytes rest AlreadyFailed none t
+
+-- A result has one error.
+pub one_error : {A E : Type 0} (r : Result A E) (x y : E) → r ≡ Err x → r ≡ Err y → x ≡ y
+one_error {A = A} {E = E} r x y a b = let e : ◌≡◌ {A = Result A E} (Err x) (Err y) = sym a ∙ b in cc

@@ -79,18 +79,29 @@ impl Arrival {
         }
     }
 
-    /// Takes the next piece.
+    /// Takes the next piece. A receiver takes it where it lies.
     pub(crate) fn feed(&mut self, piece: &[u8]) -> Result<(), RecvError>
         ensures fed { IfOk result (λ x. IsFed self.old piece.now self.new) }
         ensures refused { IfErr result (λ e. TellsOf self.old piece.now e × (self.new ≡ refused_for_good)) }
     {
-        let before = mem::replace(&mut self.progress, Progress::Failed);
-        match go_on(self.alloc, before, piece) {
+        let alloc = self.alloc;
+        let next = match &mut self.progress {
+            Progress::Body(receiver) => match receiver.feed(piece) {
+                Ok(()) => return Ok(()),
+                Err(error) => Err(error),
+            },
+            Progress::Head(held) => take_head(alloc, mem::replace(held, Vec::new(alloc)), piece),
+            Progress::Failed => Err(RecvError::AlreadyFailed),
+        };
+        match next {
             Ok(progress) => {
                 self.progress = progress;
                 Ok(())
             }
-            Err(error) => Err(error),
+            Err(error) => {
+                self.progress = Progress::Failed;
+                Err(error)
+            }
         }
     }
 
@@ -119,22 +130,7 @@ impl Arrival {
     }
 }
 
-/// Takes the next piece.
-#[tactic(auto, using(crate::proofs::Awaited::head_fed, crate::proofs::Awaited::head_refused))]
-fn go_on(alloc: Global, progress: Progress, piece: &[u8]) -> Result<Progress, RecvError>
-    requires { IsComing progress }
-    ensures coming { IfOk result (λ next. IsComing next) }
-    ensures fed { IfOk result (λ next. IsFed (awaited_by progress) piece.now (awaited_by next)) }
-    ensures refused { IfErr result (λ e. TellsOf (awaited_by progress) piece.now e) }
-{
-    match progress {
-        Progress::Head(held) => take_head(alloc, held, piece),
-        Progress::Body(receiver) => take_body(receiver, piece),
-        Progress::Failed => Err(RecvError::AlreadyFailed),
-    }
-}
-
-/// Takes the next piece of a stream whose header was read.
+/// Takes the rest of a piece behind the header.
 fn take_body(receiver: Receiver<MemDisk>, piece: &[u8]) -> Result<Progress, RecvError>
     requires { AreSteady receiver }
     ensures coming { IfOk result (λ next. IsComing next) }

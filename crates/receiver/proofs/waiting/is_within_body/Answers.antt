@@ -1,4 +1,4 @@
-use Rattle.std.proofs.Common.{arith, rules, ◌≡◌, ◌<◌, ◌≤◌, ◌+◌, length}
+use Rattle.std.proofs.Common.{arith, rules, ◌<◌, ◌≤◌, ◌+◌, length}
 use Rattle.guestmem.specs.ByteLaws.{IsBytes-append}
 use Rattle.wire.specs.RecordHeads.{body_len, spelled_head}
 use Rattle.receiver.specs.Waiting.{ReadsRecords}

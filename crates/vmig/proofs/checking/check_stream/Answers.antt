@@ -1,9 +1,8 @@
-use Rattle.std.proofs.Common.{◌≡◌, ◌/◌, inl, inr, length, None, refl, rules, subst, sym}
+use Rattle.std.proofs.Common.{◌≡◌, ◌/◌, length, rules, subst, sym}
 use Rattle.std.proofs.lemmas.Result.{err_from_is_err_and}
 use Rattle.std.proofs.lemmas.List.{length-map}
 use Rattle.guestmem.specs.declared.limits.TheConstants.{PAGE_SIZE}
 use Rattle.machine.specs.Seen.{state_of}
-use Rattle.traces.specs.Replies.{checked_line}
 use Rattle.vmig.specs.Checking.{IsStreamLine, TellsOfStream}
 use Rattle.vmig.specs.Output.{FailsOnFile, Silently}
 use Rattle.vmig.specs.declared.fault.Fault.{Fault}

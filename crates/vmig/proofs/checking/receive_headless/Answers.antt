@@ -1,6 +1,6 @@
 use Rattle.std.proofs.Common.{inr, length, map, refl}
 use Rattle.std.proofs.lemmas.Result.{err_from_is_err_and}
-use Rattle.vmig.proofs.MemoryDisks.{honest_disks, refused_steadily}
+use Rattle.vmig.proofs.MemoryDisks.{refused_steadily}
 use Rattle.vmig.proofs.checking.receive_headless.Goals as goal
 
 pub returns-in_err-received-clause-failed : goal.returns-in_err-received-clause-failed

@@ -1,10 +1,10 @@
-use Rattle.std.proofs.Common.{◌≡◌, ◌++◌, drop, inr, take, rules}
+use Rattle.std.proofs.Common.{◌≡◌, ◌++◌, drop, take, rules}
 use Rattle.std.proofs.lemmas.Result.{IfErr-weaker, IfOk-weaker}
 use Rattle.machine.specs.Seen.{state_of}
 use Rattle.wire.specs.Header.{Begins}
 use Rattle.vmig.proofs.Checked.{rest_told}
 use Rattle.vmig.proofs.MemoryDisks.{honest_disks}
-use Rattle.vmig.specs.Checking.{HasCome, TellsOfChecked, TellsOfStream}
+use Rattle.vmig.specs.Checking.{HasCome, TellsOfChecked}
 use Rattle.vmig.proofs.checking.receive_in_memory.Goals as goal
 
 pub returns-in_ok-disks-in-Some-clause-received : goal.returns-in_ok-disks-in-Some-clause-received
