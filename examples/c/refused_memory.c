@@ -1,5 +1,5 @@
-/* Each request for memory is refused once, at each place: in a script that makes every call which takes memory, the n-th request
- * gets null, for every n. What is refused says so, nothing is lost by it, and the host goes on as the header says: it makes the
+/* Each request for memory is refused once, at each place: in a script that makes every call of the library, the n-th request gets
+ * null, for every n. What is refused says so, nothing is lost by it, and the host goes on as the header says: it makes the
  * call again; or ends a migration that failed, and begins another; or frees what arrived in part, and feeds the stream anew. All
  * that was given is freed in the end. The requests are counted by a malloc of its own, before the C library's. */
 #include <stdlib.h>
@@ -126,6 +126,7 @@ static void chain(vmig_machine *m, uint32_t base, uint32_t count, uint32_t flags
 static void run_guest(vmig_machine *m)
 {
     uint32_t len, accepted;
+    uint8_t dev = 0, pick = 0;
 
     ready(m, ENTROPY, 0, 0x1000);
     chain(m, 0x1000, LONG_CHAIN, WRITABLE);
@@ -139,6 +140,36 @@ static void run_guest(vmig_machine *m)
     CALL_AGAIN("a message", vmig_step(m, CONSOLE, 1, sent, sizeof sent, &len), VMIG_SENT);
     expect("its length", len, LONG_CHAIN);
     expect("the guest's text", (uint64_t)memcmp(sent, "e", 1), 0);
+    while (CALL(vmig_next_work(m, &dev, &pick)) == VMIG_WORK) {
+        expect("a queue that is empty", CALL(vmig_step(m, dev, pick, sent, sizeof sent, &len)), VMIG_IDLE);
+    }
+}
+
+/* The calls that take no memory make no request for it. */
+static void look(vmig_machine *m, int moves)
+{
+    static uint8_t ram[PAGES * PAGE], sector[512];
+    static uint64_t seen[PAGES];
+    static const uint32_t pages[] = {3, 5};
+    uint64_t before = requests, due, dirty;
+    uint32_t value, count;
+    uint8_t dev = 0, pick = 0;
+    size_t len;
+
+    for (size_t i = 0; i < PAGES; i++) seen[i] = VMIG_UNSEEN;
+    expect("a register", CALL(vmig_reg_read(m, ENTROPY, 0, 4, &value)), VMIG_OK);
+    expect("its value", value, 0x74726976);
+    expect("size of the console", CALL(vmig_resize(m, CONSOLE, 100, 40)), VMIG_OK);
+    expect("no work", CALL(vmig_next_work(m, &dev, &pick)), VMIG_IDLE);
+    expect("pages out", CALL(vmig_pull(m, ram, sizeof ram, seen, PAGES, &count)), VMIG_OK);
+    expect("all of them", count, PAGES);
+    expect("pages in", CALL(vmig_push(m, pages, 2, ram, sizeof ram, seen, PAGES)), VMIG_OK);
+    expect("RAM", CALL(vmig_ram_read(m, 0x8000, sector, 1)), VMIG_OK);
+    expect("lines", CALL(vmig_lines(m)) & 1u << ENTROPY, 1u << ENTROPY);
+    expect("remaining", CALL(vmig_remaining(m, &due, &dirty)), moves ? VMIG_OK : VMIG_NOT_BEGUN);
+    expect("a sector", CALL(vmig_sector_read(m, 0, 0, sector, sizeof sector)), moves ? VMIG_MOVING : VMIG_OK);
+    expect("length of a save", CALL(vmig_saved_len(m, &len)), moves ? VMIG_MOVING : VMIG_OK);
+    expect("requests for memory", requests, before);
 }
 
 /* One migration: begin, a copy, a round, a write of the guest, and the stop. Returns whether its stream failed. */
@@ -149,6 +180,7 @@ static int migrate(vmig_machine *m)
     uint8_t dev;
 
     CALL_AGAIN("begin", vmig_begin(m), VMIG_OK);
+    look(m, 1);
     while (CALL(vmig_copy(m, &dev, &number)) == VMIG_PAGE || answer == VMIG_SECTOR) continue;
     if (answer == VMIG_WRITER_FAILED) return 1;
     expect("the round is sent", answer, VMIG_ROUND_DONE);
@@ -191,11 +223,14 @@ static size_t take_all(vmig_machine *m, uint8_t *stream)
 /* Feeds a stream in pieces. Returns whether memory was refused. */
 static int feed(vmig_machine *m, const uint8_t *stream, size_t len)
 {
+    uint32_t rounds;
+
     for (size_t at = 0; at < len; at += 1000) {
         size_t more = len - at < 1000 ? len - at : 1000;
         if (CALL(vmig_feed(m, stream + at, more)) == VMIG_NO_MEMORY) { told++; CALL(vmig_feed(m, stream + at, more)); }
         if (answer == VMIG_STREAM_NO_MEMORY) return 1;
         expect("feed", answer, VMIG_OK);
+        expect("rounds so far", CALL(vmig_rounds(m, &rounds)), VMIG_OK);
     }
     if (CALL(vmig_finish(m)) == VMIG_STREAM_NO_MEMORY) return 1;
     expect("finish", answer, VMIG_OK);
@@ -236,6 +271,7 @@ static uint64_t play(uint64_t refused)
     requests = 0, refused_one = refused, told = 0, given = 0;
     CALL_AGAIN("make", vmig_make(PAGES, shapes, DEVICES, &m), VMIG_OK);
     run_guest(&m);
+    look(&m, 0);
     if (migrate(&m)) {
         give_up(&m);
         expect("a second migration", (uint64_t)migrate(&m), 0);
