@@ -61,8 +61,8 @@ fn fresh_machine(alloc: Global, trace: &Trace) -> Result<Machine<TestDisk>> {
 fn stream_of(alloc: Global, trace: &Trace) -> Result<Vec<u8>> {
     let machine = fresh_machine(alloc, trace)?;
     let writer = WriteSink::new(Vec::new(alloc));
-    let events = trace.events.as_slice();
-    let (_, writer) = serve(alloc, Way::Calls, machine, &events[..4], writer)?;
+    let events = trace.events.as_slice().get(..4).context("no stop")?;
+    let (_, writer) = serve(alloc, Way::Calls, machine, events, writer)?;
     Ok(writer.into_inner())
 }
 
@@ -83,10 +83,8 @@ fn fails_at(
     let told = lines_of(alloc, served.replies.as_slice())?;
     let expected = lines_for(alloc, take)?;
     ensure!(told == expected, "other replies after {take} bytes");
-    ensure!(
-        place[..take] == stream[..take],
-        "other bytes after {take} bytes"
-    );
+    let taken = place.get(..take).context("no room")?;
+    ensure!(stream.starts_with(taken), "other bytes after {take} bytes");
     arrives_again(alloc, served.machine)
 }
 
