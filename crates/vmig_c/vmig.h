@@ -44,10 +44,10 @@
  *
  * A MACHINE IS SENT WHILE IT RUNS: vmig_begin, then vmig_copy until VMIG_ROUND_DONE and vmig_end_round, as often as you like,
  * then vmig_stop. The guest is served as before between these: all other calls are allowed, but for vmig_save,
- * vmig_saved_len and vmig_sector_read. The bytes that are written wait inside, and vmig_take hands them out when you like. After vmig_stop the
- * bytes taken, in their order, are one stream. After vmig_stop the guest is paused for good: its events are refused with
- * VMIG_STOPPED, and RAM and the lines can be read, until vmig_abort or vmig_free. After vmig_abort the machine continues as
- * one that was never sent.
+ * vmig_saved_len and vmig_sector_read. The bytes that are written wait inside, and vmig_take hands them out when you like.
+ * After vmig_stop the bytes taken, in their order, are one stream. From then on the guest is paused for good: its events are
+ * refused with VMIG_STOPPED, and RAM and the lines can be read, until vmig_abort or vmig_free. After vmig_abort the machine
+ * continues as one that was never sent.
  *
  * A MACHINE ARRIVES: vmig_feed on a handle of no machine, with the bytes of the stream in any pieces, as they come over the
  * wire, and vmig_finish after the last; or vmig_receive with all of them at once. Until vmig_finish the handle has no machine
@@ -77,7 +77,7 @@
 extern "C" {
 #endif
 
-/* The version of this library. */
+/* The version of this library. The streams that it writes are of version 2; it reads those of versions 1 and 2. */
 #define VMIG_VERSION "0.9.0"
 #define VMIG_VERSION_MAJOR 0
 #define VMIG_VERSION_MINOR 9
@@ -130,7 +130,7 @@ enum {
 
     /* vmig_receive, vmig_feed or vmig_finish refuses the stream: 32 and the number of its first fault. */
     VMIG_STREAM_BAD_MAGIC = 33,      /* it does not begin with "VMIG" */
-    VMIG_STREAM_BAD_VERSION = 34,    /* a stream of another version */
+    VMIG_STREAM_BAD_VERSION = 34,    /* a stream whose version is neither 1 nor 2 */
     VMIG_STREAM_BAD_SHAPE = 35,      /* the machine that it encodes is beyond the limits */
     VMIG_STREAM_BAD_TAG = 37,        /* a tag that may not come there */
     VMIG_STREAM_BAD_PAGE = 38,       /* there is no such page */
@@ -314,7 +314,8 @@ uint16_t vmig_lines(vmig_machine *machine);
 uint32_t vmig_sector_read(vmig_machine *machine, uint8_t dev, uint64_t sector, uint8_t *buf, size_t size);
 
 /* *len is the length in bytes of the stream that vmig_save makes of the machine as it is: the size of the buffer that it needs.
- * No stream is made, and no memory is taken. The machine is as it was.
+ * It looks at each page of RAM once, since a page of zeros takes 5 bytes of a stream and another 4,101. No stream is made, and no
+ * memory is taken. The machine is as it was.
  * VMIG_NO_MACHINE, VMIG_MOVING. */
 uint32_t vmig_saved_len(vmig_machine *machine, size_t *len);
 

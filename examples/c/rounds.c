@@ -231,6 +231,13 @@ static void send_last(vmig_machine *m, uint8_t dev, uint64_t sector)
     tell("copy of the last sector of all, after a page at the front", last);
 }
 
+/* Makes each page one that is sent with its bytes: the last of them is not 0. */
+static void fill(vmig_machine *m, uint32_t pages)
+{
+    for (uint64_t page = 0; page < pages; page++)
+        expect("write", vmig_ram_write(m, page * PAGE + PAGE - 1, (const uint8_t *)"!", 1), VMIG_OK);
+}
+
 static void move(vmig_machine *m, uint32_t pages, uint64_t disks, uint64_t sectors)
 {
     uint64_t sent_pages = 77, sent_sectors = 77, begun = now();
@@ -274,6 +281,7 @@ int main(int argc, char **argv)
     plain_list(pages + disks * sectors);
     plain_copies(pages);
     expect("make", vmig_make_mapped(pages, shapes, disks > 0 ? disks : 1, images, disks, &m), VMIG_OK);
+    fill(&m, pages);
     if (disks == 0 || !is_long) save_whole(&m, pages);
     move(&m, pages, disks, sectors);
     vmig_free(&m);

@@ -17,7 +17,8 @@ static void append(const void *bytes, size_t len)
     stream_len += len;
 }
 
-/* A machine of one page of zeros and a disk of one sector, which is bad. The digest was computed by another program. */
+/* The stream, in version 1, of a machine of one page of zeros and a disk of one sector, which is bad. The digest was computed by
+ * another program. */
 static void spell_bad_sector(void)
 {
     static const uint8_t front[] = {'V', 'M', 'I', 'G', 1, 0, 0, 0, 1, 0, 0, 0, 1, 0, 0, 0, 2, 1};
@@ -74,7 +75,8 @@ static void streams(void)
     expect("receive", vmig_receive(stream, stream_len, &m, &rounds), VMIG_OK);
     expect("a bad sector", vmig_sector_read(&m, 0, 0, buf, sizeof buf), VMIG_BAD_SECTOR);
     expect("length with a bad sector", vmig_saved_len(&m, &len), VMIG_OK);
-    expect("as that of its stream", len, stream_len);
+    /* The stream above is of version 1. In version 2 a page of zeros has 5 bytes. */
+    expect("as that of its stream in version 2", len, stream_len - PAGE_LEN + 5);
     expect("no input", vmig_input(&m, 0, buf, 1, &kept), VMIG_WRONG_KIND);
     vmig_free(&m);
 }

@@ -1,8 +1,8 @@
 -- A request that ends.
-use Rattle.std.proofs.Common.{◌≡◌, ℕ, List, set, Bool, true, false, Some, None, slice_get, take, drop, suc, refl, sym, ap, ◌∙◌, append-nil}
+use Rattle.std.proofs.Common.{◌≡◌, ℕ, List, set, Bool, true, false, Some, None, [], slice_get, take, drop, suc, refl, ap, ◌∙◌, append-nil}
 use Rattle.std.proofs.lemmas.List.Elements.{All-append, All-take, All-drop}
 use Rattle.std.specs.List.{remove, All}
-use Rattle.guestmem.specs.Item.{Item, after_all}
+use Rattle.guestmem.specs.Item.{Item}
 use Rattle.guestmem.specs.Writes.{set_all, touched}
 use Rattle.chains.specs.State.{RingState}
 use Rattle.chains.specs.Publish.{is_interrupt_due, after_publish}
@@ -16,11 +16,11 @@ use Rattle.blk.specs.declared.advancing.Advanced.{Advanced}
 use Rattle.blk.specs.declared.advancing.Advanced.TheVariants.{Completed, Idle}
 use Rattle.blk.proofs.Given.{given_itself, none_set}
 
-pub ended : {L : Type 0} (after : L → Item → L) (honest : Bool) (device : ℕ) (shape : BlockShape) (ram new_ram : List ℕ) (content : List Sector) (log new_log : L) (q new_q : RingState) (requests new_requests : List Request) (k : ℕ) (is_fine : Bool) (r : Request) (answer : Advanced)
+pub ended : (touches : List Item → Type 0) (honest : Bool) (device : ℕ) (shape : BlockShape) (ram new_ram : List ℕ) (content : List Sector) (q new_q : RingState) (requests new_requests : List Request) (k : ℕ) (is_fine : Bool) (r : Request) (answer : Advanced)
     → slice_get requests k ≡ Some r → is_open r ≡ false → AreWhole content
-    → answer ≡ Completed (used_len r) (is_interrupt_due q r.slots (set_all ram (end_writes q r))) → new_ram ≡ set_all ram (end_writes q r) → new_q ≡ after_publish q r.slots → new_requests ≡ remove requests k → new_log ≡ after_all after log (touched (end_writes q r))
-    → IsAfterAdvancing after honest device ram content log (λ given. advance_step shape ram q given requests k is_fine) answer new_ram new_q content new_requests new_log
-ended after honest device shape ram new_ram content log new_log q new_q requests new_requests k is_fine r answer found shut whole answer_is ram_is ring_is requests_are log_is = record {
+    → answer ≡ Completed (used_len r) (is_interrupt_due q r.slots (set_all ram (end_writes q r))) → new_ram ≡ set_all ram (end_writes q r) → new_q ≡ after_publish q r.slots → new_requests ≡ remove requests k → touches (touched (end_writes q r))
+    → IsAfterAdvancing touches honest device ram content (λ given. advance_step shape ram q given requests k is_fine) answer new_ram new_q content new_requests
+ended touches honest device shape ram new_ram content q new_q requests new_requests k is_fine r answer found shut whole answer_is ram_is ring_is requests_are items_are = record {
   given = content;
   is_given = given_itself honest content whole;
   answer_is = rw (found, shut) answer_is;
@@ -28,15 +28,15 @@ ended after honest device shape ram new_ram content log new_log q new_q requests
   ring_is = rw (found, shut) ring_is;
   content_is = rw (found, shut) (none_set honest content content refl);
   requests_are = rw (found, shut) requests_are;
-  log_is = rw (found, shut) (log_is ∙ ap (after_all after log) (sym (append-nil (touched (end_writes q r)))));
+  items_are = rw (found, shut, append-nil) items_are;
 }
 
 -- A request that goes on by one unit.
-pub went_on : {L : Type 0} (after : L → Item → L) (honest : Bool) (device : ℕ) (shape : BlockShape) (ram new_ram : List ℕ) (content new_content : List Sector) (log new_log : L) (q new_q : RingState) (requests new_requests : List Request) (k : ℕ) (is_fine : Bool) (r new : Request) (answer : Advanced)
-    → slice_get requests k ≡ Some r → is_open r ≡ true → IsMoved after honest device ram content log (λ given. move_of r.kind shape.id ram given r is_fine) answer new new_ram new_content new_log
+pub went_on : (touches : List Item → Type 0) (honest : Bool) (device : ℕ) (shape : BlockShape) (ram new_ram : List ℕ) (content new_content : List Sector) (q new_q : RingState) (requests new_requests : List Request) (k : ℕ) (is_fine : Bool) (r new : Request) (answer : Advanced)
+    → slice_get requests k ≡ Some r → is_open r ≡ true → IsMoved touches honest device ram content (λ given. move_of r.kind shape.id ram given r is_fine) answer new new_ram new_content
     → new_q ≡ q → new_requests ≡ set requests k new
-    → IsAfterAdvancing after honest device ram content log (λ given. advance_step shape ram q given requests k is_fine) answer new_ram new_q new_content new_requests new_log
-went_on after honest device shape ram new_ram content new_content log new_log q new_q requests new_requests k is_fine r new answer found some h ring_is requests_are = record {
+    → IsAfterAdvancing touches honest device ram content (λ given. advance_step shape ram q given requests k is_fine) answer new_ram new_q new_content new_requests
+went_on touches honest device shape ram new_ram content new_content q new_q requests new_requests k is_fine r new answer found some h ring_is requests_are = record {
   given = h.given;
   is_given = h.is_given;
   answer_is = rw (found, some) h.answer_is;
@@ -44,14 +44,14 @@ went_on after honest device shape ram new_ram content new_content log new_log q 
   ring_is = rw (found, some) ring_is;
   content_is = rw (found, some) h.content_is;
   requests_are = rw (found, some) (requests_are ∙ ap (set requests k) h.request_is);
-  log_is = rw (found, some) h.log_is;
+  items_are = rw (found, some) h.items_are;
 }
 
 -- There is no such request.
-pub stayed : {L : Type 0} (after : L → Item → L) (honest : Bool) (device : ℕ) (shape : BlockShape) (ram : List ℕ) (content : List Sector) (log : L) (q : RingState) (requests : List Request) (k : ℕ) (is_fine : Bool)
-    → slice_get requests k ≡ None → AreWhole content
-    → IsAfterAdvancing after honest device ram content log (λ given. advance_step shape ram q given requests k is_fine) Idle ram q content requests log
-stayed after honest device shape ram content log q requests k is_fine none whole = record {
+pub stayed : (touches : List Item → Type 0) (honest : Bool) (device : ℕ) (shape : BlockShape) (ram : List ℕ) (content : List Sector) (q : RingState) (requests : List Request) (k : ℕ) (is_fine : Bool)
+    → slice_get requests k ≡ None → AreWhole content → touches []
+    → IsAfterAdvancing touches honest device ram content (λ given. advance_step shape ram q given requests k is_fine) Idle ram q content requests
+stayed touches honest device shape ram content q requests k is_fine none whole untouched = record {
   given = content;
   is_given = given_itself honest content whole;
   answer_is = rw none refl;
@@ -59,7 +59,7 @@ stayed after honest device shape ram content log q requests k is_fine none whole
   ring_is = rw none refl;
   content_is = rw none (none_set honest content content refl);
   requests_are = rw none refl;
-  log_is = rw none refl;
+  items_are = rw none untouched;
 }
 
 -- What holds of each holds of those that are left.

@@ -1,11 +1,11 @@
 -- One unit of a request, with the sectors as the disk gave them.
-use Rattle.std.proofs.Common.{◌≡◌, ◌<◌, ◌*◌, ℕ, List, [], length, map, set, get_or, take, drop, Bool, true, false, Some, None, refl, sym, ap, append-nil}
+use Rattle.std.proofs.Common.{◌≡◌, ◌<◌, ◌*◌, ℕ, List, [], ◌∷◌, length, map, set, get_or, take, drop, Bool, true, false, Some, None, refl, sym, ap, append-nil}
 use Rattle.std.specs.Prelude.{IsTrue}
 use Rattle.std.proofs.lemmas.Bool.{true≢false}
 use Rattle.std.proofs.lemmas.List.{get_or-set_same, set-get_or}
 use Rattle.std.proofs.lemmas.List.Elements.{All-set}
 use Rattle.std.proofs.Math.Seq.{map-set_same}
-use Rattle.guestmem.specs.Item.{Item, after_all, sector}
+use Rattle.guestmem.specs.Item.{Item, sector}
 use Rattle.guestmem.specs.Writes.{set_all, touched}
 use Rattle.chains.specs.Places.{places, place_writes}
 use Rattle.blk.specs.Disk.{IsSector}
@@ -44,12 +44,12 @@ pub none_set : (honest : Bool) (content new_content : List Sector) → new_conte
 none_set honest content new_content same = record { bad = ap (map is_bad) same; unwritten = λ _. same; is = λ _. same }
 
 -- A sector that was read goes to the writable places of its unit.
-pub read_in : {L : Type 0} (after : L → Item → L) (honest : Bool) (device : ℕ) (ram : List ℕ) (content : List Sector) (log : L) (r : Request) (bytes : List ℕ) (new_ram : List ℕ) (new_content : List Sector) (new_log : L)
+pub read_in : (touches : List Item → Type 0) (honest : Bool) (device : ℕ) (ram : List ℕ) (content : List Sector) (r : Request) (bytes : List ℕ) (new_ram : List ℕ) (new_content : List Sector)
     → next_sector r < length content → AreWhole content → IsSector bytes → is_bad (sector_in content (next_sector r)) ≡ false → (IsTrue honest → bytes ≡ bytes_of (sector_in content (next_sector r)))
     → new_ram ≡ set_all ram (place_writes (take SECTOR_SIZE (drop (SECTOR_SIZE * r.done) (places r.writable))) bytes) → new_content ≡ content
-    → new_log ≡ after_all after log (touched (place_writes (take SECTOR_SIZE (drop (SECTOR_SIZE * r.done) (places r.writable))) bytes))
-    → IsMoved after honest device ram content log (λ given. move_in given r true) Moved (one_done r) new_ram new_content new_log
-read_in after honest device ram content log r bytes new_ram new_content new_log below whole fits good is ram_is same log_is =
+    → touches (touched (place_writes (take SECTOR_SIZE (drop (SECTOR_SIZE * r.done) (places r.writable))) bytes))
+    → IsMoved touches honest device ram content (λ given. move_in given r true) Moved (one_done r) new_ram new_content
+read_in touches honest device ram content r bytes new_ram new_content below whole fits good is ram_is same items_are =
     let there : get_or (set content (next_sector r) (Some bytes)) (next_sector r) None ≡ Some bytes = get_or-set_same content (next_sector r) (Some bytes) None below in
     record {
       given = set content (next_sector r) (Some bytes);
@@ -58,61 +58,61 @@ read_in after honest device ram content log r bytes new_ram new_content new_log 
       request_is = rw there refl;
       ram_is = rw there ram_is;
       content_is = rw there (none_set honest content new_content same);
-      log_is = rw (there, append-nil) log_is;
+      items_are = rw (there, append-nil) items_are;
     }
 
 -- The disk was flushed, or failed.
-by_flush : {L : Type 0} (after : L → Item → L) (honest : Bool) (device : ℕ) (ram : List ℕ) (content : List Sector) (log : L) (r : Request) (is_fine : Bool) (answer : Advanced) (new_request : Request) (new_content : List Sector)
-    → AreWhole content → answer ≡ (move_flush r is_fine).answer → new_request ≡ (move_flush r is_fine).request → new_content ≡ content
-    → IsMoved after honest device ram content log (λ given. move_flush r is_fine) answer new_request ram new_content log
-by_flush after honest device ram content log r true answer new_request new_content whole answer_is request_is same =
-    record { given = content; is_given = given_itself honest content whole; answer_is = answer_is; request_is = request_is; ram_is = refl; content_is = none_set honest content new_content same; log_is = refl }
-by_flush after honest device ram content log r false answer new_request new_content whole answer_is request_is same =
-    record { given = content; is_given = given_itself honest content whole; answer_is = answer_is; request_is = request_is; ram_is = refl; content_is = none_set honest content new_content same; log_is = refl }
+by_flush : (touches : List Item → Type 0) (honest : Bool) (device : ℕ) (ram : List ℕ) (content : List Sector) (r : Request) (is_fine : Bool) (answer : Advanced) (new_request : Request) (new_content : List Sector)
+    → AreWhole content → answer ≡ (move_flush r is_fine).answer → new_request ≡ (move_flush r is_fine).request → new_content ≡ content → touches []
+    → IsMoved touches honest device ram content (λ given. move_flush r is_fine) answer new_request ram new_content
+by_flush touches honest device ram content r true answer new_request new_content whole answer_is request_is same none =
+    record { given = content; is_given = given_itself honest content whole; answer_is = answer_is; request_is = request_is; ram_is = refl; content_is = none_set honest content new_content same; items_are = none }
+by_flush touches honest device ram content r false answer new_request new_content whole answer_is request_is same none =
+    record { given = content; is_given = given_itself honest content whole; answer_is = answer_is; request_is = request_is; ram_is = refl; content_is = none_set honest content new_content same; items_are = none }
 
-pub flushed : {L : Type 0} (after : L → Item → L) (honest : Bool) (device : ℕ) (kind : Kind) (id ram : List ℕ) (content : List Sector) (log : L) (r : Request) (is_fine : Bool) (answer : Advanced) (new_request : Request) (new_content : List Sector)
-    → kind ≡ Flush → AreWhole content → answer ≡ (move_flush r is_fine).answer → new_request ≡ (move_flush r is_fine).request → new_content ≡ content
-    → IsMoved after honest device ram content log (λ given. move_of kind id ram given r is_fine) answer new_request ram new_content log
-flushed after honest device kind id ram content log r is_fine answer new_request new_content is whole answer_is request_is same =
-    rw is (by_flush after honest device ram content log r is_fine answer new_request new_content whole answer_is request_is same)
+pub flushed : (touches : List Item → Type 0) (honest : Bool) (device : ℕ) (kind : Kind) (id ram : List ℕ) (content : List Sector) (r : Request) (is_fine : Bool) (answer : Advanced) (new_request : Request) (new_content : List Sector)
+    → kind ≡ Flush → AreWhole content → answer ≡ (move_flush r is_fine).answer → new_request ≡ (move_flush r is_fine).request → new_content ≡ content → touches []
+    → IsMoved touches honest device ram content (λ given. move_of kind id ram given r is_fine) answer new_request ram new_content
+flushed touches honest device kind id ram content r is_fine answer new_request new_content is whole answer_is request_is same none =
+    rw is (by_flush touches honest device ram content r is_fine answer new_request new_content whole answer_is request_is same none)
 
 -- The id of the device was read.
-pub id_read : {L : Type 0} (after : L → Item → L) (honest : Bool) (device : ℕ) (kind : Kind) (id ram : List ℕ) (content : List Sector) (log : L) (r : Request) (is_fine : Bool) (answer : Advanced) (new_request : Request) (new_ram : List ℕ) (new_log : L)
-    → kind ≡ GetId → AreWhole content → answer ≡ Moved → new_request ≡ (move_id id r).request → new_ram ≡ set_all ram (move_id id r).writes → new_log ≡ after_all after log (touched (move_id id r).writes)
-    → IsMoved after honest device ram content log (λ given. move_of kind id ram given r is_fine) answer new_request new_ram content new_log
-id_read after honest device kind id ram content log r is_fine answer new_request new_ram new_log is whole answer_is request_is ram_is log_is = rw is (record {
+pub id_read : (touches : List Item → Type 0) (honest : Bool) (device : ℕ) (kind : Kind) (id ram : List ℕ) (content : List Sector) (r : Request) (is_fine : Bool) (answer : Advanced) (new_request : Request) (new_ram : List ℕ)
+    → kind ≡ GetId → AreWhole content → answer ≡ Moved → new_request ≡ (move_id id r).request → new_ram ≡ set_all ram (move_id id r).writes → touches (touched (move_id id r).writes)
+    → IsMoved touches honest device ram content (λ given. move_of kind id ram given r is_fine) answer new_request new_ram content
+id_read touches honest device kind id ram content r is_fine answer new_request new_ram is whole answer_is request_is ram_is items_are = rw is (record {
   given = content;
   is_given = given_itself honest content whole;
   answer_is = answer_is;
   request_is = request_is;
   ram_is = ram_is;
   content_is = none_set honest content content refl;
-  log_is = rw append-nil log_is;
+  items_are = rw append-nil items_are;
 })
 
 -- A sector was written, or became bad.
-pub wrote : {L : Type 0} (after : L → Item → L) (honest : Bool) (device : ℕ) (ram : List ℕ) (content : List Sector) (log : L) (r : Request) (new_content : List Sector) (new_log : L)
-    → AreWhole content → map is_bad new_content ≡ map is_bad (set content (next_sector r) (Some (unit_bytes ram r))) → (IsTrue honest → new_content ≡ set content (next_sector r) (Some (unit_bytes ram r))) → new_log ≡ after log (sector device (next_sector r))
-    → IsMoved after honest device ram content log (λ given. move_out ram r true) Moved (one_done r) ram new_content new_log
-wrote after honest device ram content log r new_content new_log whole marks is log_is = record {
+pub wrote : (touches : List Item → Type 0) (honest : Bool) (device : ℕ) (ram : List ℕ) (content : List Sector) (r : Request) (new_content : List Sector)
+    → AreWhole content → map is_bad new_content ≡ map is_bad (set content (next_sector r) (Some (unit_bytes ram r))) → (IsTrue honest → new_content ≡ set content (next_sector r) (Some (unit_bytes ram r))) → touches (sector device (next_sector r) ∷ [])
+    → IsMoved touches honest device ram content (λ given. move_out ram r true) Moved (one_done r) ram new_content
+wrote touches honest device ram content r new_content whole marks is items_are = record {
   given = content;
   is_given = given_itself honest content whole;
   answer_is = refl;
   request_is = refl;
   ram_is = refl;
   content_is = record { bad = marks; unwritten = λ bad. absurd (true≢false (sym bad.0)); is = is };
-  log_is = log_is;
+  items_are = items_are;
 }
 
-pub wrote_none : {L : Type 0} (after : L → Item → L) (honest : Bool) (device : ℕ) (ram : List ℕ) (content : List Sector) (log : L) (r : Request) (new_content : List Sector) (new_log : L)
-    → AreWhole content → new_content ≡ set content (next_sector r) None → new_log ≡ after log (sector device (next_sector r))
-    → IsMoved after honest device ram content log (λ given. move_out ram r false) DiskFailed (failed r) ram new_content new_log
-wrote_none after honest device ram content log r new_content new_log whole is log_is = record {
+pub wrote_none : (touches : List Item → Type 0) (honest : Bool) (device : ℕ) (ram : List ℕ) (content : List Sector) (r : Request) (new_content : List Sector)
+    → AreWhole content → new_content ≡ set content (next_sector r) None → touches (sector device (next_sector r) ∷ [])
+    → IsMoved touches honest device ram content (λ given. move_out ram r false) DiskFailed (failed r) ram new_content
+wrote_none touches honest device ram content r new_content whole is items_are = record {
   given = content;
   is_given = given_itself honest content whole;
   answer_is = refl;
   request_is = refl;
   ram_is = refl;
   content_is = record { bad = ap (map is_bad) is; unwritten = λ _. is; is = λ _. is };
-  log_is = log_is;
+  items_are = items_are;
 }

@@ -1,7 +1,7 @@
 -- The step that advances a request, or ends it (VIRTIO 1.2, 5.2.6).
 use Rattle.std.specs.Prelude.{◌≡◌, ℕ, ◌+◌, ◌-◌, ◌*◌, ◌==◌, Bool, IsTrue, true, List, [], ◌∷◌, ◌++◌, take, drop, length, slice_set, slice_get, Option, Some, None, if◌then◌else◌}
 use Rattle.std.specs.List.{remove}
-use Rattle.guestmem.specs.Item.{Item, after_all}
+use Rattle.guestmem.specs.Item.{Item}
 use Rattle.guestmem.specs.Writes.{Write, set_all, touched}
 use Rattle.chains.specs.State.{RingState}
 use Rattle.chains.specs.Places.{places, place_writes}
@@ -73,8 +73,8 @@ abbrev pub advance_step : BlockShape → List ℕ → RingState → List Sector 
 advance_step shape ram q content requests k is_fine = advance_one shape ram q content requests k is_fine (slice_get requests k)
 
 -- Such a step was made, with the sectors as the disk returned them: what it answers, and RAM, the ring, the sectors, the
--- requests and a log after it.
-pub record IsAfterAdvancing {L : Type 0} (after : L → Item → L) (honest : Bool) (device : ℕ) (ram : List ℕ) (content : List Sector) (log : L) (step : List Sector → AdvanceStep) (answer : Advanced) (new_ram : List ℕ) (new_ring : RingState) (new_content : List Sector) (new_requests : List Request) (new_log : L) : Type 0 where
+-- requests after it, and which items were touched. What touching is, as that a log has taken them in, `touches` says.
+pub record IsAfterAdvancing (touches : List Item → Type 0) (honest : Bool) (device : ℕ) (ram : List ℕ) (content : List Sector) (step : List Sector → AdvanceStep) (answer : Advanced) (new_ram : List ℕ) (new_ring : RingState) (new_content : List Sector) (new_requests : List Request) : Type 0 where
   pub given : List Sector
   pub is_given : IsGiven honest content given
   pub answer_is : answer ≡ (step given).answer
@@ -82,7 +82,7 @@ pub record IsAfterAdvancing {L : Type 0} (after : L → Item → L) (honest : Bo
   pub ring_is : new_ring ≡ (step given).ring
   pub content_is : AreSet honest content (step given).sets new_content
   pub requests_are : new_requests ≡ (step given).requests
-  pub log_is : new_log ≡ after_all after log (touched (step given).writes ++ sectors_touched device (step given).sets)
+  pub items_are : touches (touched (step given).writes ++ sectors_touched device (step given).sets)
 
 -- A request to flush that advanced has left its disk flushed.
 abbrev pub HasFlushed : List Request → ℕ → Advanced → Bool → Type 0

@@ -1,6 +1,6 @@
 -- One unit of a request (VIRTIO 1.2, 5.2.6).
 use Rattle.std.specs.Prelude.{◌≡◌, ℕ, ◌+◌, ◌*◌, ◌<◌, Bool, true, false, List, [], ◌∷◌, ◌++◌, take, drop, map, slice_set, Some, None, IsTrue, if◌then◌else◌}
-use Rattle.guestmem.specs.Item.{Item, sector, after_all}
+use Rattle.guestmem.specs.Item.{Item, sector}
 use Rattle.guestmem.specs.Writes.{Write, set_all, touched}
 use Rattle.chains.specs.Places.{places, read_places, place_writes}
 use Rattle.blk.specs.Sectors.{IsGiven, Sector, sector_in, is_bad, bytes_of}
@@ -112,15 +112,16 @@ pub record AreSet (honest : Bool) (content : List Sector) (sets : List SectorSet
   pub unwritten : AreMadeBad sets → new_content ≡ sectors_set content sets
   pub is : IsTrue honest → new_content ≡ sectors_set content sets
 
--- Such a move was made, with the sectors as the disk returned them.
-pub record IsMoved {L : Type 0} (after : L → Item → L) (honest : Bool) (device : ℕ) (ram : List ℕ) (content : List Sector) (log : L) (move : List Sector → Move) (answer : Advanced) (new_request : Request) (new_ram : List ℕ) (new_content : List Sector) (new_log : L) : Type 0 where
+-- Such a move was made, with the sectors as the disk returned them. What touching is, as that a log has taken the items in, `touches`
+-- says.
+pub record IsMoved (touches : List Item → Type 0) (honest : Bool) (device : ℕ) (ram : List ℕ) (content : List Sector) (move : List Sector → Move) (answer : Advanced) (new_request : Request) (new_ram : List ℕ) (new_content : List Sector) : Type 0 where
   pub given : List Sector
   pub is_given : IsGiven honest content given
   pub answer_is : answer ≡ (move given).answer
   pub request_is : new_request ≡ (move given).request
   pub ram_is : new_ram ≡ set_all ram (move given).writes
   pub content_is : AreSet honest content (move given).sets new_content
-  pub log_is : new_log ≡ after_all after log (touched (move given).writes ++ sectors_touched device (move given).sets)
+  pub items_are : touches (touched (move given).writes ++ sectors_touched device (move given).sets)
 
 -- Every sector of a disk of `count` sectors, of the device with this number, may be passed to the log.
 abbrev pub MaySectors : {L : Type 0} → (L → Item → Type 0) → L → ℕ → ℕ → Type 0

@@ -1,6 +1,6 @@
 -- The step that takes a request (VIRTIO 1.2, 5.2.6).
 use Rattle.std.specs.Prelude.{◌≡◌, ℕ, List, [], ◌∷◌, ◌++◌, length, take}
-use Rattle.guestmem.specs.Item.{Item, after_all}
+use Rattle.guestmem.specs.Item.{Item}
 use Rattle.guestmem.specs.Writes.{Write, set_all, touched}
 use Rattle.chains.specs.State.{RingState}
 use Rattle.chains.specs.Places.{places, read_places}
@@ -65,16 +65,17 @@ take_step ram q shape requests next.Empty = record { answer = taken.Empty; write
 take_step ram q shape requests next.Malformed = refuse q requests
 take_step ram q shape requests (next.Chain c) = take_chain ram q shape requests c
 
--- RAM, the ring, the requests and a log after such a step.
-pub record IsAfterTaking {L : Type 0} (after : L → Item → L) (ram : List ℕ) (log : L) (s : TakeStep) (new_ram : List ℕ) (new_ring : RingState) (new_requests : List Request) (new_log : L) : Type 0 where
+-- RAM, the ring and the requests after such a step, and which items were touched. What touching is, as that a log has taken them in,
+-- `touches` says.
+pub record IsAfterTaking (touches : List Item → Type 0) (ram : List ℕ) (s : TakeStep) (new_ram : List ℕ) (new_ring : RingState) (new_requests : List Request) : Type 0 where
   pub ram_is : new_ram ≡ set_all ram s.writes
   pub ring_is : new_ring ≡ s.ring
   pub requests_are : new_requests ≡ s.requests
-  pub log_is : new_log ≡ after_all after log (touched s.writes)
+  pub items_are : touches (touched s.writes)
 
 -- Such a step was made, by what the device sees.
-pub record IsTaken {L : Type 0} (after : L → Item → L) (ram : List ℕ) (q : RingState) (shape : BlockShape) (requests : List Request) (log : L) (answer : Taken) (new_ram : List ℕ) (new_ring : RingState) (new_requests : List Request) (new_log : L) : Type 0 where
+pub record IsTaken (touches : List Item → Type 0) (ram : List ℕ) (q : RingState) (shape : BlockShape) (requests : List Request) (answer : Taken) (new_ram : List ℕ) (new_ring : RingState) (new_requests : List Request) : Type 0 where
   pub seen : Next
   pub sees : Sees (wanted.Request HEADER_SIZE) ram q seen
   pub answer_is : answer ≡ (take_step ram q shape requests seen).answer
-  pub changes : IsAfterTaking after ram log (take_step ram q shape requests seen) new_ram new_ring new_requests new_log
+  pub changes : IsAfterTaking touches ram (take_step ram q shape requests seen) new_ram new_ring new_requests

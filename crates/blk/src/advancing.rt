@@ -3,6 +3,7 @@
 ghost use Rattle.std.specs.Prelude.{◌≡◌, ◌≤◌, ◌<◌, ◌^◌, length, not};
 ghost use Rattle.guestmem.specs.Item.{after_all};
 ghost use Rattle.guestmem.specs.Writes.{set_all, touched};
+ghost use Rattle.guestmem.specs.Rises.{Rises, Touches};
 ghost use Rattle.chains.specs.Frame.{MayServe, HasServed};
 ghost use Rattle.chains.specs.Places.{places, AreSegmentsInside};
 ghost use Rattle.chains.specs.Publish.{after_publish, is_interrupt_due};
@@ -63,7 +64,7 @@ impl Requests {
         requires capacity { length sectors.old.content ≡ shape.now.sectors }
         requires sound { AreSound (length ram.old.bytes) (R.state ring.old) shape.now self.old }
         requires may_sectors { MaySectors L.may log.old device (length sectors.old.content) }
-        ensures changes { IsAfterAdvancing L.after sectors.old.honest device ram.old.bytes sectors.old.content log.old (λ given. advance_step shape.now ram.old.bytes (R.state ring.old) given self.old k (not (is_disk_failed result))) result ram.new.bytes (R.state ring.new) sectors.new.content self.new log.new }
+        ensures changes { IsAfterAdvancing (Touches L.after log.old log.new ram.old ram.new) sectors.old.honest device ram.old.bytes sectors.old.content (λ given. advance_step shape.now ram.old.bytes (R.state ring.old) given self.old k (not (is_disk_failed result))) result ram.new.bytes (R.state ring.new) sectors.new.content self.new }
         ensures kept { IsKept sectors.old (is_disk_failed result) sectors.new }
         ensures flushed { HasFlushed self.old k result sectors.new.is_flushed }
         ensures whole { AreWhole sectors.new.content }
@@ -104,6 +105,7 @@ fn complete<R: Ring, L: TouchLog>(
     ensures bytes { ram.new.bytes ≡ set_all ram.old.bytes (end_writes (R.state ring.old) request.now) }
     ensures ring { R.state ring.new ≡ after_publish (R.state ring.old) request.now.slots }
     ensures log { log.new ≡ after_all L.after log.old (touched (end_writes (R.state ring.old) request.now)) }
+    ensures rises { Rises (touched (end_writes (R.state ring.old) request.now)) ram.old ram.new }
     ensures after { HasServed L.may ram.old ram.new log.new }
     ensures decoder { R.decoder ring.new ≡ R.decoder ring.old }
 {

@@ -3,6 +3,7 @@
 ghost use Rattle.std.specs.Prelude.{◌≡◌, ◌≤◌, ◌<◌, ◌+◌, ◌^◌, ◌*◌, IsTrue, length, not, true};
 ghost use Rattle.guestmem.specs.Item.{MayPages, after_all};
 ghost use Rattle.guestmem.specs.Writes.{set_all, touched};
+ghost use Rattle.guestmem.specs.Rises.{Rises, Touches};
 ghost use Rattle.chains.specs.Frame.{HasServed};
 ghost use Rattle.chains.specs.Places.{places, AreSegmentsInside};
 ghost use Rattle.blk.specs.Request.{is_open};
@@ -35,7 +36,7 @@ fn move_in<D: Disk, L: TouchLog>(
     requires small { length sectors.old.content < 2 ^ 64 }
     requires whole { AreWhole sectors.old.content }
     requires may { MayPages L.may log.old (length ram.old.bytes) }
-    ensures moved { IsMoved L.after sectors.old.honest device ram.old.bytes sectors.old.content log.old (λ given. move_in given request.old (not (is_disk_failed result))) result request.new ram.new.bytes sectors.new.content log.new }
+    ensures moved { IsMoved (Touches L.after log.old log.new ram.old ram.new) sectors.old.honest device ram.old.bytes sectors.old.content (λ given. move_in given request.old (not (is_disk_failed result))) result request.new ram.new.bytes sectors.new.content }
     ensures request { request.new ≡ after_unit request.old result }
     ensures kept { IsKept sectors.old (is_disk_failed result) sectors.new }
     ensures after { HasServed L.may ram.old ram.new log.new }
@@ -81,7 +82,7 @@ fn move_out<D: Disk, L: TouchLog>(
     requires small { length sectors.old.content < 2 ^ 64 }
     requires may { MayPages L.may log.old (length ram.old.bytes) }
     requires may_sectors { MaySectors L.may log.old device (length sectors.old.content) }
-    ensures moved { IsMoved L.after sectors.old.honest device ram.old.bytes sectors.old.content log.old (λ given. move_out ram.old.bytes request.old (not (is_disk_failed result))) result request.new ram.new.bytes sectors.new.content log.new }
+    ensures moved { IsMoved (Touches L.after log.old log.new ram.old ram.new) sectors.old.honest device ram.old.bytes sectors.old.content (λ given. move_out ram.old.bytes request.old (not (is_disk_failed result))) result request.new ram.new.bytes sectors.new.content }
     ensures request { request.new ≡ after_unit request.old result }
     ensures kept { IsKept sectors.old (is_disk_failed result) sectors.new }
     ensures after { HasServed L.may ram.old ram.new log.new }
@@ -138,6 +139,7 @@ fn move_id<L: TouchLog>(
     ensures request { request.new ≡ (move_id id.now request.old).request }
     ensures bytes { ram.new.bytes ≡ set_all ram.old.bytes (move_id id.now request.old).writes }
     ensures log { log.new ≡ after_all L.after log.old (touched (move_id id.now request.old).writes) }
+    ensures rises { Rises (touched (move_id id.now request.old).writes) ram.old ram.new }
     ensures after { HasServed L.may ram.old ram.new log.new }
 {
     copy_in(ram, request.writable.as_slice(), 0, id, log);
@@ -161,7 +163,7 @@ pub(crate) fn move_unit<D: Disk, L: TouchLog>(
     requires writable { AreSegmentsInside (length ram.old.bytes) request.old.writable }
     requires may { MayPages L.may log.old (length ram.old.bytes) }
     requires may_sectors { MaySectors L.may log.old device (length sectors.old.content) }
-    ensures moved { IsMoved L.after sectors.old.honest device ram.old.bytes sectors.old.content log.old (λ given. move_of request.old.kind shape.now.id ram.old.bytes given request.old (not (is_disk_failed result))) result request.new ram.new.bytes sectors.new.content log.new }
+    ensures moved { IsMoved (Touches L.after log.old log.new ram.old ram.new) sectors.old.honest device ram.old.bytes sectors.old.content (λ given. move_of request.old.kind shape.now.id ram.old.bytes given request.old (not (is_disk_failed result))) result request.new ram.new.bytes sectors.new.content }
     ensures request { request.new ≡ after_unit request.old result }
     ensures sound { IsSoundWork request.new.kind (length (places request.new.readable)) (length (places request.new.writable)) shape.now.sectors shape.now.read_only request.new.verdict request.new.first request.new.units request.new.done }
     ensures kept { IsKept sectors.old (is_disk_failed result) sectors.new }

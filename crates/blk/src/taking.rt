@@ -1,6 +1,7 @@
 //! The step that takes a request.
 
 ghost use Rattle.std.specs.Prelude.{◌≡◌, ◌≤◌, ◌<◌, ◌+◌, ◌^◌, length, IfOk, OnErr};
+ghost use Rattle.guestmem.specs.Rises.{Touches};
 ghost use Rattle.chains.specs.Frame.{MayLook, HasLooked, IsUntouched};
 ghost use Rattle.chains.specs.Places.{places, AreSegmentsInside};
 ghost use Rattle.chains.specs.LongQueue.{IsLongQueue};
@@ -42,7 +43,7 @@ impl Requests {
         requires room { length self.old < REQUESTS_MAX }
         requires ready { MayLook L.may ram.old (R.state ring.old) (R.decoder ring.old) log.old }
         requires sound { AreSound (length ram.old.bytes) (R.state ring.old) shape.now self.old }
-        ensures taken { IfOk result (λ answer. IsTaken L.after ram.old.bytes (R.state ring.old) shape.now self.old log.old answer ram.new.bytes (R.state ring.new) self.new log.new) }
+        ensures taken { IfOk result (λ answer. IsTaken (Touches L.after log.old log.new ram.old ram.new) ram.old.bytes (R.state ring.old) shape.now self.old answer ram.new.bytes (R.state ring.new) self.new) }
         ensures memory { OnErr result (IsLongQueue ram.old.bytes (R.state ring.old)) }
         ensures untouched { OnErr result (IsUntouched ram.old ram.new (R.state ring.old) (R.state ring.new) log.old log.new) }
         ensures requests_stay { OnErr result (self.new ≡ self.old) }

@@ -6,6 +6,7 @@
 
 mod book;
 mod question;
+mod ring_words;
 mod script;
 mod spelling;
 

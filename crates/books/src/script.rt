@@ -1,6 +1,7 @@
 //! One script, and the trace that it stands for.
 
 use crate::question::Question;
+use crate::ring_words::{write_available, write_descriptor};
 use std::alloc::Global;
 use std::io::{self, ErrorKind, Write};
 use std::str::FromStr;
@@ -21,6 +22,23 @@ use std::str::FromStr;
 ///   2^32, and QueueReady;
 /// - `GO DEV`: DRIVER_OK;
 /// - `KICK DEV QUEUE`: the driver notifies the device of a queue.
+///
+/// Three lines stand for what the driver writes into its rings in RAM (VIRTIO 1.2, 2.7.5, 2.7.6 and 2.8.13), each answered by `done`:
+///
+/// - `DESC ADDR BUFFER LEN FLAGS NEXT`: the descriptor at this address, of a split ring or a table in it: where its buffer or
+///   table begins, how many bytes that has, the flags, and the index of the next one. FLAGS are the letters N for NEXT, W for
+///   WRITE and I for INDIRECT, or `-` for none, or a number after `0x`. NEXT may be left out, and is 0 then;
+/// - `SLOT ADDR BUFFER LEN FLAGS ID`: the same of a packed ring or a table in it, with an id. Its flags may have A for AVAIL and
+///   U for USED too: A alone is what the driver makes available in the first round. ID may be left out, and is 0 then;
+/// - `AVAIL ADDR INDEX HEAD HEAD ..`: the driver area of a split ring at this address: its index, and the heads in its ring.
+///
+/// So a packed ring differs from a split one in the word, in A, and in what makes a chain available:
+///
+/// ```text
+/// DESC 0x0 0x900 1 N 1        SLOT 0x0 0x900 1 NA
+/// DESC 0x10 0xa00 1 W         SLOT 0x10 0xa00 1 WA
+/// AVAIL 0x100 1 0
+/// ```
 ///
 /// The disk of a block device is in memory, and of zeros. Four lines are about disks:
 ///
@@ -128,6 +146,9 @@ impl Script {
             "QUEUE" => self.add_queue(words),
             "GO" => self.add_write(words, "0x070", "15"),
             "KICK" => self.add_kick(words),
+            "DESC" => self.add_descriptor(words, false),
+            "SLOT" => self.add_descriptor(words, true),
+            "AVAIL" => self.add_available(words),
             _ => self.add_event(line),
         }
     }
@@ -247,6 +268,26 @@ impl Script {
     fn add_kick(&mut self, words: &str) -> io::Result<()> {
         let (device, queue) = cut(words);
         self.add_write(device, "0x050", queue)
+    }
+
+    /// Adds a write of a descriptor into RAM.
+    fn add_descriptor(&mut self, words: &str, is_packed: bool) -> io::Result<()> {
+        let (addr, descriptor) = cut(words);
+        self.events = self.events.saturating_add(1);
+        write!(self.trace, "mw {addr} ")?;
+        write_descriptor(&mut self.trace, descriptor, is_packed)?;
+        writeln!(self.trace)?;
+        writeln!(self.replies, "done")
+    }
+
+    /// Adds a write of the area of a driver into RAM.
+    fn add_available(&mut self, words: &str) -> io::Result<()> {
+        let (addr, heads) = cut(words);
+        self.events = self.events.saturating_add(1);
+        write!(self.trace, "mw {addr} ")?;
+        write_available(&mut self.trace, heads)?;
+        writeln!(self.trace)?;
+        writeln!(self.replies, "done")
     }
 
     /// Adds register writes, each with the value that is written.

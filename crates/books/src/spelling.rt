@@ -8,10 +8,11 @@ use std::alloc::Global;
 const COMMIT: u8 = 5;
 
 /// The bytes that a text encodes: words of hexadecimal digits, the bytes of each as often as a number after `*` says
-/// (`00*4096`). Four words stand for common parts of a stream: `HEADER` for the header of one page and one entropy device,
-/// `PAGE` for the record of page 0 of zeros, `DEVICE` for the record of such a device as it begins, and `FRESH` for the whole
-/// stream of such a machine. `COMMIT` stands for the record that ends a stream, with the SHA-256 of all bytes before it, and
-/// `|` separates records for a reader and means nothing.
+/// (`00*4096`). Some words stand for common parts of a stream: `HEADER` for the header of one page and one entropy device, `PAGE`
+/// for the record of page 0 of zeros, `DEVICE` for the record of such a device as it begins, and `FRESH` for the whole stream of
+/// such a machine, all in version 1; `HEADER_2`, `ZEROS` and `FRESH_2` for header, page and stream in version 2. `COMMIT` stands
+/// for the record that ends a stream, with the SHA-256 of all bytes before it, and `|` separates records for a reader and means
+/// nothing.
 pub fn spelled(alloc: Global, text: &str) -> Result<Vec<u8>> {
     let mut bytes = Vec::new(alloc);
     for word in text.split_whitespace() {
@@ -34,6 +35,12 @@ fn meaning(word: &str) -> &str {
         "FRESH" => concat!(
             "564d4947 01000000 01000000 01000000 04 01 00000000 00*4096 04 00 40000000 00*58 010000 010000 05 ",
             "0462f7be415328f8018cdf1e37eb8886ff32fe1ed27858552e208da3e1ac3d2d"
+        ),
+        "HEADER_2" => "564d4947 02000000 01000000 01000000 04",
+        "ZEROS" => "06 00000000",
+        "FRESH_2" => concat!(
+            "564d4947 02000000 01000000 01000000 04 06 00000000 04 00 40000000 00*58 010000 010000 05 ",
+            "3ed9c2fd3332bfee423c73812bb8144ffb0688c3a76c767b9f7a081f13a9a58e"
         ),
         "|" => "",
         _ => word,

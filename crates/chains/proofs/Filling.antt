@@ -3,7 +3,9 @@ use Rattle.std.proofs.Common.{◌≡◌, ℕ, ◌≤◌, List, [], ◌∷◌, �
 use Rattle.guestmem.specs.Item.{Item, after_all}
 use Rattle.guestmem.specs.Writes.{Write, set_all, touched}
 use Rattle.guestmem.specs.WriteLaws.{set_all-append}
-use Rattle.chains.specs.EffectLaws.{after_touched}
+use Rattle.guestmem.specs.Memory.{Memory}
+use Rattle.guestmem.specs.Rises.{Rises}
+use Rattle.chains.specs.EffectLaws.{after_touched, rises_touched}
 use Rattle.chains.specs.PlaceLaws.{place_writes_take}
 use Rattle.chains.specs.Places.{place_writes}
 
@@ -28,3 +30,7 @@ set_three ram us vs ws = rw (set_all-append ram (us ++ vs) ws, set_all-append ra
 -- A log that took in the pages of three lists of writes in turn.
 pub told_three : {L : Type 0} (after : L → Item → L) (log : L) (us vs ws : List Write) → after_all after (after_all after (after_all after log (touched us)) (touched vs)) (touched ws) ≡ after_all after log (touched ((us ++ vs) ++ ws))
 told_three after log us vs ws = rw (after_touched after log (us ++ vs) ws, after_touched after log us vs) refl
+
+-- Versions that rise in exactly the pages of three lists of writes in turn.
+pub rises_three : (us vs ws : List Write) (first second third last : Memory) → Rises (touched us) first second → Rises (touched vs) second third → Rises (touched ws) third last → Rises (touched ((us ++ vs) ++ ws)) first last
+rises_three us vs ws first second third last h k l = rises_touched (us ++ vs) ws first third last (rises_touched us vs first second third h k) l

@@ -2,6 +2,7 @@
 
 ghost use Rattle.std.specs.Prelude.{◌≡◌, ◌+◌, ◌*◌, ◌<◌, ◌≤◌, ◌^◌, length, take, drop};
 ghost use Rattle.guestmem.specs.Item.{after_all, MayPages};
+ghost use Rattle.guestmem.specs.Rises.{Rises};
 ghost use Rattle.guestmem.specs.Writes.{set_all, touched};
 ghost use Rattle.chains.specs.Frame.{HasServed};
 ghost use Rattle.chains.specs.Places.{places, read_places, place_writes, AreSegmentsInside};
@@ -55,6 +56,7 @@ pub fn copy_in<L: TouchLog>(ram: &mut Ram, segs: &[Seg], at: u64, bytes: &[u8], 
     requires may { MayPages L.may log.old (length ram.old.bytes) }
     ensures bytes { ram.new.bytes ≡ set_all ram.old.bytes (place_writes (take (length bytes.now) (drop at (places segs.now))) bytes.now) }
     ensures log { log.new ≡ after_all L.after log.old (touched (place_writes (take (length bytes.now) (drop at (places segs.now))) bytes.now)) }
+    ensures rises { Rises (touched (place_writes (take (length bytes.now) (drop at (places segs.now))) bytes.now)) ram.old ram.new }
     ensures after { HasServed L.may ram.old ram.new log.new }
 {
     ram.recall();

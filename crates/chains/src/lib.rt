@@ -17,8 +17,8 @@
 //!   kept one only while its page has not changed. The caller's part is that what is kept fits RAM (`Fits`): every RAM fits a new
 //!   ring, and every later RAM fits still (`laws::fits_later`). `decoded()` is the count.
 //! - `take(chain)` advances the taking position by the chain's slots.
-//! - `publish(id, slots, len, wrote, ram, log)` writes the bytes of `published` and no others; the log takes in exactly their pages;
-//!   the result is whether an interrupt is due in the RAM after that.
+//! - `publish(id, slots, len, wrote, ram, log)` writes the bytes of `published` and no others; the log takes in exactly their pages,
+//!   and the versions of exactly these rise; the result is whether an interrupt is due in the RAM after that.
 //! - `note_empty(ram, log)` writes the event note and no other byte.
 //! - The caller's part: the queue's areas are aligned and lie inside RAM (`HasAreas`), as those of every ready queue do (`mmio`),
 //!   and the log may name the pages of RAM. Where RAM is written, both stand in one word, `MayServe`, and what every step leaves
@@ -26,7 +26,7 @@
 //!
 //! And on these functions:
 //! - `copy_out` and `copy_in` read and write the bytes of the concatenated segments, from an offset on; where segments overlap the
-//!   later byte wins; the log takes in exactly the pages written.
+//!   later byte wins; the log takes in exactly the pages written, and the versions of exactly these rise.
 //! - `fill(ring, chain, front, back, ram, log)` gives bytes to a chain: they go to its first writable bytes, and the chain is
 //!   published with their count.
 //! - `look(ring, wanted, chain, ram, log)` is the look of every device: it finds the ring empty, which is noted, or malformed, or

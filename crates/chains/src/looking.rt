@@ -2,6 +2,7 @@
 
 ghost use Rattle.std.specs.Prelude.{◌≡◌, length};
 ghost use Rattle.guestmem.specs.Item.{after_all};
+ghost use Rattle.guestmem.specs.Rises.{Rises};
 ghost use Rattle.guestmem.specs.Writes.{set_all, touched};
 ghost use Rattle.chains.specs.Frame.{MayLook, HasLooked};
 ghost use Rattle.chains.specs.Gives.{GivesBounded};
@@ -54,6 +55,7 @@ pub fn look<R: Ring, L: TouchLog>(
     ensures bounded { GivesBounded (length ram.old.bytes) (R.state ring.old) result chain.new }
     ensures bytes { ram.new.bytes ≡ set_all ram.old.bytes (look_writes (R.state ring.old) result) }
     ensures log { log.new ≡ after_all L.after log.old (touched (look_writes (R.state ring.old) result)) }
+    ensures rises { Rises (touched (look_writes (R.state ring.old) result)) ram.old ram.new }
     ensures state { R.state ring.new ≡ R.state ring.old }
     ensures after { HasLooked L.may ram.old ram.new (R.decoder ring.new) log.new }
     ensures untouched { UnlessEmpty result ((ram.new ≡ ram.old) × (log.new ≡ log.old)) }

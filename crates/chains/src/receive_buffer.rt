@@ -2,6 +2,7 @@
 
 ghost use Rattle.std.specs.Prelude.{◌≡◌, ◌≤◌, ◌<◌, ◌+◌, ◌^◌, ◌++◌, length};
 ghost use Rattle.guestmem.specs.Item.{after_all};
+ghost use Rattle.guestmem.specs.Rises.{Rises};
 ghost use Rattle.guestmem.specs.Writes.{set_all, touched};
 ghost use Rattle.chains.specs.Frame.{MayServe, HasServed};
 ghost use Rattle.chains.specs.Places.{places};
@@ -29,6 +30,7 @@ pub fn fill<R: Ring, L: TouchLog>(
     requires room { length front.now + length back.now ≤ length (places chain.now.writable) }
     ensures bytes { ram.new.bytes ≡ set_all ram.old.bytes (filled (R.state ring.old) chain.now (front.now ++ back.now)) }
     ensures log { log.new ≡ after_all L.after log.old (touched (filled (R.state ring.old) chain.now (front.now ++ back.now))) }
+    ensures rises { Rises (touched (filled (R.state ring.old) chain.now (front.now ++ back.now))) ram.old ram.new }
     ensures after { HasServed L.may ram.old ram.new log.new }
     ensures decoder { R.decoder ring.new ≡ R.decoder ring.old }
     ensures state { R.state ring.new ≡ after_publish (after_take (R.state ring.old) chain.now.slots) chain.now.slots }

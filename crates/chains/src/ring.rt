@@ -2,6 +2,7 @@
 
 ghost use Rattle.std.specs.Prelude.{◌≡◌, ◌+◌, ◌≤◌, length, IfOk, OnErr};
 ghost use Rattle.guestmem.specs.Item.{after_all};
+ghost use Rattle.guestmem.specs.Rises.{Rises};
 ghost use Rattle.guestmem.specs.Writes.{set_all, touched};
 ghost use Rattle.chains.specs.Decoder.{DecoderState, Fits};
 ghost use Rattle.chains.specs.State.{RingState, HasAreas};
@@ -78,6 +79,7 @@ pub trait Ring {
         requires slots { slots ≤ (state self.old).size }
         ensures bytes { ram.new.bytes ≡ set_all ram.old.bytes (published (state self.old) id slots len wrote) }
         ensures log { log.new ≡ after_all L.after log.old (touched (published (state self.old) id slots len wrote)) }
+        ensures rises { Rises (touched (published (state self.old) id slots len wrote)) ram.old ram.new }
         ensures after { HasServed L.may ram.old ram.new log.new }
         ensures state { state self.new ≡ after_publish (state self.old) slots }
         ensures decoder { decoder self.new ≡ decoder self.old }
@@ -89,6 +91,7 @@ pub trait Ring {
         requires ready { MayServe L.may (length ram.old.bytes) (state self.old) log.old }
         ensures bytes { ram.new.bytes ≡ set_all ram.old.bytes (event_note (state self.old)) }
         ensures log { log.new ≡ after_all L.after log.old (touched (event_note (state self.old))) }
+        ensures rises { Rises (touched (event_note (state self.old))) ram.old ram.new }
         ensures after { HasServed L.may ram.old ram.new log.new }
         ensures state { state self.new ≡ state self.old }
         ensures decoder { decoder self.new ≡ decoder self.old };

@@ -2,6 +2,7 @@
 
 ghost use Rattle.std.specs.Prelude.{◌≡◌, ◌≤◌, ◌<◌, ◌+◌, ◌^◌, length, IfOk, OnErr, Some};
 ghost use Rattle.guestmem.specs.Item.{after_all};
+ghost use Rattle.guestmem.specs.Rises.{Rises, Touches};
 ghost use Rattle.guestmem.specs.Writes.{set_all, touched};
 ghost use Rattle.chains.specs.Frame.{MayServe, HasServed, MayLook, HasLooked, IsUntouched};
 ghost use Rattle.chains.specs.Places.{places, AreSegmentsInside};
@@ -61,7 +62,7 @@ pub fn transmit<R: Ring, L: TouchLog>(
 ) -> Result<Transmitted, NoMemory>
     requires ready { MayLook L.may ram.old (R.state ring.old) (R.decoder ring.old) log.old }
     requires form { form.header ≤ form.least }
-    ensures transmitted { IfOk result (λ answer. IsTransmitted L.after ram.old.bytes (R.state ring.old) form log.old answer ram.new.bytes (R.state ring.new) log.new) }
+    ensures transmitted { IfOk result (λ answer. IsTransmitted (Touches L.after log.old log.new ram.old ram.new) ram.old.bytes (R.state ring.old) form answer ram.new.bytes (R.state ring.new)) }
     ensures memory { OnErr result (MayWantMemory ram.old.bytes (R.state ring.old) form) }
     ensures untouched { OnErr result (IsUntouched ram.old ram.new (R.state ring.old) (R.state ring.new) log.old log.new) }
     ensures after { HasLooked L.may ram.old ram.new (R.decoder ring.new) log.new }
@@ -108,6 +109,7 @@ fn send<R: Ring, L: TouchLog>(
     ensures bytes { ram.new.bytes ≡ set_all ram.old.bytes (handed_back (R.state ring.old) chain.now) }
     ensures state { R.state ring.new ≡ after_publish (after_take (R.state ring.old) chain.now.slots) chain.now.slots }
     ensures log { log.new ≡ after_all L.after log.old (touched (handed_back (R.state ring.old) chain.now)) }
+    ensures rises { Rises (touched (handed_back (R.state ring.old) chain.now)) ram.old ram.new }
     ensures after { HasServed L.may ram.old ram.new log.new }
     ensures decoder { R.decoder ring.new ≡ R.decoder ring.old }
 {

@@ -1,7 +1,7 @@
 -- The step of a queue through which a device gives bytes to the guest: the receive queue of a console (VIRTIO 1.2, 5.3.6)
 -- and the queue of an entropy device (VIRTIO 1.2, 5.4.6).
 use Rattle.std.specs.Prelude.{◌≡◌, ℕ, min, List, [], length, take, drop}
-use Rattle.guestmem.specs.Item.{Item, after_all}
+use Rattle.guestmem.specs.Item.{Item}
 use Rattle.guestmem.specs.Writes.{Write, set_all, touched}
 use Rattle.chains.specs.State.{RingState}
 use Rattle.chains.specs.Places.{places}
@@ -49,16 +49,17 @@ receive_step ram q held next.Empty = record { answer = Empty; writes = event_not
 receive_step ram q held next.Malformed = refuse q held
 receive_step ram q held (next.Chain c) = give ram q held c
 
--- RAM, the ring, the bytes held and a log after such a step.
-pub record IsAfter {L : Type 0} (after : L → Item → L) (ram : List ℕ) (log : L) (s : Step) (new_ram : List ℕ) (new_ring : RingState) (new_held : List ℕ) (new_log : L) : Type 0 where
+-- RAM, the ring and the bytes held after such a step, and which items were touched. What touching is, as that a log has taken them
+-- in, `touches` says.
+pub record IsAfter (touches : List Item → Type 0) (ram : List ℕ) (s : Step) (new_ram : List ℕ) (new_ring : RingState) (new_held : List ℕ) : Type 0 where
   pub ram_is : new_ram ≡ set_all ram s.writes
   pub ring_is : new_ring ≡ s.ring
   pub held_is : new_held ≡ s.left
-  pub log_is : new_log ≡ after_all after log (touched s.writes)
+  pub items_are : touches (touched s.writes)
 
 -- Such a step was made, by what the device sees.
-pub record IsReceived {L : Type 0} (after : L → Item → L) (ram : List ℕ) (q : RingState) (held : List ℕ) (log : L) (answer : Received) (new_ram : List ℕ) (new_ring : RingState) (new_held : List ℕ) (new_log : L) : Type 0 where
+pub record IsReceived (touches : List Item → Type 0) (ram : List ℕ) (q : RingState) (held : List ℕ) (answer : Received) (new_ram : List ℕ) (new_ring : RingState) (new_held : List ℕ) : Type 0 where
   pub seen : Next
   pub sees : Sees Room ram q seen
   pub answer_is : answer ≡ (receive_step ram q held seen).answer
-  pub changes : IsAfter after ram log (receive_step ram q held seen) new_ram new_ring new_held new_log
+  pub changes : IsAfter touches ram (receive_step ram q held seen) new_ram new_ring new_held

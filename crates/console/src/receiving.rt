@@ -1,6 +1,7 @@
 //! The step that gives bytes to the guest.
 
 ghost use Rattle.std.specs.Prelude.{◌≡◌, ◌≤◌, ◌<◌, ◌+◌, ◌^◌, length, IfOk, OnErr, Some};
+ghost use Rattle.guestmem.specs.Rises.{Touches};
 ghost use Rattle.chains.specs.Frame.{MayServe, HasServed, MayLook, HasLooked, IsUntouched};
 ghost use Rattle.chains.specs.Ring.{IsBounded};
 ghost use Rattle.chains.specs.LongQueue.{IsLongQueue};
@@ -40,7 +41,7 @@ pub fn receive<R: Ring, L: TouchLog>(
     log: &mut L,
 ) -> Result<Received, NoMemory>
     requires ready { MayLook L.may ram.old (R.state ring.old) (R.decoder ring.old) log.old }
-    ensures received { IfOk result (λ answer. IsReceived L.after ram.old.bytes (R.state ring.old) held.old log.old answer ram.new.bytes (R.state ring.new) held.new log.new) }
+    ensures received { IfOk result (λ answer. IsReceived (Touches L.after log.old log.new ram.old ram.new) ram.old.bytes (R.state ring.old) held.old answer ram.new.bytes (R.state ring.new) held.new) }
     ensures memory { OnErr result (IsLongQueue ram.old.bytes (R.state ring.old)) }
     ensures untouched { OnErr result (IsUntouched ram.old ram.new (R.state ring.old) (R.state ring.new) log.old log.new) }
     ensures held_stay { OnErr result (held.new ≡ held.old) }
@@ -67,7 +68,7 @@ fn give<R: Ring, L: TouchLog>(
     requires ready { MayServe L.may (length ram.old.bytes) (R.state ring.old) log.old }
     requires bounded { IsBounded (length ram.old.bytes) (R.state ring.old) chain.now }
     ensures answer { result ≡ (give ram.old.bytes (R.state ring.old) held.old chain.now).answer }
-    ensures changes { IsAfter L.after ram.old.bytes log.old (give ram.old.bytes (R.state ring.old) held.old chain.now) ram.new.bytes (R.state ring.new) held.new log.new }
+    ensures changes { IsAfter (Touches L.after log.old log.new ram.old ram.new) ram.old.bytes (give ram.old.bytes (R.state ring.old) held.old chain.now) ram.new.bytes (R.state ring.new) held.new }
     ensures after { HasServed L.may ram.old ram.new log.new }
     ensures decoder { R.decoder ring.new ≡ R.decoder ring.old }
 {

@@ -1,6 +1,7 @@
 //! The step that takes text of the guest.
 
 ghost use Rattle.std.specs.Prelude.{◌≡◌, ◌≤◌, length, IfOk, OnErr};
+ghost use Rattle.guestmem.specs.Rises.{Touches};
 ghost use Rattle.chains.specs.Frame.{MayLook, HasLooked, IsUntouched};
 ghost use Rattle.chains.specs.Transmit.{MayWantMemory};
 ghost use Rattle.chains.specs.Transmitted.{IsTransmitted};
@@ -29,7 +30,7 @@ pub fn transmit<R: Ring, L: TouchLog>(
     log: &mut L,
 ) -> Result<Transmitted, NoMemory>
     requires ready { MayLook L.may ram.old (R.state ring.old) (R.decoder ring.old) log.old }
-    ensures transmitted { IfOk result (λ answer. IsTransmitted L.after ram.old.bytes (R.state ring.old) text_form log.old answer ram.new.bytes (R.state ring.new) log.new) }
+    ensures transmitted { IfOk result (λ answer. IsTransmitted (Touches L.after log.old log.new ram.old ram.new) ram.old.bytes (R.state ring.old) text_form answer ram.new.bytes (R.state ring.new)) }
     ensures memory { OnErr result (MayWantMemory ram.old.bytes (R.state ring.old) text_form) }
     ensures untouched { OnErr result (IsUntouched ram.old ram.new (R.state ring.old) (R.state ring.new) log.old log.new) }
     ensures after { HasLooked L.may ram.old ram.new (R.decoder ring.new) log.new }

@@ -20,18 +20,18 @@ put_at_below old bytes at a inside below = grind (arith, places)
 put_at_above : (old bytes : List ℕ) (at a : ℕ) → at + length bytes ≤ length old → at + length bytes ≤ a → get_or (put_at old at bytes) a 0 ≡ get_or old a 0
 put_at_above old bytes at a inside above = grind (arith, places)
 
-raise_below : (versions : List ℕ) (first last n : ℕ) → first ≤ last → last < length versions → n < first → get_or (raise versions first last) n 0 ≡ get_or versions n 0
+pub raise_below : (versions : List ℕ) (first last n : ℕ) → first ≤ last → last < length versions → n < first → get_or (raise versions first last) n 0 ≡ get_or versions n 0
 raise_below versions first last n order there below = grind (arith, places)
 
 length_raised : (versions : List ℕ) (first last : ℕ) → first ≤ last → last < length versions → length (map raised (take (last + 1 - first) (drop first versions))) ≡ last + 1 - first
 length_raised versions first last order there = simp (length-map, length-take, length-drop) (omega (arith, there, order))
 
-raise_above : (versions : List ℕ) (first last n : ℕ) → first ≤ last → last < length versions → last < n → get_or (raise versions first last) n 0 ≡ get_or versions n 0
+pub raise_above : (versions : List ℕ) (first last n : ℕ) → first ≤ last → last < length versions → last < n → get_or (raise versions first last) n 0 ≡ get_or versions n 0
 raise_above versions first last n order there above =
     let raised_len = length_raised versions first last order there in
     grind (arith, places, raised_len)
 
-raise_inside : (versions : List ℕ) (first last n : ℕ) → first ≤ n → n ≤ last → last < length versions → get_or (raise versions first last) n 0 ≡ raised (get_or versions n 0)
+pub raise_inside : (versions : List ℕ) (first last n : ℕ) → first ≤ n → n ≤ last → last < length versions → get_or (raise versions first last) n 0 ≡ raised (get_or versions n 0)
 raise_inside versions first last n low high there =
     let raised_len = length_raised versions first last (omega arith) there in
     let within : n - first < length (take (last + 1 - first) (drop first versions)) = simp (length-take, length-drop) (omega (arith, there, low, high)) in

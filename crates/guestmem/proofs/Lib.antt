@@ -1,2 +1,4 @@
 pub mod Told
 pub mod Later
+pub mod ZeroLemmas
+pub mod Rising

@@ -8,6 +8,9 @@ pub mod PageLaws
 pub mod Later
 pub mod LaterLaws
 pub mod Number
+pub mod Rises
+pub mod RisesLaws
 pub mod Write
 pub mod Writes
 pub mod WriteLaws
+pub mod Zeros

@@ -3,10 +3,20 @@
 
 ghost use Rattle.guestmem.specs.Memory.{Memory};
 ghost use Rattle.guestmem.specs.Later.{IsLater};
+ghost use Rattle.guestmem.specs.Item.{Item};
+ghost use Rattle.guestmem.specs.Rises.{Rises};
+ghost use Rattle.std.specs.Prelude.{List, [], ◌++◌};
 
 /// A RAM is later than itself, and what is later than a later RAM is later. So a fact that every later RAM keeps goes
 /// through any list of writes.
 pub fn later_in_turn()
     ensures same { (m : Memory) → IsLater m m }
     ensures further { (old mid new : Memory) → IsLater old mid → IsLater mid new → IsLater old new }
+{}
+
+/// The versions of a RAM that stays rise in no page. If they rise in exactly the pages of a list of items, and then in exactly
+/// those of another, they rise in exactly the pages of both. So what is known of each call is known of any number of calls.
+pub fn rises_in_turn()
+    ensures none { (m : Memory) → Rises [] m m }
+    ensures further { (is js : List Item) (old mid new : Memory) → Rises is old mid → Rises js mid new → Rises (is ++ js) old new }
 {}

@@ -17,12 +17,16 @@
 //! - RAM after a write is a *later* one (`specs/Later`): no version fell, and a byte whose page has kept its version, unless that is
 //!   the greatest, is what it was. By `later_in_turn` this holds through any list of writes. Every call above that writes RAM says
 //!   it, up to `apply`.
+//! - The versions rise in exactly the pages that are written (`specs/Rises`): a page that was not written keeps its version. By
+//!   `rises_in_turn` this holds through any list of writes, and every call above says it of the items that it touched.
 //! - The caller's part: page numbers below the number of pages; for `put`, bytes inside RAM.
 //!
 //! The contracts speak of the record `Memory` (`specs/Memory`: the bytes in order of their addresses, and the versions) and of the
 //! bytes of a page (`specs/Page`), of the little-endian number at an address (`specs/Number`), of writes and lists of writes
-//! (`specs/Write`, `specs/Writes`), of one RAM that is another one later (`specs/Later`, and the module `laws`) and of the items
-//! that a log takes in (`specs/Item`, `specs/Laws`). Nothing is trusted here beside the toolchain and `byteorder`.
+//! (`specs/Write`, `specs/Writes`), of one RAM that is another one later (`specs/Later`, and the module `laws`), of versions that rise
+//! (`specs/Rises`) and of the items that a log takes in (`specs/Item`, `specs/Laws`). Nothing is trusted here beside the toolchain and `byteorder`.
+//!
+//! `is_zero` tells whether a page has zeros alone (`specs/Zeros`).
 //!
 //! `Bytes` are bytes of any number that are handed on as one value: what was read, or what is to be written.
 //!
@@ -38,6 +42,7 @@ mod limits;
 mod log;
 mod ram;
 mod touched;
+mod zero_page;
 
 pub use bytes::Bytes;
 pub use error::RamError;
@@ -46,6 +51,7 @@ pub use log::{NoLog, TouchLog};
 pub use ram::{Ram, recall_bytes};
 pub use std::alloc::AllocError as NoMemory;
 pub use touched::Touched;
+pub use zero_page::is_zero;
 
 #[cfg(test)]
 mod tests;

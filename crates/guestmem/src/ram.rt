@@ -7,6 +7,7 @@ ghost use Rattle.guestmem.specs.Writes.{byte_writes, set_all, touched};
 ghost use Rattle.guestmem.specs.Memory.{Memory, IsMemory};
 ghost use Rattle.guestmem.specs.Page.{page_of};
 ghost use Rattle.guestmem.specs.Later.{IsLater};
+ghost use Rattle.guestmem.specs.Rises.{Rises};
 ghost use Rattle.guestmem.specs.Write.{written, touched_of, refusal_of, unless_refused, raised};
 
 use crate::error::RamError;
@@ -178,6 +179,7 @@ impl Ram {
         ensures versions { self.new ≡ written self.old addr bytes.now }
         ensures later { IsLater self.old self.new }
         ensures log { log.new ≡ after_all L.after log.old (touched (byte_writes addr bytes.now)) }
+        ensures rises { Rises (touched (byte_writes addr bytes.now)) self.old self.new }
         ensures may { MayPages L.may log.new (length self.new.bytes) }
     {
         self.recall();

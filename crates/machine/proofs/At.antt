@@ -12,9 +12,12 @@ use Rattle.blk.proofs.Given.{given_itself}
 use Rattle.guestmem.specs.Number.{IsBytes}
 use Rattle.std.proofs.lemmas.List.{map-set, length-map}
 use Rattle.std.proofs.lemmas.Option.{slice_get-get_or, slice_get_past}
-use Rattle.guestmem.specs.Item.{Item, after_all, sector}
+use Rattle.guestmem.specs.Item.{Item, sector}
 use Rattle.guestmem.specs.Later.{IsLater}
+use Rattle.guestmem.specs.LaterLaws.{later_same}
 use Rattle.guestmem.specs.Memory.{Memory}
+use Rattle.guestmem.specs.Rises.{Rises, Touches}
+use Rattle.guestmem.specs.RisesLaws.{rises_none}
 use Rattle.guestmem.specs.Write.{refusal_of}
 use Rattle.guestmem.specs.Writes.{Write, byte_writes, set_all, touched}
 use Rattle.guestmem.specs.declared.error.RamError.{RamError}
@@ -24,14 +27,14 @@ use Rattle.machine.specs.DeviceStep.{device_step, looked_at}
 use Rattle.machine.specs.DeviceWork.{IsDeviceStep}
 use Rattle.machine.specs.Direct.{accepted_reply, done_reply}
 use Rattle.machine.specs.Effect as effects
-use Rattle.machine.specs.Effect.{Effect, applied, no_effect, sets_on}
+use Rattle.machine.specs.Effect.{Effect, applied, items_of, no_effect, sets_on}
 use Rattle.machine.specs.EffectLaws.{HasItem, IsSameShape}
 use Rattle.machine.specs.Held.{IsHeld}
 use Rattle.machine.specs.Outcome.{Outcome, is_failure, outcome_of}
 use Rattle.machine.specs.Seen.{DeviceSeen, Marks, Seen, state_of, all_marks, failed_at, failed_if, marks_at}
 use Rattle.machine.specs.Sound.{IsSound, IsSoundDevice}
 use Rattle.machine.specs.State.{DeviceState, MachineState}
-use Rattle.machine.specs.Step.{HasEffect, IsStep, IsLoggedStep, IsResized, ResizesDevice, disk_of, disk_or_none, input_of, out_reply, own_with_input, ram_refusal, refused, size_by, written_out, register_set, with_input}
+use Rattle.machine.specs.Step.{HasEffect, IsStep, IsTouchingStep, IsResized, ResizesDevice, disk_of, disk_or_none, input_of, out_reply, own_with_input, ram_refusal, refused, size_by, written_out, register_set, with_input}
 use Rattle.machine.specs.StepLaws.{Fits}
 use Rattle.machine.specs.declared.event.Event.{Event}
 use Rattle.machine.specs.declared.event.Event.TheVariants.{RegRead, RegWrite, MemRead, MemWrite, Step, Input, Resize}
@@ -42,6 +45,7 @@ use Rattle.machine.specs.declared.own.Own.TheVariants.{Network, Block, Console, 
 use Rattle.machine.specs.declared.reply.Reply.{Reply}
 use Rattle.machine.specs.declared.reply.Reply.TheVariants.{Done, Refused}
 use Rattle.machine.specs.declared.shape.Shape.{Shape}
+use Rattle.machine.proofs.Quiet.{IsQuiet, no_items}
 use Rattle.machine.proofs.Staying.{HasSectors, sound_stepped}
 use Rattle.machine.proofs.Stepping.{none_whole}
 use Rattle.machine.proofs.Within.{has_sectors, shape_at, sound_at, sound_by, step_shape, step_sound}
@@ -190,37 +194,37 @@ found_marks (x ∷ ds) zero d at = ap (λ (y : DeviceSeen). y.marks) (sym at.is)
 found_marks (x ∷ ds) (suc dev) d at = found_marks ds dev d (record { below = omega (arith, at.below); is = at.is })
 
 -- The guest wrote RAM.
-pub stored_step : {L : Type 0} (taking : L → Item → L) (m new_m : Memory) (log new_log : L) (ds : List DeviceSeen) (addr : ℕ) (bytes : List ℕ) → refusal_of (length m.bytes) addr (length bytes) ≡ None
-    → new_m.bytes ≡ set_all m.bytes (byte_writes addr bytes) → new_log ≡ after_all taking log (touched (byte_writes addr bytes))
-    → IsLoggedStep taking (state_of (record { memory = m; devices = ds })) log (MemWrite addr bytes) Done (state_of (record { memory = new_m; devices = ds })) new_log
-stored_step taking m new_m log new_log ds addr bytes none is told = record {
+pub stored_step : (touches : List Item → Type 0) (m new_m : Memory) (ds : List DeviceSeen) (addr : ℕ) (bytes : List ℕ) → refusal_of (length m.bytes) addr (length bytes) ≡ None
+    → new_m.bytes ≡ set_all m.bytes (byte_writes addr bytes) → touches (touched (byte_writes addr bytes))
+    → IsTouchingStep touches (state_of (record { memory = m; devices = ds })) (MemWrite addr bytes) Done (state_of (record { memory = new_m; devices = ds }))
+stored_step touches m new_m ds addr bytes none is items_are = record {
   effect = record { writes = byte_writes addr bytes; sectors = []; replaced = None };
   has = record { seen = Empty; may_see = tt; reply_is = rw none refl; effect_is = rw none refl; outcome_is = refl };
   changed = rw is refl;
-  logged = told ∙ ap (after_all taking log) (sym (append-nil (touched (byte_writes addr bytes))));
+  items_are = rw append-nil items_are;
 }
 
 -- The bytes lie outside RAM, or are too many.
-pub unstored_step : {L : Type 0} (taking : L → Item → L) (m : Memory) (log : L) (ds : List DeviceSeen) (addr : ℕ) (bytes : List ℕ) (error : RamError) (refusal : Refusal) → refusal_of (length m.bytes) addr (length bytes) ≡ Some error → refusal ≡ ram_refusal error
-    → IsLoggedStep taking (state_of (record { memory = m; devices = ds })) log (MemWrite addr bytes) (Refused refusal) (state_of (record { memory = m; devices = ds })) log
-unstored_step taking m log ds addr bytes error refusal some is = record {
+pub unstored_step : (touches : List Item → Type 0) (m : Memory) (ds : List DeviceSeen) (addr : ℕ) (bytes : List ℕ) (error : RamError) (refusal : Refusal) → refusal_of (length m.bytes) addr (length bytes) ≡ Some error → refusal ≡ ram_refusal error → touches []
+    → IsTouchingStep touches (state_of (record { memory = m; devices = ds })) (MemWrite addr bytes) (Refused refusal) (state_of (record { memory = m; devices = ds }))
+unstored_step touches m ds addr bytes error refusal some is untouched = record {
   effect = no_effect;
   has = record { seen = Empty; may_see = tt; reply_is = rw (some, is) refl; effect_is = rw some refl; outcome_is = refl };
   changed = refl;
-  logged = refl;
+  items_are = untouched;
 }
 
 past : (ds : List DeviceSeen) (dev : ℕ) → length ds ≤ dev → slice_get (map (λ (x : DeviceSeen). x.state) ds) dev ≡ None
 past ds dev h = slice_get_past (map (λ (x : DeviceSeen). x.state) ds) dev (rw length-map h)
 
 -- There is no such device.
-pub missing_step : {L : Type 0} (taking : L → Item → L) (m : Memory) (log : L) (ds : List DeviceSeen) (dev pick : ℕ) → length ds ≤ dev
-    → IsLoggedStep taking (state_of (record { memory = m; devices = ds })) log (Step dev pick) (Refused NoDevice) (state_of (record { memory = m; devices = ds })) log
-missing_step taking m log ds dev pick h = record {
+pub missing_step : (touches : List Item → Type 0) (m : Memory) (ds : List DeviceSeen) (dev pick : ℕ) → length ds ≤ dev → touches []
+    → IsTouchingStep touches (state_of (record { memory = m; devices = ds })) (Step dev pick) (Refused NoDevice) (state_of (record { memory = m; devices = ds }))
+missing_step touches m ds dev pick h untouched = record {
   effect = no_effect;
   has = record { seen = Empty; may_see = rw (past ds dev h) tt; reply_is = rw (past ds dev h) refl; effect_is = rw (past ds dev h) refl; outcome_is = refl };
   changed = refl;
-  logged = refl;
+  items_are = untouched;
 }
 
 -- Each device of a sound machine is sound.
@@ -241,8 +245,8 @@ held_step shapes old new e o reply held fits h =
       shapes_are = held.shapes_are ∙ shapes_seen old.devices ∙ sym devices ∙ sym (shapes_seen new.devices);
     }
 
-pub plain_step : {L : Type 0} (taking : L → Item → L) (m next : MachineState) (log new_log : L) (e : Event) (reply : Reply) → IsLoggedStep taking m log e reply next new_log → IsStep m e (outcome_of reply) reply next
-plain_step taking m next log new_log e reply h = record { effect = h.effect; has = h.has; changed = h.changed }
+pub plain_step : (touches : List Item → Type 0) (m next : MachineState) (e : Event) (reply : Reply) → IsTouchingStep touches m e reply next → IsStep m e (outcome_of reply) reply next
+plain_step touches m next e reply h = record { effect = h.effect; has = h.has; changed = h.changed }
 
 -- Such a step of a machine that is held is one that was applied.
 step_same : (old new : MachineState) (e : Event) (reply : Reply) (effect : Effect) → HasEffect old e (outcome_of reply) reply effect → new ≡ applied old effect → IsSameShape old new
@@ -281,8 +285,8 @@ given_for marks m (Step dev pick) sound = given_itself (marks_at marks dev).hone
 given_for marks m (Input dev bytes) sound = refl
 given_for marks m (Resize dev cols rows) sound = refl
 
-pub applied_step : (shapes : List Shape) (old new : Seen) (e : Event) (reply : Reply) → IsHeld shapes old → Fits e → IsStep (state_of old) e (outcome_of reply) reply (state_of new) → IsLater old.memory new.memory → all_marks new ≡ marks_after (all_marks old) e reply → FailsOnlyUnsteady (all_marks old) e reply → IsApplied old e reply new
-applied_step shapes old new e reply held fits h later marks unsteady = record {
+pub applied_step : (shapes : List Shape) (old new : Seen) (e : Event) (reply : Reply) → IsHeld shapes old → Fits e → (h : IsStep (state_of old) e (outcome_of reply) reply (state_of new)) → IsLater old.memory new.memory → Rises (items_of h.effect) old.memory new.memory → all_marks new ≡ marks_after (all_marks old) e reply → FailsOnlyUnsteady (all_marks old) e reply → IsApplied old e reply new
+applied_step shapes old new e reply held fits h later rises marks unsteady = record {
   given = held_for (state_of old) e;
   is_given = given_for (all_marks old) (state_of old) e held.sound;
   effect = h.effect;
@@ -295,16 +299,24 @@ applied_step shapes old new e reply held fits h later marks unsteady = record {
   shape = step_same (state_of old) (state_of new) e reply h.effect h.has h.changed;
   sound = (held_step shapes old new e (outcome_of reply) reply held fits h).sound;
   later = later;
+  rises = rises;
   marks = marks;
   unsteady = unsteady;
 }
 
-pub applied_logged : {L : Type 0} (taking : L → Item → L) (shapes : List Shape) (old new : Seen) (log new_log : L) (e : Event) (reply : Reply) → IsHeld shapes old → Fits e → IsLoggedStep taking (state_of old) log e reply (state_of new) new_log → IsLater old.memory new.memory → all_marks new ≡ marks_after (all_marks old) e reply → FailsOnlyUnsteady (all_marks old) e reply
+-- An event that writes into no page and no sector was applied, and RAM is as it was.
+pub applied_quiet : (shapes : List Shape) (old new : Seen) (e : Event) (reply : Reply) → IsQuiet e → IsHeld shapes old → Fits e → IsStep (state_of old) e (outcome_of reply) reply (state_of new) → new.memory ≡ old.memory → all_marks new ≡ marks_after (all_marks old) e reply → FailsOnlyUnsteady (all_marks old) e reply
+    → IsApplied old e reply new
+applied_quiet shapes old new e reply quiet held fits h same marks unsteady =
+    let none : items_of h.effect ≡ [] = ap items_of h.has.effect_is ∙ no_items (state_of old) e (outcome_of reply) h.has.seen quiet in
+    applied_step shapes old new e reply held fits h (rw same (later_same old.memory)) (rw none (rises_none old.memory new.memory same)) marks unsteady
+
+pub applied_logged : {L : Type 0} (taking : L → Item → L) (shapes : List Shape) (old new : Seen) (log new_log : L) (e : Event) (reply : Reply) → IsHeld shapes old → Fits e → IsTouchingStep (Touches taking log new_log old.memory new.memory) (state_of old) e reply (state_of new) → IsLater old.memory new.memory → all_marks new ≡ marks_after (all_marks old) e reply → FailsOnlyUnsteady (all_marks old) e reply
     → IsAppliedLogged taking old log e reply new new_log
 unfolding applied_step plain_step
 applied_logged taking shapes old new log new_log e reply held fits h later marks unsteady = record {
-  is_applied = applied_step shapes old new e reply held fits (plain_step taking (state_of old) (state_of new) log new_log e reply h) later marks unsteady;
-  logged = h.logged;
+  is_applied = applied_step shapes old new e reply held fits (plain_step (Touches taking log new_log old.memory new.memory) (state_of old) (state_of new) e reply h) later h.items_are.rises marks unsteady;
+  logged = h.items_are.log_is;
 }
 
 lengths_of : (ds : List DeviceSeen) → map length (map (λ (x : DeviceSeen). x.sectors) ds) ≡ map (λ (x : DeviceSeen). length x.sectors) ds
@@ -318,21 +330,21 @@ lengths_same ds es h = lengths_of es ∙ h ∙ sym (lengths_of ds)
 pub has_disk : (m : Memory) (ds : List DeviceSeen) (dev : ℕ) (d : DeviceSeen) → IsAt ds dev d → IsSound (state_of (record { memory = m; devices = ds })) → HasSectors d.state d.sectors
 has_disk m ds dev d at sound = rw (found_disk ds dev d at) at (has_sectors (state_of (record { memory = m; devices = ds })) dev d.state (found ds dev d at) sound)
 
-worked_shape : {L : Type 0} (taking : L → Item → L) (m new_m : Memory) (log new_log : L) (dev pick : ℕ) (d new : DeviceSeen) (reply : Reply)
-    → IsDeviceStep taking dev d.marks.honest m.bytes d.sectors log d.state pick reply new_m.bytes new.sectors new_log new.state → new.state.shape ≡ d.state.shape
+worked_shape : (touches : List Item → Type 0) (m new_m : Memory) (dev pick : ℕ) (d new : DeviceSeen) (reply : Reply)
+    → IsDeviceStep touches dev d.marks.honest m.bytes d.sectors d.state pick reply new_m.bytes new.sectors new.state → new.state.shape ≡ d.state.shape
 unfolding device_step
-worked_shape taking m new_m log new_log dev pick d new reply h = ap (λ (x : DeviceState). x.shape) h.device_is ∙ shape_at d.state m.bytes h.given pick (looked_at d.state pick) (outcome_of reply) h.seen
+worked_shape touches m new_m dev pick d new reply h = ap (λ (x : DeviceState). x.shape) h.device_is ∙ shape_at d.state m.bytes h.given pick (looked_at d.state pick) (outcome_of reply) h.seen
 
-seen_shapes : {L : Type 0} (taking : L → Item → L) (m new_m : Memory) (log new_log : L) (ds : List DeviceSeen) (dev pick : ℕ) (d new : DeviceSeen) (reply : Reply) → IsAt ds dev d
-    → IsDeviceStep taking dev d.marks.honest m.bytes d.sectors log d.state pick reply new_m.bytes new.sectors new_log new.state → map (λ (x : DeviceSeen). x.state.shape) (set ds dev new) ≡ map (λ (x : DeviceSeen). x.state.shape) ds
-seen_shapes taking m new_m log new_log ds dev pick d new reply at h = map-set_same (λ (x : DeviceSeen). x.state.shape) ds dev d new at (worked_shape taking m new_m log new_log dev pick d new reply h)
+seen_shapes : (touches : List Item → Type 0) (m new_m : Memory) (ds : List DeviceSeen) (dev pick : ℕ) (d new : DeviceSeen) (reply : Reply) → IsAt ds dev d
+    → IsDeviceStep touches dev d.marks.honest m.bytes d.sectors d.state pick reply new_m.bytes new.sectors new.state → map (λ (x : DeviceSeen). x.state.shape) (set ds dev new) ≡ map (λ (x : DeviceSeen). x.state.shape) ds
+seen_shapes touches m new_m ds dev pick d new reply at h = map-set_same (λ (x : DeviceSeen). x.state.shape) ds dev d new at (worked_shape touches m new_m dev pick d new reply h)
 
-same_worked : {L : Type 0} (taking : L → Item → L) (m new_m : Memory) (log new_log : L) (ds : List DeviceSeen) (dev pick : ℕ) (d new : DeviceSeen) (reply : Reply) → IsAt ds dev d
-    → IsDeviceStep taking dev d.marks.honest m.bytes d.sectors log d.state pick reply new_m.bytes new.sectors new_log new.state
+same_worked : (touches : List Item → Type 0) (m new_m : Memory) (ds : List DeviceSeen) (dev pick : ℕ) (d new : DeviceSeen) (reply : Reply) → IsAt ds dev d
+    → IsDeviceStep touches dev d.marks.honest m.bytes d.sectors d.state pick reply new_m.bytes new.sectors new.state
     → length new_m.bytes ≡ length m.bytes → length new.sectors ≡ length d.sectors → IsSameShape (state_of (record { memory = m; devices = ds })) (state_of (record { memory = new_m; devices = set ds dev new }))
-same_worked taking m new_m log new_log ds dev pick d new reply at h size count = record {
+same_worked touches m new_m ds dev pick d new reply at h size count = record {
   ram = size;
-  devices = sym (shapes_seen (set ds dev new)) ∙ seen_shapes taking m new_m log new_log ds dev pick d new reply at h ∙ shapes_seen ds;
+  devices = sym (shapes_seen (set ds dev new)) ∙ seen_shapes touches m new_m ds dev pick d new reply at h ∙ shapes_seen ds;
   disks = lengths_same ds (set ds dev new) (map-set_same (λ (x : DeviceSeen). length x.sectors) ds dev d new at count);
 }
 
@@ -343,19 +355,19 @@ same_count content given same = omega (arith, length-map {A = Sector} {B = Bool}
 has_given : (honest : Bool) (d : DeviceState) (content given : List Sector) → IsGiven honest content given → HasSectors d content → HasSectors d given
 has_given honest d content given is has = record { count = same_count content given is.bad ∙ has.count; whole = is.whole }
 
-pub held_worked : {L : Type 0} (taking : L → Item → L) (shapes : List Shape) (m new_m : Memory) (log new_log : L) (ds : List DeviceSeen) (dev pick : ℕ) (d new : DeviceSeen) (reply : Reply) → IsHeld shapes (record { memory = m; devices = ds }) → IsAt ds dev d
-    → IsDeviceStep taking dev d.marks.honest m.bytes d.sectors log d.state pick reply new_m.bytes new.sectors new_log new.state
+pub held_worked : (touches : List Item → Type 0) (shapes : List Shape) (m new_m : Memory) (ds : List DeviceSeen) (dev pick : ℕ) (d new : DeviceSeen) (reply : Reply) → IsHeld shapes (record { memory = m; devices = ds }) → IsAt ds dev d
+    → IsDeviceStep touches dev d.marks.honest m.bytes d.sectors d.state pick reply new_m.bytes new.sectors new.state
     → length new_m.bytes ≡ length m.bytes → IsBytes new_m.bytes → AreWhole new.sectors → length new.sectors ≡ length d.sectors → IsHeld shapes (record { memory = new_m; devices = set ds dev new })
-held_worked taking shapes m new_m log new_log ds dev pick d new reply held at h size bytes whole count =
+held_worked touches shapes m new_m ds dev pick d new reply held at h size bytes whole count =
     let old : MachineState = state_of (record { memory = m; devices = ds }) in
     let sound_new : IsSoundDevice (length m.bytes) new.state = rw h.device_is (sound_stepped d.state m.bytes h.given pick (outcome_of reply) h.seen h.may_look held.sound.bytes (sound_device m ds dev d at held.sound) (has_given d.marks.honest d.state d.sectors h.given h.is_given (has_disk m ds dev d at held.sound))) in
     let states : map (λ (x : DeviceSeen). x.state) (set ds dev new) ≡ set (map (λ (x : DeviceSeen). x.state) ds) dev new.state = map-set (λ (x : DeviceSeen). x.state) ds dev new in
     let disks : map (λ (x : DeviceSeen). x.sectors) (set ds dev new) ≡ set (map (λ (x : DeviceSeen). x.sectors) ds) dev new.sectors = map-set (λ (x : DeviceSeen). x.sectors) ds dev new in
-    let same = same_worked taking m new_m log new_log ds dev pick d new reply at h size count in
+    let same = same_worked touches m new_m ds dev pick d new reply at h size count in
     record {
       sound = sound_by old (state_of (record { memory = new_m; devices = set ds dev new })) same (rw (states, length-set) refl) (rw states (All-set (IsSoundDevice (length m.bytes)) (map (λ (x : DeviceSeen). x.state) ds) dev new.state sound_new held.sound.devices)) bytes
           (rw disks (All-set AreWhole (map (λ (x : DeviceSeen). x.sectors) ds) dev new.sectors whole held.sound.sectors)) held.sound;
-      shapes_are = held.shapes_are ∙ sym (seen_shapes taking m new_m log new_log ds dev pick d new reply at h);
+      shapes_are = held.shapes_are ∙ sym (seen_shapes touches m new_m ds dev pick d new reply at h);
     }
 
 -- The marks of the disks after it.
@@ -369,7 +381,7 @@ bad_sets dev [] bad = tt
 bad_sets dev (s ∷ ss) bad = (bad.0, bad_sets dev ss bad.1)
 
 pub worked : {L : Type 0} (taking : L → Item → L) (shapes : List Shape) (m new_m : Memory) (log new_log : L) (ds : List DeviceSeen) (dev pick : ℕ) (d new : DeviceSeen) (reply : Reply) → IsHeld shapes (record { memory = m; devices = ds }) → IsAt ds dev d
-    → IsDeviceStep taking dev d.marks.honest m.bytes d.sectors log d.state pick reply new_m.bytes new.sectors new_log new.state
+    → IsDeviceStep (Touches taking log new_log m new_m) dev d.marks.honest m.bytes d.sectors d.state pick reply new_m.bytes new.sectors new.state
     → length new_m.bytes ≡ length m.bytes → IsBytes new_m.bytes → AreWhole new.sectors → length new.sectors ≡ length d.sectors → IsLater m new_m → new.marks ≡ failed_if (is_failure reply) d.marks → (is_failure reply ≡ true → d.marks.steady ≡ false)
     → IsAppliedLogged taking (record { memory = m; devices = ds }) log (Step dev pick) reply (record { memory = new_m; devices = set ds dev new }) new_log
 worked taking shapes m new_m log new_log ds dev pick d new reply held at h size bytes whole count later marks unsteady =
@@ -392,11 +404,12 @@ worked taking shapes m new_m log new_log ds dev pick d new reply held at h size 
         bad = ap bad_on after ∙ map-set (map is_bad) disks dev new.sectors ∙ ap (set (bad_on disks) dev) h.content_is.bad ∙ sym (map-set (map is_bad) disks dev (blk.sectors_set d.sectors s.sets)) ∙ sym (ap bad_on is_set);
         unwritten = λ bad. after ∙ sectors new.sectors (h.content_is.unwritten (bad_sets dev s.sets bad));
         changed = λ honest. rw (map-set (λ (x : DeviceSeen). x.state) ds dev new, after, sectors new.sectors (h.content_is.is (is_honest honest)), h.ram_is) refl;
-        shape = same_worked taking m new_m log new_log ds dev pick d new reply at h size count;
-        sound = (held_worked taking shapes m new_m log new_log ds dev pick d new reply held at h size bytes whole count).sound;
+        shape = same_worked (Touches taking log new_log m new_m) m new_m ds dev pick d new reply at h size count;
+        sound = (held_worked (Touches taking log new_log m new_m) shapes m new_m ds dev pick d new reply held at h size bytes whole count).sound;
         later = later;
+        rises = rw (touched_on dev s.sets) h.items_are.rises;
         marks = failed_marks ds dev d new (is_failure reply) at marks;
         unsteady = λ failed. rw (found_marks ds dev d at) (unsteady failed);
       };
-      logged = rw (touched_on dev s.sets) h.log_is;
+      logged = rw (touched_on dev s.sets) h.items_are.log_is;
     }

@@ -56,7 +56,7 @@ of_size : (dev : ℕ) (d : Option DeviceState) (size : ConsoleSize) → items_of
 of_size dev None size = refl
 of_size dev (Some d) size = of_own dev d d.own size
 
-no_items : (m : MachineState) (e : Event) (o : Outcome) (seen : Next) → IsQuiet e → items_of (answer m e o seen).effect ≡ []
+pub no_items : (m : MachineState) (e : Event) (o : Outcome) (seen : Next) → IsQuiet e → items_of (answer m e o seen).effect ≡ []
 no_items m (RegRead dev off width) o seen quiet = of_read (slice_get m.devices dev) off width
 no_items m (RegWrite dev off width value) o seen quiet = of_written dev (slice_get m.devices dev) off width value
 no_items m (MemRead addr len) o seen quiet = of_ram m.ram addr len (refusal_of (length m.ram) addr len) o

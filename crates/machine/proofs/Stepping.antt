@@ -1,10 +1,9 @@
 -- Steps of a device as they are made: its positions are held in an array with room to spare.
-use Rattle.std.proofs.Common.{◌≡◌, ℕ, zero, suc, ◌-◌, ◌<◌, ◌≤◌, Bool, true, false, cond, List, [], ◌∷◌, length, take, set, get_or, Option, Some, None, refl, sym, ap, ◌∙◌, arith, append-nil}
+use Rattle.std.proofs.Common.{◌≡◌, ℕ, zero, suc, ◌-◌, ◌<◌, ◌≤◌, Bool, true, false, cond, List, [], ◌∷◌, length, take, set, get_or, Option, Some, None, refl, ap, ◌∙◌, arith, append-nil}
 use Rattle.std.specs.Prelude.{not, slice_get}
 use Rattle.std.proofs.lemmas.Option.{slice_get-get_or, slice_get_past, slice_get_within}
 use Rattle.std.proofs.Math.Seq.{take-set-lt}
-use Rattle.guestmem.specs.Item.{Item, after_all}
-use Rattle.guestmem.specs.Writes.{touched}
+use Rattle.guestmem.specs.Item.{Item}
 use Rattle.blk.specs.Advance.{advance_step, IsAfterAdvancing}
 use Rattle.blk.specs.Move.{is_disk_failed}
 use Rattle.blk.specs.Sectors.{AreWhole, Sector}
@@ -165,9 +164,9 @@ pub none_whole : AreWhole []
 none_whole k d below = absurd (omega (arith, below))
 
 -- A step that looks at no queue and advances no request.
-pub idle_step : {L : Type 0} (after : L → Item → L) (number : ℕ) (honest : Bool) (ram : List ℕ) (content : List Sector) (log : L) (d : DeviceState) (pick : ℕ) → AreWhole content → looked_at d pick ≡ None → advanced_at d pick ≡ None → IsDeviceStep after number honest ram content log d pick Idle ram content log d
+pub idle_step : (touches : List Item → Type 0) (number : ℕ) (honest : Bool) (ram : List ℕ) (content : List Sector) (d : DeviceState) (pick : ℕ) → AreWhole content → looked_at d pick ≡ None → advanced_at d pick ≡ None → touches [] → IsDeviceStep touches number honest ram content d pick Idle ram content d
 unfolding device_step
-idle_step after number honest ram content log d pick whole none no_request = record {
+idle_step touches number honest ram content d pick whole none no_request untouched = record {
   given = content;
   is_given = given_itself honest content whole;
   seen = next.Empty;
@@ -176,12 +175,12 @@ idle_step after number honest ram content log d pick whole none no_request = rec
   device_is = rw (none, no_request) refl;
   ram_is = rw (none, no_request) refl;
   content_is = rw (none, no_request) (none_set honest content content refl);
-  log_is = rw (none, no_request) refl;
+  items_are = rw (none, no_request) untouched;
 }
 
 -- A look that is refused memory, and one that serves a queue.
-pub refused_look : {L : Type 0} (after : L → Item → L) (ram : List ℕ) (log : L) (d : DeviceState) (pick : ℕ) (q : RingState) → MayRefuse (wanted_of d.own pick) ram q → IsLookedStep after ram log d pick q NoMemory ram log d
-refused_look after ram log d pick q full = record { seen = next.Empty; may_look = full; reply_is = refl; device_is = refl; ram_is = refl; log_is = refl }
+pub refused_look : (touches : List Item → Type 0) (ram : List ℕ) (d : DeviceState) (pick : ℕ) (q : RingState) → MayRefuse (wanted_of d.own pick) ram q → touches [] → IsLookedStep touches ram d pick q NoMemory ram d
+refused_look touches ram d pick q full untouched = record { seen = next.Empty; may_look = full; reply_is = refl; device_is = refl; ram_is = refl; items_are = untouched }
 
 -- A queue that was served is answered by no refusal.
 fine_bytes : (answer : Received) → outcome_of (reply_of (served_of answer)) ≡ fine
@@ -213,10 +212,10 @@ fine_service shape (Console size held) (suc number) ram q seen = fine_message (t
 fine_service shape (Block requests) number ram q seen = fine_taking (take_step ram q (block_of shape) requests seen).answer
 fine_service shape (Entropy pool) number ram q seen = fine_bytes (receive_step ram q pool seen).answer
 
-pub served_look : {L : Type 0} (after : L → Item → L) (ram : List ℕ) (log : L) (shape : Shape) (r : Registers) (held : List Positions) (own : Own) (pick : ℕ) (q : RingState) (s : Served) (new_ram : List ℕ) (new_ring : RingState) (new_own : Own) (new_log : L) (new_r : Registers)
-    → pick < length r.queues → IsServed after ram q shape own pick log s new_ram new_ring new_own new_log → new_r ≡ registers_after r pick s → length new_r.queues ≡ length r.queues
-    → IsLookedStep after ram log (held_device shape r held own) pick q (reply_of s) new_ram new_log (held_device shape new_r (set held pick (record { taking = new_ring.taking; used = new_ring.used })) new_own)
-served_look after ram log shape r held own pick q s new_ram new_ring new_own new_log new_r there h registers count =
+pub served_look : (touches : List Item → Type 0) (ram : List ℕ) (shape : Shape) (r : Registers) (held : List Positions) (own : Own) (pick : ℕ) (q : RingState) (s : Served) (new_ram : List ℕ) (new_ring : RingState) (new_own : Own) (new_r : Registers)
+    → pick < length r.queues → IsServed touches ram q shape own pick s new_ram new_ring new_own → new_r ≡ registers_after r pick s → length new_r.queues ≡ length r.queues
+    → IsLookedStep touches ram (held_device shape r held own) pick q (reply_of s) new_ram (held_device shape new_r (set held pick (record { taking = new_ring.taking; used = new_ring.used })) new_own)
+served_look touches ram shape r held own pick q s new_ram new_ring new_own new_r there h registers count =
     let new : Positions = record { taking = new_ring.taking; used = new_ring.used } in
     let was_fine : outcome_of (reply_of s) ≡ fine = rw h.served_is (fine_service shape own pick ram q h.seen) in
     let place : take (length new_r.queues) (set held pick new) ≡ set (take (length r.queues) held) pick new = ap (λ n. take n (set held pick new)) count ∙ take-set-lt (length r.queues) held pick new there in
@@ -226,7 +225,7 @@ served_look after ram log shape r held own pick q s new_ram new_ring new_own new
       reply_is = rw was_fine (ap reply_of h.served_is);
       device_is = rw (was_fine, place, registers, h.ring_is, h.own_is, h.served_is) refl;
       ram_is = rw was_fine h.ram_is;
-      log_is = rw was_fine h.log_is;
+      items_are = rw was_fine h.items_are;
     }
 
 no_sets : (d : DeviceState) (ram : List ℕ) (pick : ℕ) (q : RingState) (o : Outcome) (seen : Next) → (looked_step d ram pick q o seen).sets ≡ []
@@ -234,10 +233,10 @@ no_sets d ram pick q fine seen = refl
 no_sets d ram pick q disk_failed seen = refl
 no_sets d ram pick q no_memory seen = refl
 
-pub looked_device : {L : Type 0} (after : L → Item → L) (number : ℕ) (honest : Bool) (ram : List ℕ) (content : List Sector) (log : L) (d : DeviceState) (pick : ℕ) (q : RingState) (reply : Reply) (new_ram : List ℕ) (new_log : L) (new : DeviceState) → AreWhole content → looked_at d pick ≡ Some q
-    → IsLookedStep after ram log d pick q reply new_ram new_log new → IsDeviceStep after number honest ram content log d pick reply new_ram content new_log new
+pub looked_device : (touches : List Item → Type 0) (number : ℕ) (honest : Bool) (ram : List ℕ) (content : List Sector) (d : DeviceState) (pick : ℕ) (q : RingState) (reply : Reply) (new_ram : List ℕ) (new : DeviceState) → AreWhole content → looked_at d pick ≡ Some q
+    → IsLookedStep touches ram d pick q reply new_ram new → IsDeviceStep touches number honest ram content d pick reply new_ram content new
 unfolding device_step
-looked_device after number honest ram content log d pick q reply new_ram new_log new whole some h =
+looked_device touches number honest ram content d pick q reply new_ram new whole some h =
     let none = no_sets d ram pick q (outcome_of reply) h.seen in
     record {
       given = content;
@@ -248,7 +247,7 @@ looked_device after number honest ram content log d pick q reply new_ram new_log
       device_is = rw some h.device_is;
       ram_is = rw some h.ram_is;
       content_is = rw (some, none) (none_set honest content content refl);
-      log_is = rw (some, none) (h.log_is ∙ ap (after_all after log) (sym (append-nil (touched (looked_step d ram pick q (outcome_of reply) h.seen).writes))));
+      items_are = rw (some, none, append-nil) h.items_are;
     }
 
 no_failure : (reply : Reply) → (reply ≡ DiskFailed → ⊥) → is_failure reply ≡ false
@@ -275,8 +274,8 @@ not_failed want ram q seen fine is h = cc
 not_failed want ram q seen disk_failed is h = h
 not_failed want ram q seen no_memory is h = cc
 
-pub fine_look : {L : Type 0} (after : L → Item → L) (ram : List ℕ) (log : L) (d : DeviceState) (pick : ℕ) (q : RingState) (reply : Reply) (new_ram : List ℕ) (new_log : L) (new : DeviceState) → IsLookedStep after ram log d pick q reply new_ram new_log new → is_failure reply ≡ false
-fine_look after ram log d pick q reply new_ram new_log new h = no_failure reply (λ is. not_failed (wanted_of d.own pick) ram q h.seen (outcome_of reply) (rw is refl) h.may_look)
+pub fine_look : (touches : List Item → Type 0) (ram : List ℕ) (d : DeviceState) (pick : ℕ) (q : RingState) (reply : Reply) (new_ram : List ℕ) (new : DeviceState) → IsLookedStep touches ram d pick q reply new_ram new → is_failure reply ≡ false
+fine_look touches ram d pick q reply new_ram new h = no_failure reply (λ is. not_failed (wanted_of d.own pick) ram q h.seen (outcome_of reply) (rw is refl) h.may_look)
 
 -- A request that went on.
 does_by : (a : Advanced) → disk_does (outcome_of (reply_to_advance a)) ≡ not (is_disk_failed a)
@@ -293,11 +292,11 @@ failure_by advanced.BadSector = refl
 failure_by advanced.DiskFailed = refl
 failure_by (advanced.Completed len due) = refl
 
-pub advanced_step : {L : Type 0} (after : L → Item → L) (number : ℕ) (honest : Bool) (ram : List ℕ) (content : List Sector) (log : L) (shape : Shape) (r : Registers) (held : List Positions) (own : Own) (pick : ℕ) (q : RingState) (a : Advanced) (new_ram : List ℕ) (new_ring : RingState) (new_content : List Sector) (new_own : Own) (new_log : L) (new_r : Registers)
-    → 0 < length r.queues → IsAfterAdvancing after honest number ram content log (λ given. advance_step (block_of shape) ram q given (requests_of own) (pick - 1) (not (is_disk_failed a))) a new_ram new_ring new_content (requests_of new_own) new_log
+pub advanced_step : (touches : List Item → Type 0) (number : ℕ) (honest : Bool) (ram : List ℕ) (content : List Sector) (shape : Shape) (r : Registers) (held : List Positions) (own : Own) (pick : ℕ) (q : RingState) (a : Advanced) (new_ram : List ℕ) (new_ring : RingState) (new_content : List Sector) (new_own : Own) (new_r : Registers)
+    → 0 < length r.queues → IsAfterAdvancing touches honest number ram content (λ given. advance_step (block_of shape) ram q given (requests_of own) (pick - 1) (not (is_disk_failed a))) a new_ram new_ring new_content (requests_of new_own)
     → new_own ≡ with_requests own (requests_of new_own) → new_r ≡ cond (is_advance_due a) (with_common r (used_raised r.common)) r → length new_r.queues ≡ length r.queues
-    → IsAdvancedStep after number honest ram content log (held_device shape r held own) pick q (reply_to_advance a) new_ram new_content new_log (held_device shape new_r (set held 0 (record { taking = new_ring.taking; used = new_ring.used })) new_own)
-advanced_step after number honest ram content log shape r held own pick q a new_ram new_ring new_content new_own new_log new_r there h own_is registers count =
+    → IsAdvancedStep touches number honest ram content (held_device shape r held own) pick q (reply_to_advance a) new_ram new_content (held_device shape new_r (set held 0 (record { taking = new_ring.taking; used = new_ring.used })) new_own)
+advanced_step touches number honest ram content shape r held own pick q a new_ram new_ring new_content new_own new_r there h own_is registers count =
     let new : Positions = record { taking = new_ring.taking; used = new_ring.used } in
     let s = advance_step (block_of shape) ram q h.given (requests_of own) (pick - 1) (not (is_disk_failed a)) in
     let place : take (length new_r.queues) (set held 0 new) ≡ set (take (length r.queues) held) 0 new = ap (λ n. take n (set held 0 new)) count ∙ take-set-lt (length r.queues) held 0 new there in
@@ -309,13 +308,13 @@ advanced_step after number honest ram content log shape r held own pick q a new_
       device_is = rw (does_by a, place, registers, h.ring_is, own_is, requests, ← h.answer_is) refl;
       ram_is = rw (does_by a) h.ram_is;
       content_is = rw (does_by a) h.content_is;
-      log_is = rw (does_by a) h.log_is;
+      items_are = rw (does_by a) h.items_are;
     }
 
-pub advanced_device : {L : Type 0} (after : L → Item → L) (number : ℕ) (honest : Bool) (ram : List ℕ) (content : List Sector) (log : L) (d : DeviceState) (pick : ℕ) (q : RingState) (reply : Reply) (new_ram : List ℕ) (new_content : List Sector) (new_log : L) (new : DeviceState) → looked_at d pick ≡ None → advanced_at d pick ≡ Some q
-    → IsAdvancedStep after number honest ram content log d pick q reply new_ram new_content new_log new → IsDeviceStep after number honest ram content log d pick reply new_ram new_content new_log new
+pub advanced_device : (touches : List Item → Type 0) (number : ℕ) (honest : Bool) (ram : List ℕ) (content : List Sector) (d : DeviceState) (pick : ℕ) (q : RingState) (reply : Reply) (new_ram : List ℕ) (new_content : List Sector) (new : DeviceState) → looked_at d pick ≡ None → advanced_at d pick ≡ Some q
+    → IsAdvancedStep touches number honest ram content d pick q reply new_ram new_content new → IsDeviceStep touches number honest ram content d pick reply new_ram new_content new
 unfolding device_step
-advanced_device after number honest ram content log d pick q reply new_ram new_content new_log new none some h = record {
+advanced_device touches number honest ram content d pick q reply new_ram new_content new none some h = record {
   given = h.given;
   is_given = h.is_given;
   seen = next.Empty;
@@ -324,5 +323,5 @@ advanced_device after number honest ram content log d pick q reply new_ram new_c
   device_is = rw (none, some) h.device_is;
   ram_is = rw (none, some) h.ram_is;
   content_is = rw (none, some) h.content_is;
-  log_is = rw (none, some) h.log_is;
+  items_are = rw (none, some) h.items_are;
 }

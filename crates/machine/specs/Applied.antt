@@ -2,6 +2,7 @@
 use Rattle.std.specs.Prelude.{◌≡◌, ℕ, List, [], ◌∷◌, map, slice_set, IsTrue, Bool, true, false, Option, Some, None, Result, IfOk, OnOk, OnErr, if◌then◌else◌}
 use Rattle.guestmem.specs.Item.{Item, after_all}
 use Rattle.guestmem.specs.Later.{IsLater}
+use Rattle.guestmem.specs.Rises.{Rises}
 use Rattle.blk.specs.Sectors.{IsGiven, Sector, is_bad}
 use Rattle.machine.specs.Effect.{Effect, SectorSet, applied, items_of}
 use Rattle.machine.specs.EffectLaws.{HasItem, IsSameShape, sector_on, sectors_on}
@@ -57,8 +58,8 @@ AreMadeBad (s ∷ ss) = (is_bad s.content ≡ true) × AreMadeBad ss
 -- An event was applied: the reply and the effect are those of a step, with the outcome that the reply reports, of the machine
 -- with the sectors as the disk returned them. RAM, the devices and which sectors are bad are as the effect says, whatever the
 -- disk does. So are the contents of the sectors, if the effect only makes sectors bad, or if the disk is honest. The machine
--- keeps its shape and is sound, its RAM is a later one (`IsLater`), the marks of the disks count the failure if the reply
--- reports one, and a steady disk does not fail.
+-- keeps its shape and is sound, its RAM is a later one (`IsLater`) whose versions rise in exactly the pages that the effect writes
+-- into (`Rises`), the marks of the disks count the failure if the reply reports one, and a steady disk does not fail.
 pub record IsApplied (old : Seen) (e : Event) (reply : Reply) (new : Seen) : Type 0 where
   pub given : List Sector
   pub is_given : IsGivenFor (all_marks old) (state_of old) e given
@@ -72,6 +73,7 @@ pub record IsApplied (old : Seen) (e : Event) (reply : Reply) (new : Seen) : Typ
   pub shape : IsSameShape (state_of old) (state_of new)
   pub sound : IsSound (state_of new)
   pub later : IsLater old.memory new.memory
+  pub rises : Rises (items_of effect) old.memory new.memory
   pub marks : all_marks new ≡ marks_after (all_marks old) e reply
   pub unsteady : FailsOnlyUnsteady (all_marks old) e reply
 
@@ -79,6 +81,12 @@ pub record IsApplied (old : Seen) (e : Event) (reply : Reply) (new : Seen) : Typ
 pub record IsAppliedLogged {L : Type 0} (taking : L → Item → L) (old : Seen) (log : L) (e : Event) (reply : Reply) (new : Seen) (new_log : L) : Type 0 where
   pub is_applied : IsApplied old e reply new
   pub logged : new_log ≡ after_all taking log (items_of is_applied.effect)
+
+-- The events of a list were applied one after another, with these replies.
+abbrev pub AreApplied : Seen → List Event → List Reply → Seen → Type 0
+AreApplied old [] [] new = new ≡ old
+AreApplied old (e ∷ es) (r ∷ rs) new = (next : Seen) × IsApplied old e r next × AreApplied next es rs new
+AreApplied old es rs new = ⊥
 
 -- A sector that exists and is not bad.
 abbrev pub IsGood : Option Sector → Type 0

@@ -1,6 +1,7 @@
--- Steps of devices that were executed: how the state after a step depends on the state before it.
+-- Steps of devices that were executed: how the state after a step depends on the state before it, and which items were touched. What
+-- touching is, as that a log has taken the items in, `touches` says.
 use Rattle.std.specs.Prelude.{◌≡◌, ◌++◌, ℕ, List, Bool}
-use Rattle.guestmem.specs.Item.{Item, after_all}
+use Rattle.guestmem.specs.Item.{Item}
 use Rattle.guestmem.specs.Writes.{set_all, touched}
 use Rattle.blk.specs.Move.{AreSet, sectors_touched}
 use Rattle.blk.specs.Sectors.{IsGiven, Sector}
@@ -15,40 +16,40 @@ use Rattle.machine.specs.declared.reply.Reply.{Reply}
 use Rattle.machine.specs.declared.served.Served.{Served}
 use Rattle.machine.specs.declared.shape.Shape.{Shape}
 
--- The queue of this number was served, given what the device sees there: how it went, and RAM, the log, the ring and the kind-specific
--- state after it.
-pub record IsServed {L : Type 0} (after : L → Item → L) (ram : List ℕ) (q : RingState) (shape : Shape) (own : Own) (number : ℕ) (log : L) (served : Served) (new_ram : List ℕ) (new_ring : RingState) (new_own : Own) (new_log : L) : Type 0 where
+-- The queue of this number was served, given what the device sees there: how it went, and RAM, the ring and the kind-specific state
+-- after it.
+pub record IsServed (touches : List Item → Type 0) (ram : List ℕ) (q : RingState) (shape : Shape) (own : Own) (number : ℕ) (served : Served) (new_ram : List ℕ) (new_ring : RingState) (new_own : Own) : Type 0 where
   pub seen : Next
   pub sees : Sees (wanted_of own number) ram q seen
   pub served_is : served ≡ (serve shape own number ram q seen).served
   pub ram_is : new_ram ≡ set_all ram (serve shape own number ram q seen).writes
-  pub log_is : new_log ≡ after_all after log (touched (serve shape own number ram q seen).writes)
+  pub items_are : touches (touched (serve shape own number ram q seen).writes)
   pub ring_is : new_ring ≡ (serve shape own number ram q seen).ring
   pub own_is : new_own ≡ (serve shape own number ram q seen).own
 
 -- A step that looks at a ring was executed. The outcome is the one that the reply reports.
-pub record IsLookedStep {L : Type 0} (after : L → Item → L) (ram : List ℕ) (log : L) (d : DeviceState) (pick : ℕ) (q : RingState) (reply : Reply) (new_ram : List ℕ) (new_log : L) (new : DeviceState) : Type 0 where
+pub record IsLookedStep (touches : List Item → Type 0) (ram : List ℕ) (d : DeviceState) (pick : ℕ) (q : RingState) (reply : Reply) (new_ram : List ℕ) (new : DeviceState) : Type 0 where
   pub seen : Next
   pub may_look : MayLookAt (wanted_of d.own pick) q ram (outcome_of reply) seen
   pub reply_is : reply ≡ (looked_step d ram pick q (outcome_of reply) seen).reply
   pub device_is : new ≡ (looked_step d ram pick q (outcome_of reply) seen).device
   pub ram_is : new_ram ≡ set_all ram (looked_step d ram pick q (outcome_of reply) seen).writes
-  pub log_is : new_log ≡ after_all after log (touched (looked_step d ram pick q (outcome_of reply) seen).writes)
+  pub items_are : touches (touched (looked_step d ram pick q (outcome_of reply) seen).writes)
 
 -- A step that advances a request was executed, with the sectors as the disk returned them. The outcome is the one that the
 -- reply reports.
-pub record IsAdvancedStep {L : Type 0} (after : L → Item → L) (number : ℕ) (honest : Bool) (ram : List ℕ) (content : List Sector) (log : L) (d : DeviceState) (pick : ℕ) (q : RingState) (reply : Reply) (new_ram : List ℕ) (new_content : List Sector) (new_log : L) (new : DeviceState) : Type 0 where
+pub record IsAdvancedStep (touches : List Item → Type 0) (number : ℕ) (honest : Bool) (ram : List ℕ) (content : List Sector) (d : DeviceState) (pick : ℕ) (q : RingState) (reply : Reply) (new_ram : List ℕ) (new_content : List Sector) (new : DeviceState) : Type 0 where
   pub given : List Sector
   pub is_given : IsGiven honest content given
   pub reply_is : reply ≡ (advance_on d ram given pick q (outcome_of reply)).reply
   pub device_is : new ≡ (advance_on d ram given pick q (outcome_of reply)).device
   pub ram_is : new_ram ≡ set_all ram (advance_on d ram given pick q (outcome_of reply)).writes
   pub content_is : AreSet honest content (advance_on d ram given pick q (outcome_of reply)).sets new_content
-  pub log_is : new_log ≡ after_all after log (touched (advance_on d ram given pick q (outcome_of reply)).writes ++ sectors_touched number (advance_on d ram given pick q (outcome_of reply)).sets)
+  pub items_are : touches (touched (advance_on d ram given pick q (outcome_of reply)).writes ++ sectors_touched number (advance_on d ram given pick q (outcome_of reply)).sets)
 
 -- A step of the device of this number was executed, with the sectors as the disk returned them: its reply, and the state after
 -- it. The outcome is the one that the reply reports.
-pub record IsDeviceStep {L : Type 0} (after : L → Item → L) (number : ℕ) (honest : Bool) (ram : List ℕ) (content : List Sector) (log : L) (d : DeviceState) (pick : ℕ) (reply : Reply) (new_ram : List ℕ) (new_content : List Sector) (new_log : L) (new : DeviceState) : Type 0 where
+pub record IsDeviceStep (touches : List Item → Type 0) (number : ℕ) (honest : Bool) (ram : List ℕ) (content : List Sector) (d : DeviceState) (pick : ℕ) (reply : Reply) (new_ram : List ℕ) (new_content : List Sector) (new : DeviceState) : Type 0 where
   pub given : List Sector
   pub is_given : IsGiven honest content given
   pub seen : Next
@@ -57,4 +58,4 @@ pub record IsDeviceStep {L : Type 0} (after : L → Item → L) (number : ℕ) (
   pub device_is : new ≡ (device_step d ram given pick (outcome_of reply) seen).device
   pub ram_is : new_ram ≡ set_all ram (device_step d ram given pick (outcome_of reply) seen).writes
   pub content_is : AreSet honest content (device_step d ram given pick (outcome_of reply) seen).sets new_content
-  pub log_is : new_log ≡ after_all after log (touched (device_step d ram given pick (outcome_of reply) seen).writes ++ sectors_touched number (device_step d ram given pick (outcome_of reply) seen).sets)
+  pub items_are : touches (touched (device_step d ram given pick (outcome_of reply) seen).writes ++ sectors_touched number (device_step d ram given pick (outcome_of reply) seen).sets)

@@ -1,6 +1,6 @@
 -- Steps of a machine.
 use Rattle.std.specs.Prelude.{min, ◌-◌, ◌++◌, ◌≡◌, ℕ, List, [], ◌∷◌, take, drop, length, Option, Some, None, slice_get, Result, Ok, Err, if◌then◌else◌}
-use Rattle.guestmem.specs.Item.{Item, after_all}
+use Rattle.guestmem.specs.Item.{Item}
 use Rattle.guestmem.specs.Write.{refusal_of}
 use Rattle.guestmem.specs.Writes.{byte_writes}
 use Rattle.guestmem.specs.declared.error.RamError.{RamError}
@@ -209,10 +209,10 @@ pub record IsStep (m : MachineState) (e : Event) (o : Outcome) (reply : Reply) (
   pub has : HasEffect m e o reply effect
   pub changed : after ≡ applied m effect
 
--- A step whose outcome is the one that the reply reports, with a log: it has taken in exactly the items that the step writes
--- into.
-pub record IsLoggedStep {L : Type 0} (taking : L → Item → L) (m : MachineState) (log : L) (e : Event) (reply : Reply) (after : MachineState) (new_log : L) : Type 0 where
+-- A step whose outcome is the one that the reply reports, and which items were touched: those that it writes into. What touching is,
+-- as that a log has taken them in, `touches` says.
+pub record IsTouchingStep (touches : List Item → Type 0) (m : MachineState) (e : Event) (reply : Reply) (after : MachineState) : Type 0 where
   pub effect : Effect
   pub has : HasEffect m e (outcome_of reply) reply effect
   pub changed : after ≡ applied m effect
-  pub logged : new_log ≡ after_all taking log (items_of effect)
+  pub items_are : touches (items_of effect)

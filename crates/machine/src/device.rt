@@ -1,6 +1,7 @@
 //! A device and its disk.
 
 ghost use Rattle.std.specs.Prelude.{◌≡◌, ◌<◌, ◌≤◌, ℕ, IsTrue, OnErr, OnOk, count_by, is_ok, map, not, true, false, length};
+ghost use Rattle.guestmem.specs.Rises.{Touches};
 ghost use Rattle.dirtylog.specs.Members.{IsLeastFrom};
 ghost use Rattle.machine.specs.Seen.{DeviceSeen, sectors_of, marks_of};
 
@@ -113,7 +114,7 @@ impl<D: Disk> Device<D> {
         requires capacity { length self.old.sectors ≡ sector_count self.old.state.shape }
         requires may { MayPages L.may log.old (length ram.old.bytes) }
         requires may_sectors { MaySectors L.may log.old number (length self.old.sectors) }
-        ensures step { IsDeviceStep L.after number self.old.marks.honest ram.old.bytes self.old.sectors log.old self.old.state pick result ram.new.bytes self.new.sectors log.new self.new.state }
+        ensures step { IsDeviceStep (Touches L.after log.old log.new ram.old ram.new) number self.old.marks.honest ram.old.bytes self.old.sectors self.old.state pick result ram.new.bytes self.new.sectors self.new.state }
         ensures marks { self.new.marks ≡ failed_if (is_failure result) self.old.marks }
         ensures unsteady { is_failure result ≡ true → self.old.marks.steady ≡ false }
         ensures capacity { length self.new.sectors ≡ length self.old.sectors }

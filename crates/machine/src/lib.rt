@@ -15,7 +15,7 @@
 //!   sectors as the disk gave them in this step (`specs/Applied`): the reply, RAM, the devices and which sectors are bad are as
 //!   its effect says, with any disk. Where no sector was written, what the sectors hold is known too; what a written sector
 //!   holds, and that a disk gives what it holds, is said of honest disks. The machine is sound after it, and its RAM is a later
-//!   one.
+//!   one. The versions of exactly the pages that the effect writes into rise: every other page keeps its version.
 //! - `apply_logged(event, log)` is the same step, and the log is then what the items of the step's effect make of it: exactly
 //!   the pages and sectors that the step writes into.
 //! - `read_register`, `write_register`, `read_ram`, `write_ram`, `input`, `resize` and `step` are the steps of their events,
@@ -29,7 +29,8 @@
 //!   It reads no RAM.
 //! - `read_sector` gives a sector, or says that it is bad, and then makes no call of the disk. `next_bad` names the next bad
 //!   sector of a disk, and `read_good_sector` reads one that is not bad, with no look at the marks.
-//! - `play(events)` is a run of steps (`specs/Run`), with a reply to each; where it is refused memory, nothing was played.
+//! - `play(events)` is a run of steps (`specs/Run`), with a reply to each: one event after another is applied. Where it is refused
+//!   memory, nothing was played.
 //! - `Machine::new` gives zeros and first values, or the first of its refusals; `new_or_back` also gives the disks back.
 //!   `restore` gives the machine of what was saved. Every machine is sound (`specs/Sound`), and stays so. `lines` is the
 //!   interrupt lines.

@@ -1,6 +1,7 @@
 //! What a device has that only its kind has.
 
 ghost use Rattle.std.specs.Prelude.{◌≡◌, ◌≤◌, ◌<◌, ℕ, length, not, IfOk, OnErr, true};
+ghost use Rattle.guestmem.specs.Rises.{Touches};
 ghost use Rattle.chains.specs.Frame.{MayServe, HasServed, MayLook, HasLooked, IsUntouched};
 ghost use Rattle.blk.specs.Advance.{advance_step, IsAfterAdvancing};
 ghost use Rattle.blk.specs.Move.{MaySectors, is_disk_failed};
@@ -157,7 +158,7 @@ impl Own {
         requires ready { MayLook L.may ram.old (R.state ring.old) (R.decoder ring.old) log.old }
         requires room { has_work self.old number ≡ true }
         requires sound { AreSound (length ram.old.bytes) (R.state ring.old) (block_of shape) (requests_of self.old) }
-        ensures served { IfOk result (λ served. IsServed L.after ram.old.bytes (R.state ring.old) shape self.old number log.old served ram.new.bytes (R.state ring.new) self.new log.new) }
+        ensures served { IfOk result (λ served. IsServed (Touches L.after log.old log.new ram.old ram.new) ram.old.bytes (R.state ring.old) shape self.old number served ram.new.bytes (R.state ring.new) self.new) }
         ensures memory { OnErr result (MayRefuse (wanted_of self.old number) ram.old.bytes (R.state ring.old)) }
         ensures untouched { OnErr result (IsUntouched ram.old ram.new (R.state ring.old) (R.state ring.new) log.old log.new) }
         ensures own_stays { OnErr result (self.new ≡ self.old) }
@@ -192,7 +193,7 @@ impl Own {
         requires capacity { length sectors.old.content ≡ (block_of shape).sectors }
         requires sound { AreSound (length ram.old.bytes) (R.state ring.old) (block_of shape) (requests_of self.old) }
         requires may_sectors { MaySectors L.may log.old device (length sectors.old.content) }
-        ensures changes { IsAfterAdvancing L.after sectors.old.honest device ram.old.bytes sectors.old.content log.old (λ given. advance_step (block_of shape) ram.old.bytes (R.state ring.old) given (requests_of self.old) k (not (is_disk_failed result))) result ram.new.bytes (R.state ring.new) sectors.new.content (requests_of self.new) log.new }
+        ensures changes { IsAfterAdvancing (Touches L.after log.old log.new ram.old ram.new) sectors.old.honest device ram.old.bytes sectors.old.content (λ given. advance_step (block_of shape) ram.old.bytes (R.state ring.old) given (requests_of self.old) k (not (is_disk_failed result))) result ram.new.bytes (R.state ring.new) sectors.new.content (requests_of self.new) }
         ensures own { self.new ≡ with_requests self.old (requests_of self.new) }
         ensures kept { IsKept sectors.old (is_disk_failed result) sectors.new }
         ensures whole { AreWhole sectors.new.content }
@@ -223,7 +224,7 @@ fn serve_frames<R: Ring, L: TouchLog>(
 ) -> Result<Served, NoMemory>
     requires ready { MayLook L.may ram.old (R.state ring.old) (R.decoder ring.old) log.old }
     requires work { has_work (owns.Network inbox.old) number ≡ true }
-    ensures served { (shape : Shape) → IfOk result (λ served. IsServed L.after ram.old.bytes (R.state ring.old) shape (owns.Network inbox.old) number log.old served ram.new.bytes (R.state ring.new) (owns.Network inbox.new) log.new) }
+    ensures served { (shape : Shape) → IfOk result (λ served. IsServed (Touches L.after log.old log.new ram.old ram.new) ram.old.bytes (R.state ring.old) shape (owns.Network inbox.old) number served ram.new.bytes (R.state ring.new) (owns.Network inbox.new)) }
     ensures memory { OnErr result (MayRefuse (wanted_of (owns.Network inbox.old) number) ram.old.bytes (R.state ring.old)) }
     ensures untouched { OnErr result (IsUntouched ram.old ram.new (R.state ring.old) (R.state ring.new) log.old log.new) }
     ensures inbox_stays { OnErr result (inbox.new ≡ inbox.old) }
@@ -252,7 +253,7 @@ fn serve_text<R: Ring, L: TouchLog>(
 ) -> Result<Served, NoMemory>
     requires ready { MayLook L.may ram.old (R.state ring.old) (R.decoder ring.old) log.old }
     requires work { has_work (owns.Console first_size held.old) number ≡ true }
-    ensures served { (shape : Shape) (size : ConsoleSize) → IfOk result (λ served. IsServed L.after ram.old.bytes (R.state ring.old) shape (owns.Console size held.old) number log.old served ram.new.bytes (R.state ring.new) (owns.Console size held.new) log.new) }
+    ensures served { (shape : Shape) (size : ConsoleSize) → IfOk result (λ served. IsServed (Touches L.after log.old log.new ram.old ram.new) ram.old.bytes (R.state ring.old) shape (owns.Console size held.old) number served ram.new.bytes (R.state ring.new) (owns.Console size held.new)) }
     ensures memory { OnErr result (MayRefuse (wanted_of (owns.Console first_size held.old) number) ram.old.bytes (R.state ring.old)) }
     ensures untouched { OnErr result (IsUntouched ram.old ram.new (R.state ring.old) (R.state ring.new) log.old log.new) }
     ensures held_stays { OnErr result (held.new ≡ held.old) }

@@ -3,6 +3,7 @@
 mod first_pick;
 
 ghost use Rattle.std.specs.Prelude.{◌≡◌, ◌≤◌, ◌<◌, ℕ, IfOk, length, take, if◌then◌else◌};
+ghost use Rattle.guestmem.specs.Rises.{Touches};
 ghost use Rattle.mmio.specs.State.{queue_at, with_common};
 ghost use Rattle.mmio.specs.Interrupts.{reset_asked, used_raised};
 ghost use Rattle.mmio.specs.QueueRegisters.{notified_cleared};
@@ -214,7 +215,7 @@ impl DeviceState {
         requires capacity { length sectors.old.content ≡ sector_count self.old.shape }
         requires may { MayPages L.may log.old (length ram.old.bytes) }
         requires may_sectors { MaySectors L.may log.old device (length sectors.old.content) }
-        ensures step { IsDeviceStep L.after device sectors.old.honest ram.old.bytes sectors.old.content log.old self.old pick result ram.new.bytes sectors.new.content log.new self.new }
+        ensures step { IsDeviceStep (Touches L.after log.old log.new ram.old ram.new) device sectors.old.honest ram.old.bytes sectors.old.content self.old pick result ram.new.bytes sectors.new.content self.new }
         ensures kept { IsKept sectors.old (is_failure result) sectors.new }
         ensures later { IsLater ram.old ram.new }
         ensures fits { Fits (decoder_in ring.new) ram.new }
@@ -242,7 +243,7 @@ impl DeviceState {
         requires sound { IsSoundDevice (length ram.old.bytes) self.old }
         requires without { sector_count self.old.shape ≡ 0 }
         requires may { MayPages L.may log.old (length ram.old.bytes) }
-        ensures step { (device : ℕ) → IsDeviceStep L.after device true ram.old.bytes [] log.old self.old pick result ram.new.bytes [] log.new self.new }
+        ensures step { (device : ℕ) → IsDeviceStep (Touches L.after log.old log.new ram.old ram.new) device true ram.old.bytes [] self.old pick result ram.new.bytes [] self.new }
         ensures fine { is_failure result ≡ false }
         ensures later { IsLater ram.old ram.new }
         ensures fits { Fits (decoder_in ring.new) ram.new }
@@ -267,7 +268,7 @@ impl DeviceState {
         requires fits { Fits (decoder_in ring.old) ram.old }
         requires there { pick < length self.old.registers.queues }
         requires may { MayPages L.may log.old (length ram.old.bytes) }
-        ensures looked { IsLookedStep L.after ram.old.bytes log.old self.old pick (ring_in ring.old) result ram.new.bytes log.new self.new }
+        ensures looked { IsLookedStep (Touches L.after log.old log.new ram.old ram.new) ram.old.bytes self.old pick (ring_in ring.old) result ram.new.bytes self.new }
         ensures later { IsLater ram.old ram.new }
         ensures fits { Fits (decoder_in ring.new) ram.new }
     {
@@ -296,7 +297,7 @@ impl DeviceState {
         requires fits { Fits (decoder_in ring.old) ram.old }
         requires may { MayPages L.may log.old (length ram.old.bytes) }
         requires may_sectors { MaySectors L.may log.old device (length sectors.old.content) }
-        ensures advanced { IsAdvancedStep L.after device sectors.old.honest ram.old.bytes sectors.old.content log.old self.old pick (ring_in ring.old) result ram.new.bytes sectors.new.content log.new self.new }
+        ensures advanced { IsAdvancedStep (Touches L.after log.old log.new ram.old ram.new) device sectors.old.honest ram.old.bytes sectors.old.content self.old pick (ring_in ring.old) result ram.new.bytes sectors.new.content self.new }
         ensures kept { IsKept sectors.old (is_failure result) sectors.new }
         ensures later { IsLater ram.old ram.new }
         ensures fits { Fits (decoder_in ring.new) ram.new }

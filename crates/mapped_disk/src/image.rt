@@ -84,8 +84,10 @@ impl Image {
         self.forget();
     }
 
-    /// Consumes the image. Its bytes stay where they are, and are the caller's again.
-    pub(crate) fn forget(self) {
+    /// Consumes the image. Its bytes stay where they are, as they are, and are the caller's again.
+    pub(crate) fn forget(self)
+        ensures* memory { sem 𝓛 (image_owns self.at self.sectors self.content) }
+    {
         let Image { at: _, sectors: _ } = self;
     }
 }

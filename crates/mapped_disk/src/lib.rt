@@ -8,7 +8,8 @@
 //!   back, or puts it into a disk.
 //! - `MappedDisk` keeps the contract of `Disk` over an image, honest and steady; `into_image` gives the image back with the
 //!   disk's contents. Nothing is copied: what is written is in the image at once, and a flush does nothing. A disk that is
-//!   dropped leaves its bytes in place and gives back no image.
+//!   dropped gives back no image: its bytes are the caller's again, where they were and as they were. A clause of the drop says
+//!   so; code that is generic over its disks does not see it.
 //! - The caller's part, which nothing checks: the bytes are at the pointer, may be read and written, and are nobody else's until the
 //!   image is given back.
 //!

@@ -1,6 +1,8 @@
 //! A disk in memory that its caller owns.
 
 ghost use Rattle.std.specs.Prelude.{◌≡◌, true};
+ghost use Rattle.std.specs.Borrow.{sem};
+ghost use Rattle.mapped_disk.specs.Image.{image_owns};
 
 use crate::image::Image;
 use blk::{Disk, DiskFault};
@@ -8,7 +10,7 @@ use std::marker::Model;
 
 /// A disk over an image. It is honest and steady. A flush does nothing: what is written is in the image.
 ///
-/// One that is dropped leaves its bytes where they are, and they are the caller's again.
+/// One that is dropped leaves its bytes where they are, as they are, and they are the caller's again.
 pub struct MappedDisk {
     image: Image,
     count: u64,
@@ -45,7 +47,9 @@ impl MappedDisk {
 }
 
 impl Drop for MappedDisk {
-    fn drop(self) {
+    fn drop(self)
+        ensures* memory { sem 𝓛 (image_owns self.at self.sectors self.content) }
+    {
         let Self { image, count: _ } = self;
         image.forget();
     }

@@ -1,6 +1,6 @@
 -- The step of the receive queue of a network device (VIRTIO 1.2, 5.1.6.3 and 5.1.6.4).
 use Rattle.std.specs.Prelude.{◌≡◌, ℕ, nat_lt, ◌+◌, List, [], ◌∷◌, ◌++◌, length, if◌then◌else◌}
-use Rattle.guestmem.specs.Item.{Item, after_all}
+use Rattle.guestmem.specs.Item.{Item}
 use Rattle.guestmem.specs.Writes.{Write, set_all, touched}
 use Rattle.chains.specs.State.{RingState}
 use Rattle.chains.specs.Places.{places}
@@ -56,16 +56,17 @@ receive_step ram q frames next.Empty = record { answer = Empty; writes = event_n
 receive_step ram q frames next.Malformed = refuse q frames
 receive_step ram q frames (next.Chain c) = give_first ram q frames c
 
--- RAM, the ring, the frames and a log after such a step.
-pub record IsAfter {L : Type 0} (after : L → Item → L) (ram : List ℕ) (log : L) (s : Step) (new_ram : List ℕ) (new_ring : RingState) (new_frames : List (List ℕ)) (new_log : L) : Type 0 where
+-- RAM, the ring and the frames after such a step, and which items were touched. What touching is, as that a log has taken them in,
+-- `touches` says.
+pub record IsAfter (touches : List Item → Type 0) (ram : List ℕ) (s : Step) (new_ram : List ℕ) (new_ring : RingState) (new_frames : List (List ℕ)) : Type 0 where
   pub ram_is : new_ram ≡ set_all ram s.writes
   pub ring_is : new_ring ≡ s.ring
   pub frames_are : new_frames ≡ s.left
-  pub log_is : new_log ≡ after_all after log (touched s.writes)
+  pub items_are : touches (touched s.writes)
 
 -- Such a step was made, by what the device sees.
-pub record IsReceived {L : Type 0} (after : L → Item → L) (ram : List ℕ) (q : RingState) (frames : List (List ℕ)) (log : L) (answer : Received) (new_ram : List ℕ) (new_ring : RingState) (new_frames : List (List ℕ)) (new_log : L) : Type 0 where
+pub record IsReceived (touches : List Item → Type 0) (ram : List ℕ) (q : RingState) (frames : List (List ℕ)) (answer : Received) (new_ram : List ℕ) (new_ring : RingState) (new_frames : List (List ℕ)) : Type 0 where
   pub seen : Next
   pub sees : Sees Room ram q seen
   pub answer_is : answer ≡ (receive_step ram q frames seen).answer
-  pub changes : IsAfter after ram log (receive_step ram q frames seen) new_ram new_ring new_frames new_log
+  pub changes : IsAfter touches ram (receive_step ram q frames seen) new_ram new_ring new_frames

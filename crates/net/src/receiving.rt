@@ -1,6 +1,7 @@
 //! The step that gives frames to the guest.
 
 ghost use Rattle.std.specs.Prelude.{◌≡◌, ◌≤◌, ◌<◌, ◌+◌, ◌∷◌, length, drop, IfOk, OnErr, slice_get, Some};
+ghost use Rattle.guestmem.specs.Rises.{Touches};
 ghost use Rattle.chains.specs.Frame.{MayServe, HasServed, MayLook, HasLooked, IsUntouched};
 ghost use Rattle.chains.specs.Places.{places};
 ghost use Rattle.chains.specs.Ring.{IsBounded};
@@ -47,7 +48,7 @@ pub fn receive<R: Ring, L: TouchLog>(
 ) -> Result<Received, NoMemory>
     requires ready { MayLook L.may ram.old (R.state ring.old) (R.decoder ring.old) log.old }
     requires waiting { 0 < length inbox.old }
-    ensures received { IfOk result (λ answer. IsReceived L.after ram.old.bytes (R.state ring.old) inbox.old log.old answer ram.new.bytes (R.state ring.new) inbox.new log.new) }
+    ensures received { IfOk result (λ answer. IsReceived (Touches L.after log.old log.new ram.old ram.new) ram.old.bytes (R.state ring.old) inbox.old answer ram.new.bytes (R.state ring.new) inbox.new) }
     ensures memory { OnErr result (IsLongQueue ram.old.bytes (R.state ring.old)) }
     ensures untouched { OnErr result (IsUntouched ram.old ram.new (R.state ring.old) (R.state ring.new) log.old log.new) }
     ensures frames_stay { OnErr result (inbox.new ≡ inbox.old) }
@@ -76,7 +77,7 @@ fn give_first<R: Ring, L: TouchLog>(
     requires bounded { IsBounded (length ram.old.bytes) (R.state ring.old) chain.now }
     requires waiting { 0 < length inbox.old }
     ensures answer { result ≡ (give_first ram.old.bytes (R.state ring.old) inbox.old chain.now).answer }
-    ensures changes { IsAfter L.after ram.old.bytes log.old (give_first ram.old.bytes (R.state ring.old) inbox.old chain.now) ram.new.bytes (R.state ring.new) inbox.new log.new }
+    ensures changes { IsAfter (Touches L.after log.old log.new ram.old ram.new) ram.old.bytes (give_first ram.old.bytes (R.state ring.old) inbox.old chain.now) ram.new.bytes (R.state ring.new) inbox.new }
     ensures after { HasServed L.may ram.old ram.new log.new }
     ensures decoder { R.decoder ring.new ≡ R.decoder ring.old }
 {

@@ -1,9 +1,9 @@
 -- Whole good records in the same bytes are the same.
-use Rattle.std.proofs.Common.{◌≡◌, ℕ, ◌+◌, ◌*◌, ◌^◌, ◌<◌, ◌≤◌, ◌⊎◌, inl, inr, Some, None, List, [], ◌∷◌, ◌++◌, length, drop, refl, sym, ap, ◌∙◌, append_assoc, append-nil, arith}
+use Rattle.std.proofs.Common.{◌≡◌, ℕ, Bool, true, false, ◌+◌, ◌*◌, ◌^◌, ◌<◌, ◌≤◌, ◌⊎◌, inl, inr, Some, None, List, [], ◌∷◌, ◌++◌, length, drop, refl, sym, ap, ◌∙◌, append_assoc, append-nil, arith}
 use Rattle.std.proofs.lemmas.List.{length-drop}
 use Rattle.std.specs.List.{AllByRecursion}
 use Rattle.wire.specs.Numbers.{digits}
-use Rattle.wire.specs.Records.{Record, page, sector, round_end, device, commit, spelled_record, HasSpelling}
+use Rattle.wire.specs.Records.{Record, page, sector, round_end, device, commit, zero_page, is_zero_page, spelled_record, HasSpelling}
 use Rattle.wire.specs.Stream.{texts, rounds}
 use Rattle.guestmem.specs.Item as items
 use Rattle.machine.specs.Layout.{IsItemIn, layout_by}
@@ -13,9 +13,11 @@ use Rattle.wire.proofs.HeaderLemmas.{header_of-spelled}
 use Rattle.wire.proofs.Spelling.{head_same, tail_same, split_same, one_record, number_same}
 use Rattle.wire.proofs.Unique.{cons_same, alike}
 use Rattle.receiver.specs.Good.{AreGood, Follows, IsNextDevice, devices_in}
-use Rattle.receiver.specs.Faults.{Opens, IsBadPage, IsBadSector, IsBadRound, IsBadHead, IsBadBody, IsBadDigest, IsTrailing, IsFault, IsFront, IsRecordFault}
+use Rattle.receiver.specs.Faults.{IsEarly, Opens, IsBadPage, IsLongZeros, IsBadSector, IsBadRound, IsBadHead, IsBadBody, IsBadDigest, IsTrailing, IsFault, IsFront, IsRecordFault}
 use Rattle.receiver.specs.declared.recv_error.RecvError.{RecvError}
-use Rattle.receiver.proofs.Quiet.{quiet}
+use Rattle.receiver.proofs.Lists.{not_both_ways}
+use Rattle.receiver.proofs.Quiet.{no_page, quiet}
+use Rattle.wire.specs.Header.{Opening, layout_in}
 
 -- One list of records is the beginning of the other.
 pub record LongerRecords (rs ss : List Record) (x y : List ℕ) : Type 0 where
@@ -38,26 +40,37 @@ records_led (r ∷ rs) (s ∷ ss) x y h k e =
     let o = one_record r s (texts rs ++ x) (texts ss ++ y) h.0 k.0 (sym (append_assoc (spelled_record r) (texts rs) x) ∙ e ∙ append_assoc (spelled_record s) (texts ss) y) in
     records_by r s rs ss x y o.0 (records_led rs ss x y h.1 k.1 o.1)
 
-pub good_spell : (pages : ℕ) (shapes : List Shape) (acc rs : List Record) → AreGood pages shapes acc rs → AllByRecursion HasSpelling rs
+pub good_spell : (opening : Opening) (acc rs : List Record) → AreGood opening acc rs → AllByRecursion HasSpelling rs
 unfolding AreGood
-good_spell pages shapes acc [] h = tt
-good_spell pages shapes acc (r ∷ rs) h = (h.0.spells, good_spell pages shapes (acc ++ r ∷ []) rs h.1)
+good_spell opening acc [] h = tt
+good_spell opening acc (r ∷ rs) h = (h.0.spells, good_spell opening (acc ++ r ∷ []) rs h.1)
 
 -- The record behind the first ones may stand there.
-pub next_good : (pages : ℕ) (shapes : List Shape) (acc rs more : List Record) (r : Record) → AreGood pages shapes acc (rs ++ r ∷ more) → Follows pages shapes (acc ++ rs) r
+pub next_good : (opening : Opening) (acc rs more : List Record) (r : Record) → AreGood opening acc (rs ++ r ∷ more) → Follows opening (acc ++ rs) r
 unfolding AreGood
-next_good pages shapes acc [] more r h = rw (append-nil acc) h.0
-next_good pages shapes acc (s ∷ rs) more r h =
+next_good opening acc [] more r h = rw (append-nil acc) h.0
+next_good opening acc (s ∷ rs) more r h =
     let same : acc ++ (s ∷ rs) ≡ (acc ++ s ∷ []) ++ rs = sym (append_assoc acc (s ∷ []) rs) in
-    rw same (next_good pages shapes (acc ++ s ∷ []) rs more r h.1)
+    rw same (next_good opening (acc ++ s ∷ []) rs more r h.1)
 
 -- Where a good record stands, no fault does.
 
-opens_early : (pages : ℕ) (shapes : List Shape) (before : List Record) (tail : List ℕ) (tag : ℕ) (more : List ℕ) → tail ≡ tag ∷ more → 1 ≤ tag → tag ≤ 3 → devices_in before ≡ 0 → Opens pages shapes before tail tag more
-opens_early pages shapes before tail tag more e least most none = record {
+pub not_early : (tag : ℕ) → 4 ≤ tag → tag ≤ 5 → ¬ (IsEarly tag)
+not_early tag low high (inl e) = omega (arith, low, e)
+not_early tag low high (inr e) = omega (arith, high, e)
+
+opens_early : (opening : Opening) (before : List Record) (tail : List ℕ) (tag : ℕ) (more : List ℕ) → tail ≡ tag ∷ more → 1 ≤ tag → tag ≤ 3 → devices_in before ≡ 0 → Opens opening before tail tag more
+opens_early opening before tail tag more e least most none = record {
   whole = e;
-  may = record { least = least; most = omega (arith, most); early = λ low. none; missing = λ four. absurd (omega (arith, most, four)) };
-  complete = λ late. absurd (omega (arith, most, late));
+  may = record { least = least; most = omega (arith, most); early = λ low. none; missing = λ four. absurd (omega (arith, most, four)); since = λ six. absurd (omega (arith, most, six)) };
+  complete = λ late. absurd (omega (arith, most, late.0));
+}
+
+opens_zeros : (opening : Opening) (before : List Record) (tail more : List ℕ) → tail ≡ 6 ∷ more → devices_in before ≡ 0 → opening.version ≡ 2 → Opens opening before tail 6 more
+opens_zeros opening before tail more whole none second = record {
+  whole = whole;
+  may = record { least = omega arith; most = omega arith; early = λ low. none; missing = λ four. absurd (omega (arith, four)); since = λ six. second };
+  complete = λ late. absurd (omega (arith, late.1));
 }
 
 below_length : {A : Type 0} (n : ℕ) (xs ys : List A) (x : A) → drop n xs ≡ x ∷ ys → n < length xs
@@ -66,6 +79,10 @@ below_length n xs ys x e = omega (arith, ap length e, length-drop n xs)
 page_tail : (n : ℕ) (b x : List ℕ) → spelled_record (page n b) ++ x ≡ 1 ∷ (digits 4 n ++ (b ++ x))
 unfolding spelled_record
 page_tail n b x = ap (λ (y : List ℕ). 1 ∷ y) (append_assoc (digits 4 n) b x)
+
+zeros_tail : (n : ℕ) (x : List ℕ) → spelled_record (zero_page n) ++ x ≡ 6 ∷ (digits 4 n ++ x)
+unfolding spelled_record
+zeros_tail n x = ap (λ (y : List ℕ). 6 ∷ (y ++ x)) (append-nil (digits 4 n))
 
 round_tail : (n : ℕ) (x : List ℕ) → spelled_record (round_end n) ++ x ≡ 3 ∷ (digits 4 n ++ x)
 unfolding spelled_record
@@ -86,107 +103,125 @@ device_tail d b x = ap (λ (y : List ℕ). 4 ∷ (d ∷ y)) (append_assoc (digit
 first_of : {A : Type 0} {x y : A} {xs ys : List A} → x ∷ xs ≡ y ∷ ys → x ≡ y
 first_of e = cc
 
-no_bad_number : (pages : ℕ) (shapes : List Shape) (before : List Record) (tail more : List ℕ) (n : ℕ) → tail ≡ 1 ∷ (digits 4 n ++ more) → n < 2 ^ 32 → n < pages → (place : ℕ) → ¬ (IsBadPage pages shapes before tail place)
-no_bad_number pages shapes before tail more n e fits below place h =
+no_bad_number : (opening : Opening) (before : List Record) (tail more : List ℕ) (tag n : ℕ) → tail ≡ tag ∷ (digits 4 n ++ more) → n < 2 ^ 32 → n < opening.pages → (place : ℕ) → ¬ (IsBadPage opening before tail place)
+no_bad_number opening before tail more tag n e fits below place h =
     let same = (number_same 4 n h.number more h.more fits h.fits (tail_same (sym e ∙ h.opens.whole))).0 in omega (arith, below, h.never, same)
 
-no_bad_round : (pages : ℕ) (shapes : List Shape) (before : List Record) (tail more : List ℕ) (n : ℕ) → tail ≡ 3 ∷ (digits 4 n ++ more) → n < 2 ^ 32 → n ≡ rounds before + 1 → (place : ℕ) → ¬ (IsBadRound pages shapes before tail place)
-no_bad_round pages shapes before tail more n e fits next place h =
+no_bad_page : (opening : Opening) (before : List Record) (tail more : List ℕ) (n : ℕ) (b : List ℕ) → tail ≡ 1 ∷ (digits 4 n ++ (b ++ more)) → n < 2 ^ 32 → n < opening.pages → length b ≡ 4096 → is_zero_page opening.version b ≡ false
+    → (place : ℕ) → ¬ (IsBadPage opening before tail place ⊎ IsLongZeros opening before tail place)
+no_bad_page opening before tail more n b e fits below long has place (inl h) = no_bad_number opening before tail (b ++ more) 1 n e fits below place h
+no_bad_page opening before tail more n b e fits below long has place (inr h) =
+    let s = number_same 4 n h.number (b ++ more) (h.bytes ++ h.more) fits h.fits (tail_same (sym e ∙ h.opens.whole)) in
+    let same = (split_same b h.bytes more h.more (long ∙ sym h.long) s.1).0 in
+    not_both_ways (is_zero_page opening.version b) (ap (is_zero_page opening.version) same ∙ h.zeros) has
+
+no_bad_zeros : (opening : Opening) (before : List Record) (tail more : List ℕ) (n : ℕ) → tail ≡ 6 ∷ (digits 4 n ++ more) → n < 2 ^ 32 → n < opening.pages
+    → (place : ℕ) → ¬ (IsBadPage opening before tail place ⊎ IsLongZeros opening before tail place)
+no_bad_zeros opening before tail more n e fits below place (inl h) = no_bad_number opening before tail more 6 n e fits below place h
+no_bad_zeros opening before tail more n e fits below place (inr h) = let tag = head_same (sym e ∙ h.opens.whole) in omega (arith, tag)
+
+no_bad_round : (opening : Opening) (before : List Record) (tail more : List ℕ) (n : ℕ) → tail ≡ 3 ∷ (digits 4 n ++ more) → n < 2 ^ 32 → n ≡ rounds before + 1 → (place : ℕ) → ¬ (IsBadRound opening before tail place)
+no_bad_round opening before tail more n e fits next place h =
     let same = (number_same 4 n h.number more h.more fits h.fits (tail_same (sym e ∙ h.opens.whole))).0 in h.never (sym same ∙ next)
 
-no_bad_sector : (pages : ℕ) (shapes : List Shape) (before : List Record) (tail more : List ℕ) (d n mark : ℕ) → tail ≡ 2 ∷ (d ∷ (digits 4 n ++ (mark ∷ more))) → n < 2 ^ 32 → IsItemIn (layout_by pages shapes) (items.sector d n) → mark ≤ 1 → (place : ℕ) → ¬ (IsBadSector pages shapes before tail place)
-no_bad_sector pages shapes before tail more d n mark e fits below few place h =
+no_bad_sector : (opening : Opening) (before : List Record) (tail more : List ℕ) (d n mark : ℕ) → tail ≡ 2 ∷ (d ∷ (digits 4 n ++ (mark ∷ more))) → n < 2 ^ 32 → IsItemIn (layout_in opening) (items.sector d n) → mark ≤ 1 → (place : ℕ) → ¬ (IsBadSector opening before tail place)
+no_bad_sector opening before tail more d n mark e fits below few place h =
     let t = tail_same (sym e ∙ h.opens.whole) in
     let s = number_same 4 n h.number (mark ∷ more) (h.mark ∷ h.more) fits h.fits (tail_same t) in
     h.never (rw (sym (head_same t), sym s.0, sym (head_same s.1)) (below, few))
 
-no_bad_device : (pages : ℕ) (shapes : List Shape) (before : List Record) (tail more raw : List ℕ) (d : ℕ) → tail ≡ 4 ∷ (d ∷ (digits 4 (length raw) ++ (raw ++ more))) → IsNextDevice pages shapes before d raw
-    → (place : ℕ) → ¬ (IsBadHead pages shapes before tail place ⊎ IsBadBody pages shapes before tail place)
-no_bad_device pages shapes before tail more raw d e next place (inl h) =
-    let few : length raw ≤ 131072 = omega (arith, ap length next.is.is, body_is_short (4096 * pages) next.state next.is.sound) in
+no_bad_device : (opening : Opening) (before : List Record) (tail more raw : List ℕ) (d : ℕ) → tail ≡ 4 ∷ (d ∷ (digits 4 (length raw) ++ (raw ++ more))) → IsNextDevice opening before d raw
+    → (place : ℕ) → ¬ (IsBadHead opening before tail place ⊎ IsBadBody opening before tail place)
+no_bad_device opening before tail more raw d e next place (inl h) =
+    let few : length raw ≤ 131072 = omega (arith, ap length next.is.is, body_is_short (4096 * opening.pages) next.state next.is.sound) in
     let t = tail_same (sym e ∙ h.opens.whole) in
     let s = number_same 4 (length raw) h.len (raw ++ more) h.more (omega (arith, few)) h.fits (tail_same t) in
     h.never (record { next = sym (head_same t) ∙ next.next; few = omega (arith, few, s.0) })
-no_bad_device pages shapes before tail more raw d e next place (inr h) =
-    let few : length raw ≤ 131072 = omega (arith, ap length next.is.is, body_is_short (4096 * pages) next.state next.is.sound) in
+no_bad_device opening before tail more raw d e next place (inr h) =
+    let few : length raw ≤ 131072 = omega (arith, ap length next.is.is, body_is_short (4096 * opening.pages) next.state next.is.sound) in
     let t = tail_same (sym e ∙ h.opens.whole) in
     let s = number_same 4 (length raw) (length h.body) (raw ++ more) (h.body ++ h.more) (omega (arith, few)) (omega (arith, h.few)) (tail_same t) in
     let same = (split_same raw h.body more h.more s.0 s.1).0 in
-    let there : drop d shapes ≡ h.shape ∷ h.others = rw (next.next) h.here in
+    let there : drop d opening.shapes ≡ h.shape ∷ h.others = rw (next.next) h.here in
     let shape : next.shape ≡ h.shape = first_of (sym next.here ∙ there) in
     h.never next.state (rw (sym shape, sym same) next.is)
 
-no_digest : (pages : ℕ) (shapes : List Shape) (before : List Record) (tail : List ℕ) (tag : ℕ) → tag ≤ 4 → tag ≡ 5 → (place : ℕ) → ¬ (IsBadDigest pages shapes before tail place ⊎ IsTrailing pages shapes before tail place)
-no_digest pages shapes before tail tag few e place h = omega (arith, few, e)
+no_digest : (opening : Opening) (before : List Record) (tail : List ℕ) (tag : ℕ) → tag ≤ 4 → tag ≡ 5 → (place : ℕ) → ¬ (IsBadDigest opening before tail place ⊎ IsTrailing opening before tail place)
+no_digest opening before tail tag few e place h = omega (arith, few, e)
 
-pub no_fault_here : (pages : ℕ) (shapes : List Shape) (before : List Record) (tail x : List ℕ) (r : Record) → Follows pages shapes before r → tail ≡ spelled_record r ++ x → (k : RecvError) (place : ℕ) → ¬ (IsFault pages shapes before tail k place)
-no_fault_here pages shapes before tail x (page n b) f e =
+pub no_fault_here : (opening : Opening) (before : List Record) (tail x : List ℕ) (r : Record) → Follows opening before r → tail ≡ spelled_record r ++ x → (k : RecvError) (place : ℕ) → ¬ (IsFault opening before tail k place)
+no_fault_here opening before tail x (page n b) f e =
     let t = e ∙ page_tail n b x in
-    quiet pages shapes before tail 1 _ (opens_early pages shapes before tail 1 _ t (omega arith) (omega arith) f.may.1)
-    (λ one. no_bad_number pages shapes before tail (b ++ x) n t f.spells.0 f.may.0)
+    quiet opening before tail 1 _ (opens_early opening before tail 1 _ t (omega arith) (omega arith) f.may.1)
+    (λ one. no_bad_page opening before tail x n b t f.spells.0 f.may.0 f.spells.1 f.has)
     (λ z. absurd (omega (arith, z))) (λ z. absurd (omega (arith, z))) (λ z. absurd (omega (arith, z))) (λ z. absurd (omega (arith, z)))
-no_fault_here pages shapes before tail x (sector d n (Some b)) f e =
+no_fault_here opening before tail x (sector d n (Some b)) f e =
     let t = e ∙ good_tail d n b x in
-    quiet pages shapes before tail 2 _ (opens_early pages shapes before tail 2 _ t (omega arith) (omega arith) f.may.1)
-    (λ z. absurd (omega (arith, z))) (λ two. no_bad_sector pages shapes before tail (b ++ x) d n 1 t f.spells.1 f.may.0 (omega arith))
+    quiet opening before tail 2 _ (opens_early opening before tail 2 _ t (omega arith) (omega arith) f.may.1)
+    (λ z. absurd (no_page 2 (omega arith) (omega arith) z)) (λ two. no_bad_sector opening before tail (b ++ x) d n 1 t f.spells.1 f.may.0 (omega arith))
     (λ z. absurd (omega (arith, z))) (λ z. absurd (omega (arith, z))) (λ z. absurd (omega (arith, z)))
-no_fault_here pages shapes before tail x (sector d n None) f e =
+no_fault_here opening before tail x (sector d n None) f e =
     let t = e ∙ bad_tail d n x in
-    quiet pages shapes before tail 2 _ (opens_early pages shapes before tail 2 _ t (omega arith) (omega arith) f.may.1)
-    (λ z. absurd (omega (arith, z))) (λ two. no_bad_sector pages shapes before tail x d n 0 t f.spells.1 f.may.0 (omega arith))
+    quiet opening before tail 2 _ (opens_early opening before tail 2 _ t (omega arith) (omega arith) f.may.1)
+    (λ z. absurd (no_page 2 (omega arith) (omega arith) z)) (λ two. no_bad_sector opening before tail x d n 0 t f.spells.1 f.may.0 (omega arith))
     (λ z. absurd (omega (arith, z))) (λ z. absurd (omega (arith, z))) (λ z. absurd (omega (arith, z)))
-no_fault_here pages shapes before tail x (round_end n) f e =
+no_fault_here opening before tail x (round_end n) f e =
     let t = e ∙ round_tail n x in
-    quiet pages shapes before tail 3 _ (opens_early pages shapes before tail 3 _ t (omega arith) (omega arith) f.may.1)
-    (λ z. absurd (omega (arith, z))) (λ z. absurd (omega (arith, z)))
-    (λ three. no_bad_round pages shapes before tail x n t f.spells f.may.0) (λ z. absurd (omega (arith, z))) (λ z. absurd (omega (arith, z)))
-no_fault_here pages shapes before tail x (device d b) f e =
+    quiet opening before tail 3 _ (opens_early opening before tail 3 _ t (omega arith) (omega arith) f.may.1)
+    (λ z. absurd (no_page 3 (omega arith) (omega arith) z)) (λ z. absurd (omega (arith, z)))
+    (λ three. no_bad_round opening before tail x n t f.spells f.may.0) (λ z. absurd (omega (arith, z))) (λ z. absurd (omega (arith, z)))
+no_fault_here opening before tail x (device d b) f e =
     let t = e ∙ device_tail d b x in
-    let below = below_length d shapes f.may.others f.may.shape f.may.here in
-    quiet pages shapes before tail 4 _ (record {
+    let below = below_length d opening.shapes f.may.others f.may.shape f.may.here in
+    quiet opening before tail 4 _ (record {
       whole = t;
-      may = record { least = omega arith; most = omega arith; early = λ low. absurd (omega (arith, low)); missing = λ four. omega (arith, below, f.may.next) };
+      may = record { least = omega arith; most = omega arith; early = λ low. absurd (not_early 4 (omega arith) (omega arith) low); missing = λ four. omega (arith, below, f.may.next); since = λ six. absurd (omega (arith, six)) };
       complete = λ late. record { items = f.may.named; devices = λ five. absurd (omega (arith, five)) };
     })
-    (λ z. absurd (omega (arith, z))) (λ z. absurd (omega (arith, z))) (λ z. absurd (omega (arith, z)))
-    (λ four. no_bad_device pages shapes before tail x b d t f.may) (λ z. absurd (omega (arith, z)))
-no_fault_here pages shapes before tail x (commit b) f e = absurd f.may
+    (λ z. absurd (no_page 4 (omega arith) (omega arith) z)) (λ z. absurd (omega (arith, z))) (λ z. absurd (omega (arith, z)))
+    (λ four. no_bad_device opening before tail x b d t f.may) (λ z. absurd (omega (arith, z)))
+no_fault_here opening before tail x (commit b) f e = absurd f.may
+no_fault_here opening before tail x (zero_page n) f e =
+    let t = e ∙ zeros_tail n x in
+    quiet opening before tail 6 _ (opens_zeros opening before tail _ t f.may.1 f.has)
+    (λ six. no_bad_zeros opening before tail x n t f.spells f.may.0)
+    (λ z. absurd (omega (arith, z))) (λ z. absurd (omega (arith, z))) (λ z. absurd (omega (arith, z))) (λ z. absurd (omega (arith, z)))
 
-longer_on : (pages : ℕ) (shapes : List Shape) (before others : List Record) (tail rest : List ℕ) → AreGood pages shapes [] others
-    → ((r : Record) (y : List ℕ) → Follows pages shapes before r → ¬ (tail ≡ spelled_record r ++ y)) → ((k : RecvError) (place : ℕ) → ¬ (IsFault pages shapes before tail k place))
-    → (more : List Record) → others ≡ before ++ more → tail ≡ texts more ++ rest → (k : RecvError) (place : ℕ) → ¬ (IsFault pages shapes others rest k place)
+longer_on : (opening : Opening) (before others : List Record) (tail rest : List ℕ) → AreGood opening [] others
+    → ((r : Record) (y : List ℕ) → Follows opening before r → ¬ (tail ≡ spelled_record r ++ y)) → ((k : RecvError) (place : ℕ) → ¬ (IsFault opening before tail k place))
+    → (more : List Record) → others ≡ before ++ more → tail ≡ texts more ++ rest → (k : RecvError) (place : ℕ) → ¬ (IsFault opening others rest k place)
 unfolding texts
-longer_on pages shapes before others tail rest goods none quiets [] all left k place f =
+longer_on opening before others tail rest goods none quiets [] all left k place f =
     let same : others ≡ before = all ∙ append-nil before in
     quiets k place (rw (left, sym same) f)
-longer_on pages shapes before others tail rest goods none quiets (r ∷ more) all left k place f =
-    none r (texts more ++ rest) (next_good pages shapes [] before more r (rw all at goods)) (left ∙ append_assoc (spelled_record r) (texts more) rest)
+longer_on opening before others tail rest goods none quiets (r ∷ more) all left k place f =
+    none r (texts more ++ rest) (next_good opening [] before more r (rw all at goods)) (left ∙ append_assoc (spelled_record r) (texts more) rest)
 
-longer_off : (pages : ℕ) (shapes : List Shape) (before others : List Record) (tail rest : List ℕ) → AreGood pages shapes [] before → ((k : RecvError) (place : ℕ) → ¬ (IsFault pages shapes before tail k place))
-    → (more : List Record) → before ≡ others ++ more → rest ≡ texts more ++ tail → (k : RecvError) (place : ℕ) → ¬ (IsFault pages shapes others rest k place)
+longer_off : (opening : Opening) (before others : List Record) (tail rest : List ℕ) → AreGood opening [] before → ((k : RecvError) (place : ℕ) → ¬ (IsFault opening before tail k place))
+    → (more : List Record) → before ≡ others ++ more → rest ≡ texts more ++ tail → (k : RecvError) (place : ℕ) → ¬ (IsFault opening others rest k place)
 unfolding texts
-longer_off pages shapes before others tail rest good quiets [] all left k place f =
+longer_off opening before others tail rest good quiets [] all left k place f =
     let same : before ≡ others = all ∙ append-nil others in
     quiets k place (rw (sym left, same) f)
-longer_off pages shapes before others tail rest good quiets (r ∷ more) all left k place f =
-    no_fault_here pages shapes others rest (texts more ++ tail) r (next_good pages shapes [] others more r (rw all at good)) (left ∙ append_assoc (spelled_record r) (texts more) tail) k place f
+longer_off opening before others tail rest good quiets (r ∷ more) all left k place f =
+    no_fault_here opening others rest (texts more ++ tail) r (next_good opening [] others more r (rw all at good)) (left ∙ append_assoc (spelled_record r) (texts more) tail) k place f
 
 -- No record fault stands in bytes whose good records end where neither a good record nor a fault stands.
-led_fault : (pages : ℕ) (shapes : List Shape) (before others : List Record) (tail rest : List ℕ) → AreGood pages shapes [] before → AreGood pages shapes [] others
-    → ((r : Record) (y : List ℕ) → Follows pages shapes before r → ¬ (tail ≡ spelled_record r ++ y)) → ((k : RecvError) (place : ℕ) → ¬ (IsFault pages shapes before tail k place))
-    → LongerRecords before others tail rest ⊎ LongerRecords others before rest tail → (k : RecvError) (place : ℕ) → ¬ (IsFault pages shapes others rest k place)
+led_fault : (opening : Opening) (before others : List Record) (tail rest : List ℕ) → AreGood opening [] before → AreGood opening [] others
+    → ((r : Record) (y : List ℕ) → Follows opening before r → ¬ (tail ≡ spelled_record r ++ y)) → ((k : RecvError) (place : ℕ) → ¬ (IsFault opening before tail k place))
+    → LongerRecords before others tail rest ⊎ LongerRecords others before rest tail → (k : RecvError) (place : ℕ) → ¬ (IsFault opening others rest k place)
 unfolding texts
-led_fault pages shapes before others tail rest good goods none quiets (inl l) k place f = longer_on pages shapes before others tail rest goods none quiets l.more l.all l.left k place f
-led_fault pages shapes before others tail rest good goods none quiets (inr l) k place f = longer_off pages shapes before others tail rest good quiets l.more l.all l.left k place f
+led_fault opening before others tail rest good goods none quiets (inl l) k place f = longer_on opening before others tail rest goods none quiets l.more l.all l.left k place f
+led_fault opening before others tail rest good goods none quiets (inr l) k place f = longer_off opening before others tail rest good quiets l.more l.all l.left k place f
 
-pub no_record_fault : (sizes bytes : List ℕ) (pages : ℕ) (shapes : List Shape) (before : List Record) (tail : List ℕ) → IsFront sizes bytes pages shapes before tail
-    → ((r : Record) (y : List ℕ) → Follows pages shapes before r → ¬ (tail ≡ spelled_record r ++ y)) → ((k : RecvError) (place : ℕ) → ¬ (IsFault pages shapes before tail k place))
+pub no_record_fault : (sizes bytes : List ℕ) (opening : Opening) (before : List Record) (tail : List ℕ) → IsFront sizes bytes opening before tail
+    → ((r : Record) (y : List ℕ) → Follows opening before r → ¬ (tail ≡ spelled_record r ++ y)) → ((k : RecvError) (place : ℕ) → ¬ (IsFault opening before tail k place))
     → (k : RecvError) (at : ℕ) → ¬ (IsRecordFault sizes bytes k at)
-no_record_fault sizes bytes pages shapes before tail front none quiets k at h =
-    let a = header_of-spelled bytes pages shapes (texts before ++ tail) front.begins in
-    let b = header_of-spelled bytes h.pages h.shapes (texts h.before ++ h.tail) h.front.begins in
-    let t = alike h.pages pages h.shapes shapes (texts h.before ++ h.tail) (texts before ++ tail) (sym b ∙ a) in
-    let goods : AreGood pages shapes [] h.before = rw (t.first, t.second) at h.front.good in
-    let fault : IsFault pages shapes h.before h.tail k h.place = rw (t.first, t.second) at h.fault in
-    led_fault pages shapes before h.before tail h.tail front.good goods none quiets
-    (records_led before h.before tail h.tail (good_spell pages shapes [] before front.good) (good_spell pages shapes [] h.before goods) (sym t.third)) k h.place fault
+no_record_fault sizes bytes opening before tail front none quiets k at h =
+    let a = header_of-spelled bytes opening (texts before ++ tail) front.begins in
+    let b = header_of-spelled bytes h.opening (texts h.before ++ h.tail) h.front.begins in
+    let t = alike h.opening opening (texts h.before ++ h.tail) (texts before ++ tail) (sym b ∙ a) in
+    let goods : AreGood opening [] h.before = rw t.0 at h.front.good in
+    let fault : IsFault opening h.before h.tail k h.place = rw t.0 at h.fault in
+    led_fault opening before h.before tail h.tail front.good goods none quiets
+    (records_led before h.before tail h.tail (good_spell opening [] before front.good) (good_spell opening [] h.before goods) (sym t.1)) k h.place fault

@@ -20,47 +20,48 @@ use Rattle.receiver.specs.declared.recv_error.RecvError.TheVariants as errors
 use Rattle.receiver.proofs.Aligned.{LongerRecords, records_led, good_spell, next_good}
 use Rattle.receiver.proofs.Knowing.{come_of, no_other}
 use Rattle.receiver.proofs.Working.{front_of, commit_text, tells_more}
+use Rattle.wire.specs.Header.{Opening}
 
-not_longer : (pages : ℕ) (shapes : List Shape) (before others : List Record) (tail rest : List ℕ) → AreGood pages shapes [] others → NoNext pages shapes before tail → (more : List Record) → others ≡ before ++ more → tail ≡ texts more ++ rest → others ≡ before
+not_longer : (opening : Opening) (before others : List Record) (tail rest : List ℕ) → AreGood opening [] others → NoNext opening before tail → (more : List Record) → others ≡ before ++ more → tail ≡ texts more ++ rest → others ≡ before
 unfolding texts
-not_longer pages shapes before others tail rest goods none [] all left = all ∙ append-nil before
-not_longer pages shapes before others tail rest goods none (r ∷ more) all left =
-    absurd (none r (texts more ++ rest) (next_good pages shapes [] before more r (rw all at goods)) (left ∙ append_assoc (spelled_record r) (texts more) rest))
+not_longer opening before others tail rest goods none [] all left = all ∙ append-nil before
+not_longer opening before others tail rest goods none (r ∷ more) all left =
+    absurd (none r (texts more ++ rest) (next_good opening [] before more r (rw all at goods)) (left ∙ append_assoc (spelled_record r) (texts more) rest))
 
-as_long : (pages : ℕ) (shapes : List Shape) (before others : List Record) (tail rest : List ℕ) → AreGood pages shapes [] before → AreGood pages shapes [] others → NoNext pages shapes before tail → NoNext pages shapes others rest
+as_long : (opening : Opening) (before others : List Record) (tail rest : List ℕ) → AreGood opening [] before → AreGood opening [] others → NoNext opening before tail → NoNext opening others rest
     → LongerRecords before others tail rest ⊎ LongerRecords others before rest tail → others ≡ before
-as_long pages shapes before others tail rest good goods none nothing (inl l) = not_longer pages shapes before others tail rest goods none l.more l.all l.left
-as_long pages shapes before others tail rest good goods none nothing (inr l) = sym (not_longer pages shapes others before rest tail good nothing l.more l.all l.left)
+as_long opening before others tail rest good goods none nothing (inl l) = not_longer opening before others tail rest goods none l.more l.all l.left
+as_long opening before others tail rest good goods none nothing (inr l) = sym (not_longer opening others before rest tail good nothing l.more l.all l.left)
 
 -- The whole good records of bytes are the same, wherever they are cut.
-same_records : (sizes b : List ℕ) (p q : ℕ) (ss ts : List Shape) (before others : List Record) (tail rest : List ℕ) → IsFront sizes b p ss before tail → NoNext p ss before tail → IsFront sizes b q ts others rest → NoNext q ts others rest → others ≡ before
-same_records sizes b p q ss ts before others tail rest f none g nothing =
-    let a = header_of-spelled b p ss (texts before ++ tail) f.begins in
-    let c = header_of-spelled b q ts (texts others ++ rest) g.begins in
-    let t = alike q p ts ss (texts others ++ rest) (texts before ++ tail) (sym c ∙ a) in
-    let goods : AreGood p ss [] others = rw (t.first, t.second) at g.good in
-    let no_next : NoNext p ss others rest = rw (t.first, t.second) at nothing in
-    as_long p ss before others tail rest f.good goods none no_next (records_led before others tail rest (good_spell p ss [] before f.good) (good_spell p ss [] others goods) (sym t.third))
+same_records : (sizes b : List ℕ) (o p : Opening) (before others : List Record) (tail rest : List ℕ) → IsFront sizes b o before tail → NoNext o before tail → IsFront sizes b p others rest → NoNext p others rest → others ≡ before
+same_records sizes b o p before others tail rest f none g nothing =
+    let a = header_of-spelled b o (texts before ++ tail) f.begins in
+    let c = header_of-spelled b p (texts others ++ rest) g.begins in
+    let t = alike p o (texts others ++ rest) (texts before ++ tail) (sym c ∙ a) in
+    let goods : AreGood o [] others = rw t.0 at g.good in
+    let no_next : NoNext o others rest = rw t.0 at nothing in
+    as_long o before others tail rest f.good goods none no_next (records_led before others tail rest (good_spell o [] before f.good) (good_spell o [] others goods) (sym t.1))
 
-rounds_by : (sizes b : List ℕ) (p : ℕ) (ss : List Shape) (before : List Record) (tail : List ℕ) (n : ℕ) → IsFront sizes b p ss before tail → NoNext p ss before tail → n ≡ rounds before → HasRounds sizes b n
-rounds_by sizes b p ss before tail n f none e = record {
-  none = λ never. absurd (never p ss (texts before ++ tail) f.begins);
-  some = λ q ts others rest g nothing. e ∙ ap rounds (sym (same_records sizes b p q ss ts before others tail rest f none g nothing));
+rounds_by : (sizes b : List ℕ) (o : Opening) (before : List Record) (tail : List ℕ) (n : ℕ) → IsFront sizes b o before tail → NoNext o before tail → n ≡ rounds before → HasRounds sizes b n
+rounds_by sizes b o before tail n f none e = record {
+  none = λ never. absurd (never o (texts before ++ tail) f.begins);
+  some = λ p others rest g nothing. e ∙ ap rounds (sym (same_records sizes b o p before others tail rest f none g nothing));
 }
 
 pub rounds_known : (ds : List DiskState) (digest : Sha256) (bytes held : List ℕ) (stage : Stage) → IsTaken ds digest bytes held stage → HasRounds (sizes_in ds) bytes (rounds_in stage)
 rounds_known ds digest bytes held stages.Head t =
     let same : bytes ≡ held = t.whole ∙ ap (λ (x : List ℕ). x ++ held) t.known.0 in
-    rw same (record { none = λ never. refl; some = λ p ss before tail g none. absurd (t.known.2.no_header p ss (texts before ++ tail) g.begins) })
+    rw same (record { none = λ never. refl; some = λ o before tail g none. absurd (t.known.2.no_header o (texts before ++ tail) g.begins) })
 rounds_known ds digest bytes held (stages.Records i) t =
     let r = t.known.1 in
     let o = r.open_at in
-    rounds_by (sizes_in ds) bytes r.pages r.shapes o.before held i.rounds (front_of bytes held o.read t.whole) (λ r y g e. o.waits.no_record r y g.spells e) o.read.rounds_are
+    rounds_by (sizes_in ds) bytes r.opening o.before held i.rounds (front_of bytes held o.read t.whole) (λ r y g e. o.waits.no_record r y g.spells g.has e) o.read.rounds_are
 rounds_known ds digest bytes held (stages.Ended i) t =
     let h = come_of ds digest bytes held i t in
     let w = h.ended in
     let whole : bytes ≡ w.front ++ (5 ∷ sha256 w.front) = w.whole ∙ ap (λ (x : List ℕ). w.front ++ x) (commit_text (sha256 w.front)) in
-    rounds_by (sizes_in ds) bytes h.pages h.shapes w.before (5 ∷ sha256 w.front) i.rounds (front_of bytes (5 ∷ sha256 w.front) w.read whole) (λ r y g e. no_other h.pages h.shapes w.before (sha256 w.front) r y g e) w.read.rounds_are
+    rounds_by (sizes_in ds) bytes h.opening w.before (5 ∷ sha256 w.front) i.rounds (front_of bytes (5 ∷ sha256 w.front) w.read whole) (λ r y g e. no_other h.opening w.before (sha256 w.front) r y g e) w.read.rounds_are
 rounds_known ds digest bytes held stages.Failed t = absurd t.known
 
 pub none_failed : (stage : Stage) → has_failed stage ≡ true → rounds_in stage ≡ 0

@@ -4,8 +4,8 @@ use Rattle.std.specs.Prelude.{All}
 use Rattle.std.specs.List.{AllByRecursion}
 use Rattle.std.proofs.lemmas.List.{take-append-drop, length-append, length-take, drop_at}
 use Rattle.std.proofs.lemmas.List.Elements.{All-push, recursion_from_All}
-use Rattle.guestmem.specs.Number.{IsBytes}
-use Rattle.wire.specs.Header.{front, spelled_shape, spelled_shapes, Begins}
+use Rattle.guestmem.specs.Number.{IsBytes, number_at}
+use Rattle.wire.specs.Header.{front, spelled_shape, spelled_shapes, Begins, Opening, IsVersion}
 use Rattle.wire.specs.Numbers.{spelled, Fit}
 use Rattle.machine.specs.Sound.{IsSoundShape}
 use Rattle.machine.specs.declared.shape.Shape.{Shape}
@@ -206,65 +206,66 @@ shapes_bad n count bytes rest ss h lt b = record { few = few_shapes n count byte
 abbrev head_widths : List ℕ
 head_widths = 4 ∷ 4 ∷ 4 ∷ 4 ∷ []
 
-abbrev head_numbers : ℕ → ℕ → List ℕ
-head_numbers pages count = 0x47494d56 ∷ 1 ∷ pages ∷ count ∷ []
+abbrev head_numbers : ℕ → ℕ → ℕ → List ℕ
+head_numbers version pages count = 0x47494d56 ∷ version ∷ pages ∷ count ∷ []
 
-head_spelled : (pages count : ℕ) → front pages count ≡ spelled head_widths (head_numbers pages count)
+head_spelled : (version pages count : ℕ) → front version pages count ≡ spelled head_widths (head_numbers version pages count)
 unfolding front
-head_spelled pages count = refl
+head_spelled version pages count = refl
 
-length-front : (pages count : ℕ) → length (front pages count) ≡ 16
+length-front : (version pages count : ℕ) → length (front version pages count) ≡ 16
 unfolding front
-length-front pages count = refl
+length-front version pages count = refl
 
-head_says : (pages count : ℕ) (rest : List ℕ) → pages ≤ 16384 → count ≤ 16 → Says (spelled head_widths (head_numbers pages count) ++ rest) pages count
-head_says pages count rest few_pages few_devices =
-    let fits : Fit head_widths (head_numbers pages count) = (omega arith, (omega arith, (omega (arith, few_pages), (omega (arith, few_devices), tt)))) in
-    let read = numbers-spelled head_widths (head_numbers pages count) [] rest fits in
+head_says : (version pages count : ℕ) (rest : List ℕ) → IsVersion version → pages ≤ 16384 → count ≤ 16 → Says (spelled head_widths (head_numbers version pages count) ++ rest) pages count
+head_says version pages count rest known few_pages few_devices =
+    let fits : Fit head_widths (head_numbers version pages count) = (omega arith, (omega (arith, known.most), (omega (arith, few_pages), (omega (arith, few_devices), tt)))) in
+    let read = numbers-spelled head_widths (head_numbers version pages count) [] rest fits in
     let nth = λ (k : ℕ). ap (λ (ns : List ℕ). get_or ns k 0) read in
     record {
-      long = omega (arith, length-append (spelled head_widths (head_numbers pages count)) rest, length-spelled head_widths (head_numbers pages count) fits);
+      long = omega (arith, length-append (spelled head_widths (head_numbers version pages count)) rest, length-spelled head_widths (head_numbers version pages count) fits);
       magic = nth 0;
-      version = nth 1;
+      known = subst IsVersion (sym (nth 1)) known;
       pages_are = nth 2;
       count_is = nth 3;
     }
 
-grouped : {bytes : List ℕ} {pages : ℕ} {shapes : List Shape} {rest : List ℕ} → Begins bytes pages shapes rest → bytes ≡ front pages (length shapes) ++ (spelled_shapes shapes ++ rest)
-grouped {pages = pages} {shapes = shapes} {rest = rest} b = b.whole ∙ append_assoc (front pages (length shapes)) (spelled_shapes shapes) rest
+grouped : {bytes : List ℕ} {opening : Opening} {rest : List ℕ} → Begins bytes opening rest → bytes ≡ front opening.version opening.pages (length opening.shapes) ++ (spelled_shapes opening.shapes ++ rest)
+grouped {opening = opening} {rest = rest} b = b.whole ∙ append_assoc (front opening.version opening.pages (length opening.shapes)) (spelled_shapes opening.shapes) rest
 
-pub says_of : {bytes : List ℕ} {pages : ℕ} {shapes : List Shape} {rest : List ℕ} → Begins bytes pages shapes rest → Says bytes pages (length shapes)
-says_of {pages = pages} {shapes = shapes} {rest = rest} b =
-    subst (λ (x : List ℕ). Says x pages (length shapes)) (sym (grouped b ∙ ap (λ (x : List ℕ). x ++ (spelled_shapes shapes ++ rest)) (head_spelled pages (length shapes))))
-    (head_says pages (length shapes) (spelled_shapes shapes ++ rest) b.good.few_pages b.good.few_devices)
+pub says_of : {bytes : List ℕ} {opening : Opening} {rest : List ℕ} → Begins bytes opening rest → Says bytes opening.pages (length opening.shapes)
+says_of {opening = opening} {rest = rest} b =
+    subst (λ (x : List ℕ). Says x opening.pages (length opening.shapes)) (sym (grouped b ∙ ap (λ (x : List ℕ). x ++ (spelled_shapes opening.shapes ++ rest)) (head_spelled opening.version opening.pages (length opening.shapes))))
+    (head_says opening.version opening.pages (length opening.shapes) (spelled_shapes opening.shapes ++ rest) b.good.known b.good.few_pages b.good.few_devices)
 
-pub shapes_behind : {bytes : List ℕ} {pages : ℕ} {shapes : List Shape} {rest : List ℕ} → Begins bytes pages shapes rest → drop 16 bytes ≡ spelled_shapes shapes ++ rest
-shapes_behind {pages = pages} {shapes = shapes} {rest = rest} b = ap (drop 16) (grouped b) ∙ drop_at (front pages (length shapes)) (spelled_shapes shapes ++ rest) 16 (length-front pages (length shapes))
+pub shapes_behind : {bytes : List ℕ} {opening : Opening} {rest : List ℕ} → Begins bytes opening rest → drop 16 bytes ≡ spelled_shapes opening.shapes ++ rest
+shapes_behind {opening = opening} {rest = rest} b = ap (drop 16) (grouped b) ∙ drop_at (front opening.version opening.pages (length opening.shapes)) (spelled_shapes opening.shapes ++ rest) 16 (length-front opening.version opening.pages (length opening.shapes))
 
 four_same : {a b c d m n o p : ℕ} → a ≡ m → b ≡ n → c ≡ o → d ≡ p → spelled head_widths (a ∷ b ∷ c ∷ d ∷ []) ≡ spelled head_widths (m ∷ n ∷ o ∷ p ∷ [])
 four_same e f g h = rw (e, f, g, h) refl
 
-pub begins_so : (bytes : List ℕ) (pages count : ℕ) (ss : List Shape) (rest : List ℕ) → IsBytes bytes → Says bytes pages count → MayCount pages count → ShapesRead count (drop 16 bytes) ss rest → Begins bytes pages ss rest
-begins_so bytes pages count ss rest are says may read =
+pub begins_so : (bytes : List ℕ) (version pages count : ℕ) (ss : List Shape) (rest : List ℕ) → IsBytes bytes → version ≡ number_at bytes 4 4 → Says bytes pages count → MayCount pages count → ShapesRead count (drop 16 bytes) ss rest
+    → Begins bytes (record { version = version; pages = pages; shapes = ss }) rest
+begins_so bytes version pages count ss rest are is says may read =
     let taken = spelled-numbers head_widths 0 bytes are says.long in
-    let same = four_same says.magic says.version says.pages_are says.count_is in
+    let same = four_same says.magic (sym is) says.pages_are says.count_is in
     record {
-      good = record { some_page = may.some_page; few_pages = may.few_pages; some_device = omega (arith, may.some_device, read.count_is); few_devices = omega (arith, may.few_devices, read.count_is); sound = read.sound };
+      good = record { known = subst IsVersion (sym is) says.known; some_page = may.some_page; few_pages = may.few_pages; some_device = omega (arith, may.some_device, read.count_is); few_devices = omega (arith, may.few_devices, read.count_is); sound = read.sound };
       whole =
-          sym (take-append-drop 16 bytes) ∙ ap (λ (x : List ℕ). x ++ drop 16 bytes) (sym taken ∙ same ∙ sym (head_spelled pages count))
-          ∙ ap (λ (n : ℕ). front pages n ++ drop 16 bytes) (sym read.count_is)
-          ∙ ap (λ (x : List ℕ). front pages (length ss) ++ x) read.whole
-          ∙ sym (append_assoc (front pages (length ss)) (spelled_shapes ss) rest);
+          sym (take-append-drop 16 bytes) ∙ ap (λ (x : List ℕ). x ++ drop 16 bytes) (sym taken ∙ same ∙ sym (head_spelled version pages count))
+          ∙ ap (λ (n : ℕ). front version pages n ++ drop 16 bytes) (sym read.count_is)
+          ∙ ap (λ (x : List ℕ). front version pages (length ss) ++ x) read.whole
+          ∙ sym (append_assoc (front version pages (length ss)) (spelled_shapes ss) rest);
     }
 
 -- A header that is not whole, with no fault.
-head_waits : (bytes : List ℕ) → ((pages : ℕ) (shapes : List Shape) (rest : List ℕ) → ¬ (Begins bytes pages shapes rest)) → ((at : ℕ) → ¬ (IsBadMagic bytes at)) → ((at : ℕ) → ¬ (IsBadVersion bytes at)) → ((at : ℕ) → ¬ (IsBadCount bytes at))
+head_waits : (bytes : List ℕ) → ((opening : Opening) (rest : List ℕ) → ¬ (Begins bytes opening rest)) → ((at : ℕ) → ¬ (IsBadMagic bytes at)) → ((at : ℕ) → ¬ (IsBadVersion bytes at)) → ((at : ℕ) → ¬ (IsBadCount bytes at))
     → ((at : ℕ) → ¬ (IsBadShape bytes at)) → (sizes : List ℕ) (k : RecvError) (at : ℕ) → ¬ (IsHeaderFault sizes bytes k at)
 head_waits bytes b m v c s sizes errors.BadMagic at h = m at h
 head_waits bytes b m v c s sizes errors.BadVersion at h = v at h
 head_waits bytes b m v c s sizes errors.BadShape at (inl h) = c at h
 head_waits bytes b m v c s sizes errors.BadShape at (inr h) = s at h
-head_waits bytes b m v c s sizes errors.ShapeMismatch at h = b h.pages h.shapes h.more h.begins
+head_waits bytes b m v c s sizes errors.ShapeMismatch at h = b h.opening h.more h.begins
 head_waits bytes b m v c s sizes errors.BadTag at h = h
 head_waits bytes b m v c s sizes errors.BadPage at h = h
 head_waits bytes b m v c s sizes errors.BadSector at h = h
@@ -280,7 +281,7 @@ head_waits bytes b m v c s sizes errors.AlreadyFailed at h = h
 
 pub head_short : (bytes : List ℕ) → length bytes < 16 → ((at : ℕ) → ¬ (IsBadMagic bytes at)) → ((at : ℕ) → ¬ (IsBadVersion bytes at)) → WaitsHead bytes
 head_short bytes short m v =
-    let none : (pages : ℕ) (shapes : List Shape) (rest : List ℕ) → ¬ (Begins bytes pages shapes rest) = λ pages shapes rest b. omega (arith, short, (says_of b).long) in
+    let none : (opening : Opening) (rest : List ℕ) → ¬ (Begins bytes opening rest) = λ opening rest b. omega (arith, short, (says_of b).long) in
     record { no_header = none; no_fault = head_waits bytes none m v (λ at h. omega (arith, short, h.says.long)) (λ at h. omega (arith, short, h.says.long)) }
 
 -- What is behind fewer shapes than there are to be.
@@ -307,11 +308,11 @@ not_bad ss ts bad x y h k n w (inr l) = bad_left l.more bad x y (sound_behind ts
 
 pub head_part : (bytes : List ℕ) (pages count : ℕ) → Says bytes pages count → MayCount pages count → ShapesWait count (drop 16 bytes) → WaitsHead bytes
 head_part bytes pages count says may s =
-    let none : (p : ℕ) (shapes : List Shape) (rest : List ℕ) → ¬ (Begins bytes p shapes rest) = λ p shapes rest b.
-    not_whole count s.few.shapes shapes s.few.rest rest b.good.sound s.few.fewer (sym (says_of b).count_is ∙ says.count_is) s.waits (shapes_led s.few.shapes shapes s.few.rest rest s.few.sound b.good.sound (sym s.few.whole ∙ shapes_behind b)) in
+    let none : (opening : Opening) (rest : List ℕ) → ¬ (Begins bytes opening rest) = λ opening rest b.
+    not_whole count s.few.shapes opening.shapes s.few.rest rest b.good.sound s.few.fewer (sym (says_of b).count_is ∙ says.count_is) s.waits (shapes_led s.few.shapes opening.shapes s.few.rest rest s.few.sound b.good.sound (sym s.few.whole ∙ shapes_behind b)) in
     record {
       no_header = none;
-      no_fault = head_waits bytes none (λ at h. h.never says.magic) (λ at h. h.never says.version)
+      no_fault = head_waits bytes none (λ at h. h.never says.magic) (λ at h. h.never says.known)
           (λ at h. h.never (rw (sym h.says.pages_are ∙ says.pages_are, sym h.says.count_is ∙ says.count_is) may))
           (λ at h. not_bad s.few.shapes h.shapes h.bad s.few.rest h.more s.few.sound h.sound h.never s.waits (shapes_led s.few.shapes h.shapes s.few.rest (h.bad ++ h.more) s.few.sound h.sound (sym s.few.whole ∙ h.whole)));
     }
@@ -348,10 +349,10 @@ shapes_same : (ss ts : List Shape) (x y : List ℕ) → length ss ≡ length ts 
 shapes_same ss ts x y e (inl l) = none_more ss ts l.more e l.all
 shapes_same ss ts x y e (inr l) = sym (none_more ts ss l.more (sym e) l.all)
 
-pub header_same : {bytes rest other : List ℕ} {p q : ℕ} {ss ts : List Shape} → Begins bytes p ss rest → Begins bytes q ts other → (ss ≡ ts)
-header_same {bytes} {rest} {other} {p} {q} {ss} {ts} a b =
-    let count : length ts ≡ length ss = sym (says_of b).count_is ∙ (says_of a).count_is in
-    shapes_same ss ts rest other (sym count) (shapes_led ss ts rest other a.good.sound b.good.sound (sym (shapes_behind a) ∙ shapes_behind b))
+pub header_same : {bytes rest other : List ℕ} {o p : Opening} → Begins bytes o rest → Begins bytes p other → (o.shapes ≡ p.shapes)
+header_same {bytes} {rest} {other} {o} {p} a b =
+    let count : length p.shapes ≡ length o.shapes = sym (says_of b).count_is ∙ (says_of a).count_is in
+    shapes_same o.shapes p.shapes rest other (sym count) (shapes_led o.shapes p.shapes rest other a.good.sound b.good.sound (sym (shapes_behind a) ∙ shapes_behind b))
 
 bad_within : (more : List Shape) (bad x y : List ℕ) → AllByRecursion IsSoundShape more → IsNoShape bad → 0 < length more → bad ++ y ≡ spelled_shapes more ++ x → ⊥
 bad_within [] bad x y good n some e = omega (arith, some)
@@ -361,28 +362,28 @@ not_bad_whole : (ss ts : List Shape) (bad x y : List ℕ) → All IsSoundShape s
 not_bad_whole ss ts bad x y good n lt (inl l) = omega (arith, lt, ap length l.all, length-append ss l.more)
 not_bad_whole ss ts bad x y good n lt (inr l) = bad_within l.more bad x y (sound_behind ts l.more ss l.all good) n (omega (arith, lt, ap length l.all, length-append ts l.more)) l.left
 
-pub no_header_fault : (sizes bytes : List ℕ) (pages : ℕ) (shapes : List Shape) (rest : List ℕ) → Begins bytes pages shapes rest → sizes ≡ disk_sizes shapes → (k : RecvError) (at : ℕ) → ¬ (IsHeaderFault sizes bytes k at)
-no_header_fault sizes bytes pages shapes rest b fits errors.BadMagic at h = h.never (says_of b).magic
-no_header_fault sizes bytes pages shapes rest b fits errors.BadVersion at h = h.never (says_of b).version
-no_header_fault sizes bytes pages shapes rest b fits errors.BadShape at (inl h) =
+pub no_header_fault : (sizes bytes : List ℕ) (opening : Opening) (rest : List ℕ) → Begins bytes opening rest → sizes ≡ disk_sizes opening.shapes → (k : RecvError) (at : ℕ) → ¬ (IsHeaderFault sizes bytes k at)
+no_header_fault sizes bytes opening rest b fits errors.BadMagic at h = h.never (says_of b).magic
+no_header_fault sizes bytes opening rest b fits errors.BadVersion at h = h.never (says_of b).known
+no_header_fault sizes bytes opening rest b fits errors.BadShape at (inl h) =
     let says = says_of b in
     h.never (rw (sym h.says.pages_are ∙ says.pages_are, sym h.says.count_is ∙ says.count_is) (record { some_page = b.good.some_page; few_pages = b.good.few_pages; some_device = b.good.some_device; few_devices = b.good.few_devices }))
-no_header_fault sizes bytes pages shapes rest b fits errors.BadShape at (inr h) =
+no_header_fault sizes bytes opening rest b fits errors.BadShape at (inr h) =
     let says = says_of b in
-    not_bad_whole shapes h.shapes h.bad rest h.more b.good.sound h.never (omega (arith, h.fewer, sym h.says.count_is ∙ says.count_is)) (shapes_led shapes h.shapes rest (h.bad ++ h.more) b.good.sound h.sound (sym (shapes_behind b) ∙ h.whole))
-no_header_fault sizes bytes pages shapes rest b fits errors.ShapeMismatch at h = h.never (fits ∙ ap disk_sizes (header_same b h.begins))
-no_header_fault sizes bytes pages shapes rest b fits errors.BadTag at h = h
-no_header_fault sizes bytes pages shapes rest b fits errors.BadPage at h = h
-no_header_fault sizes bytes pages shapes rest b fits errors.BadSector at h = h
-no_header_fault sizes bytes pages shapes rest b fits errors.BadRound at h = h
-no_header_fault sizes bytes pages shapes rest b fits errors.BadDevice at h = h
-no_header_fault sizes bytes pages shapes rest b fits errors.BadDigest at h = h
-no_header_fault sizes bytes pages shapes rest b fits errors.Missing at h = h
-no_header_fault sizes bytes pages shapes rest b fits errors.Trailing at h = h
-no_header_fault sizes bytes pages shapes rest b fits errors.Truncated at h = h
-no_header_fault sizes bytes pages shapes rest b fits errors.DiskFailed at h = h
-no_header_fault sizes bytes pages shapes rest b fits errors.NoMemory at h = h
-no_header_fault sizes bytes pages shapes rest b fits errors.AlreadyFailed at h = h
+    not_bad_whole opening.shapes h.shapes h.bad rest h.more b.good.sound h.never (omega (arith, h.fewer, sym h.says.count_is ∙ says.count_is)) (shapes_led opening.shapes h.shapes rest (h.bad ++ h.more) b.good.sound h.sound (sym (shapes_behind b) ∙ h.whole))
+no_header_fault sizes bytes opening rest b fits errors.ShapeMismatch at h = h.never (fits ∙ ap disk_sizes (header_same b h.begins))
+no_header_fault sizes bytes opening rest b fits errors.BadTag at h = h
+no_header_fault sizes bytes opening rest b fits errors.BadPage at h = h
+no_header_fault sizes bytes opening rest b fits errors.BadSector at h = h
+no_header_fault sizes bytes opening rest b fits errors.BadRound at h = h
+no_header_fault sizes bytes opening rest b fits errors.BadDevice at h = h
+no_header_fault sizes bytes opening rest b fits errors.BadDigest at h = h
+no_header_fault sizes bytes opening rest b fits errors.Missing at h = h
+no_header_fault sizes bytes opening rest b fits errors.Trailing at h = h
+no_header_fault sizes bytes opening rest b fits errors.Truncated at h = h
+no_header_fault sizes bytes opening rest b fits errors.DiskFailed at h = h
+no_header_fault sizes bytes opening rest b fits errors.NoMemory at h = h
+no_header_fault sizes bytes opening rest b fits errors.AlreadyFailed at h = h
 
 pub told_shapes : (bytes : List ℕ) (pages count : ℕ) (e : RecvError) → Says bytes pages count → MayCount pages count → OnBad e (ShapesBad count (drop 16 bytes)) → TellsHead e ((sizes : List ℕ) → (at : ℕ) × IsHeaderFault sizes bytes e at)
 told_shapes bytes pages count errors.BadShape says may h = λ sizes. bad_shapes sizes bytes pages count says may h

@@ -8,7 +8,7 @@ use Rattle.blk.specs.Disk.{DiskState}
 use Rattle.guestmem.specs.Number.{IsBytes}
 use Rattle.guestmem.specs.ByteLaws.{IsBytes-append}
 use Rattle.machine.specs.declared.shape.Shape.{Shape}
-use Rattle.wire.specs.Header.{header}
+use Rattle.wire.specs.Header.{header, Opening}
 use Rattle.wire.specs.RecordHeads.{BeginsHead, body_len, spelled_head}
 use Rattle.wire.specs.Records.{Record}
 use Rattle.wire.specs.Stream.{texts}
@@ -39,40 +39,44 @@ short_body held piece head b short =
     omega (arith, short, ap length b.whole, length-append (spelled_head head) rest, length-append rest piece)
 
 -- Its faults stand within the bytes that wait.
-within : (pages : ℕ) (shapes : List Shape) (before : List Record) (held piece : List ℕ) (head : RecordHead) → IsBytes (held ++ piece) → BeginsHead held head → 7 ≤ length held → length held + length piece < length (spelled_head head) + body_len head
-    → (k : RecvError) (place : ℕ) → IsFault pages shapes before (held ++ piece) k place → place ≤ length held
-within pages shapes before held piece head are b long short errors.BadMagic place h = absurd h
-within pages shapes before held piece head are b long short errors.BadVersion place h = absurd h
-within pages shapes before held piece head are b long short errors.BadShape place h = absurd h
-within pages shapes before held piece head are b long short errors.ShapeMismatch place h = absurd h
-within pages shapes before held piece head are b long short errors.BadTag place h = omega (arith, long, h.there)
-within pages shapes before held piece head are b long short errors.BadPage place h = omega (arith, long, h.there)
-within pages shapes before held piece head are b long short errors.BadSector place h = omega (arith, long, h.there)
-within pages shapes before held piece head are b long short errors.BadRound place h = omega (arith, long, h.there)
-within pages shapes before held piece head are b long short errors.BadDevice place (inl h) = omega (arith, long, h.there)
-within pages shapes before held piece head are b long short errors.BadDevice place (inr h) =
+within : (opening : Opening) (before : List Record) (held piece : List ℕ) (head : RecordHead) → IsBytes (held ++ piece) → BeginsHead held head → 7 ≤ length held → length held + length piece < length (spelled_head head) + body_len head
+    → (k : RecvError) (place : ℕ) → IsFault opening before (held ++ piece) k place → place ≤ length held
+within opening before held piece head are b long short errors.BadMagic place h = absurd h
+within opening before held piece head are b long short errors.BadVersion place h = absurd h
+within opening before held piece head are b long short errors.BadShape place h = absurd h
+within opening before held piece head are b long short errors.ShapeMismatch place h = absurd h
+within opening before held piece head are b long short errors.BadTag place h = omega (arith, long, h.there)
+within opening before held piece head are b long short errors.BadPage place (inl h) = omega (arith, long, h.there)
+within opening before held piece head are b long short errors.BadPage place (inr h) =
+    let rest = drop (length (spelled_head head)) held ++ piece in
+    let t = one_head head (heads.Page h.number) rest (h.bytes ++ h.more) b.fits h.fits (sym (behind_head held piece head b) ∙ h.opens.whole) in
+    absurd (omega (arith, short_body held piece head b short, ap body_len t.0, ap length t.1, length-append h.bytes h.more, h.long))
+within opening before held piece head are b long short errors.BadSector place h = omega (arith, long, h.there)
+within opening before held piece head are b long short errors.BadRound place h = omega (arith, long, h.there)
+within opening before held piece head are b long short errors.BadDevice place (inl h) = omega (arith, long, h.there)
+within opening before held piece head are b long short errors.BadDevice place (inr h) =
     let rest = drop (length (spelled_head head)) held ++ piece in
     let t = one_head head (heads.Device (devices_in before) (length h.body)) rest (h.body ++ h.more) b.fits (second_low (held ++ piece) _ 4 (devices_in before) are h.opens.whole, omega (arith, h.few)) (sym (behind_head held piece head b) ∙ h.opens.whole) in
     absurd (omega (arith, short_body held piece head b short, ap body_len t.0, ap length t.1, length-append h.body h.more))
-within pages shapes before held piece head are b long short errors.BadDigest place h =
+within opening before held piece head are b long short errors.BadDigest place h =
     let rest = drop (length (spelled_head head)) held ++ piece in
     let t = one_head head heads.Commit rest (h.digest ++ h.more) b.fits tt (sym (behind_head held piece head b) ∙ h.opens.whole) in
     absurd (omega (arith, short_body held piece head b short, ap body_len t.0, ap length t.1, length-append h.digest h.more, h.long))
-within pages shapes before held piece head are b long short errors.Missing place h = omega (arith, long, h.there)
-within pages shapes before held piece head are b long short errors.Trailing place h =
-    let sum = sha256 (header pages shapes ++ texts before) in
+within opening before held piece head are b long short errors.Missing place h = omega (arith, long, h.there)
+within opening before held piece head are b long short errors.Trailing place h =
+    let sum = sha256 (header opening ++ texts before) in
     let rest = drop (length (spelled_head head)) held ++ piece in
     let t = one_head head heads.Commit rest (sum ++ (h.byte ∷ h.more)) b.fits tt (sym (behind_head held piece head b) ∙ h.opens.whole) in
-    absurd (omega (arith, short_body held piece head b short, ap body_len t.0, ap length t.1, length-append sum (h.byte ∷ h.more), length-sha256 (header pages shapes ++ texts before)))
-within pages shapes before held piece head are b long short errors.Truncated place h = absurd h
-within pages shapes before held piece head are b long short errors.DiskFailed place h = absurd h
-within pages shapes before held piece head are b long short errors.NoMemory place h = absurd h
-within pages shapes before held piece head are b long short errors.AlreadyFailed place h = absurd h
+    absurd (omega (arith, short_body held piece head b short, ap body_len t.0, ap length t.1, length-append sum (h.byte ∷ h.more), length-sha256 (header opening ++ texts before)))
+within opening before held piece head are b long short errors.Truncated place h = absurd h
+within opening before held piece head are b long short errors.DiskFailed place h = absurd h
+within opening before held piece head are b long short errors.NoMemory place h = absurd h
+within opening before held piece head are b long short errors.AlreadyFailed place h = absurd h
 
-waits_on : (pages : ℕ) (shapes : List Shape) (before : List Record) (stage : Stage) (held piece : List ℕ) → IsWithinBody stage held piece → Waits pages shapes before held → Waits pages shapes before (held ++ piece)
-waits_on pages shapes before stage held piece w waits = record {
-  no_record = no_body (held ++ piece) (drop (length (spelled_head w.head)) held ++ piece) w.head w.begins.fits (behind_head held piece w.head w.begins) (short_body held piece w.head w.begins w.short);
-  no_fault = λ k place h. waits.no_fault k place (holds_here pages shapes before held piece k place (within pages shapes before held piece w.head w.bytes w.begins w.long w.short k place h) h);
+waits_on : (opening : Opening) (before : List Record) (stage : Stage) (held piece : List ℕ) → IsWithinBody stage held piece → Waits opening before held → Waits opening before (held ++ piece)
+waits_on opening before stage held piece w waits = record {
+  no_record = no_body opening.version (held ++ piece) (drop (length (spelled_head w.head)) held ++ piece) w.head w.begins.fits (behind_head held piece w.head w.begins) (short_body held piece w.head w.begins w.short);
+  no_fault = λ k place h. waits.no_fault k place (holds_here opening before held piece k place (within opening before held piece w.head w.bytes w.begins w.long w.short k place h) h);
 }
 
 -- What is known of the bytes stays known.
@@ -83,9 +87,8 @@ known_on ds digest front held piece (stages.Records i) w known =
     let here = reading.open_at in (
       known.0,
       record {
-        pages = reading.pages;
-        shapes = reading.shapes;
-        open_at = record { before = here.before; read = here.read; waits = waits_on reading.pages reading.shapes here.before (stages.Records i) held piece w here.waits };
+        opening = reading.opening;
+        open_at = record { before = here.before; read = here.read; waits = waits_on reading.opening here.before (stages.Records i) held piece w here.waits };
       },
     )
 known_on ds digest front held piece (stages.Ended i) w known = absurd w.reads

@@ -8,8 +8,8 @@ use Rattle.sha2.specs.declared.Sha256.{Sha256}
 use Rattle.sha2.proofs.Facts256.{length-sha256}
 use Rattle.guestmem.specs.Number.{IsBytes}
 use Rattle.wire.specs.DeviceBody.{body}
-use Rattle.wire.specs.Header.{header}
-use Rattle.wire.specs.Records.{Record, page, sector, round_end, device, commit, spelled_record}
+use Rattle.wire.specs.Header.{header, Opening, layout_in}
+use Rattle.wire.specs.Records.{Record, page, sector, round_end, device, commit, spelled_record, zero_page}
 use Rattle.wire.specs.Stream.{IsStream, texts, rounds, shapes_in, device_texts, before_commit, last_named, record_in}
 use Rattle.receiver.specs.Taken.{shown}
 use Rattle.guestmem.specs.Item.{Item}
@@ -35,9 +35,9 @@ use Rattle.receiver.specs.declared.intake.Intake.{Intake}
 use Rattle.receiver.specs.declared.stage.Stage.{Stage}
 use Rattle.receiver.specs.declared.stage.Stage.TheVariants as stages
 use Rattle.receiver.specs.declared.recv_error.RecvError.{RecvError}
-use Rattle.receiver.proofs.Aligned.{no_record_fault}
+use Rattle.receiver.proofs.Aligned.{no_record_fault, not_early}
 use Rattle.receiver.proofs.Heads.{head_short, no_header_fault}
-use Rattle.receiver.proofs.Quiet.{quiet}
+use Rattle.receiver.proofs.Quiet.{no_page, quiet}
 use Rattle.receiver.proofs.Steps.{devices_are}
 use Rattle.receiver.proofs.Working.{front_of, commit_text}
 
@@ -46,56 +46,57 @@ nothing_known = head_short [] (omega arith) (λ at h. omega (arith, h.long)) (λ
 
 -- The digest is no other record, and has no fault.
 
-pub no_other : (pages : ℕ) (shapes : List Shape) (before : List Record) (digest : List ℕ) (r : Record) (y : List ℕ) → Follows pages shapes before r → ¬ (5 ∷ digest ≡ spelled_record r ++ y)
+pub no_other : (opening : Opening) (before : List Record) (digest : List ℕ) (r : Record) (y : List ℕ) → Follows opening before r → ¬ (5 ∷ digest ≡ spelled_record r ++ y)
 unfolding spelled_record
-no_other pages shapes before digest (page n b) y f e = cc
-no_other pages shapes before digest (sector d n (Some b)) y f e = cc
-no_other pages shapes before digest (sector d n None) y f e = cc
-no_other pages shapes before digest (round_end n) y f e = cc
-no_other pages shapes before digest (device d b) y f e = cc
-no_other pages shapes before digest (commit b) y f e = f.may
+no_other opening before digest (page n b) y f e = cc
+no_other opening before digest (sector d n (Some b)) y f e = cc
+no_other opening before digest (sector d n None) y f e = cc
+no_other opening before digest (round_end n) y f e = cc
+no_other opening before digest (device d b) y f e = cc
+no_other opening before digest (commit b) y f e = f.may
+no_other opening before digest (zero_page n) y f e = cc
 
-digest_quiet : (pages : ℕ) (shapes : List Shape) (before : List Record) (digest : List ℕ) → digest ≡ sha256 (header pages shapes ++ texts before) → (place : ℕ)
-    → ¬ (IsBadDigest pages shapes before (5 ∷ digest) place ⊎ IsTrailing pages shapes before (5 ∷ digest) place)
-digest_quiet pages shapes before digest is place (inl h) =
-    let size : length digest ≡ 32 = ap length is ∙ length-sha256 (header pages shapes ++ texts before) in
+digest_quiet : (opening : Opening) (before : List Record) (digest : List ℕ) → digest ≡ sha256 (header opening ++ texts before) → (place : ℕ)
+    → ¬ (IsBadDigest opening before (5 ∷ digest) place ⊎ IsTrailing opening before (5 ∷ digest) place)
+digest_quiet opening before digest is place (inl h) =
+    let size : length digest ≡ 32 = ap length is ∙ length-sha256 (header opening ++ texts before) in
     let t : digest ++ [] ≡ h.digest ++ h.more = append-nil digest ∙ tail_same h.opens.whole in
     h.never (sym (split_same digest h.digest [] h.more (size ∙ sym h.long) t).0 ∙ is)
-digest_quiet pages shapes before digest is place (inr h) =
-    let size : length digest ≡ 32 = ap length is ∙ length-sha256 (header pages shapes ++ texts before) in
-    omega (arith, size, ap length (tail_same h.opens.whole), length-append (sha256 (header pages shapes ++ texts before)) (h.byte ∷ h.more), length-sha256 (header pages shapes ++ texts before))
+digest_quiet opening before digest is place (inr h) =
+    let size : length digest ≡ 32 = ap length is ∙ length-sha256 (header opening ++ texts before) in
+    omega (arith, size, ap length (tail_same h.opens.whole), length-append (sha256 (header opening ++ texts before)) (h.byte ∷ h.more), length-sha256 (header opening ++ texts before))
 
-pub end_quiet : (pages : ℕ) (shapes : List Shape) (before : List Record) (digest : List ℕ) → IsComplete pages shapes before 5 → digest ≡ sha256 (header pages shapes ++ texts before) → (k : RecvError) (place : ℕ) → ¬ (IsFault pages shapes before (5 ∷ digest) k place)
-end_quiet pages shapes before digest complete is =
-    quiet pages shapes before (5 ∷ digest) 5 digest (record {
+pub end_quiet : (opening : Opening) (before : List Record) (digest : List ℕ) → IsComplete opening before 5 → digest ≡ sha256 (header opening ++ texts before) → (k : RecvError) (place : ℕ) → ¬ (IsFault opening before (5 ∷ digest) k place)
+end_quiet opening before digest complete is =
+    quiet opening before (5 ∷ digest) 5 digest (record {
       whole = refl;
-      may = record { least = omega arith; most = omega arith; early = λ low. absurd (omega (arith, low)); missing = λ four. absurd (omega (arith, four)) };
+      may = record { least = omega arith; most = omega arith; early = λ low. absurd (not_early 5 (omega arith) (omega arith) low); missing = λ four. absurd (omega (arith, four)); since = λ six. absurd (omega (arith, six)) };
       complete = λ late. complete;
     })
-    (λ z. absurd (omega (arith, z))) (λ z. absurd (omega (arith, z))) (λ z. absurd (omega (arith, z))) (λ z. absurd (omega (arith, z)))
-    (λ five. digest_quiet pages shapes before digest is)
+    (λ z. absurd (no_page 5 (omega arith) (omega arith) z)) (λ z. absurd (omega (arith, z))) (λ z. absurd (omega (arith, z))) (λ z. absurd (omega (arith, z)))
+    (λ five. digest_quiet opening before digest is)
 
-pub quiet_front : (sizes bytes : List ℕ) (pages : ℕ) (shapes : List Shape) (before : List Record) (tail : List ℕ) → IsFront sizes bytes pages shapes before tail
-    → ((r : Record) (y : List ℕ) → Follows pages shapes before r → ¬ (tail ≡ spelled_record r ++ y)) → ((k : RecvError) (place : ℕ) → ¬ (IsFault pages shapes before tail k place))
+pub quiet_front : (sizes bytes : List ℕ) (opening : Opening) (before : List Record) (tail : List ℕ) → IsFront sizes bytes opening before tail
+    → ((r : Record) (y : List ℕ) → Follows opening before r → ¬ (tail ≡ spelled_record r ++ y)) → ((k : RecvError) (place : ℕ) → ¬ (IsFault opening before tail k place))
     → NoFault sizes bytes
-quiet_front sizes bytes pages shapes before tail front none quiets k at (inl h) = no_header_fault sizes bytes pages shapes (texts before ++ tail) front.begins front.fits k at h
-quiet_front sizes bytes pages shapes before tail front none quiets k at (inr h) = no_record_fault sizes bytes pages shapes before tail front none quiets k at h
+quiet_front sizes bytes opening before tail front none quiets k at (inl h) = no_header_fault sizes bytes opening (texts before ++ tail) front.begins front.fits k at h
+quiet_front sizes bytes opening before tail front none quiets k at (inr h) = no_record_fault sizes bytes opening before tail front none quiets k at h
 
 no_fault_head : (sizes held : List ℕ) → WaitsHead held → NoFault sizes held
 no_fault_head sizes held w k at (inl h) = w.no_fault sizes k at h
-no_fault_head sizes held w k at (inr h) = w.no_header h.pages h.shapes (texts h.before ++ h.tail) h.front.begins
+no_fault_head sizes held w k at (inr h) = w.no_header h.opening (texts h.before ++ h.tail) h.front.begins
 
 no_fault_reading : (ds : List DiskState) (front held : List ℕ) (i : Intake) → IsReading ds front held i → NoFault (sizes_in ds) (front ++ held)
 no_fault_reading ds front held i r =
     let o = r.open_at in
-    quiet_front (sizes_in ds) (front ++ held) r.pages r.shapes o.before held (front_of (front ++ held) held o.read refl) (λ s y f e. o.waits.no_record s y f.spells e) o.waits.no_fault
+    quiet_front (sizes_in ds) (front ++ held) r.opening o.before held (front_of (front ++ held) held o.read refl) (λ s y f e. o.waits.no_record s y f.spells f.has e) o.waits.no_fault
 
 no_fault_come : (ds : List DiskState) (bytes : List ℕ) (i : Intake) → HasCome ds bytes i → NoFault (sizes_in ds) bytes
 no_fault_come ds bytes i h =
     let w = h.ended in
     let whole : bytes ≡ w.front ++ (5 ∷ sha256 w.front) = w.whole ∙ ap (λ (x : List ℕ). w.front ++ x) (commit_text (sha256 w.front)) in
-    quiet_front (sizes_in ds) bytes h.pages h.shapes w.before (5 ∷ sha256 w.front) (front_of bytes (5 ∷ sha256 w.front) w.read whole)
-    (λ s y f e. no_other h.pages h.shapes w.before (sha256 w.front) s y f e) (end_quiet h.pages h.shapes w.before (sha256 w.front) w.complete (ap sha256 w.read.whole))
+    quiet_front (sizes_in ds) bytes h.opening w.before (5 ∷ sha256 w.front) (front_of bytes (5 ∷ sha256 w.front) w.read whole)
+    (λ s y f e. no_other h.opening w.before (sha256 w.front) s y f e) (end_quiet h.opening w.before (sha256 w.front) w.complete (ap sha256 w.read.whole))
 
 none_held : (front held : List ℕ) → held ≡ [] → front ++ held ≡ front
 none_held front held none = ap (λ (x : List ℕ). front ++ x) none ∙ append-nil front
@@ -149,13 +150,13 @@ some_shown : (b : Bool) (x : Record) (o : Option Record) → o ≡ shown b x →
 some_shown true x o e s = e
 some_shown false x o e s = let no : false ≡ true = ap is_some (sym e) ∙ s in absurd cc
 
-pub whole_shapes : {ds : List DiskState} {front : List ℕ} {pages : ℕ} {shapes : List Shape} {before : List Record} {i : Intake} → HasRead ds pages shapes before i front → devices_in before ≡ length shapes → shapes_in i.devices.items ≡ shapes
-whole_shapes {shapes = shapes} {i = i} h all = h.devices_are ∙ take_all (length i.devices.items) shapes (omega (arith, all, devices_are h))
+pub whole_shapes : {ds : List DiskState} {front : List ℕ} {opening : Opening} {before : List Record} {i : Intake} → HasRead ds opening before i front → devices_in before ≡ length opening.shapes → shapes_in i.devices.items ≡ opening.shapes
+whole_shapes {opening = opening} {i = i} h all = h.devices_are ∙ take_all (length i.devices.items) opening.shapes (omega (arith, all, devices_are h))
 
-pub read_sound : {ds : List DiskState} {front : List ℕ} {pages : ℕ} {shapes : List Shape} {before : List Record} {i : Intake} → HasRead ds pages shapes before i front → devices_in before ≡ length shapes → IsBytes i.ram.bytes → All (λ (d : DiskState). AreSectors d.sectors) ds → IsSound (read_machine ds i)
-read_sound {ds = ds} {pages = pages} {shapes = shapes} {i = i} h all are sectors =
-    let count : length i.devices.items ≡ length shapes = omega (arith, all, devices_are h) in
-    let size : length i.ram.bytes / 4096 ≡ pages = omega (arith, h.taken.ram_size) in
+pub read_sound : {ds : List DiskState} {front : List ℕ} {opening : Opening} {before : List Record} {i : Intake} → HasRead ds opening before i front → devices_in before ≡ length opening.shapes → IsBytes i.ram.bytes → All (λ (d : DiskState). AreSectors d.sectors) ds → IsSound (read_machine ds i)
+read_sound {ds = ds} {opening = opening} {i = i} h all are sectors =
+    let count : length i.devices.items ≡ length opening.shapes = omega (arith, all, devices_are h) in
+    let size : length i.ram.bytes / 4096 ≡ opening.pages = omega (arith, h.taken.ram_size) in
     let sizes : disk_sizes (shapes_in i.devices.items) ≡ map length (marked_sectors ds i.bad.items) = ap disk_sizes (whole_shapes h all) ∙ sym h.fits ∙ sym (marked_sizes ds i.bad.items (marks_count ds i.bad.items h.marks_are)) in
     record {
       whole_pages = omega (arith, h.taken.ram_size);
@@ -170,42 +171,43 @@ read_sound {ds = ds} {pages = pages} {shapes = shapes} {i = i} h all are sectors
     }
 
 -- Its layout is that of the header.
-pub read_layout : {ds : List DiskState} {front : List ℕ} {pages : ℕ} {shapes : List Shape} {before : List Record} {i : Intake} → HasRead ds pages shapes before i front → devices_in before ≡ length shapes → IsSound (read_machine ds i) → layout_of (read_machine ds i) ≡ layout_by pages shapes
-read_layout {ds = ds} {pages = pages} {shapes = shapes} {i = i} h all sound =
-    let size : length i.ram.bytes / 4096 ≡ pages = omega (arith, h.taken.ram_size) in
+pub read_layout : {ds : List DiskState} {front : List ℕ} {opening : Opening} {before : List Record} {i : Intake} → HasRead ds opening before i front → devices_in before ≡ length opening.shapes → IsSound (read_machine ds i) → layout_of (read_machine ds i) ≡ layout_in opening
+read_layout {ds = ds} {opening = opening} {i = i} h all sound =
+    let size : length i.ram.bytes / 4096 ≡ opening.pages = omega (arith, h.taken.ram_size) in
     sound_layout (read_machine ds i) sound ∙ rw (size, whole_shapes h all) refl
 
-pub whole_stream : (ds : List DiskState) (held : List ℕ) (pages : ℕ) (shapes : List Shape) (i : Intake) → IsEnded ds pages shapes i held → IsSound (read_machine ds i) → AreHonestDisks (all_marks_in ds) → IsStream held (read_machine ds i)
-whole_stream ds held pages shapes i w sound honest =
+pub whole_stream : (ds : List DiskState) (held : List ℕ) (opening : Opening) (i : Intake) → IsEnded ds opening i held → IsSound (read_machine ds i) → AreHonestDisks (all_marks_in ds) → IsStream held (read_machine ds i)
+whole_stream ds held opening i w sound honest =
     let h = w.read in
     let all = w.complete.devices refl in
     let same : texts w.before ≡ texts h.entries ++ device_texts 0 i.devices.items =
     ap texts h.split ∙ texts-append h.entries (device_records 0 i.devices.items) ∙ ap (λ (x : List ℕ). texts h.entries ++ x) (texts_devices 0 i.devices.items) in
-    let front : w.front ≡ before_commit pages h.entries i.devices.items =
-    h.whole ∙ ap (λ (x : List ℕ). header pages shapes ++ x) same ∙ ap (λ (x : List Shape). header pages x ++ (texts h.entries ++ device_texts 0 i.devices.items)) (sym (whole_shapes h all)) in
+    let front : w.front ≡ before_commit opening.version opening.pages h.entries i.devices.items =
+    h.whole ∙ ap (λ (x : List ℕ). header opening ++ x) same ∙ ap (λ (x : List Shape). header (record { version = opening.version; pages = opening.pages; shapes = x }) ++ (texts h.entries ++ device_texts 0 i.devices.items)) (sym (whole_shapes h all)) in
     let m : MachineState = read_machine ds i in
-    let layout : layout_of m ≡ layout_by pages shapes = read_layout h all sound in
-    let size : pages_of m ≡ pages = omega (arith, h.taken.ram_size) in
-    let disks : m.disks ≡ held_sectors shapes ds i.bad.items = ap (λ (x : List Shape). dealt_sectors x (marked_sectors ds i.bad.items)) (whole_shapes h all) in
+    let layout : layout_of m ≡ layout_in opening = read_layout h all sound in
+    let size : pages_of m ≡ opening.pages = omega (arith, h.taken.ram_size) in
+    let disks : m.disks ≡ held_sectors opening.shapes ds i.bad.items = ap (λ (x : List Shape). dealt_sectors x (marked_sectors ds i.bad.items)) (whole_shapes h all) in
     record {
+      version = opening.version;
       entries = h.entries;
       by = record {
+        known = h.head.known;
         each = rw layout h.each;
         numbered = h.numbered;
         last = λ item has.
-            let here : IsItemIn (layout_by pages shapes) item = rw layout at has in
+            let here : IsItemIn (layout_in opening) item = rw layout at has in
             sym (ap (last_named item) h.split ∙ last_entries item 0 h.entries i.devices.items)
-            ∙ rw disks (some_shown (get_or i.named (number_of (layout_by pages shapes) item) false) (record_in i.ram.bytes (held_sectors shapes ds i.bad.items) item) (last_named item w.before) (h.taken.last honest item here) (w.complete.items item here));
+            ∙ rw disks (some_shown (get_or i.named (number_of (layout_in opening) item) false) (record_in opening.version i.ram.bytes (held_sectors opening.shapes ds i.bad.items) item) (last_named item w.before) (h.taken.last honest item here) (w.complete.items item here));
         sound = sound;
         whole = rw size (w.whole ∙ ap (λ (x : List ℕ). x ++ spelled_record (commit (sha256 x))) front);
       };
     }
 
-pub whole_for : (ds : List DiskState) (held : List ℕ) (pages : ℕ) (shapes : List Shape) (i : Intake) → IsEnded ds pages shapes i held → IsWholeFor (sizes_in ds) held
-whole_for ds held pages shapes i w = record {
-  pages = pages;
-  shapes = shapes;
+pub whole_for : (ds : List DiskState) (held : List ℕ) (opening : Opening) (i : Intake) → IsEnded ds opening i held → IsWholeFor (sizes_in ds) held
+whole_for ds held opening i w = record {
+  opening = opening;
   before = w.before;
-  front = front_of held (spelled_record (commit (sha256 (header pages shapes ++ texts w.before)))) w.read (w.whole ∙ ap (λ (x : List ℕ). w.front ++ spelled_record (commit (sha256 x))) w.read.whole);
+  front = front_of held (spelled_record (commit (sha256 (header opening ++ texts w.before)))) w.read (w.whole ∙ ap (λ (x : List ℕ). w.front ++ spelled_record (commit (sha256 x))) w.read.whole);
   complete = w.complete;
 }

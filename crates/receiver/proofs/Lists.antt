@@ -1,5 +1,5 @@
 -- Lists, beginnings and ends of them.
-use Rattle.std.proofs.Common.{◌≡◌, ℕ, zero, suc, ◌+◌, ◌<◌, ◌≤◌, List, [], ◌∷◌, length, take, drop, get_or, refl, sym, ap, arith}
+use Rattle.std.proofs.Common.{◌≡◌, ℕ, zero, suc, ◌+◌, ◌<◌, ◌≤◌, Bool, true, false, List, [], ◌∷◌, length, take, drop, get_or, refl, sym, ap, ◌∙◌, arith}
 use Rattle.machine.specs.declared.shape.Shape.{Shape}
 use Rattle.wire.proofs.Unique.{cons_same}
 
@@ -23,3 +23,7 @@ pub take_all : {A : Type 0} (n : ℕ) (xs : List A) → length xs ≤ n → take
 take_all n [] all = take_nothing n
 take_all zero (x ∷ xs) all = absurd (omega (arith, all))
 take_all (suc n) (x ∷ xs) all = ap (λ ys. x ∷ ys) (take_all n xs (omega (arith, all)))
+
+-- What is decided is not decided both ways.
+pub not_both_ways : (b : Bool) → b ≡ true → b ≡ false → ⊥
+not_both_ways b e f = let no : true ≡ false = sym e ∙ f in cc

@@ -1,155 +1,177 @@
 -- A fault stands at one place, and is one.
-use Rattle.std.proofs.Common.{◌≡◌, ℕ, ◌+◌, ◌⊎◌, inl, inr, List, [], ◌∷◌, ◌++◌, length, refl, sym, ap, subst, ◌∙◌, append_assoc, append-nil, arith}
+use Rattle.std.proofs.Common.{◌≡◌, ℕ, ◌+◌, ◌⊎◌, inl, inr, List, [], ◌∷◌, ◌++◌, length, refl, sym, ap, subst, ◌∙◌, append_assoc, append-nil, arith, ◌≤◌}
 use Rattle.std.proofs.lemmas.List.{length-append}
 use Rattle.std.specs.Prelude.{All}
 use Rattle.std.specs.List.{AllByRecursion}
 use Rattle.sha2.specs.Sha256.{sha256}
 use Rattle.sha2.proofs.Facts256.{length-sha256}
-use Rattle.wire.specs.Header.{front, header, Begins, spelled_shapes}
+use Rattle.wire.specs.Header.{header, Begins, spelled_shapes, Opening}
 use Rattle.wire.specs.Records.{Record, spelled_record}
 use Rattle.wire.specs.Stream.{texts}
 use Rattle.machine.specs.Sound.{IsSoundShape}
 use Rattle.machine.specs.declared.shape.Shape.{Shape}
 use Rattle.wire.proofs.HeaderLemmas.{header_of-spelled}
+use Rattle.wire.proofs.PartLengths.{length_header}
 use Rattle.wire.proofs.Spelling.{head_same, tail_same, split_same, number_same}
 use Rattle.wire.proofs.Unique.{alike}
 use Rattle.receiver.specs.Good.{AreGood, devices_in}
 use Rattle.machine.specs.Shapes.{disk_sizes}
-use Rattle.receiver.specs.Faults.{MayTag, IsComplete, Opens, IsBadTag, IsMissing, IsBadPage, IsBadSector, IsBadRound, IsBadHead, IsBadBody, IsBadDigest, IsTrailing, IsFault, IsRecordFault, IsBadMagic, IsBadVersion, IsBadCount, IsBadShape, IsMismatch, IsNoShape, IsHeaderFault, Fault}
+use Rattle.receiver.specs.Faults.{MayTag, IsComplete, IsLate, IsPageTag, Opens, IsBadTag, IsMissing, IsBadPage, IsLongZeros, IsBadSector, IsBadRound, IsBadHead, IsBadBody, IsBadDigest, IsTrailing, IsFault, IsRecordFault, IsBadMagic, IsBadVersion, IsBadCount, IsBadShape, IsMismatch, IsNoShape, IsHeaderFault, Fault}
 use Rattle.receiver.specs.declared.recv_error.RecvError.{RecvError}
 use Rattle.receiver.specs.declared.recv_error.RecvError.TheVariants as errors
+use Rattle.receiver.proofs.Quiet.{no_page}
 use Rattle.receiver.proofs.Aligned.{LongerRecords, records_led, good_spell, next_good, no_fault_here}
 use Rattle.receiver.proofs.Heads.{no_header_fault, header_same, says_of, shapes_led, sound_behind, LongerShapes, bad_lengths, no_bad_spelled}
 
 abbrev pub Same : RecvError → ℕ → RecvError → ℕ → Type 0
 Same k p j q = (k ≡ j) × (p ≡ q)
 
-by_tag : (G : RecvError → ℕ → Type 0) (pages : ℕ) (shapes : List Shape) (before : List Record) (tail : List ℕ) (tag : ℕ) (more : List ℕ) → Opens pages shapes before tail tag more
-    → (tag ≡ 1 → (q : ℕ) → IsBadPage pages shapes before tail q → G errors.BadPage q)
-    → (tag ≡ 2 → (q : ℕ) → IsBadSector pages shapes before tail q → G errors.BadSector q)
-    → (tag ≡ 3 → (q : ℕ) → IsBadRound pages shapes before tail q → G errors.BadRound q)
-    → (tag ≡ 4 → (q : ℕ) → IsBadHead pages shapes before tail q → G errors.BadDevice q) → (tag ≡ 4 → (q : ℕ) → IsBadBody pages shapes before tail q → G errors.BadDevice q)
-    → (tag ≡ 5 → (q : ℕ) → IsBadDigest pages shapes before tail q → G errors.BadDigest q) → (tag ≡ 5 → (q : ℕ) → IsTrailing pages shapes before tail q → G errors.Trailing q)
-    → (j : RecvError) (q : ℕ) → IsFault pages shapes before tail j q → G j q
-by_tag G pages shapes before tail tag more o p s r d b c t errors.BadMagic q h = absurd h
-by_tag G pages shapes before tail tag more o p s r d b c t errors.BadVersion q h = absurd h
-by_tag G pages shapes before tail tag more o p s r d b c t errors.BadShape q h = absurd h
-by_tag G pages shapes before tail tag more o p s r d b c t errors.ShapeMismatch q h = absurd h
-by_tag G pages shapes before tail tag more o p s r d b c t errors.BadTag q h = absurd (h.never (subst (MayTag (length shapes) (devices_in before)) (head_same (sym o.whole ∙ h.whole)) o.may))
-by_tag G pages shapes before tail tag more o p s r d b c t errors.BadPage q h = p (head_same (sym o.whole ∙ h.opens.whole)) q h
-by_tag G pages shapes before tail tag more o p s r d b c t errors.BadSector q h = s (head_same (sym o.whole ∙ h.opens.whole)) q h
-by_tag G pages shapes before tail tag more o p s r d b c t errors.BadRound q h = r (head_same (sym o.whole ∙ h.opens.whole)) q h
-by_tag G pages shapes before tail tag more o p s r d b c t errors.BadDevice q (inl h) = d (head_same (sym o.whole ∙ h.opens.whole)) q h
-by_tag G pages shapes before tail tag more o p s r d b c t errors.BadDevice q (inr h) = b (head_same (sym o.whole ∙ h.opens.whole)) q h
-by_tag G pages shapes before tail tag more o p s r d b c t errors.BadDigest q h = c (head_same (sym o.whole ∙ h.opens.whole)) q h
-by_tag G pages shapes before tail tag more o p s r d b c t errors.Missing q h = let same : tag ≡ h.tag = head_same (sym o.whole ∙ h.whole) in absurd (h.never (subst (IsComplete pages shapes before) same (o.complete (omega (arith, h.late, same)))))
-by_tag G pages shapes before tail tag more o p s r d b c t errors.Trailing q h = t (head_same (sym o.whole ∙ h.opens.whole)) q h
-by_tag G pages shapes before tail tag more o p s r d b c t errors.Truncated q h = absurd h
-by_tag G pages shapes before tail tag more o p s r d b c t errors.DiskFailed q h = absurd h
-by_tag G pages shapes before tail tag more o p s r d b c t errors.NoMemory q h = absurd h
-by_tag G pages shapes before tail tag more o p s r d b c t errors.AlreadyFailed q h = absurd h
+by_tag : (G : RecvError → ℕ → Type 0) (opening : Opening) (before : List Record) (tail : List ℕ) (tag : ℕ) (more : List ℕ) → Opens opening before tail tag more
+    → (IsPageTag tag → (q : ℕ) → IsBadPage opening before tail q ⊎ IsLongZeros opening before tail q → G errors.BadPage q)
+    → (tag ≡ 2 → (q : ℕ) → IsBadSector opening before tail q → G errors.BadSector q)
+    → (tag ≡ 3 → (q : ℕ) → IsBadRound opening before tail q → G errors.BadRound q)
+    → (tag ≡ 4 → (q : ℕ) → IsBadHead opening before tail q → G errors.BadDevice q) → (tag ≡ 4 → (q : ℕ) → IsBadBody opening before tail q → G errors.BadDevice q)
+    → (tag ≡ 5 → (q : ℕ) → IsBadDigest opening before tail q → G errors.BadDigest q) → (tag ≡ 5 → (q : ℕ) → IsTrailing opening before tail q → G errors.Trailing q)
+    → (j : RecvError) (q : ℕ) → IsFault opening before tail j q → G j q
+by_tag G opening before tail tag more o p s r d b c t errors.BadMagic q h = absurd h
+by_tag G opening before tail tag more o p s r d b c t errors.BadVersion q h = absurd h
+by_tag G opening before tail tag more o p s r d b c t errors.BadShape q h = absurd h
+by_tag G opening before tail tag more o p s r d b c t errors.ShapeMismatch q h = absurd h
+by_tag G opening before tail tag more o p s r d b c t errors.BadTag q h = absurd (h.never (subst (MayTag opening.version (length opening.shapes) (devices_in before)) (head_same (sym o.whole ∙ h.whole)) o.may))
+by_tag G opening before tail tag more o p s r d b c t errors.BadPage q (inl h) = p (subst IsPageTag (head_same (sym h.opens.whole ∙ o.whole)) h.names) q (inl h)
+by_tag G opening before tail tag more o p s r d b c t errors.BadPage q (inr h) = p (inl (head_same (sym o.whole ∙ h.opens.whole))) q (inr h)
+by_tag G opening before tail tag more o p s r d b c t errors.BadSector q h = s (head_same (sym o.whole ∙ h.opens.whole)) q h
+by_tag G opening before tail tag more o p s r d b c t errors.BadRound q h = r (head_same (sym o.whole ∙ h.opens.whole)) q h
+by_tag G opening before tail tag more o p s r d b c t errors.BadDevice q (inl h) = d (head_same (sym o.whole ∙ h.opens.whole)) q h
+by_tag G opening before tail tag more o p s r d b c t errors.BadDevice q (inr h) = b (head_same (sym o.whole ∙ h.opens.whole)) q h
+by_tag G opening before tail tag more o p s r d b c t errors.BadDigest q h = c (head_same (sym o.whole ∙ h.opens.whole)) q h
+by_tag G opening before tail tag more o p s r d b c t errors.Missing q h = let same : tag ≡ h.tag = head_same (sym o.whole ∙ h.whole) in absurd (h.never (subst (IsComplete opening before) same (o.complete (subst IsLate (sym same) h.late))))
+by_tag G opening before tail tag more o p s r d b c t errors.Trailing q h = t (head_same (sym o.whole ∙ h.opens.whole)) q h
+by_tag G opening before tail tag more o p s r d b c t errors.Truncated q h = absurd h
+by_tag G opening before tail tag more o p s r d b c t errors.DiskFailed q h = absurd h
+by_tag G opening before tail tag more o p s r d b c t errors.NoMemory q h = absurd h
+by_tag G opening before tail tag more o p s r d b c t errors.AlreadyFailed q h = absurd h
 
-one_tag : (pages : ℕ) (shapes : List Shape) (before : List Record) (tail : List ℕ) (p : ℕ) → IsBadTag shapes before tail p → (j : RecvError) (q : ℕ) → IsFault pages shapes before tail j q → Same errors.BadTag p j q
-one_tag pages shapes before tail p f errors.BadMagic q h = absurd h
-one_tag pages shapes before tail p f errors.BadVersion q h = absurd h
-one_tag pages shapes before tail p f errors.BadShape q h = absurd h
-one_tag pages shapes before tail p f errors.ShapeMismatch q h = absurd h
-one_tag pages shapes before tail p f errors.BadTag q h = (refl, f.there ∙ sym h.there)
-one_tag pages shapes before tail p f errors.BadPage q h = absurd (f.never (subst (MayTag (length shapes) (devices_in before)) (head_same (sym h.opens.whole ∙ f.whole)) h.opens.may))
-one_tag pages shapes before tail p f errors.BadSector q h = absurd (f.never (subst (MayTag (length shapes) (devices_in before)) (head_same (sym h.opens.whole ∙ f.whole)) h.opens.may))
-one_tag pages shapes before tail p f errors.BadRound q h = absurd (f.never (subst (MayTag (length shapes) (devices_in before)) (head_same (sym h.opens.whole ∙ f.whole)) h.opens.may))
-one_tag pages shapes before tail p f errors.BadDevice q (inl h) = absurd (f.never (subst (MayTag (length shapes) (devices_in before)) (head_same (sym h.opens.whole ∙ f.whole)) h.opens.may))
-one_tag pages shapes before tail p f errors.BadDevice q (inr h) = absurd (f.never (subst (MayTag (length shapes) (devices_in before)) (head_same (sym h.opens.whole ∙ f.whole)) h.opens.may))
-one_tag pages shapes before tail p f errors.BadDigest q h = absurd (f.never (subst (MayTag (length shapes) (devices_in before)) (head_same (sym h.opens.whole ∙ f.whole)) h.opens.may))
-one_tag pages shapes before tail p f errors.Missing q h = absurd (f.never (subst (MayTag (length shapes) (devices_in before)) (head_same (sym h.whole ∙ f.whole)) h.may))
-one_tag pages shapes before tail p f errors.Trailing q h = absurd (f.never (subst (MayTag (length shapes) (devices_in before)) (head_same (sym h.opens.whole ∙ f.whole)) h.opens.may))
-one_tag pages shapes before tail p f errors.Truncated q h = absurd h
-one_tag pages shapes before tail p f errors.DiskFailed q h = absurd h
-one_tag pages shapes before tail p f errors.NoMemory q h = absurd h
-one_tag pages shapes before tail p f errors.AlreadyFailed q h = absurd h
+one_tag : (opening : Opening) (before : List Record) (tail : List ℕ) (p : ℕ) → IsBadTag opening before tail p → (j : RecvError) (q : ℕ) → IsFault opening before tail j q → Same errors.BadTag p j q
+one_tag opening before tail p f errors.BadMagic q h = absurd h
+one_tag opening before tail p f errors.BadVersion q h = absurd h
+one_tag opening before tail p f errors.BadShape q h = absurd h
+one_tag opening before tail p f errors.ShapeMismatch q h = absurd h
+one_tag opening before tail p f errors.BadTag q h = (refl, f.there ∙ sym h.there)
+one_tag opening before tail p f errors.BadPage q (inl h) = absurd (f.never (subst (MayTag opening.version (length opening.shapes) (devices_in before)) (head_same (sym h.opens.whole ∙ f.whole)) h.opens.may))
+one_tag opening before tail p f errors.BadPage q (inr h) = absurd (f.never (subst (MayTag opening.version (length opening.shapes) (devices_in before)) (head_same (sym h.opens.whole ∙ f.whole)) h.opens.may))
+one_tag opening before tail p f errors.BadSector q h = absurd (f.never (subst (MayTag opening.version (length opening.shapes) (devices_in before)) (head_same (sym h.opens.whole ∙ f.whole)) h.opens.may))
+one_tag opening before tail p f errors.BadRound q h = absurd (f.never (subst (MayTag opening.version (length opening.shapes) (devices_in before)) (head_same (sym h.opens.whole ∙ f.whole)) h.opens.may))
+one_tag opening before tail p f errors.BadDevice q (inl h) = absurd (f.never (subst (MayTag opening.version (length opening.shapes) (devices_in before)) (head_same (sym h.opens.whole ∙ f.whole)) h.opens.may))
+one_tag opening before tail p f errors.BadDevice q (inr h) = absurd (f.never (subst (MayTag opening.version (length opening.shapes) (devices_in before)) (head_same (sym h.opens.whole ∙ f.whole)) h.opens.may))
+one_tag opening before tail p f errors.BadDigest q h = absurd (f.never (subst (MayTag opening.version (length opening.shapes) (devices_in before)) (head_same (sym h.opens.whole ∙ f.whole)) h.opens.may))
+one_tag opening before tail p f errors.Missing q h = absurd (f.never (subst (MayTag opening.version (length opening.shapes) (devices_in before)) (head_same (sym h.whole ∙ f.whole)) h.may))
+one_tag opening before tail p f errors.Trailing q h = absurd (f.never (subst (MayTag opening.version (length opening.shapes) (devices_in before)) (head_same (sym h.opens.whole ∙ f.whole)) h.opens.may))
+one_tag opening before tail p f errors.Truncated q h = absurd h
+one_tag opening before tail p f errors.DiskFailed q h = absurd h
+one_tag opening before tail p f errors.NoMemory q h = absurd h
+one_tag opening before tail p f errors.AlreadyFailed q h = absurd h
 
-one_missing : (pages : ℕ) (shapes : List Shape) (before : List Record) (tail : List ℕ) (p : ℕ) → IsMissing pages shapes before tail p → (j : RecvError) (q : ℕ) → IsFault pages shapes before tail j q → Same errors.Missing p j q
-one_missing pages shapes before tail p f errors.BadMagic q h = absurd h
-one_missing pages shapes before tail p f errors.BadVersion q h = absurd h
-one_missing pages shapes before tail p f errors.BadShape q h = absurd h
-one_missing pages shapes before tail p f errors.ShapeMismatch q h = absurd h
-one_missing pages shapes before tail p f errors.BadTag q h = absurd (h.never (subst (MayTag (length shapes) (devices_in before)) (head_same (sym f.whole ∙ h.whole)) f.may))
-one_missing pages shapes before tail p f errors.BadPage q h = let same = head_same (sym h.opens.whole ∙ f.whole) in absurd (f.never (subst (IsComplete pages shapes before) same (h.opens.complete (omega (arith, f.late, same)))))
-one_missing pages shapes before tail p f errors.BadSector q h = let same = head_same (sym h.opens.whole ∙ f.whole) in absurd (f.never (subst (IsComplete pages shapes before) same (h.opens.complete (omega (arith, f.late, same)))))
-one_missing pages shapes before tail p f errors.BadRound q h = let same = head_same (sym h.opens.whole ∙ f.whole) in absurd (f.never (subst (IsComplete pages shapes before) same (h.opens.complete (omega (arith, f.late, same)))))
-one_missing pages shapes before tail p f errors.BadDevice q (inl h) = let same = head_same (sym h.opens.whole ∙ f.whole) in absurd (f.never (subst (IsComplete pages shapes before) same (h.opens.complete (omega (arith, f.late, same)))))
-one_missing pages shapes before tail p f errors.BadDevice q (inr h) = let same = head_same (sym h.opens.whole ∙ f.whole) in absurd (f.never (subst (IsComplete pages shapes before) same (h.opens.complete (omega (arith, f.late, same)))))
-one_missing pages shapes before tail p f errors.BadDigest q h = let same = head_same (sym h.opens.whole ∙ f.whole) in absurd (f.never (subst (IsComplete pages shapes before) same (h.opens.complete (omega (arith, f.late, same)))))
-one_missing pages shapes before tail p f errors.Missing q h = (refl, f.there ∙ sym h.there)
-one_missing pages shapes before tail p f errors.Trailing q h = let same = head_same (sym h.opens.whole ∙ f.whole) in absurd (f.never (subst (IsComplete pages shapes before) same (h.opens.complete (omega (arith, f.late, same)))))
-one_missing pages shapes before tail p f errors.Truncated q h = absurd h
-one_missing pages shapes before tail p f errors.DiskFailed q h = absurd h
-one_missing pages shapes before tail p f errors.NoMemory q h = absurd h
-one_missing pages shapes before tail p f errors.AlreadyFailed q h = absurd h
+one_missing : (opening : Opening) (before : List Record) (tail : List ℕ) (p : ℕ) → IsMissing opening before tail p → (j : RecvError) (q : ℕ) → IsFault opening before tail j q → Same errors.Missing p j q
+one_missing opening before tail p f errors.BadMagic q h = absurd h
+one_missing opening before tail p f errors.BadVersion q h = absurd h
+one_missing opening before tail p f errors.BadShape q h = absurd h
+one_missing opening before tail p f errors.ShapeMismatch q h = absurd h
+one_missing opening before tail p f errors.BadTag q h = absurd (h.never (subst (MayTag opening.version (length opening.shapes) (devices_in before)) (head_same (sym f.whole ∙ h.whole)) f.may))
+one_missing opening before tail p f errors.BadPage q (inl h) = let same = head_same (sym h.opens.whole ∙ f.whole) in absurd (f.never (subst (IsComplete opening before) same (h.opens.complete (subst IsLate (sym same) f.late))))
+one_missing opening before tail p f errors.BadPage q (inr h) = let same = head_same (sym h.opens.whole ∙ f.whole) in absurd (f.never (subst (IsComplete opening before) same (h.opens.complete (subst IsLate (sym same) f.late))))
+one_missing opening before tail p f errors.BadSector q h = let same = head_same (sym h.opens.whole ∙ f.whole) in absurd (f.never (subst (IsComplete opening before) same (h.opens.complete (subst IsLate (sym same) f.late))))
+one_missing opening before tail p f errors.BadRound q h = let same = head_same (sym h.opens.whole ∙ f.whole) in absurd (f.never (subst (IsComplete opening before) same (h.opens.complete (subst IsLate (sym same) f.late))))
+one_missing opening before tail p f errors.BadDevice q (inl h) = let same = head_same (sym h.opens.whole ∙ f.whole) in absurd (f.never (subst (IsComplete opening before) same (h.opens.complete (subst IsLate (sym same) f.late))))
+one_missing opening before tail p f errors.BadDevice q (inr h) = let same = head_same (sym h.opens.whole ∙ f.whole) in absurd (f.never (subst (IsComplete opening before) same (h.opens.complete (subst IsLate (sym same) f.late))))
+one_missing opening before tail p f errors.BadDigest q h = let same = head_same (sym h.opens.whole ∙ f.whole) in absurd (f.never (subst (IsComplete opening before) same (h.opens.complete (subst IsLate (sym same) f.late))))
+one_missing opening before tail p f errors.Missing q h = (refl, f.there ∙ sym h.there)
+one_missing opening before tail p f errors.Trailing q h = let same = head_same (sym h.opens.whole ∙ f.whole) in absurd (f.never (subst (IsComplete opening before) same (h.opens.complete (subst IsLate (sym same) f.late))))
+one_missing opening before tail p f errors.Truncated q h = absurd h
+one_missing opening before tail p f errors.DiskFailed q h = absurd h
+one_missing opening before tail p f errors.NoMemory q h = absurd h
+one_missing opening before tail p f errors.AlreadyFailed q h = absurd h
 
-head_body : (pages : ℕ) (shapes : List Shape) (before : List Record) (tail : List ℕ) (p q : ℕ) → IsBadHead pages shapes before tail p → IsBadBody pages shapes before tail q → ⊥
-head_body pages shapes before tail p q f h =
+head_body : (opening : Opening) (before : List Record) (tail : List ℕ) (p q : ℕ) → IsBadHead opening before tail p → IsBadBody opening before tail q → ⊥
+head_body opening before tail p q f h =
     let t = tail_same (sym f.opens.whole ∙ h.opens.whole) in
     let s = number_same 4 f.len (length h.body) f.more (h.body ++ h.more) f.fits (omega (arith, h.few)) (tail_same t) in
     f.never (record { next = head_same t; few = omega (arith, h.few, s.0) })
 
-body_body : (pages : ℕ) (shapes : List Shape) (before : List Record) (tail : List ℕ) (p q : ℕ) → IsBadBody pages shapes before tail p → IsBadBody pages shapes before tail q → p ≡ q
-body_body pages shapes before tail p q f h =
+body_body : (opening : Opening) (before : List Record) (tail : List ℕ) (p q : ℕ) → IsBadBody opening before tail p → IsBadBody opening before tail q → p ≡ q
+body_body opening before tail p q f h =
     let t = tail_same (sym f.opens.whole ∙ h.opens.whole) in
     let s = number_same 4 (length f.body) (length h.body) (f.body ++ f.more) (h.body ++ h.more) (omega (arith, f.few)) (omega (arith, h.few)) (tail_same t) in
     omega (arith, f.there, h.there, s.0)
 
-digest_trailing : (pages : ℕ) (shapes : List Shape) (before : List Record) (tail : List ℕ) (p q : ℕ) → IsBadDigest pages shapes before tail p → IsTrailing pages shapes before tail q → ⊥
-digest_trailing pages shapes before tail p q f h =
-    let t : f.digest ++ f.more ≡ sha256 (header pages shapes ++ texts before) ++ (h.byte ∷ h.more) = tail_same (sym f.opens.whole ∙ h.opens.whole) in
-    f.never (split_same f.digest (sha256 (header pages shapes ++ texts before)) f.more (h.byte ∷ h.more) (f.long ∙ sym (length-sha256 (header pages shapes ++ texts before))) t).0
+digest_trailing : (opening : Opening) (before : List Record) (tail : List ℕ) (p q : ℕ) → IsBadDigest opening before tail p → IsTrailing opening before tail q → ⊥
+digest_trailing opening before tail p q f h =
+    let t : f.digest ++ f.more ≡ sha256 (header opening ++ texts before) ++ (h.byte ∷ h.more) = tail_same (sym f.opens.whole ∙ h.opens.whole) in
+    f.never (split_same f.digest (sha256 (header opening ++ texts before)) f.more (h.byte ∷ h.more) (f.long ∙ sym (length-sha256 (header opening ++ texts before))) t).0
 
-one_local : (pages : ℕ) (shapes : List Shape) (before : List Record) (tail : List ℕ) (k : RecvError) (p : ℕ) → IsFault pages shapes before tail k p → (j : RecvError) (q : ℕ) → IsFault pages shapes before tail j q → Same k p j q
-one_local pages shapes before tail errors.BadMagic p f = absurd f
-one_local pages shapes before tail errors.BadVersion p f = absurd f
-one_local pages shapes before tail errors.BadShape p f = absurd f
-one_local pages shapes before tail errors.ShapeMismatch p f = absurd f
-one_local pages shapes before tail errors.BadTag p f = one_tag pages shapes before tail p f
-one_local pages shapes before tail errors.BadPage p f = by_tag (λ j q. Same errors.BadPage p j q) pages shapes before tail 1 _ f.opens (λ z q h. (refl, f.there ∙ sym h.there)) (λ z q h. absurd (omega (arith, z))) (λ z q h. absurd (omega (arith, z))) (λ z q h. absurd (omega (arith, z))) (λ z q h. absurd (omega (arith, z))) (λ z q h. absurd (omega (arith, z))) (λ z q h. absurd (omega (arith, z)))
-one_local pages shapes before tail errors.BadSector p f = by_tag (λ j q. Same errors.BadSector p j q) pages shapes before tail 2 _ f.opens (λ z q h. absurd (omega (arith, z))) (λ z q h. (refl, f.there ∙ sym h.there)) (λ z q h. absurd (omega (arith, z))) (λ z q h. absurd (omega (arith, z))) (λ z q h. absurd (omega (arith, z))) (λ z q h. absurd (omega (arith, z))) (λ z q h. absurd (omega (arith, z)))
-one_local pages shapes before tail errors.BadRound p f = by_tag (λ j q. Same errors.BadRound p j q) pages shapes before tail 3 _ f.opens (λ z q h. absurd (omega (arith, z))) (λ z q h. absurd (omega (arith, z))) (λ z q h. (refl, f.there ∙ sym h.there)) (λ z q h. absurd (omega (arith, z))) (λ z q h. absurd (omega (arith, z))) (λ z q h. absurd (omega (arith, z))) (λ z q h. absurd (omega (arith, z)))
-one_local pages shapes before tail errors.BadDevice p (inl f) = by_tag (λ j q. Same errors.BadDevice p j q) pages shapes before tail 4 _ f.opens (λ z q h. absurd (omega (arith, z))) (λ z q h. absurd (omega (arith, z))) (λ z q h. absurd (omega (arith, z))) (λ z q h. (refl, f.there ∙ sym h.there)) (λ z q h. absurd (head_body pages shapes before tail p q f h)) (λ z q h. absurd (omega (arith, z))) (λ z q h. absurd (omega (arith, z)))
-one_local pages shapes before tail errors.BadDevice p (inr f) = by_tag (λ j q. Same errors.BadDevice p j q) pages shapes before tail 4 _ f.opens (λ z q h. absurd (omega (arith, z))) (λ z q h. absurd (omega (arith, z))) (λ z q h. absurd (omega (arith, z))) (λ z q h. absurd (head_body pages shapes before tail q p h f)) (λ z q h. (refl, body_body pages shapes before tail p q f h)) (λ z q h. absurd (omega (arith, z))) (λ z q h. absurd (omega (arith, z)))
-one_local pages shapes before tail errors.BadDigest p f = by_tag (λ j q. Same errors.BadDigest p j q) pages shapes before tail 5 _ f.opens (λ z q h. absurd (omega (arith, z))) (λ z q h. absurd (omega (arith, z))) (λ z q h. absurd (omega (arith, z))) (λ z q h. absurd (omega (arith, z))) (λ z q h. absurd (omega (arith, z))) (λ z q h. (refl, f.there ∙ sym h.there)) (λ z q h. absurd (digest_trailing pages shapes before tail p q f h))
-one_local pages shapes before tail errors.Missing p f = one_missing pages shapes before tail p f
-one_local pages shapes before tail errors.Trailing p f = by_tag (λ j q. Same errors.Trailing p j q) pages shapes before tail 5 _ f.opens (λ z q h. absurd (omega (arith, z))) (λ z q h. absurd (omega (arith, z))) (λ z q h. absurd (omega (arith, z))) (λ z q h. absurd (omega (arith, z))) (λ z q h. absurd (omega (arith, z))) (λ z q h. absurd (digest_trailing pages shapes before tail q p h f)) (λ z q h. (refl, f.there ∙ sym h.there))
-one_local pages shapes before tail errors.Truncated p f = absurd f
-one_local pages shapes before tail errors.DiskFailed p f = absurd f
-one_local pages shapes before tail errors.NoMemory p f = absurd f
-one_local pages shapes before tail errors.AlreadyFailed p f = absurd f
+page_not : (tag : ℕ) → IsPageTag tag → (t : ℕ) → 2 ≤ t → t ≤ 5 → tag ≡ t → ⊥
+page_not tag names t low high e = no_page t low high (subst IsPageTag e names)
 
-longer_one : (pages : ℕ) (shapes : List Shape) (before others : List Record) (tail rest : List ℕ) (k j : RecvError) (p q : ℕ) → AreGood pages shapes [] others → IsFault pages shapes before tail k p → IsFault pages shapes others rest j q
+zeros_number : (opening : Opening) (before : List Record) (tail : List ℕ) (p q : ℕ) → IsBadPage opening before tail p → IsLongZeros opening before tail q → ⊥
+zeros_number opening before tail p q f h =
+    let s = number_same 4 f.number h.number f.more (h.bytes ++ h.more) f.fits h.fits (tail_same (sym f.opens.whole ∙ h.opens.whole)) in
+    omega (arith, s.0, f.never, h.within)
+
+page_page : (opening : Opening) (before : List Record) (tail : List ℕ) (p q : ℕ) → IsBadPage opening before tail p → IsBadPage opening before tail q ⊎ IsLongZeros opening before tail q → p ≡ q
+page_page opening before tail p q f (inl h) = f.there ∙ sym h.there
+page_page opening before tail p q f (inr h) = absurd (zeros_number opening before tail p q f h)
+
+zeros_page : (opening : Opening) (before : List Record) (tail : List ℕ) (p q : ℕ) → IsLongZeros opening before tail p → IsBadPage opening before tail q ⊎ IsLongZeros opening before tail q → p ≡ q
+zeros_page opening before tail p q f (inl h) = absurd (zeros_number opening before tail q p h f)
+zeros_page opening before tail p q f (inr h) = f.there ∙ sym h.there
+
+one_local : (opening : Opening) (before : List Record) (tail : List ℕ) (k : RecvError) (p : ℕ) → IsFault opening before tail k p → (j : RecvError) (q : ℕ) → IsFault opening before tail j q → Same k p j q
+one_local opening before tail errors.BadMagic p f = absurd f
+one_local opening before tail errors.BadVersion p f = absurd f
+one_local opening before tail errors.BadShape p f = absurd f
+one_local opening before tail errors.ShapeMismatch p f = absurd f
+one_local opening before tail errors.BadTag p f = one_tag opening before tail p f
+one_local opening before tail errors.BadPage p (inl f) = by_tag (λ j q. Same errors.BadPage p j q) opening before tail f.tag _ f.opens (λ z q h. (refl, page_page opening before tail p q f h)) (λ z q h. absurd (page_not f.tag f.names 2 (omega arith) (omega arith) z)) (λ z q h. absurd (page_not f.tag f.names 3 (omega arith) (omega arith) z)) (λ z q h. absurd (page_not f.tag f.names 4 (omega arith) (omega arith) z)) (λ z q h. absurd (page_not f.tag f.names 4 (omega arith) (omega arith) z)) (λ z q h. absurd (page_not f.tag f.names 5 (omega arith) (omega arith) z)) (λ z q h. absurd (page_not f.tag f.names 5 (omega arith) (omega arith) z))
+one_local opening before tail errors.BadPage p (inr f) = by_tag (λ j q. Same errors.BadPage p j q) opening before tail 1 _ f.opens (λ z q h. (refl, zeros_page opening before tail p q f h)) (λ z q h. absurd (omega (arith, z))) (λ z q h. absurd (omega (arith, z))) (λ z q h. absurd (omega (arith, z))) (λ z q h. absurd (omega (arith, z))) (λ z q h. absurd (omega (arith, z))) (λ z q h. absurd (omega (arith, z)))
+one_local opening before tail errors.BadSector p f = by_tag (λ j q. Same errors.BadSector p j q) opening before tail 2 _ f.opens (λ z q h. absurd (no_page 2 (omega arith) (omega arith) z)) (λ z q h. (refl, f.there ∙ sym h.there)) (λ z q h. absurd (omega (arith, z))) (λ z q h. absurd (omega (arith, z))) (λ z q h. absurd (omega (arith, z))) (λ z q h. absurd (omega (arith, z))) (λ z q h. absurd (omega (arith, z)))
+one_local opening before tail errors.BadRound p f = by_tag (λ j q. Same errors.BadRound p j q) opening before tail 3 _ f.opens (λ z q h. absurd (no_page 3 (omega arith) (omega arith) z)) (λ z q h. absurd (omega (arith, z))) (λ z q h. (refl, f.there ∙ sym h.there)) (λ z q h. absurd (omega (arith, z))) (λ z q h. absurd (omega (arith, z))) (λ z q h. absurd (omega (arith, z))) (λ z q h. absurd (omega (arith, z)))
+one_local opening before tail errors.BadDevice p (inl f) = by_tag (λ j q. Same errors.BadDevice p j q) opening before tail 4 _ f.opens (λ z q h. absurd (no_page 4 (omega arith) (omega arith) z)) (λ z q h. absurd (omega (arith, z))) (λ z q h. absurd (omega (arith, z))) (λ z q h. (refl, f.there ∙ sym h.there)) (λ z q h. absurd (head_body opening before tail p q f h)) (λ z q h. absurd (omega (arith, z))) (λ z q h. absurd (omega (arith, z)))
+one_local opening before tail errors.BadDevice p (inr f) = by_tag (λ j q. Same errors.BadDevice p j q) opening before tail 4 _ f.opens (λ z q h. absurd (no_page 4 (omega arith) (omega arith) z)) (λ z q h. absurd (omega (arith, z))) (λ z q h. absurd (omega (arith, z))) (λ z q h. absurd (head_body opening before tail q p h f)) (λ z q h. (refl, body_body opening before tail p q f h)) (λ z q h. absurd (omega (arith, z))) (λ z q h. absurd (omega (arith, z)))
+one_local opening before tail errors.BadDigest p f = by_tag (λ j q. Same errors.BadDigest p j q) opening before tail 5 _ f.opens (λ z q h. absurd (no_page 5 (omega arith) (omega arith) z)) (λ z q h. absurd (omega (arith, z))) (λ z q h. absurd (omega (arith, z))) (λ z q h. absurd (omega (arith, z))) (λ z q h. absurd (omega (arith, z))) (λ z q h. (refl, f.there ∙ sym h.there)) (λ z q h. absurd (digest_trailing opening before tail p q f h))
+one_local opening before tail errors.Missing p f = one_missing opening before tail p f
+one_local opening before tail errors.Trailing p f = by_tag (λ j q. Same errors.Trailing p j q) opening before tail 5 _ f.opens (λ z q h. absurd (no_page 5 (omega arith) (omega arith) z)) (λ z q h. absurd (omega (arith, z))) (λ z q h. absurd (omega (arith, z))) (λ z q h. absurd (omega (arith, z))) (λ z q h. absurd (omega (arith, z))) (λ z q h. absurd (digest_trailing opening before tail q p h f)) (λ z q h. (refl, f.there ∙ sym h.there))
+one_local opening before tail errors.Truncated p f = absurd f
+one_local opening before tail errors.DiskFailed p f = absurd f
+one_local opening before tail errors.NoMemory p f = absurd f
+one_local opening before tail errors.AlreadyFailed p f = absurd f
+
+longer_one : (opening : Opening) (before others : List Record) (tail rest : List ℕ) (k j : RecvError) (p q : ℕ) → AreGood opening [] others → IsFault opening before tail k p → IsFault opening others rest j q
     → (more : List Record) → others ≡ before ++ more → tail ≡ texts more ++ rest → (k ≡ j) × (length (texts before) + p ≡ length (texts others) + q)
 unfolding texts
-longer_one pages shapes before others tail rest k j p q goods f h [] all left =
+longer_one opening before others tail rest k j p q goods f h [] all left =
     let same : others ≡ before = all ∙ append-nil before in
-    let there : IsFault pages shapes before tail j q = rw (left, sym same) h in
-    let one = one_local pages shapes before tail k p f j q there in
+    let there : IsFault opening before tail j q = rw (left, sym same) h in
+    let one = one_local opening before tail k p f j q there in
     (one.0, omega (arith, one.1, ap (λ (x : List Record). length (texts x)) same))
-longer_one pages shapes before others tail rest k j p q goods f h (r ∷ more) all left =
-    absurd (no_fault_here pages shapes before tail (texts more ++ rest) r (next_good pages shapes [] before more r (rw all at goods)) (left ∙ append_assoc (spelled_record r) (texts more) rest) k p f)
+longer_one opening before others tail rest k j p q goods f h (r ∷ more) all left =
+    absurd (no_fault_here opening before tail (texts more ++ rest) r (next_good opening [] before more r (rw all at goods)) (left ∙ append_assoc (spelled_record r) (texts more) rest) k p f)
 
-led_one : (pages : ℕ) (shapes : List Shape) (before others : List Record) (tail rest : List ℕ) (k j : RecvError) (p q : ℕ) → AreGood pages shapes [] before → AreGood pages shapes [] others → IsFault pages shapes before tail k p → IsFault pages shapes others rest j q
+led_one : (opening : Opening) (before others : List Record) (tail rest : List ℕ) (k j : RecvError) (p q : ℕ) → AreGood opening [] before → AreGood opening [] others → IsFault opening before tail k p → IsFault opening others rest j q
     → LongerRecords before others tail rest ⊎ LongerRecords others before rest tail → (k ≡ j) × (length (texts before) + p ≡ length (texts others) + q)
-led_one pages shapes before others tail rest k j p q good goods f h (inl l) = longer_one pages shapes before others tail rest k j p q goods f h l.more l.all l.left
-led_one pages shapes before others tail rest k j p q good goods f h (inr l) = let o = longer_one pages shapes others before rest tail j k q p good h f l.more l.all l.left in (sym o.0, sym o.1)
+led_one opening before others tail rest k j p q good goods f h (inl l) = longer_one opening before others tail rest k j p q goods f h l.more l.all l.left
+led_one opening before others tail rest k j p q good goods f h (inr l) = let o = longer_one opening others before rest tail j k q p good h f l.more l.all l.left in (sym o.0, sym o.1)
 
 one_record_fault : (sizes bytes : List ℕ) (k j : RecvError) (at bt : ℕ) → IsRecordFault sizes bytes k at → IsRecordFault sizes bytes j bt → Same k at j bt
 one_record_fault sizes bytes k j at bt f h =
-    let a = header_of-spelled bytes f.pages f.shapes (texts f.before ++ f.tail) f.front.begins in
-    let b = header_of-spelled bytes h.pages h.shapes (texts h.before ++ h.tail) h.front.begins in
-    let t = alike h.pages f.pages h.shapes f.shapes (texts h.before ++ h.tail) (texts f.before ++ f.tail) (sym b ∙ a) in
-    let goods : AreGood f.pages f.shapes [] h.before = rw (t.first, t.second) at h.front.good in
-    let fault : IsFault f.pages f.shapes h.before h.tail j h.place = rw (t.first, t.second) at h.fault in
-    let one = led_one f.pages f.shapes f.before h.before f.tail h.tail k j f.place h.place f.front.good goods f.fault fault
-    (records_led f.before h.before f.tail h.tail (good_spell f.pages f.shapes [] f.before f.front.good) (good_spell f.pages f.shapes [] h.before goods) (sym t.third)) in
-    let heads : length (header h.pages h.shapes) ≡ length (header f.pages f.shapes) = rw (t.first, t.second) refl in
-    (one.0, omega (arith, one.1, heads, f.there, h.there, length-append (header f.pages f.shapes) (texts f.before), length-append (header h.pages h.shapes) (texts h.before)))
+    let a = header_of-spelled bytes f.opening (texts f.before ++ f.tail) f.front.begins in
+    let b = header_of-spelled bytes h.opening (texts h.before ++ h.tail) h.front.begins in
+    let t = alike h.opening f.opening (texts h.before ++ h.tail) (texts f.before ++ f.tail) (sym b ∙ a) in
+    let goods : AreGood f.opening [] h.before = rw t.0 at h.front.good in
+    let fault : IsFault f.opening h.before h.tail j h.place = rw t.0 at h.fault in
+    let one = led_one f.opening f.before h.before f.tail h.tail k j f.place h.place f.front.good goods f.fault fault
+    (records_led f.before h.before f.tail h.tail (good_spell f.opening [] f.before f.front.good) (good_spell f.opening [] h.before goods) (sym t.1)) in
+    let heads : length (header h.opening) ≡ length (header f.opening) = ap (λ (o : Opening). length (header o)) t.0 in
+    (one.0, omega (arith, one.1, heads, f.there, h.there, length-append (header f.opening) (texts f.before), length-append (header h.opening) (texts h.before)))
 
 -- Headers.
 
@@ -189,9 +211,9 @@ one_magic sizes bytes p f errors.AlreadyFailed q h = absurd h
 one_version : (sizes bytes : List ℕ) (p : ℕ) → IsBadVersion bytes p → (j : RecvError) (q : ℕ) → IsHeaderFault sizes bytes j q → Same errors.BadVersion p j q
 one_version sizes bytes p f errors.BadMagic q h = absurd (h.never f.magic)
 one_version sizes bytes p f errors.BadVersion q h = (refl, f.there ∙ sym h.there)
-one_version sizes bytes p f errors.BadShape q (inl h) = absurd (f.never h.says.version)
-one_version sizes bytes p f errors.BadShape q (inr h) = absurd (f.never h.says.version)
-one_version sizes bytes p f errors.ShapeMismatch q h = absurd (f.never (says_of h.begins).version)
+one_version sizes bytes p f errors.BadShape q (inl h) = absurd (f.never h.says.known)
+one_version sizes bytes p f errors.BadShape q (inr h) = absurd (f.never h.says.known)
+one_version sizes bytes p f errors.ShapeMismatch q h = absurd (f.never (says_of h.begins).known)
 one_version sizes bytes p f errors.BadTag q h = absurd h
 one_version sizes bytes p f errors.BadPage q h = absurd h
 one_version sizes bytes p f errors.BadSector q h = absurd h
@@ -207,10 +229,10 @@ one_version sizes bytes p f errors.AlreadyFailed q h = absurd h
 
 one_count : (sizes bytes : List ℕ) (p : ℕ) → IsBadCount bytes p → (j : RecvError) (q : ℕ) → IsHeaderFault sizes bytes j q → Same errors.BadShape p j q
 one_count sizes bytes p f errors.BadMagic q h = absurd (h.never f.says.magic)
-one_count sizes bytes p f errors.BadVersion q h = absurd (h.never f.says.version)
+one_count sizes bytes p f errors.BadVersion q h = absurd (h.never f.says.known)
 one_count sizes bytes p f errors.BadShape q (inl h) = (refl, f.there ∙ sym h.there)
 one_count sizes bytes p f errors.BadShape q (inr h) = absurd (f.never (rw (sym f.says.pages_are ∙ h.says.pages_are, sym f.says.count_is ∙ h.says.count_is) h.may))
-one_count sizes bytes p f errors.ShapeMismatch q h = absurd (no_header_fault (disk_sizes h.shapes) bytes h.pages h.shapes h.more h.begins refl errors.BadShape p (inl f))
+one_count sizes bytes p f errors.ShapeMismatch q h = absurd (no_header_fault (disk_sizes h.opening.shapes) bytes h.opening h.more h.begins refl errors.BadShape p (inl f))
 one_count sizes bytes p f errors.BadTag q h = absurd h
 one_count sizes bytes p f errors.BadPage q h = absurd h
 one_count sizes bytes p f errors.BadSector q h = absurd h
@@ -226,10 +248,10 @@ one_count sizes bytes p f errors.AlreadyFailed q h = absurd h
 
 one_shape_fault : (sizes bytes : List ℕ) (p : ℕ) → IsBadShape bytes p → (j : RecvError) (q : ℕ) → IsHeaderFault sizes bytes j q → Same errors.BadShape p j q
 one_shape_fault sizes bytes p f errors.BadMagic q h = absurd (h.never f.says.magic)
-one_shape_fault sizes bytes p f errors.BadVersion q h = absurd (h.never f.says.version)
+one_shape_fault sizes bytes p f errors.BadVersion q h = absurd (h.never f.says.known)
 one_shape_fault sizes bytes p f errors.BadShape q (inl h) = absurd (h.never (rw (sym h.says.pages_are ∙ f.says.pages_are, sym h.says.count_is ∙ f.says.count_is) f.may))
 one_shape_fault sizes bytes p f errors.BadShape q (inr h) = (refl, omega (arith, f.there, h.there, shapes_one f.shapes h.shapes f.bad h.bad f.more h.more f.sound h.sound f.never h.never (shapes_led f.shapes h.shapes (f.bad ++ f.more) (h.bad ++ h.more) f.sound h.sound (sym f.whole ∙ h.whole))))
-one_shape_fault sizes bytes p f errors.ShapeMismatch q h = absurd (no_header_fault (disk_sizes h.shapes) bytes h.pages h.shapes h.more h.begins refl errors.BadShape p (inr f))
+one_shape_fault sizes bytes p f errors.ShapeMismatch q h = absurd (no_header_fault (disk_sizes h.opening.shapes) bytes h.opening h.more h.begins refl errors.BadShape p (inr f))
 one_shape_fault sizes bytes p f errors.BadTag q h = absurd h
 one_shape_fault sizes bytes p f errors.BadPage q h = absurd h
 one_shape_fault sizes bytes p f errors.BadSector q h = absurd h
@@ -243,19 +265,14 @@ one_shape_fault sizes bytes p f errors.DiskFailed q h = absurd h
 one_shape_fault sizes bytes p f errors.NoMemory q h = absurd h
 one_shape_fault sizes bytes p f errors.AlreadyFailed q h = absurd h
 
-front_length : (pages count : ℕ) → length (front pages count) ≡ 16
-unfolding front
-front_length pages count = refl
-
-header_length : {bytes x y : List ℕ} {p q : ℕ} {ss ts : List Shape} → Begins bytes p ss x → Begins bytes q ts y → length (header p ss) ≡ length (header q ts)
-header_length {p = p} {q = q} {ss = ss} {ts = ts} a b =
-    omega (arith, length-append (front p (length ss)) (spelled_shapes ss), length-append (front q (length ts)) (spelled_shapes ts), front_length p (length ss), front_length q (length ts), ap (λ (z : List Shape). length (spelled_shapes z)) (header_same a b))
+header_length : {bytes x y : List ℕ} {o p : Opening} → Begins bytes o x → Begins bytes p y → length (header o) ≡ length (header p)
+header_length {o = o} {p = p} a b = omega (arith, length_header o, length_header p, ap (λ (z : List Shape). length (spelled_shapes z)) (header_same a b))
 
 one_mismatch : (sizes bytes : List ℕ) (p : ℕ) → IsMismatch sizes bytes p → (j : RecvError) (q : ℕ) → IsHeaderFault sizes bytes j q → Same errors.ShapeMismatch p j q
 one_mismatch sizes bytes p f errors.BadMagic q h = absurd (h.never (says_of f.begins).magic)
-one_mismatch sizes bytes p f errors.BadVersion q h = absurd (h.never (says_of f.begins).version)
-one_mismatch sizes bytes p f errors.BadShape q (inl h) = absurd (no_header_fault (disk_sizes f.shapes) bytes f.pages f.shapes f.more f.begins refl errors.BadShape q (inl h))
-one_mismatch sizes bytes p f errors.BadShape q (inr h) = absurd (no_header_fault (disk_sizes f.shapes) bytes f.pages f.shapes f.more f.begins refl errors.BadShape q (inr h))
+one_mismatch sizes bytes p f errors.BadVersion q h = absurd (h.never (says_of f.begins).known)
+one_mismatch sizes bytes p f errors.BadShape q (inl h) = absurd (no_header_fault (disk_sizes f.opening.shapes) bytes f.opening f.more f.begins refl errors.BadShape q (inl h))
+one_mismatch sizes bytes p f errors.BadShape q (inr h) = absurd (no_header_fault (disk_sizes f.opening.shapes) bytes f.opening f.more f.begins refl errors.BadShape q (inr h))
 one_mismatch sizes bytes p f errors.ShapeMismatch q h = (refl, f.there ∙ header_length f.begins h.begins ∙ sym h.there)
 one_mismatch sizes bytes p f errors.BadTag q h = absurd h
 one_mismatch sizes bytes p f errors.BadPage q h = absurd h
@@ -291,6 +308,6 @@ one_header_fault sizes bytes errors.AlreadyFailed p f = absurd f
 
 pub one_fault : (sizes bytes : List ℕ) (k j : RecvError) (at bt : ℕ) → Fault sizes bytes k at → Fault sizes bytes j bt → Same k at j bt
 one_fault sizes bytes k j at bt (inl f) (inl h) = one_header_fault sizes bytes k at f j bt h
-one_fault sizes bytes k j at bt (inl f) (inr h) = absurd (no_header_fault sizes bytes h.pages h.shapes (texts h.before ++ h.tail) h.front.begins h.front.fits k at f)
-one_fault sizes bytes k j at bt (inr f) (inl h) = absurd (no_header_fault sizes bytes f.pages f.shapes (texts f.before ++ f.tail) f.front.begins f.front.fits j bt h)
+one_fault sizes bytes k j at bt (inl f) (inr h) = absurd (no_header_fault sizes bytes h.opening (texts h.before ++ h.tail) h.front.begins h.front.fits k at f)
+one_fault sizes bytes k j at bt (inr f) (inl h) = absurd (no_header_fault sizes bytes f.opening (texts f.before ++ f.tail) f.front.begins f.front.fits j bt h)
 one_fault sizes bytes k j at bt (inr f) (inr h) = one_record_fault sizes bytes k j at bt f h

@@ -1,9 +1,9 @@
 -- Faults stand in longer bytes too, and in shorter ones up to their places.
-use Rattle.std.proofs.Common.{◌≡◌, ℕ, ◌≤◌, inl, inr, List, [], ◌∷◌, ◌++◌, length, drop, refl, sym, ap, ◌∙◌, append_assoc, arith}
+use Rattle.std.proofs.Common.{◌≡◌, ℕ, ◌≤◌, inl, inr, List, [], ◌∷◌, ◌++◌, length, drop, refl, sym, ap, ◌∙◌, append_assoc, arith, subst}
 use Rattle.std.proofs.lemmas.List.{length-append, length-drop, drop-append-le}
 use Rattle.sha2.specs.Sha256.{sha256}
 use Rattle.sha2.proofs.Facts256.{length-sha256}
-use Rattle.wire.specs.Header.{header, spelled_shapes}
+use Rattle.wire.specs.Header.{header, spelled_shapes, Opening, IsVersion}
 use Rattle.wire.specs.Numbers.{digits}
 use Rattle.wire.specs.Records.{Record}
 use Rattle.wire.specs.Stream.{texts}
@@ -30,73 +30,77 @@ behind x c [] z e le = record { w = x; left = refl; right = sym e }
 behind [] c (b ∷ ys) z e le = absurd (omega (arith, le))
 behind (a ∷ xs) c (b ∷ ys) z e le = behind_more a b xs c ys z (head_same e) (behind xs c ys z (tail_same e) (omega (arith, le)))
 
-opens_on : (pages : ℕ) (shapes : List Shape) (before : List Record) (tail c : List ℕ) (tag : ℕ) (more other : List ℕ) → Opens pages shapes before tail tag more → more ++ c ≡ other → Opens pages shapes before (tail ++ c) tag other
-opens_on pages shapes before tail c tag more other o e = record { whole = ap (λ (x : List ℕ). x ++ c) o.whole ∙ ap (λ (x : List ℕ). tag ∷ x) e; may = o.may; complete = o.complete }
+opens_on : (opening : Opening) (before : List Record) (tail c : List ℕ) (tag : ℕ) (more other : List ℕ) → Opens opening before tail tag more → more ++ c ≡ other → Opens opening before (tail ++ c) tag other
+opens_on opening before tail c tag more other o e = record { whole = ap (λ (x : List ℕ). x ++ c) o.whole ∙ ap (λ (x : List ℕ). tag ∷ x) e; may = o.may; complete = o.complete }
 
-opens_at : (pages : ℕ) (shapes : List Shape) (before : List Record) (long tail : List ℕ) (tag : ℕ) (more other : List ℕ) → Opens pages shapes before long tag more → tail ≡ tag ∷ other → Opens pages shapes before tail tag other
-opens_at pages shapes before long tail tag more other o e = record { whole = e; may = o.may; complete = o.complete }
+opens_at : (opening : Opening) (before : List Record) (long tail : List ℕ) (tag : ℕ) (more other : List ℕ) → Opens opening before long tag more → tail ≡ tag ∷ other → Opens opening before tail tag other
+opens_at opening before long tail tag more other o e = record { whole = e; may = o.may; complete = o.complete }
 
-stays_here : (pages : ℕ) (shapes : List Shape) (before : List Record) (tail c : List ℕ) (k : RecvError) (p : ℕ) → IsFault pages shapes before tail k p → IsFault pages shapes before (tail ++ c) k p
-stays_here pages shapes before tail c errors.BadMagic p h = absurd h
-stays_here pages shapes before tail c errors.BadVersion p h = absurd h
-stays_here pages shapes before tail c errors.BadShape p h = absurd h
-stays_here pages shapes before tail c errors.ShapeMismatch p h = absurd h
-stays_here pages shapes before tail c errors.BadTag p h = record { tag = h.tag; more = h.more ++ c; whole = ap (λ (x : List ℕ). x ++ c) h.whole; never = h.never; there = h.there }
-stays_here pages shapes before tail c errors.BadPage p h = record { number = h.number; more = h.more ++ c; opens = opens_on pages shapes before tail c 1 _ _ h.opens (append_assoc (digits 4 h.number) h.more c); fits = h.fits; never = h.never; there = h.there }
-stays_here pages shapes before tail c errors.BadSector p h = record { disk = h.disk; number = h.number; mark = h.mark; more = h.more ++ c; opens = opens_on pages shapes before tail c 2 _ _ h.opens (ap (λ (x : List ℕ). h.disk ∷ x) (append_assoc (digits 4 h.number) (h.mark ∷ h.more) c)); fits = h.fits; never = h.never; there = h.there }
-stays_here pages shapes before tail c errors.BadRound p h = record { number = h.number; more = h.more ++ c; opens = opens_on pages shapes before tail c 3 _ _ h.opens (append_assoc (digits 4 h.number) h.more c); fits = h.fits; never = h.never; there = h.there }
-stays_here pages shapes before tail c errors.BadDevice p (inl h) = inl (record { number = h.number; len = h.len; more = h.more ++ c; opens = opens_on pages shapes before tail c 4 _ _ h.opens (ap (λ (x : List ℕ). h.number ∷ x) (append_assoc (digits 4 h.len) h.more c)); fits = h.fits; never = h.never; there = h.there })
-stays_here pages shapes before tail c errors.BadDevice p (inr h) = inr (record { body = h.body; more = h.more ++ c; shape = h.shape; others = h.others; opens = opens_on pages shapes before tail c 4 _ _ h.opens (ap (λ (x : List ℕ). devices_in before ∷ x) (append_assoc (digits 4 (length h.body)) (h.body ++ h.more) c ∙ ap (λ (x : List ℕ). digits 4 (length h.body) ++ x) (append_assoc h.body h.more c))); few = h.few; here = h.here; never = h.never; there = h.there })
-stays_here pages shapes before tail c errors.BadDigest p h = record { digest = h.digest; more = h.more ++ c; opens = opens_on pages shapes before tail c 5 _ _ h.opens (append_assoc h.digest h.more c); long = h.long; never = h.never; there = h.there }
-stays_here pages shapes before tail c errors.Missing p h = record { tag = h.tag; more = h.more ++ c; whole = ap (λ (x : List ℕ). x ++ c) h.whole; may = h.may; late = h.late; never = h.never; there = h.there }
-stays_here pages shapes before tail c errors.Trailing p h = record { byte = h.byte; more = h.more ++ c; opens = opens_on pages shapes before tail c 5 _ _ h.opens (append_assoc (sha256 (header pages shapes ++ texts before)) (h.byte ∷ h.more) c); there = h.there }
-stays_here pages shapes before tail c errors.Truncated p h = absurd h
-stays_here pages shapes before tail c errors.DiskFailed p h = absurd h
-stays_here pages shapes before tail c errors.NoMemory p h = absurd h
-stays_here pages shapes before tail c errors.AlreadyFailed p h = absurd h
+stays_here : (opening : Opening) (before : List Record) (tail c : List ℕ) (k : RecvError) (p : ℕ) → IsFault opening before tail k p → IsFault opening before (tail ++ c) k p
+stays_here opening before tail c errors.BadMagic p h = absurd h
+stays_here opening before tail c errors.BadVersion p h = absurd h
+stays_here opening before tail c errors.BadShape p h = absurd h
+stays_here opening before tail c errors.ShapeMismatch p h = absurd h
+stays_here opening before tail c errors.BadTag p h = record { tag = h.tag; more = h.more ++ c; whole = ap (λ (x : List ℕ). x ++ c) h.whole; never = h.never; there = h.there }
+stays_here opening before tail c errors.BadPage p (inl h) = inl (record { tag = h.tag; number = h.number; more = h.more ++ c; names = h.names; opens = opens_on opening before tail c h.tag _ _ h.opens (append_assoc (digits 4 h.number) h.more c); fits = h.fits; never = h.never; there = h.there })
+stays_here opening before tail c errors.BadPage p (inr h) = inr (record { number = h.number; bytes = h.bytes; more = h.more ++ c; opens = opens_on opening before tail c 1 _ _ h.opens (append_assoc (digits 4 h.number) (h.bytes ++ h.more) c ∙ ap (λ (x : List ℕ). digits 4 h.number ++ x) (append_assoc h.bytes h.more c)); fits = h.fits; within = h.within; long = h.long; zeros = h.zeros; there = h.there })
+stays_here opening before tail c errors.BadSector p h = record { disk = h.disk; number = h.number; mark = h.mark; more = h.more ++ c; opens = opens_on opening before tail c 2 _ _ h.opens (ap (λ (x : List ℕ). h.disk ∷ x) (append_assoc (digits 4 h.number) (h.mark ∷ h.more) c)); fits = h.fits; never = h.never; there = h.there }
+stays_here opening before tail c errors.BadRound p h = record { number = h.number; more = h.more ++ c; opens = opens_on opening before tail c 3 _ _ h.opens (append_assoc (digits 4 h.number) h.more c); fits = h.fits; never = h.never; there = h.there }
+stays_here opening before tail c errors.BadDevice p (inl h) = inl (record { number = h.number; len = h.len; more = h.more ++ c; opens = opens_on opening before tail c 4 _ _ h.opens (ap (λ (x : List ℕ). h.number ∷ x) (append_assoc (digits 4 h.len) h.more c)); fits = h.fits; never = h.never; there = h.there })
+stays_here opening before tail c errors.BadDevice p (inr h) = inr (record { body = h.body; more = h.more ++ c; shape = h.shape; others = h.others; opens = opens_on opening before tail c 4 _ _ h.opens (ap (λ (x : List ℕ). devices_in before ∷ x) (append_assoc (digits 4 (length h.body)) (h.body ++ h.more) c ∙ ap (λ (x : List ℕ). digits 4 (length h.body) ++ x) (append_assoc h.body h.more c))); few = h.few; here = h.here; never = h.never; there = h.there })
+stays_here opening before tail c errors.BadDigest p h = record { digest = h.digest; more = h.more ++ c; opens = opens_on opening before tail c 5 _ _ h.opens (append_assoc h.digest h.more c); long = h.long; never = h.never; there = h.there }
+stays_here opening before tail c errors.Missing p h = record { tag = h.tag; more = h.more ++ c; whole = ap (λ (x : List ℕ). x ++ c) h.whole; may = h.may; late = h.late; never = h.never; there = h.there }
+stays_here opening before tail c errors.Trailing p h = record { byte = h.byte; more = h.more ++ c; opens = opens_on opening before tail c 5 _ _ h.opens (append_assoc (sha256 (header opening ++ texts before)) (h.byte ∷ h.more) c); there = h.there }
+stays_here opening before tail c errors.Truncated p h = absurd h
+stays_here opening before tail c errors.DiskFailed p h = absurd h
+stays_here opening before tail c errors.NoMemory p h = absurd h
+stays_here opening before tail c errors.AlreadyFailed p h = absurd h
 
-pub holds_here : (pages : ℕ) (shapes : List Shape) (before : List Record) (tail c : List ℕ) (k : RecvError) (p : ℕ) → p ≤ length tail → IsFault pages shapes before (tail ++ c) k p → IsFault pages shapes before tail k p
-holds_here pages shapes before tail c errors.BadMagic p le h = absurd h
-holds_here pages shapes before tail c errors.BadVersion p le h = absurd h
-holds_here pages shapes before tail c errors.BadShape p le h = absurd h
-holds_here pages shapes before tail c errors.ShapeMismatch p le h = absurd h
-holds_here pages shapes before tail c errors.BadTag p le h =
+pub holds_here : (opening : Opening) (before : List Record) (tail c : List ℕ) (k : RecvError) (p : ℕ) → p ≤ length tail → IsFault opening before (tail ++ c) k p → IsFault opening before tail k p
+holds_here opening before tail c errors.BadMagic p le h = absurd h
+holds_here opening before tail c errors.BadVersion p le h = absurd h
+holds_here opening before tail c errors.BadShape p le h = absurd h
+holds_here opening before tail c errors.ShapeMismatch p le h = absurd h
+holds_here opening before tail c errors.BadTag p le h =
     let b = behind tail c (h.tag ∷ []) h.more h.whole (omega (arith, le, h.there)) in
     record { tag = h.tag; more = b.w; whole = b.left; never = h.never; there = h.there }
-holds_here pages shapes before tail c errors.BadPage p le h =
-    let b = behind tail c (1 ∷ digits 4 h.number) h.more h.opens.whole (omega (arith, le, h.there, length-digits 4 h.number)) in
-    record { number = h.number; more = b.w; opens = opens_at pages shapes before (tail ++ c) tail 1 _ _ h.opens (b.left); fits = h.fits; never = h.never; there = h.there }
-holds_here pages shapes before tail c errors.BadSector p le h =
+holds_here opening before tail c errors.BadPage p le (inl h) =
+    let b = behind tail c (h.tag ∷ digits 4 h.number) h.more h.opens.whole (omega (arith, le, h.there, length-digits 4 h.number)) in
+    inl (record { tag = h.tag; number = h.number; more = b.w; names = h.names; opens = opens_at opening before (tail ++ c) tail h.tag _ _ h.opens (b.left); fits = h.fits; never = h.never; there = h.there })
+holds_here opening before tail c errors.BadPage p le (inr h) =
+    let b = behind tail c (1 ∷ (digits 4 h.number ++ h.bytes)) h.more (h.opens.whole ∙ ap (λ (x : List ℕ). 1 ∷ x) (sym (append_assoc (digits 4 h.number) h.bytes h.more))) (omega (arith, le, h.there, length-append (digits 4 h.number) h.bytes, length-digits 4 h.number, h.long)) in
+    inr (record { number = h.number; bytes = h.bytes; more = b.w; opens = opens_at opening before (tail ++ c) tail 1 _ _ h.opens (b.left ∙ ap (λ (x : List ℕ). 1 ∷ x) (append_assoc (digits 4 h.number) h.bytes b.w)); fits = h.fits; within = h.within; long = h.long; zeros = h.zeros; there = h.there })
+holds_here opening before tail c errors.BadSector p le h =
     let b = behind tail c (2 ∷ (h.disk ∷ (digits 4 h.number ++ (h.mark ∷ [])))) h.more (h.opens.whole ∙ ap (λ (x : List ℕ). 2 ∷ (h.disk ∷ x)) (sym (append_assoc (digits 4 h.number) (h.mark ∷ []) h.more))) (omega (arith, le, h.there, length-append (digits 4 h.number) (h.mark ∷ []), length-digits 4 h.number)) in
-    record { disk = h.disk; number = h.number; mark = h.mark; more = b.w; opens = opens_at pages shapes before (tail ++ c) tail 2 _ _ h.opens (b.left ∙ ap (λ (x : List ℕ). 2 ∷ (h.disk ∷ x)) (append_assoc (digits 4 h.number) (h.mark ∷ []) b.w)); fits = h.fits; never = h.never; there = h.there }
-holds_here pages shapes before tail c errors.BadRound p le h =
+    record { disk = h.disk; number = h.number; mark = h.mark; more = b.w; opens = opens_at opening before (tail ++ c) tail 2 _ _ h.opens (b.left ∙ ap (λ (x : List ℕ). 2 ∷ (h.disk ∷ x)) (append_assoc (digits 4 h.number) (h.mark ∷ []) b.w)); fits = h.fits; never = h.never; there = h.there }
+holds_here opening before tail c errors.BadRound p le h =
     let b = behind tail c (3 ∷ digits 4 h.number) h.more h.opens.whole (omega (arith, le, h.there, length-digits 4 h.number)) in
-    record { number = h.number; more = b.w; opens = opens_at pages shapes before (tail ++ c) tail 3 _ _ h.opens (b.left); fits = h.fits; never = h.never; there = h.there }
-holds_here pages shapes before tail c errors.BadDevice p le (inl h) =
+    record { number = h.number; more = b.w; opens = opens_at opening before (tail ++ c) tail 3 _ _ h.opens (b.left); fits = h.fits; never = h.never; there = h.there }
+holds_here opening before tail c errors.BadDevice p le (inl h) =
     let b = behind tail c (4 ∷ (h.number ∷ digits 4 h.len)) h.more h.opens.whole (omega (arith, le, h.there, length-digits 4 h.len)) in
-    inl (record { number = h.number; len = h.len; more = b.w; opens = opens_at pages shapes before (tail ++ c) tail 4 _ _ h.opens (b.left); fits = h.fits; never = h.never; there = h.there })
-holds_here pages shapes before tail c errors.BadDevice p le (inr h) =
+    inl (record { number = h.number; len = h.len; more = b.w; opens = opens_at opening before (tail ++ c) tail 4 _ _ h.opens (b.left); fits = h.fits; never = h.never; there = h.there })
+holds_here opening before tail c errors.BadDevice p le (inr h) =
     let b = behind tail c (4 ∷ (devices_in before ∷ (digits 4 (length h.body) ++ h.body))) h.more (h.opens.whole ∙ ap (λ (x : List ℕ). 4 ∷ (devices_in before ∷ x)) (sym (append_assoc (digits 4 (length h.body)) h.body h.more))) (omega (arith, le, h.there, length-append (digits 4 (length h.body)) h.body, length-digits 4 (length h.body))) in
-    inr (record { body = h.body; more = b.w; shape = h.shape; others = h.others; opens = opens_at pages shapes before (tail ++ c) tail 4 _ _ h.opens (b.left ∙ ap (λ (x : List ℕ). 4 ∷ (devices_in before ∷ x)) (append_assoc (digits 4 (length h.body)) h.body b.w)); few = h.few; here = h.here; never = h.never; there = h.there })
-holds_here pages shapes before tail c errors.BadDigest p le h =
+    inr (record { body = h.body; more = b.w; shape = h.shape; others = h.others; opens = opens_at opening before (tail ++ c) tail 4 _ _ h.opens (b.left ∙ ap (λ (x : List ℕ). 4 ∷ (devices_in before ∷ x)) (append_assoc (digits 4 (length h.body)) h.body b.w)); few = h.few; here = h.here; never = h.never; there = h.there })
+holds_here opening before tail c errors.BadDigest p le h =
     let b = behind tail c (5 ∷ h.digest) h.more h.opens.whole (omega (arith, le, h.there, h.long)) in
-    record { digest = h.digest; more = b.w; opens = opens_at pages shapes before (tail ++ c) tail 5 _ _ h.opens (b.left); long = h.long; never = h.never; there = h.there }
-holds_here pages shapes before tail c errors.Missing p le h =
+    record { digest = h.digest; more = b.w; opens = opens_at opening before (tail ++ c) tail 5 _ _ h.opens (b.left); long = h.long; never = h.never; there = h.there }
+holds_here opening before tail c errors.Missing p le h =
     let b = behind tail c (h.tag ∷ []) h.more h.whole (omega (arith, le, h.there)) in
     record { tag = h.tag; more = b.w; whole = b.left; may = h.may; late = h.late; never = h.never; there = h.there }
-holds_here pages shapes before tail c errors.Trailing p le h =
-    let b = behind tail c (5 ∷ (sha256 (header pages shapes ++ texts before) ++ (h.byte ∷ []))) h.more (h.opens.whole ∙ ap (λ (x : List ℕ). 5 ∷ x) (sym (append_assoc (sha256 (header pages shapes ++ texts before)) (h.byte ∷ []) h.more))) (omega (arith, le, h.there, length-append (sha256 (header pages shapes ++ texts before)) (h.byte ∷ []), length-sha256 (header pages shapes ++ texts before))) in
-    record { byte = h.byte; more = b.w; opens = opens_at pages shapes before (tail ++ c) tail 5 _ _ h.opens (b.left ∙ ap (λ (x : List ℕ). 5 ∷ x) (append_assoc (sha256 (header pages shapes ++ texts before)) (h.byte ∷ []) b.w)); there = h.there }
-holds_here pages shapes before tail c errors.Truncated p le h = absurd h
-holds_here pages shapes before tail c errors.DiskFailed p le h = absurd h
-holds_here pages shapes before tail c errors.NoMemory p le h = absurd h
-holds_here pages shapes before tail c errors.AlreadyFailed p le h = absurd h
+holds_here opening before tail c errors.Trailing p le h =
+    let b = behind tail c (5 ∷ (sha256 (header opening ++ texts before) ++ (h.byte ∷ []))) h.more (h.opens.whole ∙ ap (λ (x : List ℕ). 5 ∷ x) (sym (append_assoc (sha256 (header opening ++ texts before)) (h.byte ∷ []) h.more))) (omega (arith, le, h.there, length-append (sha256 (header opening ++ texts before)) (h.byte ∷ []), length-sha256 (header opening ++ texts before))) in
+    record { byte = h.byte; more = b.w; opens = opens_at opening before (tail ++ c) tail 5 _ _ h.opens (b.left ∙ ap (λ (x : List ℕ). 5 ∷ x) (append_assoc (sha256 (header opening ++ texts before)) (h.byte ∷ []) b.w)); there = h.there }
+holds_here opening before tail c errors.Truncated p le h = absurd h
+holds_here opening before tail c errors.DiskFailed p le h = absurd h
+holds_here opening before tail c errors.NoMemory p le h = absurd h
+holds_here opening before tail c errors.AlreadyFailed p le h = absurd h
 
 says_on : (b c : List ℕ) (pages count : ℕ) → Says b pages count → Says (b ++ c) pages count
 says_on b c pages count h = record {
   long = omega (arith, h.long, length-append b c);
   magic = number_at-append 0 4 b c (omega (arith, h.long)) ∙ h.magic;
-  version = number_at-append 4 4 b c (omega (arith, h.long)) ∙ h.version;
+  known = subst IsVersion (sym (number_at-append 4 4 b c (omega (arith, h.long)))) h.known;
   pages_are = number_at-append 8 4 b c (omega (arith, h.long)) ∙ h.pages_are;
   count_is = number_at-append 12 4 b c (omega (arith, h.long)) ∙ h.count_is;
 }
@@ -105,17 +109,17 @@ says_at : (b c : List ℕ) (pages count : ℕ) → 16 ≤ length b → Says (b +
 says_at b c pages count long h = record {
   long = long;
   magic = sym (number_at-append 0 4 b c (omega (arith, long))) ∙ h.magic;
-  version = sym (number_at-append 4 4 b c (omega (arith, long))) ∙ h.version;
+  known = subst IsVersion (number_at-append 4 4 b c (omega (arith, long))) h.known;
   pages_are = sym (number_at-append 8 4 b c (omega (arith, long))) ∙ h.pages_are;
   count_is = sym (number_at-append 12 4 b c (omega (arith, long))) ∙ h.count_is;
 }
 
 pub header_stays : (sizes b c : List ℕ) (k : RecvError) (p : ℕ) → IsHeaderFault sizes b k p → IsHeaderFault sizes (b ++ c) k p
 header_stays sizes b c errors.BadMagic p h = record { long = omega (arith, h.long, length-append b c); never = λ e. h.never (sym (number_at-append 0 4 b c (omega (arith, h.long))) ∙ e); there = h.there }
-header_stays sizes b c errors.BadVersion p h = record { long = omega (arith, h.long, length-append b c); magic = number_at-append 0 4 b c (omega (arith, h.long)) ∙ h.magic; never = λ e. h.never (sym (number_at-append 4 4 b c (omega (arith, h.long))) ∙ e); there = h.there }
+header_stays sizes b c errors.BadVersion p h = record { long = omega (arith, h.long, length-append b c); magic = number_at-append 0 4 b c (omega (arith, h.long)) ∙ h.magic; never = λ e. h.never (subst IsVersion (number_at-append 4 4 b c (omega (arith, h.long))) e); there = h.there }
 header_stays sizes b c errors.BadShape p (inl h) = inl (record { pages = h.pages; count = h.count; says = says_on b c h.pages h.count h.says; never = h.never; there = h.there })
 header_stays sizes b c errors.BadShape p (inr h) = inr (record { pages = h.pages; count = h.count; shapes = h.shapes; bad = h.bad; more = h.more ++ c; says = says_on b c h.pages h.count h.says; may = h.may; fewer = h.fewer; sound = h.sound; whole = drop-append-le 16 b c h.says.long ∙ ap (λ (x : List ℕ). x ++ c) h.whole ∙ append_assoc (spelled_shapes h.shapes) (h.bad ++ h.more) c ∙ ap (λ (x : List ℕ). spelled_shapes h.shapes ++ x) (append_assoc h.bad h.more c); never = h.never; there = h.there })
-header_stays sizes b c errors.ShapeMismatch p h = record { pages = h.pages; shapes = h.shapes; more = h.more ++ c; begins = record { good = h.begins.good; whole = ap (λ (x : List ℕ). x ++ c) h.begins.whole ∙ append_assoc (header h.pages h.shapes) h.more c }; never = h.never; there = h.there }
+header_stays sizes b c errors.ShapeMismatch p h = record { opening = h.opening; more = h.more ++ c; begins = record { good = h.begins.good; whole = ap (λ (x : List ℕ). x ++ c) h.begins.whole ∙ append_assoc (header h.opening) h.more c }; never = h.never; there = h.there }
 header_stays sizes b c errors.BadTag p h = absurd h
 header_stays sizes b c errors.BadPage p h = absurd h
 header_stays sizes b c errors.BadSector p h = absurd h
@@ -131,15 +135,15 @@ header_stays sizes b c errors.AlreadyFailed p h = absurd h
 
 header_holds : (sizes b c : List ℕ) (k : RecvError) (p : ℕ) → p ≤ length b → IsHeaderFault sizes (b ++ c) k p → IsHeaderFault sizes b k p
 header_holds sizes b c errors.BadMagic p le h = record { long = omega (arith, le, h.there); never = λ e. h.never (number_at-append 0 4 b c (omega (arith, le, h.there)) ∙ e); there = h.there }
-header_holds sizes b c errors.BadVersion p le h = record { long = omega (arith, le, h.there); magic = sym (number_at-append 0 4 b c (omega (arith, le, h.there))) ∙ h.magic; never = λ e. h.never (number_at-append 4 4 b c (omega (arith, le, h.there)) ∙ e); there = h.there }
+header_holds sizes b c errors.BadVersion p le h = record { long = omega (arith, le, h.there); magic = sym (number_at-append 0 4 b c (omega (arith, le, h.there))) ∙ h.magic; never = λ e. h.never (subst IsVersion (sym (number_at-append 4 4 b c (omega (arith, le, h.there)))) e); there = h.there }
 header_holds sizes b c errors.BadShape p le (inl h) = inl (record { pages = h.pages; count = h.count; says = says_at b c h.pages h.count (omega (arith, le, h.there)) h.says; never = h.never; there = h.there })
 header_holds sizes b c errors.BadShape p le (inr h) =
     let long : 16 ≤ length b = omega (arith, le, h.there) in
     let d = behind (drop 16 b) c (spelled_shapes h.shapes ++ h.bad) h.more (sym (drop-append-le 16 b c long) ∙ h.whole ∙ sym (append_assoc (spelled_shapes h.shapes) h.bad h.more)) (omega (arith, le, h.there, length-drop 16 b, length-append (spelled_shapes h.shapes) h.bad)) in
     inr (record { pages = h.pages; count = h.count; shapes = h.shapes; bad = h.bad; more = d.w; says = says_at b c h.pages h.count long h.says; may = h.may; fewer = h.fewer; sound = h.sound; whole = d.left ∙ append_assoc (spelled_shapes h.shapes) h.bad d.w; never = h.never; there = h.there })
 header_holds sizes b c errors.ShapeMismatch p le h =
-    let d = behind b c (header h.pages h.shapes) h.more h.begins.whole (omega (arith, le, h.there)) in
-    record { pages = h.pages; shapes = h.shapes; more = d.w; begins = record { good = h.begins.good; whole = d.left }; never = h.never; there = h.there }
+    let d = behind b c (header h.opening) h.more h.begins.whole (omega (arith, le, h.there)) in
+    record { opening = h.opening; more = d.w; begins = record { good = h.begins.good; whole = d.left }; never = h.never; there = h.there }
 header_holds sizes b c errors.BadTag p le h = absurd h
 header_holds sizes b c errors.BadPage p le h = absurd h
 header_holds sizes b c errors.BadSector p le h = absurd h
@@ -155,36 +159,34 @@ header_holds sizes b c errors.AlreadyFailed p le h = absurd h
 
 record_stays : (sizes b c : List ℕ) (k : RecvError) (at : ℕ) → IsRecordFault sizes b k at → IsRecordFault sizes (b ++ c) k at
 record_stays sizes b c k at h = record {
-  pages = h.pages;
-  shapes = h.shapes;
+  opening = h.opening;
   before = h.before;
   tail = h.tail ++ c;
   place = h.place;
   front = record {
     begins = record {
       good = h.front.begins.good;
-      whole = ap (λ (x : List ℕ). x ++ c) h.front.begins.whole ∙ append_assoc (header h.pages h.shapes) (texts h.before ++ h.tail) c ∙ ap (λ (x : List ℕ). header h.pages h.shapes ++ x) (append_assoc (texts h.before) h.tail c);
+      whole = ap (λ (x : List ℕ). x ++ c) h.front.begins.whole ∙ append_assoc (header h.opening) (texts h.before ++ h.tail) c ∙ ap (λ (x : List ℕ). header h.opening ++ x) (append_assoc (texts h.before) h.tail c);
     };
     fits = h.front.fits;
     good = h.front.good;
   };
-  fault = stays_here h.pages h.shapes h.before h.tail c k h.place h.fault;
+  fault = stays_here h.opening h.before h.tail c k h.place h.fault;
   there = h.there;
 }
 
 record_holds : (sizes b c : List ℕ) (k : RecvError) (at : ℕ) → at ≤ length b → IsRecordFault sizes (b ++ c) k at → IsRecordFault sizes b k at
 record_holds sizes b c k at le h =
-    let front = header h.pages h.shapes ++ texts h.before in
-    let d = behind b c front h.tail (h.front.begins.whole ∙ sym (append_assoc (header h.pages h.shapes) (texts h.before) h.tail)) (omega (arith, le, h.there)) in
-    let fault : IsFault h.pages h.shapes h.before (d.w ++ c) k h.place = rw d.right at h.fault in
+    let front = header h.opening ++ texts h.before in
+    let d = behind b c front h.tail (h.front.begins.whole ∙ sym (append_assoc (header h.opening) (texts h.before) h.tail)) (omega (arith, le, h.there)) in
+    let fault : IsFault h.opening h.before (d.w ++ c) k h.place = rw d.right at h.fault in
     record {
-      pages = h.pages;
-      shapes = h.shapes;
+      opening = h.opening;
       before = h.before;
       tail = d.w;
       place = h.place;
-      front = record { begins = record { good = h.front.begins.good; whole = d.left ∙ append_assoc (header h.pages h.shapes) (texts h.before) d.w }; fits = h.front.fits; good = h.front.good };
-      fault = holds_here h.pages h.shapes h.before d.w c k h.place (omega (arith, le, h.there, ap length d.left, length-append front d.w)) fault;
+      front = record { begins = record { good = h.front.begins.good; whole = d.left ∙ append_assoc (header h.opening) (texts h.before) d.w }; fits = h.front.fits; good = h.front.good };
+      fault = holds_here h.opening h.before d.w c k h.place (omega (arith, le, h.there, ap length d.left, length-append front d.w)) fault;
       there = h.there;
     }
 

@@ -194,12 +194,12 @@ sectors_alike : (a b c d : ℕ) → a ≡ c → b ≡ d → items.sector a b ≡
 sectors_alike a b c d e f = rw (e, f) refl
 
 -- The records of the items, after a sector was set.
-pub record_here : (ram : List ℕ) (disks : List (List Sector)) (dev n : ℕ) (o : Sector) → n < length (get_or disks dev []) → record_in ram (set disks dev (set (get_or disks dev []) n o)) (items.sector dev n) ≡ sector dev n o
-record_here ram disks dev n o lt = ap (λ found. sector dev n (content_of found)) (set_here disks dev n o lt)
+pub record_here : (v : ℕ) (ram : List ℕ) (disks : List (List Sector)) (dev n : ℕ) (o : Sector) → n < length (get_or disks dev []) → record_in v ram (set disks dev (set (get_or disks dev []) n o)) (items.sector dev n) ≡ sector dev n o
+record_here v ram disks dev n o lt = ap (λ found. sector dev n (content_of found)) (set_here disks dev n o lt)
 
-pub record_there : (ram : List ℕ) (disks : List (List Sector)) (dev n : ℕ) (o : Sector) (i : Item) → i ≢ items.sector dev n → record_in ram (set disks dev (set (get_or disks dev []) n o)) i ≡ record_in ram disks i
-record_there ram disks dev n o (items.page k) other = refl
-record_there ram disks dev n o (items.sector a b) other = ap (λ found. sector a b (content_of found)) (set_there disks dev n a b o (λ e f. other (sectors_alike a b dev n e f)))
+pub record_there : (v : ℕ) (ram : List ℕ) (disks : List (List Sector)) (dev n : ℕ) (o : Sector) (i : Item) → i ≢ items.sector dev n → record_in v ram (set disks dev (set (get_or disks dev []) n o)) i ≡ record_in v ram disks i
+record_there v ram disks dev n o (items.page k) other = refl
+record_there v ram disks dev n o (items.sector a b) other = ap (λ found. sector a b (content_of found)) (set_there disks dev n a b o (λ e f. other (sectors_alike a b dev n e f)))
 
 -- What is known of disks after one of them changed that keeps its own.
 pub marks_kept : (ds : List DiskState) (k : ℕ) (d : DiskState) → marks_in d ≡ marks_in (get_or ds k d) → all_marks_in (set ds k d) ≡ all_marks_in ds

@@ -13,6 +13,7 @@ use Rattle.receiver.specs.Fed.{HasRead}
 use Rattle.receiver.specs.Spots.{disks_before}
 use Rattle.receiver.specs.declared.intake.Intake.{Intake}
 use Rattle.receiver.proofs.Sectors.{disk_below, disk_size, marks_count, marks_length}
+use Rattle.wire.specs.Header.{Opening, layout_in}
 
 length-firsts : (first : ℕ) (sizes : List ℕ) → length (firsts_from first sizes) ≡ length sizes
 length-firsts first [] = refl
@@ -37,18 +38,18 @@ pub record IsThere (ds : List DiskState) (i : Intake) (dev n : ℕ) : Type 0 whe
   pub disk : disks_before i.shapes.items dev < length ds
   pub sector : n < get_or (sizes_in ds) (disks_before i.shapes.items dev) 0
 
-there_by : (ds : List DiskState) (front : List ℕ) (pages : ℕ) (shapes : List Shape) (before : List Record) (i : Intake) (dev n : ℕ) → HasRead ds pages shapes before i front → i.shapes.items ≡ shapes → n < get_or (map sector_count shapes) dev 0 → IsThere ds i dev n
-there_by ds front pages shapes before i dev n h are has =
-    let low = dev_below shapes dev n has in
-    let k = disks_before shapes dev in
-    let disk = disk_below shapes ds dev n h.head.sound h.fits has in
-    let size = disk_size shapes ds dev n h.head.sound h.fits has in
-    let l = layout_by pages shapes in
+there_by : (ds : List DiskState) (front : List ℕ) (opening : Opening) (before : List Record) (i : Intake) (dev n : ℕ) → HasRead ds opening before i front → i.shapes.items ≡ opening.shapes → n < get_or (map sector_count opening.shapes) dev 0 → IsThere ds i dev n
+there_by ds front opening before i dev n h are has =
+    let low = dev_below opening.shapes dev n has in
+    let k = disks_before opening.shapes dev in
+    let disk = disk_below opening.shapes ds dev n h.head.sound h.fits has in
+    let size = disk_size opening.shapes ds dev n h.head.sound h.fits has in
+    let l = layout_in opening in
     let first : DiskState = record { sectors = []; failures = 0; honest = true; steady = true; is_flushed = true } in
     record {
       place = rw are low;
-      count = λ shape. rw are (count_at shapes dev n shape has);
-      firsts = omega (arith, low, ap length h.firsts_are, length-firsts pages (map sector_count shapes), length-map shapes sector_count);
+      count = λ shape. rw are (count_at opening.shapes dev n shape has);
+      firsts = omega (arith, low, ap length h.firsts_are, length-firsts opening.pages (map sector_count opening.shapes), length-map opening.shapes sector_count);
       item = omega (arith, number_below l (items.sector dev n) has, h.taken.named_size, ap (λ ns. get_or ns dev 0) h.firsts_are);
       marks = rw are (omega (arith, disk, marks_count ds i.bad.items h.marks_are));
       mark = rw are (omega (arith, size, get_or-map (λ (d : DiskState). length d.sectors) ds k first 0 disk, marks_length ds i.bad.items k first h.marks_are disk));
@@ -56,5 +57,5 @@ there_by ds front pages shapes before i dev n h are has =
       sector = rw are size;
     }
 
-pub there : (ds : List DiskState) (front : List ℕ) (pages : ℕ) (shapes : List Shape) (before : List Record) (i : Intake) (dev n : ℕ) → HasRead ds pages shapes before i front → n < get_or (map sector_count shapes) dev 0 → IsThere ds i dev n
-there ds front pages shapes before i dev n h has = there_by ds front pages shapes before i dev n h h.shapes_are has
+pub there : (ds : List DiskState) (front : List ℕ) (opening : Opening) (before : List Record) (i : Intake) (dev n : ℕ) → HasRead ds opening before i front → n < get_or (map sector_count opening.shapes) dev 0 → IsThere ds i dev n
+there ds front opening before i dev n h has = there_by ds front opening before i dev n h h.shapes_are has

@@ -5,7 +5,7 @@ use Rattle.std.proofs.Math.Seq.{take-add}
 use Rattle.sha2.specs.Hashers.{Holds256}
 use Rattle.sha2.specs.Sha256.{sha256}
 use Rattle.sha2.specs.declared.Sha256.{Sha256}
-use Rattle.wire.specs.Header.{header, Begins}
+use Rattle.wire.specs.Header.{header, Begins, Opening, layout_in}
 use Rattle.wire.specs.Records.{Record}
 use Rattle.wire.specs.Stream.{texts, rounds}
 use Rattle.blk.specs.Disk.{DiskState}
@@ -25,6 +25,7 @@ use Rattle.receiver.specs.declared.stage.Stage.TheVariants as stages
 use Rattle.receiver.specs.declared.intake.Intake.{Intake}
 use Rattle.receiver.specs.declared.recv_error.RecvError.{RecvError}
 use Rattle.receiver.specs.declared.recv_error.RecvError.TheVariants as errors
+use Rattle.receiver.proofs.Aligned.{not_early}
 use Rattle.receiver.proofs.Working.{refused_kept, fault_here, commit_text}
 
 -- A header was read.
@@ -33,14 +34,15 @@ new_marks_fit : (sizes : List ℕ) → map length (map (λ n. replicate n false)
 new_marks_fit [] = refl
 new_marks_fit (n ∷ sizes) = rw (length-replicate n false, new_marks_fit sizes) refl
 
-pub new_read : (ds : List DiskState) (bytes rest : List ℕ) (pages : ℕ) (shapes : List Shape) (i : Intake) → Begins bytes pages shapes rest → sizes_in ds ≡ disk_sizes shapes → length i.ram.bytes ≡ 4096 * pages → i.named ≡ replicate (size_of (layout_by pages shapes)) false → i.rounds ≡ 0
-    → i.shapes.items ≡ shapes → i.devices.items ≡ [] → i.firsts.items ≡ firsts_of (layout_by pages shapes) → i.bad.items ≡ map (λ n. replicate n false) (sizes_in ds) → HasRead ds pages shapes [] i (header pages shapes)
+pub new_read : (ds : List DiskState) (bytes rest : List ℕ) (opening : Opening) (i : Intake) → Begins bytes opening rest → sizes_in ds ≡ disk_sizes opening.shapes → length i.ram.bytes ≡ 4096 * opening.pages → i.named ≡ replicate (size_of (layout_in opening)) false → i.rounds ≡ 0
+    → i.version ≡ opening.version → i.shapes.items ≡ opening.shapes → i.devices.items ≡ [] → i.firsts.items ≡ firsts_of (layout_in opening) → i.bad.items ≡ map (λ n. replicate n false) (sizes_in ds) → HasRead ds opening [] i (header opening)
 unfolding AreGood texts rounds device_records
-new_read ds bytes rest pages shapes i b fits size marks ends same none firsts bad = record {
+new_read ds bytes rest opening i b fits size marks ends version same none firsts bad = record {
   head = b.good;
   fits = fits;
   good = tt;
-  whole = sym (append-nil (header pages shapes));
+  whole = sym (append-nil (header opening));
+  version_is = version;
   shapes_are = same;
   firsts_are = firsts;
   marks_are = rw bad (new_marks_fit (sizes_in ds));
@@ -49,18 +51,18 @@ new_read ds bytes rest pages shapes i b fits size marks ends same none firsts ba
   each = tt;
   numbered = tt;
   rounds_are = ends;
-  taken = new_taken (AreHonestDisks (all_marks_in ds)) i.ram.bytes (held_sectors shapes ds i.bad.items) i.named (layout_by pages shapes) size marks;
+  taken = new_taken opening.version (AreHonestDisks (all_marks_in ds)) i.ram.bytes (held_sectors opening.shapes ds i.bad.items) i.named (layout_in opening) size marks;
   devices_are = rw none refl;
   sound = rw none tt;
 }
 
-pub head_taken : (held : List ℕ) (pages : ℕ) (shapes : List Shape) (len : ℕ) → len ≤ length held → Begins held pages shapes (drop len held) → take len held ≡ header pages shapes
-head_taken held pages shapes len le b =
-    let size : length (header pages shapes) ≡ len = omega (arith, le, ap length b.whole, length-append (header pages shapes) (drop len held), length-drop len held) in
-    ap (take len) b.whole ∙ take_at (header pages shapes) (drop len held) len size
+pub head_taken : (held : List ℕ) (opening : Opening) (len : ℕ) → len ≤ length held → Begins held opening (drop len held) → take len held ≡ header opening
+head_taken held opening len le b =
+    let size : length (header opening) ≡ len = omega (arith, le, ap length b.whole, length-append (header opening) (drop len held), length-drop len held) in
+    ap (take len) b.whole ∙ take_at (header opening) (drop len held) len size
 
-pub mismatch : (sizes held rest : List ℕ) (pages : ℕ) (shapes : List Shape) → Begins held pages shapes rest → sizes ≢ disk_sizes shapes → (at : ℕ) × Fault sizes held errors.ShapeMismatch at
-mismatch sizes held rest pages shapes b never = (length (header pages shapes), inl (record { pages = pages; shapes = shapes; more = rest; begins = b; never = never; there = refl }))
+pub mismatch : (sizes held rest : List ℕ) (opening : Opening) → Begins held opening rest → sizes ≢ disk_sizes opening.shapes → (at : ℕ) × Fault sizes held errors.ShapeMismatch at
+mismatch sizes held rest opening b never = (length (header opening), inl (record { opening = opening; more = rest; begins = b; never = never; there = refl }))
 
 header_told : (sizes held : List ℕ) (e : RecvError) → TellsHead e ((sizes : List ℕ) → (at : ℕ) × IsHeaderFault sizes held e at) → Tells e ((at : ℕ) × Fault sizes held e at)
 header_told sizes held errors.BadMagic f = ((f sizes).0, inl (f sizes).1)
@@ -88,15 +90,15 @@ header_refused ds held e t = (refused_kept ds e (never_disk_head (sizes_in ds) h
 
 -- Records were worked off.
 
-pub now_ended : (ds : List DiskState) (digest : Sha256) (front bytes : List ℕ) (pages : ℕ) (shapes : List Shape) (i : Intake) (at : ℕ) → at ≡ length bytes → IsEnded ds pages shapes i (front ++ bytes)
+pub now_ended : (ds : List DiskState) (digest : Sha256) (front bytes : List ℕ) (opening : Opening) (i : Intake) (at : ℕ) → at ≡ length bytes → IsEnded ds opening i (front ++ bytes)
     → IsKnown ds digest (front ++ take at bytes) (drop at bytes) (stages.Ended i)
-now_ended ds digest front bytes pages shapes i at all h =
+now_ended ds digest front bytes opening i at all h =
     let rest : drop at bytes ≡ [] = empty (drop at bytes) (omega (arith, all, length-drop at bytes)) in
     let same : front ++ take at bytes ≡ front ++ bytes = ap (λ (x : List ℕ). front ++ x) (take_all at bytes (omega (arith, all))) in
-    (rest, record { pages = pages; shapes = shapes; ended = rw same h })
+    (rest, record { opening = opening; ended = rw same h })
 
-pub now_reading : (ds : List DiskState) (digest : Sha256) (front held : List ℕ) (pages : ℕ) (shapes : List Shape) (i : Intake) → Holds256 digest front → IsOpen ds pages shapes i front held → IsKnown ds digest front held (stages.Records i)
-now_reading ds digest front held pages shapes i d h = (d, record { pages = pages; shapes = shapes; open_at = h })
+pub now_reading : (ds : List DiskState) (digest : Sha256) (front held : List ℕ) (opening : Opening) (i : Intake) → Holds256 digest front → IsOpen ds opening i front held → IsKnown ds digest front held (stages.Records i)
+now_reading ds digest front held opening i d h = (d, record { opening = opening; open_at = h })
 
 -- The records after the header, which has `len` bytes.
 headed : (len at : ℕ) (bytes : List ℕ) → take len bytes ++ take at (drop len bytes) ≡ take (len + at) bytes
@@ -113,15 +115,15 @@ refused_behind old ds bytes len e h = rw (take-append-drop len bytes) at h
 
 -- A piece more.
 
-trailing_of : (pages : ℕ) (shapes : List Shape) (before : List Record) (digest front piece : List ℕ) → IsComplete pages shapes before 5 → front ≡ header pages shapes ++ texts before → 0 < length piece → digest ≡ sha256 front
-    → IsTrailing pages shapes before ((5 ∷ digest) ++ piece) 34
-trailing_of pages shapes before digest front [] complete e some same = absurd (omega (arith, some))
-trailing_of pages shapes before digest front (byte ∷ more) complete e some same = record {
+trailing_of : (opening : Opening) (before : List Record) (digest front piece : List ℕ) → IsComplete opening before 5 → front ≡ header opening ++ texts before → 0 < length piece → digest ≡ sha256 front
+    → IsTrailing opening before ((5 ∷ digest) ++ piece) 34
+trailing_of opening before digest front [] complete e some same = absurd (omega (arith, some))
+trailing_of opening before digest front (byte ∷ more) complete e some same = record {
   byte = byte;
   more = more;
   opens = record {
     whole = ap (λ (x : List ℕ). 5 ∷ (x ++ (byte ∷ more))) (same ∙ ap sha256 e);
-    may = record { least = omega arith; most = omega arith; early = λ low. absurd (omega (arith, low)); missing = λ four. absurd (omega (arith, four)) };
+    may = record { least = omega arith; most = omega arith; early = λ low. absurd (not_early 5 (omega arith) (omega arith) low); missing = λ four. absurd (omega (arith, four)); since = λ six. absurd (omega (arith, six)) };
     complete = λ late. complete;
   };
   there = refl;
@@ -132,7 +134,7 @@ trailing_piece ds old piece i h some =
     let w = h.ended in
     let text : old ≡ w.front ++ (5 ∷ sha256 w.front) = w.whole ∙ ap (λ (x : List ℕ). w.front ++ x) (commit_text (sha256 w.front)) in
     let whole : old ++ piece ≡ w.front ++ ((5 ∷ sha256 w.front) ++ piece) = ap (λ (x : List ℕ). x ++ piece) text ∙ append_assoc w.front (5 ∷ sha256 w.front) piece in
-    (refused_kept ds errors.Trailing (λ same. cc), fault_here (old ++ piece) ((5 ∷ sha256 w.front) ++ piece) errors.Trailing w.read whole (34, trailing_of h.pages h.shapes w.before (sha256 w.front) w.front piece w.complete w.read.whole some refl))
+    (refused_kept ds errors.Trailing (λ same. cc), fault_here (old ++ piece) ((5 ∷ sha256 w.front) ++ piece) errors.Trailing w.read whole (34, trailing_of h.opening w.before (sha256 w.front) w.front piece w.complete w.read.whole some refl))
 
 pub still_come : (ds : List DiskState) (digest : Sha256) (front bytes : List ℕ) (i : Intake) → HasCome ds front i → length bytes ≡ 0 → IsKnown ds digest (front ++ take 0 bytes) (drop 0 bytes) (stages.Ended i)
 still_come ds digest front bytes i h none =

@@ -1,16 +1,16 @@
 -- Which head may come next, and the record with it.
-use Rattle.std.proofs.Common.{◌≡◌, ℕ, ◌+◌, ◌<◌, ◌≤◌, ◌⊎◌, inl, inr, Bool, true, false, List, [], ◌∷◌, ◌++◌, length, take, drop, refl, sym, ap, subst, ◌∙◌, append_assoc, append-nil, arith}
-use Rattle.std.specs.Prelude.{Ok, Err}
+use Rattle.std.proofs.Common.{◌≡◌, ℕ, ◌+◌, ◌<◌, ◌≤◌, ◌⊎◌, inl, inr, Bool, true, false, List, [], ◌∷◌, ◌++◌, length, take, drop, refl, sym, ap, subst, ◌∙◌, append_assoc, append-nil, arith, ◌^◌}
+use Rattle.std.specs.Prelude.{IfErr, Result, Ok, Err, ◌≢◌}
 use Rattle.std.proofs.lemmas.Bool.{cases_lt}
 use Rattle.std.proofs.lemmas.List.{take-append-drop, take_at, length-append}
 use Rattle.std.proofs.Math.Seq.{take-length}
 use Rattle.sha2.specs.Sha256.{sha256}
 use Rattle.sha2.proofs.Facts256.{length-sha256}
 use Rattle.guestmem.specs.Number.{IsBytes}
-use Rattle.wire.specs.Header.{header}
+use Rattle.wire.specs.Header.{header, Opening}
 use Rattle.wire.specs.Numbers.{digits, flag}
 use Rattle.wire.specs.RecordHeads.{BeginsHead, BeginsNoMark, BeginsNoTag, FitsHead, IsHeadCut, body_len, spelled_head}
-use Rattle.wire.specs.Records.{Record, record_with, spelled_record}
+use Rattle.wire.specs.Records.{Record, is_zero_page, record_with, spelled_record}
 use Rattle.wire.specs.Stream.{texts}
 use Rattle.wire.specs.declared.record_head.RecordHead.{RecordHead}
 use Rattle.wire.specs.declared.record_head.RecordHead.TheVariants as heads
@@ -20,9 +20,10 @@ use Rattle.blk.specs.Disk.{DiskState}
 use Rattle.machine.specs.declared.shape.Shape.{Shape}
 use Rattle.receiver.specs.Disks.{AreKept, AreRefused}
 use Rattle.receiver.specs.Good.{devices_in}
-use Rattle.receiver.specs.Faults.{IsBadBody, IsBadDigest, IsBadHead, IsFault, IsTrailing, Opens}
+use Rattle.receiver.specs.Faults.{IsBadBody, IsBadDigest, IsBadHead, IsBadPage, IsFault, IsLongZeros, IsPageTag, IsTrailing, Opens}
 use Rattle.receiver.specs.Fed.{After, HasRead, IsLong, Tells, Waits, size_of}
-use Rattle.receiver.specs.Standing.{HasRoom, IsNoBody, MayHead, OpensHead, TakingDevice, refusal_of}
+use Rattle.receiver.specs.Spots.{Taking}
+use Rattle.receiver.specs.Standing.{Entered, HasRoom, IsDeviceHead, IsNoBody, MayHead, OpensHead, TakingDevice, refusal_of}
 use Rattle.receiver.specs.declared.intake.Intake.{Intake}
 use Rattle.receiver.specs.declared.part.Part.{Part}
 use Rattle.receiver.specs.declared.part.Part.TheVariants as parts
@@ -30,9 +31,11 @@ use Rattle.receiver.specs.declared.recv_error.RecvError.{RecvError}
 use Rattle.receiver.specs.declared.recv_error.RecvError.TheVariants as errors
 use Rattle.receiver.proofs.Lists.{empty}
 use Rattle.receiver.proofs.Quiet.{quiet}
-use Rattle.receiver.proofs.Working.{refused_kept}
+use Rattle.receiver.proofs.Working.{kept, refused_kept}
+use Rattle.receiver.proofs.Writing.{disk_refused}
+use Rattle.machine.proofs.Numbering.{either_way}
 
-pub opens_at : {pages : ℕ} {shapes : List Shape} {before : List Record} {tail : List ℕ} {tag : ℕ} {more : List ℕ} (t : ℕ) (x : List ℕ) → Opens pages shapes before tail tag more → tail ≡ t ∷ x → Opens pages shapes before tail t x
+pub opens_at : {opening : Opening} {before : List Record} {tail : List ℕ} {tag : ℕ} {more : List ℕ} (t : ℕ) (x : List ℕ) → Opens opening before tail tag more → tail ≡ t ∷ x → Opens opening before tail t x
 opens_at {tag = tag} {more = more} t x o e =
     let first : tag ≡ t = head_same (sym o.whole ∙ e) in
     let others : more ≡ x = tail_same (sym o.whole ∙ e) in
@@ -50,61 +53,85 @@ not_that_long tail len c long =
     let same : tail ≡ spelled_head c.head ++ [] = sym (append-nil tail) ∙ ap (λ (x : List ℕ). tail ++ x) (sym (empty c.more none)) ∙ sym c.whole ∙ sym (append-nil (spelled_head c.head)) in
     c.none c.head [] c.fits same
 
-cut_device : (pages : ℕ) (shapes : List Shape) (before : List Record) (tail : List ℕ) (len : ℕ) → IsBytes tail → IsHeadCut tail len → (place : ℕ) → ¬ (IsBadHead pages shapes before tail place ⊎ IsBadBody pages shapes before tail place)
-cut_device pages shapes before tail len are c place (inl h) = c.none (heads.Device h.number h.len) h.more (second_low tail _ 4 h.number are h.opens.whole, h.fits) h.opens.whole
-cut_device pages shapes before tail len are c place (inr h) = c.none (heads.Device (devices_in before) (length h.body)) (h.body ++ h.more) (second_low tail _ 4 (devices_in before) are h.opens.whole, omega (arith, h.few)) h.opens.whole
+cut_device : (opening : Opening) (before : List Record) (tail : List ℕ) (len : ℕ) → IsBytes tail → IsHeadCut tail len → (place : ℕ) → ¬ (IsBadHead opening before tail place ⊎ IsBadBody opening before tail place)
+cut_device opening before tail len are c place (inl h) = c.none (heads.Device h.number h.len) h.more (second_low tail _ 4 h.number are h.opens.whole, h.fits) h.opens.whole
+cut_device opening before tail len are c place (inr h) = c.none (heads.Device (devices_in before) (length h.body)) (h.body ++ h.more) (second_low tail _ 4 (devices_in before) are h.opens.whole, omega (arith, h.few)) h.opens.whole
 
-cut_digest : (pages : ℕ) (shapes : List Shape) (before : List Record) (tail : List ℕ) (len : ℕ) → IsHeadCut tail len → (place : ℕ) → ¬ (IsBadDigest pages shapes before tail place ⊎ IsTrailing pages shapes before tail place)
-cut_digest pages shapes before tail len c place (inl h) = c.none heads.Commit (h.digest ++ h.more) tt h.opens.whole
-cut_digest pages shapes before tail len c place (inr h) = c.none heads.Commit (sha256 (header pages shapes ++ texts before) ++ (h.byte ∷ h.more)) tt h.opens.whole
+cut_digest : (opening : Opening) (before : List Record) (tail : List ℕ) (len : ℕ) → IsHeadCut tail len → (place : ℕ) → ¬ (IsBadDigest opening before tail place ⊎ IsTrailing opening before tail place)
+cut_digest opening before tail len c place (inl h) = c.none heads.Commit (h.digest ++ h.more) tt h.opens.whole
+cut_digest opening before tail len c place (inr h) = c.none heads.Commit (sha256 (header opening ++ texts before) ++ (h.byte ∷ h.more)) tt h.opens.whole
 
-pub cut_waits : (pages : ℕ) (shapes : List Shape) (before : List Record) (tail : List ℕ) (tag : ℕ) (more : List ℕ) (len : ℕ) → IsBytes tail → Opens pages shapes before tail tag more → IsHeadCut tail len → Waits pages shapes before tail
-cut_waits pages shapes before tail tag more len are o c = record {
-  no_record = no_record tail c.none;
-  no_fault = quiet pages shapes before tail tag more o
-      (λ e place h. c.none (heads.Page h.number) h.more h.fits h.opens.whole)
+cut_page : (opening : Opening) (before : List Record) (tail : List ℕ) (len : ℕ) → IsHeadCut tail len → (place : ℕ) → ¬ (IsBadPage opening before tail place ⊎ IsLongZeros opening before tail place)
+cut_page opening before tail len c place (inl h) = cut_named h.names h.opens.whole
+  where
+    cut_named : IsPageTag h.tag → tail ≡ h.tag ∷ (digits 4 h.number ++ h.more) → ⊥
+    cut_named (inl one) e = c.none (heads.Page h.number) h.more h.fits (e ∙ ap (λ (t : ℕ). t ∷ (digits 4 h.number ++ h.more)) one)
+    cut_named (inr six) e = c.none (heads.ZeroPage h.number) h.more h.fits (e ∙ ap (λ (t : ℕ). t ∷ (digits 4 h.number ++ h.more)) six)
+cut_page opening before tail len c place (inr h) = c.none (heads.Page h.number) (h.bytes ++ h.more) h.fits h.opens.whole
+
+pub cut_waits : (opening : Opening) (before : List Record) (tail : List ℕ) (tag : ℕ) (more : List ℕ) (len : ℕ) → IsBytes tail → Opens opening before tail tag more → IsHeadCut tail len → Waits opening before tail
+cut_waits opening before tail tag more len are o c = record {
+  no_record = no_record opening.version tail c.none;
+  no_fault = quiet opening before tail tag more o
+      (λ e. cut_page opening before tail len c)
       (λ e place h. not_that_long tail len c (omega (arith, ap length h.opens.whole)))
       (λ e place h. c.none (heads.RoundEnd h.number) h.more h.fits h.opens.whole)
-      (λ e. cut_device pages shapes before tail len are c)
-      (λ e. cut_digest pages shapes before tail len c);
+      (λ e. cut_device opening before tail len are c)
+      (λ e. cut_digest opening before tail len c);
 }
 
 -- A head that may stand waits for its body.
 
-waits_device : (pages : ℕ) (shapes : List Shape) (before : List Record) (tail rest : List ℕ) (head : RecordHead) → IsBytes tail → OpensHead pages shapes before tail head rest → MayHead pages shapes before head → length rest < body_len head
-    → (place : ℕ) → ¬ (IsBadHead pages shapes before tail place ⊎ IsBadBody pages shapes before tail place)
-waits_device pages shapes before tail rest head are o may short place (inl h) =
+waits_device : (opening : Opening) (before : List Record) (tail rest : List ℕ) (head : RecordHead) → IsBytes tail → OpensHead opening before tail head rest → MayHead opening before head → length rest < body_len head
+    → (place : ℕ) → ¬ (IsBadHead opening before tail place ⊎ IsBadBody opening before tail place)
+waits_device opening before tail rest head are o may short place (inl h) =
     let t = one_head head (heads.Device h.number h.len) rest h.more o.fits (second_low tail _ 4 h.number are h.opens.whole, h.fits) (sym o.whole ∙ h.opens.whole) in
-    h.never (subst (MayHead pages shapes before) t.0 may)
-waits_device pages shapes before tail rest head are o may short place (inr h) =
+    h.never (subst (MayHead opening before) t.0 may)
+waits_device opening before tail rest head are o may short place (inr h) =
     let t = one_head head (heads.Device (devices_in before) (length h.body)) rest (h.body ++ h.more) o.fits (second_low tail _ 4 (devices_in before) are h.opens.whole, omega (arith, h.few)) (sym o.whole ∙ h.opens.whole) in
     omega (arith, short, ap body_len t.0, ap length t.1, length-append h.body h.more)
 
-waits_digest : (pages : ℕ) (shapes : List Shape) (before : List Record) (tail rest : List ℕ) (head : RecordHead) → OpensHead pages shapes before tail head rest → length rest < body_len head
-    → (place : ℕ) → ¬ (IsBadDigest pages shapes before tail place ⊎ IsTrailing pages shapes before tail place)
-waits_digest pages shapes before tail rest head o short place (inl h) =
+waits_digest : (opening : Opening) (before : List Record) (tail rest : List ℕ) (head : RecordHead) → OpensHead opening before tail head rest → length rest < body_len head
+    → (place : ℕ) → ¬ (IsBadDigest opening before tail place ⊎ IsTrailing opening before tail place)
+waits_digest opening before tail rest head o short place (inl h) =
     let t = one_head head heads.Commit rest (h.digest ++ h.more) o.fits tt (sym o.whole ∙ h.opens.whole) in
     omega (arith, short, ap body_len t.0, ap length t.1, length-append h.digest h.more, h.long)
-waits_digest pages shapes before tail rest head o short place (inr h) =
-    let sum = sha256 (header pages shapes ++ texts before) in
+waits_digest opening before tail rest head o short place (inr h) =
+    let sum = sha256 (header opening ++ texts before) in
     let t = one_head head heads.Commit rest (sum ++ (h.byte ∷ h.more)) o.fits tt (sym o.whole ∙ h.opens.whole) in
-    omega (arith, short, ap body_len t.0, ap length t.1, length-append sum (h.byte ∷ h.more), length-sha256 (header pages shapes ++ texts before))
+    omega (arith, short, ap body_len t.0, ap length t.1, length-append sum (h.byte ∷ h.more), length-sha256 (header opening ++ texts before))
 
-pub body_waits : (pages : ℕ) (shapes : List Shape) (before : List Record) (tail rest : List ℕ) (head : RecordHead) → IsBytes tail → OpensHead pages shapes before tail head rest → MayHead pages shapes before head → length rest < body_len head → Waits pages shapes before tail
-body_waits pages shapes before tail rest head are o may short = record {
-  no_record = no_body tail rest head o.fits o.whole short;
-  no_fault = quiet pages shapes before tail o.tag o.more o.opens
-      (λ e place h.
-      let t = one_head head (heads.Page h.number) rest h.more o.fits h.fits (sym o.whole ∙ h.opens.whole) in
-      let low = subst (MayHead pages shapes before) t.0 may in omega (arith, low, h.never))
+-- A page that is there, by either of its heads.
+page_is_there : (opening : Opening) (before : List Record) (tail rest more : List ℕ) (head : RecordHead) (tag n : ℕ) → FitsHead head → tail ≡ spelled_head head ++ rest → MayHead opening before head → n < 2 ^ 32 → IsPageTag tag → tail ≡ tag ∷ (digits 4 n ++ more) → n < opening.pages
+page_is_there opening before tail rest more head tag n fits whole may few (inl one) e =
+    let t = one_head head (heads.Page n) rest more fits few (sym whole ∙ e ∙ ap (λ (t : ℕ). t ∷ (digits 4 n ++ more)) one) in
+    subst (MayHead opening before) t.0 may
+page_is_there opening before tail rest more head tag n fits whole may few (inr six) e =
+    let t = one_head head (heads.ZeroPage n) rest more fits few (sym whole ∙ e ∙ ap (λ (t : ℕ). t ∷ (digits 4 n ++ more)) six) in
+    subst (MayHead opening before) t.0 may
+
+waits_page : (opening : Opening) (before : List Record) (tail rest : List ℕ) (head : RecordHead) → OpensHead opening before tail head rest → MayHead opening before head → length rest < body_len head
+    → (place : ℕ) → ¬ (IsBadPage opening before tail place ⊎ IsLongZeros opening before tail place)
+waits_page opening before tail rest head o may short place (inl h) =
+    let low = page_is_there opening before tail rest h.more head h.tag h.number o.fits o.whole may h.fits h.names h.opens.whole in
+    omega (arith, low, h.never)
+waits_page opening before tail rest head o may short place (inr h) =
+    let t = one_head head (heads.Page h.number) rest (h.bytes ++ h.more) o.fits h.fits (sym o.whole ∙ h.opens.whole) in
+    omega (arith, short, ap body_len t.0, ap length t.1, length-append h.bytes h.more, h.long)
+
+pub body_waits : (opening : Opening) (before : List Record) (tail rest : List ℕ) (head : RecordHead) → IsBytes tail → OpensHead opening before tail head rest → MayHead opening before head → length rest < body_len head → Waits opening before tail
+body_waits opening before tail rest head are o may short = record {
+  no_record = no_body opening.version tail rest head o.fits o.whole short;
+  no_fault = quiet opening before tail o.tag o.more o.opens
+      (λ e. waits_page opening before tail rest head o may short)
       (λ e place h.
       let t = sector_found head rest h.more h.disk h.number h.mark o.fits h.fits (sym o.whole ∙ h.opens.whole) in
-      h.never (subst (MayHead pages shapes before) t.is may, t.low))
+      h.never (subst (MayHead opening before) t.is may, t.low))
       (λ e place h.
       let t = one_head head (heads.RoundEnd h.number) rest h.more o.fits h.fits (sym o.whole ∙ h.opens.whole) in
-      h.never (subst (MayHead pages shapes before) t.0 may))
-      (λ e. waits_device pages shapes before tail rest head are o may short)
-      (λ e. waits_digest pages shapes before tail rest head o short);
+      h.never (subst (MayHead opening before) t.0 may))
+      (λ e. waits_device opening before tail rest head are o may short)
+      (λ e. waits_digest opening before tail rest head o short);
 }
 
 -- A head that may not stand is a fault.
@@ -113,37 +140,39 @@ at_least : (n pages : ℕ) → (n < pages) ⊎ (pages ≤ n) → ¬ (n < pages) 
 at_least n pages (inl lt) never = absurd (never lt)
 at_least n pages (inr le) never = le
 
-pub head_refused : (pages : ℕ) (shapes : List Shape) (before : List Record) (tail rest : List ℕ) (head : RecordHead) → OpensHead pages shapes before tail head rest → ¬ (MayHead pages shapes before head) → (place : ℕ) × IsFault pages shapes before tail (refusal_of head) place
-head_refused pages shapes before tail rest (heads.Page n) o never =
-    (5, record { number = n; more = rest; opens = opens_at 1 (digits 4 n ++ rest) o.opens o.whole; fits = o.fits; never = at_least n pages (cases_lt n pages) never; there = refl })
-head_refused pages shapes before tail rest (heads.Sector d n good) o never =
+pub head_refused : (opening : Opening) (before : List Record) (tail rest : List ℕ) (head : RecordHead) → OpensHead opening before tail head rest → ¬ (MayHead opening before head) → (place : ℕ) × IsFault opening before tail (refusal_of head) place
+head_refused opening before tail rest (heads.Page n) o never =
+    (5, inl (record { tag = 1; number = n; more = rest; names = inl refl; opens = opens_at 1 (digits 4 n ++ rest) o.opens o.whole; fits = o.fits; never = at_least n opening.pages (cases_lt n opening.pages) never; there = refl }))
+head_refused opening before tail rest (heads.Sector d n good) o never =
     (7, record { disk = d; number = n; mark = flag good; more = rest; opens = opens_at 2 (d ∷ (digits 4 n ++ (flag good ∷ rest))) o.opens o.whole; fits = o.fits.1; never = λ x. never x.0; there = refl })
-head_refused pages shapes before tail rest (heads.RoundEnd n) o never =
+head_refused opening before tail rest (heads.RoundEnd n) o never =
     (5, record { number = n; more = rest; opens = opens_at 3 (digits 4 n ++ rest) o.opens o.whole; fits = o.fits; never = never; there = refl })
-head_refused pages shapes before tail rest (heads.Device d len) o never =
+head_refused opening before tail rest (heads.Device d len) o never =
     (6, inl (record { number = d; len = len; more = rest; opens = opens_at 4 (d ∷ (digits 4 len ++ rest)) o.opens o.whole; fits = o.fits.1; never = never; there = refl }))
-head_refused pages shapes before tail rest heads.Commit o never = absurd (never tt)
+head_refused opening before tail rest heads.Commit o never = absurd (never tt)
+head_refused opening before tail rest (heads.ZeroPage n) o never =
+    (5, inl (record { tag = 6; number = n; more = rest; names = inr refl; opens = opens_at 6 (digits 4 n ++ rest) o.opens o.whole; fits = o.fits; never = at_least n opening.pages (cases_lt n opening.pages) never; there = refl }))
 
-pub refused_as : (pages : ℕ) (shapes : List Shape) (before : List Record) (tail rest : List ℕ) (head : RecordHead) (e : RecvError) → OpensHead pages shapes before tail head rest → (e ≡ refusal_of head) × ¬ (MayHead pages shapes before head) → (place : ℕ) × IsFault pages shapes before tail e place
-refused_as pages shapes before tail rest head e o h = rw h.0 (head_refused pages shapes before tail rest head o h.1)
+pub refused_as : (opening : Opening) (before : List Record) (tail rest : List ℕ) (head : RecordHead) (e : RecvError) → OpensHead opening before tail head rest → (e ≡ refusal_of head) × ¬ (MayHead opening before head) → (place : ℕ) × IsFault opening before tail e place
+refused_as opening before tail rest head e o h = rw h.0 (head_refused opening before tail rest head o h.1)
 
-pub mark_refused : (pages : ℕ) (shapes : List Shape) (before : List Record) (tail : List ℕ) (tag : ℕ) (more : List ℕ) → Opens pages shapes before tail tag more → BeginsNoMark tail → (place : ℕ) × IsFault pages shapes before tail errors.BadSector place
-mark_refused pages shapes before tail tag more o b =
+pub mark_refused : (opening : Opening) (before : List Record) (tail : List ℕ) (tag : ℕ) (more : List ℕ) → Opens opening before tail tag more → BeginsNoMark tail → (place : ℕ) × IsFault opening before tail errors.BadSector place
+mark_refused opening before tail tag more o b =
     (7, record { disk = b.device; number = b.number; mark = b.mark; more = b.more; opens = opens_at 2 (b.device ∷ (digits 4 b.number ++ (b.mark ∷ b.more))) o b.whole; fits = b.fits; never = λ x. omega (arith, x.1, b.never); there = refl })
 
-pub tag_known : (pages : ℕ) (shapes : List Shape) (before : List Record) (tail : List ℕ) (tag : ℕ) (more : List ℕ) → Opens pages shapes before tail tag more → BeginsNoTag tail → ⊥
-tag_known pages shapes before tail tag more o b =
+pub tag_known : (opening : Opening) (before : List Record) (tail : List ℕ) (tag : ℕ) (more : List ℕ) → Opens opening before tail tag more → BeginsNoTag tail → ⊥
+tag_known opening before tail tag more o b =
     let opens = opens_at b.tag b.more o b.whole in
     let found = some_head b.tag opens.may.least opens.may.most in
     b.never found.0 found.1.0 found.1.1
 
 -- The bytes of a head, as it was read.
 
-pub found_head : (pages : ℕ) (shapes : List Shape) (before : List Record) (tail : List ℕ) (tag : ℕ) (more : List ℕ) (head : RecordHead) → Opens pages shapes before tail tag more → BeginsHead tail head → OpensHead pages shapes before tail head (drop (length (spelled_head head)) tail)
-found_head pages shapes before tail tag more head o b = record { tag = tag; more = more; opens = o; fits = b.fits; whole = b.whole }
+pub found_head : (opening : Opening) (before : List Record) (tail : List ℕ) (tag : ℕ) (more : List ℕ) (head : RecordHead) → Opens opening before tail tag more → BeginsHead tail head → OpensHead opening before tail head (drop (length (spelled_head head)) tail)
+found_head opening before tail tag more head o b = record { tag = tag; more = more; opens = o; fits = b.fits; whole = b.whole }
 
-pub opens_head : (pages : ℕ) (shapes : List Shape) (before : List Record) (tail : List ℕ) (tag : ℕ) (more rest : List ℕ) (head : RecordHead) → Opens pages shapes before tail tag more → FitsHead head → tail ≡ spelled_head head ++ rest → OpensHead pages shapes before tail head rest
-opens_head pages shapes before tail tag more rest head o fits e = record { tag = tag; more = more; opens = o; fits = fits; whole = e }
+pub opens_head : (opening : Opening) (before : List Record) (tail : List ℕ) (tag : ℕ) (more rest : List ℕ) (head : RecordHead) → Opens opening before tail tag more → FitsHead head → tail ≡ spelled_head head ++ rest → OpensHead opening before tail head rest
+opens_head opening before tail tag more rest head o fits e = record { tag = tag; more = more; opens = o; fits = fits; whole = e }
 
 pub room_few : (i : Intake) (head : RecordHead) → HasRoom i head → length (spelled_head head) + body_len head ≤ 131078
 room_few i (heads.Page n) h = omega arith
@@ -152,6 +181,7 @@ room_few i (heads.Sector d n false) h = omega arith
 room_few i (heads.RoundEnd n) h = omega arith
 room_few i (heads.Device d len) h = omega (arith, h.1)
 room_few i heads.Commit h = omega arith
+room_few i (heads.ZeroPage n) h = omega arith
 
 pub long_part : (part : Part) (n : ℕ) → size_of part ≡ n → 0 < n → IsLong part
 long_part parts.Wait n e some = tt
@@ -162,7 +192,7 @@ long_part parts.End n e some = tt
 pub cut_body : (rest body : List ℕ) (n : ℕ) → body ≡ take n rest → rest ≡ body ++ drop n rest
 cut_body rest body n e = sym (take-append-drop n rest) ∙ ap (λ (x : List ℕ). x ++ drop n rest) (sym e)
 
-pub with_body : {pages : ℕ} {shapes : List Shape} {before : List Record} {tail rest : List ℕ} {head : RecordHead} (other : List ℕ) → OpensHead pages shapes before tail head rest → rest ≡ other → OpensHead pages shapes before tail head other
+pub with_body : {opening : Opening} {before : List Record} {tail rest : List ℕ} {head : RecordHead} (other : List ℕ) → OpensHead opening before tail head rest → rest ≡ other → OpensHead opening before tail head other
 with_body other o e = rw e at o
 
 -- Records that were taken.
@@ -173,15 +203,15 @@ taken_with tail body more head e many =
     let all : tail ≡ (front ++ body) ++ more = e ∙ sym (append_assoc front body more) in
     ap (take (length front + length body)) all ∙ take_at (front ++ body) more (length front + length body) (length-append front body) ∙ sym (spelled_with head body many)
 
-pub took_with : (old ds : List DiskState) (pages : ℕ) (shapes : List Shape) (before : List Record) (new : Intake) (front tail body more : List ℕ) (head : RecordHead) → OpensHead pages shapes before tail head (body ++ more) → length body ≡ body_len head → AreKept old ds
-    → HasRead ds pages shapes (before ++ record_with head body ∷ []) new (front ++ spelled_record (record_with head body)) → After old ds pages shapes before new front tail (Ok (parts.Record (length (spelled_head head) + length body)))
-took_with old ds pages shapes before new front tail body more head o many same read =
+pub took_with : (old ds : List DiskState) (opening : Opening) (before : List Record) (new : Intake) (front tail body more : List ℕ) (head : RecordHead) → OpensHead opening before tail head (body ++ more) → length body ≡ body_len head → AreKept old ds
+    → HasRead ds opening (before ++ record_with head body ∷ []) new (front ++ spelled_record (record_with head body)) → After old ds opening before new front tail (Ok (parts.Record (length (spelled_head head) + length body)))
+took_with old ds opening before new front tail body more head o many same read =
     let r = record_with head body in
-    (same, (r, subst (λ (x : List ℕ). HasRead ds pages shapes (before ++ r ∷ []) new (front ++ x)) (sym (taken_with tail body more head o.whole many)) read))
+    (same, (r, subst (λ (x : List ℕ). HasRead ds opening (before ++ r ∷ []) new (front ++ x)) (sym (taken_with tail body more head o.whole many)) read))
 
-bad_body : (pages : ℕ) (shapes : List Shape) (before : List Record) (tail body more : List ℕ) (d len : ℕ) → OpensHead pages shapes before tail (heads.Device d len) (body ++ more) → MayHead pages shapes before (heads.Device d len) → length body ≡ len → IsNoBody pages shapes d body
-    → (place : ℕ) × (IsBadHead pages shapes before tail place ⊎ IsBadBody pages shapes before tail place)
-bad_body pages shapes before tail body more d len o may many refused =
+bad_body : (opening : Opening) (before : List Record) (tail body more : List ℕ) (d len : ℕ) → OpensHead opening before tail (heads.Device d len) (body ++ more) → MayHead opening before (heads.Device d len) → length body ≡ len → IsNoBody opening d body
+    → (place : ℕ) × (IsBadHead opening before tail place ⊎ IsBadBody opening before tail place)
+bad_body opening before tail body more d len o may many refused =
     let whole : tail ≡ 4 ∷ (devices_in before ∷ (digits 4 (length body) ++ (body ++ more))) = rw (sym may.next, many) o.whole in (
       6 + length body,
       inr (record {
@@ -197,24 +227,71 @@ bad_body pages shapes before tail body more d len o may many refused =
       }),
     )
 
-pub device_refused : (ds : List DiskState) (pages : ℕ) (shapes : List Shape) (before : List Record) (new : Intake) (front tail body more : List ℕ) (d len : ℕ) (e : RecvError) → OpensHead pages shapes before tail (heads.Device d len) (body ++ more) → MayHead pages shapes before (heads.Device d len)
-    → length body ≡ len → TakingDevice ds pages shapes before new front d body (Err e) → AreRefused ds ds e × Tells e ((place : ℕ) × IsFault pages shapes before tail e place)
-device_refused ds pages shapes before new front tail body more d len errors.BadMagic o may many t = absurd t
-device_refused ds pages shapes before new front tail body more d len errors.BadVersion o may many t = absurd t
-device_refused ds pages shapes before new front tail body more d len errors.BadShape o may many t = absurd t
-device_refused ds pages shapes before new front tail body more d len errors.ShapeMismatch o may many t = absurd t
-device_refused ds pages shapes before new front tail body more d len errors.BadTag o may many t = absurd t
-device_refused ds pages shapes before new front tail body more d len errors.BadPage o may many t = absurd t
-device_refused ds pages shapes before new front tail body more d len errors.BadSector o may many t = absurd t
-device_refused ds pages shapes before new front tail body more d len errors.BadRound o may many t = absurd t
-device_refused ds pages shapes before new front tail body more d len errors.BadDevice o may many t = (refused_kept ds errors.BadDevice (λ e. cc), bad_body pages shapes before tail body more d len o may many t)
-device_refused ds pages shapes before new front tail body more d len errors.BadDigest o may many t = absurd t
-device_refused ds pages shapes before new front tail body more d len errors.Missing o may many t = absurd t
-device_refused ds pages shapes before new front tail body more d len errors.Trailing o may many t = absurd t
-device_refused ds pages shapes before new front tail body more d len errors.Truncated o may many t = absurd t
-device_refused ds pages shapes before new front tail body more d len errors.DiskFailed o may many t = absurd t
-device_refused ds pages shapes before new front tail body more d len errors.NoMemory o may many t = (refused_kept ds errors.NoMemory (λ e. cc), tt)
-device_refused ds pages shapes before new front tail body more d len errors.AlreadyFailed o may many t = absurd t
+pub device_refused : (ds : List DiskState) (opening : Opening) (before : List Record) (new : Intake) (front tail body more : List ℕ) (d len : ℕ) (e : RecvError) → OpensHead opening before tail (heads.Device d len) (body ++ more) → MayHead opening before (heads.Device d len)
+    → length body ≡ len → TakingDevice ds opening before new front d body (Err e) → AreRefused ds ds e × Tells e ((place : ℕ) × IsFault opening before tail e place)
+device_refused ds opening before new front tail body more d len errors.BadMagic o may many t = absurd t
+device_refused ds opening before new front tail body more d len errors.BadVersion o may many t = absurd t
+device_refused ds opening before new front tail body more d len errors.BadShape o may many t = absurd t
+device_refused ds opening before new front tail body more d len errors.ShapeMismatch o may many t = absurd t
+device_refused ds opening before new front tail body more d len errors.BadTag o may many t = absurd t
+device_refused ds opening before new front tail body more d len errors.BadPage o may many t = absurd t
+device_refused ds opening before new front tail body more d len errors.BadSector o may many t = absurd t
+device_refused ds opening before new front tail body more d len errors.BadRound o may many t = absurd t
+device_refused ds opening before new front tail body more d len errors.BadDevice o may many t = (refused_kept ds errors.BadDevice (λ e. cc), bad_body opening before tail body more d len o may many t)
+device_refused ds opening before new front tail body more d len errors.BadDigest o may many t = absurd t
+device_refused ds opening before new front tail body more d len errors.Missing o may many t = absurd t
+device_refused ds opening before new front tail body more d len errors.Trailing o may many t = absurd t
+device_refused ds opening before new front tail body more d len errors.Truncated o may many t = absurd t
+device_refused ds opening before new front tail body more d len errors.DiskFailed o may many t = absurd t
+device_refused ds opening before new front tail body more d len errors.NoMemory o may many t = (refused_kept ds errors.NoMemory (λ e. cc), tt)
+device_refused ds opening before new front tail body more d len errors.AlreadyFailed o may many t = absurd t
+
+-- A page of zeros that is encoded as another page.
+pub zeros_refused : (ds : List DiskState) (opening : Opening) (before : List Record) (tail body more : List ℕ) (n : ℕ) → OpensHead opening before tail (heads.Page n) (body ++ more) → MayHead opening before (heads.Page n) → length body ≡ 4096
+    → ¬ (is_zero_page opening.version body ≡ false) → AreRefused ds ds errors.BadPage × ((place : ℕ) × IsFault opening before tail errors.BadPage place)
+zeros_refused ds opening before tail body more n o may long zeros = (
+  refused_kept ds errors.BadPage (λ e. cc),
+  (
+    4101,
+    inr (record {
+      number = n;
+      bytes = body;
+      more = more;
+      opens = opens_at 1 (digits 4 n ++ (body ++ more)) o.opens o.whole;
+      fits = o.fits;
+      within = may;
+      long = long;
+      zeros = is_true (is_zero_page opening.version body) (either_way (is_zero_page opening.version body)) zeros;
+      there = refl;
+    }),
+  ),
+)
+  where
+    is_true : (b : Bool) → (b ≡ true) ⊎ (b ≡ false) → ¬ (b ≡ false) → b ≡ true
+    is_true b (inl e) never = e
+    is_true b (inr e) never = absurd (never e)
+
+-- What was taken, or refused, of a sector or a device.
+
+pub entered_sector : (old ds : List DiskState) (opening : Opening) (before : List Record) (new : Intake) (front tail body : List ℕ) (head : RecordHead) (r : Result (Unit {0}) RecvError) → Taking old ds opening before new front (record_with head body) r
+    → Entered old ds opening before new front tail head body r
+entered_sector old ds opening before new front tail body head (Ok x) t = t
+entered_sector old ds opening before new front tail body head (Err e) t = disk_refused _ old ds e t
+
+pub entered_device : (ds : List DiskState) (opening : Opening) (before : List Record) (new : Intake) (front tail body more : List ℕ) (d len : ℕ) (r : Result (Unit {0}) RecvError) → OpensHead opening before tail (heads.Device d len) (body ++ more)
+    → MayHead opening before (heads.Device d len) → length body ≡ len → TakingDevice ds opening before new front d body r → Entered ds ds opening before new front tail (heads.Device d len) body r
+entered_device ds opening before new front tail body more d len (Ok x) o may many t = (kept ds, t)
+entered_device ds opening before new front tail body more d len (Err e) o may many t = device_refused ds opening before new front tail body more d len e o may many t
+
+-- Memory is refused to devices alone.
+
+pub never_memory : (head : RecordHead) (r : Result (Unit {0}) RecvError) → IfErr r (λ e. e ≢ errors.NoMemory) → IfErr r (λ e. e ≡ errors.NoMemory → IsDeviceHead head)
+never_memory head (Ok x) h = tt
+never_memory head (Err e) h = λ same. absurd (h same)
+
+pub device_memory : (d len : ℕ) (r : Result (Unit {0}) RecvError) → IfErr r (λ e. e ≡ errors.NoMemory → IsDeviceHead (heads.Device d len))
+device_memory d len (Ok x) = tt
+device_memory d len (Err e) = λ same. tt
 
 -- The body of a sector.
 

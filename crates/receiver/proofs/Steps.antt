@@ -1,13 +1,14 @@
 -- One record more.
-use Rattle.std.proofs.Common.{◌≡◌, ◌≢◌, ℕ, zero, suc, ◌+◌, ◌*◌, ◌^◌, ◌<◌, ◌≤◌, Bool, true, false, List, [], ◌∷◌, ◌++◌, length, take, drop, get_or, refl, sym, ap, subst, ◌∙◌, append_assoc, append-nil, arith}
+use Rattle.std.proofs.Common.{◌≡◌, ◌≢◌, ℕ, zero, suc, ◌+◌, ◌*◌, ◌^◌, ◌<◌, ◌≤◌, Bool, true, false, List, [], ◌∷◌, ◌++◌, length, take, drop, get_or, replicate, refl, sym, ap, subst, ◌∙◌, append_assoc, append-nil, arith}
 use Rattle.std.specs.Prelude.{set, All, IsTrue}
 use Rattle.std.proofs.lemmas.List.Elements.{All-get_or, All-from_get_or}
 use Rattle.std.specs.List.{AllByRecursion}
-use Rattle.std.proofs.lemmas.List.{length-append}
+use Rattle.std.proofs.lemmas.List.{length-append, length-replicate}
 use Rattle.wire.specs.DeviceBody.{body, IsBodyOf}
-use Rattle.wire.specs.Header.{header}
-use Rattle.wire.specs.Records.{Record, page, sector, round_end, device, commit, spelled_record, HasSpelling}
+use Rattle.wire.specs.Header.{header, Opening, layout_in}
+use Rattle.wire.specs.Records.{Record, page, sector, round_end, device, commit, spelled_record, HasSpelling, IsOf, is_zero_page, page_record, zero_page}
 use Rattle.wire.specs.Stream.{IsEntry, AreNumbered, rounds, texts, shapes_in, record_in}
+use Rattle.guestmem.specs.Zeros.{are_zeros}
 use Rattle.guestmem.specs.Item as items
 use Rattle.guestmem.specs.Item.{Item}
 use Rattle.blk.specs.Disk.{DiskState}
@@ -22,40 +23,42 @@ use Rattle.machine.proofs.Numbering.{item_there, number_back, number_below}
 use Rattle.machine.specs.Sound.{IsSoundDevice}
 use Rattle.machine.specs.State.{DeviceState}
 use Rattle.machine.specs.declared.shape.Shape.{Shape}
-use Rattle.receiver.proofs.Takings.{names_sector, put_page, taken_device, taken_item, taken_page, taken_round, rounds_page, rounds_round, rounds_sector, numbered_round}
-use Rattle.wire.proofs.Whole.{texts-snoc, each-snoc, numbered_page}
+use Rattle.receiver.proofs.Takings.{Names, names_page, names_sector, names_zeros, put_page, taken_device, taken_item, taken_page, taken_round, rounds_page, rounds_round, rounds_sector, rounds_zeros, numbered_round}
+use Rattle.wire.proofs.Whole.{texts-snoc, each-snoc, numbered_page, numbered_zeros}
+use Rattle.wire.proofs.PageRecords.{as_page, as_zeros}
 use Rattle.receiver.specs.Good.{AreGood, AreNamed, Follows, devices_in}
 use Rattle.receiver.specs.Faults.{MayTag}
 use Rattle.receiver.specs.Fed.{HasRead, device_records, held_sectors}
 use Rattle.receiver.specs.declared.intake.Intake.{Intake}
 
-pub good-snoc : (pages : ℕ) (shapes : List Shape) (acc rs : List Record) (r : Record) → AreGood pages shapes acc rs → Follows pages shapes (acc ++ rs) r → AreGood pages shapes acc (rs ++ r ∷ [])
+pub good-snoc : (opening : Opening) (acc rs : List Record) (r : Record) → AreGood opening acc rs → Follows opening (acc ++ rs) r → AreGood opening acc (rs ++ r ∷ [])
 unfolding AreGood
-good-snoc pages shapes acc [] r h f = (rw (append-nil acc) at f, tt)
-good-snoc pages shapes acc (s ∷ rs) r h f =
+good-snoc opening acc [] r h f = (rw (append-nil acc) at f, tt)
+good-snoc opening acc (s ∷ rs) r h f =
     let same : acc ++ (s ∷ rs) ≡ (acc ++ s ∷ []) ++ rs = sym (append_assoc acc (s ∷ []) rs) in
-    (h.0, good-snoc pages shapes (acc ++ s ∷ []) rs r h.1 (rw same at f))
+    (h.0, good-snoc opening (acc ++ s ∷ []) rs r h.1 (rw same at f))
 
 count_devices : (k : ℕ) (ds : List DeviceState) → devices_in (device_records k ds) ≡ length ds
 unfolding devices_in device_records
 count_devices k [] = refl
 count_devices k (d ∷ ds) = let ih = count_devices (k + 1) ds in omega (arith, ih)
 
-pub count_all : (l : Layout) (k : ℕ) (es : List Record) (ds : List DeviceState) → AllByRecursion (IsEntry l) es → devices_in (es ++ device_records k ds) ≡ length ds
+pub count_all : (v : ℕ) (l : Layout) (k : ℕ) (es : List Record) (ds : List DeviceState) → AllByRecursion (IsEntry v l) es → devices_in (es ++ device_records k ds) ≡ length ds
 unfolding devices_in
-count_all l k [] ds h = count_devices k ds
-count_all l k (page n b ∷ es) ds h = count_all l k es ds h.1
-count_all l k (sector d n o ∷ es) ds h = count_all l k es ds h.1
-count_all l k (round_end n ∷ es) ds h = count_all l k es ds h.1
-count_all l k (device d b ∷ es) ds h = absurd h.0.stands
-count_all l k (commit b ∷ es) ds h = count_all l k es ds h.1
+count_all v l k [] ds h = count_devices k ds
+count_all v l k (page n b ∷ es) ds h = count_all v l k es ds h.1
+count_all v l k (sector d n o ∷ es) ds h = count_all v l k es ds h.1
+count_all v l k (round_end n ∷ es) ds h = count_all v l k es ds h.1
+count_all v l k (device d b ∷ es) ds h = absurd h.0.stands
+count_all v l k (commit b ∷ es) ds h = count_all v l k es ds h.1
+count_all v l k (zero_page z ∷ es) ds h = count_all v l k es ds h.1
 
-pub devices_are : {ds : List DiskState} {front : List ℕ} {pages : ℕ} {shapes : List Shape} {before : List Record} {i : Intake} → HasRead ds pages shapes before i front → devices_in before ≡ length i.devices.items
-devices_are {pages = pages} {shapes = shapes} {before = before} {i = i} h = ap devices_in h.split ∙ count_all (layout_by pages shapes) 0 h.entries i.devices.items h.each
+pub devices_are : {ds : List DiskState} {front : List ℕ} {opening : Opening} {before : List Record} {i : Intake} → HasRead ds opening before i front → devices_in before ≡ length i.devices.items
+devices_are {opening = opening} {before = before} {i = i} h = ap devices_in h.split ∙ count_all opening.version (layout_in opening) 0 h.entries i.devices.items h.each
 
 -- Behind no device all records are entries.
-record AreEntries (l : Layout) (before : List Record) : Type 0 where
-  each : AllByRecursion (IsEntry l) before
+record AreEntries (v : ℕ) (l : Layout) (before : List Record) : Type 0 where
+  each : AllByRecursion (IsEntry v l) before
   numbered : AreNumbered 1 before
 
 no_devices : (entries before : List Record) (ds : List DeviceState) → before ≡ entries ++ device_records 0 ds → length ds ≡ 0 → before ≡ entries
@@ -63,7 +66,7 @@ unfolding device_records
 no_devices entries before [] e n = e ∙ append-nil entries
 no_devices entries before (d ∷ ds) e n = absurd (omega (arith, n))
 
-are_entries : {ds : List DiskState} {front : List ℕ} {pages : ℕ} {shapes : List Shape} {before : List Record} {i : Intake} → HasRead ds pages shapes before i front → devices_in before ≡ 0 → AreEntries (layout_by pages shapes) before
+are_entries : {ds : List DiskState} {front : List ℕ} {opening : Opening} {before : List Record} {i : Intake} → HasRead ds opening before i front → devices_in before ≡ 0 → AreEntries opening.version (layout_in opening) before
 are_entries {before = before} {i = i} h none =
     let same : before ≡ h.entries = no_devices h.entries before i.devices.items h.split (sym (devices_are h) ∙ none) in
     rw same (record { each = h.each; numbered = h.numbered })
@@ -78,28 +81,30 @@ no_records before (d ∷ ds) n = absurd (omega (arith, n))
 
 -- What an intake has, and the disks.
 record IsSame (i j : Intake) : Type 0 where
+  version : j.version ≡ i.version
   shapes : j.shapes.items ≡ i.shapes.items
   firsts : j.firsts.items ≡ i.firsts.items
   devices : j.devices.items ≡ i.devices.items
 
-more_entry : (ds ds2 : List DiskState) (front : List ℕ) (pages : ℕ) (shapes : List Shape) (before : List Record) (i j : Intake) (r : Record) → HasRead ds pages shapes before i front → devices_in before ≡ 0 → Follows pages shapes before r → IsEntry (layout_by pages shapes) r
+more_entry : (ds ds2 : List DiskState) (front : List ℕ) (opening : Opening) (before : List Record) (i j : Intake) (r : Record) → HasRead ds opening before i front → devices_in before ≡ 0 → Follows opening before r → IsEntry opening.version (layout_in opening) r
     → (AreNumbered 1 before → AreNumbered 1 (before ++ r ∷ [])) → j.rounds ≡ rounds (before ++ r ∷ [])
-    → AreTaken (AreHonestDisks (all_marks_in ds2)) j.ram.bytes (held_sectors shapes ds2 j.bad.items) j.named (layout_by pages shapes) (before ++ r ∷ []) → sizes_in ds2 ≡ sizes_in ds → AreMarksOf ds2 j.bad.items → IsSame i j
-    → HasRead ds2 pages shapes (before ++ r ∷ []) j (front ++ spelled_record r)
-more_entry ds ds2 front pages shapes before i j r h none follows entry numbers ends taken sizes marks same =
+    → AreTaken opening.version (AreHonestDisks (all_marks_in ds2)) j.ram.bytes (held_sectors opening.shapes ds2 j.bad.items) j.named (layout_in opening) (before ++ r ∷ []) → sizes_in ds2 ≡ sizes_in ds → AreMarksOf ds2 j.bad.items → IsSame i j
+    → HasRead ds2 opening (before ++ r ∷ []) j (front ++ spelled_record r)
+more_entry ds ds2 front opening before i j r h none follows entry numbers ends taken sizes marks same =
     let are = are_entries h none in
     let count : length j.devices.items ≡ 0 = ap length same.devices ∙ sym (devices_are h) ∙ none in
     record {
       head = h.head;
       fits = sizes ∙ h.fits;
-      good = good-snoc pages shapes [] before r h.good follows;
-      whole = texts_more front (header pages shapes) before r h.whole;
+      good = good-snoc opening [] before r h.good follows;
+      whole = texts_more front (header opening) before r h.whole;
+      version_is = same.version ∙ h.version_is;
       shapes_are = same.shapes ∙ h.shapes_are;
       firsts_are = same.firsts ∙ h.firsts_are;
       marks_are = marks;
       entries = before ++ r ∷ [];
       split = no_records (before ++ r ∷ []) j.devices.items count;
-      each = each-snoc (layout_by pages shapes) before r are.each entry;
+      each = each-snoc opening.version (layout_in opening) before r are.each entry;
       numbered = numbers are.numbered;
       rounds_are = ends;
       taken = taken;
@@ -107,25 +112,50 @@ more_entry ds ds2 front pages shapes before i j r h none follows entry numbers e
       sound = rw same.devices h.sound;
     }
 
-pub more_page : (ds : List DiskState) (front : List ℕ) (pages : ℕ) (shapes : List Shape) (before : List Record) (i j : Intake) (n : ℕ) (b : List ℕ) → HasRead ds pages shapes before i front → devices_in before ≡ 0 → HasSpelling (page n b)
-    → 4096 * n + 4096 ≤ length i.ram.bytes → j.ram.bytes ≡ put_page i.ram.bytes n b → j.named ≡ set i.named n true → j.rounds ≡ i.rounds → j.shapes.items ≡ i.shapes.items → j.devices.items ≡ i.devices.items → j.firsts.items ≡ i.firsts.items → j.bad.items ≡ i.bad.items
-    → HasRead ds pages shapes (before ++ page n b ∷ []) j (front ++ spelled_record (page n b))
-more_page ds front pages shapes before i j n b h none spells le ram named ends same_shapes same_devices same_firsts same_bad =
-    let low : n < pages = omega (arith, le, h.taken.ram_size) in
+more_page_as : (ds : List DiskState) (front : List ℕ) (opening : Opening) (before : List Record) (i j : Intake) (n : ℕ) (b : List ℕ) (r : Record) → HasRead ds opening before i front → devices_in before ≡ 0
+    → (n < opening.pages → Follows opening before r) → (n < opening.pages → IsEntry opening.version (layout_in opening) r) → (AreNumbered 1 before → AreNumbered 1 (before ++ r ∷ [])) → rounds (before ++ r ∷ []) ≡ rounds before
+    → Names r (items.page n) → page_record opening.version n b ≡ r → length b ≡ 4096
+    → 4096 * n + 4096 ≤ length i.ram.bytes → j.ram.bytes ≡ put_page i.ram.bytes n b → j.named ≡ set i.named n true → j.rounds ≡ i.rounds → j.version ≡ i.version → j.shapes.items ≡ i.shapes.items → j.devices.items ≡ i.devices.items → j.firsts.items ≡ i.firsts.items → j.bad.items ≡ i.bad.items
+    → HasRead ds opening (before ++ r ∷ []) j (front ++ spelled_record r)
+more_page_as ds front opening before i j n b r h none follows entry numbers counts names is long le ram named ends same_version same_shapes same_devices same_firsts same_bad =
+    let low : n < opening.pages = omega (arith, le, h.taken.ram_size) in
     let T = AreHonestDisks (all_marks_in ds) in
-    more_entry ds ds front pages shapes before i j (page n b) h none (record { spells = spells; may = (low, none) }) (record { spells = spells; stands = low })
-    (numbered_page 1 before n b) (ends ∙ h.rounds_are ∙ sym (rounds_page before n b))
-    (rw (ram, named, same_bad) (taken_page T i.ram.bytes b (held_sectors shapes ds i.bad.items) i.named (layout_by pages shapes) n before h.taken low le spells.1)) refl (rw same_bad h.marks_are) (record { shapes = same_shapes; firsts = same_firsts; devices = same_devices })
+    more_entry ds ds front opening before i j r h none (follows low) (entry low)
+    numbers (ends ∙ h.rounds_are ∙ sym counts)
+    (rw (ram, named, same_bad) (taken_page opening.version T i.ram.bytes b (held_sectors opening.shapes ds i.bad.items) i.named (layout_in opening) n before r h.taken low le long names is)) refl (rw same_bad h.marks_are)
+    (record { version = same_version; shapes = same_shapes; firsts = same_firsts; devices = same_devices })
 
-pub more_round : (ds : List DiskState) (front : List ℕ) (pages : ℕ) (shapes : List Shape) (before : List Record) (i j : Intake) (n : ℕ) → HasRead ds pages shapes before i front → devices_in before ≡ 0 → n < 2 ^ 32 → n ≡ i.rounds + 1
-    → j.ram.bytes ≡ i.ram.bytes → j.named ≡ i.named → j.rounds ≡ n → j.shapes.items ≡ i.shapes.items → j.devices.items ≡ i.devices.items → j.firsts.items ≡ i.firsts.items → j.bad.items ≡ i.bad.items
-    → HasRead ds pages shapes (before ++ round_end n ∷ []) j (front ++ spelled_record (round_end n))
-more_round ds front pages shapes before i j n h none fits next ram named ends same_shapes same_devices same_firsts same_bad =
+pub more_page : (ds : List DiskState) (front : List ℕ) (opening : Opening) (before : List Record) (i j : Intake) (n : ℕ) (b : List ℕ) → HasRead ds opening before i front → devices_in before ≡ 0 → HasSpelling (page n b) → IsOf opening.version (page n b)
+    → 4096 * n + 4096 ≤ length i.ram.bytes → j.ram.bytes ≡ put_page i.ram.bytes n b → j.named ≡ set i.named n true → j.rounds ≡ i.rounds → j.version ≡ i.version → j.shapes.items ≡ i.shapes.items → j.devices.items ≡ i.devices.items → j.firsts.items ≡ i.firsts.items → j.bad.items ≡ i.bad.items
+    → HasRead ds opening (before ++ page n b ∷ []) j (front ++ spelled_record (page n b))
+more_page ds front opening before i j n b h none spells has =
+    more_page_as ds front opening before i j n b (page n b) h none (λ low. record { spells = spells; has = has; may = (low, none) }) (λ low. record { spells = spells; has = has; stands = low })
+    (numbered_page 1 before n b) (rounds_page before n b) (names_page n b) (as_page opening.version n b has) spells.1
+
+-- A page of zeros.
+zeros_long : (n : ℕ) → are_zeros (replicate n 0) ≡ true
+unfolding are_zeros
+zeros_long zero = refl
+zeros_long (suc n) = zeros_long n
+
+pub more_zeros : (ds : List DiskState) (front : List ℕ) (opening : Opening) (before : List Record) (i j : Intake) (n : ℕ) → HasRead ds opening before i front → devices_in before ≡ 0 → n < 2 ^ 32 → opening.version ≡ 2
+    → 4096 * n + 4096 ≤ length i.ram.bytes → j.ram.bytes ≡ put_page i.ram.bytes n (replicate 4096 0) → j.named ≡ set i.named n true → j.rounds ≡ i.rounds → j.version ≡ i.version → j.shapes.items ≡ i.shapes.items → j.devices.items ≡ i.devices.items → j.firsts.items ≡ i.firsts.items → j.bad.items ≡ i.bad.items
+    → HasRead ds opening (before ++ zero_page n ∷ []) j (front ++ spelled_record (zero_page n))
+more_zeros ds front opening before i j n h none few second =
+    let b : List ℕ = replicate 4096 0 in
+    let zeros : is_zero_page opening.version b ≡ true = rw second (zeros_long 4096) in
+    more_page_as ds front opening before i j n b (zero_page n) h none (λ low. record { spells = few; has = second; may = (low, none) }) (λ low. record { spells = few; has = second; stands = low })
+    (numbered_zeros 1 before n) (rounds_zeros before n) (names_zeros n) (as_zeros opening.version n b zeros) (length-replicate {A = ℕ} 4096 0)
+
+pub more_round : (ds : List DiskState) (front : List ℕ) (opening : Opening) (before : List Record) (i j : Intake) (n : ℕ) → HasRead ds opening before i front → devices_in before ≡ 0 → n < 2 ^ 32 → n ≡ i.rounds + 1
+    → j.ram.bytes ≡ i.ram.bytes → j.named ≡ i.named → j.rounds ≡ n → j.version ≡ i.version → j.shapes.items ≡ i.shapes.items → j.devices.items ≡ i.devices.items → j.firsts.items ≡ i.firsts.items → j.bad.items ≡ i.bad.items
+    → HasRead ds opening (before ++ round_end n ∷ []) j (front ++ spelled_record (round_end n))
+more_round ds front opening before i j n h none fits next ram named ends same_version same_shapes same_devices same_firsts same_bad =
     let is : n ≡ rounds before + 1 = next ∙ ap (λ (x : ℕ). x + 1) h.rounds_are in
     let T = AreHonestDisks (all_marks_in ds) in
-    more_entry ds ds front pages shapes before i j (round_end n) h none (record { spells = fits; may = (is, none) }) (record { spells = fits; stands = tt })
+    more_entry ds ds front opening before i j (round_end n) h none (record { spells = fits; has = tt; may = (is, none) }) (record { spells = fits; has = tt; stands = tt })
     (λ k. numbered_round 1 before n k (omega (arith, is))) (ends ∙ is ∙ sym (rounds_round before n))
-    (rw (ram, named, same_bad) (taken_round T i.ram.bytes (held_sectors shapes ds i.bad.items) i.named (layout_by pages shapes) n before h.taken)) refl (rw same_bad h.marks_are) (record { shapes = same_shapes; firsts = same_firsts; devices = same_devices })
+    (rw (ram, named, same_bad) (taken_round opening.version T i.ram.bytes (held_sectors opening.shapes ds i.bad.items) i.named (layout_in opening) n before h.taken)) refl (rw same_bad h.marks_are) (record { version = same_version; shapes = same_shapes; firsts = same_firsts; devices = same_devices })
 
 -- A sector, whose disk keeps what it is, and holds it from now on where the disks are trusted.
 numbered_sector : (k : ℕ) (es : List Record) (dev n : ℕ) (o : Sector) → AreNumbered k es → AreNumbered k (es ++ sector dev n o ∷ [])
@@ -135,32 +165,33 @@ numbered_sector k (sector d m c ∷ es) dev n o h = numbered_sector k es dev n o
 numbered_sector k (round_end m ∷ es) dev n o h = (h.0, numbered_sector (k + 1) es dev n o h.1)
 numbered_sector k (device d c ∷ es) dev n o h = numbered_sector k es dev n o h
 numbered_sector k (commit c ∷ es) dev n o h = numbered_sector k es dev n o h
+numbered_sector k (zero_page z ∷ es) dev n o h = numbered_sector k es dev n o h
 
-pub more_sector : (ds : List DiskState) (d : DiskState) (front : List ℕ) (pages : ℕ) (shapes : List Shape) (before : List Record) (i j : Intake) (dev n : ℕ) (o : Sector) (m : List Bool) → HasRead ds pages shapes before i front → devices_in before ≡ 0
-    → HasSpelling (sector dev n o) → IsItemIn (layout_by pages shapes) (items.sector dev n)
-    → marks_in d ≡ marks_in (get_or ds (disks_before shapes dev) d) → length d.sectors ≡ length (get_or ds (disks_before shapes dev) d).sectors → length m ≡ length (get_or i.bad.items (disks_before shapes dev) [])
-    → (IsTrue (get_or ds (disks_before shapes dev) d).honest → sectors_of d.sectors m ≡ set (sectors_of (get_or ds (disks_before shapes dev) d).sectors (get_or i.bad.items (disks_before shapes dev) [])) n o)
-    → j.bad.items ≡ set i.bad.items (disks_before shapes dev) m → j.named ≡ set i.named (number_of (layout_by pages shapes) (items.sector dev n)) true
-    → j.ram.bytes ≡ i.ram.bytes → j.rounds ≡ i.rounds → j.shapes.items ≡ i.shapes.items → j.devices.items ≡ i.devices.items → j.firsts.items ≡ i.firsts.items
-    → HasRead (set ds (disks_before shapes dev) d) pages shapes (before ++ sector dev n o ∷ []) j (front ++ spelled_record (sector dev n o))
-more_sector ds d front pages shapes before i j dev n o m h none spells there marks long size content bad named ram ends same_shapes same_devices same_firsts =
-    let k = disks_before shapes dev in
-    let l = layout_by pages shapes in
+pub more_sector : (ds : List DiskState) (d : DiskState) (front : List ℕ) (opening : Opening) (before : List Record) (i j : Intake) (dev n : ℕ) (o : Sector) (m : List Bool) → HasRead ds opening before i front → devices_in before ≡ 0
+    → HasSpelling (sector dev n o) → IsItemIn (layout_in opening) (items.sector dev n)
+    → marks_in d ≡ marks_in (get_or ds (disks_before opening.shapes dev) d) → length d.sectors ≡ length (get_or ds (disks_before opening.shapes dev) d).sectors → length m ≡ length (get_or i.bad.items (disks_before opening.shapes dev) [])
+    → (IsTrue (get_or ds (disks_before opening.shapes dev) d).honest → sectors_of d.sectors m ≡ set (sectors_of (get_or ds (disks_before opening.shapes dev) d).sectors (get_or i.bad.items (disks_before opening.shapes dev) [])) n o)
+    → j.bad.items ≡ set i.bad.items (disks_before opening.shapes dev) m → j.named ≡ set i.named (number_of (layout_in opening) (items.sector dev n)) true
+    → j.ram.bytes ≡ i.ram.bytes → j.rounds ≡ i.rounds → j.version ≡ i.version → j.shapes.items ≡ i.shapes.items → j.devices.items ≡ i.devices.items → j.firsts.items ≡ i.firsts.items
+    → HasRead (set ds (disks_before opening.shapes dev) d) opening (before ++ sector dev n o ∷ []) j (front ++ spelled_record (sector dev n o))
+more_sector ds d front opening before i j dev n o m h none spells there marks long size content bad named ram ends same_version same_shapes same_devices same_firsts =
+    let k = disks_before opening.shapes dev in
+    let l = layout_in opening in
     let ds2 = set ds k d in
     let T = AreHonestDisks (all_marks_in ds) in
     let U = AreHonestDisks (all_marks_in ds2) in
     let trust : U → T = λ u. subst AreHonestDisks (marks_kept ds k d marks) u in
-    let low = disk_below shapes ds dev n h.head.sound h.fits there in
+    let low = disk_below opening.shapes ds dev n h.head.sound h.fits there in
     let honest : T → IsTrue (get_or ds k d).honest = λ t. honest_at ds k d low t in
-    let change : U → IsChanged shapes ds i.bad.items dev n d m o = λ u. changed shapes ds i.bad.items dev n d m o h.head.sound h.fits h.marks_are there (content (honest (trust u))) in
-    let held = held_sectors shapes ds i.bad.items in
-    let held2 = held_sectors shapes ds2 (set i.bad.items k m) in
-    let is : U → record_in i.ram.bytes held2 (items.sector dev n) ≡ sector dev n o = λ u. ap (λ x. record_in i.ram.bytes x (items.sector dev n)) (change u).now ∙ record_here i.ram.bytes held dev n o (change u).within in
-    let others : U → (x : Item) → IsItemIn l x → x ≢ items.sector dev n → record_in i.ram.bytes held2 x ≡ record_in i.ram.bytes held x = λ u x has other. ap (λ y. record_in i.ram.bytes y x) (change u).now ∙ record_there i.ram.bytes held dev n o x other in
-    more_entry ds ds2 front pages shapes before i j (sector dev n o) h none (record { spells = spells; may = (there, none) }) (record { spells = spells; stands = there })
+    let change : U → IsChanged opening.shapes ds i.bad.items dev n d m o = λ u. changed opening.shapes ds i.bad.items dev n d m o h.head.sound h.fits h.marks_are there (content (honest (trust u))) in
+    let held = held_sectors opening.shapes ds i.bad.items in
+    let held2 = held_sectors opening.shapes ds2 (set i.bad.items k m) in
+    let is : U → record_in opening.version i.ram.bytes held2 (items.sector dev n) ≡ sector dev n o = λ u. ap (λ x. record_in opening.version i.ram.bytes x (items.sector dev n)) (change u).now ∙ record_here opening.version i.ram.bytes held dev n o (change u).within in
+    let others : U → (x : Item) → IsItemIn l x → x ≢ items.sector dev n → record_in opening.version i.ram.bytes held2 x ≡ record_in opening.version i.ram.bytes held x = λ u x has other. ap (λ y. record_in opening.version i.ram.bytes y x) (change u).now ∙ record_there opening.version i.ram.bytes held dev n o x other in
+    more_entry ds ds2 front opening before i j (sector dev n o) h none (record { spells = spells; has = tt; may = (there, none) }) (record { spells = spells; has = tt; stands = there })
     (numbered_sector 1 before dev n o) (ends ∙ h.rounds_are ∙ sym (rounds_sector before dev n o))
-    (rw (ram, named, bad) (taken_item T U i.ram.bytes i.ram.bytes held held2 i.named l before (sector dev n o) (items.sector dev n) h.taken trust (names_sector dev n o) there refl is others))
-    (sizes_kept ds k d long) (rw bad (marks_set ds i.bad.items k d m h.marks_are (size ∙ marks_length ds i.bad.items k d h.marks_are low ∙ sym long))) (record { shapes = same_shapes; firsts = same_firsts; devices = same_devices })
+    (rw (ram, named, bad) (taken_item opening.version T U i.ram.bytes i.ram.bytes held held2 i.named l before (sector dev n o) (items.sector dev n) h.taken trust (names_sector dev n o) there refl is others))
+    (sizes_kept ds k d long) (rw bad (marks_set ds i.bad.items k d m h.marks_are (size ∙ marks_length ds i.bad.items k d h.marks_are low ∙ sym long))) (record { version = same_version; shapes = same_shapes; firsts = same_firsts; devices = same_devices })
 
 -- A device.
 
@@ -179,6 +210,7 @@ rounds_device (sector d m c ∷ es) n b = rounds_device es n b
 rounds_device (round_end m ∷ es) n b = ap (λ (k : ℕ). k + 1) (rounds_device es n b)
 rounds_device (device d c ∷ es) n b = rounds_device es n b
 rounds_device (commit c ∷ es) n b = rounds_device es n b
+rounds_device (zero_page z ∷ es) n b = rounds_device es n b
 
 sound-snoc : (ram_len : ℕ) (ds : List DeviceState) (d : DeviceState) → AllByRecursion (IsSoundDevice ram_len) ds → IsSoundDevice ram_len d → AllByRecursion (IsSoundDevice ram_len) (ds ++ d ∷ [])
 sound-snoc ram_len [] d h k = (k, tt)
@@ -197,11 +229,11 @@ next_shape (s ∷ shapes) (suc n) shape others e =
     let m : suc n + 1 ≡ suc (n + 1) = omega arith in
     rw m (ap (λ (x : List Shape). s ∷ x) (next_shape shapes n shape others e))
 
-pub more_device : (ds : List DiskState) (front : List ℕ) (pages : ℕ) (shapes others : List Shape) (shape : Shape) (before : List Record) (i j : Intake) (n : ℕ) (raw : List ℕ) (d : DeviceState) → HasRead ds pages shapes before i front
-    → AreNamed (layout_by pages shapes) before → HasSpelling (device n raw) → n ≡ devices_in before → drop n shapes ≡ shape ∷ others → IsBodyOf shape (4096 * pages) raw d
-    → j.ram.bytes ≡ i.ram.bytes → j.named ≡ i.named → j.rounds ≡ i.rounds → j.shapes.items ≡ i.shapes.items → j.firsts.items ≡ i.firsts.items → j.bad.items ≡ i.bad.items → j.devices.items ≡ i.devices.items ++ d ∷ []
-    → HasRead ds pages shapes (before ++ device n raw ∷ []) j (front ++ spelled_record (device n raw))
-more_device ds front pages shapes others shape before i j n raw d h named spells next here is ram marks ends same_shapes same_firsts same_bad more =
+pub more_device : (ds : List DiskState) (front : List ℕ) (opening : Opening) (others : List Shape) (shape : Shape) (before : List Record) (i j : Intake) (n : ℕ) (raw : List ℕ) (d : DeviceState) → HasRead ds opening before i front
+    → AreNamed (layout_in opening) before → HasSpelling (device n raw) → n ≡ devices_in before → drop n opening.shapes ≡ shape ∷ others → IsBodyOf shape (4096 * opening.pages) raw d
+    → j.ram.bytes ≡ i.ram.bytes → j.named ≡ i.named → j.rounds ≡ i.rounds → j.version ≡ i.version → j.shapes.items ≡ i.shapes.items → j.firsts.items ≡ i.firsts.items → j.bad.items ≡ i.bad.items → j.devices.items ≡ i.devices.items ++ d ∷ []
+    → HasRead ds opening (before ++ device n raw ∷ []) j (front ++ spelled_record (device n raw))
+more_device ds front opening others shape before i j n raw d h named spells next here is ram marks ends same_version same_shapes same_firsts same_bad more =
     let count : n ≡ length i.devices.items = next ∙ devices_are h in
     let r = device n raw in
     let last : device (0 + length i.devices.items) (body d) ≡ r = rw (is.is) (ap (λ (k : ℕ). device k (body d)) (omega (arith, count))) in
@@ -209,13 +241,14 @@ more_device ds front pages shapes others shape before i j n raw d h named spells
     ap (λ (x : List Record). x ++ r ∷ []) h.split ∙ append_assoc h.entries (device_records 0 i.devices.items) (r ∷ [])
     ∙ ap (λ (x : Record). h.entries ++ (device_records 0 i.devices.items ++ x ∷ [])) (sym last) ∙ ap (λ (x : List Record). h.entries ++ x) (sym (records-snoc 0 i.devices.items d)) in
     let size : length (i.devices.items ++ d ∷ []) ≡ n + 1 = omega (arith, length-append i.devices.items (d ∷ []), count) in
-    let shown : shapes_in (i.devices.items ++ d ∷ []) ≡ take (n + 1) shapes =
-    shapes-snoc i.devices.items d ∙ ap (λ (x : List Shape). x ++ d.shape ∷ []) (h.devices_are ∙ ap (λ (k : ℕ). take k shapes) (sym count)) ∙ ap (λ (x : Shape). take n shapes ++ x ∷ []) is.shape_is ∙ sym (next_shape shapes n shape others here) in
+    let shown : shapes_in (i.devices.items ++ d ∷ []) ≡ take (n + 1) opening.shapes =
+    shapes-snoc i.devices.items d ∙ ap (λ (x : List Shape). x ++ d.shape ∷ []) (h.devices_are ∙ ap (λ (k : ℕ). take k opening.shapes) (sym count)) ∙ ap (λ (x : Shape). take n opening.shapes ++ x ∷ []) is.shape_is ∙ sym (next_shape opening.shapes n shape others here) in
     record {
       head = h.head;
       fits = h.fits;
-      good = good-snoc pages shapes [] before r h.good (record { spells = spells; may = record { named = named; next = next; shape = shape; others = others; here = here; state = d; is = is } });
-      whole = texts_more front (header pages shapes) before r h.whole;
+      good = good-snoc opening [] before r h.good (record { spells = spells; has = tt; may = record { named = named; next = next; shape = shape; others = others; here = here; state = d; is = is } });
+      whole = texts_more front (header opening) before r h.whole;
+      version_is = same_version ∙ h.version_is;
       shapes_are = same_shapes ∙ h.shapes_are;
       firsts_are = same_firsts ∙ h.firsts_are;
       marks_are = rw same_bad h.marks_are;
@@ -224,36 +257,36 @@ more_device ds front pages shapes others shape before i j n raw d h named spells
       each = h.each;
       numbered = h.numbered;
       rounds_are = ends ∙ h.rounds_are ∙ sym (rounds_device before n raw);
-      taken = rw (ram, marks, same_bad) (taken_device (AreHonestDisks (all_marks_in ds)) i.ram.bytes (held_sectors shapes ds i.bad.items) i.named (layout_by pages shapes) n raw before h.taken);
-      devices_are = rw more (shown ∙ ap (λ (k : ℕ). take k shapes) (sym size));
-      sound = rw more (sound-snoc (4096 * pages) i.devices.items d h.sound is.sound);
+      taken = rw (ram, marks, same_bad) (taken_device opening.version (AreHonestDisks (all_marks_in ds)) i.ram.bytes (held_sectors opening.shapes ds i.bad.items) i.named (layout_in opening) n raw before h.taken);
+      devices_are = rw more (shown ∙ ap (λ (k : ℕ). take k opening.shapes) (sym size));
+      sound = rw more (sound-snoc (4096 * opening.pages) i.devices.items d h.sound is.sound);
     }
 
 -- What may stand next, by the intake.
 
-pub tag_here : {ds : List DiskState} {front : List ℕ} {pages : ℕ} {shapes : List Shape} {before : List Record} {i : Intake} (a b tag : ℕ) → HasRead ds pages shapes before i front → a ≡ length i.shapes.items → b ≡ length i.devices.items → MayTag a b tag
-    → MayTag (length shapes) (devices_in before) tag
+pub tag_here : {ds : List DiskState} {front : List ℕ} {opening : Opening} {before : List Record} {i : Intake} (a b tag : ℕ) → HasRead ds opening before i front → a ≡ length i.shapes.items → b ≡ length i.devices.items → MayTag i.version a b tag
+    → MayTag opening.version (length opening.shapes) (devices_in before) tag
 tag_here a b tag h e f m =
     let count = ap length h.shapes_are in
     let devices = devices_are h in
-    record { least = m.least; most = m.most; early = λ low. omega (arith, f, devices, m.early low); missing = λ four. omega (arith, e, f, count, devices, m.missing four) }
+    record { least = m.least; most = m.most; early = λ low. omega (arith, f, devices, m.early low); missing = λ four. omega (arith, e, f, count, devices, m.missing four); since = λ six. sym h.version_is ∙ m.since six }
 
-pub tag_there : {ds : List DiskState} {front : List ℕ} {pages : ℕ} {shapes : List Shape} {before : List Record} {i : Intake} (a b tag : ℕ) → HasRead ds pages shapes before i front → a ≡ length i.shapes.items → b ≡ length i.devices.items
-    → MayTag (length shapes) (devices_in before) tag → MayTag a b tag
+pub tag_there : {ds : List DiskState} {front : List ℕ} {opening : Opening} {before : List Record} {i : Intake} (a b tag : ℕ) → HasRead ds opening before i front → a ≡ length i.shapes.items → b ≡ length i.devices.items
+    → MayTag opening.version (length opening.shapes) (devices_in before) tag → MayTag i.version a b tag
 tag_there a b tag h e f m =
     let count = ap length h.shapes_are in
     let devices = devices_are h in
-    record { least = m.least; most = m.most; early = λ low. omega (arith, f, devices, m.early low); missing = λ four. omega (arith, e, f, count, devices, m.missing four) }
+    record { least = m.least; most = m.most; early = λ low. omega (arith, f, devices, m.early low); missing = λ four. omega (arith, e, f, count, devices, m.missing four); since = λ six. h.version_is ∙ m.since six }
 
-pub named_all : {ds : List DiskState} {front : List ℕ} {pages : ℕ} {shapes : List Shape} {before : List Record} {i : Intake} → HasRead ds pages shapes before i front → All (λ (b : Bool). b ≡ true) i.named → AreNamed (layout_by pages shapes) before
-named_all {pages = pages} {shapes = shapes} {i = i} h all item has =
-    let l = layout_by pages shapes in
+pub named_all : {ds : List DiskState} {front : List ℕ} {opening : Opening} {before : List Record} {i : Intake} → HasRead ds opening before i front → All (λ (b : Bool). b ≡ true) i.named → AreNamed (layout_in opening) before
+named_all {opening = opening} {i = i} h all item has =
+    let l = layout_in opening in
     let low = number_below l item has in
     h.taken.marks item has ∙ All-get_or (λ (x : Bool). x ≡ true) i.named (number_of l item) false (omega (arith, low, h.taken.named_size)) all
 
-pub all_named : {ds : List DiskState} {front : List ℕ} {pages : ℕ} {shapes : List Shape} {before : List Record} {i : Intake} → HasRead ds pages shapes before i front → AreNamed (layout_by pages shapes) before → All (λ (b : Bool). b ≡ true) i.named
-all_named {pages = pages} {shapes = shapes} {i = i} h named =
-    let l = layout_by pages shapes in
+pub all_named : {ds : List DiskState} {front : List ℕ} {opening : Opening} {before : List Record} {i : Intake} → HasRead ds opening before i front → AreNamed (layout_in opening) before → All (λ (b : Bool). b ≡ true) i.named
+all_named {opening = opening} {i = i} h named =
+    let l = layout_in opening in
     All-from_get_or (λ (b : Bool). b ≡ true) i.named false
     (λ n lt.
     let low : n < size_of l = omega (arith, lt, h.taken.named_size) in

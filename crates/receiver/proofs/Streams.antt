@@ -7,8 +7,8 @@ use Rattle.sha2.specs.Sha256.{sha256}
 use Rattle.sha2.proofs.Facts256.{length-sha256}
 use Rattle.blk.specs.Disk.{DiskState}
 use Rattle.guestmem.specs.Number.{IsBytes}
-use Rattle.wire.specs.Records.{Record, commit, spelled_record, HasSpelling, BeginsNoRecord}
-use Rattle.wire.specs.Stream.{IsStream, IsEntry, texts, shapes_in, device_texts, before_commit}
+use Rattle.wire.specs.Records.{Record, commit, spelled_record, HasSpelling, IsOf, BeginsNoRecord}
+use Rattle.wire.specs.Stream.{IsStream, IsEntry, texts, shapes_in, device_texts, before_commit, opening_in}
 use Rattle.machine.specs.Layout.{Layout, layout_of, pages_of}
 use Rattle.machine.specs.Sound.{IsSoundDevice}
 use Rattle.machine.specs.State.{DeviceState, MachineState}
@@ -24,66 +24,78 @@ use Rattle.receiver.specs.declared.intake.Intake.{Intake}
 use Rattle.receiver.proofs.Aligned.{records_led, LongerRecords, good_spell, next_good}
 use Rattle.receiver.proofs.Knowing.{texts-append, texts_devices, no_other}
 use Rattle.receiver.proofs.Working.{front_of, commit_text}
+use Rattle.wire.specs.Header.{Opening}
 
-entries_spell : (l : Layout) (es : List Record) → AllByRecursion (IsEntry l) es → AllByRecursion HasSpelling es
-entries_spell l [] h = tt
-entries_spell l (r ∷ es) h = (h.0.spells, entries_spell l es h.1)
+-- A record that has an encoding in this version.
+abbrev IsText : ℕ → Record → Type 0
+IsText v r = HasSpelling r × IsOf v r
 
-devices_spell : (ram_len k : ℕ) (ds : List DeviceState) → k + length ds ≤ 256 → AllByRecursion (IsSoundDevice ram_len) ds → AllByRecursion HasSpelling (device_records k ds)
+entries_spell : (v : ℕ) (l : Layout) (es : List Record) → AllByRecursion (IsEntry v l) es → AllByRecursion (IsText v) es
+entries_spell v l [] h = tt
+entries_spell v l (r ∷ es) h = ((h.0.spells, h.0.has), entries_spell v l es h.1)
+
+devices_spell : (v ram_len k : ℕ) (ds : List DeviceState) → k + length ds ≤ 256 → AllByRecursion (IsSoundDevice ram_len) ds → AllByRecursion (IsText v) (device_records k ds)
 unfolding device_records
-devices_spell ram_len k [] low h = tt
-devices_spell ram_len k (d ∷ ds) low h = (body_spells ram_len k d (omega (arith, low)) h.0, devices_spell ram_len (k + 1) ds (omega (arith, low)) h.1)
+devices_spell v ram_len k [] low h = tt
+devices_spell v ram_len k (d ∷ ds) low h = ((body_spells ram_len k d (omega (arith, low)) h.0, tt), devices_spell v ram_len (k + 1) ds (omega (arith, low)) h.1)
 
-both_spell : (rs ss : List Record) → AllByRecursion HasSpelling rs → AllByRecursion HasSpelling ss → AllByRecursion HasSpelling (rs ++ ss)
-both_spell [] ss h k = k
-both_spell (r ∷ rs) ss h k = (h.0, both_spell rs ss h.1 k)
+both_spell : (v : ℕ) (rs ss : List Record) → AllByRecursion (IsText v) rs → AllByRecursion (IsText v) ss → AllByRecursion (IsText v) (rs ++ ss)
+both_spell v [] ss h k = k
+both_spell v (r ∷ rs) ss h k = (h.0, both_spell v rs ss h.1 k)
+
+spells_alone : (v : ℕ) (rs : List Record) → AllByRecursion (IsText v) rs → AllByRecursion HasSpelling rs
+spells_alone v [] h = tt
+spells_alone v (r ∷ rs) h = (h.0.0, spells_alone v rs h.1)
 
 digest_bytes : (front digest bytes : List ℕ) → IsBytes bytes → bytes ≡ front ++ (5 ∷ digest) → IsBytes digest
 digest_bytes front digest bytes are e i =
     let tail : IsBytes (5 ∷ digest) = rw (drop_at front (5 ∷ digest) (length front) refl) at (IsBytes-drop (length front) (front ++ (5 ∷ digest)) (subst IsBytes e are)) in
     tail (suc i)
 
-not_led_on : (before more : List Record) (tail end : List ℕ) → BeginsNoRecord tail → AllByRecursion HasSpelling more → ((x : List ℕ) → ¬ (tail ≡ end ++ x)) → tail ≡ texts more ++ end → ⊥
+not_led_on : (v : ℕ) (more : List Record) (tail end : List ℕ) → BeginsNoRecord v tail → AllByRecursion (IsText v) more → ((x : List ℕ) → ¬ (tail ≡ end ++ x)) → tail ≡ texts more ++ end → ⊥
 unfolding texts
-not_led_on before [] tail end none spell other e = other [] (e ∙ sym (append-nil end))
-not_led_on before (r ∷ more) tail end none spell other e = none r (texts more ++ end) spell.0 (e ∙ append_assoc (spelled_record r) (texts more) end)
+not_led_on v [] tail end none spell other e = other [] (e ∙ sym (append-nil end))
+not_led_on v (r ∷ more) tail end none spell other e = none r (texts more ++ end) spell.0.0 spell.0.1 (e ∙ append_assoc (spelled_record r) (texts more) end)
 
-spell_behind : (rs more : List Record) → AllByRecursion HasSpelling (rs ++ more) → AllByRecursion HasSpelling more
-spell_behind [] more h = h
-spell_behind (r ∷ rs) more h = spell_behind rs more h.1
+spell_behind : (v : ℕ) (rs more : List Record) → AllByRecursion (IsText v) (rs ++ more) → AllByRecursion (IsText v) more
+spell_behind v [] more h = h
+spell_behind v (r ∷ rs) more h = spell_behind v rs more h.1
 
-not_led_off : (pages : ℕ) (shapes : List Shape) (before others more : List Record) (tail digest : List ℕ) → AreGood pages shapes [] before → before ≡ others ++ more → ((x : List ℕ) → ¬ (tail ≡ (5 ∷ digest) ++ x)) → 5 ∷ digest ≡ texts more ++ tail → ⊥
+not_led_off : (opening : Opening) (before others more : List Record) (tail digest : List ℕ) → AreGood opening [] before → before ≡ others ++ more → ((x : List ℕ) → ¬ (tail ≡ (5 ∷ digest) ++ x)) → 5 ∷ digest ≡ texts more ++ tail → ⊥
 unfolding texts
-not_led_off pages shapes before others [] tail digest good all other e = other [] (sym e ∙ sym (append-nil (5 ∷ digest)))
-not_led_off pages shapes before others (r ∷ more) tail digest good all other e =
-    no_other pages shapes others digest r (texts more ++ tail) (next_good pages shapes [] others more r (rw all at good)) (e ∙ append_assoc (spelled_record r) (texts more) tail)
+not_led_off opening before others [] tail digest good all other e = other [] (sym e ∙ sym (append-nil (5 ∷ digest)))
+not_led_off opening before others (r ∷ more) tail digest good all other e =
+    no_other opening others digest r (texts more ++ tail) (next_good opening [] others more r (rw all at good)) (e ∙ append_assoc (spelled_record r) (texts more) tail)
 
-not_led : (pages : ℕ) (shapes : List Shape) (before others : List Record) (tail digest : List ℕ) → AreGood pages shapes [] before → AllByRecursion HasSpelling others → BeginsNoRecord tail → ((x : List ℕ) → ¬ (tail ≡ (5 ∷ digest) ++ x))
+not_led : (opening : Opening) (before others : List Record) (tail digest : List ℕ) → AreGood opening [] before → AllByRecursion (IsText opening.version) others → BeginsNoRecord opening.version tail → ((x : List ℕ) → ¬ (tail ≡ (5 ∷ digest) ++ x))
     → LongerRecords before others tail (5 ∷ digest) ⊎ LongerRecords others before (5 ∷ digest) tail → ⊥
-not_led pages shapes before others tail digest good spell none other (inl l) = not_led_on before l.more tail (5 ∷ digest) none (spell_behind before l.more (rw l.all at spell)) other l.left
-not_led pages shapes before others tail digest good spell none other (inr l) = not_led_off pages shapes before others l.more tail digest good l.all other l.left
+not_led opening before others tail digest good spell none other (inl l) = not_led_on opening.version l.more tail (5 ∷ digest) none (spell_behind opening.version before l.more (rw l.all at spell)) other l.left
+not_led opening before others tail digest good spell none other (inr l) = not_led_off opening before others l.more tail digest good l.all other l.left
 
 pub no_stream_head : (held : List ℕ) (m : MachineState) → WaitsHead held → ¬ (IsStream held m)
-no_stream_head held m w s = w.no_header (pages_of m) (shapes_in m.devices) _ (stream_begins s.by)
+no_stream_head held m w s = w.no_header (opening_in s.version (pages_of m) m.devices) _ (stream_begins s.by)
 
 pub no_stream_reading : (ds : List DiskState) (read tail held : List ℕ) (i : Intake) (m : MachineState) → IsBytes held → held ≡ read ++ tail → IsReading ds read tail i → ¬ (IsStream held m)
 no_stream_reading ds read tail held i m are parts r s =
     let o = r.open_at in
     let front = front_of held tail o.read parts in
-    let before_all = before_commit (pages_of m) s.entries m.devices in
+    let opening = opening_in s.version (pages_of m) m.devices in
+    let before_all = before_commit s.version (pages_of m) s.entries m.devices in
     let digest = sha256 before_all in
     let others = s.entries ++ device_records 0 m.devices in
-    let a = header_of-spelled held r.pages r.shapes (texts o.before ++ tail) front.begins in
-    let b = header_of-spelled held (pages_of m) (shapes_in m.devices) (texts s.entries ++ (device_texts 0 m.devices ++ spelled_record (commit digest))) (stream_begins s.by) in
-    let t = alike r.pages (pages_of m) r.shapes (shapes_in m.devices) (texts o.before ++ tail) (texts s.entries ++ (device_texts 0 m.devices ++ spelled_record (commit digest))) (sym a ∙ b) in
+    let a = header_of-spelled held r.opening (texts o.before ++ tail) front.begins in
+    let b = header_of-spelled held opening (texts s.entries ++ (device_texts 0 m.devices ++ spelled_record (commit digest))) (stream_begins s.by) in
+    let t = alike r.opening opening (texts o.before ++ tail) (texts s.entries ++ (device_texts 0 m.devices ++ spelled_record (commit digest))) (sym a ∙ b) in
     let text : texts others ≡ texts s.entries ++ device_texts 0 m.devices = texts-append s.entries (device_records 0 m.devices) ∙ ap (λ (x : List ℕ). texts s.entries ++ x) (texts_devices 0 m.devices) in
     let same : texts o.before ++ tail ≡ texts others ++ (5 ∷ digest) =
-    t.third ∙ sym (append_assoc (texts s.entries) (device_texts 0 m.devices) (spelled_record (commit digest))) ∙ ap (λ (x : List ℕ). (texts s.entries ++ device_texts 0 m.devices) ++ x) (commit_text digest)
+    t.1 ∙ sym (append_assoc (texts s.entries) (device_texts 0 m.devices) (spelled_record (commit digest))) ∙ ap (λ (x : List ℕ). (texts s.entries ++ device_texts 0 m.devices) ++ x) (commit_text digest)
     ∙ ap (λ (x : List ℕ). x ++ (5 ∷ digest)) (sym text) in
     let whole : held ≡ before_all ++ (5 ∷ digest) = s.by.whole ∙ ap (λ (x : List ℕ). before_all ++ x) (commit_text digest) in
     let spells : HasSpelling (commit digest) = (length-sha256 before_all, digest_bytes before_all digest held are whole) in
-    let spell : AllByRecursion HasSpelling others = both_spell s.entries (device_records 0 m.devices) (entries_spell (layout_of m) s.entries s.by.each)
-    (devices_spell (length m.ram) 0 m.devices (omega (arith, s.by.sound.few_devices)) (recursion_from_All (IsSoundDevice (length m.ram)) m.devices s.by.sound.devices)) in
-    not_led r.pages r.shapes o.before others tail digest o.read.good spell o.waits.no_record
-    (λ x e. o.waits.no_record (commit digest) x spells (e ∙ ap (λ (y : List ℕ). y ++ x) (sym (commit_text digest))))
-    (records_led o.before others tail (5 ∷ digest) (good_spell r.pages r.shapes [] o.before o.read.good) spell same)
+    let version : s.version ≡ r.opening.version = ap (λ (x : Opening). x.version) (sym t.0) in
+    let each : AllByRecursion (IsText s.version) others = both_spell s.version s.entries (device_records 0 m.devices) (entries_spell s.version (layout_of m) s.entries s.by.each)
+    (devices_spell s.version (length m.ram) 0 m.devices (omega (arith, s.by.sound.few_devices)) (recursion_from_All (IsSoundDevice (length m.ram)) m.devices s.by.sound.devices)) in
+    let spell : AllByRecursion (IsText r.opening.version) others = subst (λ (v : ℕ). AllByRecursion (IsText v) others) version each in
+    not_led r.opening o.before others tail digest o.read.good spell o.waits.no_record
+    (λ x e. o.waits.no_record (commit digest) x spells tt (e ∙ ap (λ (y : List ℕ). y ++ x) (sym (commit_text digest))))
+    (records_led o.before others tail (5 ∷ digest) (good_spell r.opening [] o.before o.read.good) (spells_alone r.opening.version others spell) same)

@@ -10,7 +10,7 @@ use Rattle.guestmem.specs.Page.{page_of}
 use Rattle.machine.specs.Layout.{Layout, IsItemIn, item_at, number_of, size_of}
 use Rattle.blk.specs.Sectors.{Sector}
 use Rattle.machine.proofs.Numbering.{item_back, number_below}
-use Rattle.wire.specs.Records.{Record, page, sector, round_end, device, commit}
+use Rattle.wire.specs.Records.{Record, page, sector, round_end, device, commit, zero_page, page_record}
 use Rattle.wire.specs.Stream.{AreNumbered, rounds, or_else, says_of, same_item, last_named, record_in}
 use Rattle.wire.proofs.ItemRecords.{same_if, same_itself, named-snoc, named_nothing}
 use Rattle.receiver.specs.Taken.{shown, AreTaken}
@@ -51,9 +51,9 @@ page_put_other ram b i n le e other =
     ]
 
 -- A page changes no other item.
-item_stays : (ram b : List ℕ) (disks : List (List Sector)) (i : ℕ) (item : Item) → 4096 * i + 4096 ≤ length ram → length b ≡ 4096 → item ≢ items.page i → record_in (put_page ram i b) disks item ≡ record_in ram disks item
-item_stays ram b disks i (items.page n) le e other = ap (page n) (page_put_other ram b i n le e (λ same. other (ap items.page (sym same))))
-item_stays ram b disks i (items.sector dev n) le e other = refl
+item_stays : (v : ℕ) (ram b : List ℕ) (disks : List (List Sector)) (i : ℕ) (item : Item) → 4096 * i + 4096 ≤ length ram → length b ≡ 4096 → item ≢ items.page i → record_in v (put_page ram i b) disks item ≡ record_in v ram disks item
+item_stays v ram b disks i (items.page n) le e other = ap (page_record v n) (page_put_other ram b i n le e (λ same. other (ap items.page (sym same))))
+item_stays v ram b disks i (items.sector dev n) le e other = refl
 
 -- Another item has another number.
 other_number : (l : Layout) (here item : Item) → IsItemIn l here → IsItemIn l item → item ≢ here → number_of l item ≢ number_of l here
@@ -65,6 +65,9 @@ pub record Names (r : Record) (here : Item) : Type 0 where
 
 pub names_page : (n : ℕ) (b : List ℕ) → Names (page n b) (items.page n)
 names_page n b = record { is = λ i. refl }
+
+pub names_zeros : (n : ℕ) → Names (zero_page n) (items.page n)
+names_zeros n = record { is = λ i. refl }
 
 pub names_sector : (dev n : ℕ) (o : Sector) → Names (sector dev n o) (items.sector dev n)
 names_sector dev n o = record { is = λ i. refl }
@@ -91,26 +94,26 @@ marked_at false l r here item named last is there has size h =
     rw (get_or-set_other named (number_of l here) (number_of l item) true false (other_number l here item there has no)) h
 
 -- An item more is taken, where it now holds what its record says, and the others what they held.
-pub taken_item : (T U : Type 0) (ram ram2 : List ℕ) (disks disks2 : List (List Sector)) (named : List Bool) (l : Layout) (es : List Record) (r : Record) (here : Item) → AreTaken T ram disks named l es → (U → T) → Names r here → IsItemIn l here
-    → length ram2 ≡ length ram → (U → record_in ram2 disks2 here ≡ r) → (U → (i : Item) → IsItemIn l i → i ≢ here → record_in ram2 disks2 i ≡ record_in ram disks i)
-    → AreTaken U ram2 disks2 (set named (number_of l here) true) l (es ++ r ∷ [])
-taken_item T U ram ram2 disks disks2 named l es r here h trust names there size is others = record {
+pub taken_item : (v : ℕ) (T U : Type 0) (ram ram2 : List ℕ) (disks disks2 : List (List Sector)) (named : List Bool) (l : Layout) (es : List Record) (r : Record) (here : Item) → AreTaken v T ram disks named l es → (U → T) → Names r here → IsItemIn l here
+    → length ram2 ≡ length ram → (U → record_in v ram2 disks2 here ≡ r) → (U → (i : Item) → IsItemIn l i → i ≢ here → record_in v ram2 disks2 i ≡ record_in v ram disks i)
+    → AreTaken v U ram2 disks2 (set named (number_of l here) true) l (es ++ r ∷ [])
+taken_item v T U ram ram2 disks disks2 named l es r here h trust names there size is others = record {
   ram_size = size ∙ h.ram_size;
   named_size = simp length-set h.named_size;
   marks = λ i has. ap is_some (named-snoc i es r ∙ ap (λ o. or_else o (last_named i es)) (names.is i)) ∙ marked_at (same_item i here) l r here i named (last_named i es) refl there has h.named_size (h.marks i has);
   last = λ u i has.
       named-snoc i es r ∙ ap (λ o. or_else o (last_named i es)) (names.is i)
-      ∙ shown_at (same_item i here) l r (record_in ram disks i) (record_in ram2 disks2 i) here i named (last_named i es) refl there has h.named_size (λ e. ap (record_in ram2 disks2) e ∙ is u) (others u i has) (h.last (trust u) i has);
+      ∙ shown_at (same_item i here) l r (record_in v ram disks i) (record_in v ram2 disks2 i) here i named (last_named i es) refl there has h.named_size (λ e. ap (record_in v ram2 disks2) e ∙ is u) (others u i has) (h.last (trust u) i has);
 }
 
 put_size : (ram b : List ℕ) (i : ℕ) → 4096 * i + 4096 ≤ length ram → length b ≡ 4096 → length (put_page ram i b) ≡ length ram
 put_size ram b i le e = omega (arith, le, e, length-append (take (4096 * i) ram) (b ++ drop (4096 * i + 4096) ram), length-append b (drop (4096 * i + 4096) ram), length-take (4096 * i) ram, length-drop (4096 * i + 4096) ram)
 
-pub taken_page : (T : Type 0) (ram b : List ℕ) (disks : List (List Sector)) (named : List Bool) (l : Layout) (i : ℕ) (es : List Record) → AreTaken T ram disks named l es → i < l.pages → 4096 * i + 4096 ≤ length ram → length b ≡ 4096
-    → AreTaken T (put_page ram i b) disks (set named i true) l (es ++ page i b ∷ [])
-taken_page T ram b disks named l i es h low le e =
-    taken_item T T ram (put_page ram i b) disks disks named l es (page i b) (items.page i) h (λ t. t) (names_page i b) low (put_size ram b i le e)
-    (λ t. ap (page i) (page_put_same ram b i le e)) (λ t j has other. item_stays ram b disks i j le e other)
+pub taken_page : (v : ℕ) (T : Type 0) (ram b : List ℕ) (disks : List (List Sector)) (named : List Bool) (l : Layout) (i : ℕ) (es : List Record) (r : Record) → AreTaken v T ram disks named l es → i < l.pages → 4096 * i + 4096 ≤ length ram → length b ≡ 4096
+    → Names r (items.page i) → page_record v i b ≡ r → AreTaken v T (put_page ram i b) disks (set named i true) l (es ++ r ∷ [])
+taken_page v T ram b disks named l i es r h low le e names is =
+    taken_item v T T ram (put_page ram i b) disks disks named l es r (items.page i) h (λ t. t) names low (put_size ram b i le e)
+    (λ t. ap (page_record v i) (page_put_same ram b i le e) ∙ is) (λ t j has other. item_stays v ram b disks i j le e other)
 
 pub rounds_page : (es : List Record) (i : ℕ) (b : List ℕ) → rounds (es ++ page i b ∷ []) ≡ rounds es
 unfolding rounds
@@ -120,6 +123,17 @@ rounds_page (sector d n c ∷ es) i b = rounds_page es i b
 rounds_page (round_end n ∷ es) i b = ap (λ (k : ℕ). k + 1) (rounds_page es i b)
 rounds_page (device d c ∷ es) i b = rounds_page es i b
 rounds_page (commit c ∷ es) i b = rounds_page es i b
+rounds_page (zero_page z ∷ es) i b = rounds_page es i b
+
+pub rounds_zeros : (es : List Record) (i : ℕ) → rounds (es ++ zero_page i ∷ []) ≡ rounds es
+unfolding rounds
+rounds_zeros [] i = refl
+rounds_zeros (page n c ∷ es) i = rounds_zeros es i
+rounds_zeros (sector d n c ∷ es) i = rounds_zeros es i
+rounds_zeros (round_end n ∷ es) i = ap (λ (k : ℕ). k + 1) (rounds_zeros es i)
+rounds_zeros (device d c ∷ es) i = rounds_zeros es i
+rounds_zeros (commit c ∷ es) i = rounds_zeros es i
+rounds_zeros (zero_page z ∷ es) i = rounds_zeros es i
 
 pub rounds_sector : (es : List Record) (dev i : ℕ) (o : Sector) → rounds (es ++ sector dev i o ∷ []) ≡ rounds es
 unfolding rounds
@@ -129,6 +143,7 @@ rounds_sector (sector d n c ∷ es) dev i o = rounds_sector es dev i o
 rounds_sector (round_end n ∷ es) dev i o = ap (λ (k : ℕ). k + 1) (rounds_sector es dev i o)
 rounds_sector (device d c ∷ es) dev i o = rounds_sector es dev i o
 rounds_sector (commit c ∷ es) dev i o = rounds_sector es dev i o
+rounds_sector (zero_page z ∷ es) dev i o = rounds_sector es dev i o
 
 pub rounds_round : (es : List Record) (k : ℕ) → rounds (es ++ round_end k ∷ []) ≡ rounds es + 1
 unfolding rounds
@@ -138,6 +153,7 @@ rounds_round (sector d n c ∷ es) k = rounds_round es k
 rounds_round (round_end n ∷ es) k = ap (λ (m : ℕ). m + 1) (rounds_round es k)
 rounds_round (device d c ∷ es) k = rounds_round es k
 rounds_round (commit c ∷ es) k = rounds_round es k
+rounds_round (zero_page z ∷ es) k = rounds_round es k
 
 pub numbered_round : (k : ℕ) (es : List Record) (n : ℕ) → AreNumbered k es → n ≡ k + rounds es → AreNumbered k (es ++ round_end n ∷ [])
 unfolding rounds
@@ -147,24 +163,25 @@ numbered_round k (sector d i o ∷ es) n h e = numbered_round k es n h e
 numbered_round k (round_end i ∷ es) n h e = (h.0, numbered_round (k + 1) es n h.1 (omega (arith, e)))
 numbered_round k (device d c ∷ es) n h e = numbered_round k es n h e
 numbered_round k (commit c ∷ es) n h e = numbered_round k es n h e
+numbered_round k (zero_page z ∷ es) n h e = numbered_round k es n h e
 
 -- A record that names no item.
-taken_more : (T : Type 0) (ram : List ℕ) (disks : List (List Sector)) (named : List Bool) (l : Layout) (r : Record) (es : List Record) → ((i : Item) → says_of i r ≡ None) → AreTaken T ram disks named l es → AreTaken T ram disks named l (es ++ r ∷ [])
-taken_more T ram disks named l r es none h = record {
+taken_more : (v : ℕ) (T : Type 0) (ram : List ℕ) (disks : List (List Sector)) (named : List Bool) (l : Layout) (r : Record) (es : List Record) → ((i : Item) → says_of i r ≡ None) → AreTaken v T ram disks named l es → AreTaken v T ram disks named l (es ++ r ∷ [])
+taken_more v T ram disks named l r es none h = record {
   ram_size = h.ram_size;
   named_size = h.named_size;
   marks = λ i has. ap is_some (named-snoc i es r ∙ ap (λ o. or_else o (last_named i es)) (none i)) ∙ h.marks i has;
   last = λ t i has. named-snoc i es r ∙ ap (λ o. or_else o (last_named i es)) (none i) ∙ h.last t i has;
 }
 
-pub taken_round : (T : Type 0) (ram : List ℕ) (disks : List (List Sector)) (named : List Bool) (l : Layout) (k : ℕ) (es : List Record) → AreTaken T ram disks named l es → AreTaken T ram disks named l (es ++ round_end k ∷ [])
-taken_round T ram disks named l k es h = taken_more T ram disks named l (round_end k) es (λ i. refl) h
+pub taken_round : (v : ℕ) (T : Type 0) (ram : List ℕ) (disks : List (List Sector)) (named : List Bool) (l : Layout) (k : ℕ) (es : List Record) → AreTaken v T ram disks named l es → AreTaken v T ram disks named l (es ++ round_end k ∷ [])
+taken_round v T ram disks named l k es h = taken_more v T ram disks named l (round_end k) es (λ i. refl) h
 
-pub taken_device : (T : Type 0) (ram : List ℕ) (disks : List (List Sector)) (named : List Bool) (l : Layout) (n : ℕ) (b : List ℕ) (es : List Record) → AreTaken T ram disks named l es → AreTaken T ram disks named l (es ++ device n b ∷ [])
-taken_device T ram disks named l n b es h = taken_more T ram disks named l (device n b) es (λ i. refl) h
+pub taken_device : (v : ℕ) (T : Type 0) (ram : List ℕ) (disks : List (List Sector)) (named : List Bool) (l : Layout) (n : ℕ) (b : List ℕ) (es : List Record) → AreTaken v T ram disks named l es → AreTaken v T ram disks named l (es ++ device n b ∷ [])
+taken_device v T ram disks named l n b es h = taken_more v T ram disks named l (device n b) es (λ i. refl) h
 
-pub new_taken : (T : Type 0) (ram : List ℕ) (disks : List (List Sector)) (named : List Bool) (l : Layout) → length ram ≡ 4096 * l.pages → named ≡ replicate (size_of l) false → AreTaken T ram disks named l []
-new_taken T ram disks named l e f =
+pub new_taken : (v : ℕ) (T : Type 0) (ram : List ℕ) (disks : List (List Sector)) (named : List Bool) (l : Layout) → length ram ≡ 4096 * l.pages → named ≡ replicate (size_of l) false → AreTaken v T ram disks named l []
+new_taken v T ram disks named l e f =
     rw f (record {
       ram_size = e;
       named_size = length-replicate (size_of l) false;

@@ -5,7 +5,7 @@ use Rattle.std.specs.Result.{is_err}
 use Rattle.std.proofs.lemmas.List.{length-append}
 use Rattle.sha2.specs.declared.Sha256.{Sha256}
 use Rattle.blk.specs.Disk.{DiskState}
-use Rattle.wire.specs.Header.{Begins, header}
+use Rattle.wire.specs.Header.{Begins, header, Opening}
 use Rattle.wire.specs.RecordHeads.{body_len, spelled_head}
 use Rattle.wire.specs.Records.{Record, device, spelled_record}
 use Rattle.wire.specs.Stream.{texts}
@@ -43,11 +43,11 @@ device_begins tail rest body more (heads.Device d len) is e parts many = record 
   whole = e ∙ ap (λ (x : List ℕ). spelled_head (heads.Device d len) ++ x) parts ∙ sym (append_assoc (spelled_head (heads.Device d len)) body more) ∙ ap (λ (x : List ℕ). x ++ more) (sym (spelled_with (heads.Device d len) body many));
 }
 device_begins tail rest body more heads.Commit is e parts many = absurd is
+device_begins tail rest body more (heads.ZeroPage n) is e parts many = absurd is
 
-pub device_here : {ds : List DiskState} {pages : ℕ} {shapes : List Shape} {before : List Record} {i : Intake} {front : List ℕ} (bytes tail : List ℕ) (from : ℕ) → HasRead ds pages shapes before i front → bytes ≡ front ++ tail → BeginsDevice tail → from ≤ length front → HasDevice (sizes_in ds) bytes from
-device_here {pages = pages} {shapes = shapes} {before = before} {front = front} bytes tail from h e b le = record {
-  pages = pages;
-  shapes = shapes;
+pub device_here : {ds : List DiskState} {opening : Opening} {before : List Record} {i : Intake} {front : List ℕ} (bytes tail : List ℕ) (from : ℕ) → HasRead ds opening before i front → bytes ≡ front ++ tail → BeginsDevice tail → from ≤ length front → HasDevice (sizes_in ds) bytes from
+device_here {opening = opening} {before = before} {front = front} bytes tail from h e b le = record {
+  opening = opening;
   before = before;
   number = b.number;
   body = b.body;
@@ -60,13 +60,12 @@ device_here {pages = pages} {shapes = shapes} {before = before} {front = front} 
 pub device_on : (sizes b c all : List ℕ) (low from : ℕ) → HasDevice sizes b from → all ≡ b ++ c → low ≤ from → HasDevice sizes all low
 device_on sizes b c all low from h e le =
     let text = spelled_record (device h.number h.body) in
-    let head = header h.pages h.shapes in
+    let head = header h.opening in
     let parts : all ≡ head ++ (texts h.before ++ (text ++ (h.more ++ c))) =
     e ∙ ap (λ (x : List ℕ). x ++ c) h.front.begins.whole ∙ append_assoc head (texts h.before ++ (text ++ h.more)) c
     ∙ ap (λ (x : List ℕ). head ++ x) (append_assoc (texts h.before) (text ++ h.more) c ∙ ap (λ (x : List ℕ). texts h.before ++ x) (append_assoc text h.more c)) in
     record {
-      pages = h.pages;
-      shapes = h.shapes;
+      opening = h.opening;
       before = h.before;
       number = h.number;
       body = h.body;
@@ -76,24 +75,24 @@ device_on sizes b c all low from h e le =
     }
 
 -- A header is whole in what was fed: it was read.
-pub past_head : (ds : List DiskState) (digest : Sha256) (b held : List ℕ) (stage : Stage) (pages : ℕ) (shapes : List Shape) (rest : List ℕ) → IsTaken ds digest b held stage → Begins b pages shapes rest → IsPastHead stage
-past_head ds digest b held stages.Head pages shapes rest t begins =
+pub past_head : (ds : List DiskState) (digest : Sha256) (b held : List ℕ) (stage : Stage) (opening : Opening) (rest : List ℕ) → IsTaken ds digest b held stage → Begins b opening rest → IsPastHead stage
+past_head ds digest b held stages.Head opening rest t begins =
     let k = t.known in
     let same : b ≡ held = t.whole ∙ ap (λ (x : List ℕ). x ++ held) k.0 in
-    absurd (k.2.no_header pages shapes rest (rw same at begins))
-past_head ds digest b held (stages.Records i) pages shapes rest t begins = tt
-past_head ds digest b held (stages.Ended i) pages shapes rest t begins = tt
-past_head ds digest b held stages.Failed pages shapes rest t begins = absurd t.known
+    absurd (k.2.no_header opening rest (rw same at begins))
+past_head ds digest b held (stages.Records i) opening rest t begins = tt
+past_head ds digest b held (stages.Ended i) opening rest t begins = tt
+past_head ds digest b held stages.Failed opening rest t begins = absurd t.known
 
 abbrev pub WantsAt : Received → List ℕ → Type 0
-WantsAt r piece = (b : List ℕ) → HasBeenFed r b → (pages : ℕ) (shapes : List Shape) (rest : List ℕ) → Begins b pages shapes rest → (from : ℕ) → from + length r.held ≡ length b → HasDevice r.sizes (b ++ piece) from
+WantsAt r piece = (b : List ℕ) → HasBeenFed r b → (opening : Opening) (rest : List ℕ) → Begins b opening rest → (from : ℕ) → from + length r.held ≡ length b → HasDevice r.sizes (b ++ piece) from
 
-pub fed_wants : (ds : List DiskState) (stage : Stage) (digest : Sha256) (held piece b : List ℕ) (pages : ℕ) (shapes : List Shape) (rest : List ℕ) (from : ℕ)
+pub fed_wants : (ds : List DiskState) (stage : Stage) (digest : Sha256) (held piece b : List ℕ) (opening : Opening) (rest : List ℕ) (from : ℕ)
     → ((front : List ℕ) → IsKnown ds digest front held stage → IsPastHead stage → HasDevice (sizes_in ds) (front ++ (held ++ piece)) (length front))
-    → HasBeenFed (received_by ds stage digest held) b → Begins b pages shapes rest → from + length held ≡ length b → HasDevice (sizes_in ds) (b ++ piece) from
-fed_wants ds stage digest held piece b pages shapes rest from memory fed begins at =
+    → HasBeenFed (received_by ds stage digest held) b → Begins b opening rest → from + length held ≡ length b → HasDevice (sizes_in ds) (b ++ piece) from
+fed_wants ds stage digest held piece b opening rest from memory fed begins at =
     let t = fed.taken in
-    let d = memory t.front t.known (past_head ds digest b held stage pages shapes rest t begins) in
+    let d = memory t.front t.known (past_head ds digest b held stage opening rest t begins) in
     let all : b ++ piece ≡ (t.front ++ (held ++ piece)) ++ [] = ap (λ (x : List ℕ). x ++ piece) t.whole ∙ append_assoc t.front held piece ∙ sym (append-nil (t.front ++ (held ++ piece))) in
     device_on (sizes_in ds) (t.front ++ (held ++ piece)) [] (b ++ piece) from (length t.front) d all (omega (arith, at, ap length t.whole, length-append t.front held))
 

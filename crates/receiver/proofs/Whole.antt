@@ -5,16 +5,16 @@ use Rattle.std.proofs.lemmas.List.Elements.{recursion_from_All}
 use Rattle.std.specs.List.{AllByRecursion}
 use Rattle.sha2.specs.Sha256.{sha256}
 use Rattle.wire.specs.DeviceBody.{body}
-use Rattle.wire.specs.Header.{header}
-use Rattle.wire.specs.Records.{Record, page, sector, round_end, device, commit}
-use Rattle.wire.specs.Stream.{IsStream, IsEntry, AreNumbered, texts, rounds, shapes_in, device_texts, before_commit}
+use Rattle.wire.specs.Header.{header, Opening, layout_in}
+use Rattle.wire.specs.Records.{Record, page, sector, round_end, device, commit, zero_page}
+use Rattle.wire.specs.Stream.{IsStream, IsEntry, AreNumbered, texts, rounds, shapes_in, device_texts, before_commit, opening_in}
 use Rattle.machine.specs.Layout.{Layout, layout_by, layout_of, pages_of}
 use Rattle.machine.specs.Sound.{IsSoundDevice}
 use Rattle.blk.specs.Sectors.{Sector}
 use Rattle.machine.specs.State.{DeviceState, MachineState}
 use Rattle.machine.specs.declared.shape.Shape.{Shape}
 use Rattle.machine.proofs.Numbering.{sound_layout}
-use Rattle.receiver.proofs.Takings.{rounds_page, rounds_round, rounds_sector}
+use Rattle.receiver.proofs.Takings.{rounds_page, rounds_round, rounds_sector, rounds_zeros}
 use Rattle.wire.proofs.Unique.{body_spells, length_shapes, stream_begins}
 use Rattle.wire.proofs.ItemRecords.{named-snoc}
 use Rattle.receiver.specs.Good.{AreGood, AreNamed, devices_in}
@@ -34,10 +34,15 @@ devices_in-append (sector d n o ∷ rs) ss = devices_in-append rs ss
 devices_in-append (round_end n ∷ rs) ss = devices_in-append rs ss
 devices_in-append (device d b ∷ rs) ss = let ih = devices_in-append rs ss in omega (arith, ih)
 devices_in-append (commit b ∷ rs) ss = devices_in-append rs ss
+devices_in-append (zero_page z ∷ rs) ss = devices_in-append rs ss
 
 none_in_page : (n : ℕ) (b : List ℕ) → devices_in (page n b ∷ []) ≡ 0
 unfolding devices_in
 none_in_page n b = refl
+
+none_in_zeros : (n : ℕ) → devices_in (zero_page n ∷ []) ≡ 0
+unfolding devices_in
+none_in_zeros n = refl
 
 none_in_sector : (d n : ℕ) (o : Sector) → devices_in (sector d n o ∷ []) ≡ 0
 unfolding devices_in
@@ -51,45 +56,50 @@ one_in_device : (d : ℕ) (b : List ℕ) → devices_in (device d b ∷ []) ≡ 
 unfolding devices_in
 one_in_device d b = refl
 
-entries_good : (pages : ℕ) (shapes : List Shape) (acc es : List Record) → AllByRecursion (IsEntry (layout_by pages shapes)) es → AreNumbered (rounds acc + 1) es → devices_in acc ≡ 0 → AreGood pages shapes acc es
+entries_good : (opening : Opening) (acc es : List Record) → AllByRecursion (IsEntry opening.version (layout_in opening)) es → AreNumbered (rounds acc + 1) es → devices_in acc ≡ 0 → AreGood opening acc es
 unfolding AreGood
-entries_good pages shapes acc [] h k none = tt
-entries_good pages shapes acc (page n b ∷ es) h k none = (
-  record { spells = h.0.spells; may = (h.0.stands, none) },
-  entries_good pages shapes (acc ++ page n b ∷ []) es h.1 (rw (rounds_page acc n b) k) (omega (arith, none, devices_in-append acc (page n b ∷ []), none_in_page n b)),
+entries_good opening acc [] h k none = tt
+entries_good opening acc (page n b ∷ es) h k none = (
+  record { spells = h.0.spells; has = h.0.has; may = (h.0.stands, none) },
+  entries_good opening (acc ++ page n b ∷ []) es h.1 (rw (rounds_page acc n b) k) (omega (arith, none, devices_in-append acc (page n b ∷ []), none_in_page n b)),
 )
-entries_good pages shapes acc (sector d n o ∷ es) h k none = (
-  record { spells = h.0.spells; may = (h.0.stands, none) },
-  entries_good pages shapes (acc ++ sector d n o ∷ []) es h.1 (rw (rounds_sector acc d n o) k) (omega (arith, none, devices_in-append acc (sector d n o ∷ []), none_in_sector d n o)),
+entries_good opening acc (sector d n o ∷ es) h k none = (
+  record { spells = h.0.spells; has = h.0.has; may = (h.0.stands, none) },
+  entries_good opening (acc ++ sector d n o ∷ []) es h.1 (rw (rounds_sector acc d n o) k) (omega (arith, none, devices_in-append acc (sector d n o ∷ []), none_in_sector d n o)),
 )
-entries_good pages shapes acc (round_end n ∷ es) h k none = (
-  record { spells = h.0.spells; may = (k.0, none) },
-  entries_good pages shapes (acc ++ round_end n ∷ []) es h.1 (rw (rounds_round acc n) k.1) (omega (arith, none, devices_in-append acc (round_end n ∷ []), none_in_round n)),
+entries_good opening acc (round_end n ∷ es) h k none = (
+  record { spells = h.0.spells; has = h.0.has; may = (k.0, none) },
+  entries_good opening (acc ++ round_end n ∷ []) es h.1 (rw (rounds_round acc n) k.1) (omega (arith, none, devices_in-append acc (round_end n ∷ []), none_in_round n)),
 )
-entries_good pages shapes acc (device d b ∷ es) h k none = absurd h.0.stands
-entries_good pages shapes acc (commit b ∷ es) h k none = absurd h.0.stands
+entries_good opening acc (device d b ∷ es) h k none = absurd h.0.stands
+entries_good opening acc (commit b ∷ es) h k none = absurd h.0.stands
+entries_good opening acc (zero_page n ∷ es) h k none = (
+  record { spells = h.0.spells; has = h.0.has; may = (h.0.stands, none) },
+  entries_good opening (acc ++ zero_page n ∷ []) es h.1 (rw (rounds_zeros acc n) k) (omega (arith, none, devices_in-append acc (zero_page n ∷ []), none_in_zeros n)),
+)
 
-devices_good : (pages k : ℕ) (shapes : List Shape) (acc : List Record) (ds : List DeviceState) → AreNamed (layout_by pages shapes) acc → devices_in acc ≡ k → k + length ds ≤ 256 → drop k shapes ≡ shapes_in ds → AllByRecursion (IsSoundDevice (4096 * pages)) ds
-    → AreGood pages shapes acc (device_records k ds)
+devices_good : (opening : Opening) (k : ℕ) (acc : List Record) (ds : List DeviceState) → AreNamed (layout_in opening) acc → devices_in acc ≡ k → k + length ds ≤ 256 → drop k opening.shapes ≡ shapes_in ds → AllByRecursion (IsSoundDevice (4096 * opening.pages)) ds
+    → AreGood opening acc (device_records k ds)
 unfolding AreGood device_records
-devices_good pages k shapes acc [] named count low here h = tt
-devices_good pages k shapes acc (d ∷ ds) named count low here h =
-    let after : drop (k + 1) shapes ≡ shapes_in ds = sym (drop-drop 1 k shapes) ∙ ap (drop 1) here in (
+devices_good opening k acc [] named count low here h = tt
+devices_good opening k acc (d ∷ ds) named count low here h =
+    let after : drop (k + 1) opening.shapes ≡ shapes_in ds = sym (drop-drop 1 k opening.shapes) ∙ ap (drop 1) here in (
       record {
-        spells = body_spells (4096 * pages) k d (omega (arith, low)) h.0;
+        spells = body_spells (4096 * opening.pages) k d (omega (arith, low)) h.0;
+        has = tt;
         may = record { named = named; next = sym count; shape = d.shape; others = shapes_in ds; here = here; state = d; is = record { shape_is = refl; sound = h.0; is = refl } };
       },
-      devices_good pages (k + 1) shapes (acc ++ device k (body d) ∷ []) ds
+      devices_good opening (k + 1) (acc ++ device k (body d) ∷ []) ds
           (λ item has. ap is_some (named-snoc item acc (device k (body d))) ∙ named item has)
           (omega (arith, count, devices_in-append acc (device k (body d) ∷ []), one_in_device k (body d))) (omega (arith, low)) after h.1,
     )
 
-good-append : (pages : ℕ) (shapes : List Shape) (acc rs ss : List Record) → AreGood pages shapes acc rs → AreGood pages shapes (acc ++ rs) ss → AreGood pages shapes acc (rs ++ ss)
+good-append : (opening : Opening) (acc rs ss : List Record) → AreGood opening acc rs → AreGood opening (acc ++ rs) ss → AreGood opening acc (rs ++ ss)
 unfolding AreGood
-good-append pages shapes acc [] ss h k = rw (append-nil acc) at k
-good-append pages shapes acc (r ∷ rs) ss h k =
+good-append opening acc [] ss h k = rw (append-nil acc) at k
+good-append opening acc (r ∷ rs) ss h k =
     let same : acc ++ (r ∷ rs) ≡ (acc ++ r ∷ []) ++ rs = sym (append_assoc acc (r ∷ []) rs) in
-    (h.0, good-append pages shapes (acc ++ r ∷ []) rs ss h.1 (rw same at k))
+    (h.0, good-append opening (acc ++ r ∷ []) rs ss h.1 (rw same at k))
 
 none_yet : devices_in [] ≡ 0
 unfolding devices_in
@@ -99,38 +109,42 @@ none_ended : rounds [] ≡ 0
 unfolding rounds
 none_ended = refl
 
-count_none : (l : Layout) (es : List Record) → AllByRecursion (IsEntry l) es → devices_in (es ++ []) ≡ 0
+count_none : (v : ℕ) (l : Layout) (es : List Record) → AllByRecursion (IsEntry v l) es → devices_in (es ++ []) ≡ 0
 unfolding device_records
-count_none l es h = count_all l 0 es [] h
+count_none v l es h = count_all v l 0 es [] h
+
+-- What a stream opens with.
+abbrev opens_with : {bytes : List ℕ} {m : MachineState} → IsStream bytes m → Opening
+opens_with {m = m} s = opening_in s.version (pages_of m) m.devices
 
 -- Where the good records of a stream end.
 record StreamFront (sizes bytes : List ℕ) (m : MachineState) (s : IsStream bytes m) : Type 0 where
   digest : List ℕ
-  front : IsFront sizes bytes (pages_of m) (shapes_in m.devices) (s.entries ++ device_records 0 m.devices) (5 ∷ digest)
-  complete : IsComplete (pages_of m) (shapes_in m.devices) (s.entries ++ device_records 0 m.devices) 5
-  digest_is : digest ≡ sha256 (header (pages_of m) (shapes_in m.devices) ++ texts (s.entries ++ device_records 0 m.devices))
+  front : IsFront sizes bytes (opens_with s) (s.entries ++ device_records 0 m.devices) (5 ∷ digest)
+  complete : IsComplete (opens_with s) (s.entries ++ device_records 0 m.devices) 5
+  digest_is : digest ≡ sha256 (header (opens_with s) ++ texts (s.entries ++ device_records 0 m.devices))
 
 stream_front : (sizes bytes : List ℕ) (m : MachineState) (s : IsStream bytes m) → sizes ≡ disk_sizes (shapes_in m.devices) → StreamFront sizes bytes m s
 stream_front sizes bytes m s fits =
-    let shapes = shapes_in m.devices in
+    let opening = opens_with s in
     let devices = device_records 0 m.devices in
     let all = s.entries ++ devices in
-    let before_all = before_commit (pages_of m) s.entries m.devices in
+    let before_all = before_commit s.version (pages_of m) s.entries m.devices in
     let digest = sha256 before_all in
     let text : texts all ≡ texts s.entries ++ device_texts 0 m.devices = texts-append s.entries devices ∙ ap (λ (x : List ℕ). texts s.entries ++ x) (texts_devices 0 m.devices) in
-    let front : header (pages_of m) shapes ++ texts all ≡ before_all = ap (λ (x : List ℕ). header (pages_of m) shapes ++ x) text in
+    let front : header opening ++ texts all ≡ before_all = ap (λ (x : List ℕ). header opening ++ x) text in
     let b = stream_begins s.by in
-    let layout : layout_of m ≡ layout_by (pages_of m) shapes = sound_layout m s.by.sound in
-    let named : AreNamed (layout_by (pages_of m) shapes) s.entries = λ item has. ap is_some (s.by.last item (rw layout has)) in
-    let named_all : AreNamed (layout_by (pages_of m) shapes) all = λ item has. ap is_some (last_entries item 0 s.entries m.devices) ∙ named item has in
+    let layout : layout_of m ≡ layout_in opening = sound_layout m s.by.sound in
+    let named : AreNamed (layout_in opening) s.entries = λ item has. ap is_some (s.by.last item (rw layout has)) in
+    let named_all : AreNamed (layout_in opening) all = λ item has. ap is_some (last_entries item 0 s.entries m.devices) ∙ named item has in
     let sound : AllByRecursion (IsSoundDevice (4096 * (pages_of m))) m.devices = rw s.by.sound.whole_pages at (recursion_from_All (IsSoundDevice (length m.ram)) m.devices s.by.sound.devices) in
-    let goods : AreGood (pages_of m) shapes [] s.entries = entries_good (pages_of m) shapes [] s.entries (rw layout at s.by.each) (rw none_ended s.by.numbered) none_yet in
+    let goods : AreGood opening [] s.entries = entries_good opening [] s.entries (rw layout at s.by.each) (rw none_ended s.by.numbered) none_yet in
     let few : 0 + length m.devices ≤ 256 = omega (arith, s.by.sound.few_devices) in
-    let entries_count : devices_in s.entries ≡ 0 = ap devices_in (sym (append-nil s.entries)) ∙ count_none (layout_of m) s.entries s.by.each in
-    let good : AreGood (pages_of m) shapes [] all = good-append (pages_of m) shapes [] s.entries devices goods (devices_good (pages_of m) 0 shapes s.entries m.devices named entries_count few refl sound) in
-    let complete : IsComplete (pages_of m) shapes all 5 = record { items = named_all; devices = λ five. count_all (layout_of m) 0 s.entries m.devices s.by.each ∙ sym (length_shapes m.devices) } in
-    let whole : bytes ≡ header (pages_of m) shapes ++ (texts all ++ (5 ∷ digest)) =
-    s.by.whole ∙ ap (λ (x : List ℕ). before_all ++ x) (commit_text digest) ∙ ap (λ (x : List ℕ). x ++ (5 ∷ digest)) (sym front) ∙ append_assoc (header (pages_of m) shapes) (texts all) (5 ∷ digest) in
+    let entries_count : devices_in s.entries ≡ 0 = ap devices_in (sym (append-nil s.entries)) ∙ count_none s.version (layout_of m) s.entries s.by.each in
+    let good : AreGood opening [] all = good-append opening [] s.entries devices goods (devices_good opening 0 s.entries m.devices named entries_count few refl sound) in
+    let complete : IsComplete opening all 5 = record { items = named_all; devices = λ five. count_all s.version (layout_of m) 0 s.entries m.devices s.by.each ∙ sym (length_shapes m.devices) } in
+    let whole : bytes ≡ header opening ++ (texts all ++ (5 ∷ digest)) =
+    s.by.whole ∙ ap (λ (x : List ℕ). before_all ++ x) (commit_text digest) ∙ ap (λ (x : List ℕ). x ++ (5 ∷ digest)) (sym front) ∙ append_assoc (header opening) (texts all) (5 ∷ digest) in
     record {
       digest = digest;
       front = record { begins = record { good = b.good; whole = whole }; fits = fits; good = good };
@@ -140,10 +154,10 @@ stream_front sizes bytes m s fits =
 
 pub stream_quiet : (sizes bytes : List ℕ) (m : MachineState) → IsStream bytes m → sizes ≡ disk_sizes (shapes_in m.devices) → NoFault sizes bytes
 stream_quiet sizes bytes m s fits =
-    let shapes = shapes_in m.devices in
+    let opening = opens_with s in
     let all = s.entries ++ device_records 0 m.devices in
     let f = stream_front sizes bytes m s fits in
-    quiet_front sizes bytes (pages_of m) shapes all (5 ∷ f.digest) f.front (λ r y g e. no_other (pages_of m) shapes all f.digest r y g e) (end_quiet (pages_of m) shapes all f.digest f.complete f.digest_is)
+    quiet_front sizes bytes opening all (5 ∷ f.digest) f.front (λ r y g e. no_other opening all f.digest r y g e) (end_quiet opening all f.digest f.complete f.digest_is)
 
 rounds_entries : (es : List Record) (ds : List DeviceState) → rounds (es ++ device_records 0 ds) ≡ rounds es
 unfolding rounds
@@ -153,10 +167,11 @@ rounds_entries (sector d n o ∷ es) ds = rounds_entries es ds
 rounds_entries (round_end n ∷ es) ds = ap (λ (k : ℕ). k + 1) (rounds_entries es ds)
 rounds_entries (device d b ∷ es) ds = rounds_entries es ds
 rounds_entries (commit b ∷ es) ds = rounds_entries es ds
+rounds_entries (zero_page z ∷ es) ds = rounds_entries es ds
 
 pub stream_rounds : (sizes bytes : List ℕ) (m : MachineState) (n : ℕ) (s : IsStream bytes m) → sizes ≡ disk_sizes (shapes_in m.devices) → HasRounds sizes bytes n → rounds s.entries ≡ n
 stream_rounds sizes bytes m n s fits h =
-    let shapes = shapes_in m.devices in
+    let opening = opens_with s in
     let all = s.entries ++ device_records 0 m.devices in
     let f = stream_front sizes bytes m s fits in
-    sym (h.some (pages_of m) shapes all (5 ∷ f.digest) f.front (λ r y g e. no_other (pages_of m) shapes all f.digest r y g e) ∙ rounds_entries s.entries m.devices)
+    sym (h.some opening all (5 ∷ f.digest) f.front (λ r y g e. no_other opening all f.digest r y g e) ∙ rounds_entries s.entries m.devices)

@@ -1,16 +1,16 @@
 -- The faults of a stream, each with its place: the number of bytes up to and including the one at which it is found. The header
 -- and whole good records come first, and then bytes that begin with the fault.
-use Rattle.std.specs.Prelude.{◌≡◌, ◌≢◌, ◌<◌, ◌≤◌, ◌^◌, ◌⊎◌, ℕ, ◌+◌, ◌*◌, List, [], ◌∷◌, ◌++◌, length, drop, All, Some, None}
+use Rattle.std.specs.Prelude.{◌≡◌, ◌≢◌, ◌<◌, ◌≤◌, ◌^◌, ◌⊎◌, ℕ, ◌+◌, ◌*◌, true, List, [], ◌∷◌, ◌++◌, length, drop, All, Some, None}
 use Rattle.sha2.specs.Sha256.{sha256}
 use Rattle.guestmem.specs.Number.{number_at}
 use Rattle.wire.specs.DeviceBody.{IsBodyOf}
-use Rattle.wire.specs.Header.{header, spelled_shape, spelled_shapes, Begins}
+use Rattle.wire.specs.Header.{header, spelled_shape, spelled_shapes, Begins, IsVersion, Opening, layout_in}
 use Rattle.wire.specs.Numbers.{digits}
-use Rattle.wire.specs.Records.{Record}
+use Rattle.wire.specs.Records.{Record, is_zero_page}
 use Rattle.wire.specs.ShapeReading.{shape_length}
 use Rattle.wire.specs.Stream.{rounds, texts}
 use Rattle.guestmem.specs.Item as items
-use Rattle.machine.specs.Layout.{IsItemIn, layout_by}
+use Rattle.machine.specs.Layout.{IsItemIn}
 use Rattle.machine.specs.Shapes.{disk_sizes}
 use Rattle.machine.specs.Sound.{IsSoundShape}
 use Rattle.machine.specs.State.{DeviceState}
@@ -19,68 +19,95 @@ use Rattle.receiver.specs.Good.{AreGood, AreNamed, devices_in}
 use Rattle.receiver.specs.declared.recv_error.RecvError.{RecvError}
 use Rattle.receiver.specs.declared.recv_error.RecvError.TheVariants.{BadMagic, BadVersion, BadShape, ShapeMismatch, BadTag, BadPage, BadSector, BadRound, BadDevice, BadDigest, Missing, Trailing}
 
--- A tag that may come next, after `devices` of `count` device records: pages, sectors and ends of rounds before all devices, a
--- device while one is missing.
-pub record MayTag (count devices tag : ℕ) : Type 0 where
+-- The tags of pages, with their bytes (1) or of zeros (6).
+abbrev pub IsPageTag : ℕ → Type 0
+IsPageTag tag = (tag ≡ 1) ⊎ (tag ≡ 6)
+
+-- The tags of pages, sectors and ends of rounds.
+abbrev pub IsEarly : ℕ → Type 0
+IsEarly tag = (tag ≤ 3) ⊎ (tag ≡ 6)
+
+-- The tags of devices and of the digest.
+abbrev pub IsLate : ℕ → Type 0
+IsLate tag = (4 ≤ tag) × (tag ≤ 5)
+
+-- A tag that may come next in this version, after `devices` of `count` device records: pages, sectors and ends of rounds before all
+-- devices, a device while one is missing. Tag 6 is one since version 2.
+pub record MayTag (version count devices tag : ℕ) : Type 0 where
   pub least : 1 ≤ tag
-  pub most : tag ≤ 5
-  pub early : tag ≤ 3 → devices ≡ 0
+  pub most : tag ≤ 6
+  pub early : IsEarly tag → devices ≡ 0
   pub missing : tag ≡ 4 → devices < count
+  pub since : tag ≡ 6 → version ≡ 2
 
 -- What must come before a device (tag 4) or the digest (tag 5): each item, and before the digest each device.
-pub record IsComplete (pages : ℕ) (shapes : List Shape) (before : List Record) (tag : ℕ) : Type 0 where
-  pub items : AreNamed (layout_by pages shapes) before
-  pub devices : tag ≡ 5 → devices_in before ≡ length shapes
+pub record IsComplete (opening : Opening) (before : List Record) (tag : ℕ) : Type 0 where
+  pub items : AreNamed (layout_in opening) before
+  pub devices : tag ≡ 5 → devices_in before ≡ length opening.shapes
 
 -- The bytes begin with a tag, and a record of this tag may come here.
-pub record Opens (pages : ℕ) (shapes : List Shape) (before : List Record) (tail : List ℕ) (tag : ℕ) (more : List ℕ) : Type 0 where
+pub record Opens (opening : Opening) (before : List Record) (tail : List ℕ) (tag : ℕ) (more : List ℕ) : Type 0 where
   pub whole : tail ≡ tag ∷ more
-  pub may : MayTag (length shapes) (devices_in before) tag
-  pub complete : 4 ≤ tag → IsComplete pages shapes before tag
+  pub may : MayTag opening.version (length opening.shapes) (devices_in before) tag
+  pub complete : IsLate tag → IsComplete opening before tag
 
 -- BadTag (5), found at the tag.
-pub record IsBadTag (shapes : List Shape) (before : List Record) (tail : List ℕ) (place : ℕ) : Type 0 where
+pub record IsBadTag (opening : Opening) (before : List Record) (tail : List ℕ) (place : ℕ) : Type 0 where
   pub tag : ℕ
   pub more : List ℕ
   pub whole : tail ≡ tag ∷ more
-  pub never : ¬ (MayTag (length shapes) (devices_in before) tag)
+  pub never : ¬ (MayTag opening.version (length opening.shapes) (devices_in before) tag)
   pub there : place ≡ 1
 
 -- Missing (11), found at the tag.
-pub record IsMissing (pages : ℕ) (shapes : List Shape) (before : List Record) (tail : List ℕ) (place : ℕ) : Type 0 where
+pub record IsMissing (opening : Opening) (before : List Record) (tail : List ℕ) (place : ℕ) : Type 0 where
   pub tag : ℕ
   pub more : List ℕ
   pub whole : tail ≡ tag ∷ more
-  pub may : MayTag (length shapes) (devices_in before) tag
-  pub late : 4 ≤ tag
-  pub never : ¬ (IsComplete pages shapes before tag)
+  pub may : MayTag opening.version (length opening.shapes) (devices_in before) tag
+  pub late : IsLate tag
+  pub never : ¬ (IsComplete opening before tag)
   pub there : place ≡ 1
 
 -- BadPage (6), found at the end of the number.
-pub record IsBadPage (pages : ℕ) (shapes : List Shape) (before : List Record) (tail : List ℕ) (place : ℕ) : Type 0 where
+pub record IsBadPage (opening : Opening) (before : List Record) (tail : List ℕ) (place : ℕ) : Type 0 where
+  pub tag : ℕ
   pub number : ℕ
   pub more : List ℕ
-  pub opens : Opens pages shapes before tail 1 (digits 4 number ++ more)
+  pub names : IsPageTag tag
+  pub opens : Opens opening before tail tag (digits 4 number ++ more)
   pub fits : number < 2 ^ 32
-  pub never : pages ≤ number
+  pub never : opening.pages ≤ number
   pub there : place ≡ 5
 
+-- BadPage (6), found at the last byte: the version has another record for a page with these bytes.
+pub record IsLongZeros (opening : Opening) (before : List Record) (tail : List ℕ) (place : ℕ) : Type 0 where
+  pub number : ℕ
+  pub bytes : List ℕ
+  pub more : List ℕ
+  pub opens : Opens opening before tail 1 (digits 4 number ++ (bytes ++ more))
+  pub fits : number < 2 ^ 32
+  pub within : number < opening.pages
+  pub long : length bytes ≡ 4096
+  pub zeros : is_zero_page opening.version bytes ≡ true
+  pub there : place ≡ 4101
+
 -- BadSector (7), found at the byte that says whether the sector is good.
-pub record IsBadSector (pages : ℕ) (shapes : List Shape) (before : List Record) (tail : List ℕ) (place : ℕ) : Type 0 where
+pub record IsBadSector (opening : Opening) (before : List Record) (tail : List ℕ) (place : ℕ) : Type 0 where
   pub disk : ℕ
   pub number : ℕ
   pub mark : ℕ
   pub more : List ℕ
-  pub opens : Opens pages shapes before tail 2 (disk ∷ (digits 4 number ++ (mark ∷ more)))
+  pub opens : Opens opening before tail 2 (disk ∷ (digits 4 number ++ (mark ∷ more)))
   pub fits : number < 2 ^ 32
-  pub never : ¬ (IsItemIn (layout_by pages shapes) (items.sector disk number) × (mark ≤ 1))
+  pub never : ¬ (IsItemIn (layout_in opening) (items.sector disk number) × (mark ≤ 1))
   pub there : place ≡ 7
 
 -- BadRound (8), found at the end of the number.
-pub record IsBadRound (pages : ℕ) (shapes : List Shape) (before : List Record) (tail : List ℕ) (place : ℕ) : Type 0 where
+pub record IsBadRound (opening : Opening) (before : List Record) (tail : List ℕ) (place : ℕ) : Type 0 where
   pub number : ℕ
   pub more : List ℕ
-  pub opens : Opens pages shapes before tail 3 (digits 4 number ++ more)
+  pub opens : Opens opening before tail 3 (digits 4 number ++ more)
   pub fits : number < 2 ^ 32
   pub never : number ≢ rounds before + 1
   pub there : place ≡ 5
@@ -91,55 +118,55 @@ pub record IsNextHead (before : List Record) (number len : ℕ) : Type 0 where
   pub few : len ≤ 131072
 
 -- BadDevice (9), found at the end of the length.
-pub record IsBadHead (pages : ℕ) (shapes : List Shape) (before : List Record) (tail : List ℕ) (place : ℕ) : Type 0 where
+pub record IsBadHead (opening : Opening) (before : List Record) (tail : List ℕ) (place : ℕ) : Type 0 where
   pub number : ℕ
   pub len : ℕ
   pub more : List ℕ
-  pub opens : Opens pages shapes before tail 4 (number ∷ (digits 4 len ++ more))
+  pub opens : Opens opening before tail 4 (number ∷ (digits 4 len ++ more))
   pub fits : len < 2 ^ 32
   pub never : ¬ (IsNextHead before number len)
   pub there : place ≡ 6
 
 -- BadDevice (9), found at the end of the body: no sound device of the shape that is next has this body.
-pub record IsBadBody (pages : ℕ) (shapes : List Shape) (before : List Record) (tail : List ℕ) (place : ℕ) : Type 0 where
+pub record IsBadBody (opening : Opening) (before : List Record) (tail : List ℕ) (place : ℕ) : Type 0 where
   pub body : List ℕ
   pub more : List ℕ
   pub shape : Shape
   pub others : List Shape
-  pub opens : Opens pages shapes before tail 4 (devices_in before ∷ (digits 4 (length body) ++ (body ++ more)))
+  pub opens : Opens opening before tail 4 (devices_in before ∷ (digits 4 (length body) ++ (body ++ more)))
   pub few : length body ≤ 131072
-  pub here : drop (devices_in before) shapes ≡ shape ∷ others
-  pub never : (d : DeviceState) → ¬ (IsBodyOf shape (4096 * pages) body d)
+  pub here : drop (devices_in before) opening.shapes ≡ shape ∷ others
+  pub never : (d : DeviceState) → ¬ (IsBodyOf shape (4096 * opening.pages) body d)
   pub there : place ≡ 6 + length body
 
 -- BadDigest (10), found at the last byte of the digest.
-pub record IsBadDigest (pages : ℕ) (shapes : List Shape) (before : List Record) (tail : List ℕ) (place : ℕ) : Type 0 where
+pub record IsBadDigest (opening : Opening) (before : List Record) (tail : List ℕ) (place : ℕ) : Type 0 where
   pub digest : List ℕ
   pub more : List ℕ
-  pub opens : Opens pages shapes before tail 5 (digest ++ more)
+  pub opens : Opens opening before tail 5 (digest ++ more)
   pub long : length digest ≡ 32
-  pub never : digest ≢ sha256 (header pages shapes ++ texts before)
+  pub never : digest ≢ sha256 (header opening ++ texts before)
   pub there : place ≡ 33
 
 -- Trailing (12), found at the first byte after the digest.
-pub record IsTrailing (pages : ℕ) (shapes : List Shape) (before : List Record) (tail : List ℕ) (place : ℕ) : Type 0 where
+pub record IsTrailing (opening : Opening) (before : List Record) (tail : List ℕ) (place : ℕ) : Type 0 where
   pub byte : ℕ
   pub more : List ℕ
-  pub opens : Opens pages shapes before tail 5 (sha256 (header pages shapes ++ texts before) ++ (byte ∷ more))
+  pub opens : Opens opening before tail 5 (sha256 (header opening ++ texts before) ++ (byte ∷ more))
   pub there : place ≡ 34
 
 -- The bytes after whole good records begin with this fault. `place` is the number of these bytes up to and including the one at
 -- which it is found.
-abbrev pub IsFault : ℕ → List Shape → List Record → List ℕ → RecvError → ℕ → Type 0
-IsFault pages shapes before tail BadTag place = IsBadTag shapes before tail place
-IsFault pages shapes before tail BadPage place = IsBadPage pages shapes before tail place
-IsFault pages shapes before tail BadSector place = IsBadSector pages shapes before tail place
-IsFault pages shapes before tail BadRound place = IsBadRound pages shapes before tail place
-IsFault pages shapes before tail BadDevice place = IsBadHead pages shapes before tail place ⊎ IsBadBody pages shapes before tail place
-IsFault pages shapes before tail BadDigest place = IsBadDigest pages shapes before tail place
-IsFault pages shapes before tail Missing place = IsMissing pages shapes before tail place
-IsFault pages shapes before tail Trailing place = IsTrailing pages shapes before tail place
-IsFault pages shapes before tail _ place = ⊥
+abbrev pub IsFault : Opening → List Record → List ℕ → RecvError → ℕ → Type 0
+IsFault opening before tail BadTag place = IsBadTag opening before tail place
+IsFault opening before tail BadPage place = IsBadPage opening before tail place ⊎ IsLongZeros opening before tail place
+IsFault opening before tail BadSector place = IsBadSector opening before tail place
+IsFault opening before tail BadRound place = IsBadRound opening before tail place
+IsFault opening before tail BadDevice place = IsBadHead opening before tail place ⊎ IsBadBody opening before tail place
+IsFault opening before tail BadDigest place = IsBadDigest opening before tail place
+IsFault opening before tail Missing place = IsMissing opening before tail place
+IsFault opening before tail Trailing place = IsTrailing opening before tail place
+IsFault opening before tail _ place = ⊥
 
 -- The header.
 
@@ -160,14 +187,14 @@ pub record IsBadMagic (bytes : List ℕ) (at : ℕ) : Type 0 where
 pub record IsBadVersion (bytes : List ℕ) (at : ℕ) : Type 0 where
   pub long : 8 ≤ length bytes
   pub magic : number_at bytes 0 4 ≡ 0x47494d56
-  pub never : number_at bytes 4 4 ≢ 1
+  pub never : ¬ (IsVersion (number_at bytes 4 4))
   pub there : at ≡ 8
 
--- The first 16 bytes have the magic bytes and the version, and these counts of pages and devices.
+-- The first 16 bytes have the magic bytes and a version that there is, and these counts of pages and devices.
 pub record Says (bytes : List ℕ) (pages count : ℕ) : Type 0 where
   pub long : 16 ≤ length bytes
   pub magic : number_at bytes 0 4 ≡ 0x47494d56
-  pub version : number_at bytes 4 4 ≡ 1
+  pub known : IsVersion (number_at bytes 4 4)
   pub pages_are : number_at bytes 8 4 ≡ pages
   pub count_is : number_at bytes 12 4 ≡ count
 
@@ -213,12 +240,11 @@ pub record IsBadShape (bytes : List ℕ) (at : ℕ) : Type 0 where
 
 -- ShapeMismatch (4), found at the end of the header.
 pub record IsMismatch (sizes bytes : List ℕ) (at : ℕ) : Type 0 where
-  pub pages : ℕ
-  pub shapes : List Shape
+  pub opening : Opening
   pub more : List ℕ
-  pub begins : Begins bytes pages shapes more
-  pub never : sizes ≢ disk_sizes shapes
-  pub there : at ≡ length (header pages shapes)
+  pub begins : Begins bytes opening more
+  pub never : sizes ≢ disk_sizes opening.shapes
+  pub there : at ≡ length (header opening)
 
 abbrev pub IsHeaderFault : List ℕ → List ℕ → RecvError → ℕ → Type 0
 IsHeaderFault sizes bytes BadMagic at = IsBadMagic bytes at
@@ -228,20 +254,19 @@ IsHeaderFault sizes bytes ShapeMismatch at = IsMismatch sizes bytes at
 IsHeaderFault sizes bytes _ at = ⊥
 
 -- The bytes begin with a header of a machine with disks of these sizes, then come whole good records, then `tail`.
-pub record IsFront (sizes bytes : List ℕ) (pages : ℕ) (shapes : List Shape) (before : List Record) (tail : List ℕ) : Type 0 where
-  pub begins : Begins bytes pages shapes (texts before ++ tail)
-  pub fits : sizes ≡ disk_sizes shapes
-  pub good : AreGood pages shapes [] before
+pub record IsFront (sizes bytes : List ℕ) (opening : Opening) (before : List Record) (tail : List ℕ) : Type 0 where
+  pub begins : Begins bytes opening (texts before ++ tail)
+  pub fits : sizes ≡ disk_sizes opening.shapes
+  pub good : AreGood opening [] before
 
 pub record IsRecordFault (sizes bytes : List ℕ) (k : RecvError) (at : ℕ) : Type 0 where
-  pub pages : ℕ
-  pub shapes : List Shape
+  pub opening : Opening
   pub before : List Record
   pub tail : List ℕ
   pub place : ℕ
-  pub front : IsFront sizes bytes pages shapes before tail
-  pub fault : IsFault pages shapes before tail k place
-  pub there : at ≡ length (header pages shapes ++ texts before) + place
+  pub front : IsFront sizes bytes opening before tail
+  pub fault : IsFault opening before tail k place
+  pub there : at ≡ length (header opening ++ texts before) + place
 
 -- For disks of these sizes the bytes have this fault, found at this place.
 abbrev pub Fault : List ℕ → List ℕ → RecvError → ℕ → Type 0

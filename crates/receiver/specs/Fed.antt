@@ -5,7 +5,7 @@ use Rattle.sha2.specs.Hashers.{Holds256}
 use Rattle.sha2.specs.Sha256.{sha256}
 use Rattle.sha2.specs.declared.Sha256.{Sha256}
 use Rattle.wire.specs.DeviceBody.{body}
-use Rattle.wire.specs.Header.{header, IsHeader}
+use Rattle.wire.specs.Header.{header, IsHeader, Opening, layout_in}
 use Rattle.blk.specs.Disk.{DiskState}
 use Rattle.wire.specs.Records.{Record, device, commit, spelled_record, BeginsNoRecord}
 use Rattle.wire.specs.Stream.{IsEntry, AreNumbered, rounds, shapes_in, texts}
@@ -37,22 +37,23 @@ held_sectors shapes disks bad = dealt_sectors shapes (marked_sectors disks bad)
 
 -- The intake has taken in these bytes, a header and these whole good records, and the disks have the sizes of those of the
 -- devices.
-pub record HasRead (disks : List DiskState) (pages : ℕ) (shapes : List Shape) (before : List Record) (i : Intake) (front : List ℕ) : Type 0 where
-  pub head : IsHeader pages shapes
-  pub fits : sizes_in disks ≡ disk_sizes shapes
-  pub good : AreGood pages shapes [] before
-  pub whole : front ≡ header pages shapes ++ texts before
-  pub shapes_are : i.shapes.items ≡ shapes
-  pub firsts_are : i.firsts.items ≡ firsts_of (layout_by pages shapes)
+pub record HasRead (disks : List DiskState) (opening : Opening) (before : List Record) (i : Intake) (front : List ℕ) : Type 0 where
+  pub head : IsHeader opening
+  pub fits : sizes_in disks ≡ disk_sizes opening.shapes
+  pub good : AreGood opening [] before
+  pub whole : front ≡ header opening ++ texts before
+  pub version_is : i.version ≡ opening.version
+  pub shapes_are : i.shapes.items ≡ opening.shapes
+  pub firsts_are : i.firsts.items ≡ firsts_of (layout_in opening)
   pub marks_are : AreMarksOf disks i.bad.items
   pub entries : List Record
   pub split : before ≡ entries ++ device_records 0 i.devices.items
-  pub each : AllByRecursion (IsEntry (layout_by pages shapes)) entries
+  pub each : AllByRecursion (IsEntry opening.version (layout_in opening)) entries
   pub numbered : AreNumbered 1 entries
   pub rounds_are : i.rounds ≡ rounds before
-  pub taken : AreTaken (AreHonestDisks (all_marks_in disks)) i.ram.bytes (held_sectors shapes disks i.bad.items) i.named (layout_by pages shapes) before
-  pub devices_are : shapes_in i.devices.items ≡ take (length i.devices.items) shapes
-  pub sound : AllByRecursion (IsSoundDevice (4096 * pages)) i.devices.items
+  pub taken : AreTaken opening.version (AreHonestDisks (all_marks_in disks)) i.ram.bytes (held_sectors opening.shapes disks i.bad.items) i.named (layout_in opening) before
+  pub devices_are : shapes_in i.devices.items ≡ take (length i.devices.items) opening.shapes
+  pub sound : AllByRecursion (IsSoundDevice (4096 * opening.pages)) i.devices.items
 
 -- What a refusal means: there is this fault, unless memory was refused or a disk failed.
 abbrev pub Tells : RecvError → Type 0 → Type 0
@@ -61,18 +62,18 @@ Tells DiskFailed F = Unit {0}
 Tells _ F = F
 
 -- The bytes after whole good records begin with no whole record and with no fault.
-pub record Waits (pages : ℕ) (shapes : List Shape) (before : List Record) (tail : List ℕ) : Type 0 where
-  pub no_record : BeginsNoRecord tail
-  pub no_fault : (k : RecvError) (place : ℕ) → ¬ (IsFault pages shapes before tail k place)
+pub record Waits (opening : Opening) (before : List Record) (tail : List ℕ) : Type 0 where
+  pub no_record : BeginsNoRecord opening.version tail
+  pub no_fault : (k : RecvError) (place : ℕ) → ¬ (IsFault opening before tail k place)
 
 -- The bytes after all records begin with the tag and the digest of all bytes before them.
-pub record Ends (pages : ℕ) (shapes : List Shape) (before : List Record) (tail : List ℕ) : Type 0 where
+pub record Ends (opening : Opening) (before : List Record) (tail : List ℕ) : Type 0 where
   pub more : List ℕ
-  pub opens : Opens pages shapes before tail 5 (sha256 (header pages shapes ++ texts before) ++ more)
+  pub opens : Opens opening before tail 5 (sha256 (header opening ++ texts before) ++ more)
 
-abbrev pub Checked : ℕ → List Shape → List Record → ℕ → List ℕ → Result (Unit {0}) RecvError → Type 0
-Checked pages shapes before tag more (Ok x) = Opens pages shapes before (tag ∷ more) tag more
-Checked pages shapes before tag more (Err e) = (place : ℕ) × IsFault pages shapes before (tag ∷ more) e place
+abbrev pub Checked : Opening → List Record → ℕ → List ℕ → Result (Unit {0}) RecvError → Type 0
+Checked opening before tag more (Ok x) = Opens opening before (tag ∷ more) tag more
+Checked opening before tag more (Err e) = (place : ℕ) × IsFault opening before (tag ∷ more) e place
 
 abbrev pub size_of : Part → ℕ
 size_of parts.Wait = 0
@@ -92,28 +93,28 @@ IsUntouched old new (Ok (parts.Record len)) = new ≡ old
 IsUntouched old new _ = Unit {0}
 
 -- The disks and the intake, after it looked at the bytes that follow those that it has taken in.
-abbrev pub After : List DiskState → List DiskState → ℕ → List Shape → List Record → Intake → List ℕ → List ℕ → Result Part RecvError → Type 0
-After old disks pages shapes before new front tail (Ok parts.Wait) = AreKept old disks × HasRead disks pages shapes before new front × Waits pages shapes before tail
-After old disks pages shapes before new front tail (Ok (parts.Record len)) = AreKept old disks × ((r : Record) × HasRead disks pages shapes (before ++ r ∷ []) new (front ++ take len tail))
-After old disks pages shapes before new front tail (Ok parts.End) = AreKept old disks × HasRead disks pages shapes before new front × Ends pages shapes before tail
-After old disks pages shapes before new front tail (Err e) = AreRefused old disks e × Tells e ((place : ℕ) × IsFault pages shapes before tail e place)
+abbrev pub After : List DiskState → List DiskState → Opening → List Record → Intake → List ℕ → List ℕ → Result Part RecvError → Type 0
+After old disks opening before new front tail (Ok parts.Wait) = AreKept old disks × HasRead disks opening before new front × Waits opening before tail
+After old disks opening before new front tail (Ok (parts.Record len)) = AreKept old disks × ((r : Record) × HasRead disks opening (before ++ r ∷ []) new (front ++ take len tail))
+After old disks opening before new front tail (Ok parts.End) = AreKept old disks × HasRead disks opening before new front × Ends opening before tail
+After old disks opening before new front tail (Err e) = AreRefused old disks e × Tells e ((place : ℕ) × IsFault opening before tail e place)
 
 -- The intake has taken in the front of the bytes, and waits for more.
-pub record IsOpen (disks : List DiskState) (pages : ℕ) (shapes : List Shape) (i : Intake) (front tail : List ℕ) : Type 0 where
+pub record IsOpen (disks : List DiskState) (opening : Opening) (i : Intake) (front tail : List ℕ) : Type 0 where
   pub before : List Record
-  pub read : HasRead disks pages shapes before i front
-  pub waits : Waits pages shapes before tail
+  pub read : HasRead disks opening before i front
+  pub waits : Waits opening before tail
 
 -- The intake has taken in a whole stream.
-pub record IsEnded (disks : List DiskState) (pages : ℕ) (shapes : List Shape) (i : Intake) (bytes : List ℕ) : Type 0 where
+pub record IsEnded (disks : List DiskState) (opening : Opening) (i : Intake) (bytes : List ℕ) : Type 0 where
   pub before : List Record
   pub front : List ℕ
-  pub read : HasRead disks pages shapes before i front
-  pub complete : IsComplete pages shapes before 5
+  pub read : HasRead disks opening before i front
+  pub complete : IsComplete opening before 5
   pub whole : bytes ≡ front ++ spelled_record (commit (sha256 front))
 
 -- The disks, the digest and the intake, after it worked through these bytes, which follow those of `front`, up to `at`.
-abbrev pub Worked : List DiskState → List DiskState → ℕ → List Shape → Intake → Sha256 → List ℕ → List ℕ → Result (ℕ × Bool) RecvError → Type 0
-Worked old disks pages shapes new digest front bytes (Ok (at, false)) = AreKept old disks × Holds256 digest (front ++ take at bytes) × IsOpen disks pages shapes new (front ++ take at bytes) (drop at bytes)
-Worked old disks pages shapes new digest front bytes (Ok (at, true)) = AreKept old disks × (at ≡ length bytes) × IsEnded disks pages shapes new (front ++ bytes)
-Worked old disks pages shapes new digest front bytes (Err e) = AreRefused old disks e × Tells e ((at : ℕ) × Fault (sizes_in old) (front ++ bytes) e at)
+abbrev pub Worked : List DiskState → List DiskState → Opening → Intake → Sha256 → List ℕ → List ℕ → Result (ℕ × Bool) RecvError → Type 0
+Worked old disks opening new digest front bytes (Ok (at, false)) = AreKept old disks × Holds256 digest (front ++ take at bytes) × IsOpen disks opening new (front ++ take at bytes) (drop at bytes)
+Worked old disks opening new digest front bytes (Ok (at, true)) = AreKept old disks × (at ≡ length bytes) × IsEnded disks opening new (front ++ bytes)
+Worked old disks opening new digest front bytes (Err e) = AreRefused old disks e × Tells e ((at : ℕ) × Fault (sizes_in old) (front ++ bytes) e at)

@@ -1,11 +1,16 @@
 -- What is at the front of a stream, of which a part may still be missing.
 use Rattle.std.specs.Prelude.{◌≡◌, ◌<◌, ℕ, List, ◌++◌, length, All, Option, Some, None, Result, Ok, Err}
-use Rattle.wire.specs.Header.{Begins, spelled_shape, spelled_shapes}
+use Rattle.wire.specs.Header.{Begins, spelled_shape, spelled_shapes, Opening}
 use Rattle.machine.specs.Sound.{IsSoundShape}
 use Rattle.machine.specs.declared.shape.Shape.{Shape}
 use Rattle.receiver.specs.Faults.{IsNoShape, IsHeaderFault}
+use Rattle.receiver.specs.declared.heading.Heading.{Heading}
 use Rattle.receiver.specs.declared.recv_error.RecvError.{RecvError}
 use Rattle.receiver.specs.declared.recv_error.RecvError.TheVariants.{BadShape, NoMemory}
+
+-- What the header that was read says.
+abbrev pub opening_of : Heading → Opening
+opening_of heading = record { version = heading.version; pages = heading.pages; shapes = heading.shapes.items }
 
 -- The bytes begin with no whole shape, and with none that is wrong.
 pub record ShapeWaits (bytes : List ℕ) : Type 0 where
@@ -61,5 +66,5 @@ TellsHead _ F = F
 
 -- The bytes begin with no whole header, and with no fault of one.
 pub record WaitsHead (bytes : List ℕ) : Type 0 where
-  pub no_header : (pages : ℕ) (shapes : List Shape) (rest : List ℕ) → ¬ (Begins bytes pages shapes rest)
+  pub no_header : (opening : Opening) (rest : List ℕ) → ¬ (Begins bytes opening rest)
   pub no_fault : (sizes : List ℕ) (k : RecvError) (at : ℕ) → ¬ (IsHeaderFault sizes bytes k at)

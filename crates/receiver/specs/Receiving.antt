@@ -4,7 +4,7 @@ use Rattle.sha2.specs.Hashers.{Holds256}
 use Rattle.sha2.specs.Sha256.{sha256}
 use Rattle.sha2.specs.declared.Sha256.{Sha256}
 use Rattle.guestmem.specs.Number.{IsBytes}
-use Rattle.wire.specs.Header.{Begins, header}
+use Rattle.wire.specs.Header.{Begins, header, Opening}
 use Rattle.wire.specs.Records.{Record, commit, device, spelled_record}
 use Rattle.wire.specs.Stream.{IsStream, rounds, texts}
 use Rattle.blk.specs.Disk.{DiskState}
@@ -24,15 +24,13 @@ use Rattle.receiver.specs.declared.recv_error.RecvError.TheVariants.{DiskFailed,
 
 -- The intake has taken the front of the bytes in, and those after it wait.
 pub record IsReading (disks : List DiskState) (front held : List ℕ) (i : Intake) : Type 0 where
-  pub pages : ℕ
-  pub shapes : List Shape
-  pub open_at : IsOpen disks pages shapes i front held
+  pub opening : Opening
+  pub open_at : IsOpen disks opening i front held
 
 -- The intake has taken in a whole stream.
 pub record HasCome (disks : List DiskState) (bytes : List ℕ) (i : Intake) : Type 0 where
-  pub pages : ℕ
-  pub shapes : List Shape
-  pub ended : IsEnded disks pages shapes i bytes
+  pub opening : Opening
+  pub ended : IsEnded disks opening i bytes
 
 -- What a receiver with these disks, at this stage, knows of the bytes: those of `front` are worked off, and those after it are held.
 -- The digest is that of the front.
@@ -129,14 +127,13 @@ IsFinish b _ = ⊥
 
 -- A record of a device is whole in these bytes, behind whole good records, and none of its bytes is among the first `from`.
 pub record HasDevice (sizes bytes : List ℕ) (from : ℕ) : Type 0 where
-  pub pages : ℕ
-  pub shapes : List Shape
+  pub opening : Opening
   pub before : List Record
   pub number : ℕ
   pub body : List ℕ
   pub more : List ℕ
-  pub front : IsFront sizes bytes pages shapes before (spelled_record (device number body) ++ more)
-  pub behind : from ≤ length (header pages shapes ++ texts before)
+  pub front : IsFront sizes bytes opening before (spelled_record (device number body) ++ more)
+  pub behind : from ≤ length (header opening ++ texts before)
 
 -- What a refusal of a whole slice means: a fault of the bytes; or (`Truncated`) that they have no fault but are not a stream of
 -- any machine; or that a disk failed, where some disk is not steady; or that memory was refused.
@@ -147,13 +144,13 @@ RefusesSlice sizes marks bytes Truncated = NoFault sizes bytes × ((m : MachineS
 RefusesSlice sizes marks bytes e = (at : ℕ) × Fault sizes bytes e at
 
 -- The bytes do not continue with a whole record that may follow the good ones.
-abbrev pub NoNext : ℕ → List Shape → List Record → List ℕ → Type 0
-NoNext pages shapes before tail = (r : Record) (y : List ℕ) → Follows pages shapes before r → ¬ (tail ≡ spelled_record r ++ y)
+abbrev pub NoNext : Opening → List Record → List ℕ → Type 0
+NoNext opening before tail = (r : Record) (y : List ℕ) → Follows opening before r → ¬ (tail ≡ spelled_record r ++ y)
 
 -- `n` rounds ended among the whole good records of the bytes, and none if the header is not whole.
 pub record HasRounds (sizes b : List ℕ) (n : ℕ) : Type 0 where
-  pub none : ((pages : ℕ) (shapes : List Shape) (rest : List ℕ) → ¬ (Begins b pages shapes rest)) → n ≡ 0
-  pub some : (pages : ℕ) (shapes : List Shape) (before : List Record) (tail : List ℕ) → IsFront sizes b pages shapes before tail → NoNext pages shapes before tail → n ≡ rounds before
+  pub none : ((opening : Opening) (rest : List ℕ) → ¬ (Begins b opening rest)) → n ≡ 0
+  pub some : (opening : Opening) (before : List Record) (tail : List ℕ) → IsFront sizes b opening before tail → NoNext opening before tail → n ≡ rounds before
 
 -- The bytes are a stream of this machine, in which `n` rounds ended.
 pub record IsReceived (bytes : List ℕ) (m : MachineState) (n : ℕ) : Type 0 where
@@ -163,8 +160,7 @@ pub record IsReceived (bytes : List ℕ) (m : MachineState) (n : ℕ) : Type 0 w
 -- A header for disks of these sizes, whole good records that name every item and have every device, the digest of all bytes
 -- before it, and nothing more.
 pub record IsWholeFor (sizes b : List ℕ) : Type 0 where
-  pub pages : ℕ
-  pub shapes : List Shape
+  pub opening : Opening
   pub before : List Record
-  pub front : IsFront sizes b pages shapes before (spelled_record (commit (sha256 (header pages shapes ++ texts before))))
-  pub complete : IsComplete pages shapes before 5
+  pub front : IsFront sizes b opening before (spelled_record (commit (sha256 (header opening ++ texts before))))
+  pub complete : IsComplete opening before 5

@@ -3,17 +3,18 @@
 ghost use Rattle.std.specs.Prelude.{◌≡◌, ◌↔◌, ◌≤◌, ◌<◌, ◌+◌, ◌*◌, IsTrue, IfOk, IfErr, MatchOption, drop, false, is_some, length, ℕ, List};
 ghost use Rattle.wire.specs.Header.{Begins};
 ghost use Rattle.receiver.specs.Faults.{MayCount, IsHeaderFault};
-ghost use Rattle.receiver.specs.Heading.{FirstShape, WaitsHead, ReadShapes, TellsHead};
+ghost use Rattle.receiver.specs.Heading.{FirstShape, WaitsHead, ReadShapes, TellsHead, opening_of};
 
 use crate::recv_error::RecvError;
 use guestmem::PAGES_MAX;
 use machine::{DEVICES_MAX, Shape};
 use std::alloc::Global;
-use wire::{FRONT_LEN, MAGIC, VERSION, shape_at, shape_len, u32_at};
+use wire::{FRONT_LEN, MAGIC, is_version, shape_at, shape_len, u32_at};
 
 /// What the header of a stream says.
 #[derive(Drop)]
 pub struct Heading {
+    pub version: u32,
     pub pages: u32,
     pub shapes: Vec<Shape>,
     pub len: usize,
@@ -75,7 +76,7 @@ fn may_count(pages: u32, count: u32) -> bool
 /// The header at the front of the bytes. `None` if it is incomplete, with no fault so far.
 pub fn read_heading(alloc: Global, bytes: &[u8]) -> Result<Option<Heading>, RecvError>
     ensures read { IfOk result (λ found. MatchOption found (WaitsHead bytes.now)
-        (λ h. (h.len ≤ length bytes.now) × Begins bytes.now h.pages h.shapes.items (drop h.len bytes.now))) }
+        (λ h. (h.len ≤ length bytes.now) × Begins bytes.now (opening_of h) (drop h.len bytes.now))) }
     ensures few { IfOk result (λ found. is_some found ≡ false → length bytes.now ≤ 495) }
     ensures refused { IfErr result (λ e. TellsHead e ((sizes : List ℕ) → (at : ℕ) × IsHeaderFault sizes bytes.now e at)) }
 {
@@ -88,7 +89,8 @@ pub fn read_heading(alloc: Global, bytes: &[u8]) -> Result<Option<Heading>, Recv
     if bytes.len() < 8 {
         return Ok(None);
     }
-    if u32_at(bytes, 4) != VERSION {
+    let version = u32_at(bytes, 4);
+    if !is_version(version) {
         return Err(RecvError::BadVersion);
     }
     if bytes.len() < FRONT_LEN {
@@ -105,7 +107,12 @@ pub fn read_heading(alloc: Global, bytes: &[u8]) -> Result<Option<Heading>, Recv
         Ok(None) => Ok(None),
         Ok(Some((shapes, rest))) => {
             let len = bytes.len() - rest.len();
-            Ok(Some(Heading { pages, shapes, len }))
+            Ok(Some(Heading {
+                version,
+                pages,
+                shapes,
+                len,
+            }))
         }
     }
 }

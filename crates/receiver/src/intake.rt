@@ -1,11 +1,12 @@
 //! Records taken one by one from a stream.
 
 ghost use Rattle.std.specs.Prelude.{◌≡◌, ◌≢◌, ◌++◌, ◌+◌, ◌≤◌, ◌<◌, ◌*◌, ◌∷◌, ◌↔◌, [], ℕ, List, All, IsTrue, IfErr, IfOk, IfSome, OnOk, MatchOption, Some, None, Err, count_by, nat_lt, map, take, drop, length, slice_index_or, true};
+ghost use Rattle.wire.specs.Header.{Opening, layout_in};
 ghost use Rattle.wire.specs.Records as records;
 ghost use Rattle.sha2.specs.Hashers.{Holds256};
 ghost use Rattle.sha2.specs.Sha256.{sha256};
 ghost use Rattle.wire.specs.RecordHeads.{body_len, spelled_head};
-ghost use Rattle.wire.specs.Records.{page, sector, record_with, spelled_record, HasSpelling};
+ghost use Rattle.wire.specs.Records.{page, sector, zero_page, record_with, spelled_record, HasSpelling, IsOf};
 ghost use Rattle.wire.specs.declared.record_head.RecordHead.TheVariants as heads;
 ghost use Rattle.blk.specs.Disk.{DiskState};
 ghost use Rattle.guestmem.specs.Item as items;
@@ -13,12 +14,12 @@ ghost use Rattle.machine.specs.Layout.{IsItemIn, layout_by};
 ghost use Rattle.machine.specs.Shapes.{sector_count};
 ghost use Rattle.machine.specs.declared.shape.Shape as shapes;
 ghost use Rattle.receiver.specs.Disks.{sizes_of};
-ghost use Rattle.receiver.specs.Faults.{IsNextHead, MayTag};
+ghost use Rattle.receiver.specs.Faults.{IsLate, IsNextHead, MayTag};
 ghost use Rattle.receiver.specs.Good.{AreNamed, devices_in};
 ghost use Rattle.receiver.specs.Fed.{HasRead, Checked, After, IsUntouched, Worked, size_of, IsLong};
 ghost use Rattle.receiver.specs.Receiving.{HasDevice};
 ghost use Rattle.receiver.specs.Spots.{HasMarks, HasSector, IsSpotOf, Taking, disks_before};
-ghost use Rattle.receiver.specs.Standing.{BeginsDevice, HasRoom, IsDeviceHead, Judged, MayHead, OpensHead, TakingDevice};
+ghost use Rattle.receiver.specs.Standing.{BeginsDevice, Entered, HasRoom, IsDeviceHead, Judged, MayHead, OpensHead, TakingDevice};
 ghost use Rattle.receiver.specs.declared.recv_error.RecvError.TheVariants as errors;
 
 use crate::part::Part;
@@ -30,16 +31,18 @@ use sha2::{Digest, Sha256};
 use std::alloc::Global;
 use wire::{
     BODY_MAX, COMMIT_RECORD, COMMIT_TAG, DEVICE_TAG, DecodeError, FoundHead, PAGE_TAG,
-    ROUND_END_TAG, RecordHead, decode_device, read_head,
+    ROUND_END_TAG, RecordHead, SECTOR_TAG, VERSION, ZERO_PAGE_TAG, decode_device, has_record,
+    read_head,
 };
 
-/// What was read of a stream: the shapes of its devices, the pages, the marks of the bad sectors of each disk, how many
+/// What was read of a stream: its version, the shapes of its devices, the pages, the marks of the bad sectors of each disk, how many
 /// rounds ended, and the devices that arrived so far. The good sectors were written to the disks.
 ///
 /// `named` has a mark for each item, in the order of their numbers, and keeps a count of those that are named. `firsts`
 /// has the item number of the first sector of each device.
 #[derive(Drop)]
 pub struct Intake {
+    pub version: u32,
     pub shapes: Vec<Shape>,
     pub ram: Ram,
     pub named: BitSet,
@@ -56,14 +59,24 @@ struct Spot {
     item: u64,
 }
 
-/// Whether a record with this tag may come next, after `devices` of `count` device records.
-fn may_stand(count: usize, devices: usize, tag: u8) -> bool
-    ensures { IsTrue result ↔ MayTag count devices tag }
+/// Whether a record with this tag may come next in this version, after `devices` of `count` device records.
+fn may_stand(version: u32, count: usize, devices: usize, tag: u8) -> bool
+    ensures { IsTrue result ↔ MayTag version count devices tag }
 {
-    PAGE_TAG <= tag
-        && tag <= COMMIT_TAG
-        && (tag > ROUND_END_TAG || devices == 0)
-        && (tag != DEVICE_TAG || devices < count)
+    match tag {
+        PAGE_TAG | SECTOR_TAG | ROUND_END_TAG => devices == 0,
+        DEVICE_TAG => devices < count,
+        COMMIT_TAG => true,
+        ZERO_PAGE_TAG => version == VERSION && devices == 0,
+        _ => false,
+    }
+}
+
+/// Whether this is the tag of a device or of the digest.
+fn is_late(tag: u8) -> bool
+    ensures { IsTrue result ↔ IsLate tag }
+{
+    DEVICE_TAG <= tag && tag <= COMMIT_TAG
 }
 
 /// Whether each item is named. It compares two counts, which takes constant time.
@@ -76,12 +89,17 @@ fn is_named(named: &BitSet) -> bool
 /// Checks that a record with this tag may come next.
 fn check_tag(intake: &Intake, tag: u8) -> Result<(), RecvError>
     ensures memory { IfErr result (λ e. e ≢ errors.NoMemory) }
-    ensures checked { (ds : List DiskState) (front more : List ℕ) (pages : ℕ) (shapes : List shapes.Shape) (before : List records.Record) → HasRead ds pages shapes before intake.now front → Checked pages shapes before tag more result }
+    ensures checked { (ds : List DiskState) (front more : List ℕ) (opening : Opening) (before : List records.Record) → HasRead ds opening before intake.now front → Checked opening before tag more result }
 {
-    if !may_stand(intake.shapes.len(), intake.devices.len(), tag) {
+    if !may_stand(
+        intake.version,
+        intake.shapes.len(),
+        intake.devices.len(),
+        tag,
+    ) {
         return Err(RecvError::BadTag);
     }
-    if tag < DEVICE_TAG {
+    if !is_late(tag) {
         return Ok(());
     }
     if !is_named(&intake.named) {
@@ -101,11 +119,25 @@ fn take_page(intake: &mut Intake, number: u32, bytes: &[u8])
     requires within { 4096 * number + 4096 ≤ length intake.old.ram.bytes }
     requires marked { number < length intake.old.named }
     requires spells { HasSpelling (page number bytes.now) }
-    ensures { (ds : List DiskState) (front : List ℕ) (pages : ℕ) (shapes : List shapes.Shape) (before : List records.Record) → HasRead ds pages shapes before intake.old front → devices_in before ≡ 0 → HasRead ds pages shapes (before ++ page number bytes.now ∷ []) intake.new (front ++ spelled_record (page number bytes.now)) }
+    ensures { (ds : List DiskState) (front : List ℕ) (opening : Opening) (before : List records.Record) → HasRead ds opening before intake.old front → devices_in before ≡ 0 → IsOf opening.version (page number bytes.now) → HasRead ds opening (before ++ page number bytes.now ∷ []) intake.new (front ++ spelled_record (page number bytes.now)) }
 {
     intake
         .ram
         .put(number as u64 * PAGE_SIZE as u64, bytes, &mut NoLog);
+    intake.named.insert(number as u64);
+}
+
+/// Sets a page to zeros, as its record says.
+fn take_zero_page(intake: &mut Intake, number: u32)
+    requires within { 4096 * number + 4096 ≤ length intake.old.ram.bytes }
+    requires marked { number < length intake.old.named }
+    ensures { (ds : List DiskState) (front : List ℕ) (opening : Opening) (before : List records.Record) → HasRead ds opening before intake.old front → devices_in before ≡ 0 → opening.version ≡ 2 → HasRead ds opening (before ++ zero_page number ∷ []) intake.new (front ++ spelled_record (zero_page number)) }
+{
+    intake.ram.put(
+        number as u64 * PAGE_SIZE as u64,
+        &[0; PAGE_SIZE],
+        &mut NoLog,
+    );
     intake.named.insert(number as u64);
 }
 
@@ -122,8 +154,8 @@ fn disks_before(shapes: &[Shape], place: usize) -> usize
 fn find_sector<D: Disk>(intake: &Intake, disks: &[D], dev: u8, number: u32) -> Option<Spot>
     ensures marked { IfSome result (λ spot. HasMarks intake.now number spot) }
     ensures there { IfSome result (λ spot. HasSector (sizes_of D.state disks.now) spot.disk number) }
-    ensures found { (front : List ℕ) (pages : ℕ) (shapes : List shapes.Shape) (before : List records.Record) → HasRead (map D.state disks.now) pages shapes before intake.now front
-        → MatchOption result (¬ (IsItemIn (layout_by pages shapes) (items.sector dev number))) (λ spot. IsSpotOf pages shapes dev number spot) }
+    ensures found { (front : List ℕ) (opening : Opening) (before : List records.Record) → HasRead (map D.state disks.now) opening before intake.now front
+        → MatchOption result (¬ (IsItemIn (layout_in opening) (items.sector dev number))) (λ spot. IsSpotOf opening dev number spot) }
 {
     let place = dev as usize;
     if place >= intake.shapes.len() {
@@ -159,8 +191,8 @@ fn find_sector<D: Disk>(intake: &Intake, disks: &[D], dev: u8, number: u32) -> O
 /// Marks a sector as bad, as its record says.
 fn take_bad(intake: &mut Intake, spot: Spot, dev: u8, number: u32)
     requires { HasMarks intake.old number spot }
-    ensures { (ds : List DiskState) (front : List ℕ) (pages : ℕ) (shapes : List shapes.Shape) (before : List records.Record) → HasRead ds pages shapes before intake.old front → devices_in before ≡ 0 → IsSpotOf pages shapes dev number spot
-        → HasRead ds pages shapes (before ++ sector dev number None ∷ []) intake.new (front ++ spelled_record (sector dev number None)) }
+    ensures { (ds : List DiskState) (front : List ℕ) (opening : Opening) (before : List records.Record) → HasRead ds opening before intake.old front → devices_in before ≡ 0 → IsSpotOf opening dev number spot
+        → HasRead ds opening (before ++ sector dev number None ∷ []) intake.new (front ++ spelled_record (sector dev number None)) }
 {
     intake.bad[spot.disk].insert(number as u64);
     intake.named.insert(spot.item);
@@ -178,8 +210,8 @@ fn take_good<D: Disk>(
     requires marked { HasMarks intake.old number spot }
     requires there { HasSector (sizes_of D.state disks.old) spot.disk number }
     ensures memory { IfErr result (λ e. e ≢ errors.NoMemory) }
-    ensures taking { (front : List ℕ) (pages : ℕ) (shapes : List shapes.Shape) (before : List records.Record) → HasRead (map D.state disks.old) pages shapes before intake.old front → devices_in before ≡ 0 → IsSpotOf pages shapes dev number spot
-        → Taking (map D.state disks.old) (map D.state disks.new) pages shapes before intake.new front (sector dev number (Some bytes.now)) result }
+    ensures taking { (front : List ℕ) (opening : Opening) (before : List records.Record) → HasRead (map D.state disks.old) opening before intake.old front → devices_in before ≡ 0 → IsSpotOf opening dev number spot
+        → Taking (map D.state disks.old) (map D.state disks.new) opening before intake.new front (sector dev number (Some bytes.now)) result }
 {
     match disks[spot.disk].write(number as u64, bytes) {
         Ok(()) => {}
@@ -201,8 +233,8 @@ fn take_sector<D: Disk>(
 ) -> Result<(), RecvError>
     requires { length body.now ≡ body_len (heads.Sector dev number is_good) }
     ensures memory { IfErr result (λ e. e ≢ errors.NoMemory) }
-    ensures taking { (front : List ℕ) (pages : ℕ) (shapes : List shapes.Shape) (before : List records.Record) → HasRead (map D.state disks.old) pages shapes before intake.old front → devices_in before ≡ 0 → IsItemIn (layout_by pages shapes) (items.sector dev number)
-        → Taking (map D.state disks.old) (map D.state disks.new) pages shapes before intake.new front (record_with (heads.Sector dev number is_good) body.now) result }
+    ensures taking { (front : List ℕ) (opening : Opening) (before : List records.Record) → HasRead (map D.state disks.old) opening before intake.old front → devices_in before ≡ 0 → IsItemIn (layout_in opening) (items.sector dev number)
+        → Taking (map D.state disks.old) (map D.state disks.new) opening before intake.new front (record_with (heads.Sector dev number is_good) body.now) result }
 {
     let Some(spot) = find_sector(intake, disks, dev, number) else {
         return Err(RecvError::BadSector);
@@ -224,8 +256,8 @@ fn nth(shapes: &[Shape], i: usize) -> Shape
 /// Takes the record of a device.
 fn take_device(alloc: Global, intake: &mut Intake, number: u8, body: &[u8]) -> Result<(), RecvError>
     requires { number < length intake.old.shapes.items }
-    ensures { (ds : List DiskState) (front : List ℕ) (pages : ℕ) (shapes : List shapes.Shape) (before : List records.Record) → HasRead ds pages shapes before intake.old front → AreNamed (layout_by pages shapes) before → IsNextHead before number (length body.now)
-        → TakingDevice ds pages shapes before intake.new front number body.now result }
+    ensures { (ds : List DiskState) (front : List ℕ) (opening : Opening) (before : List records.Record) → HasRead ds opening before intake.old front → AreNamed (layout_in opening) before → IsNextHead before number (length body.now)
+        → TakingDevice ds opening before intake.new front number body.now result }
 {
     let shape = nth(&intake.shapes, number as usize);
     let ram_len = intake.ram.len();
@@ -267,11 +299,11 @@ fn is_next(intake: &Intake, number: u8) -> bool
 fn check_head<D: Disk>(intake: &Intake, disks: &[D], head: RecordHead) -> Result<(), RecvError>
     ensures room { OnOk result (HasRoom intake.now head) }
     ensures memory { IfErr result (λ e. e ≢ errors.NoMemory) }
-    ensures judged { (front tail rest : List ℕ) (pages : ℕ) (shapes : List shapes.Shape) (before : List records.Record) → HasRead (map D.state disks.now) pages shapes before intake.now front → OpensHead pages shapes before tail head rest
-        → Judged pages shapes before head result }
+    ensures judged { (front tail rest : List ℕ) (opening : Opening) (before : List records.Record) → HasRead (map D.state disks.now) opening before intake.now front → OpensHead opening before tail head rest
+        → Judged opening before head result }
 {
     match head {
-        RecordHead::Page { number } => {
+        RecordHead::Page { number } | RecordHead::ZeroPage { number } => {
             if !has_page(intake, number) {
                 return Err(RecvError::BadPage);
             }
@@ -302,6 +334,47 @@ fn check_head<D: Disk>(intake: &Intake, disks: &[D], head: RecordHead) -> Result
     Ok(())
 }
 
+/// Takes what is no digest: a page, a sector, the end of a round or a device. Its head may come next.
+fn take_entry<D: Disk>(
+    alloc: Global,
+    intake: &mut Intake,
+    disks: &mut [D],
+    head: RecordHead,
+    body: &[u8],
+) -> Result<(), RecvError>
+    requires entry { head ≢ heads.Commit }
+    requires room { HasRoom intake.old head }
+    requires long { length body.now ≡ body_len head }
+    ensures memory { IfErr result (λ e. e ≡ errors.NoMemory → IsDeviceHead head) }
+    ensures entered { (front tail more : List ℕ) (opening : Opening) (before : List records.Record) → HasRead (map D.state disks.old) opening before intake.old front
+        → OpensHead opening before tail head (body.now ++ more) → MayHead opening before head → Entered (map D.state disks.old) (map D.state disks.new) opening before intake.new front tail head body.now result }
+{
+    match head {
+        RecordHead::Page { number } => {
+            if !has_record(intake.version, head, body) {
+                return Err(RecvError::BadPage);
+            }
+            take_page(intake, number, body);
+            Ok(())
+        }
+        RecordHead::ZeroPage { number } => {
+            take_zero_page(intake, number);
+            Ok(())
+        }
+        RecordHead::Sector {
+            device,
+            number,
+            is_good,
+        } => take_sector(intake, disks, device, number, is_good, body),
+        RecordHead::RoundEnd { number } => {
+            intake.rounds = number;
+            Ok(())
+        }
+        RecordHead::Device { number, .. } => take_device(alloc, intake, number, body),
+        RecordHead::Commit => unreachable!(),
+    }
+}
+
 /// Takes a record whose head may come next. `taken` is the digest of all bytes before it.
 fn take_record<D: Disk>(
     alloc: Global,
@@ -316,37 +389,20 @@ fn take_record<D: Disk>(
     ensures size { IfOk result (λ part. size_of part ≡ length (spelled_head head) + length body.now) }
     ensures untouched { IsUntouched taken.old taken.new result }
     ensures memory { IfErr result (λ e. e ≡ errors.NoMemory → IsDeviceHead head) }
-    ensures after { (front tail more : List ℕ) (pages : ℕ) (shapes : List shapes.Shape) (before : List records.Record) → Holds256 taken.old front → HasRead (map D.state disks.old) pages shapes before intake.old front
-        → OpensHead pages shapes before tail head (body.now ++ more) → MayHead pages shapes before head → After (map D.state disks.old) (map D.state disks.new) pages shapes before intake.new front tail result }
+    ensures after { (front tail more : List ℕ) (opening : Opening) (before : List records.Record) → Holds256 taken.old front → HasRead (map D.state disks.old) opening before intake.old front
+        → OpensHead opening before tail head (body.now ++ more) → MayHead opening before head → After (map D.state disks.old) (map D.state disks.new) opening before intake.new front tail result }
 {
-    let len = head.head_len() + body.len();
     match head {
-        RecordHead::Page { number } => {
-            take_page(intake, number, body);
-            Ok(Part::Record(len))
-        }
-        RecordHead::Sector {
-            device,
-            number,
-            is_good,
-        } => match take_sector(intake, disks, device, number, is_good, body) {
-            Ok(()) => Ok(Part::Record(len)),
-            Err(error) => Err(error),
-        },
-        RecordHead::RoundEnd { number } => {
-            intake.rounds = number;
-            Ok(Part::Record(len))
-        }
-        RecordHead::Device { number, .. } => match take_device(alloc, intake, number, body) {
-            Ok(()) => Ok(Part::Record(len)),
-            Err(error) => Err(error),
-        },
         RecordHead::Commit => {
             if !is_digest(taken, body) {
                 return Err(RecvError::BadDigest);
             }
             Ok(Part::End)
         }
+        _ => match take_entry(alloc, intake, disks, head, body) {
+            Ok(()) => Ok(Part::Record(head.head_len() + body.len())),
+            Err(error) => Err(error),
+        },
     }
 }
 
@@ -363,8 +419,8 @@ fn take_part<D: Disk>(
     ensures few { IfOk result (λ part. size_of part ≡ 0 → length bytes.now ≤ 131077) }
     ensures untouched { IsUntouched taken.old taken.new result }
     ensures memory { result ≡ Err errors.NoMemory → BeginsDevice bytes.now }
-    ensures after { (front : List ℕ) (pages : ℕ) (shapes : List shapes.Shape) (before : List records.Record) → Holds256 taken.old front → HasRead (map D.state disks.old) pages shapes before intake.old front
-        → After (map D.state disks.old) (map D.state disks.new) pages shapes before intake.new front bytes.now result }
+    ensures after { (front : List ℕ) (opening : Opening) (before : List records.Record) → Holds256 taken.old front → HasRead (map D.state disks.old) opening before intake.old front
+        → After (map D.state disks.old) (map D.state disks.new) opening before intake.new front bytes.now result }
 {
     let Some((tag, _)) = bytes.split_first() else {
         return Ok(Part::Wait);
@@ -400,10 +456,10 @@ pub fn work_off<D: Disk>(
 ) -> Result<(usize, bool), RecvError>
     ensures room { IfOk result (λ x. x.0 ≤ length bytes.now) }
     ensures few { IfOk result (λ x. length bytes.now ≤ 131077 + x.0) }
-    ensures memory { (front : List ℕ) (pages : ℕ) (shapes : List shapes.Shape) (before : List records.Record) → Holds256 taken.old front → HasRead (map D.state disks.old) pages shapes before intake.old front
+    ensures memory { (front : List ℕ) (opening : Opening) (before : List records.Record) → Holds256 taken.old front → HasRead (map D.state disks.old) opening before intake.old front
         → result ≡ Err errors.NoMemory → HasDevice (sizes_of D.state disks.old) (front ++ bytes.now) (length front) }
-    ensures worked { (front : List ℕ) (pages : ℕ) (shapes : List shapes.Shape) (before : List records.Record) → Holds256 taken.old front → HasRead (map D.state disks.old) pages shapes before intake.old front
-        → Worked (map D.state disks.old) (map D.state disks.new) pages shapes intake.new taken.new front bytes.now result }
+    ensures worked { (front : List ℕ) (opening : Opening) (before : List records.Record) → Holds256 taken.old front → HasRead (map D.state disks.old) opening before intake.old front
+        → Worked (map D.state disks.old) (map D.state disks.new) opening intake.new taken.new front bytes.now result }
 {
     let mut at = 0;
     while at < bytes.len() {

@@ -1,6 +1,7 @@
 //! A receiver that is fed a stream in pieces.
 
 ghost use Rattle.std.specs.Prelude.{◌≡◌, All, map};
+ghost use Rattle.wire.specs.Header.{Opening};
 ghost use Rattle.blk.specs.Disk.{AreSectors};
 ghost use Rattle.receiver.specs.Receiving.{has_failed, rounds_in};
 
@@ -75,7 +76,7 @@ impl<D: Disk + Drop> Receiver<D> {
         ensures told { IfErr result (λ e. (b : List ℕ) → HasBeenFed self.old b → TellsNow self.old.sizes b piece.now e) }
         ensures failed { OnErr result (self.new.failed ≡ true) }
         ensures already { self.old.failed ≡ true → result ≡ Err errors.AlreadyFailed }
-        ensures memory { result ≡ Err errors.NoMemory → (b : List ℕ) → HasBeenFed self.old b → (pages : ℕ) (shapes : List Shape) (rest : List ℕ) → Begins b pages shapes rest
+        ensures memory { result ≡ Err errors.NoMemory → (b : List ℕ) → HasBeenFed self.old b → (opening : Opening) (rest : List ℕ) → Begins b opening rest
             → (from : ℕ) → from + length self.old.held ≡ length b → HasDevice self.old.sizes (b ++ piece.now) from }
     {
         if is_failed(&self.stage) {
@@ -156,6 +157,7 @@ impl<D: Disk + Drop> Receiver<D> {
         match stage {
             Stage::Ended(intake) => {
                 let Intake {
+                    version: _,
                     shapes,
                     ram,
                     named: _,

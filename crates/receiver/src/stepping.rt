@@ -3,17 +3,18 @@
 ghost use Rattle.std.specs.Prelude.{◌≡◌, ◌≤◌, ◌+◌, ◌++◌, [], ℕ, List, Err, IfOk, false, map, replicate, length};
 ghost use Rattle.sha2.specs.Hashers.{Holds256};
 ghost use Rattle.blk.specs.Disk.{DiskState};
-ghost use Rattle.wire.specs.Header.{header, Begins, IsHeader};
+ghost use Rattle.wire.specs.Header.{header, Begins, IsHeader, Opening};
 ghost use Rattle.wire.specs.Records as records;
 ghost use Rattle.machine.specs.Layout.{firsts_of, layout_by, size_of};
 ghost use Rattle.machine.specs.declared.shape.Shape as shapes;
 ghost use Rattle.machine.specs.Shapes.{disk_sizes};
 ghost use Rattle.receiver.specs.Disks.{sizes_in, sizes_of};
 ghost use Rattle.receiver.specs.Fed.{HasRead};
+ghost use Rattle.receiver.specs.Heading.{opening_of};
 ghost use Rattle.receiver.specs.declared.recv_error.RecvError.TheVariants as errors;
 ghost use Rattle.receiver.specs.Receiving.{HasDevice, IsKnown, IsPastHead, Stepped};
 
-use crate::heading::read_heading;
+use crate::heading::{Heading, read_heading};
 use crate::intake::{Intake, work_off};
 use crate::recv_error::RecvError;
 use crate::stage::Stage;
@@ -25,7 +26,7 @@ use std::alloc::Global;
 
 /// The item number of the first sector of each device, and the count of items.
 fn number_items(alloc: Global, pages: u32, shapes: &[Shape]) -> Result<(Vec<u32>, u32), NoMemory>
-    requires { IsHeader pages shapes.now }
+    requires { (version : ℕ) × IsHeader (record { version = version; pages = pages; shapes = shapes.now }) }
     ensures { IfOk result (λ x. (x.0.items ≡ firsts_of (layout_by pages shapes.now)) × (x.1 ≡ size_of (layout_by pages shapes.now))) }
 {
     let mut firsts = Vec::with_capacity(alloc, shapes.len())?;
@@ -50,21 +51,23 @@ fn new_marks<D: Disk>(alloc: Global, disks: &[D]) -> Result<Vec<BitSet>, NoMemor
 }
 
 /// An intake that has taken a header.
-fn new_intake<D: Disk>(
-    alloc: Global,
-    disks: &[D],
-    pages: u32,
-    shapes: Vec<Shape>,
-) -> Result<Intake, NoMemory>
-    requires { IsHeader pages shapes.items }
-    ensures { IfOk result (λ i. (bytes rest : List ℕ) → Begins bytes pages shapes.items rest → sizes_of D.state disks.now ≡ disk_sizes shapes.items → HasRead (map D.state disks.now) pages shapes.items [] i (header pages shapes.items)) }
+fn new_intake<D: Disk>(alloc: Global, disks: &[D], heading: Heading) -> Result<Intake, NoMemory>
+    requires { IsHeader (opening_of heading) }
+    ensures { IfOk result (λ i. (bytes rest : List ℕ) → Begins bytes (opening_of heading) rest → sizes_of D.state disks.now ≡ disk_sizes heading.shapes.items → HasRead (map D.state disks.now) (opening_of heading) [] i (header (opening_of heading))) }
 {
+    let Heading {
+        version,
+        pages,
+        shapes,
+        len: _,
+    } = heading;
     let (firsts, count) = number_items(alloc, pages, &shapes)?;
     let bad = new_marks(alloc, disks)?;
     let ram = Ram::new(alloc, pages)?;
     let named = BitSet::new(alloc, count as u64)?;
     let devices = Vec::new(alloc);
     Ok(Intake {
+        version,
         shapes,
         ram,
         named,
@@ -86,9 +89,9 @@ fn advance<D: Disk>(
     ensures room { IfOk result (λ x. x.0 ≤ length bytes.now) }
     ensures few { IfOk result (λ x. length bytes.now ≤ 131077 + x.0) }
     ensures past { IfOk result (λ x. IsPastHead x.1) }
-    ensures memory { (front : List ℕ) (pages : ℕ) (shapes : List shapes.Shape) (before : List records.Record) → Holds256 taken.old front → HasRead (map D.state disks.old) pages shapes before intake front
+    ensures memory { (front : List ℕ) (opening : Opening) (before : List records.Record) → Holds256 taken.old front → HasRead (map D.state disks.old) opening before intake front
         → result ≡ Err errors.NoMemory → HasDevice (sizes_of D.state disks.old) (front ++ bytes.now) (length front) }
-    ensures stepped { (front : List ℕ) (pages : ℕ) (shapes : List shapes.Shape) (before : List records.Record) → Holds256 taken.old front → HasRead (map D.state disks.old) pages shapes before intake front → Stepped (map D.state disks.old) (map D.state disks.new) taken.new front bytes.now result }
+    ensures stepped { (front : List ℕ) (opening : Opening) (before : List records.Record) → Holds256 taken.old front → HasRead (map D.state disks.old) opening before intake front → Stepped (map D.state disks.old) (map D.state disks.new) taken.new front bytes.now result }
 {
     let mut intake = intake;
     match work_off(alloc, &mut intake, disks, taken, bytes) {
@@ -118,7 +121,7 @@ fn begin<D: Disk>(
         return Err(RecvError::ShapeMismatch);
     }
     let len = heading.len;
-    let Ok(intake) = new_intake(alloc, disks, heading.pages, heading.shapes) else {
+    let Ok(intake) = new_intake(alloc, disks, heading) else {
         return Err(RecvError::NoMemory);
     };
     let (header, rest) = bytes.split_at(len);

@@ -9,7 +9,8 @@ use wire::{FoundHead, HEAD_MAX, RECORD_MAX, read_head};
 /// Whether the head of a record is held, and its body is still incomplete with this piece behind the bytes that are held. Nothing
 /// can be taken then, and nothing refused: the head was checked when it was complete. A piece of few bytes costs little by this.
 pub fn is_within_body(stage: &Stage, held: &[u8], piece: &[u8]) -> bool
-    ensures { result ≡ true → IsWithinBody stage.now held.now piece.now }
+    ensures within { result ≡ true → IsWithinBody stage.now held.now piece.now }
+    ensures seen { IsWithinBody stage.now held.now piece.now → result ≡ true }
 {
     let Stage::Records(_) = stage else {
         return false;

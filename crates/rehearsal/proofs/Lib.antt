@@ -3,3 +3,4 @@ pub mod GoingOn
 pub mod Sending
 pub mod Arriving
 pub mod Moving
+pub mod Reliable

@@ -1,2 +1,3 @@
+pub mod InMemory
 pub mod Moves
 pub mod Rehearsing

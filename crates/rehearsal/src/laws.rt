@@ -1,5 +1,6 @@
 //! Laws over the definitions alone. These functions do nothing: their contracts are the laws.
 
+ghost use Rattle.rehearsal.specs.InMemory.{ApplyingStaysReliable, MachinesAreReliable, MemoryIsReliable, ReliableIsHonest, ServingStaysReliable};
 ghost use Rattle.rehearsal.specs.Moves.{ArrivedIsMoved, FirstIsMoving, TakingsStayMoving};
 
 /// A machine of which nothing is sent yet has no history, and nothing of its stream was taken. From here on each call adds to its
@@ -16,4 +17,29 @@ pub fn takings_stay_moving()
 /// What arrives of a stopped machine, in any pieces, is this machine.
 pub fn arrived_is_moved()
     ensures { ArrivedIsMoved }
+{}
+
+/// Disks in memory are reliable: honest and steady, and never failed.
+pub fn memory_is_reliable()
+    ensures { MemoryIsReliable }
+{}
+
+/// So are the disks of a machine over them: one that is new, was saved, or is received.
+pub fn machines_are_reliable()
+    ensures { MachinesAreReliable }
+{}
+
+/// They stay so, whatever is applied to the machine.
+pub fn applying_stays_reliable()
+    ensures { ApplyingStaysReliable }
+{}
+
+/// They stay so in each call while the machine is being migrated.
+pub fn serving_stays_reliable()
+    ensures { ServingStaysReliable }
+{}
+
+/// Reliable disks are honest and steady, which are the premises of what is promised of disks.
+pub fn reliable_is_honest()
+    ensures { ReliableIsHonest }
 {}

@@ -20,7 +20,8 @@
 //! That there is a stream between the two machines is not in the contract, which speaks of machines: a test shows it, over a disk
 //! that keeps the list of its writes.
 //!
-//! `laws` says of a host that makes the calls itself that what arrives is the machine that it stopped (`specs/Moves`).
+//! `laws` says of a host that makes the calls itself that what arrives is the machine that it stopped (`specs/Moves`),
+//! and of a host whose disks are `MemDisk`s that they are honest and steady for as long as its machine lives (`specs/InMemory`).
 //!
 //! It uses `sender` and `receiver`.
 #![tactic(auto)]

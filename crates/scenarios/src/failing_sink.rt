@@ -13,7 +13,7 @@ use wire::WriteSink;
 const WRITER_FAILED: u8 = 4;
 
 /// The length of the stream of a machine of one page and one entropy device to which nothing has happened.
-const LEN: usize = 4221;
+const LEN: usize = 125;
 
 /// Tries all of these.
 pub fn fails(alloc: Global) -> Result<()> {

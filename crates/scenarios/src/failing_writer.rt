@@ -17,10 +17,10 @@ const TEXT: &[u8] =
     b"ram 1\nentropy\nbegin\ncopy\nmw 0x0 00\nstop\nbegin\ncopy\nround\nstop\nmw 0x1 11\n";
 
 /// The replies, each with the number of bytes that the writer has to take for it: a header has 17 bytes, and the record of a page
-/// 4,101. Where it takes fewer the reply is `mig 4`.
+/// of zeros 5. Where it takes fewer the reply is `mig 4`.
 const REPLIES: [(&[u8], usize); 9] = [
     (b"begun 1\n", 17),
-    (b"copied page 0\n", 4118),
+    (b"copied page 0\n", 22),
     (b"done\n", 0),
     (b"mig 4\n", 0),
     (b"mig 4\n", 0),
@@ -37,8 +37,9 @@ const AGAIN: &[u8] = b"ram 1\nentropy\nbegin\nstop\n";
 
 const REPLIES_AGAIN: &[u8] = b"begun 1\nstopped 1 0\n";
 
-/// The length of the first stream where the writer does not fail: a header, two pages, a device of 70 bytes and the digest.
-const LEN: usize = 8322;
+/// The length of the first stream where the writer does not fail: a header, two pages of zeros, a device of 70 bytes and the
+/// digest.
+const LEN: usize = 130;
 
 /// From the first failure on each call of the migration is refused, and the guest goes on. What the writer took is the beginning
 /// of the stream. After the host gave up, a second migration of the machine arrives.

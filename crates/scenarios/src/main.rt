@@ -10,9 +10,11 @@ mod changes;
 mod disks;
 mod failing_sink;
 mod failing_writer;
+mod flags;
 mod journey;
 mod leg;
 mod migration;
+mod plain_ring;
 mod playing;
 mod recording_disk;
 mod refusal;
@@ -53,6 +55,8 @@ fn main(rt: HostRuntime) -> Result<()> {
     for file in env::args(&rt)?.skip(1) {
         show_book(&rt, file.as_str())?;
     }
+    flags::agree(rt.alloc())?;
+    println!(rt; "each value of the flags of a descriptor")?;
     failing_sink::fails(rt.alloc())?;
     println!(rt; "a writer that fails at any byte")?;
     failing_writer::fails(rt.alloc())?;

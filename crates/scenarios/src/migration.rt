@@ -5,7 +5,7 @@ use crate::leg::Leg;
 use crate::playing::{are_lines, plays_on};
 use crate::sameness::are_same;
 use crate::serving::{Served, Way};
-use crate::stream::{PIECES, arrived, arrived_in_pieces};
+use crate::stream::{PIECES, arrived, arrived_in_pieces, saved};
 use anyhow::{Context, Result, ensure};
 use books::{Book, Scenario, spelled};
 use machine::Machine;
@@ -28,7 +28,8 @@ pub struct Migration<'t> {
 
 /// Shows a scenario of a book of migrations: the replies are as its lines say, by single calls and by the list, which write the
 /// same bytes. Where a stop closed the stream, the machine that is received in pieces of any size is the one that was sent, and
-/// so is a machine to which the same happened without the migration. They stay the same.
+/// so is a machine to which the same happened without the migration. They stay the same, and in the end a save of the machine is
+/// received as that machine.
 pub fn show(alloc: Global, book: &Book, scenario: &Scenario) -> Result<()> {
     let text = book.text(alloc, scenario)?;
     let migration = Migration::read(alloc, text.as_str())?;
@@ -166,8 +167,16 @@ impl<'t> Migration<'t> {
         plays_on(alloc, &mut copy, self.after).context("what arrived, then")?;
         plays_on(alloc, &mut alone, self.after).context("alone, then")?;
         are_same(alloc, &mut machine, &mut copy).context("what arrived, in the end")?;
-        are_same(alloc, &mut machine, &mut alone).context("alone, in the end")
+        are_same(alloc, &mut machine, &mut alone).context("alone, in the end")?;
+        is_received_as_saved(alloc, &mut machine).context("saved, in the end")
     }
+}
+
+/// Fails if a machine is saved as the stream of another one.
+fn is_received_as_saved(alloc: Global, machine: &mut Machine<TestDisk>) -> Result<()> {
+    let stream = saved(alloc, machine)?;
+    let mut copy = arrived(alloc, stream.as_slice(), 0)?;
+    are_same(alloc, machine, &mut copy)
 }
 
 /// Applies an event of the guest that was answered.

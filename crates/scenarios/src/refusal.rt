@@ -10,7 +10,8 @@ use receiver::Receiver;
 use std::alloc::Global;
 use wire::decode_header;
 
-/// Of streams that differ in a byte and are reported alike, one in this many is fed in pieces.
+/// Of streams that differ in a byte and are reported alike, each is received whole and byte by byte, and one in this many in
+/// pieces of more bytes.
 const SELDOM: usize = 16;
 
 /// Receives the stream of a line, which is followed by ` -> ` and the number of its refusal, or 0 where it is received. Fed in
@@ -100,15 +101,21 @@ struct Refusals<'t> {
 }
 
 impl<'t> Refusals<'t> {
-    /// Fails if another refusal is reported of the stream that is changed at this position.
+    /// Fails if another refusal is reported of the stream that is changed at this position, whole or byte by byte.
     fn tell(&self, alloc: Global, streams: &Streams, place: usize) -> Result<()> {
         let stream = streams.stream(alloc, place)?;
-        let number = self.numbers.get(place).context("no number")?;
+        let number = *self.numbers.get(place).context("no number")?;
         let disks = self.disks_beside(alloc, streams)?;
         let told = refusal_of(alloc, stream.as_slice(), disks);
-        ensure!(told == *number, "{told} at {place}");
+        ensure!(told == number, "{told} at {place}");
+        let disks = self.disks_beside(alloc, streams)?;
+        let (told, told_at) = refusal_in_pieces(alloc, stream.as_slice(), disks, 1)?;
+        ensure!(told == number, "{told} byte by byte at {place}");
+        if let Some(expected) = self.places.get(place) {
+            ensure!(told_at == *expected, "at byte {told_at} at {place}");
+        }
         if place % SELDOM == 0 || !self.is_as_before(place) {
-            self.tell_in_pieces(alloc, streams, place)?;
+            self.tell_in_pieces(alloc, streams, place, told_at)?;
         }
         Ok(())
     }
@@ -121,20 +128,22 @@ impl<'t> Refusals<'t> {
         }
     }
 
-    /// Fails if the stream, fed in pieces of any size, gets another answer or gets it at another byte.
-    fn tell_in_pieces(&self, alloc: Global, streams: &Streams, place: usize) -> Result<()> {
+    /// Fails if the stream, fed in pieces of more bytes, gets another answer, or gets it in another piece than that of byte
+    /// `told_at`.
+    fn tell_in_pieces(
+        &self,
+        alloc: Global,
+        streams: &Streams,
+        place: usize,
+        told_at: usize,
+    ) -> Result<()> {
         let stream = streams.stream(alloc, place)?;
-        let number = self.numbers.get(place).context("no number")?;
-        let disks = self.disks_beside(alloc, streams)?;
-        let (_, told_at) = refusal_in_pieces(alloc, stream.as_slice(), disks, 1)?;
-        if let Some(expected) = self.places.get(place) {
-            ensure!(told_at == *expected, "at byte {told_at} at {place}");
-        }
+        let number = *self.numbers.get(place).context("no number")?;
         for size in PIECES {
             let disks = self.disks_beside(alloc, streams)?;
             let told = refusal_in_pieces(alloc, stream.as_slice(), disks, size)?;
             let end = told_at.div_ceil(size).saturating_mul(size);
-            let expected = (*number, end.min(stream.len()));
+            let expected = (number, end.min(stream.len()));
             ensure!(told == expected, "pieces of {size} at {place}");
         }
         Ok(())

@@ -15,7 +15,7 @@ use Rattle.machine.specs.State.{MachineState}
 use Rattle.machine.proofs.Effects.{untouched}
 use Rattle.machine.proofs.Numbering.{either_way, is_past, number_back, same_layout}
 use Rattle.machine.proofs.Within.{step_shape}
-use Rattle.wire.specs.Records.{page, sector, round_end}
+use Rattle.wire.specs.Records.{page_record, sector, round_end}
 use Rattle.wire.specs.Stream.{content_of, last_named, or_else, record_of}
 use Rattle.wire.proofs.ItemRecords.{named-append, named_nothing, named_one, says_at}
 use Rattle.sender.specs.History.{AllAllowed, Allowed, AllowedBy, History, entries, is_due, is_numbered, is_stale, machine_after, nothing, phase_of, sends, sent, then_came, touches, went}
@@ -71,7 +71,7 @@ not_among l (i ∷ is) it none (inl e) =
 not_among l (i ∷ is) it none (inr h) = not_among l is it (or_parts (eqb (number_of l it) (number_of l i)) (is_numbered l is (number_of l it)) none).1 h
 
 item_stays : (m : MachineState) (c : Effect) (it : items.Item) → ¬ (Among (items_of c) it) → record_of (applied m c) it ≡ record_of m it
-item_stays m c (items.page n) none = ap (page n) (untouched m c (items.page n) none)
+item_stays m c (items.page n) none = ap (page_record 2 n) (untouched m c (items.page n) none)
 item_stays m c (items.sector d n) none = ap (λ x. sector d n (content_of x)) (untouched m c (items.sector d n) none)
 
 record_stays : (m : MachineState) (l : Layout) (e : LiveEvent) (reply : LiveReply) (c : Effect) (it : items.Item) → touches l e reply c (number_of l it) ≡ false → record_of (went m e reply c) it ≡ record_of m it
@@ -115,7 +115,7 @@ chosen_named m p (suc k) i le low =
       | inl e ↦
           let x = record_of m (item_at (layout_of m) k) in
           let all : records_of m (chosen p (suc k)) ≡ records_of m (chosen p k) ++ x ∷ [] = rw e (map-append _ (chosen p k) (k ∷ [])) in
-          let one : last_named it (x ∷ []) ≡ cond (eqb i k) (Some (record_of m it)) None = named_one it x ∙ says_at m i k low (omega (arith, le)) in
+          let one : last_named it (x ∷ []) ≡ cond (eqb i k) (Some (record_of m it)) None = named_one it x ∙ says_at 2 m i k low (omega (arith, le)) in
           ap (last_named it) all ∙ named-append it (records_of m (chosen p k)) (x ∷ [])
           ∙ rw (one, chosen_named m p k i (omega (arith, le)) low) (named_last p i k (record_of m it) e)
       | inr e ↦
@@ -147,7 +147,7 @@ module _ (m : MachineState) (h : History) (i : ℕ) (low : i < size_of (layout_o
   says_here : (k : ℕ) → k < size_of (layout_of m) → last_named it (record_of mid (item_at (layout_of m) k) ∷ []) ≡ cond (eqb i k) (Some (record_of mid it)) None
   says_here k high =
       let P : Layout → Type 0 = λ l. (k < size_of l) → (i < size_of l) → last_named (item_at l i) (record_of mid (item_at l k) ∷ []) ≡ cond (eqb i k) (Some (record_of mid (item_at l i))) None in
-      subst P layout_here (λ hi lo. named_one (item_at (layout_of mid) i) (record_of mid (item_at (layout_of mid) k)) ∙ says_at mid i k lo hi) high low
+      subst P layout_here (λ hi lo. named_one (item_at (layout_of mid) i) (record_of mid (item_at (layout_of mid) k)) ∙ says_at 2 mid i k lo hi) high low
 
   names_copy : (phase : Phase) (c : Effect) (reply : LiveReply) → AllowedBy (layout_of m) mid (is_stale (layout_of m) h) (is_due (layout_of m) h) phase Copy reply c → Names Copy reply
   names_copy phase c (r.Copied item) d =

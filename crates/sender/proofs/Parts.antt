@@ -6,21 +6,21 @@ use Rattle.guestmem.specs.Page.{page_of}
 use Rattle.machine.specs.Layout.{firsts_from, item_at, layout_of, pages_of, size_of, size_from}
 use Rattle.machine.specs.State.{MachineState}
 use Rattle.machine.proofs.Numbering.{is_below, item_back}
-use Rattle.wire.specs.Records.{page, spelled_record}
-use Rattle.wire.specs.Header.{header}
-use Rattle.wire.specs.Stream.{device_texts, record_of, records_below, saved, shapes_in, texts}
+use Rattle.wire.specs.Records.{page_record, spelled_record}
+use Rattle.wire.specs.Header.{header, opening_of}
+use Rattle.wire.specs.Stream.{device_texts, record_of, records_below, saved, shapes_in, texts, records_in}
 use Rattle.wire.proofs.Saving.{one_record}
 use Rattle.wire.proofs.Whole.{texts-snoc}
 use Rattle.sender.specs.Items.{disk_text, first_sector, front_text, records_from, sectors_before, sectors_text, size_on}
 
 pub no_records : (x : List ℕ) (m : MachineState) → x ++ texts (records_below m 0) ≡ x
-unfolding records_below texts
+unfolding records_in texts
 no_records x m = append-nil x
 
-pub page_more : (x : List ℕ) (m : MachineState) (b : List ℕ) (n : ℕ) → n < pages_of m → b ≡ page_of m.ram n → (x ++ texts (records_below m n)) ++ spelled_record (page n b) ≡ x ++ texts (records_below m (n + 1))
+pub page_more : (x : List ℕ) (m : MachineState) (b : List ℕ) (n : ℕ) → n < pages_of m → b ≡ page_of m.ram n → (x ++ texts (records_below m n)) ++ spelled_record (page_record 2 n b) ≡ x ++ texts (records_below m (n + 1))
 page_more x m b n below e =
-    let one : texts (records_below m (n + 1)) ≡ texts (records_below m n) ++ spelled_record (page n (page_of m.ram n)) = rw (is_below n (pages_of m) below) at (one_record m n) in
-    rw (e, one) (append_assoc x (texts (records_below m n)) (spelled_record (page n (page_of m.ram n))))
+    let one : texts (records_below m (n + 1)) ≡ texts (records_below m n) ++ spelled_record (page_record 2 n (page_of m.ram n)) = rw (is_below n (pages_of m) below) at (one_record m n) in
+    rw (e, one) (append_assoc x (texts (records_below m n)) (spelled_record (page_record 2 n (page_of m.ram n))))
 
 -- The sectors of a disk have the numbers from that of the first one on.
 pub first_at : (sizes : List ℕ) (first dev : ℕ) → dev < length sizes → get_or (firsts_from first sizes) dev 0 ≡ size_from first (take dev sizes)
@@ -116,6 +116,6 @@ items_in_parts m =
 -- The parts in their order are what is saved.
 pub saved_in_parts : (m : MachineState) → front_text m ++ (sectors_text m ++ device_texts 0 m.devices) ≡ saved m
 saved_in_parts m =
-    let head = header (pages_of m) (shapes_in m.devices) in
+    let head = header (opening_of (pages_of m) (shapes_in m.devices)) in
     append_assoc head (texts (records_below m (pages_of m))) (sectors_text m ++ device_texts 0 m.devices)
     ∙ ap (λ t. head ++ t) (sym (append_assoc (texts (records_below m (pages_of m))) (sectors_text m) (device_texts 0 m.devices)) ∙ ap (λ t. t ++ device_texts 0 m.devices) (sym (items_in_parts m)))

@@ -16,21 +16,17 @@ use Rattle.machine.specs.Sound.{IsSound, IsSoundDevice, IsSoundShape}
 use Rattle.machine.specs.State.{DeviceState, MachineState}
 use Rattle.machine.specs.Step.{disk_of, disk_or_none}
 use Rattle.machine.proofs.At.{whole_disk}
-use Rattle.wire.specs.Header.{header}
+use Rattle.wire.specs.Header.{header, opening_of}
 use Rattle.wire.specs.Numbers.{digits}
 use Rattle.wire.specs.DeviceBody.{body}
-use Rattle.wire.specs.Records.{commit, device, page, sector, spelled_record}
-use Rattle.wire.specs.Stream.{content_of, device_texts, record_of, records_below, saved, shapes_in, texts, whole}
+use Rattle.wire.specs.Records.{commit, device, page_record, sector, spelled_record}
+use Rattle.wire.specs.Stream.{content_of, device_texts, record_of, records_below, saved, shapes_in, texts, whole, whole_in}
 use Rattle.wire.proofs.Digits.{length-digits}
 use Rattle.wire.proofs.Saving.{device_more}
 use Rattle.sender.specs.Items.{disk_text, first_sector, front_text, records_from, sectors_text, size_on}
 use Rattle.sender.proofs.Parts.{none_from, no_records, page_more, saved_in_parts, sector_more}
 
 -- Records, one by one.
-length_page : (n : ℕ) (b : List ℕ) → length b ≡ 4096 → length (spelled_record (page n b)) ≡ 4101
-unfolding spelled_record
-length_page n b e = omega (arith, length-append (digits 4 n) b, length-digits 4 n, e)
-
 length_good : (d n : ℕ) (b : List ℕ) → length b ≡ 512 → length (spelled_record (sector d n (Some b))) ≡ 519
 unfolding spelled_record
 length_good d n b e = omega (arith, length-append (digits 4 n) (1 ∷ b), length-digits 4 n, e)
@@ -44,19 +40,9 @@ unfolding spelled_record
 length_commit bytes = ap suc (length-sha256 bytes)
 
 -- The pages.
-length_page_of : (ram : List ℕ) (n : ℕ) → 4096 * n + 4096 ≤ length ram → length (page_of ram n) ≡ 4096
-length_page_of ram n room = length-take-le 4096 (drop (4096 * n) ram) (omega (arith, length-drop (4096 * n) ram, room))
-
-pub pages_long : (m : MachineState) (n : ℕ) → n ≤ pages_of m → length (texts (records_below m n)) ≡ 4101 * n
-pages_long m zero few = ap length (no_records [] m)
-pages_long m (suc n) few =
-    let below : n < pages_of m = omega (arith, few) in
-    let b = page_of m.ram n in
-    let one : length b ≡ 4096 = length_page_of m.ram n (omega (arith, below)) in
-    let more : texts (records_below m n) ++ spelled_record (page n b) ≡ texts (records_below m (n + 1)) = page_more [] m b n below refl in
-    let next : n + 1 ≡ suc n = omega arith in
-    let long : length (texts (records_below m (n + 1))) ≡ 4101 * n + 4101 = sym (ap length more) ∙ length-append (texts (records_below m n)) (spelled_record (page n b)) ∙ omega (arith, pages_long m n (omega (arith, few)), length_page n b one) in
-    sym (ap (λ (k : ℕ). length (texts (records_below m k))) next) ∙ omega (arith, long)
+pub one_page_long : (m : MachineState) (b : List ℕ) (n : ℕ) → n < pages_of m → b ≡ page_of m.ram n
+    → length (texts (records_below m (n + 1))) ≡ length (texts (records_below m n)) + length (spelled_record (page_record 2 n b))
+one_page_long m b n below is = sym (ap length (page_more [] m b n below is)) ∙ length-append (texts (records_below m n)) (spelled_record (page_record 2 n b))
 
 -- The sectors of a disk: the record of a bad one is 512 bytes shorter.
 content_in : (disk : List Sector) (n : ℕ) → content_of (slice_get disk n) ≡ get_or disk n None
@@ -128,16 +114,17 @@ one_device m n d is below =
     sym (ap length more) ∙ length-append (device_texts 0 (take n m.devices)) (spelled_record (device n (body d)))
 
 -- All parts.
-pub whole_long : (m : MachineState) (head sectors devices : ℕ) → ((pages : ℕ) → head ≡ length (header pages (shapes_in m.devices))) → sectors ≡ length (sectors_text m) → devices ≡ length (device_texts 0 m.devices)
-    → head + 4101 * pages_of m + (sectors + devices) + 33 ≡ length (whole m)
-unfolding whole
-whole_long m head sectors devices heads disks states =
-    let top = header (pages_of m) (shapes_in m.devices) in
-    let pages = texts (records_below m (pages_of m)) in
+pub whole_long : (m : MachineState) (head pages sectors devices : ℕ) → head ≡ length (header (opening_of (pages_of m) (shapes_in m.devices))) → pages ≡ length (texts (records_below m (pages_of m))) → sectors ≡ length (sectors_text m) → devices ≡ length (device_texts 0 m.devices)
+    → head + (pages + sectors + devices) + 33 ≡ length (whole m)
+unfolding whole_in
+whole_long m head pages sectors devices heads named disks states =
+    let top = header (opening_of (pages_of m) (shapes_in m.devices)) in
+    let first = texts (records_below m (pages_of m)) in
     let rest = sectors_text m ++ device_texts 0 m.devices in
     omega (
       arith,
-      heads (pages_of m),
+      heads,
+      named,
       disks,
       states,
       length-append (saved m) (spelled_record (commit (sha256 (saved m)))),
@@ -145,6 +132,5 @@ whole_long m head sectors devices heads disks states =
       ap length (saved_in_parts m),
       length-append (front_text m) rest,
       length-append (sectors_text m) (device_texts 0 m.devices),
-      length-append top pages,
-      pages_long m (pages_of m) (omega arith),
+      length-append top first,
     )

@@ -14,10 +14,12 @@ use Rattle.machine.specs.declared.event.Event.{Event}
 use Rattle.machine.specs.declared.reply.Reply.{Reply}
 use Rattle.machine.specs.declared.shape.Shape.{Shape}
 use Rattle.machine.proofs.Numbering.{either_way, item_back, item_there, number_back, number_below, same_layout}
-use Rattle.wire.specs.Header.{header}
-use Rattle.wire.specs.Records.{Record, commit, device, page, round_end, sector, spelled_record}
+use Rattle.wire.specs.Header.{header, opening_of}
+use Rattle.wire.specs.Records.{Record, commit, device, is_zero_page, page, page_record, round_end, sector, spelled_record, zero_page}
 use Rattle.wire.specs.Stream.{AreNumbered, IsEntry, IsStream, device_texts, last_named, record_of, rounds, shapes_in, texts}
-use Rattle.wire.proofs.Whole.{each-snoc, is_item_entry}
+use Rattle.guestmem.specs.Page.{page_of}
+use Rattle.wire.proofs.PageRecords.{as_page, as_zeros}
+use Rattle.wire.proofs.Whole.{each-snoc, is_item_entry, numbered_item}
 use Rattle.sender.specs.History.{AllAllowed, Allowed, AllowedBy, History, IsItsChange, IsStaleItem, entries, is_due, is_stale, machine_after, next_phase, nothing, phase_of, text, then_came, went}
 use Rattle.sender.specs.HistoryLaws.{StoppedIsStream}
 use Rattle.sender.specs.LiveState.{chosen, header_of, item_of, last_round, records_of, refusal_for}
@@ -35,8 +37,8 @@ use Rattle.sender.proofs.Stopping.{texts-append}
 
 -- What stands in the stream while a round is open: the header, and entries.
 pub record HasBody (l : Layout) (shapes : List Shape) (written_so_far : List ℕ) (rs : List Record) (k : ℕ) : Type 0 where
-  pub text_is : written_so_far ≡ header l.pages shapes ++ texts rs
-  pub each : AllByRecursion (IsEntry l) rs
+  pub text_is : written_so_far ≡ header (opening_of l.pages shapes) ++ texts rs
+  pub each : AllByRecursion (IsEntry 2 l) rs
   pub numbered : AreNumbered 1 rs
   pub rounds_are : k ≡ 1 + rounds rs
   pub few : k ≤ last_round
@@ -52,24 +54,23 @@ unfolding texts
 no_texts = refl
 
 -- Records of items end no round.
-numbered_item : (k : ℕ) (rs : List Record) (m : MachineState) (i : items.Item) → AreNumbered k rs → AreNumbered k (rs ++ record_of m i ∷ [])
-numbered_item k [] m (items.page n) h = tt
-numbered_item k [] m (items.sector d n) h = tt
-numbered_item k (page n bytes ∷ rs) m i h = numbered_item k rs m i h
-numbered_item k (sector d n content ∷ rs) m i h = numbered_item k rs m i h
-numbered_item k (round_end n ∷ rs) m i h = (h.0, numbered_item (k + 1) rs m i h.1)
-numbered_item k (device n bytes ∷ rs) m i h = numbered_item k rs m i h
-numbered_item k (commit digest ∷ rs) m i h = numbered_item k rs m i h
+rounds_page : (version n : ℕ) (b : List ℕ) → rounds (page_record version n b ∷ []) ≡ 0
+unfolding rounds
+rounds_page version n b = elim (either_way (is_zero_page version b)) as (λ _. rounds (page_record version n b ∷ []) ≡ 0) [
+  | inl z ↦ rw (as_zeros version n b z) refl
+  | inr f ↦ rw (as_page version n b f) refl
+]
 
 rounds_item : (rs : List Record) (m : MachineState) (i : items.Item) → rounds (rs ++ record_of m i ∷ []) ≡ rounds rs
 unfolding rounds
-rounds_item [] m (items.page n) = refl
+rounds_item [] m (items.page n) = rounds_page 2 n (page_of m.ram n)
 rounds_item [] m (items.sector d n) = refl
 rounds_item (page n bytes ∷ rs) m i = rounds_item rs m i
 rounds_item (sector d n content ∷ rs) m i = rounds_item rs m i
 rounds_item (round_end n ∷ rs) m i = ap (λ (x : ℕ). x + 1) (rounds_item rs m i)
 rounds_item (device n bytes ∷ rs) m i = rounds_item rs m i
 rounds_item (commit digest ∷ rs) m i = rounds_item rs m i
+rounds_item (zero_page z ∷ rs) m i = rounds_item rs m i
 
 numbered_round : (k : ℕ) (rs : List Record) (n : ℕ) → AreNumbered k rs → n ≡ k + rounds rs → AreNumbered k (rs ++ round_end n ∷ [])
 unfolding rounds
@@ -79,6 +80,7 @@ numbered_round k (sector d j content ∷ rs) n h is = numbered_round k rs n h is
 numbered_round k (round_end j ∷ rs) n h is = (h.0, numbered_round (k + 1) rs n h.1 (omega (arith, is)))
 numbered_round k (device j bytes ∷ rs) n h is = numbered_round k rs n h is
 numbered_round k (commit digest ∷ rs) n h is = numbered_round k rs n h is
+numbered_round k (zero_page z ∷ rs) n h is = numbered_round k rs n h is
 
 rounds_round : (rs : List Record) (n : ℕ) → rounds (rs ++ round_end n ∷ []) ≡ rounds rs + 1
 unfolding rounds
@@ -88,13 +90,14 @@ rounds_round (sector d j content ∷ rs) n = rounds_round rs n
 rounds_round (round_end j ∷ rs) n = ap (λ (x : ℕ). x + 1) (rounds_round rs n)
 rounds_round (device j bytes ∷ rs) n = rounds_round rs n
 rounds_round (commit digest ∷ rs) n = rounds_round rs n
+rounds_round (zero_page z ∷ rs) n = rounds_round rs n
 
-item_more : (l : Layout) (shapes : List Shape) (t : List ℕ) (rs : List Record) (k : ℕ) (m : MachineState) (i : items.Item) → IsEntry l (record_of m i) → HasBody l shapes t rs k
+item_more : (l : Layout) (shapes : List Shape) (t : List ℕ) (rs : List Record) (k : ℕ) (m : MachineState) (i : items.Item) → IsEntry 2 l (record_of m i) → HasBody l shapes t rs k
     → HasBody l shapes (t ++ texts (record_of m i ∷ [])) (rs ++ record_of m i ∷ []) k
 item_more l shapes t rs k m i entry b = record {
-  text_is = ap (λ (x : List ℕ). x ++ texts (record_of m i ∷ [])) b.text_is ∙ append_assoc (header l.pages shapes) (texts rs) (texts (record_of m i ∷ [])) ∙ ap (λ (x : List ℕ). header l.pages shapes ++ x) (sym (texts-append rs (record_of m i ∷ [])));
-  each = each-snoc l rs (record_of m i) b.each entry;
-  numbered = numbered_item 1 rs m i b.numbered;
+  text_is = ap (λ (x : List ℕ). x ++ texts (record_of m i ∷ [])) b.text_is ∙ append_assoc (header (opening_of l.pages shapes)) (texts rs) (texts (record_of m i ∷ [])) ∙ ap (λ (x : List ℕ). header (opening_of l.pages shapes) ++ x) (sym (texts-append rs (record_of m i ∷ [])));
+  each = each-snoc 2 l rs (record_of m i) b.each entry;
+  numbered = numbered_item 2 1 rs m i b.numbered;
   rounds_are = b.rounds_are ∙ ap (λ (x : ℕ). 1 + x) (sym (rounds_item rs m i));
   few = b.few;
 }
@@ -103,8 +106,8 @@ and_not : (b : Bool) → (b && not b) ≡ false
 and_not true = refl
 and_not false = refl
 
-entry_at : (m : MachineState) (i : ℕ) → IsSound m → i < size_of (layout_of m) → IsEntry (layout_of m) (record_of m (item_at (layout_of m) i))
-entry_at m i sound below = is_item_entry m (item_at (layout_of m) i) sound (item_there (layout_of m) i below)
+entry_at : (m : MachineState) (i : ℕ) → IsSound m → i < size_of (layout_of m) → IsEntry 2 (layout_of m) (record_of m (item_at (layout_of m) i))
+entry_at m i sound below = is_item_entry 2 m (item_at (layout_of m) i) sound (item_there (layout_of m) i below)
 
 chosen_body : (now_ : MachineState) (shapes : List Shape) (p : ℕ → Bool) (n k : ℕ) (t : List ℕ) (rs : List Record) → IsSound now_ → n ≤ size_of (layout_of now_) → HasBody (layout_of now_) shapes t rs k
     → HasBody (layout_of now_) shapes (t ++ texts (records_of now_ (chosen p n))) (rs ++ records_of now_ (chosen p n)) k
@@ -194,17 +197,17 @@ module _ (m : MachineState) (h : History) (a : AllAllowed m h) (sound : IsSound 
 
   copied_phase : (k number : ℕ) (item : Sent) (c : Effect) → item_of item ≡ item_at (layout_of m) number → number < size_of (layout_of m) → HasBody (layout_of m) (shapes_in m.devices) (text m h) (entries m h) k → In (phases.Open k) Copy (r.Copied item) c
   copied_phase k number item c is below b =
-      let P : Layout → Type 0 = λ l. (number < size_of l) → IsEntry l (record_of mid (item_at l number)) in
-      let there : IsEntry (layout_of m) (record_of mid (item_at (layout_of m) number)) = subst P layout_here (λ low. entry_at mid number sound_here low) below in
+      let P : Layout → Type 0 = λ l. (number < size_of l) → IsEntry 2 l (record_of mid (item_at l number)) in
+      let there : IsEntry 2 (layout_of m) (record_of mid (item_at (layout_of m) number)) = subst P layout_here (λ low. entry_at mid number sound_here low) below in
       item_more (layout_of m) (shapes_in m.devices) (text m h) (entries m h) k mid (item_of item) (rw is there) b
 
   round_phase : (k n : ℕ) (c : Effect) → n ≡ k + 1 → k ≢ last_round → HasBody (layout_of m) (shapes_in m.devices) (text m h) (entries m h) k → In (phases.Open n) EndRound (r.Begun n) c
   round_phase k n c next some b =
       let e : n - 1 ≡ k = omega (arith, next) in
-      let header_ = header (pages_of m) (shapes_in m.devices) in
+      let header_ = header (opening_of (pages_of m) (shapes_in m.devices)) in
       rw e (record {
         text_is = ap (λ (x : List ℕ). x ++ texts (round_end k ∷ [])) b.text_is ∙ append_assoc header_ (texts (entries m h)) (texts (round_end k ∷ [])) ∙ ap (λ (x : List ℕ). header_ ++ x) (sym (texts-append (entries m h) (round_end k ∷ [])));
-        each = each-snoc (layout_of m) (entries m h) (round_end k) b.each (record { spells = omega (arith, b.few); stands = tt });
+        each = each-snoc 2 (layout_of m) (entries m h) (round_end k) b.each (record { spells = omega (arith, b.few); has = tt; stands = tt });
         numbered = numbered_round 1 (entries m h) k b.numbered b.rounds_are;
         rounds_are = omega (arith, next, b.rounds_are, rounds_round (entries m h) k);
         few = omega (arith, next, some, b.few);
@@ -216,10 +219,12 @@ module _ (m : MachineState) (h : History) (a : AllAllowed m h) (sound : IsSound 
       let xs = records_of mid (chosen stale n) in
       let P : Layout → Type 0 = λ x. HasBody x (shapes_in m.devices) (text m h) (entries m h) k in
       let body = chosen_body mid (shapes_in m.devices) stale n k (text m h) (entries m h) sound_here (omega arith) (subst P (sym layout_here) b) in
-      let heads : header (pages_of m) (shapes_in m.devices) ≡ header (pages_of mid) (shapes_in mid.devices) = sym header_here in
+      let heads : header (opening_of (pages_of m) (shapes_in m.devices)) ≡ header (opening_of (pages_of mid) (shapes_in mid.devices)) = sym header_here in
       record {
+        version = 2;
         entries = entries m h ++ xs;
         by = record {
+          known = record { least = omega arith; most = omega arith };
           each = body.each;
           numbered = body.numbered;
           last = λ i has.
@@ -228,7 +233,7 @@ module _ (m : MachineState) (h : History) (a : AllAllowed m h) (sound : IsSound 
               let Q : items.Item → Type 0 = λ x. last_named x (entries m (then_came h Stop (r.Stopped pages sectors) c)) ≡ Some (record_of mid x) in
               subst Q (item_back (layout_of m) i within) (fresh_is_last m (then_came h Stop (r.Stopped pages sectors) c) number (a, may, none) (number_below (layout_of m) i within) (and_not (is_stale (layout_of m) h number)));
           sound = sound_here;
-          whole = closed_same (text m h) (header (pages_of mid) (shapes_in mid.devices)) (texts (entries m h)) (texts (entries m h ++ xs)) (texts xs) (device_texts 0 mid.devices) (λ y. spelled_record (commit (sha256 y)))
+          whole = closed_same (text m h) (header (opening_of (pages_of mid) (shapes_in mid.devices))) (texts (entries m h)) (texts (entries m h ++ xs)) (texts xs) (device_texts 0 mid.devices) (λ y. spelled_record (commit (sha256 y)))
               (b.text_is ∙ ap (λ (y : List ℕ). y ++ texts (entries m h)) heads) (texts-append (entries m h) xs);
         };
       }

@@ -2,7 +2,7 @@
 use Rattle.std.specs.Prelude.{ℕ, zero, suc, ◌+◌, List, [], ◌∷◌, ◌++◌, length, map, slice_index, take}
 use Rattle.machine.specs.Layout.{item_at, layout_of, pages_of, size_from}
 use Rattle.machine.specs.State.{MachineState}
-use Rattle.wire.specs.Header.{header}
+use Rattle.wire.specs.Header.{header, opening_of}
 use Rattle.wire.specs.Records.{Record}
 use Rattle.wire.specs.Stream.{record_of, records_below, shapes_in, texts}
 
@@ -20,7 +20,7 @@ sectors_before m dev = size_from 0 (take dev (map length m.disks))
 
 -- The header, and the record of each page.
 abbrev pub front_text : MachineState → List ℕ
-front_text m = header (pages_of m) (shapes_in m.devices) ++ texts (records_below m (pages_of m))
+front_text m = header (opening_of (pages_of m) (shapes_in m.devices)) ++ texts (records_below m (pages_of m))
 
 -- The record of each sector of a device's disk, and of all disks, in order.
 abbrev pub size_on : MachineState → ℕ → ℕ

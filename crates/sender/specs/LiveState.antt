@@ -6,7 +6,7 @@ use Rattle.guestmem.specs.Item as items
 use Rattle.machine.specs.Layout.{Layout, item_at, layout_of, pages_of}
 use Rattle.machine.specs.Seen.{Seen, state_of}
 use Rattle.machine.specs.State.{MachineState}
-use Rattle.wire.specs.Header.{header}
+use Rattle.wire.specs.Header.{header, opening_of}
 use Rattle.wire.specs.Records.{Record, commit, spelled_record}
 use Rattle.wire.specs.Sinks.{SinkState}
 use Rattle.wire.specs.Stream.{device_texts, record_of, shapes_in}
@@ -77,7 +77,7 @@ abbrev pub records_of : MachineState → List ℕ → List Record
 records_of m numbers = map (record_at m) numbers
 
 abbrev pub header_of : MachineState → List ℕ
-header_of m = header (pages_of m) (shapes_in m.devices)
+header_of m = header (opening_of (pages_of m) (shapes_in m.devices))
 
 -- What closes a stream, by what was written before: the devices, and the digest of all.
 abbrev pub closing : MachineState → List ℕ → List ℕ

@@ -2,21 +2,35 @@
 
 ghost use Rattle.std.specs.Prelude.{◌≡◌, ◌<◌, ◌≤◌, length};
 ghost use Rattle.machine.specs.Seen.{state_of};
-ghost use Rattle.wire.specs.Stream.{device_texts, whole};
+ghost use Rattle.machine.specs.Layout.{pages_of};
+ghost use Rattle.wire.specs.Stream.{device_texts, records_below, texts, whole};
 ghost use Rattle.sender.specs.Items.{disk_text, sectors_text};
 
 use crate::numbering::{page_count, sector_count};
 use machine::{Disk, Machine};
-use wire::{BAD_SECTOR_LEN, COMMIT_LEN, GOOD_SECTOR_LEN, PAGE_RECORD_LEN, device_len, header_len};
+use wire::{BAD_SECTOR_LEN, COMMIT_LEN, GOOD_SECTOR_LEN, device_len, header_len, page_len};
 
-/// The length in bytes of the stream that `save` writes of a machine. It makes none of it: it takes no memory, looks at no
-/// page and calls no disk.
+/// The length in bytes of the stream that `save` writes of a machine. It makes none of it: it takes no memory and calls no disk. It
+/// looks at each page once, since a page of zeros has a short record.
 pub fn saved_len<D: Disk>(machine: &Machine<D>) -> u64
     ensures { result ≡ length (whole (state_of machine.now)) }
 {
-    let pages = PAGE_RECORD_LEN * page_count(machine);
-    let parts = sectors_len(machine) + devices_len(machine);
-    header_len(machine.shapes()) + pages + parts + COMMIT_LEN
+    let parts = pages_len(machine) + sectors_len(machine) + devices_len(machine);
+    header_len(machine.shapes()) + parts + COMMIT_LEN
+}
+
+/// The length of the records of all pages.
+fn pages_len<D: Disk>(machine: &Machine<D>) -> u64
+    ensures len { result ≡ length (texts (records_below (state_of machine.now) (pages_of (state_of machine.now)))) }
+    ensures short { result ≤ 67190784 }
+{
+    let ram = machine.ram();
+    ram.recall();
+    let mut len = 0;
+    for number in 0..page_count(machine) {
+        len += page_len(ram.page(number));
+    }
+    len
 }
 
 /// The length of the records of all sectors.

@@ -28,7 +28,7 @@ use wire::{
 /// devices, and the digest. A bad sector is written without a call of its disk. It returns `StreamFailed` exactly if
 /// the writer failed, and `DiskFailed` exactly if the disk that it names failed. The machine stays as it was. It takes
 /// no memory.
-#[tactic(auto, unfolding(wire::specs::Stream::whole))]
+#[tactic(auto, unfolding(wire::specs::Stream::whole_in))]
 pub fn save<D: Disk, S: Sink>(machine: &mut Machine<D>, out: &mut S) -> Result<(), MigError>
     ensures sent { Sends machine.old (S.state out.old) (whole (state_of machine.old)) result machine.new (S.state out.new) }
     ensures flushed { OnOk result ((S.state out.new).is_flushed ≡ true) }

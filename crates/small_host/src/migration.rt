@@ -60,9 +60,8 @@ fn send_rounds(live: &mut Moving) -> Result<()> {
 /// Sends what is due. A host whose guest runs lets it run between two copies.
 fn send_due(live: &mut Moving) -> Result<()> {
     for _ in 0..live.remaining().due {
-        match live.copy()? {
-            CopyAnswer::Copied(_) => {}
-            CopyAnswer::RoundDone => break,
+        if let CopyAnswer::RoundDone = live.copy()? {
+            break;
         }
     }
     Ok(())

@@ -2,11 +2,11 @@
 use Rattle.std.proofs.Common.{◌≡◌, inl, inr, ℕ, List, ◌++◌, length, map, ap, ◌∙◌, ◌/◌, append_assoc, refl, Option, None}
 use Rattle.guestmem.specs.declared.limits.TheConstants.{PAGE_SIZE}
 use Rattle.machine.specs.State.{MachineState}
-use Rattle.machine.specs.declared.shape.Shape.{Shape}
 use Rattle.receiver.specs.Disks.{disk_marks_of, sizes_of}
 use Rattle.traces.specs.Replies.{AppendsBeginning, checked_line}
-use Rattle.wire.specs.Header.{Begins, header}
-use Rattle.vmig.proofs.MemoryDisks.{in_memory, refused_steadily, zeros_sized}
+use Rattle.wire.specs.Header.{Begins, Opening, header}
+use Rattle.rehearsal.specs.InMemory.{memory_state}
+use Rattle.vmig.proofs.MemoryDisks.{refused_steadily, zeros_sized}
 use Rattle.vmig.proofs.Written.{keeps_same}
 use Rattle.vmig.specs.Checking.{AreSizesOf, HasCome, IsStreamLine, TellsOfChecked, TellsOfStream, zero_disks}
 use Rattle.vmig.specs.Faults.{TellsOfOutput}
@@ -15,29 +15,28 @@ use Rattle.vmig.specs.Output.{FailsOnFile, Silently}
 use Rattle.vmig.specs.declared.fault.Fault.{Fault}
 
 -- The disks fit the header, whatever comes after the front.
-begins_on : (front more : List ℕ) (pages : ℕ) (shapes : List Shape) (rest : List ℕ) → Begins front pages shapes rest → Begins (front ++ more) pages shapes (rest ++ more)
-begins_on front more pages shapes rest b = record {
+begins_on : (front more : List ℕ) (opening : Opening) (rest : List ℕ) → Begins front opening rest → Begins (front ++ more) opening (rest ++ more)
+begins_on front more opening rest b = record {
   good = b.good;
-  whole = ap (λ (x : List ℕ). x ++ more) b.whole ∙ append_assoc (header pages shapes) rest more;
+  whole = ap (λ (x : List ℕ). x ++ more) b.whole ∙ append_assoc (header opening) rest more;
 }
 
-front_sized : (front more : List ℕ) (pages : ℕ) (shapes : List Shape) (rest : List ℕ) (disks : List (List (List ℕ))) → Begins front pages shapes rest → disks ≡ zero_disks shapes → AreSizesOf (front ++ more) (map length disks)
-front_sized front more pages shapes rest disks b are = inl (record {
-  pages = pages;
-  shapes = shapes;
+front_sized : (front more : List ℕ) (opening : Opening) (rest : List ℕ) (disks : List (List (List ℕ))) → Begins front opening rest → disks ≡ zero_disks opening.shapes → AreSizesOf (front ++ more) (map length disks)
+front_sized front more opening rest disks b are = inl (record {
+  opening = opening;
   rest = rest ++ more;
-  begins = begins_on front more pages shapes rest b;
-  sizes_are = zeros_sized shapes disks are;
+  begins = begins_on front more opening rest b;
+  sizes_are = zeros_sized opening.shapes disks are;
 })
 
-pub rest_told : (stream front : List ℕ) (pages : ℕ) (shapes : List Shape) (rest : List ℕ) (disks : List (List (List ℕ))) (fault : Fault) → Begins front pages shapes rest → disks ≡ zero_disks shapes
-    → TellsOfRest stream front (sizes_of in_memory disks) (disk_marks_of in_memory disks) fault → TellsOfChecked stream fault
-rest_told stream front pages shapes rest disks fault b are (inl file) = inl file
-rest_told stream front pages shapes rest disks fault b are (inr told) = inr (
+pub rest_told : (stream front : List ℕ) (opening : Opening) (rest : List ℕ) (disks : List (List (List ℕ))) (fault : Fault) → Begins front opening rest → disks ≡ zero_disks opening.shapes
+    → TellsOfRest stream front (sizes_of memory_state disks) (disk_marks_of memory_state disks) fault → TellsOfChecked stream fault
+rest_told stream front opening rest disks fault b are (inl file) = inl file
+rest_told stream front opening rest disks fault b are (inr told) = inr (
   front ++ told.more,
   inr (record {
     sizes = map length disks;
-    fit = front_sized front told.more pages shapes rest disks b are;
+    fit = front_sized front told.more opening rest disks b are;
     refusal = told.refusal;
     refused = refused_steadily disks (front ++ told.more) told.refusal told.refused;
     is = told.is;

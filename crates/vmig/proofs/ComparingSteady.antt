@@ -16,7 +16,7 @@ use Rattle.receiver.specs.Disks.{IsUnsteady, disk_marks_of}
 use Rattle.rehearsal.specs.Rehearsing.{HasAnswered, HasPlayed}
 use Rattle.sender.specs.declared.event.LiveEvent.{LiveEvent}
 use Rattle.sender.specs.declared.event.LiveReply.{LiveReply}
-use Rattle.vmig.proofs.MemoryDisks.{in_memory}
+use Rattle.rehearsal.specs.InMemory.{memory_state}
 use Rattle.vmig.specs.Comparing.{AreSteady}
 
 abbrev pub IsSteady : Marks → Type 0
@@ -71,9 +71,9 @@ answered_stays machine source events replies answered are = both_stay (all_marks
 pub dealt_steady : (shapes : List Shape) (marks : List Marks) → AreSteady marks → AreSteady (dealt_marks shapes marks)
 dealt_steady shapes marks are = dealt_all IsSteady (refl, refl) shapes marks are
 
-each_in_memory : (disks : List (List (List ℕ))) → AllByRecursion IsSteady (disk_marks_of in_memory disks)
+each_in_memory : (disks : List (List (List ℕ))) → AllByRecursion IsSteady (disk_marks_of memory_state disks)
 each_in_memory [] = tt
 each_in_memory (d ∷ ds) = ((refl, refl), each_in_memory ds)
 
-pub memory_steady : (disks : List (List (List ℕ))) → AreSteady (disk_marks_of in_memory disks)
+pub memory_steady : (disks : List (List (List ℕ))) → AreSteady (disk_marks_of memory_state disks)
 memory_steady disks = All-from_recursion IsSteady _ (each_in_memory disks)

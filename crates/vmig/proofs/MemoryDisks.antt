@@ -1,44 +1,32 @@
 -- Disks in memory, as a receiver sees them: they are honest, and never fail.
-use Rattle.std.proofs.Common.{◌≡◌, ◌<◌, ℕ, zero, suc, ◌+◌, List, [], ◌∷◌, ◌++◌, map, length, take, get_or, replicate, Option, Some, None, true, false, Result, Ok, Err, IfOk, inl, refl, ap, sym, ◌∙◌}
+use Rattle.std.proofs.Common.{◌≡◌, ◌<◌, ℕ, ◌+◌, List, [], ◌∷◌, ◌++◌, map, length, take, get_or, replicate, Option, Some, None, true, false, Result, Ok, Err, IfOk, inl, refl, ap, sym, ◌∙◌}
 use Rattle.std.proofs.lemmas.List.{length-replicate, map-append, take_more}
-use Rattle.std.specs.List.{AllByRecursion}
-use Rattle.std.proofs.lemmas.List.Elements.{All-from_recursion}
-use Rattle.blk.specs.Disk.{DiskState}
-use Rattle.machine.specs.Seen.{marks_at}
 use Rattle.machine.specs.Shapes.{disk_size_of, disk_sizes, with_size}
 use Rattle.machine.specs.declared.shape.Shape.{Shape}
 use Rattle.receiver.specs.Disks.{AreHonestDisks, IsUnsteady, disk_marks_of, sizes_of}
 use Rattle.receiver.specs.Receiving.{RefusesSlice}
 use Rattle.receiver.specs.declared.recv_error.RecvError.{RecvError}
 use Rattle.receiver.specs.declared.recv_error.RecvError.TheVariants as errors
+use Rattle.rehearsal.specs.InMemory.{AreHonestAndSteady, memory_state}
+use Rattle.rehearsal.proofs.Reliable.{memory_is_reliable, reliable_is_honest}
 use Rattle.wire.proofs.Unique.{cons_same}
-use Rattle.vmig.proofs.HonestDisks.{IsHonest}
 use Rattle.vmig.specs.Checking.{AreSizesOf, TellsSizes, zero_disks}
 
-abbrev pub in_memory : List (List ℕ) → DiskState
-in_memory d = record { sectors = d; failures = 0; honest = true; steady = true; is_flushed = true }
-
-pub sizes_are : (disks : List (List (List ℕ))) → sizes_of in_memory disks ≡ map length disks
+pub sizes_are : (disks : List (List (List ℕ))) → sizes_of memory_state disks ≡ map length disks
 sizes_are [] = refl
 sizes_are (d ∷ ds) = ap (λ (x : List ℕ). length d ∷ x) (sizes_are ds)
 
-honest_each : (disks : List (List (List ℕ))) → AllByRecursion IsHonest (disk_marks_of in_memory disks)
-honest_each [] = tt
-honest_each (d ∷ ds) = (refl, honest_each ds)
+reliable : (disks : List (List (List ℕ))) → AreHonestAndSteady (disk_marks_of memory_state disks)
+reliable disks = reliable_is_honest (disk_marks_of memory_state disks) (memory_is_reliable disks).for_a_receiver
 
-pub honest_disks : (disks : List (List (List ℕ))) → AreHonestDisks (disk_marks_of in_memory disks)
-honest_disks disks = All-from_recursion IsHonest _ (honest_each disks)
+pub honest_disks : (disks : List (List (List ℕ))) → AreHonestDisks (disk_marks_of memory_state disks)
+honest_disks disks = (reliable disks).honest
 
-steady_at : (disks : List (List (List ℕ))) (k : ℕ) → (marks_at (disk_marks_of in_memory disks) k).steady ≡ true
-steady_at [] k = refl
-steady_at (d ∷ ds) zero = refl
-steady_at (d ∷ ds) (suc k) = steady_at ds k
-
-never_unsteady : (disks : List (List (List ℕ))) → ¬ (IsUnsteady (disk_marks_of in_memory disks))
-never_unsteady disks h = let is : true ≡ false = sym (steady_at disks h.disk) ∙ h.unsteady in cc
+never_unsteady : (disks : List (List (List ℕ))) → ¬ (IsUnsteady (disk_marks_of memory_state disks))
+never_unsteady disks h = let is : true ≡ false = sym ((reliable disks).steady h.disk) ∙ h.unsteady in cc
 
 -- What a refusal tells with such disks it tells with disks that never fail.
-pub refused_steadily : (disks : List (List (List ℕ))) (bytes : List ℕ) (e : RecvError) → RefusesSlice (sizes_of in_memory disks) (disk_marks_of in_memory disks) bytes e → RefusesSlice (map length disks) [] bytes e
+pub refused_steadily : (disks : List (List (List ℕ))) (bytes : List ℕ) (e : RecvError) → RefusesSlice (sizes_of memory_state disks) (disk_marks_of memory_state disks) bytes e → RefusesSlice (map length disks) [] bytes e
 refused_steadily disks bytes errors.NoMemory h = tt
 refused_steadily disks bytes errors.DiskFailed h = absurd (never_unsteady disks h)
 refused_steadily disks bytes errors.Truncated h = rw (sizes_are disks) at h

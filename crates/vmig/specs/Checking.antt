@@ -7,7 +7,7 @@ use Rattle.machine.specs.declared.shape.Shape.{Shape}
 use Rattle.receiver.specs.Receiving.{IsReceived, RefusesSlice}
 use Rattle.receiver.specs.declared.recv_error.RecvError.{RecvError}
 use Rattle.traces.specs.Replies.{checked_line}
-use Rattle.wire.specs.Header.{Begins}
+use Rattle.wire.specs.Header.{Begins, Opening}
 use Rattle.vmig.specs.Faults.{TellsOfFile, stream_fault}
 use Rattle.vmig.specs.declared.fault.Fault.{Fault}
 use Rattle.vmig.specs.declared.fault.Fault.TheVariants.{NoMemory}
@@ -30,15 +30,14 @@ pub record HasCome (machine : MachineState) (n : ℕ) : Type 0 where
 
 -- The header of a machine with disks of these sizes.
 pub record TellsSizes (bytes sizes : List ℕ) : Type 0 where
-  pub pages : ℕ
-  pub shapes : List Shape
+  pub opening : Opening
   pub rest : List ℕ
-  pub begins : Begins bytes pages shapes rest
-  pub sizes_are : sizes ≡ disk_sizes shapes
+  pub begins : Begins bytes opening rest
+  pub sizes_are : sizes ≡ disk_sizes opening.shapes
 
 -- The bytes begin with no header.
 abbrev pub BeginsNot : List ℕ → Type 0
-BeginsNot bytes = (pages : ℕ) (shapes : List Shape) (rest : List ℕ) → ¬ (Begins bytes pages shapes rest)
+BeginsNot bytes = (opening : Opening) (rest : List ℕ) → ¬ (Begins bytes opening rest)
 
 pub record TellsNone (bytes sizes : List ℕ) : Type 0 where
   pub no_header : BeginsNot bytes

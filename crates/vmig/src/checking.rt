@@ -100,9 +100,8 @@ pub fn disks_of(alloc: Global, shapes: &[Shape]) -> Result<Vec<MemDisk>, NoMemor
 fn add_disk(alloc: Global, shape: Shape, disks: &mut Vec<MemDisk>) -> Result<(), NoMemory>
     ensures { OnOk result (disks.new.items ≡ disks.old.items ++ zero_disks (shape ∷ [])) }
 {
-    match shape {
-        Shape::Block { sectors, .. } => disks.push(MemDisk::new(alloc, sectors)?)?,
-        Shape::Net { .. } | Shape::Console | Shape::Entropy => {}
+    if let Shape::Block { sectors, .. } = shape {
+        disks.push(MemDisk::new(alloc, sectors)?)?;
     }
     Ok(())
 }

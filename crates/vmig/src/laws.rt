@@ -10,7 +10,10 @@ pub use receiver::laws::{
     faults_stand_early, faults_stay, no_fault_in_a_stream, one_fault, rounds_of_a_stream,
     saved_is_received,
 };
-pub use rehearsal::laws::{arrived_is_moved, first_is_moving, takings_stay_moving};
+pub use rehearsal::laws::{
+    applying_stays_reliable, arrived_is_moved, first_is_moving, machines_are_reliable,
+    memory_is_reliable, reliable_is_honest, serving_stays_reliable, takings_stay_moving,
+};
 pub use sender::laws::{
     after_is_run, calls_follow, calls_ignore_what_was_taken, fresh_is_last, replies_settle,
     stale_is_not_fresh, stopped_is_a_stream, taken_follows_the_history, taken_is_whole,

@@ -42,7 +42,7 @@ mod words;
 
 pub use dirtylog::BitSet;
 pub use fault_writer::FaultWriter;
-pub use guestmem::{ACCESS_MAX, NoMemory, PAGE_SIZE, PAGES_MAX, Ram, RamError, Touched};
+pub use guestmem::{ACCESS_MAX, NoMemory, PAGE_SIZE, PAGES_MAX, Ram, RamError, Touched, is_zero};
 pub use machine::{
     Bytes, DEVICES_MAX, DeviceState, Disk, DiskFault, Event, FaultDisk, FileDisk, Machine, MemDisk,
     NewError, Own, Refusal, Reply, SECTOR_SIZE, SECTORS_MAX, Shape, Work,
@@ -61,5 +61,5 @@ pub use traces::{
 pub use wire::{
     DecodeError, Header, Record, Sink, SinkFault, WriteSink, decode_device, decode_header,
     decode_record, encode_commit, encode_device, encode_header, encode_page, encode_round,
-    encode_sector,
+    encode_sector, encode_zero_page,
 };

@@ -1,5 +1,5 @@
 -- Machines whose streams arrive in pieces.
-use Rattle.std.proofs.Common.{◌≡◌, ℕ, true, false, List, [], ◌∷◌, ◌++◌, refl, sym, ap, ◌∙◌, subst, map, length, take, drop, inl, inr, append_assoc, append-nil, arith, true≢false}
+use Rattle.std.proofs.Common.{◌≡◌, ℕ, true, List, [], ◌∷◌, ◌++◌, refl, sym, ap, ◌∙◌, subst, map, length, take, drop, inl, inr, append_assoc, append-nil, arith, true≢false}
 use Rattle.std.specs.Prelude.{IsTrue, IfErr, IfOk, Result, Ok, Err, slice_get}
 use Rattle.std.proofs.lemmas.List.{length-append, take-append-drop}
 use Rattle.std.proofs.lemmas.List.Elements.{All-map}
@@ -8,10 +8,10 @@ use Rattle.machine.specs.First.{dealt_marks}
 use Rattle.machine.specs.Seen.{DeviceSeen, Marks, Seen, all_marks, marks_at, no_marks, state_of}
 use Rattle.machine.specs.Shapes.{disk_sizes}
 use Rattle.machine.specs.State.{MachineState}
-use Rattle.machine.specs.declared.shape.Shape.{Shape}
 use Rattle.machine.specs.Layout.{pages_of}
-use Rattle.wire.specs.Header.{Begins, front, header, spelled_shapes}
-use Rattle.wire.specs.Stream.{IsStream, device_texts, shapes_in, texts}
+use Rattle.wire.specs.Header.{Begins, Opening, header}
+use Rattle.wire.proofs.PartLengths.{length_header}
+use Rattle.wire.specs.Stream.{IsStream, device_texts, opening_in, shapes_in, texts}
 use Rattle.wire.proofs.Unique.{pages_limits}
 use Rattle.receiver.specs.Disks.{AreHonestDisks, HasFailed, MarksRefused, disk_marks_of, sizes_of}
 use Rattle.receiver.specs.Receiving.{HasBeenFed, HasRounds, IsFinish, NoFault, Received, TellsNow}
@@ -20,7 +20,7 @@ use Rattle.receiver.specs.declared.recv_error.RecvError.TheVariants.{BadMagic, B
 use Rattle.receiver.proofs.Heads.{no_header_fault}
 use Rattle.receiver.proofs.Prefixes.{header_stays, stays}
 use Rattle.receiver.specs.Faults.{Fault, IsHeaderFault}
-use Rattle.vmig_c.specs.ArrivalSeen.{ArrivalSeen, AtHead, AtBody, Refused}
+use Rattle.vmig_c.specs.ArrivalSeen.{ArrivalSeen, AtHead, AtBody}
 use Rattle.vmig_c.specs.Awaited.{AreSteady, CountsRounds, GoesOnWith, HasArrived, HasCome, IsFaulty, IsFed, IsFedTo, TellsEnd, TellsOf, TellsWhy, awaited_by}
 use Rattle.vmig_c.specs.declared.arrival.Progress.{Progress}
 use Rattle.vmig_c.specs.Headed.{AreFitting, HasHeader, HasNoHeader}
@@ -32,8 +32,7 @@ use Rattle.vmig_c.proofs.Zeros.{alike}
 -- A header stays at the beginning of more bytes.
 longer : (bytes piece sizes : List ℕ) → HasHeader bytes sizes → HasHeader (bytes ++ piece) sizes
 longer bytes piece sizes h = record {
-  pages = h.pages;
-  shapes = h.shapes;
+  opening = h.opening;
   rest = h.rest ++ piece;
   begins = record { good = h.begins.good; whole = ap (λ (b : List ℕ). b ++ piece) h.begins.whole ∙ append_assoc _ h.rest piece };
   sizes_are = h.sizes_are;
@@ -116,20 +115,21 @@ pub all_refused : (r : Received) (new : List Marks) (bytes sizes : List ℕ) (e 
 all_refused r new bytes sizes e first are steady fit marks tells = told r.sizes [] bytes e (rw are fit) (tells [] first) (never_failed r new e steady marks)
 
 -- The header was found, or not.
-pub begun_coming : (r : Received) (bytes : List ℕ) (pages : ℕ) (shapes : List Shape) (rest : List ℕ) → Begins bytes pages shapes rest → IsFedTo (disk_sizes shapes) bytes r → GoesOnWith bytes (AtBody r)
-begun_coming r bytes pages shapes rest begins h =
-    let header : HasHeader bytes r.sizes = record { pages = pages; shapes = shapes; rest = rest; begins = begins; sizes_are = h.sizes_are } in
+pub begun_coming : (r : Received) (bytes : List ℕ) (opening : Opening) (rest : List ℕ) → Begins bytes opening rest → IsFedTo (disk_sizes opening.shapes) bytes r → GoesOnWith bytes (AtBody r)
+begun_coming r bytes opening rest begins h =
+    let header : HasHeader bytes r.sizes = record { opening = opening; rest = rest; begins = begins; sizes_are = h.sizes_are } in
     record { come = (h.fed, header); fit = inl header; quiet = rw (h.sizes_are) (h.quiet) }
 
-pub fits_header : (bytes : List ℕ) (pages : ℕ) (shapes : List Shape) (rest : List ℕ) → Begins bytes pages shapes rest → AreFitting bytes (disk_sizes shapes)
-fits_header bytes pages shapes rest begins = inl (record { pages = pages; shapes = shapes; rest = rest; begins = begins; sizes_are = refl })
+pub fits_header : (bytes : List ℕ) (opening : Opening) (rest : List ℕ) → Begins bytes opening rest → AreFitting bytes (disk_sizes opening.shapes)
+fits_header bytes opening rest begins = inl (record { opening = opening; rest = rest; begins = begins; sizes_are = refl })
 
 -- The stream of each machine begins with a header.
 headless : (bytes : List ℕ) → HasNoHeader bytes → (m : MachineState) → ¬ (IsStream bytes m)
 headless bytes none m s =
-    let head : List ℕ = header (pages_of m) (shapes_in m.devices) in
+    let opening = opening_in s.version (pages_of m) m.devices in
+    let head : List ℕ = header opening in
     let front : List ℕ = texts s.entries ++ device_texts 0 m.devices in
-    none (pages_of m) (shapes_in m.devices) _ (record { good = pages_limits m s.by.sound; whole = s.by.whole ∙ append_assoc head front _ })
+    none opening _ (record { good = pages_limits s.version m s.by.known s.by.sound; whole = s.by.whole ∙ append_assoc head front _ })
 
 pub head_ends : (held : List ℕ) → HasNoHeader held → TellsEnd (AtHead held) Truncated
 head_ends held none = λ b is m. headless b (subst HasNoHeader (sym is) none) m
@@ -162,7 +162,7 @@ pub body_counts : (r : Received) (n : ℕ) → ((b : List ℕ) → HasBeenFed r 
 body_counts r n rounds = λ b h. rounds b h.0
 
 pub head_counts : (held : List ℕ) → HasNoHeader held → CountsRounds (AtHead held) 0
-head_counts held none = λ b is. record { none = λ _. refl; some = λ pages shapes before tail front last. absurd (subst HasNoHeader (sym is) none pages shapes _ front.begins) }
+head_counts held none = λ b is. record { none = λ _. refl; some = λ opening before tail front last. absurd (subst HasNoHeader (sym is) none opening _ front.begins) }
 
 -- A header that is not whole.
 pub head_goes_on : (held : List ℕ) (r : Received) → HasNoHeader held → IsFedTo [] held r → GoesOnWith held (AtHead held)
@@ -174,20 +174,14 @@ head_fed held piece next h = record { went_on = λ e. cc; goes_on = λ b is. sub
 pub head_refused : (held piece : List ℕ) (e : RecvError) → TellsWhy (held ++ piece) e → TellsOf (AtHead held) piece e
 head_refused held piece e h = λ b is. subst (λ (x : List ℕ). TellsWhy (x ++ piece) e) (sym is) h
 
-front_size : (pages count : ℕ) → length (front pages count) ≡ 16
-unfolding front
-front_size pages count = refl
-
-pub empty_head : (pages : ℕ) (shapes : List Shape) (rest : List ℕ) → ¬ (Begins [] pages shapes rest)
-empty_head pages shapes rest begins =
-    let f = front pages (length shapes) in
-    omega (arith, ap (λ (l : List ℕ). length l) begins.whole, length-append (f ++ spelled_shapes shapes) rest, length-append f (spelled_shapes shapes), front_size pages (length shapes))
+pub empty_head : (opening : Opening) (rest : List ℕ) → ¬ (Begins [] opening rest)
+empty_head opening rest begins = omega (arith, ap (λ (l : List ℕ). length l) begins.whole, length-append (header opening) rest, length_header opening)
 
 -- A fault in bytes that begin with a header is one of all longer bytes.
 faulty_longer : (bytes rest sizes : List ℕ) (e : RecvError) → HasHeader bytes sizes → IsFaulty bytes e → IsFaulty (bytes ++ rest) e
 faulty_longer bytes rest sizes e header f = elim f.fit as (λ _. IsFaulty (bytes ++ rest) e) [
   | inl h ↦ record { sizes = f.sizes; fit = inl (longer bytes rest f.sizes h); at = f.at; fault = stays f.sizes bytes rest e f.at f.fault }
-  | inr none ↦ absurd (none header.pages header.shapes header.rest header.begins)
+  | inr none ↦ absurd (none header.opening header.rest header.begins)
 ]
 
 pub told_longer : (bytes rest sizes : List ℕ) (e : RecvError) → HasHeader bytes sizes → TellsWhy bytes e → TellsWhy (bytes ++ rest) e
@@ -216,7 +210,7 @@ other_sizes : (sizes others bytes : List ℕ) (e : RecvError) (at : ℕ) → Has
 other_sizes sizes others bytes BadMagic at none h = h
 other_sizes sizes others bytes BadVersion at none h = h
 other_sizes sizes others bytes BadShape at none h = h
-other_sizes sizes others bytes ShapeMismatch at none h = absurd (none h.pages h.shapes h.more h.begins)
+other_sizes sizes others bytes ShapeMismatch at none h = absurd (none h.opening h.more h.begins)
 other_sizes sizes others bytes BadTag at none h = absurd h
 other_sizes sizes others bytes BadPage at none h = absurd h
 other_sizes sizes others bytes BadSector at none h = absurd h
@@ -232,11 +226,11 @@ other_sizes sizes others bytes AlreadyFailed at none h = absurd h
 
 in_header : (sizes others bytes : List ℕ) (e : RecvError) (at : ℕ) → HasNoHeader bytes → Fault sizes bytes e at → IsHeaderFault others bytes e at
 in_header sizes others bytes e at none (inl h) = other_sizes sizes others bytes e at none h
-in_header sizes others bytes e at none (inr h) = absurd (none h.pages h.shapes _ h.front.begins)
+in_header sizes others bytes e at none (inr h) = absurd (none h.opening _ h.front.begins)
 
 still_headless : (sizes bytes rest : List ℕ) (e : RecvError) (at : ℕ) → HasNoHeader bytes → Fault sizes bytes e at → HasNoHeader (bytes ++ rest)
-still_headless sizes bytes rest e at none f pages shapes more begins =
-    no_header_fault (disk_sizes shapes) (bytes ++ rest) pages shapes more begins refl e at (header_stays (disk_sizes shapes) bytes rest e at (in_header sizes (disk_sizes shapes) bytes e at none f))
+still_headless sizes bytes rest e at none f opening more begins =
+    no_header_fault (disk_sizes opening.shapes) (bytes ++ rest) opening more begins refl e at (header_stays (disk_sizes opening.shapes) bytes rest e at (in_header sizes (disk_sizes opening.shapes) bytes e at none f))
 
 faulty_headless : (bytes rest : List ℕ) (e : RecvError) → HasNoHeader bytes → IsFaulty bytes e → IsFaulty (bytes ++ rest) e
 faulty_headless bytes rest e none f = record { sizes = f.sizes; fit = inr (still_headless f.sizes bytes rest e f.at none f.fault); at = f.at; fault = stays f.sizes bytes rest e f.at f.fault }

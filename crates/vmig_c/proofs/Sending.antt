@@ -1,7 +1,7 @@
 -- A step sends no more than its form allows.
-use Rattle.std.proofs.Common.{◌≡◌, ◌≤◌, ℕ, ◌-◌, zero, suc, Bool, true, false, not, ◌&&◌, nat_lt, List, refl, sym, ap, ◌∙◌, subst, arith, length, drop, ◌++◌}
+use Rattle.std.proofs.Common.{◌≡◌, ◌≤◌, ℕ, ◌-◌, zero, suc, true, false, not, ◌&&◌, nat_lt, List, refl, sym, ap, ◌∙◌, subst, arith, length, drop, ◌++◌}
 use Rattle.std.specs.Prelude.{Option, Some, None, slice_get}
-use Rattle.std.specs.Prelude.{slice_index, if◌then◌else◌}
+use Rattle.std.specs.Prelude.{slice_index}
 use Rattle.std.proofs.lemmas.List.{length-drop, length-map}
 use Rattle.std.proofs.Math.Dec.{nltb→le, T}
 use Rattle.machine.proofs.Looking.{right_of_and}

@@ -20,8 +20,9 @@ use Rattle.std.proofs.lemmas.List.Elements.{All-map}
 use Rattle.blk.specs.Disk.{DiskState}
 use Rattle.machine.specs.First.{dealt_marks, marks_in}
 use Rattle.machine.specs.Shapes.{disk_sizes}
-use Rattle.machine.specs.declared.shape.Shape.{Shape}
 use Rattle.wire.specs.Header.{Begins}
+use Rattle.wire.specs.HeaderReading.{said}
+use Rattle.wire.specs.declared.header.Header.{Header}
 use Rattle.wire.specs.Stream.{shapes_in}
 use Rattle.receiver.specs.Disks.{AreHonestDisks, disk_marks_of, sizes_of}
 use Rattle.receiver.specs.Receiving.{IsReceived, RefusesSlice}
@@ -95,10 +96,10 @@ zero_sizes (n ∷ sizes) = rw (length-replicate n (replicate {A = ℕ} 512 0), z
 pub zero_fit : (disks : List (List (List ℕ))) (sizes : List ℕ) → disks ≡ map (λ (n : ℕ). replicate n (replicate 512 0)) sizes → sizes_of mem_state disks ≡ sizes
 zero_fit disks sizes are = ap (λ (ds : List (List (List ℕ))). sizes_of mem_state ds) are ∙ zero_sizes sizes
 
-pub fitting : (bytes : List ℕ) (disks : List (List (List ℕ))) (pages : ℕ) (shapes : List Shape) (rest : List ℕ) → Begins bytes pages shapes rest
-    → disks ≡ map (λ (n : ℕ). replicate n (replicate 512 0)) (disk_sizes shapes) → AreFitting bytes (sizes_of mem_state disks)
-fitting bytes disks pages shapes rest begins are =
-    inl (record { pages = pages; shapes = shapes; rest = rest; begins = begins; sizes_are = rw are (zero_sizes (disk_sizes shapes)) })
+pub fitting : (bytes : List ℕ) (disks : List (List (List ℕ))) (header : Header) (rest : List ℕ) → Begins bytes (said header) rest
+    → disks ≡ map (λ (n : ℕ). replicate n (replicate 512 0)) (disk_sizes header.shapes.items) → AreFitting bytes (sizes_of mem_state disks)
+fitting bytes disks header rest begins are =
+    inl (record { opening = said header; rest = rest; begins = begins; sizes_are = rw are (zero_sizes (disk_sizes header.shapes.items)) })
 
 pub without_header : (bytes sizes : List ℕ) → HasNoHeader bytes → AreFitting bytes sizes
 without_header bytes sizes none = inr none
@@ -127,8 +128,8 @@ steady_disks : (disks : List (List (List ℕ))) (k : ℕ) → (marks_at (disk_ma
 steady_disks disks k = rw (plain_disks disks, slice_get-map (λ (d : List (List ℕ)). no_marks) disks k) (of_found (slice_get disks k))
 
 no_mismatch : (bytes sizes : List ℕ) (at : ℕ) → AreFitting bytes sizes → ¬ (IsMismatch sizes bytes at)
-no_mismatch bytes sizes at (inl h) is = no_header_fault sizes bytes h.pages h.shapes h.rest h.begins h.sizes_are ShapeMismatch at is
-no_mismatch bytes sizes at (inr none) is = none is.pages is.shapes is.more is.begins
+no_mismatch bytes sizes at (inl h) is = no_header_fault sizes bytes h.opening h.rest h.begins h.sizes_are ShapeMismatch at is
+no_mismatch bytes sizes at (inr none) is = none is.opening is.more is.begins
 
 not_mismatched : (bytes sizes : List ℕ) (at : ℕ) → AreFitting bytes sizes → ¬ (Fault sizes bytes ShapeMismatch at)
 not_mismatched bytes sizes at fit (inl is) = no_mismatch bytes sizes at fit is

@@ -1,19 +1,17 @@
 -- The header at the beginning of bytes, and disks of the sizes that it says.
 use Rattle.std.specs.Prelude.{◌≡◌, ◌⊎◌, ℕ, List}
 use Rattle.machine.specs.Shapes.{disk_sizes}
-use Rattle.machine.specs.declared.shape.Shape.{Shape}
-use Rattle.wire.specs.Header.{Begins}
+use Rattle.wire.specs.Header.{Begins, Opening}
 
 -- The bytes begin with a header, and the disks are of the sizes that it says.
 pub record HasHeader (bytes sizes : List ℕ) : Type 0 where
-  pub pages : ℕ
-  pub shapes : List Shape
+  pub opening : Opening
   pub rest : List ℕ
-  pub begins : Begins bytes pages shapes rest
-  pub sizes_are : sizes ≡ disk_sizes shapes
+  pub begins : Begins bytes opening rest
+  pub sizes_are : sizes ≡ disk_sizes opening.shapes
 
 abbrev pub HasNoHeader : List ℕ → Type 0
-HasNoHeader bytes = (pages : ℕ) (shapes : List Shape) (rest : List ℕ) → ¬ (Begins bytes pages shapes rest)
+HasNoHeader bytes = (opening : Opening) (rest : List ℕ) → ¬ (Begins bytes opening rest)
 
 -- Disks are of the sizes that the header says, if the bytes begin with one.
 abbrev pub AreFitting : List ℕ → List ℕ → Type 0

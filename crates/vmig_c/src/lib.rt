@@ -1,7 +1,7 @@
 //! A machine as C sees it: `vmig.h` says the same to its reader, and what C owes.
 //!
 //! `Handle` is the one type that C holds: a pointer, null or of a machine in a box. All raw pointers are in one file, `handle`.
-//! It cannot be dropped, so a function that forgets a machine is refused. Its contents are a machine that is idle, is being
+//! It cannot be dropped, so a function that loses one is refused. Its contents are a machine that is idle, is being
 //! migrated or arrives, with disks in memory of the library or of the caller (`kept`). No call moves the disks.
 //!
 //! # What the layers above may rely on
@@ -382,7 +382,7 @@ pub extern "C" fn vmig_sector_read(
     read_sector(machine.get_mut(), dev, sector, buf)
 }
 
-/// The length of the machine's stream, in bytes. No stream is made, and no memory taken.
+/// The length of the machine's stream, in bytes. It looks at each page of RAM once. No stream is made, and no memory taken.
 #[unsafe(no_mangle)]
 #[tactic(auto, using(crate::proofs::Lengths::measured_none, crate::proofs::Lengths::measured_some))]
 pub extern "C" fn vmig_saved_len(machine: &mut Handle, len: &mut usize) -> u32

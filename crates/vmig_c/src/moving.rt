@@ -52,6 +52,7 @@ fn save_told<D: Disk>(
     DONE
 }
 
+/// Copies the bytes to the front of the buffer, which has room for them.
 pub(crate) fn put_front(bytes: &[u8], buf: &mut [u8])
     requires { length bytes.now ≤ length buf.old }
     ensures { buf.new ≡ bytes.now ++ drop (length bytes.now) buf.old }

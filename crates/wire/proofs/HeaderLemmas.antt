@@ -5,11 +5,11 @@ use Rattle.std.proofs.lemmas.List.Elements.{recursion_from_All, All-from_recursi
 use Rattle.std.specs.List.{All, AllByRecursion}
 use Rattle.guestmem.specs.ByteLaws.{IsBytes-drop, IsBytes-take}
 use Rattle.guestmem.specs.Number.{number_at, IsBytes}
-use Rattle.wire.specs.HeaderReading.{header_of, with_pages}
+use Rattle.wire.specs.HeaderReading.{header_of, with_shapes}
 use Rattle.wire.specs.Numbers.{digits, spelled, Fit, flag}
 use Rattle.wire.proofs.Digits.{spelled-numbers, numbers-spelled, length-digits, length-spelled, flag-number, number-flag}
 use Rattle.wire.proofs.Choices.{some, same_found, not_chosen, neither, so}
-use Rattle.std.proofs.Common.{◌≡◌, ℕ, suc, ◌+◌, ◌-◌, ◌<◌, ◌≤◌, List, [], ◌∷◌, ◌++◌, length, drop, take, get_or, subst, ◌≢◌, nat_eq, nat_lt, Option, Some, None, Bool, true, false, cond, refl, sym, ap, ◌∙◌, append_assoc, length-append, take-append-drop, arith, eqb}
+use Rattle.std.proofs.Common.{◌≡◌, ℕ, zero, suc, ◌+◌, ◌-◌, ◌<◌, ◌≤◌, List, [], ◌∷◌, ◌++◌, length, drop, take, get_or, subst, ◌≢◌, nat_eq, nat_lt, Option, Some, None, Bool, true, false, cond, refl, sym, ap, ◌∙◌, append_assoc, length-append, take-append-drop, arith, eqb}
 use Rattle.std.specs.Int.{byte_at}
 use Rattle.std.specs.Prelude.{codes, not, ◌||◌, ◌%◌}
 use Rattle.machine.specs.declared.shape.Shape.{Shape}
@@ -17,7 +17,7 @@ use Rattle.machine.specs.declared.shape.Shape.TheVariants.{Net, Block, Console, 
 use Rattle.machine.specs.Sound.{IsBlockShape, IsMac, IsSoundShape}
 use Rattle.wire.specs.ShapeReading.{block_shape_of, net_shape_of, shape_length, shape_of, shapes_of}
 use Rattle.wire.proofs.Lists.{WasSpelled, WereSpelled, several-spelled, spelled-several}
-use Rattle.wire.specs.Header.{spelled_shape, spelled_shapes, front, header, IsHeader, Begins}
+use Rattle.wire.specs.Header.{spelled_shape, spelled_shapes, front, header, IsHeader, IsVersion, Begins, Opening}
 
 -- A shape that is spelled is read, and one that is read was spelled.
 abbrev block_widths : List ℕ
@@ -186,30 +186,47 @@ shapes_read n bytes found are e = spelled-several shape_of spelled_shape IsSound
 abbrev head_widths : List ℕ
 head_widths = 4 ∷ 4 ∷ 4 ∷ 4 ∷ []
 
-abbrev head_numbers : ℕ → ℕ → List ℕ
-head_numbers pages count = 0x47494d56 ∷ 1 ∷ pages ∷ count ∷ []
+abbrev head_numbers : ℕ → ℕ → ℕ → List ℕ
+head_numbers version pages count = 0x47494d56 ∷ version ∷ pages ∷ count ∷ []
 
-head_spelled : (pages count : ℕ) → front pages count ≡ spelled head_widths (head_numbers pages count)
+head_spelled : (version pages count : ℕ) → front version pages count ≡ spelled head_widths (head_numbers version pages count)
 unfolding front
-head_spelled pages count = refl
+head_spelled version pages count = refl
+
+-- The versions that there are.
+pub version_known : (version : ℕ) → IsVersion version → (eqb version 1 || eqb version 2) ≡ true
+version_known zero h = absurd (omega (arith, h.least))
+version_known (suc zero) h = refl
+version_known (suc (suc zero)) h = refl
+version_known (suc (suc (suc n))) h = absurd (omega (arith, h.most))
+
+pub known_version : (version : ℕ) → (eqb version 1 || eqb version 2) ≡ true → IsVersion version
+known_version zero e = absurd cc
+known_version (suc zero) e = record { least = omega arith; most = omega arith }
+known_version (suc (suc zero)) e = record { least = omega arith; most = omega arith }
+known_version (suc (suc (suc n))) e =
+    let one : eqb (suc (suc (suc n))) 1 ≡ false = ne_eqb (suc (suc (suc n))) 1 (λ (z : suc (suc (suc n)) ≡ 1). omega (arith, z)) in
+    let two : eqb (suc (suc (suc n))) 2 ≡ false = ne_eqb (suc (suc (suc n))) 2 (λ (z : suc (suc (suc n)) ≡ 2). omega (arith, z)) in
+    let no : false ≡ true = rw (one, two) at e in
+    absurd cc
 
 -- What the first 16 bytes of a header say.
-pub record HeadSays (bytes : List ℕ) (pages count : ℕ) : Type 0 where
+pub record HeadSays (bytes : List ℕ) (version pages count : ℕ) : Type 0 where
   pub long : 16 ≤ length bytes
   pub magic : number_at bytes 0 4 ≡ 0x47494d56
-  pub version : number_at bytes 4 4 ≡ 1
+  pub version_is : number_at bytes 4 4 ≡ version
   pub pages_are : number_at bytes 8 4 ≡ pages
   pub count_is : number_at bytes 12 4 ≡ count
 
-pub head_says : (pages count : ℕ) (rest : List ℕ) → pages ≤ 16384 → count ≤ 16 → HeadSays (spelled head_widths (head_numbers pages count) ++ rest) pages count
-head_says pages count rest few_pages few_devices =
-    let fits : Fit head_widths (head_numbers pages count) = (omega arith, (omega arith, (omega (arith, few_pages), (omega (arith, few_devices), tt)))) in
-    let read = numbers-spelled head_widths (head_numbers pages count) [] rest fits in
+pub head_says : (version pages count : ℕ) (rest : List ℕ) → version ≤ 2 → pages ≤ 16384 → count ≤ 16 → HeadSays (spelled head_widths (head_numbers version pages count) ++ rest) version pages count
+head_says version pages count rest old few_pages few_devices =
+    let fits : Fit head_widths (head_numbers version pages count) = (omega arith, (omega (arith, old), (omega (arith, few_pages), (omega (arith, few_devices), tt)))) in
+    let read = numbers-spelled head_widths (head_numbers version pages count) [] rest fits in
     let nth = λ (k : ℕ). ap (λ (ns : List ℕ). get_or ns k 0) read in
     record {
-      long = omega (arith, length-append (spelled head_widths (head_numbers pages count)) rest, length-spelled head_widths (head_numbers pages count) fits);
+      long = omega (arith, length-append (spelled head_widths (head_numbers version pages count)) rest, length-spelled head_widths (head_numbers version pages count) fits);
       magic = nth 0;
-      version = nth 1;
+      version_is = nth 1;
       pages_are = nth 2;
       count_is = nth 3;
     }
@@ -217,78 +234,86 @@ head_says pages count rest few_pages few_devices =
 four_same : {a b c d m n o p : ℕ} → a ≡ m → b ≡ n → c ≡ o → d ≡ p → spelled head_widths (a ∷ b ∷ c ∷ d ∷ []) ≡ spelled head_widths (m ∷ n ∷ o ∷ p ∷ [])
 four_same e f g h = rw (e, f, g, h) refl
 
-head_written : (bytes : List ℕ) (pages count : ℕ) → IsBytes bytes → HeadSays bytes pages count → bytes ≡ front pages count ++ drop 16 bytes
-head_written bytes pages count are says =
+head_written : (bytes : List ℕ) (version pages count : ℕ) → IsBytes bytes → HeadSays bytes version pages count → bytes ≡ front version pages count ++ drop 16 bytes
+head_written bytes version pages count are says =
     let taken = spelled-numbers head_widths 0 bytes are says.long in
-    let same = four_same says.magic says.version says.pages_are says.count_is in
-    sym (take-append-drop 16 bytes) ∙ ap (λ (x : List ℕ). x ++ drop 16 bytes) (sym taken ∙ same ∙ sym (head_spelled pages count))
+    let same = four_same says.magic says.version_is says.pages_are says.count_is in
+    sym (take-append-drop 16 bytes) ∙ ap (λ (x : List ℕ). x ++ drop 16 bytes) (sym taken ∙ same ∙ sym (head_spelled version pages count))
 
 -- A header that is spelled is read, and one that is read was spelled.
-header_reads : (bytes : List ℕ) (pages : ℕ) (shapes : List Shape) (rest : List ℕ) → IsHeader pages shapes → HeadSays bytes pages (length shapes) → drop 16 bytes ≡ spelled_shapes shapes ++ rest
-    → header_of bytes ≡ Some (pages, shapes, rest)
+header_reads : (bytes : List ℕ) (opening : Opening) (rest : List ℕ) → IsHeader opening → HeadSays bytes opening.version opening.pages (length opening.shapes) → drop 16 bytes ≡ spelled_shapes opening.shapes ++ rest
+    → header_of bytes ≡ Some (opening, rest)
 unfolding header_of
-header_reads bytes pages shapes rest good says after =
+header_reads bytes opening rest good says after =
     let long : nat_lt (length bytes) 16 ≡ false = le-ltb _ _ says.long in
-    let some_page : eqb pages 0 ≡ false = ne_eqb _ _ (λ (z : pages ≡ 0). omega (arith, good.some_page)) in
-    let few_pages : nat_lt 16384 pages ≡ false = le-ltb _ _ good.few_pages in
-    let some_device : eqb (length shapes) 0 ≡ false = ne_eqb _ _ (λ (z : length shapes ≡ 0). omega (arith, good.some_device)) in
-    let few_devices : nat_lt 16 (length shapes) ≡ false = le-ltb _ _ good.few_devices in
-    rw (long, says.magic, says.version, says.pages_are, says.count_is, some_page, few_pages, some_device, few_devices, after, shapes_of-spelled shapes rest good.sound) refl
+    let known : (eqb opening.version 1 || eqb opening.version 2) ≡ true = version_known opening.version good.known in
+    let some_page : eqb opening.pages 0 ≡ false = ne_eqb _ _ (λ (z : opening.pages ≡ 0). omega (arith, good.some_page)) in
+    let few_pages : nat_lt 16384 opening.pages ≡ false = le-ltb _ _ good.few_pages in
+    let some_device : eqb (length opening.shapes) 0 ≡ false = ne_eqb _ _ (λ (z : length opening.shapes ≡ 0). omega (arith, good.some_device)) in
+    let few_devices : nat_lt 16 (length opening.shapes) ≡ false = le-ltb _ _ good.few_devices in
+    rw (long, says.magic, says.version_is, known, says.pages_are, says.count_is, some_page, few_pages, some_device, few_devices, after, shapes_of-spelled opening.shapes rest good.sound) refl
 
-header_at : (bytes : List ℕ) (pages : ℕ) (shapes : List Shape) (rest : List ℕ) → IsHeader pages shapes → bytes ≡ spelled head_widths (head_numbers pages (length shapes)) ++ (spelled_shapes shapes ++ rest)
-    → header_of bytes ≡ Some (pages, shapes, rest)
-header_at bytes pages shapes rest good same =
-    header_reads bytes pages shapes rest good (rw (← same) at (head_says pages (length shapes) (spelled_shapes shapes ++ rest) good.few_pages good.few_devices)) (ap (drop 16) same)
+header_at : (bytes : List ℕ) (opening : Opening) (rest : List ℕ) → IsHeader opening
+    → bytes ≡ spelled head_widths (head_numbers opening.version opening.pages (length opening.shapes)) ++ (spelled_shapes opening.shapes ++ rest) → header_of bytes ≡ Some (opening, rest)
+header_at bytes opening rest good same =
+    header_reads bytes opening rest good (rw (← same) at (head_says opening.version opening.pages (length opening.shapes) (spelled_shapes opening.shapes ++ rest) good.known.most good.few_pages good.few_devices)) (ap (drop 16) same)
 
-pub header_of-spelled : (bytes : List ℕ) (pages : ℕ) (shapes : List Shape) (rest : List ℕ) → Begins bytes pages shapes rest → header_of bytes ≡ Some (pages, shapes, rest)
-header_of-spelled bytes pages shapes rest begins =
-    header_at bytes pages shapes rest begins.good
-    (begins.whole ∙ append_assoc (front pages (length shapes)) (spelled_shapes shapes) rest ∙ ap (λ (x : List ℕ). x ++ (spelled_shapes shapes ++ rest)) (head_spelled pages (length shapes)))
+pub header_of-spelled : (bytes : List ℕ) (opening : Opening) (rest : List ℕ) → Begins bytes opening rest → header_of bytes ≡ Some (opening, rest)
+header_of-spelled bytes opening rest begins =
+    header_at bytes opening rest begins.good
+    (begins.whole ∙ append_assoc (front opening.version opening.pages (length opening.shapes)) (spelled_shapes opening.shapes) rest
+    ∙ ap (λ (x : List ℕ). x ++ (spelled_shapes opening.shapes ++ rest)) (head_spelled opening.version opening.pages (length opening.shapes)))
 
-with_pages_found : (pages : ℕ) (shapes : Option (List Shape × List ℕ)) (found : ℕ × List Shape × List ℕ) → with_pages pages shapes ≡ Some found
-    → (x : List Shape × List ℕ) × (shapes ≡ Some x) × ((pages, x.0, x.1) ≡ found)
-with_pages_found pages None found e = absurd cc
-with_pages_found pages (Some x) found e = (x, refl, same_found (pages, x.0, x.1) found e)
+-- What was found, with these numbers before the shapes.
+abbrev found_with : ℕ → ℕ → List Shape × List ℕ → Opening × List ℕ
+found_with version pages x = (record { version = version; pages = pages; shapes = x.0 }, x.1)
+
+with_shapes_found : (version pages : ℕ) (shapes : Option (List Shape × List ℕ)) (found : Opening × List ℕ) → with_shapes version pages shapes ≡ Some found
+    → (x : List Shape × List ℕ) × (shapes ≡ Some x) × (found_with version pages x ≡ found)
+with_shapes_found version pages None found e = absurd cc
+with_shapes_found version pages (Some x) found e = (x, refl, same_found (found_with version pages x) found e)
 
 -- What is known of the numbers in a header that is read.
-record Limits (pages count : ℕ) : Type 0 where
+record Limits (version pages count : ℕ) : Type 0 where
+  pub known : IsVersion version
   pub some_page : 1 ≤ pages
   pub few_pages : pages ≤ 16384
   pub some_device : 1 ≤ count
   pub few_devices : count ≤ 16
 
-head_from : (bytes : List ℕ) → nat_lt (length bytes) 16 ≡ false → not (eqb (number_at bytes 0 4) 0x47494d56) ≡ false → not (eqb (number_at bytes 4 4) 1) ≡ false
-    → HeadSays bytes (number_at bytes 8 4) (number_at bytes 12 4)
-head_from bytes long magic version = record {
+head_from : (bytes : List ℕ) → nat_lt (length bytes) 16 ≡ false → not (eqb (number_at bytes 0 4) 0x47494d56) ≡ false
+    → HeadSays bytes (number_at bytes 4 4) (number_at bytes 8 4) (number_at bytes 12 4)
+head_from bytes long magic = record {
   long = ltb-false (length bytes) 16 long;
   magic = eqb-true (number_at bytes 0 4) 0x47494d56 (so _ magic);
-  version = eqb-true (number_at bytes 4 4) 1 (so _ version);
+  version_is = refl;
   pages_are = refl;
   count_is = refl;
 }
 
-head_of : (bytes : List ℕ) → (nat_lt (length bytes) 16 || not (eqb (number_at bytes 0 4) 0x47494d56) || not (eqb (number_at bytes 4 4) 1)) ≡ false
-    → HeadSays bytes (number_at bytes 8 4) (number_at bytes 12 4)
+head_of : (bytes : List ℕ) → (nat_lt (length bytes) 16 || not (eqb (number_at bytes 0 4) 0x47494d56) || not (eqb (number_at bytes 4 4) 1 || eqb (number_at bytes 4 4) 2)) ≡ false
+    → HeadSays bytes (number_at bytes 4 4) (number_at bytes 8 4) (number_at bytes 12 4) × IsVersion (number_at bytes 4 4)
 head_of bytes e =
-    let version = neither (nat_lt (length bytes) 16 || not (eqb (number_at bytes 0 4) 0x47494d56)) (not (eqb (number_at bytes 4 4) 1)) e in
+    let version = neither (nat_lt (length bytes) 16 || not (eqb (number_at bytes 0 4) 0x47494d56)) (not (eqb (number_at bytes 4 4) 1 || eqb (number_at bytes 4 4) 2)) e in
     let magic = neither (nat_lt (length bytes) 16) (not (eqb (number_at bytes 0 4) 0x47494d56)) version.0 in
-    head_from bytes magic.0 magic.1 version.1
+    (head_from bytes magic.0 magic.1, known_version (number_at bytes 4 4) (so _ version.1))
 
-limits_from : (pages count : ℕ) → eqb pages 0 ≡ false → nat_lt 16384 pages ≡ false → eqb count 0 ≡ false → nat_lt 16 count ≡ false → Limits pages count
-limits_from pages count some few some_device few_devices =
+limits_from : (version pages count : ℕ) → IsVersion version → eqb pages 0 ≡ false → nat_lt 16384 pages ≡ false → eqb count 0 ≡ false → nat_lt 16 count ≡ false → Limits version pages count
+limits_from version pages count known some few some_device few_devices =
     let is_page : pages ≢ 0 = eqb-false pages 0 some in
     let is_device : count ≢ 0 = eqb-false count 0 some_device in
-    record { some_page = omega (arith, is_page); few_pages = ltb-false 16384 pages few; some_device = omega (arith, is_device); few_devices = ltb-false 16 count few_devices }
+    record { known = known; some_page = omega (arith, is_page); few_pages = ltb-false 16384 pages few; some_device = omega (arith, is_device); few_devices = ltb-false 16 count few_devices }
 
-limits_of : (pages count : ℕ) → (eqb pages 0 || nat_lt 16384 pages || eqb count 0 || nat_lt 16 count) ≡ false → Limits pages count
-limits_of pages count e =
+limits_of : (version pages count : ℕ) → IsVersion version → (eqb pages 0 || nat_lt 16384 pages || eqb count 0 || nat_lt 16 count) ≡ false → Limits version pages count
+limits_of version pages count known e =
     let few_devices = neither (eqb pages 0 || nat_lt 16384 pages || eqb count 0) (nat_lt 16 count) e in
     let some_device = neither (eqb pages 0 || nat_lt 16384 pages) (eqb count 0) few_devices.0 in
     let few = neither (eqb pages 0) (nat_lt 16384 pages) some_device.0 in
-    limits_from pages count few.0 few.1 some_device.1 few_devices.1
+    limits_from version pages count known few.0 few.1 some_device.1 few_devices.1
 
-header_within : (pages count : ℕ) (shapes : List Shape) → Limits pages count → length shapes ≡ count → AllByRecursion IsSoundShape shapes → IsHeader pages shapes
-header_within pages count shapes limits is sound = record {
+header_within : (version pages count : ℕ) (shapes : List Shape) → Limits version pages count → length shapes ≡ count → AllByRecursion IsSoundShape shapes → IsHeader (record { version = version; pages = pages; shapes = shapes })
+header_within version pages count shapes limits is sound = record {
+  known = limits.known;
   some_page = limits.some_page;
   few_pages = limits.few_pages;
   some_device = omega (arith, limits.some_device, is);
@@ -296,40 +321,43 @@ header_within pages count shapes limits is sound = record {
   sound = All-from_recursion IsSoundShape shapes sound;
 }
 
-header_whole : (bytes : List ℕ) (pages count : ℕ) (shapes : List Shape) (rest : List ℕ) → IsBytes bytes → HeadSays bytes pages count → length shapes ≡ count → drop 16 bytes ≡ spelled_shapes shapes ++ rest
-    → bytes ≡ header pages shapes ++ rest
-header_whole bytes pages count shapes rest are says is after =
-    head_written bytes pages count are says
-    ∙ ap (λ (n : ℕ). front pages n ++ drop 16 bytes) (sym is)
-    ∙ ap (λ (x : List ℕ). front pages (length shapes) ++ x) after
-    ∙ sym (append_assoc (front pages (length shapes)) (spelled_shapes shapes) rest)
+header_whole : (bytes : List ℕ) (version pages count : ℕ) (shapes : List Shape) (rest : List ℕ) → IsBytes bytes → HeadSays bytes version pages count → length shapes ≡ count → drop 16 bytes ≡ spelled_shapes shapes ++ rest
+    → bytes ≡ header (record { version = version; pages = pages; shapes = shapes }) ++ rest
+header_whole bytes version pages count shapes rest are says is after =
+    head_written bytes version pages count are says
+    ∙ ap (λ (n : ℕ). front version pages n ++ drop 16 bytes) (sym is)
+    ∙ ap (λ (x : List ℕ). front version pages (length shapes) ++ x) after
+    ∙ sym (append_assoc (front version pages (length shapes)) (spelled_shapes shapes) rest)
 
-begins_with : (bytes : List ℕ) (pages count : ℕ) (x : List Shape × List ℕ) → IsBytes bytes → HeadSays bytes pages count → Limits pages count → WereShapes count (drop 16 bytes) x → Begins bytes pages x.0 x.1
-begins_with bytes pages count x are says limits shapes = record {
-  good = header_within pages count x.0 limits shapes.count shapes.good;
-  whole = header_whole bytes pages count x.0 x.1 are says shapes.count shapes.whole;
+begins_with : (bytes : List ℕ) (version pages count : ℕ) (x : List Shape × List ℕ) → IsBytes bytes → HeadSays bytes version pages count → Limits version pages count → WereShapes count (drop 16 bytes) x
+    → Begins bytes (record { version = version; pages = pages; shapes = x.0 }) x.1
+begins_with bytes version pages count x are says limits shapes = record {
+  good = header_within version pages count x.0 limits shapes.count shapes.good;
+  whole = header_whole bytes version pages count x.0 x.1 are says shapes.count shapes.whole;
 }
 
-begins_read : (bytes : List ℕ) (pages count : ℕ) (found : ℕ × List Shape × List ℕ) → IsBytes bytes → HeadSays bytes pages count → Limits pages count
-    → (x : List Shape × List ℕ) → shapes_of count (drop 16 bytes) ≡ Some x → (pages, x.0, x.1) ≡ found → Begins bytes found.0 found.1 found.2
-begins_read bytes pages count found are says limits x read is =
-    subst (λ (y : ℕ × List Shape × List ℕ). Begins bytes y.0 y.1 y.2) is (begins_with bytes pages count x are says limits (shapes_read count (drop 16 bytes) x (IsBytes-drop 16 bytes are) read))
+begins_read : (bytes : List ℕ) (version pages count : ℕ) (found : Opening × List ℕ) → IsBytes bytes → HeadSays bytes version pages count → Limits version pages count
+    → (x : List Shape × List ℕ) → shapes_of count (drop 16 bytes) ≡ Some x → found_with version pages x ≡ found → Begins bytes found.0 found.1
+begins_read bytes version pages count found are says limits x read is =
+    subst (λ (y : Opening × List ℕ). Begins bytes y.0 y.1) is (begins_with bytes version pages count x are says limits (shapes_read count (drop 16 bytes) x (IsBytes-drop 16 bytes are) read))
 
-begins_found : (bytes : List ℕ) (pages count : ℕ) (found : ℕ × List Shape × List ℕ) → IsBytes bytes → HeadSays bytes pages count → Limits pages count
-    → with_pages pages (shapes_of count (drop 16 bytes)) ≡ Some found → Begins bytes found.0 found.1 found.2
-begins_found bytes pages count found are says limits e =
-    let read = with_pages_found pages (shapes_of count (drop 16 bytes)) found e in
-    begins_read bytes pages count found are says limits read.0 read.1 read.2
+begins_found : (bytes : List ℕ) (version pages count : ℕ) (found : Opening × List ℕ) → IsBytes bytes → HeadSays bytes version pages count → Limits version pages count
+    → with_shapes version pages (shapes_of count (drop 16 bytes)) ≡ Some found → Begins bytes found.0 found.1
+begins_found bytes version pages count found are says limits e =
+    let read = with_shapes_found version pages (shapes_of count (drop 16 bytes)) found e in
+    begins_read bytes version pages count found are says limits read.0 read.1 read.2
 
-pub spelled-header_of : (bytes : List ℕ) (found : ℕ × List Shape × List ℕ) → IsBytes bytes → header_of bytes ≡ Some found → Begins bytes found.0 found.1 found.2
+pub spelled-header_of : (bytes : List ℕ) (found : Opening × List ℕ) → IsBytes bytes → header_of bytes ≡ Some found → Begins bytes found.0 found.1
 unfolding header_of
 spelled-header_of bytes found are e =
-    let head = not_chosen (nat_lt (length bytes) 16 || not (eqb (number_at bytes 0 4) 0x47494d56) || not (eqb (number_at bytes 4 4) 1)) _ found e in
+    let version = number_at bytes 4 4 in
+    let head = not_chosen (nat_lt (length bytes) 16 || not (eqb (number_at bytes 0 4) 0x47494d56) || not (eqb version 1 || eqb version 2)) _ found e in
     let limits = not_chosen (eqb (number_at bytes 8 4) 0 || nat_lt 16384 (number_at bytes 8 4) || eqb (number_at bytes 12 4) 0 || nat_lt 16 (number_at bytes 12 4)) _ found head.1 in
-    begins_found bytes (number_at bytes 8 4) (number_at bytes 12 4) found are (head_of bytes head.0) (limits_of (number_at bytes 8 4) (number_at bytes 12 4) limits.0) limits.1
+    let says = head_of bytes head.0 in
+    begins_found bytes version (number_at bytes 8 4) (number_at bytes 12 4) found are says.0 (limits_of version (number_at bytes 8 4) (number_at bytes 12 4) says.1 limits.0) limits.1
 
-pub no_header : (bytes : List ℕ) → header_of bytes ≡ None → (pages : ℕ) (shapes : List Shape) (rest : List ℕ) → ¬ (Begins bytes pages shapes rest)
-no_header bytes none pages shapes rest begins = let read = header_of-spelled bytes pages shapes rest begins in cc
+pub no_header : (bytes : List ℕ) → header_of bytes ≡ None → (opening : Opening) (rest : List ℕ) → ¬ (Begins bytes opening rest)
+no_header bytes none opening rest begins = let read = header_of-spelled bytes opening rest begins in cc
 
 -- How long the front of the bytes is, by what is behind it.
 pub record Behind (bytes rest : List ℕ) : Type 0 where
@@ -358,6 +386,6 @@ fourth_byte n = omega arith
 pub low_digits : (n : ℕ) → digits 4 (n % 4294967296) ≡ digits 4 n
 low_digits n = rw (first_byte n, second_byte n, third_byte n, fourth_byte n) refl
 
-pub front_low : (pages n : ℕ) → front pages (n % 4294967296) ≡ front pages n
+pub front_low : (version pages n : ℕ) → front version pages (n % 4294967296) ≡ front version pages n
 unfolding front
-front_low pages n = ap (λ (x : List ℕ). codes "VMIG" ++ (digits 4 1 ++ (digits 4 pages ++ x))) (low_digits n)
+front_low version pages n = ap (λ (x : List ℕ). codes "VMIG" ++ (digits 4 version ++ (digits 4 pages ++ x))) (low_digits n)

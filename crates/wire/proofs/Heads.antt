@@ -5,13 +5,13 @@ use Rattle.guestmem.specs.ByteLaws.{IsBytes-drop, IsBytes-take}
 use Rattle.guestmem.specs.Number.{number_at, IsBytes}
 use Rattle.wire.specs.Numbers.{digits, flag}
 use Rattle.wire.specs.RecordHeads.{BeginsHead, BeginsNoHead, BeginsNoMark, BeginsNoTag, FitsHead, IsHeadCut, ReadsHead, body_len, spelled_head}
-use Rattle.wire.specs.Records.{Record, page, sector, round_end, device, commit, BeginsNoRecord, BeginsRecord, HasSpelling, body_of, head_of, record_with, spelled_record}
+use Rattle.wire.specs.Records.{Record, page, sector, round_end, device, commit, zero_page, BeginsNoRecord, BeginsRecord, HasSpelling, IsOf, body_of, head_of, record_with, spelled_record}
 use Rattle.wire.specs.declared.record_head.RecordHead.{RecordHead}
-use Rattle.wire.specs.declared.record_head.RecordHead.TheVariants.{Page, Sector, RoundEnd, Device, Commit}
+use Rattle.wire.specs.declared.record_head.RecordHead.TheVariants.{Page, Sector, RoundEnd, Device, Commit, ZeroPage}
 use Rattle.wire.specs.declared.record_head.FoundHead.{FoundHead}
 use Rattle.wire.specs.declared.record_head.FoundHead.TheVariants as founds
 use Rattle.wire.proofs.Digits.{digits-number_at, flag-number, number_at-fits, spelled-numbers}
-use Rattle.wire.proofs.Spelling.{head_same, number_same, sector_same, tail_same}
+use Rattle.wire.proofs.Spelling.{head_same, number_same, one_record, sector_same, tail_same}
 
 -- No head is the beginning of another.
 
@@ -27,6 +27,7 @@ one_head (Page m) (Sector d n g) x y h k e = absurd cc
 one_head (Page m) (RoundEnd n) x y h k e = absurd cc
 one_head (Page m) (Device d n) x y h k e = absurd cc
 one_head (Page m) Commit x y h k e = absurd cc
+one_head (Page m) (ZeroPage n) x y h k e = absurd cc
 one_head (Sector c m f) (Page n) x y h k e = absurd cc
 one_head (Sector c m f) (Sector d n g) x y h k e =
     let t = sector_same c d m n (flag f) (flag g) [] [] x y h.1 k.1 e in
@@ -34,11 +35,13 @@ one_head (Sector c m f) (Sector d n g) x y h k e =
 one_head (Sector c m f) (RoundEnd n) x y h k e = absurd cc
 one_head (Sector c m f) (Device d n) x y h k e = absurd cc
 one_head (Sector c m f) Commit x y h k e = absurd cc
+one_head (Sector c m f) (ZeroPage n) x y h k e = absurd cc
 one_head (RoundEnd m) (Page n) x y h k e = absurd cc
 one_head (RoundEnd m) (Sector d n g) x y h k e = absurd cc
 one_head (RoundEnd m) (RoundEnd n) x y h k e = let t = number_same 4 m n x y h k (tail_same e) in (ap RoundEnd t.0, t.1)
 one_head (RoundEnd m) (Device d n) x y h k e = absurd cc
 one_head (RoundEnd m) Commit x y h k e = absurd cc
+one_head (RoundEnd m) (ZeroPage n) x y h k e = absurd cc
 one_head (Device c m) (Page n) x y h k e = absurd cc
 one_head (Device c m) (Sector d n g) x y h k e = absurd cc
 one_head (Device c m) (RoundEnd n) x y h k e = absurd cc
@@ -46,11 +49,19 @@ one_head (Device c m) (Device d n) x y h k e =
     let t = number_same 4 m n x y h.1 k.1 (tail_same (tail_same e)) in
     (rw (head_same (tail_same e), t.0) refl, t.1)
 one_head (Device c m) Commit x y h k e = absurd cc
+one_head (Device c m) (ZeroPage n) x y h k e = absurd cc
 one_head Commit (Page n) x y h k e = absurd cc
 one_head Commit (Sector d n g) x y h k e = absurd cc
 one_head Commit (RoundEnd n) x y h k e = absurd cc
 one_head Commit (Device d n) x y h k e = absurd cc
 one_head Commit Commit x y h k e = (refl, tail_same e)
+one_head Commit (ZeroPage n) x y h k e = absurd cc
+one_head (ZeroPage m) (Page n) x y h k e = absurd cc
+one_head (ZeroPage m) (Sector d n g) x y h k e = absurd cc
+one_head (ZeroPage m) (RoundEnd n) x y h k e = absurd cc
+one_head (ZeroPage m) (Device d n) x y h k e = absurd cc
+one_head (ZeroPage m) Commit x y h k e = absurd cc
+one_head (ZeroPage m) (ZeroPage n) x y h k e = let t = number_same 4 m n x y h k (tail_same e) in (ap ZeroPage t.0, t.1)
 
 -- A record is its head and its body.
 
@@ -61,6 +72,7 @@ fits_head (sector d n None) h = h
 fits_head (round_end n) h = h
 fits_head (device d b) h = (h.0, h.1)
 fits_head (commit b) h = tt
+fits_head (zero_page n) h = h
 
 pub length_body : (r : Record) → HasSpelling r → length (body_of r) ≡ body_len (head_of r)
 length_body (page n b) h = h.1
@@ -69,6 +81,7 @@ length_body (sector d n None) h = refl
 length_body (round_end n) h = refl
 length_body (device d b) h = refl
 length_body (commit b) h = h.0
+length_body (zero_page n) h = refl
 
 pub head_then_body : (r : Record) (x : List ℕ) → spelled_record r ++ x ≡ spelled_head (head_of r) ++ (body_of r ++ x)
 unfolding spelled_record
@@ -89,6 +102,7 @@ spelled_with (Sector d n false) b e = nothing_behind (spelled_head (Sector d n f
 spelled_with (RoundEnd n) b e = nothing_behind (spelled_head (RoundEnd n)) b e
 spelled_with (Device d len) b e = ap (λ (k : ℕ). 4 ∷ (d ∷ (digits 4 k ++ b))) e
 spelled_with Commit b e = refl
+spelled_with (ZeroPage n) b e = nothing_behind (spelled_head (ZeroPage n)) b e
 
 pub spells_with : (h : RecordHead) (b : List ℕ) → FitsHead h → IsBytes b → length b ≡ body_len h → HasSpelling (record_with h b)
 spells_with (Page n) b fits are e = (fits, e, are)
@@ -97,9 +111,10 @@ spells_with (Sector d n false) b fits are e = fits
 spells_with (RoundEnd n) b fits are e = fits
 spells_with (Device d len) b fits are e = (fits.0, omega (arith, e, fits.1), are)
 spells_with Commit b fits are e = (e, are)
+spells_with (ZeroPage n) b fits are e = fits
 
-pub no_record : (bytes : List ℕ) → BeginsNoHead bytes → BeginsNoRecord bytes
-no_record bytes none r x h e = none (head_of r) (body_of r ++ x) (fits_head r h) (e ∙ head_then_body r x)
+pub no_record : (version : ℕ) (bytes : List ℕ) → BeginsNoHead bytes → BeginsNoRecord version bytes
+no_record version bytes none r x h has e = none (head_of r) (body_of r ++ x) (fits_head r h) (e ∙ head_then_body r x)
 
 mark_low : (f : Bool) → flag f ≤ 1
 mark_low true = omega arith
@@ -111,6 +126,7 @@ tag_first (Sector d n g) bytes rest e t fields is = let same : t ≡ 2 = head_sa
 tag_first (RoundEnd n) bytes rest e t fields is = let same : t ≡ 3 = head_same (sym is ∙ e) in (digits 4 n, ap (λ (k : ℕ). k ∷ digits 4 n) (sym same))
 tag_first (Device d n) bytes rest e t fields is = let same : t ≡ 4 = head_same (sym is ∙ e) in (d ∷ digits 4 n, ap (λ (k : ℕ). k ∷ (d ∷ digits 4 n)) (sym same))
 tag_first Commit bytes rest e t fields is = let same : t ≡ 5 = head_same (sym is ∙ e) in ([], ap (λ (k : ℕ). k ∷ []) (sym same))
+tag_first (ZeroPage n) bytes rest e t fields is = let same : t ≡ 6 = head_same (sym is ∙ e) in (digits 4 n, ap (λ (k : ℕ). k ∷ digits 4 n) (sym same))
 
 tag_has_no_head : (bytes : List ℕ) → BeginsNoTag bytes → BeginsNoHead bytes
 tag_has_no_head bytes b head rest h e = let first = tag_first head bytes rest e b.tag b.more b.whole in b.never head first.0 first.1
@@ -123,22 +139,29 @@ mark_has_no_head bytes b (Sector d n g) rest h e =
 mark_has_no_head bytes b (RoundEnd n) rest h e = let no = sym b.whole ∙ e in absurd cc
 mark_has_no_head bytes b (Device d n) rest h e = let no = sym b.whole ∙ e in absurd cc
 mark_has_no_head bytes b Commit rest h e = let no = sym b.whole ∙ e in absurd cc
+mark_has_no_head bytes b (ZeroPage n) rest h e = let no = sym b.whole ∙ e in absurd cc
 
 -- Where no head is whole, no record is.
-pub nothing_found : (bytes : List ℕ) (found : FoundHead) → ReadsHead bytes found → ((head : RecordHead) → found ≢ founds.Whole head) → BeginsNoRecord bytes
-nothing_found bytes (founds.More len) h other = no_record bytes h.none
-nothing_found bytes founds.NoSuchTag h other = no_record bytes (tag_has_no_head bytes h)
-nothing_found bytes founds.NoSuchMark h other = no_record bytes (mark_has_no_head bytes h)
-nothing_found bytes (founds.Whole head) h other = absurd (other head refl)
+pub nothing_found : (version : ℕ) (bytes : List ℕ) (found : FoundHead) → ReadsHead bytes found → ((head : RecordHead) → found ≢ founds.Whole head) → BeginsNoRecord version bytes
+nothing_found version bytes (founds.More len) h other = no_record version bytes h.none
+nothing_found version bytes founds.NoSuchTag h other = no_record version bytes (tag_has_no_head bytes h)
+nothing_found version bytes founds.NoSuchMark h other = no_record version bytes (mark_has_no_head bytes h)
+nothing_found version bytes (founds.Whole head) h other = absurd (other head refl)
 
-pub no_body : (bytes rest : List ℕ) (head : RecordHead) → FitsHead head → bytes ≡ spelled_head head ++ rest → length rest < body_len head → BeginsNoRecord bytes
-no_body bytes rest head fits is short r x h e =
+pub no_body : (version : ℕ) (bytes rest : List ℕ) (head : RecordHead) → FitsHead head → bytes ≡ spelled_head head ++ rest → length rest < body_len head → BeginsNoRecord version bytes
+no_body version bytes rest head fits is short r x h has e =
     let t = one_head head (head_of r) rest (body_of r ++ x) fits (fits_head r h) (sym is ∙ e ∙ head_then_body r x) in
     omega (arith, short, ap length t.1, length-append (body_of r) x, length_body r h, ap body_len t.0)
 
-pub begins_with : (bytes body : List ℕ) (head : RecordHead) → IsBytes bytes → BeginsHead bytes head → body ≡ take (body_len head) (drop (length (spelled_head head)) bytes) → body_len head ≤ length (drop (length (spelled_head head)) bytes)
-    → BeginsRecord bytes (record_with head body) (length (spelled_head head) + length body)
-begins_with bytes body head are begins e room =
+-- The bytes begin with a record, whether the version has it or not.
+record IsThere (bytes : List ℕ) (r : Record) (len : ℕ) : Type 0 where
+  spells : HasSpelling r
+  long : length (spelled_record r) ≡ len
+  whole : bytes ≡ spelled_record r ++ drop len bytes
+
+there_with : (bytes body : List ℕ) (head : RecordHead) → IsBytes bytes → BeginsHead bytes head → body ≡ take (body_len head) (drop (length (spelled_head head)) bytes) → body_len head ≤ length (drop (length (spelled_head head)) bytes)
+    → IsThere bytes (record_with head body) (length (spelled_head head) + length body)
+there_with bytes body head are begins e room =
     let front = length (spelled_head head) in
     let rest = drop front bytes in
     let many : length body ≡ body_len head = omega (arith, ap length e, length-take (body_len head) rest, room) in
@@ -155,6 +178,20 @@ begins_with bytes body head are begins e room =
       whole = all ∙ ap (λ (x : List ℕ). spelled_record (record_with head body) ++ x) (sym past);
     }
 
+pub begins_with : (version : ℕ) (bytes body : List ℕ) (head : RecordHead) → IsBytes bytes → BeginsHead bytes head → body ≡ take (body_len head) (drop (length (spelled_head head)) bytes) → body_len head ≤ length (drop (length (spelled_head head)) bytes)
+    → IsOf version (record_with head body) → BeginsRecord version bytes (record_with head body) (length (spelled_head head) + length body)
+begins_with version bytes body head are begins e room has =
+    let there = there_with bytes body head are begins e room in
+    record { spells = there.spells; has = has; long = there.long; whole = there.whole }
+
+-- The version has no such record, and so the bytes begin with none.
+pub not_of_version : (version : ℕ) (bytes body : List ℕ) (head : RecordHead) → IsBytes bytes → BeginsHead bytes head → body ≡ take (body_len head) (drop (length (spelled_head head)) bytes) → body_len head ≤ length (drop (length (spelled_head head)) bytes)
+    → ¬ (IsOf version (record_with head body)) → BeginsNoRecord version bytes
+not_of_version version bytes body head are begins e room never r x spells has is =
+    let there = there_with bytes body head are begins e room in
+    let same = one_record r (record_with head body) x (drop (length (spelled_head head) + length body) bytes) spells there.spells (sym is ∙ there.whole) in
+    never (subst (IsOf version) same.0 has)
+
 -- Heads as they are read.
 
 pub begins : (bytes rest : List ℕ) (head : RecordHead) → FitsHead head → bytes ≡ spelled_head head ++ rest → BeginsHead bytes head
@@ -170,6 +207,9 @@ four_bytes rest n are long e =
 
 pub page_read : (fields : List ℕ) (n : ℕ) → IsBytes fields → 4 ≤ length fields → n ≡ number_at fields 0 4 → BeginsHead (1 ∷ fields) (Page n)
 page_read fields n are long e = begins (1 ∷ fields) (drop 4 fields) (Page n) (rw e (number_at-fits 4 0 fields are)) (ap (λ (x : List ℕ). 1 ∷ x) (four_bytes fields n are long e))
+
+pub zero_page_read : (fields : List ℕ) (n : ℕ) → IsBytes fields → 4 ≤ length fields → n ≡ number_at fields 0 4 → BeginsHead (6 ∷ fields) (ZeroPage n)
+zero_page_read fields n are long e = begins (6 ∷ fields) (drop 4 fields) (ZeroPage n) (rw e (number_at-fits 4 0 fields are)) (ap (λ (x : List ℕ). 6 ∷ x) (four_bytes fields n are long e))
 
 pub round_read : (fields : List ℕ) (n : ℕ) → IsBytes fields → 4 ≤ length fields → n ≡ number_at fields 0 4 → BeginsHead (3 ∷ fields) (RoundEnd n)
 round_read fields n are long e = begins (3 ∷ fields) (drop 4 fields) (RoundEnd n) (rw e (number_at-fits 4 0 fields are)) (ap (λ (x : List ℕ). 3 ∷ x) (four_bytes fields n are long e))
@@ -204,8 +244,8 @@ no_mark fields d n m are long e f g high = record {
   never = high;
 }
 
-pub no_tag : (t : ℕ) (rest : List ℕ) → t ≢ 1 → t ≢ 2 → t ≢ 3 → t ≢ 4 → t ≢ 5 → BeginsNoTag (t ∷ rest)
-no_tag t rest a b c d f = record { tag = t; more = rest; whole = refl; never = λ head x e. no_head head x e }
+pub no_tag : (t : ℕ) (rest : List ℕ) → t ≢ 1 → t ≢ 2 → t ≢ 3 → t ≢ 4 → t ≢ 5 → t ≢ 6 → BeginsNoTag (t ∷ rest)
+no_tag t rest a b c d f g = record { tag = t; more = rest; whole = refl; never = λ head x e. no_head head x e }
   where
     no_head : (head : RecordHead) (x : List ℕ) → spelled_head head ≢ t ∷ x
     no_head (Page n) x e = a (sym (head_same e))
@@ -213,6 +253,7 @@ no_tag t rest a b c d f = record { tag = t; more = rest; whole = refl; never = �
     no_head (RoundEnd n) x e = c (sym (head_same e))
     no_head (Device i n) x e = d (sym (head_same e))
     no_head Commit x e = f (sym (head_same e))
+    no_head (ZeroPage n) x e = g (sym (head_same e))
 
 pub commit_read : (rest : List ℕ) → BeginsHead (5 ∷ rest) Commit
 commit_read rest = begins (5 ∷ rest) rest Commit tt refl
@@ -220,7 +261,7 @@ commit_read rest = begins (5 ∷ rest) rest Commit tt refl
 -- Heads that are cut. The tag tells the length.
 
 len_of : ℕ → ℕ
-len_of t = if t == 1 then 5 else if t == 2 then 7 else if t == 3 then 5 else if t == 4 then 6 else 1
+len_of t = if t == 1 then 5 else if t == 2 then 7 else if t == 3 then 5 else if t == 4 then 6 else if t == 6 then 5 else 1
 
 length_told : (head : RecordHead) (t : ℕ) (x : List ℕ) → spelled_head head ≡ t ∷ x → length (spelled_head head) ≡ len_of t
 unfolding len_of
@@ -229,6 +270,7 @@ length_told (Sector d n g) t x e = let is : 2 ≡ t = head_same e in rw (← is)
 length_told (RoundEnd n) t x e = let is : 3 ≡ t = head_same e in rw (← is) refl
 length_told (Device d n) t x e = let is : 4 ≡ t = head_same e in rw (← is) refl
 length_told Commit t x e = let is : 5 ≡ t = head_same e in rw (← is) refl
+length_told (ZeroPage n) t x e = let is : 6 ≡ t = head_same e in rw (← is) refl
 
 cut : (t : ℕ) (fields more : List ℕ) (len : ℕ) (head : RecordHead) → FitsHead head → spelled_head head ≡ (t ∷ fields) ++ more → length (spelled_head head) ≡ len → suc (length fields) < len → IsHeadCut (t ∷ fields) len
 cut t fields more len head fits whole long short =
@@ -280,6 +322,7 @@ nothing_read bytes none = nothing_by bytes (no_bytes_by bytes none)
     some_by (RoundEnd n) = omega arith
     some_by (Device d n) = omega arith
     some_by Commit = omega arith
+    some_by (ZeroPage n) = omega arith
 
     nothing_by : (bytes : List ℕ) → bytes ≡ [] → IsHeadCut bytes 1
     nothing_by bytes e = rw e (record {
@@ -296,6 +339,11 @@ pub page_cut : (fields : List ℕ) → IsBytes fields → length fields < 4 → 
 page_cut fields are short =
     let n = number_cut fields are (omega (arith, short)) in
     cut 1 fields n.more 5 (Page n.number) n.fits (ap (λ (x : List ℕ). 1 ∷ x) n.whole) refl (omega (arith, short))
+
+pub zero_page_cut : (fields : List ℕ) → IsBytes fields → length fields < 4 → IsHeadCut (6 ∷ fields) 5
+zero_page_cut fields are short =
+    let n = number_cut fields are (omega (arith, short)) in
+    cut 6 fields n.more 5 (ZeroPage n.number) n.fits (ap (λ (x : List ℕ). 6 ∷ x) n.whole) refl (omega (arith, short))
 
 pub round_cut : (fields : List ℕ) → IsBytes fields → length fields < 4 → IsHeadCut (3 ∷ fields) 5
 round_cut fields are short =
@@ -327,15 +375,17 @@ short_head (Sector d n g) = omega arith
 short_head (RoundEnd n) = omega arith
 short_head (Device d n) = omega arith
 short_head Commit = omega arith
+short_head (ZeroPage n) = omega arith
 
-pub some_head : (t : ℕ) → 1 ≤ t → t ≤ 5 → (head : RecordHead) × ((rest : List ℕ) × (spelled_head head ≡ t ∷ rest))
+pub some_head : (t : ℕ) → 1 ≤ t → t ≤ 6 → (head : RecordHead) × ((rest : List ℕ) × (spelled_head head ≡ t ∷ rest))
 some_head zero low high = absurd (omega (arith, low))
 some_head (suc zero) low high = (Page 0, (digits 4 0, refl))
 some_head (suc (suc zero)) low high = (Sector 0 0 false, (0 ∷ (digits 4 0 ++ (0 ∷ [])), refl))
 some_head (suc (suc (suc zero))) low high = (RoundEnd 0, (digits 4 0, refl))
 some_head (suc (suc (suc (suc zero)))) low high = (Device 0 0, (0 ∷ digits 4 0, refl))
 some_head (suc (suc (suc (suc (suc zero))))) low high = (Commit, ([], refl))
-some_head (suc (suc (suc (suc (suc (suc t)))))) low high = absurd (omega (arith, high))
+some_head (suc (suc (suc (suc (suc (suc zero)))))) low high = (ZeroPage 0, (digits 4 0, refl))
+some_head (suc (suc (suc (suc (suc (suc (suc t))))))) low high = absurd (omega (arith, high))
 
 -- The head whose bytes are these fields of a sector.
 pub record IsSectorHead (head : RecordHead) (d n m : ℕ) : Type 0 where
@@ -351,3 +401,4 @@ sector_found (Sector c k f) rest x d n m h fits e =
 sector_found (RoundEnd k) rest x d n m h fits e = absurd cc
 sector_found (Device c k) rest x d n m h fits e = absurd cc
 sector_found Commit rest x d n m h fits e = absurd cc
+sector_found (ZeroPage k) rest x d n m h fits e = absurd cc

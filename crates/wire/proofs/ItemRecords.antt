@@ -5,8 +5,10 @@ use Rattle.guestmem.specs.Item.{Item, page, sector}
 use Rattle.machine.specs.Layout.{Layout, IsItemIn, layout_of, size_of, number_of, item_at}
 use Rattle.machine.specs.State.{MachineState}
 use Rattle.machine.proofs.Numbering.{either_way, number_back, number_below, item_back}
-use Rattle.wire.specs.Records.{Record}
-use Rattle.wire.specs.Stream.{or_else, same_item, says_of, last_named, record_of, records_below}
+use Rattle.guestmem.specs.Page.{page_of}
+use Rattle.wire.specs.Records.{Record, is_zero_page, page_record}
+use Rattle.wire.specs.Stream.{or_else, same_item, says_of, last_named, record_in, records_in}
+use Rattle.wire.proofs.PageRecords.{as_page, as_zeros}
 
 -- Items are told apart.
 true_parts : (a b : Bool) → (a && b) ≡ true → (a ≡ true) × (b ≡ true)
@@ -35,18 +37,24 @@ same_number l i k low high = elim (either_way (eqb i k)) as (λ _. same_item (it
   ]
 ]
 
-says_record : (m : MachineState) (i j : Item) → says_of i (record_of m j) ≡ cond (same_item i j) (Some (record_of m j)) None
-says_record m i (page n) = refl
-says_record m i (sector d n) = refl
+pub says_page : (i : Item) (version n : ℕ) (bytes : List ℕ) → says_of i (page_record version n bytes) ≡ cond (same_item i (page n)) (Some (page_record version n bytes)) None
+says_page i version n bytes = elim (either_way (is_zero_page version bytes)) as (λ _. says_of i (page_record version n bytes) ≡ cond (same_item i (page n)) (Some (page_record version n bytes)) None) [
+  | inl z ↦ rw (as_zeros version n bytes z) refl
+  | inr f ↦ rw (as_page version n bytes f) refl
+]
+
+says_record : (v : ℕ) (m : MachineState) (i j : Item) → says_of i (record_in v m.ram m.disks j) ≡ cond (same_item i j) (Some (record_in v m.ram m.disks j)) None
+says_record v m i (page n) = says_page i v n (page_of m.ram n)
+says_record v m i (sector d n) = refl
 
 -- What the record of one of the machine's items says of another.
-pub says_at : (m : MachineState) (i k : ℕ) → i < size_of (layout_of m) → k < size_of (layout_of m)
-    → says_of (item_at (layout_of m) i) (record_of m (item_at (layout_of m) k)) ≡ cond (eqb i k) (Some (record_of m (item_at (layout_of m) i))) None
-says_at m i k low high =
+pub says_at : (v : ℕ) (m : MachineState) (i k : ℕ) → i < size_of (layout_of m) → k < size_of (layout_of m)
+    → says_of (item_at (layout_of m) i) (record_in v m.ram m.disks (item_at (layout_of m) k)) ≡ cond (eqb i k) (Some (record_in v m.ram m.disks (item_at (layout_of m) i))) None
+says_at v m i k low high =
     let l = layout_of m in
-    says_record m (item_at l i) (item_at l k) ∙ ap (λ (b : Bool). cond b (Some (record_of m (item_at l k))) None) (same_number l i k low high)
-    ∙ elim (either_way (eqb i k)) as (λ _. cond (eqb i k) (Some (record_of m (item_at l k))) None ≡ cond (eqb i k) (Some (record_of m (item_at l i))) None)
-    [ inl e ↦ ap (λ (x : ℕ). cond (eqb i k) (Some (record_of m (item_at l x))) None) (sym (eqb-true i k e)) | inr e ↦ rw e refl ]
+    says_record v m (item_at l i) (item_at l k) ∙ ap (λ (b : Bool). cond b (Some (record_in v m.ram m.disks (item_at l k))) None) (same_number l i k low high)
+    ∙ elim (either_way (eqb i k)) as (λ _. cond (eqb i k) (Some (record_in v m.ram m.disks (item_at l k))) None ≡ cond (eqb i k) (Some (record_in v m.ram m.disks (item_at l i))) None)
+    [ inl e ↦ ap (λ (x : ℕ). cond (eqb i k) (Some (record_in v m.ram m.disks (item_at l x))) None) (sym (eqb-true i k e)) | inr e ↦ rw e refl ]
 
 -- Lists of records.
 pub or_else_none : {A : Type 0} (x : Option A) → x ≡ or_else x None
@@ -74,22 +82,22 @@ pub named-snoc : (i : Item) (xs : List Record) (x : Record) → last_named i (xs
 named-snoc i xs x = named-append i xs (x ∷ []) ∙ ap (λ y. or_else y (last_named i xs)) (named_one i x)
 
 -- The records of all items below a number name each of them.
-chosen : (m : MachineState) (n k : ℕ) (b : Bool) (last : Option Record) → eqb k n ≡ b → (k < n → last ≡ Some (record_of m (item_at (layout_of m) k))) → k < suc n
-    → or_else (cond b (Some (record_of m (item_at (layout_of m) k))) None) last ≡ Some (record_of m (item_at (layout_of m) k))
-chosen m n k true last is before below = refl
-chosen m n k false last is before below = let other = eqb-false k n is in before (omega (arith, below, other))
+chosen : (v : ℕ) (m : MachineState) (n k : ℕ) (b : Bool) (last : Option Record) → eqb k n ≡ b → (k < n → last ≡ Some (record_in v m.ram m.disks (item_at (layout_of m) k))) → k < suc n
+    → or_else (cond b (Some (record_in v m.ram m.disks (item_at (layout_of m) k))) None) last ≡ Some (record_in v m.ram m.disks (item_at (layout_of m) k))
+chosen v m n k true last is before below = refl
+chosen v m n k false last is before below = let other = eqb-false k n is in before (omega (arith, below, other))
 
-named_below : (m : MachineState) (n k : ℕ) → n ≤ size_of (layout_of m) → k < n → last_named (item_at (layout_of m) k) (records_below m n) ≡ Some (record_of m (item_at (layout_of m) k))
-unfolding records_below
-named_below m zero k few below = absurd (omega (arith, below))
-named_below m (suc n) k few below =
+named_below : (v : ℕ) (m : MachineState) (n k : ℕ) → n ≤ size_of (layout_of m) → k < n → last_named (item_at (layout_of m) k) (records_in v m n) ≡ Some (record_in v m.ram m.disks (item_at (layout_of m) k))
+unfolding records_in
+named_below v m zero k few below = absurd (omega (arith, below))
+named_below v m (suc n) k few below =
     let l = layout_of m in
-    named-snoc (item_at l k) (records_below m n) (record_of m (item_at l n))
-    ∙ ap (λ y. or_else y (last_named (item_at l k) (records_below m n))) (says_at m k n (omega (arith, few, below)) (omega (arith, few)))
-    ∙ chosen m n k (eqb k n) (last_named (item_at l k) (records_below m n)) refl (λ less. named_below m n k (omega (arith, few)) less) below
+    named-snoc (item_at l k) (records_in v m n) (record_in v m.ram m.disks (item_at l n))
+    ∙ ap (λ y. or_else y (last_named (item_at l k) (records_in v m n))) (says_at v m k n (omega (arith, few, below)) (omega (arith, few)))
+    ∙ chosen v m n k (eqb k n) (last_named (item_at l k) (records_in v m n)) refl (λ less. named_below v m n k (omega (arith, few)) less) below
 
-pub all_named : (m : MachineState) (i : Item) → IsItemIn (layout_of m) i → last_named i (records_below m (size_of (layout_of m))) ≡ Some (record_of m i)
-all_named m i has =
+pub all_named : (v : ℕ) (m : MachineState) (i : Item) → IsItemIn (layout_of m) i → last_named i (records_in v m (size_of (layout_of m))) ≡ Some (record_in v m.ram m.disks i)
+all_named v m i has =
     let l = layout_of m in
-    let named = named_below m (size_of l) (number_of l i) (omega arith) (number_below l i has) in
+    let named = named_below v m (size_of l) (number_of l i) (omega arith) (number_below l i has) in
     rw (item_back l i has) at named

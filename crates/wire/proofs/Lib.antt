@@ -8,6 +8,7 @@ pub mod Heads
 pub mod ItemRecords
 pub mod Lists
 pub mod OwnTexts
+pub mod PageRecords
 pub mod PartLengths
 pub mod RequestFits
 pub mod RequestLemmas

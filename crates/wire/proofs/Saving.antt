@@ -16,7 +16,7 @@ use Rattle.wire.specs.RequestText.{head_text, kind_number}
 use Rattle.wire.specs.Records.{device, spelled_record}
 use Rattle.machine.specs.Layout.{layout_of, item_at}
 use Rattle.machine.specs.State.{DeviceState, MachineState}
-use Rattle.wire.specs.Stream.{device_texts, record_of, records_below, shapes_in, texts}
+use Rattle.wire.specs.Stream.{device_texts, record_of, records_below, records_in, shapes_in, texts}
 use Rattle.machine.specs.declared.shape.Shape.{Shape}
 use Rattle.wire.proofs.Bodies.{length-common_text, length-queue_text}
 use Rattle.wire.proofs.Whole.{texts-snoc}
@@ -24,7 +24,7 @@ use Rattle.wire.proofs.Unique.{length_shapes}
 use Rattle.wire.proofs.DeviceTexts.{device_texts-snoc}
 
 pub one_record : (m : MachineState) (n : ℕ) → texts (records_below m (n + 1)) ≡ texts (records_below m n) ++ spelled_record (record_of m (item_at (layout_of m) n))
-unfolding records_below
+unfolding records_in
 one_record m n = let more : n + 1 ≡ suc n = omega arith in rw more (texts-snoc (records_below m n) (record_of m (item_at (layout_of m) n)))
 
 -- The first so many of a list, and one more.

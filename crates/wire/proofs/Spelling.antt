@@ -2,7 +2,7 @@
 use Rattle.std.proofs.Common.{◌≡◌, ℕ, ◌^◌, ◌<◌, List, [], ◌∷◌, ◌++◌, length, Some, None, refl, sym, ap, ◌∙◌, append_assoc, arith}
 use Rattle.byteorder.specs.Endian.{little_from}
 use Rattle.wire.specs.Numbers.{digits}
-use Rattle.wire.specs.Records.{Record, page, sector, round_end, device, commit, HasSpelling, spelled_record}
+use Rattle.wire.specs.Records.{Record, page, sector, round_end, device, commit, zero_page, HasSpelling, spelled_record}
 use Rattle.wire.proofs.Digits.{digits_read, length-digits}
 
 pub split_same : {A : Type 0} (a b x y : List A) → length a ≡ length b → a ++ x ≡ b ++ y → (a ≡ b) × (x ≡ y)
@@ -54,6 +54,7 @@ one_record (page m a) (sector d n None) x y h k e = absurd cc
 one_record (page m a) (round_end n) x y h k e = absurd cc
 one_record (page m a) (device d b) x y h k e = absurd cc
 one_record (page m a) (commit b) x y h k e = absurd cc
+one_record (page m a) (zero_page n) x y h k e = absurd cc
 one_record (sector c m (Some a)) (page n b) x y h k e = absurd cc
 one_record (sector c m None) (page n b) x y h k e = absurd cc
 one_record (sector c m (Some a)) (sector d n (Some b)) x y h k e =
@@ -68,22 +69,34 @@ one_record (sector c m None) (round_end n) x y h k e = absurd cc
 one_record (sector c m (Some a)) (device d b) x y h k e = absurd cc
 one_record (sector c m None) (device d b) x y h k e = absurd cc
 one_record (sector c m (Some a)) (commit b) x y h k e = absurd cc
+one_record (sector c m (Some a)) (zero_page n) x y h k e = absurd cc
 one_record (sector c m None) (commit b) x y h k e = absurd cc
+one_record (sector c m None) (zero_page n) x y h k e = absurd cc
 one_record (round_end m) (page n b) x y h k e = absurd cc
 one_record (round_end m) (sector d n (Some b)) x y h k e = absurd cc
 one_record (round_end m) (sector d n None) x y h k e = absurd cc
 one_record (round_end m) (round_end n) x y h k e = let t = number_same 4 m n x y h k (tail_same e) in (rw (t.0) refl, t.1)
 one_record (round_end m) (device d b) x y h k e = absurd cc
 one_record (round_end m) (commit b) x y h k e = absurd cc
+one_record (round_end m) (zero_page n) x y h k e = absurd cc
 one_record (device c a) (page n b) x y h k e = absurd cc
 one_record (device c a) (sector d n (Some b)) x y h k e = absurd cc
 one_record (device c a) (sector d n None) x y h k e = absurd cc
 one_record (device c a) (round_end n) x y h k e = absurd cc
 one_record (device c a) (device d b) x y h k e = let t = device_same a b x y h.1 k.1 (tail_same (tail_same e)) in (rw (head_same (tail_same e), t.0) refl, t.1)
 one_record (device c a) (commit b) x y h k e = absurd cc
+one_record (device c a) (zero_page n) x y h k e = absurd cc
 one_record (commit a) (page n b) x y h k e = absurd cc
 one_record (commit a) (sector d n (Some b)) x y h k e = absurd cc
 one_record (commit a) (sector d n None) x y h k e = absurd cc
 one_record (commit a) (round_end n) x y h k e = absurd cc
 one_record (commit a) (device d b) x y h k e = absurd cc
 one_record (commit a) (commit b) x y h k e = let t = split_same a b x y (h.0 ∙ sym k.0) (tail_same e) in (rw (t.0) refl, t.1)
+one_record (commit a) (zero_page n) x y h k e = absurd cc
+one_record (zero_page m) (page n b) x y h k e = absurd cc
+one_record (zero_page m) (sector d n (Some b)) x y h k e = absurd cc
+one_record (zero_page m) (sector d n None) x y h k e = absurd cc
+one_record (zero_page m) (round_end n) x y h k e = absurd cc
+one_record (zero_page m) (device d b) x y h k e = absurd cc
+one_record (zero_page m) (commit b) x y h k e = absurd cc
+one_record (zero_page m) (zero_page n) x y h k e = let t = number_same 4 m n x y h k (tail_same e) in (rw (t.0) refl, t.1)

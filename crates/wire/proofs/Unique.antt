@@ -1,13 +1,13 @@
 -- One stream has one machine.
-use Rattle.std.proofs.Common.{◌≡◌, ℕ, zero, suc, ◌+◌, ◌*◌, ◌<◌, ◌≤◌, List, [], ◌∷◌, ◌++◌, length, map, take, slice_get, Option, Some, None, refl, sym, ap, ◌∙◌, append_assoc, append-nil, arith}
-use Rattle.std.proofs.lemmas.List.{length-append, length-map}
+use Rattle.std.proofs.Common.{◌≡◌, ℕ, zero, suc, ◌+◌, ◌*◌, ◌<◌, ◌≤◌, List, [], ◌∷◌, ◌++◌, length, map, take, drop, slice_get, Option, Some, None, refl, sym, ap, ◌∙◌, append_assoc, append-nil, arith}
+use Rattle.std.proofs.lemmas.List.{length-append, length-drop, length-map, length-take}
 use Rattle.std.proofs.lemmas.List.Elements.{All-map, recursion_from_All}
 use Rattle.std.proofs.Math.Seq.{take-length, take-add}
 use Rattle.std.specs.List.{AllByRecursion, All}
 use Rattle.sha2.specs.Sha256.{sha256}
 use Rattle.wire.specs.DeviceBody.{body}
-use Rattle.wire.specs.Header.{header, IsHeader, Begins}
-use Rattle.wire.specs.Records.{Record, page, sector, round_end, device, commit, HasSpelling, spelled_record}
+use Rattle.wire.specs.Header.{header, IsHeader, IsVersion, Begins, Opening}
+use Rattle.wire.specs.Records.{Record, page, sector, round_end, device, commit, zero_page, page_record, HasSpelling, spelled_record}
 use Rattle.blk.specs.Sectors.{Sector}
 use Rattle.guestmem.specs.Item.{Item, page as page_item, sector as sector_item}
 use Rattle.guestmem.specs.Page.{page_of}
@@ -17,48 +17,50 @@ use Rattle.machine.specs.Shapes.{sector_count}
 use Rattle.machine.specs.Sound.{IsSound, IsSoundDevice, IsSoundShape}
 use Rattle.machine.proofs.Numbering.{in_layout}
 use Rattle.machine.specs.State.{DeviceState, MachineState}
-use Rattle.wire.specs.Stream.{IsStream, IsStreamBy, IsEntry, shapes_in, content_of, record_of, last_named, rounds, texts, device_texts, before_commit}
+use Rattle.wire.specs.Stream.{IsStream, IsStreamBy, IsEntry, shapes_in, content_of, record_in, last_named, opening_in, rounds, texts, device_texts, before_commit}
 use Rattle.machine.specs.declared.shape.Shape.{Shape}
 use Rattle.wire.proofs.Bodies.{body_is_short, body_bytes, one_body}
 use Rattle.wire.proofs.Choices.{same_found}
 use Rattle.wire.proofs.HeaderLemmas.{header_of-spelled}
+use Rattle.wire.proofs.PageRecords.{one_page}
 use Rattle.wire.proofs.Spelling.{one_record}
 
 pub cons_same : {A : Type 0} {x y : A} {xs ys : List A} → x ≡ y → xs ≡ ys → x ∷ xs ≡ y ∷ ys
 cons_same p q = rw (p, q) refl
 
 -- An entry has another tag than a device.
-pub not_device : (l : Layout) (r : Record) (x y : List ℕ) → IsEntry l r → spelled_record r ++ x ≡ 4 ∷ y → ⊥
+pub not_device : (v : ℕ) (l : Layout) (r : Record) (x y : List ℕ) → IsEntry v l r → spelled_record r ++ x ≡ 4 ∷ y → ⊥
 unfolding spelled_record
-not_device l (page n b) x y h e = cc
-not_device l (sector d n (Some b)) x y h e = cc
-not_device l (sector d n None) x y h e = cc
-not_device l (round_end n) x y h e = cc
-not_device l (device d b) x y h e = h.stands
-not_device l (commit b) x y h e = h.stands
+not_device v l (page n b) x y h e = cc
+not_device v l (sector d n (Some b)) x y h e = cc
+not_device v l (sector d n None) x y h e = cc
+not_device v l (round_end n) x y h e = cc
+not_device v l (device d b) x y h e = h.stands
+not_device v l (commit b) x y h e = h.stands
+not_device v l (zero_page n) x y h e = cc
 
 -- what begins as entries and goes on to a device has these entries first
-pub record Leads (l : Layout) (es fs : List Record) (x y : List ℕ) : Type 0 where
+pub record Leads (v : ℕ) (l : Layout) (es fs : List Record) (x y : List ℕ) : Type 0 where
   pub more : List Record
   pub all : fs ≡ es ++ more
-  pub each : AllByRecursion (IsEntry l) more
+  pub each : AllByRecursion (IsEntry v l) more
   pub left : x ≡ texts more ++ (4 ∷ y)
 
-pub leads : (k l : Layout) (es fs : List Record) (x y : List ℕ) → AllByRecursion (IsEntry k) es → AllByRecursion (IsEntry l) fs
-    → texts es ++ x ≡ texts fs ++ (4 ∷ y) → Leads l es fs x y
+pub leads : (v w : ℕ) (k l : Layout) (es fs : List Record) (x y : List ℕ) → AllByRecursion (IsEntry v k) es → AllByRecursion (IsEntry w l) fs
+    → texts es ++ x ≡ texts fs ++ (4 ∷ y) → Leads w l es fs x y
 unfolding texts
-leads k l [] fs x y h i e = record { more = fs; all = refl; each = i; left = e }
-leads k l (r ∷ es) [] x y h i e = absurd (not_device k r (texts es ++ x) y h.0 (sym (append_assoc (spelled_record r) (texts es) x) ∙ e))
-leads k l (r ∷ es) (s ∷ fs) x y h i e =
+leads v w k l [] fs x y h i e = record { more = fs; all = refl; each = i; left = e }
+leads v w k l (r ∷ es) [] x y h i e = absurd (not_device v k r (texts es ++ x) y h.0 (sym (append_assoc (spelled_record r) (texts es) x) ∙ e))
+leads v w k l (r ∷ es) (s ∷ fs) x y h i e =
     let f : spelled_record r ++ (texts es ++ x) ≡ spelled_record s ++ (texts fs ++ (4 ∷ y)) = sym (append_assoc (spelled_record r) (texts es) x) ∙ e ∙ append_assoc (spelled_record s) (texts fs) (4 ∷ y) in
     let o = one_record r s (texts es ++ x) (texts fs ++ (4 ∷ y)) h.0.spells i.0.spells f in
-    let ih = leads k l es fs x y h.1 i.1 o.1 in
+    let ih = leads v w k l es fs x y h.1 i.1 o.1 in
     record { more = ih.more; all = cons_same (sym o.0) ih.all; each = ih.each; left = ih.left }
 
-pub none_more : (l : Layout) (more : List Record) (x y : List ℕ) → AllByRecursion (IsEntry l) more → 4 ∷ x ≡ texts more ++ (4 ∷ y) → (more ≡ []) × (x ≡ y)
+pub none_more : (v : ℕ) (l : Layout) (more : List Record) (x y : List ℕ) → AllByRecursion (IsEntry v l) more → 4 ∷ x ≡ texts more ++ (4 ∷ y) → (more ≡ []) × (x ≡ y)
 unfolding texts
-none_more l [] x y h e = (refl, cc)
-none_more l (r ∷ rs) x y h e = absurd (not_device l r (texts rs ++ (4 ∷ y)) x h.0 (sym (append_assoc (spelled_record r) (texts rs) (4 ∷ y)) ∙ sym e))
+none_more v l [] x y h e = (refl, cc)
+none_more v l (r ∷ rs) x y h e = absurd (not_device v l r (texts rs ++ (4 ∷ y)) x h.0 (sym (append_assoc (spelled_record r) (texts rs) (4 ∷ y)) ∙ sym e))
 
 pub body_spells : (ram_len number : ℕ) (d : DeviceState) → number < 256 → IsSoundDevice ram_len d → HasSpelling (device number (body d))
 body_spells ram_len number d low sound = (low, omega (arith, body_is_short ram_len d sound), body_bytes ram_len d sound)
@@ -100,8 +102,9 @@ devices_lead ram_len number (s ∷ ss) (t ∷ ts) hs x y low h k shapes e =
 pub length_shapes : (ss : List DeviceState) → length (shapes_in ss) ≡ length ss
 length_shapes ss = simp length-map
 
-pub pages_limits : (m : MachineState) → IsSound m → IsHeader (pages_of m) (shapes_in m.devices)
-pages_limits m sound = record {
+pub pages_limits : (v : ℕ) (m : MachineState) → IsVersion v → IsSound m → IsHeader (opening_in v (pages_of m) m.devices)
+pages_limits v m known sound = record {
+  known = known;
   some_page = sound.some_pages;
   few_pages = sound.few_pages;
   some_device = omega (arith, length_shapes m.devices, sound.some_devices);
@@ -109,12 +112,12 @@ pages_limits m sound = record {
   sound = All-map IsSoundShape (λ (d : DeviceState). d.shape) m.devices (λ k d below. (sound.devices k d below).shape);
 }
 
-pub after_header : (pages : ℕ) (entries : List Record) (ss : List DeviceState) (c : List ℕ) → before_commit pages entries ss ++ c ≡ header pages (shapes_in ss) ++ (texts entries ++ (device_texts 0 ss ++ c))
-after_header pages entries ss c = simp append_assoc
+pub after_header : (v pages : ℕ) (entries : List Record) (ss : List DeviceState) (c : List ℕ) → before_commit v pages entries ss ++ c ≡ header (opening_in v pages ss) ++ (texts entries ++ (device_texts 0 ss ++ c))
+after_header v pages entries ss c = simp append_assoc
 
-pub stream_begins : {bytes : List ℕ} {m : MachineState} {entries : List Record} → IsStreamBy bytes m entries
-    → Begins bytes (pages_of m) (shapes_in m.devices) (texts entries ++ (device_texts 0 m.devices ++ spelled_record (commit (sha256 (before_commit (pages_of m) entries m.devices)))))
-stream_begins {bytes} {m} {entries} h = record { good = pages_limits m h.sound; whole = h.whole ∙ after_header (pages_of m) entries m.devices _ }
+pub stream_begins : {v : ℕ} {bytes : List ℕ} {m : MachineState} {entries : List Record} → IsStreamBy v bytes m entries
+    → Begins bytes (opening_in v (pages_of m) m.devices) (texts entries ++ (device_texts 0 m.devices ++ spelled_record (commit (sha256 (before_commit v (pages_of m) entries m.devices)))))
+stream_begins {v} {bytes} {m} {entries} h = record { good = pages_limits v m h.known h.sound; whole = h.whole ∙ after_header v (pages_of m) entries m.devices _ }
 
 -- the devices begin with their tag
 pub device_first : (ss : List DeviceState) (c : List ℕ) → 1 ≤ length ss → (t : List ℕ) × (device_texts 0 ss ++ c ≡ 4 ∷ t)
@@ -139,21 +142,17 @@ all_taken a n e = rw (← e) (take-length a)
 pub ram_same : (p : ℕ) (a b : List ℕ) → length a ≡ 4096 * p → length b ≡ 4096 * p → ((n : ℕ) → n < p → page_of a n ≡ page_of b n) → a ≡ b
 ram_same p a b la lb h = sym (all_taken a (4096 * p) la) ∙ pages_same p a b h ∙ all_taken b (4096 * p) lb
 
-pub record Alike {A B C : Type 0} (p q : A) (s t : B) (r u : C) : Type 0 where
-  pub first : p ≡ q
-  pub second : s ≡ t
-  pub third : r ≡ u
-
-pub alike : (p q : ℕ) (s t : List Shape) (r u : List ℕ) → (◌≡◌ {A = Option (ℕ × List Shape × List ℕ)} (Some (p, s, r)) (Some (q, t, u))) → Alike p q s t r u
-alike p q s t r u e =
-    let same = same_found (p, s, r) (q, t, u) e in
-    record { first = ap (λ (x : ℕ × List Shape × List ℕ). x.0) same; second = ap (λ (x : ℕ × List Shape × List ℕ). x.1) same; third = ap (λ (x : ℕ × List Shape × List ℕ). x.2) same }
+pub alike : (o p : Opening) (r u : List ℕ) → (◌≡◌ {A = Option (Opening × List ℕ)} (Some (o, r)) (Some (p, u))) → (o ≡ p) × (r ≡ u)
+alike o p r u e =
+    let same = same_found (o, r) (p, u) e in
+    (ap (λ (x : Opening × List ℕ). x.0) same, ap (λ (x : Opening × List ℕ). x.1) same)
 
 pub none_from_length : {A : Type 0} (xs more : List A) (n : ℕ) → length (xs ++ more) ≡ length xs → more ≡ []
 none_from_length xs [] n e = refl
 none_from_length xs (y ∷ ys) n e = absurd (omega (arith, e, length-append xs (y ∷ ys)))
 
-pub record SameParts (p q : ℕ) (es fs : List Record) (ss ts : List DeviceState) : Type 0 where
+pub record SameParts (v w p q : ℕ) (es fs : List Record) (ss ts : List DeviceState) : Type 0 where
+  pub version : v ≡ w
   pub pages : p ≡ q
   pub entries : es ≡ fs
   pub devices : ss ≡ ts
@@ -162,12 +161,12 @@ pub record SameParts (p q : ℕ) (es fs : List Record) (ss ts : List DeviceState
 ends_none : (es fs : List Record) (u v x y : List ℕ) → u ≡ 4 ∷ x → v ≡ 4 ∷ y → (more : List Record) → fs ≡ es ++ more → (more ≡ []) × (x ≡ y) → (fs ≡ es) × (u ≡ v)
 ends_none es fs u v x y eu ev more all none = (all ∙ ap (λ (z : List Record). es ++ z) none.0 ∙ append-nil es, eu ∙ ap (λ (z : List ℕ). 4 ∷ z) none.1 ∙ sym ev)
 
-ends_led : (l : Layout) (es fs : List Record) (u v x y : List ℕ) → u ≡ 4 ∷ x → v ≡ 4 ∷ y → Leads l es fs u y → (fs ≡ es) × (u ≡ v)
-ends_led l es fs u v x y eu ev led = ends_none es fs u v x y eu ev led.more led.all (none_more l led.more x y led.each (sym eu ∙ led.left))
+ends_led : (w : ℕ) (l : Layout) (es fs : List Record) (u v x y : List ℕ) → u ≡ 4 ∷ x → v ≡ 4 ∷ y → Leads w l es fs u y → (fs ≡ es) × (u ≡ v)
+ends_led w l es fs u v x y eu ev led = ends_none es fs u v x y eu ev led.more led.all (none_more w l led.more x y led.each (sym eu ∙ led.left))
 
-ends_alike : (k l : Layout) (es fs : List Record) (u v x y : List ℕ) → AllByRecursion (IsEntry k) es → AllByRecursion (IsEntry l) fs → u ≡ 4 ∷ x → v ≡ 4 ∷ y
+ends_alike : (a b : ℕ) (k l : Layout) (es fs : List Record) (u v x y : List ℕ) → AllByRecursion (IsEntry a k) es → AllByRecursion (IsEntry b l) fs → u ≡ 4 ∷ x → v ≡ 4 ∷ y
     → texts es ++ u ≡ texts fs ++ v → (fs ≡ es) × (u ≡ v)
-ends_alike k l es fs u v x y h i eu ev e = ends_led l es fs u v x y eu ev (leads k l es fs u y h i (e ∙ ap (λ (z : List ℕ). texts fs ++ z) ev))
+ends_alike a b k l es fs u v x y h i eu ev e = ends_led b l es fs u v x y eu ev (leads a b k l es fs u y h i (e ∙ ap (λ (z : List ℕ). texts fs ++ z) ev))
 
 devices_led : (ss ts : List DeviceState) (x y : List ℕ) → LeadsDevices 0 ss ts x y → length ss ≡ length ts → ts ≡ ss
 devices_led ss ts x y d count = d.all ∙ ap (λ (z : List DeviceState). ss ++ z) (none_from_length ss d.more 0 (ap length (sym d.all) ∙ sym count)) ∙ append-nil ss
@@ -182,38 +181,47 @@ devices_alike ram_len ss ts x y few h k shapes e =
 same_sizes : (a b p q : ℕ) → p ≡ q → a ≡ 4096 * p → b ≡ 4096 * q → b ≡ a
 same_sizes a b p q e f g = g ∙ ap (λ (x : ℕ). 4096 * x) (sym e) ∙ sym f
 
-parts_from_ends : (bytes : List ℕ) (m n : MachineState) (es fs : List Record) (ca cb : List ℕ) → IsStreamBy bytes m es → IsStreamBy bytes n fs → pages_of m ≡ pages_of n → shapes_in m.devices ≡ shapes_in n.devices
-    → length n.ram ≡ length m.ram → (fs ≡ es) × (device_texts 0 m.devices ++ ca ≡ device_texts 0 n.devices ++ cb) → SameParts (pages_of m) (pages_of n) es fs m.devices n.devices
-parts_from_ends bytes m n es fs ca cb a b e f size o = record {
+parts_from_ends : (v w : ℕ) (bytes : List ℕ) (m n : MachineState) (es fs : List Record) (ca cb : List ℕ) → IsStreamBy v bytes m es → IsStreamBy w bytes n fs → v ≡ w → pages_of m ≡ pages_of n → shapes_in m.devices ≡ shapes_in n.devices
+    → length n.ram ≡ length m.ram → (fs ≡ es) × (device_texts 0 m.devices ++ ca ≡ device_texts 0 n.devices ++ cb) → SameParts v w (pages_of m) (pages_of n) es fs m.devices n.devices
+parts_from_ends v w bytes m n es fs ca cb a b same e f size o = record {
+  version = same;
   pages = e;
   entries = sym o.0;
   devices = sym (devices_alike (length m.ram) m.devices n.devices ca cb b.sound.few_devices a.sound.devices (rw size at b.sound.devices) f o.1);
 }
 
-parts_from_texts : (bytes : List ℕ) (m n : MachineState) (es fs : List Record) (ca cb : List ℕ) → IsStreamBy bytes m es → IsStreamBy bytes n fs
-    → Alike (pages_of m) (pages_of n) (shapes_in m.devices) (shapes_in n.devices) (texts es ++ (device_texts 0 m.devices ++ ca)) (texts fs ++ (device_texts 0 n.devices ++ cb))
-    → SameParts (pages_of m) (pages_of n) es fs m.devices n.devices
-parts_from_texts bytes m n es fs ca cb a b t =
+parts_from_texts : (v w : ℕ) (bytes : List ℕ) (m n : MachineState) (es fs : List Record) (ca cb : List ℕ) → IsStreamBy v bytes m es → IsStreamBy w bytes n fs
+    → (opening_in v (pages_of m) m.devices ≡ opening_in w (pages_of n) n.devices) × (texts es ++ (device_texts 0 m.devices ++ ca) ≡ texts fs ++ (device_texts 0 n.devices ++ cb))
+    → SameParts v w (pages_of m) (pages_of n) es fs m.devices n.devices
+parts_from_texts v w bytes m n es fs ca cb a b t =
     let fa = device_first m.devices ca a.sound.some_devices in
     let fb = device_first n.devices cb b.sound.some_devices in
-    parts_from_ends bytes m n es fs ca cb a b t.first t.second (same_sizes (length m.ram) (length n.ram) (pages_of m) (pages_of n) t.first a.sound.whole_pages b.sound.whole_pages)
-    (ends_alike (layout_of m) (layout_of n) es fs (device_texts 0 m.devices ++ ca) (device_texts 0 n.devices ++ cb) fa.0 fb.0 a.each b.each fa.1 fb.1 t.third)
+    let pages : pages_of m ≡ pages_of n = ap (λ (o : Opening). o.pages) t.0 in
+    parts_from_ends v w bytes m n es fs ca cb a b (ap (λ (o : Opening). o.version) t.0) pages (ap (λ (o : Opening). o.shapes) t.0)
+    (same_sizes (length m.ram) (length n.ram) (pages_of m) (pages_of n) pages a.sound.whole_pages b.sound.whole_pages)
+    (ends_alike v w (layout_of m) (layout_of n) es fs (device_texts 0 m.devices ++ ca) (device_texts 0 n.devices ++ cb) fa.0 fb.0 a.each b.each fa.1 fb.1 t.1)
 
-pub same_parts : (bytes : List ℕ) (m n : MachineState) (es fs : List Record) → IsStreamBy bytes m es → IsStreamBy bytes n fs → SameParts (pages_of m) (pages_of n) es fs m.devices n.devices
-same_parts bytes m n es fs a b =
-    let ca = spelled_record (commit (sha256 (before_commit (pages_of m) es m.devices))) in
-    let cb = spelled_record (commit (sha256 (before_commit (pages_of n) fs n.devices))) in
-    parts_from_texts bytes m n es fs ca cb a b
-    (alike (pages_of m) (pages_of n) (shapes_in m.devices) (shapes_in n.devices) (texts es ++ (device_texts 0 m.devices ++ ca)) (texts fs ++ (device_texts 0 n.devices ++ cb))
-    (sym (header_of-spelled bytes (pages_of m) (shapes_in m.devices) (texts es ++ (device_texts 0 m.devices ++ ca)) (stream_begins a))
-    ∙ header_of-spelled bytes (pages_of n) (shapes_in n.devices) (texts fs ++ (device_texts 0 n.devices ++ cb)) (stream_begins b)))
+pub same_parts : (v w : ℕ) (bytes : List ℕ) (m n : MachineState) (es fs : List Record) → IsStreamBy v bytes m es → IsStreamBy w bytes n fs → SameParts v w (pages_of m) (pages_of n) es fs m.devices n.devices
+same_parts v w bytes m n es fs a b =
+    let ca = spelled_record (commit (sha256 (before_commit v (pages_of m) es m.devices))) in
+    let cb = spelled_record (commit (sha256 (before_commit w (pages_of n) fs n.devices))) in
+    let oa = opening_in v (pages_of m) m.devices in
+    let ob = opening_in w (pages_of n) n.devices in
+    parts_from_texts v w bytes m n es fs ca cb a b
+    (alike oa ob (texts es ++ (device_texts 0 m.devices ++ ca)) (texts fs ++ (device_texts 0 n.devices ++ cb))
+    (sym (header_of-spelled bytes oa (texts es ++ (device_texts 0 m.devices ++ ca)) (stream_begins a))
+    ∙ header_of-spelled bytes ob (texts fs ++ (device_texts 0 n.devices ++ cb)) (stream_begins b)))
 
 -- What the last records say is the machine.
-content_told : (m n : MachineState) (dev k : ℕ) → record_of m (sector_item dev k) ≡ record_of n (sector_item dev k) → content_of (sector_on (slice_get m.disks dev) k) ≡ content_of (sector_on (slice_get n.disks dev) k)
-content_told m n dev k e = cc
+content_told : (v : ℕ) (m n : MachineState) (dev k : ℕ) → record_in v m.ram m.disks (sector_item dev k) ≡ record_in v n.ram n.disks (sector_item dev k) → content_of (sector_on (slice_get m.disks dev) k) ≡ content_of (sector_on (slice_get n.disks dev) k)
+content_told v m n dev k e = cc
 
-page_told : (m n : MachineState) (k : ℕ) → record_of m (page_item k) ≡ record_of n (page_item k) → page_of m.ram k ≡ page_of n.ram k
-page_told m n k e = cc
+length_page : (ram : List ℕ) (pages k : ℕ) → length ram ≡ 4096 * pages → k < pages → length (page_of ram k) ≡ 4096
+length_page ram pages k e lt = omega (arith, length-take 4096 (drop (4096 * k) ram), length-drop (4096 * k) ram)
+
+page_told : (v : ℕ) (m n : MachineState) (pages k : ℕ) → length m.ram ≡ 4096 * pages → length n.ram ≡ 4096 * pages → k < pages
+    → record_in v m.ram m.disks (page_item k) ≡ record_in v n.ram n.disks (page_item k) → page_of m.ram k ≡ page_of n.ram k
+page_told v m n pages k sm sn lt e = one_page v k k (page_of m.ram k) (page_of n.ram k) (length_page m.ram pages k sm lt ∙ sym (length_page n.ram pages k sn lt)) e
 
 disk_same : (x y : List Sector) → length x ≡ length y → ((k : ℕ) (content : Sector) → slice_get x k ≡ Some content → content_of (slice_get x k) ≡ content_of (slice_get y k)) → x ≡ y
 disk_same [] [] e h = refl
@@ -237,26 +245,32 @@ machine_same : (m n : MachineState) → m.ram ≡ n.ram → m.devices ≡ n.devi
 machine_same m n e f g =
     let same : ◌≡◌ {A = MachineState} (record { ram = m.ram; devices = m.devices; disks = m.disks }) (record { ram = n.ram; devices = n.devices; disks = n.disks }) = rw (e, f, g) refl in same
 
-told_alike : (bytes : List ℕ) (m n : MachineState) (es fs : List Record) (i : Item) → IsStreamBy bytes m es → IsStreamBy bytes n fs → es ≡ fs → IsItemIn (layout_of m) i → IsItemIn (layout_of n) i → record_of m i ≡ record_of n i
-told_alike bytes m n es fs i a b e has too = some_same (a.last i has) (ap (last_named i) e ∙ b.last i too)
+told_alike : (v w : ℕ) (bytes : List ℕ) (m n : MachineState) (es fs : List Record) (i : Item) → IsStreamBy v bytes m es → IsStreamBy w bytes n fs → v ≡ w → es ≡ fs → IsItemIn (layout_of m) i → IsItemIn (layout_of n) i
+    → record_in v m.ram m.disks i ≡ record_in v n.ram n.disks i
+told_alike v w bytes m n es fs i a b f e has too = some_same (a.last i has) (ap (last_named i) e ∙ b.last i too ∙ ap (λ (x : ℕ). Some (record_in x n.ram n.disks i)) (sym f))
 
 sizes_alike : (m n : MachineState) → IsSound m → IsSound n → m.devices ≡ n.devices → map length m.disks ≡ map length n.disks
 sizes_alike m n h k e = h.disks ∙ ap (map (λ (d : DeviceState). sector_count d.shape)) e ∙ sym k.disks
 
-from_parts : (bytes : List ℕ) (m n : MachineState) (a : IsStream bytes m) (b : IsStream bytes n) → SameParts (pages_of m) (pages_of n) a.entries b.entries m.devices n.devices → m ≡ n
+from_parts : (bytes : List ℕ) (m n : MachineState) (a : IsStream bytes m) (b : IsStream bytes n) → SameParts a.version b.version (pages_of m) (pages_of n) a.entries b.entries m.devices n.devices → m ≡ n
 from_parts bytes m n a b s =
     let p = pages_of m in
+    let v = a.version in
     let size : length n.ram ≡ 4096 * p = b.by.sound.whole_pages ∙ ap (λ (x : ℕ). 4096 * x) (sym s.pages) in
     let sizes = sizes_alike m n a.by.sound b.by.sound s.devices in
     machine_same m n
-    (ram_same p m.ram n.ram a.by.sound.whole_pages size (λ k lt. page_told m n k (told_alike bytes m n a.entries b.entries (page_item k) a.by b.by s.entries lt (omega (arith, lt, s.pages)))))
+    (ram_same p m.ram n.ram a.by.sound.whole_pages size (λ k lt. page_told v m n p k a.by.sound.whole_pages size lt
+    (told_alike v b.version bytes m n a.entries b.entries (page_item k) a.by b.by s.version s.entries lt (omega (arith, lt, s.pages)))))
     s.devices
     (disks_same m.disks n.disks sizes (λ dev k content there.
     let within = in_layout m (sector_item dev k) a.by.sound.whole_pages (content, there) in
-    content_told m n dev k (told_alike bytes m n a.entries b.entries (sector_item dev k) a.by b.by s.entries within (rw sizes at within))))
+    content_told v m n dev k (told_alike v b.version bytes m n a.entries b.entries (sector_item dev k) a.by b.by s.version s.entries within (rw sizes at within))))
 
 pub one_machine : (bytes : List ℕ) (m n : MachineState) → IsStream bytes m → IsStream bytes n → m ≡ n
-one_machine bytes m n a b = from_parts bytes m n a b (same_parts bytes m n a.entries b.entries a.by b.by)
+one_machine bytes m n a b = from_parts bytes m n a b (same_parts a.version b.version bytes m n a.entries b.entries a.by b.by)
 
 pub one_count : (bytes : List ℕ) (m n : MachineState) (a : IsStream bytes m) (b : IsStream bytes n) → rounds a.entries ≡ rounds b.entries
-one_count bytes m n a b = ap rounds (same_parts bytes m n a.entries b.entries a.by b.by).entries
+one_count bytes m n a b = ap rounds (same_parts a.version b.version bytes m n a.entries b.entries a.by b.by).entries
+
+pub one_version : (bytes : List ℕ) (m n : MachineState) (a : IsStream bytes m) (b : IsStream bytes n) → a.version ≡ b.version
+one_version bytes m n a b = (same_parts a.version b.version bytes m n a.entries b.entries a.by b.by).version

@@ -2,6 +2,7 @@
 use Rattle.std.specs.Prelude.{◌≡◌, ◌≤◌, ℕ, codes, List, [], ◌∷◌, ◌++◌, length, All}
 use Rattle.std.specs.List.{flat_map}
 use Rattle.wire.specs.Numbers.{digits, flag}
+use Rattle.machine.specs.Layout.{Layout, layout_by}
 use Rattle.machine.specs.Sound.{IsSoundShape}
 use Rattle.machine.specs.declared.shape.Shape.{Shape}
 use Rattle.machine.specs.declared.shape.Shape.TheVariants.{Net, Block, Console, Entropy}
@@ -17,22 +18,43 @@ spelled_shape Entropy = 4 ∷ []
 abbrev pub spelled_shapes : List Shape → List ℕ
 spelled_shapes shapes = flat_map spelled_shape shapes
 
--- The magic bytes, version 1, and the counts of pages and of devices.
-unfoldable pub front : ℕ → ℕ → List ℕ
-front pages count = codes "VMIG" ++ (digits 4 1 ++ (digits 4 pages ++ digits 4 count))
+-- What a header says.
+pub record Opening : Type 0 where
+  pub version : ℕ
+  pub pages : ℕ
+  pub shapes : List Shape
 
-abbrev pub header : ℕ → List Shape → List ℕ
-header pages shapes = front pages (length shapes) ++ spelled_shapes shapes
+-- The magic bytes, the version, and the counts of pages and of devices.
+unfoldable pub front : ℕ → ℕ → ℕ → List ℕ
+front version pages count = codes "VMIG" ++ (digits 4 version ++ (digits 4 pages ++ digits 4 count))
 
--- A header within the limits: 1 to 16,384 pages, and 1 to 16 devices, each of a shape that a device may have.
-pub record IsHeader (pages : ℕ) (shapes : List Shape) : Type 0 where
-  pub some_page : 1 ≤ pages
-  pub few_pages : pages ≤ 16384
-  pub some_device : 1 ≤ length shapes
-  pub few_devices : length shapes ≤ 16
-  pub sound : All IsSoundShape shapes
+abbrev pub header : Opening → List ℕ
+header opening = front opening.version opening.pages (length opening.shapes) ++ spelled_shapes opening.shapes
+
+-- The versions that there are.
+pub record IsVersion (version : ℕ) : Type 0 where
+  pub least : 1 ≤ version
+  pub most : version ≤ 2
+
+-- A header within the limits: of a version that there is, 1 to 16,384 pages, and 1 to 16 devices, each of a shape that a device
+-- may have.
+pub record IsHeader (opening : Opening) : Type 0 where
+  pub known : IsVersion opening.version
+  pub some_page : 1 ≤ opening.pages
+  pub few_pages : opening.pages ≤ 16384
+  pub some_device : 1 ≤ length opening.shapes
+  pub few_devices : length opening.shapes ≤ 16
+  pub sound : All IsSoundShape opening.shapes
 
 -- The bytes begin with this header, and `rest` follows it.
-pub record Begins (bytes : List ℕ) (pages : ℕ) (shapes : List Shape) (rest : List ℕ) : Type 0 where
-  pub good : IsHeader pages shapes
-  pub whole : bytes ≡ header pages shapes ++ rest
+pub record Begins (bytes : List ℕ) (opening : Opening) (rest : List ℕ) : Type 0 where
+  pub good : IsHeader opening
+  pub whole : bytes ≡ header opening ++ rest
+
+-- The items of a machine with so many pages and these devices.
+abbrev pub layout_in : Opening → Layout
+layout_in opening = layout_by opening.pages opening.shapes
+
+-- The header of version 2, in which machines are sent.
+abbrev pub opening_of : ℕ → List Shape → Opening
+opening_of pages shapes = record { version = 2; pages = pages; shapes = shapes }

@@ -2,7 +2,7 @@
 use Rattle.std.specs.Prelude.{◌≡◌, ◌≢◌, ◌<◌, ◌≤◌, ◌^◌, ℕ, true, false, List, [], ◌∷◌, ◌++◌, drop, length}
 use Rattle.wire.specs.Numbers.{digits, flag}
 use Rattle.wire.specs.declared.record_head.RecordHead.{RecordHead}
-use Rattle.wire.specs.declared.record_head.RecordHead.TheVariants.{Page, Sector, RoundEnd, Device, Commit}
+use Rattle.wire.specs.declared.record_head.RecordHead.TheVariants.{Page, Sector, RoundEnd, Device, Commit, ZeroPage}
 use Rattle.wire.specs.declared.record_head.FoundHead.{FoundHead}
 use Rattle.wire.specs.declared.record_head.FoundHead.TheVariants.{More, NoSuchTag, NoSuchMark, Whole}
 
@@ -13,6 +13,7 @@ spelled_head (Sector device number is_good) = 2 ∷ (device ∷ (digits 4 number
 spelled_head (RoundEnd number) = 3 ∷ digits 4 number
 spelled_head (Device number len) = 4 ∷ (number ∷ digits 4 len)
 spelled_head Commit = 5 ∷ []
+spelled_head (ZeroPage number) = 6 ∷ digits 4 number
 
 -- The length of the body that follows a head.
 abbrev pub body_len : RecordHead → ℕ
@@ -22,6 +23,7 @@ body_len (Sector device number false) = 0
 body_len (RoundEnd number) = 0
 body_len (Device number len) = len
 body_len Commit = 32
+body_len (ZeroPage number) = 0
 
 -- Each number fits its field.
 abbrev pub FitsHead : RecordHead → Type 0
@@ -30,6 +32,7 @@ FitsHead (Sector device number is_good) = (device < 256) × (number < 2 ^ 32)
 FitsHead (RoundEnd number) = number < 2 ^ 32
 FitsHead (Device number len) = (number < 256) × (len < 2 ^ 32)
 FitsHead Commit = Unit {0}
+FitsHead (ZeroPage number) = number < 2 ^ 32
 
 -- The bytes begin with the encoding of this head.
 pub record BeginsHead (bytes : List ℕ) (head : RecordHead) : Type 0 where

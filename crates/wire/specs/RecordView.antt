@@ -2,7 +2,7 @@
 use Rattle.std.specs.Prelude.{Option, Some, None}
 use Rattle.wire.specs.Records as records
 use Rattle.wire.specs.declared.record.Record.{Record}
-use Rattle.wire.specs.declared.record.Record.TheVariants.{Page, Sector, RoundEnd, Device, Commit}
+use Rattle.wire.specs.declared.record.Record.TheVariants.{Page, Sector, RoundEnd, Device, Commit, ZeroPage}
 
 abbrev pub map_option : {A B : Type 0} → (A → B) → Option A → Option B
 map_option f None = None
@@ -14,3 +14,4 @@ told (Sector device number bytes) = records.sector device number (map_option (λ
 told (RoundEnd number) = records.round_end number
 told (Device number body) = records.device number body.now
 told (Commit digest) = records.commit digest.now
+told (ZeroPage number) = records.zero_page number

@@ -13,8 +13,8 @@ use Rattle.machine.specs.Sound.{IsSound}
 use Rattle.machine.specs.State.{DeviceState, MachineState}
 use Rattle.machine.specs.declared.shape.Shape.{Shape}
 use Rattle.wire.specs.DeviceBody.{body}
-use Rattle.wire.specs.Header.{header}
-use Rattle.wire.specs.Records.{Record, page, sector, round_end, device, commit, spelled_record, HasSpelling}
+use Rattle.wire.specs.Header.{IsVersion, Opening, header}
+use Rattle.wire.specs.Records.{Record, page, sector, round_end, device, commit, zero_page, page_record, spelled_record, HasSpelling, IsOf}
 
 abbrev pub shapes_in : List DeviceState → List Shape
 shapes_in devices = map (λ d. d.shape) devices
@@ -22,12 +22,14 @@ shapes_in devices = map (λ d. d.shape) devices
 -- The records that may come before the devices: pages and sectors that exist, and ends of rounds.
 abbrev pub MayStand : Layout → Record → Type 0
 MayStand l (page n bytes) = IsItemIn l (items.page n)
+MayStand l (zero_page n) = IsItemIn l (items.page n)
 MayStand l (sector dev n content) = IsItemIn l (items.sector dev n)
 MayStand l (round_end n) = Unit {0}
 MayStand l _ = ⊥
 
-pub record IsEntry (l : Layout) (r : Record) : Type 0 where
+pub record IsEntry (version : ℕ) (l : Layout) (r : Record) : Type 0 where
   pub spells : HasSpelling r
+  pub has : IsOf version r
   pub stands : MayStand l r
 
 -- The ends of rounds are numbered one after another, from `k` on.
@@ -54,6 +56,7 @@ same_item _ _ = false
 
 abbrev pub says_of : Item → Record → Option Record
 says_of i (page n bytes) = if same_item i (items.page n) then Some (page n bytes) else None
+says_of i (zero_page n) = if same_item i (items.page n) then Some (zero_page n) else None
 says_of i (sector dev n content) = if same_item i (items.sector dev n) then Some (sector dev n content) else None
 says_of i _ = None
 
@@ -62,17 +65,18 @@ unfoldable pub last_named : Item → List Record → Option Record
 last_named i [] = None
 last_named i (r ∷ rs) = or_else (last_named i rs) (says_of i r)
 
--- The record of an item, with the contents that RAM and the disks have for it.
 abbrev pub content_of : Option Sector → Sector
 content_of None = None
 content_of (Some content) = content
 
-abbrev pub record_in : List ℕ → List (List Sector) → Item → Record
-record_in ram disks (items.page n) = page n (page_of ram n)
-record_in ram disks (items.sector dev n) = sector dev n (content_of (sector_on (slice_get disks dev) n))
+-- The record of an item in a version, with the contents that RAM and the disks have for it.
+abbrev pub record_in : ℕ → List ℕ → List (List Sector) → Item → Record
+record_in version ram disks (items.page n) = page_record version n (page_of ram n)
+record_in version ram disks (items.sector dev n) = sector dev n (content_of (sector_on (slice_get disks dev) n))
 
+-- The record of an item in version 2, in which machines are sent.
 abbrev pub record_of : MachineState → Item → Record
-record_of m i = record_in m.ram m.disks i
+record_of m i = record_in 2 m.ram m.disks i
 
 -- The encodings of records, one after another.
 unfoldable pub texts : List Record → List ℕ
@@ -84,31 +88,48 @@ unfoldable pub device_texts : ℕ → List DeviceState → List ℕ
 device_texts number [] = []
 device_texts number (d ∷ ds) = spelled_record (device number (body d)) ++ device_texts (number + 1) ds
 
-abbrev pub before_commit : ℕ → List Record → List DeviceState → List ℕ
-before_commit pages entries devices = header pages (shapes_in devices) ++ (texts entries ++ device_texts 0 devices)
+-- What a stream of a machine opens with.
+abbrev pub opening_in : ℕ → ℕ → List DeviceState → Opening
+opening_in version pages devices = record { version = version; pages = pages; shapes = shapes_in devices }
 
--- The bytes are a stream of this machine, with these records before its devices: each item of the machine is named, and the
--- last record that names it holds its contents in the machine.
-pub record IsStreamBy (bytes : List ℕ) (m : MachineState) (entries : List Record) : Type 0 where
-  pub each : AllByRecursion (IsEntry (layout_of m)) entries
+abbrev pub before_commit : ℕ → ℕ → List Record → List DeviceState → List ℕ
+before_commit version pages entries devices = header (opening_in version pages devices) ++ (texts entries ++ device_texts 0 devices)
+
+-- The bytes are a stream of this machine in this version, with these records before its devices: each item of the machine is
+-- named, and the last record that names it holds its contents in the machine.
+pub record IsStreamBy (version : ℕ) (bytes : List ℕ) (m : MachineState) (entries : List Record) : Type 0 where
+  pub known : IsVersion version
+  pub each : AllByRecursion (IsEntry version (layout_of m)) entries
   pub numbered : AreNumbered 1 entries
-  pub last : (i : Item) → IsItemIn (layout_of m) i → last_named i entries ≡ Some (record_of m i)
+  pub last : (i : Item) → IsItemIn (layout_of m) i → last_named i entries ≡ Some (record_in version m.ram m.disks i)
   pub sound : IsSound m
-  pub whole : bytes ≡ before_commit (pages_of m) entries m.devices ++ spelled_record (commit (sha256 (before_commit (pages_of m) entries m.devices)))
+  pub whole : bytes ≡ before_commit version (pages_of m) entries m.devices ++ spelled_record (commit (sha256 (before_commit version (pages_of m) entries m.devices)))
 
+-- The bytes are a stream of this machine, in one of the versions.
 pub record IsStream (bytes : List ℕ) (m : MachineState) : Type 0 where
+  pub version : ℕ
   pub entries : List Record
-  pub by : IsStreamBy bytes m entries
+  pub by : IsStreamBy version bytes m entries
 
--- The records of the items below a number, each once, in their order.
-unfoldable pub records_below : MachineState → ℕ → List Record
-records_below m zero = []
-records_below m (suc n) = records_below m n ++ record_of m (item_at (layout_of m) n) ∷ []
+-- The records of the items below a number in a version, each once, in their order.
+unfoldable pub records_in : ℕ → MachineState → ℕ → List Record
+records_in version m zero = []
+records_in version m (suc n) = records_in version m n ++ record_in version m.ram m.disks (item_at (layout_of m) n) ∷ []
 
--- The stream of a machine that names each item once, in order, and ends no round: what is saved, up to the digest. `whole` is
--- with the digest.
+abbrev pub records_below : MachineState → ℕ → List Record
+records_below m n = records_in 2 m n
+
+-- The stream of a machine that names each item once, in order, and ends no round, up to the digest.
+abbrev pub saved_in : ℕ → MachineState → List ℕ
+saved_in version m = before_commit version (pages_of m) (records_in version m (size_of (layout_of m))) m.devices
+
+-- The same with the digest.
+unfoldable pub whole_in : ℕ → MachineState → List ℕ
+whole_in version m = saved_in version m ++ spelled_record (commit (sha256 (saved_in version m)))
+
+-- What is saved of a machine, up to the digest and with it: in version 2.
 abbrev pub saved : MachineState → List ℕ
-saved m = before_commit (pages_of m) (records_below m (size_of (layout_of m))) m.devices
+saved m = saved_in 2 m
 
-unfoldable pub whole : MachineState → List ℕ
-whole m = saved m ++ spelled_record (commit (sha256 (saved m)))
+abbrev pub whole : MachineState → List ℕ
+whole m = whole_in 2 m

@@ -2,28 +2,35 @@
 
 ghost use Rattle.std.specs.Prelude.{◌≡◌, ◌++◌, ◌<◌, ◌^◌, ℕ, List, IsTrue, OnOk, length};
 ghost use Rattle.wire.specs.DeviceBody.{body};
-ghost use Rattle.wire.specs.Header.{header};
-ghost use Rattle.wire.specs.Records.{commit, device, page, round_end, spelled_record};
+ghost use Rattle.wire.specs.Header.{header, opening_of};
+ghost use Rattle.wire.specs.Records.{commit, device, page, round_end, spelled_record, zero_page};
 ghost use Rattle.wire.specs.Sinks.{Appends};
 
 use crate::record_head::COMMIT_TAG;
 use crate::sink::{Sink, SinkFault};
 use crate::tally::NoTally;
-use crate::writing::{write_device, write_header, write_page, write_round};
+use crate::writing::{write_device, write_full_page, write_header, write_round, write_zero_page};
 use machine::{DeviceState, Shape};
 
-/// Writes the header of a stream: of a machine of `pages` pages, with devices of these shapes.
+/// Writes the header of a stream of version 2: of a machine of `pages` pages, with devices of these shapes.
 pub fn encode_header<S: Sink>(pages: u32, shapes: &[Shape], out: &mut S) -> Result<(), SinkFault>
-    ensures out { Appends (S.state out.old) (header pages shapes.now) result (S.state out.new) }
+    ensures out { Appends (S.state out.old) (header (opening_of pages shapes.now)) result (S.state out.new) }
 {
     write_header(pages, shapes, out, &mut NoTally)
 }
 
-/// Writes the record of a page.
+/// Writes the record of a page with its bytes. A stream of version 2 has it only where they are not all 0.
 pub fn encode_page<S: Sink>(number: u32, bytes: &[u8; 4096], out: &mut S) -> Result<(), SinkFault>
     ensures out { Appends (S.state out.old) (spelled_record (page number bytes.now)) result (S.state out.new) }
 {
-    write_page(number, bytes, out, &mut NoTally)
+    write_full_page(number, bytes, out, &mut NoTally)
+}
+
+/// Writes the record of a page whose bytes are all 0.
+pub fn encode_zero_page<S: Sink>(number: u32, out: &mut S) -> Result<(), SinkFault>
+    ensures out { Appends (S.state out.old) (spelled_record (zero_page number)) result (S.state out.new) }
+{
+    write_zero_page(number, out, &mut NoTally)
 }
 
 /// Writes the record of the end of a round.

@@ -1,10 +1,9 @@
 //! The header of a stream.
 
-ghost use Rattle.std.specs.Prelude.{◌≡◌, ◌≤◌, IfOk, MatchOption, None, Some, drop, length, ℕ, List};
-ghost use Rattle.wire.specs.Header.{Begins};
-ghost use Rattle.wire.specs.HeaderReading.{header_of};
+ghost use Rattle.std.specs.Prelude.{◌≡◌, ◌≤◌, ◌==◌, ◌||◌, ◌↔◌, IsTrue, IfOk, MatchOption, None, Some, drop, length, ℕ, List};
+ghost use Rattle.wire.specs.Header.{Begins, IsVersion, Opening};
+ghost use Rattle.wire.specs.HeaderReading.{header_of, said};
 ghost use Rattle.wire.specs.ShapeReading.{shapes_of};
-ghost use Rattle.machine.specs.declared.shape.Shape.{Shape};
 
 use crate::numbers::u32_at;
 use crate::shape_spelling::shape_at;
@@ -15,8 +14,11 @@ use std::alloc::{AllocError, Global};
 /// "VMIG" as a little-endian number.
 pub const MAGIC: u32 = 0x4749_4d56;
 
-/// The version of the stream that is written and read.
-pub const VERSION: u32 = 1;
+/// The version of the stream that is written. It is read, too.
+pub const VERSION: u32 = 2;
+
+/// The first version of the stream, which is read. It has no records of pages of zeros.
+pub const FIRST_VERSION: u32 = 1;
 
 /// How many bytes of the header come before the shapes.
 pub const FRONT_LEN: usize = 16;
@@ -24,6 +26,9 @@ pub const FRONT_LEN: usize = 16;
 /// What the header of a stream says.
 #[derive(Debug, Drop)]
 pub struct Header {
+    /// The version of the stream: 1 or 2.
+    pub version: u32,
+
     /// The number of pages of RAM.
     pub pages: u32,
 
@@ -37,21 +42,33 @@ pub struct Header {
 /// Decodes the header at the beginning of the bytes. `None` if they begin with no header.
 pub fn decode_header(alloc: Global, bytes: &[u8]) -> Result<Option<Header>, AllocError>
     ensures { IfOk result (λ found. MatchOption found
-        ((pages : ℕ) (shapes : List Shape) (rest : List ℕ) → ¬ (Begins bytes.now pages shapes rest))
-        (λ h. (h.len ≤ length bytes.now) × Begins bytes.now h.pages h.shapes.items (drop h.len bytes.now))) }
+        ((opening : Opening) (rest : List ℕ) → ¬ (Begins bytes.now opening rest))
+        (λ h. (h.len ≤ length bytes.now) × Begins bytes.now (said h) (drop h.len bytes.now))) }
 {
-    let Some((pages, shapes, rest)) = header_at(alloc, bytes)? else {
+    let Some((version, pages, shapes, rest)) = header_at(alloc, bytes)? else {
         return Ok(None);
     };
     let len = bytes.len() - rest.len();
-    Ok(Some(Header { pages, shapes, len }))
+    Ok(Some(Header {
+        version,
+        pages,
+        shapes,
+        len,
+    }))
 }
 
 #[tactic(auto, unfolding(crate::specs::HeaderReading::header_of))]
-fn header_at(alloc: Global, bytes: &[u8]) -> Result<Option<(u32, Vec<Shape>, &[u8])>, AllocError>
-    ensures { IfOk result (λ found. MatchOption found (header_of bytes.now ≡ None) (λ x. header_of bytes.now ≡ Some (x.0, x.1.items, x.2.now))) }
+fn header_at(
+    alloc: Global,
+    bytes: &[u8],
+) -> Result<Option<(u32, u32, Vec<Shape>, &[u8])>, AllocError>
+    ensures { IfOk result (λ found. MatchOption found (header_of bytes.now ≡ None) (λ x. header_of bytes.now ≡ Some (record { version = x.0; pages = x.1; shapes = x.2.items }, x.3.now))) }
 {
-    if bytes.len() < FRONT_LEN || u32_at(bytes, 0) != MAGIC || u32_at(bytes, 4) != VERSION {
+    if bytes.len() < FRONT_LEN || u32_at(bytes, 0) != MAGIC {
+        return Ok(None);
+    }
+    let version = u32_at(bytes, 4);
+    if !is_version(version) {
         return Ok(None);
     }
     let pages = u32_at(bytes, 8);
@@ -63,7 +80,15 @@ fn header_at(alloc: Global, bytes: &[u8]) -> Result<Option<(u32, Vec<Shape>, &[u
     let Some((shapes, rest)) = shapes_at(alloc, count, rest)? else {
         return Ok(None);
     };
-    Ok(Some((pages, shapes, rest)))
+    Ok(Some((version, pages, shapes, rest)))
+}
+
+/// Whether there is this version of the stream.
+pub fn is_version(version: u32) -> bool
+    ensures known { IsTrue result ↔ IsVersion version }
+    ensures is { result ≡ (version == 1 || version == 2) }
+{
+    version == FIRST_VERSION || version == VERSION
 }
 
 #[tactic(auto, using(crate::proofs::Lists::several_go_on, crate::proofs::Lists::several_fail, crate::proofs::Lists::several_end))]

@@ -1,13 +1,13 @@
 //! Laws over the definitions alone. These functions do nothing: their contracts are the laws.
 
-ghost use Rattle.wire.specs.StreamLaws.{OneRecord, OneMachine, OneCount, WholeIsStream};
+ghost use Rattle.wire.specs.StreamLaws.{EachVersion, OneCount, OneMachine, OneRecord, OneVersion, WholeIsStream};
 
 /// No encoding of a record of a stream is a prefix of another's.
 pub fn no_record_begins_another()
     ensures { OneRecord }
 {}
 
-/// A stream encodes one machine at most.
+/// A stream encodes one machine at most, whatever its version.
 pub fn a_stream_has_one_machine()
     ensures { OneMachine }
 {}
@@ -15,6 +15,16 @@ pub fn a_stream_has_one_machine()
 /// A stream has one count of rounds that ended.
 pub fn a_stream_has_one_count_of_rounds()
     ensures { OneCount }
+{}
+
+/// No bytes are a stream in two versions.
+pub fn a_stream_has_one_version()
+    ensures { OneVersion }
+{}
+
+/// A sound machine has a stream in each version.
+pub fn each_version_has_a_stream()
+    ensures { EachVersion }
 {}
 
 /// The whole stream of a sound machine is a stream of it.

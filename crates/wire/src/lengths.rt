@@ -3,18 +3,22 @@
 ghost use Rattle.std.specs.Prelude.{◌≡◌, ◌≤◌, All, ℕ, length};
 ghost use Rattle.machine.specs.Sound.{IsSoundDevice, IsSoundShape};
 ghost use Rattle.wire.specs.DeviceBody.{body};
-ghost use Rattle.wire.specs.Header.{header, spelled_shape};
-ghost use Rattle.wire.specs.Records.{device, spelled_record};
+ghost use Rattle.wire.specs.Header.{Opening, header, spelled_shape};
+ghost use Rattle.wire.specs.Records.{device, page_record, spelled_record};
 
 use crate::header::FRONT_LEN;
 use crate::record_head::{
-    COMMIT_RECORD, DEVICE_HEAD, GOOD_SECTOR_RECORD, PAGE_RECORD, SECTOR_HEAD,
+    COMMIT_RECORD, DEVICE_HEAD, GOOD_SECTOR_RECORD, PAGE_RECORD, SECTOR_HEAD, ZERO_PAGE_HEAD,
 };
 use crate::writing::body_len;
+use guestmem::is_zero;
 use machine::{DeviceState, Shape};
 
-/// The length of the record of a page.
+/// The length of the record of a page with its bytes.
 pub const PAGE_RECORD_LEN: u64 = PAGE_RECORD as u64;
+
+/// The length of the record of a page of zeros.
+pub const ZERO_PAGE_LEN: u64 = ZERO_PAGE_HEAD as u64;
 
 /// The length of the record of a good sector.
 pub const GOOD_SECTOR_LEN: u64 = GOOD_SECTOR_RECORD as u64;
@@ -29,7 +33,7 @@ pub const COMMIT_LEN: u64 = COMMIT_RECORD as u64;
 pub fn header_len(shapes: &[Shape]) -> u64
     requires few { length shapes.now ≤ 16 }
     requires sound { All IsSoundShape shapes.now }
-    ensures len { (pages : ℕ) → result ≡ length (header pages shapes.now) }
+    ensures len { (opening : Opening) → opening.shapes ≡ shapes.now → result ≡ length (header opening) }
     ensures short { result ≤ 496 }
 {
     let mut len = FRONT_LEN as u64;
@@ -50,6 +54,17 @@ fn spelled_len(shape: Shape) -> u64
         Shape::Block { .. } => 30,
         Shape::Console | Shape::Entropy => 1,
     }
+}
+
+/// The length of the record of a page, as it is written: shorter if its bytes are all 0.
+pub fn page_len(bytes: &[u8; 4096]) -> u64
+    ensures len { (number : ℕ) → result ≡ length (spelled_record (page_record 2 number bytes.now)) }
+    ensures short { result ≤ 4101 }
+{
+    if is_zero(bytes) {
+        return ZERO_PAGE_LEN;
+    }
+    PAGE_RECORD_LEN
 }
 
 /// The length of the record of a device.

@@ -14,8 +14,10 @@
 //! - The trait `Sink`: the bytes held, a count of failures modulo 2^64, whether it is honest, and whether it is
 //!   flushed: it is if the last call was a flush that succeeded (`specs/Sinks`). A page and a good sector go to it in
 //!   one call each.
-//! - `laws`: no encoding of a record is a prefix of another's; a stream has one machine, and one number of rounds; the
-//!   whole stream of a sound machine is a stream of it.
+//! - Two versions of the stream are read, 2 is written. They differ in how a page of zeros is encoded, and in nothing else; a page
+//!   has one encoding in each.
+//! - `laws`: no encoding of a record is a prefix of another's; a stream has one machine, one number of rounds and one version;
+//!   a sound machine has a stream in each version, and the whole stream of it is one.
 //!
 //! It uses `machine`, whose devices and shapes these are. The digest is `sha2`'s, whose contract says that it is the one of
 //! FIPS 180-4.
@@ -45,16 +47,19 @@ mod writing;
 
 pub use decode_error::DecodeError;
 pub use device_reading::decode_device;
-pub use encode::{encode_commit, encode_device, encode_header, encode_page, encode_round};
-pub use header::{FRONT_LEN, Header, MAGIC, VERSION, decode_header};
+pub use encode::{
+    encode_commit, encode_device, encode_header, encode_page, encode_round, encode_zero_page,
+};
+pub use header::{FIRST_VERSION, FRONT_LEN, Header, MAGIC, VERSION, decode_header, is_version};
 pub use lengths::{
-    BAD_SECTOR_LEN, COMMIT_LEN, GOOD_SECTOR_LEN, PAGE_RECORD_LEN, device_len, header_len,
+    BAD_SECTOR_LEN, COMMIT_LEN, GOOD_SECTOR_LEN, PAGE_RECORD_LEN, ZERO_PAGE_LEN, device_len,
+    header_len, page_len,
 };
 pub use numbers::{u8_at, u32_at};
-pub use record::{Record, decode_record};
+pub use record::{Record, decode_record, has_record};
 pub use record_head::{
     BODY_MAX, COMMIT_RECORD, COMMIT_TAG, DEVICE_TAG, FoundHead, HEAD_MAX, PAGE_TAG, RECORD_MAX,
-    ROUND_END_TAG, RecordHead, read_head,
+    ROUND_END_TAG, RecordHead, SECTOR_TAG, ZERO_PAGE_TAG, read_head,
 };
 pub use sector_writing::{encode_sector, write_bad_sector, write_sector};
 pub use shape_spelling::{shape_at, shape_len};

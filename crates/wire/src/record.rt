@@ -1,11 +1,13 @@
 //! Decodes the records of a stream.
 
-ghost use Rattle.std.specs.Prelude.{◌≡◌, ◌≤◌, IfSome, MatchOption, length};
+ghost use Rattle.std.specs.Prelude.{◌≡◌, ◌≤◌, ◌↔◌, IsTrue, IfSome, MatchOption, length};
 ghost use Rattle.wire.specs.RecordHeads.{body_len};
 ghost use Rattle.wire.specs.RecordView.{told};
-ghost use Rattle.wire.specs.Records.{BeginsRecord, BeginsNoRecord, record_with};
+ghost use Rattle.wire.specs.Records.{BeginsRecord, BeginsNoRecord, IsOf, record_with};
 
+use crate::header::VERSION;
 use crate::record_head::{FoundHead, RecordHead, read_head};
+use guestmem::{PAGE_SIZE, is_zero};
 
 /// One record of a stream, as it is in the bytes.
 #[derive(Clone, Copy, Debug, PartialEq, Eq)]
@@ -34,12 +36,31 @@ pub enum Record<'a> {
 
     /// The digest of all bytes before it.
     Commit(&'a [u8]),
+
+    /// A page of RAM whose bytes are all 0, by its number. Since version 2.
+    ZeroPage(u32),
 }
 
-/// Decodes the record at the front of the bytes; returns it and its length. `None` if no whole record is there. It
-/// takes no memory.
-pub fn decode_record(bytes: &[u8]) -> Option<(Record<'_>, usize)>
-    ensures record { MatchOption result (BeginsNoRecord bytes.now) (λ x. BeginsRecord bytes.now (told x.0) x.1) }
+/// Whether this version of the stream has the record of this head and this body: version 2 has a record for a page of zeros, and
+/// no other encoding of such a page.
+pub fn has_record(version: u32, head: RecordHead, body: &[u8]) -> bool
+    requires { length body.now ≡ body_len head }
+    ensures { IsTrue result ↔ IsOf version (record_with head body.now) }
+{
+    match head {
+        RecordHead::Page { .. } => match body.first_chunk::<PAGE_SIZE>() {
+            Some(page) => version != VERSION || !is_zero(page),
+            None => true,
+        },
+        RecordHead::ZeroPage { .. } => version == VERSION,
+        _ => true,
+    }
+}
+
+/// Decodes the record at the front of the bytes, in a stream of this version; returns it and its length. `None` if no whole record
+/// of this version is there. It takes no memory.
+pub fn decode_record(version: u32, bytes: &[u8]) -> Option<(Record<'_>, usize)>
+    ensures record { MatchOption result (BeginsNoRecord version bytes.now) (λ x. BeginsRecord version bytes.now (told x.0) x.1) }
     ensures within { IfSome result (λ x. x.1 ≤ length bytes.now) }
 {
     let head = match read_head(bytes) {
@@ -51,6 +72,9 @@ pub fn decode_record(bytes: &[u8]) -> Option<(Record<'_>, usize)>
         return None;
     }
     let (body, _) = behind.split_at(head.body_len());
+    if !has_record(version, head, body) {
+        return None;
+    }
     Some((record_of(head, body), head.head_len() + body.len()))
 }
 
@@ -83,5 +107,6 @@ fn record_of(head: RecordHead, body: &[u8]) -> Record<'_>
         RecordHead::RoundEnd { number } => Record::RoundEnd(number),
         RecordHead::Device { number, .. } => Record::Device { number, body },
         RecordHead::Commit => Record::Commit(body),
+        RecordHead::ZeroPage { number } => Record::ZeroPage(number),
     }
 }

@@ -8,6 +8,7 @@
 //! | end of a round | 3   | number: 4                                    | 5    | none                                  |
 //! | device         | 4   | number: 1, length of the body: 4             | 6    | 131,072 at most: as many as the field says |
 //! | digest         | 5   | none                                         | 1    | 32: SHA-256 of all bytes before the tag |
+//! | page of zeros  | 6   | number: 4                                    | 5    | none; since version 2                 |
 //!
 //! A new record is a new row here, a new variant of `RecordHead`, and an arm in each function of this file.
 
@@ -35,6 +36,9 @@ pub const DEVICE_TAG: u8 = 4;
 /// The tag of the digest's record.
 pub const COMMIT_TAG: u8 = 5;
 
+/// The tag of the record of a page of zeros.
+pub const ZERO_PAGE_TAG: u8 = 6;
+
 /// The length of the head of a page, in bytes.
 pub const PAGE_HEAD: usize = 5;
 
@@ -49,6 +53,9 @@ pub const DEVICE_HEAD: usize = 6;
 
 /// The length of the head of the digest, in bytes.
 pub const COMMIT_HEAD: usize = 1;
+
+/// The length of the head of a page of zeros, in bytes.
+pub const ZERO_PAGE_HEAD: usize = 5;
 
 /// The length of the longest head, in bytes.
 pub const HEAD_MAX: usize = SECTOR_HEAD;
@@ -99,6 +106,11 @@ pub enum RecordHead {
 
     /// Of the digest.
     Commit,
+
+    /// Of a page of RAM whose bytes are all 0.
+    ZeroPage {
+        number: u32,
+    },
 }
 
 /// What stands at the front of bytes, where a record should begin.
@@ -129,6 +141,7 @@ impl RecordHead {
             RecordHead::RoundEnd { .. } => ROUND_END_HEAD,
             RecordHead::Device { .. } => DEVICE_HEAD,
             RecordHead::Commit => COMMIT_HEAD,
+            RecordHead::ZeroPage { .. } => ZERO_PAGE_HEAD,
         }
     }
 
@@ -144,6 +157,7 @@ impl RecordHead {
             RecordHead::RoundEnd { .. } => 0,
             RecordHead::Device { len, .. } => len as usize,
             RecordHead::Commit => DIGEST_LEN,
+            RecordHead::ZeroPage { .. } => 0,
         }
     }
 }
@@ -161,6 +175,7 @@ pub fn read_head(bytes: &[u8]) -> FoundHead
         ROUND_END_TAG => round_head(fields),
         DEVICE_TAG => device_head(fields),
         COMMIT_TAG => FoundHead::Whole(RecordHead::Commit),
+        ZERO_PAGE_TAG => zero_page_head(fields),
         _ => FoundHead::NoSuchTag,
     }
 }
@@ -216,6 +231,16 @@ fn device_head(fields: &[u8]) -> FoundHead
     FoundHead::Whole(RecordHead::Device { number, len })
 }
 
+fn zero_page_head(fields: &[u8]) -> FoundHead
+    ensures { ReadsHead (6 ∷ fields.now) result }
+{
+    if fields.len() < 4 {
+        return FoundHead::More(ZERO_PAGE_HEAD);
+    }
+    let number = u32_at(fields, 0);
+    FoundHead::Whole(RecordHead::ZeroPage { number })
+}
+
 /// The bytes of a head, with zeros behind them.
 pub fn head_bytes(head: RecordHead) -> [u8; HEAD_MAX]
     ensures { take (length (spelled_head head)) result ≡ spelled_head head }
@@ -230,6 +255,7 @@ pub fn head_bytes(head: RecordHead) -> [u8; HEAD_MAX]
         RecordHead::RoundEnd { number } => number_bytes(ROUND_END_TAG, number),
         RecordHead::Device { number, len } => pair_bytes(DEVICE_TAG, number, len, 0),
         RecordHead::Commit => [COMMIT_TAG, 0, 0, 0, 0, 0, 0],
+        RecordHead::ZeroPage { number } => number_bytes(ZERO_PAGE_TAG, number),
     }
 }
 

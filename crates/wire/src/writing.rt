@@ -3,15 +3,16 @@
 ghost use Rattle.std.specs.Prelude.{◌≡◌, ◌∷◌, ◌++◌, take, ◌≤◌, ◌<◌, ◌^◌, ◌/◌, ◌%◌, ℕ, List, IsTrue, OnOk, length};
 ghost use Rattle.wire.specs.DeviceBody.{body, held_text, own_text, queues_text};
 ghost use Rattle.wire.specs.Numbers.{digits};
-ghost use Rattle.wire.specs.Header.{front, header, spelled_shape, spelled_shapes};
-ghost use Rattle.wire.specs.Records.{page, round_end, device, spelled_record};
+ghost use Rattle.wire.specs.Header.{front, header, opening_of, spelled_shape, spelled_shapes};
+ghost use Rattle.wire.specs.Records.{page, page_record, round_end, device, zero_page, spelled_record};
 ghost use Rattle.wire.specs.Sinks.{Appends, Takes};
 
 use crate::frame_writing::{frames_len, write_frames};
 use crate::header::{FRONT_LEN, MAGIC, VERSION};
 use crate::numbers::{COUNT_LEN, count_bytes};
 use crate::record_head::{
-    DEVICE_HEAD, HEAD_MAX, PAGE_HEAD, PAGE_RECORD, ROUND_END_HEAD, RecordHead, head_bytes,
+    DEVICE_HEAD, HEAD_MAX, PAGE_HEAD, PAGE_RECORD, ROUND_END_HEAD, RecordHead, ZERO_PAGE_HEAD,
+    head_bytes,
 };
 use crate::registers_text::{COMMON_LEN, QUEUE_LEN, common_bytes, queue_bytes};
 use crate::request_writing::{requests_len, write_requests};
@@ -21,6 +22,7 @@ use crate::tally::Tally;
 use byteorder::{ByteOrder, LittleEndian};
 use chains::Positions;
 use console::HostBytes;
+use guestmem::is_zero;
 use machine::{DeviceState, Own, Shape};
 use mmio::Queue;
 
@@ -48,8 +50,8 @@ pub fn write_header<S: Sink, T: Tally>(
     out: &mut S,
     tally: &mut T,
 ) -> Result<(), SinkFault>
-    ensures out { Appends (S.state out.old) (header pages shapes.now) result (S.state out.new) }
-    ensures taken { OnOk result (Takes (T.has_taken tally.old) (header pages shapes.now) (T.has_taken tally.new)) }
+    ensures out { Appends (S.state out.old) (header (opening_of pages shapes.now)) result (S.state out.new) }
+    ensures taken { OnOk result (Takes (T.has_taken tally.old) (header (opening_of pages shapes.now)) (T.has_taken tally.new)) }
 {
     let count = (shapes.len() % COUNT_END) as u32;
     put(&front_bytes(pages, count), out, tally)?;
@@ -58,7 +60,7 @@ pub fn write_header<S: Sink, T: Tally>(
 
 #[tactic(auto, unfolding(crate::specs::Header::front))]
 fn front_bytes(pages: u32, count: u32) -> [u8; FRONT_LEN]
-    ensures { result ≡ front pages count }
+    ensures { result ≡ front 2 pages count }
 {
     let mut bytes = [0; FRONT_LEN];
     LittleEndian::write_u32(&mut bytes, MAGIC);
@@ -108,8 +110,38 @@ fn write_shape<S: Sink, T: Tally>(shape: Shape, out: &mut S, tally: &mut T) -> R
     }
 }
 
-/// Writes the record of a page.
+/// Writes the record of a page: that of a page of zeros if its bytes are all 0.
 pub fn write_page<S: Sink, T: Tally>(
+    number: u32,
+    bytes: &[u8; 4096],
+    out: &mut S,
+    tally: &mut T,
+) -> Result<(), SinkFault>
+    ensures out { Appends (S.state out.old) (spelled_record (page_record 2 number bytes.now)) result (S.state out.new) }
+    ensures taken { OnOk result (Takes (T.has_taken tally.old) (spelled_record (page_record 2 number bytes.now)) (T.has_taken tally.new)) }
+{
+    if is_zero(bytes) {
+        return write_zero_page(number, out, tally);
+    }
+    write_full_page(number, bytes, out, tally)
+}
+
+/// Writes the record of a page of zeros.
+#[tactic(auto, unfolding(crate::specs::Records::spelled_record))]
+pub fn write_zero_page<S: Sink, T: Tally>(
+    number: u32,
+    out: &mut S,
+    tally: &mut T,
+) -> Result<(), SinkFault>
+    ensures out { Appends (S.state out.old) (spelled_record (zero_page number)) result (S.state out.new) }
+    ensures taken { OnOk result (Takes (T.has_taken tally.old) (spelled_record (zero_page number)) (T.has_taken tally.new)) }
+{
+    let head = head_bytes(RecordHead::ZeroPage { number });
+    put(&head[..ZERO_PAGE_HEAD], out, tally)
+}
+
+/// Writes the record of a page with its bytes.
+pub fn write_full_page<S: Sink, T: Tally>(
     number: u32,
     bytes: &[u8; 4096],
     out: &mut S,
@@ -118,12 +150,12 @@ pub fn write_page<S: Sink, T: Tally>(
     ensures out { Appends (S.state out.old) (spelled_record (page number bytes.now)) result (S.state out.new) }
     ensures taken { OnOk result (Takes (T.has_taken tally.old) (spelled_record (page number bytes.now)) (T.has_taken tally.new)) }
 {
-    put(&page_record(number, bytes), out, tally)
+    put(&full_page_record(number, bytes), out, tally)
 }
 
-/// The whole record of a page, so that a sink is called once for it.
+/// The whole record of a page with its bytes, so that a sink is called once for it.
 #[tactic(auto, unfolding(crate::specs::Records::spelled_record))]
-fn page_record(number: u32, bytes: &[u8; 4096]) -> [u8; PAGE_RECORD]
+fn full_page_record(number: u32, bytes: &[u8; 4096]) -> [u8; PAGE_RECORD]
     ensures { result ≡ spelled_record (page number bytes.now) }
 {
     let head = head_bytes(RecordHead::Page { number });

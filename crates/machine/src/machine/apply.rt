@@ -2,7 +2,7 @@
 
 ghost use Rattle.std.specs.Prelude.{◌≡◌, map, length, IfOk, OnErr};
 ghost use Rattle.guestmem.specs.Later.{IsLater};
-ghost use Rattle.machine.specs.Applied.{FailOnlyUnsteady, IsApplied, IsAppliedLogged, MayItems, marks_run};
+ghost use Rattle.machine.specs.Applied.{AreApplied, FailOnlyUnsteady, IsApplied, IsAppliedLogged, MayItems, marks_run};
 ghost use Rattle.machine.specs.Direct.{value_reply, written_result};
 ghost use Rattle.machine.specs.Outcome.{outcome_of};
 ghost use Rattle.machine.specs.Run.{IsRun};
@@ -57,6 +57,7 @@ impl<D: Disk> Machine<D> {
     pub fn play(&mut self, events: &[Event]) -> Result<Vec<Reply>, NoMemory>
         ensures each { IfOk result (λ replies. length replies.items ≡ length events.now) }
         ensures run { IfOk result (λ replies. AreHonest self.old → IsRun (state_of self.old) events.now (map outcome_of replies.items) replies.items (state_of self.new)) }
+        ensures applied { IfOk result (λ replies. AreApplied self.old events.now replies.items self.new) }
         ensures sound { IsSound (state_of self.new) }
         ensures later { IsLater self.old.memory self.new.memory }
         ensures marks { IfOk result (λ replies. all_marks self.new ≡ marks_run (all_marks self.old) events.now replies.items) }

@@ -1,11 +1,12 @@
-use Rattle.std.proofs.Common.{◌≡◌, ◌+◌, ◌-◌, ◌<◌, ◌++◌, ◌∙◌, length, drop, get_or, sym, arith, length-drop, take-append-drop}
+use Rattle.std.proofs.Common.{◌≡◌, ◌+◌, ◌-◌, ◌<◌, ◌++◌, ◌∙◌, length, drop, get_or, refl, sym, arith, length-drop, take-append-drop}
 use Rattle.std.proofs.lemmas.List.{drop_all}
 use Rattle.std.proofs.Math.Seq.{drop-nil}
 use Rattle.guestmem.specs.LaterLaws.{later_trans}
+use Rattle.guestmem.specs.RisesLaws.{rises_none}
 use Rattle.guestmem.specs.WriteLaws.{set_all-append}
 use Rattle.guestmem.specs.Writes.{byte_writes}
 use Rattle.chains.specs.declared.segs.Seg.{Seg}
-use Rattle.chains.specs.EffectLaws.{after_touched}
+use Rattle.chains.specs.EffectLaws.{after_touched, rises_touched}
 use Rattle.chains.specs.PlaceLaws.{place_writes_take}
 use Rattle.chains.specs.Places.{places, place_writes}
 use Rattle.chains.proofs.Copies.{length_here, passed, segment_writes}
@@ -23,6 +24,7 @@ loop-seg-preserved-then-skip-len g c =
       may = c.loop-seg.invariant.may;
       bytes = rw e at c.loop-seg.invariant.bytes;
       log = rw e at c.loop-seg.invariant.log;
+      rises = rw e at c.loop-seg.invariant.rises;
     }
 
 pub loop-seg-preserved : goal.loop-seg-preserved
@@ -44,6 +46,7 @@ loop-seg-preserved g c =
       may = c.put.ensures.may;
       bytes = rw c.put.ensures.bytes (sym (set_all-append c.loop-seg.ram.bytes (byte_writes (seg.addr + c.loop-seg.skip) front) (place_writes (places (drop (c.loop-seg.seg-index + 1) c.args.segs.now)) back)) ∙ (rw writes at c.loop-seg.invariant.bytes));
       log = rw c.put.ensures.log (sym (after_touched g.L.TouchLog.after c.loop-seg.log (byte_writes (seg.addr + c.loop-seg.skip) front) (place_writes (places (drop (c.loop-seg.seg-index + 1) c.args.segs.now)) back)) ∙ (rw writes at c.loop-seg.invariant.log));
+      rises = λ new more. (rw writes at c.loop-seg.invariant.rises) new (rises_touched (byte_writes (seg.addr + c.loop-seg.skip) front) (place_writes (places (drop (c.loop-seg.seg-index + 1) c.args.segs.now)) back) c.loop-seg.ram c.put.new.self new c.put.ensures.rises more);
     }
 
 pub returns-clause-bytes : goal.returns-clause-bytes
@@ -55,3 +58,8 @@ pub returns-clause-log : goal.returns-clause-log
 returns-clause-log g c =
     let end = drop_all c.loop-seg.seg-index c.args.segs.now (omega arith) in
     rw place_writes_take (rw (end, drop-nil) at c.loop-seg.invariant.log)
+
+pub returns-clause-rises : goal.returns-clause-rises
+returns-clause-rises g c =
+    let end = drop_all c.loop-seg.seg-index c.args.segs.now (omega arith) in
+    rw place_writes_take ((rw (end, drop-nil) at c.loop-seg.invariant.rises) c.loop-seg.ram (rises_none c.loop-seg.ram c.loop-seg.ram refl))

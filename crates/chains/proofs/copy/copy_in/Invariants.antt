@@ -1,6 +1,8 @@
 use Rattle.std.proofs.Common.{◌≡◌, ◌+◌, ◌≤◌, length, drop}
 use Rattle.guestmem.specs.Item.{MayPages, after_all}
 use Rattle.guestmem.specs.Later.{IsLater}
+use Rattle.guestmem.specs.Memory.{Memory}
+use Rattle.guestmem.specs.Rises.{Rises}
 use Rattle.guestmem.specs.Writes.{set_all, touched}
 use Rattle.chains.specs.Places.{places, place_writes}
 use Rattle.chains.proofs.copy.copy_in.Given as goal
@@ -14,4 +16,5 @@ invariant-loop-seg g l = record {
   bytes : set_all l.ram.bytes (place_writes (drop l.skip (places (drop l.seg-index l.segs))) l.rest) ≡ set_all l.fn.ram.bytes (place_writes (drop l.fn.at (places l.segs)) l.fn.bytes);
   log : after_all g.L.TouchLog.after l.log (touched (place_writes (drop l.skip (places (drop l.seg-index l.segs))) l.rest))
       ≡ after_all g.L.TouchLog.after l.fn.log (touched (place_writes (drop l.fn.at (places l.segs)) l.fn.bytes));
+  rises : (new : Memory) → Rises (touched (place_writes (drop l.skip (places (drop l.seg-index l.segs))) l.rest)) l.ram new → Rises (touched (place_writes (drop l.fn.at (places l.segs)) l.fn.bytes)) l.fn.ram new;
 }

@@ -25,5 +25,5 @@ returns-clause-changes g c =
       ram_is = rw (count_is, parts) at c.fill-is_due.ensures.bytes;
       ring_is = c.fill-is_due.ensures.state;
       held_is = rw count_is at c.take_out.ensures;
-      log_is = rw (count_is, parts) at c.fill-is_due.ensures.log;
+      items_are = record { log_is = rw (count_is, parts) at c.fill-is_due.ensures.log; rises = rw (count_is, parts) at c.fill-is_due.ensures.rises };
     }

@@ -8,7 +8,7 @@ pub write-requires : goal.write-requires
 write-requires g c = size_told g.D.Disk.state c.args.disks.now c.args.spot.disk c.index-disks-spot.result c.args.number c.requires.there
 
 pub returns-in-Err-clause-taking : goal.returns-in-Err-clause-taking
-returns-in-Err-clause-taking g c = λ front pages shapes before h none at.
+returns-in-Err-clause-taking g c = λ front opening before h none at.
     let state = g.D.Disk.state in
     let low = disk_told state c.args.disks.now c.args.spot.disk c.args.number c.requires.there in
     let ds = map state c.args.disks.now in
@@ -20,7 +20,7 @@ returns-in-Err-clause-taking g c = λ front pages shapes before h none at.
     )
 
 pub returns-clause-taking : goal.returns-clause-taking
-returns-clause-taking g c = λ front pages shapes before h none at.
+returns-clause-taking g c = λ front opening before h none at.
     let state = g.D.Disk.state in
     let low = disk_told state c.args.disks.now c.args.spot.disk c.args.number c.requires.there in
     let ds = map state c.args.disks.now in
@@ -29,4 +29,4 @@ returns-clause-taking g c = λ front pages shapes before h none at.
     let marks = in_range c.args.intake.now.bad.items c.args.spot.disk c.index_mut.result.now [] c.requires.marked.disk c.index_mut.ensures.value in
     let bad : c.remove.new.self ≡ set (get_or c.args.intake.now.bad.items c.args.spot.disk []) c.args.number false = c.remove.ensures ∙ ap (λ (m : List Bool). set m c.args.number false) marks in
     rw (map-set state c.args.disks.now c.args.spot.disk c.write.new.self)
-    (took_good ds (state c.write.new.self) front pages shapes before c.args.intake.now _ c.args.dev c.args.number c.args.bytes.now c.args.spot _ h none (omega (arith, c.ranges.dev.fits), omega (arith, c.ranges.number.fits), c.told-bytes, c.fits-bytes) at wrote (ap (set c.args.intake.now.bad.items c.args.spot.disk) bad) c.insert.ensures refl refl refl refl refl)
+    (took_good ds (state c.write.new.self) front opening before c.args.intake.now _ c.args.dev c.args.number c.args.bytes.now c.args.spot _ h none (omega (arith, c.ranges.dev.fits), omega (arith, c.ranges.number.fits), c.told-bytes, c.fits-bytes) at wrote (ap (set c.args.intake.now.bad.items c.args.spot.disk) bad) c.insert.ensures refl refl refl refl refl refl)

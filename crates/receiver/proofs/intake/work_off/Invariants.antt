@@ -5,12 +5,13 @@ use Rattle.machine.specs.declared.shape.Shape.{Shape}
 use Rattle.receiver.specs.Fed.{HasRead}
 use Rattle.receiver.proofs.Working.{SoFar}
 use Rattle.receiver.proofs.intake.work_off.Given as goal
+use Rattle.wire.specs.Header.{Opening}
 
 abbrev pub invariant-loop-at : goal.invariant-loop-at
 invariant-loop-at g l = record {
   room : l.at ≤ length l.bytes;
-  read : (front : List ℕ) (pages : ℕ) (shapes : List Shape) (before : List Record) → Holds256 l.fn.taken front → HasRead (map g.D.Disk.state l.fn.disks) pages shapes before l.fn.intake front
-      → SoFar (map g.D.Disk.state l.fn.disks) (map g.D.Disk.state l.disks) pages shapes l.intake l.taken (front ++ take l.at l.bytes);
+  read : (front : List ℕ) (opening : Opening) (before : List Record) → Holds256 l.fn.taken front → HasRead (map g.D.Disk.state l.fn.disks) opening before l.fn.intake front
+      → SoFar (map g.D.Disk.state l.fn.disks) (map g.D.Disk.state l.disks) opening l.intake l.taken (front ++ take l.at l.bytes);
 }
 
 abbrev pub decreases-loop-at : goal.decreases-loop-at

@@ -4,8 +4,8 @@ use Rattle.wire.specs.RecordHeads.{body_len, spelled_head}
 use Rattle.receiver.specs.Waiting.{ReadsRecords}
 use Rattle.receiver.proofs.waiting.is_within_body.Goals as goal
 
-pub returns : goal.returns
-returns c = λ e.
+pub returns-clause-within : goal.returns-clause-within
+returns-clause-within c = λ e.
     let less : length c.args.piece.now < c.saturating_sub.result = search rules in
     let reads : ReadsRecords c.args.stage.now = rw c.in-Records.is tt in
     let long : 7 ≤ length c.args.held.now = search rules in

@@ -1,7 +1,7 @@
 use Rattle.std.proofs.Common.{◌≡◌, ◌++◌, drop, take, rules}
 use Rattle.std.proofs.lemmas.Result.{IfErr-weaker, IfOk-weaker}
 use Rattle.machine.specs.Seen.{state_of}
-use Rattle.wire.specs.Header.{Begins}
+use Rattle.wire.specs.HeaderReading.{said}
 use Rattle.vmig.proofs.Checked.{rest_told}
 use Rattle.vmig.proofs.MemoryDisks.{honest_disks}
 use Rattle.vmig.specs.Checking.{HasCome, TellsOfChecked}
@@ -15,6 +15,7 @@ pub returns-in_ok-disks-in-Some-clause-failed : goal.returns-in_ok-disks-in-Some
 returns-in_ok-disks-in-Some-clause-failed g c =
     let front = take c.args.count c.args.piece.now in
     let found = rw c.in-Some.is at c.in_ok-header.ensures in
-    let shapes : c.as_slice.result.now ≡ c.in-Some.header.shapes.items = search rules in
-    let begins : Begins front c.in-Some.header.pages c.as_slice.result.now (drop c.in-Some.header.len front) = rw shapes found.1 in
-    IfErr-weaker c.receive_rest.result _ (TellsOfChecked c.args.name.now) (λ fault told. rest_told c.args.name.now front c.in-Some.header.pages c.as_slice.result.now _ c.in_ok-disks-in-Some.disks.items fault begins c.in_ok-disks-in-Some.ensures told) c.receive_rest.ensures.failed
+    let opening = said c.in-Some.header in
+    let shapes : c.as_slice.result.now ≡ opening.shapes = search rules in
+    let disks = rw shapes at c.in_ok-disks-in-Some.ensures in
+    IfErr-weaker c.receive_rest.result _ (TellsOfChecked c.args.name.now) (λ fault told. rest_told c.args.name.now front opening _ c.in_ok-disks-in-Some.disks.items fault found.1 disks told) c.receive_rest.ensures.failed

@@ -1,5 +1,6 @@
 use Rattle.std.proofs.Common.{refl}
 use Rattle.machine.specs.Shapes.{disk_sizes}
+use Rattle.wire.specs.HeaderReading.{said}
 use Rattle.vmig_c.specs.Headed.{HasHeader}
 use Rattle.vmig_c.proofs.Awaited.{begun_coming, fits_header, told_longer}
 use Rattle.vmig_c.proofs.arrival.headed.Goals as goal
@@ -8,7 +9,7 @@ pub returns-in-Ok-begun-clause-begun : goal.returns-in-Ok-begun-clause-begun
 returns-in-Ok-begun-clause-begun c =
     let found = rw c.in-Some.is at c.in-Ok.ensures in
     let fed = rw c.deref.ensures.value at c.in-Ok-begun.ensures.begun in
-    (begun_coming c.in-Ok-begun.receiver c.args.bytes.now c.in-Some.header.pages c.in-Some.header.shapes.items _ found.1 fed, fed.steady)
+    (begun_coming c.in-Ok-begun.receiver c.args.bytes.now (said c.in-Some.header) _ found.1 fed, fed.steady)
 
 pub returns-in-Some-clause-refused : goal.returns-in-Some-clause-refused
 returns-in-Some-clause-refused c = λ rest.
@@ -16,5 +17,5 @@ returns-in-Some-clause-refused c = λ rest.
     let refused = rw c.deref.ensures.value at c.in-Err.ensures.refused in
     let bytes = c.args.bytes.now in
     let shapes = c.in-Some.header.shapes.items in
-    let header : HasHeader bytes (disk_sizes shapes) = record { pages = c.in-Some.header.pages; shapes = shapes; rest = _; begins = found.1; sizes_are = refl } in
-    told_longer bytes rest (disk_sizes shapes) c.in-Err.error header (refused (fits_header bytes c.in-Some.header.pages shapes _ found.1))
+    let header : HasHeader bytes (disk_sizes shapes) = record { opening = said c.in-Some.header; rest = _; begins = found.1; sizes_are = refl } in
+    told_longer bytes rest (disk_sizes shapes) c.in-Err.error header (refused (fits_header bytes (said c.in-Some.header) _ found.1))

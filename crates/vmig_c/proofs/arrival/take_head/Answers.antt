@@ -1,5 +1,4 @@
-use Rattle.std.proofs.Common.{◌≡◌, ◌++◌, List, ℕ, rules, take, drop, ap, append_assoc, sym, subst, ◌∙◌}
-use Rattle.std.proofs.lemmas.List.{take-append-drop}
+use Rattle.std.proofs.Common.{◌≡◌, ◌++◌, List, ℕ, rules, subst}
 use Rattle.vmig_c.specs.Awaited.{TellsWhy}
 use Rattle.vmig_c.proofs.Awaited.{cut_piece, rest_refused, rest_taken}
 use Rattle.vmig_c.proofs.arrival.take_head.Goals as goal

@@ -6,10 +6,10 @@ use Rattle.wire.proofs.writing.write_header.Goals as goal
 
 pub returns-clause-out : goal.returns-clause-out
 returns-clause-out g c =
-    let is : c.front_bytes.result ≡ front c.args.pages (length c.args.shapes.now) = c.front_bytes.ensures ∙ front_low c.args.pages (length c.args.shapes.now) in
-    then_appends _ _ _ (front c.args.pages (length c.args.shapes.now)) (spelled_shapes c.args.shapes.now) c.in_ok-put.field-0 c.write_shapes.result (rw is at c.in_ok-put.ensures.out) c.write_shapes.ensures.out
+    let is : c.front_bytes.result ≡ front 2 c.args.pages (length c.args.shapes.now) = c.front_bytes.ensures ∙ front_low 2 c.args.pages (length c.args.shapes.now) in
+    then_appends _ _ _ (front 2 c.args.pages (length c.args.shapes.now)) (spelled_shapes c.args.shapes.now) c.in_ok-put.field-0 c.write_shapes.result (rw is at c.in_ok-put.ensures.out) c.write_shapes.ensures.out
 
 pub returns-clause-taken : goal.returns-clause-taken
 returns-clause-taken g c =
-    let is : c.front_bytes.result ≡ front c.args.pages (length c.args.shapes.now) = c.front_bytes.ensures ∙ front_low c.args.pages (length c.args.shapes.now) in
-    then_takes (g.T.Tally.has_taken c.args.tally.now) (g.T.Tally.has_taken c.put.new.tally) (g.T.Tally.has_taken c.write_shapes.new.tally) (front c.args.pages (length c.args.shapes.now)) (spelled_shapes c.args.shapes.now) c.write_shapes.result (rw is at c.in_ok-put.ensures.taken) c.write_shapes.ensures.taken
+    let is : c.front_bytes.result ≡ front 2 c.args.pages (length c.args.shapes.now) = c.front_bytes.ensures ∙ front_low 2 c.args.pages (length c.args.shapes.now) in
+    then_takes (g.T.Tally.has_taken c.args.tally.now) (g.T.Tally.has_taken c.put.new.tally) (g.T.Tally.has_taken c.write_shapes.new.tally) (front 2 c.args.pages (length c.args.shapes.now)) (spelled_shapes c.args.shapes.now) c.write_shapes.result (rw is at c.in_ok-put.ensures.taken) c.write_shapes.ensures.taken

@@ -1,6 +1,7 @@
 use Rattle.std.proofs.Common.{◌≡◌, ◌<◌, ◌≤◌, ◌∙◌, sym, true, false, Some, None, slice_get, length, arith, refl}
 use Rattle.std.specs.List.{remove}
 use Rattle.std.proofs.lemmas.Option.{slice_get_read, slice_get_past, get_or_from_slice_get}
+use Rattle.guestmem.specs.RisesLaws.{touches_none}
 use Rattle.blk.specs.Request.{is_open}
 use Rattle.blk.specs.Sound.{IsSoundRequest}
 use Rattle.blk.proofs.Units.{goes_on}
@@ -12,7 +13,8 @@ returns-then-k-len-clause-changes g c =
     let items = c.self.inside.list.items in
     let past : length items ≤ c.args.k = omega (arith, c.if-k-len.true, c.len.ensures) in
     let none : slice_get c.args.self.now c.args.k ≡ None = rw (← c.self.view_is) (slice_get_past items c.args.k past) in
-    stayed g.L.TouchLog.after c.args.sectors.now.honest c.args.device c.args.shape.now c.args.ram.now.bytes c.args.sectors.now.content c.args.log.now (g.R.Ring.state c.args.ring.now) c.args.self.now c.args.k _ none c.recall.ensures.whole
+    stayed _ c.args.sectors.now.honest c.args.device c.args.shape.now c.args.ram.now.bytes c.args.sectors.now.content (g.R.Ring.state c.args.ring.now) c.args.self.now c.args.k _ none c.recall.ensures.whole
+    (touches_none g.L.TouchLog.after c.args.log.now c.args.log.now c.args.ram.now c.args.ram.now refl refl)
 
 pub returns-then-is_open-clause-changes : goal.returns-then-is_open-clause-changes
 returns-then-is_open-clause-changes g c =
@@ -23,7 +25,7 @@ returns-then-is_open-clause-changes g c =
     let same : c.index.result.now ≡ r = c.index.ensures ∙ get_or_from_slice_get items c.args.k r c.index.result.now at in
     let found : slice_get c.args.self.now c.args.k ≡ Some r = rw (← c.self.view_is) at in
     let some : is_open r ≡ true = rw (← same) (sym c.is_open.ensures ∙ c.if-is_open.true) in
-    went_on g.L.TouchLog.after c.args.sectors.now.honest c.args.device c.args.shape.now c.args.ram.now.bytes c.move_unit-moved.new.ram.bytes c.args.sectors.now.content c.move_unit-moved.new.sectors.content c.args.log.now c.move_unit-moved.new.log (g.R.Ring.state c.args.ring.now) (g.R.Ring.state c.args.ring.now) c.args.self.now _ c.args.k _ r c.move_unit-moved.new.request c.move_unit-moved.result found some c.move_unit-moved.ensures.moved
+    went_on _ c.args.sectors.now.honest c.args.device c.args.shape.now c.args.ram.now.bytes c.move_unit-moved.new.ram.bytes c.args.sectors.now.content c.move_unit-moved.new.sectors.content (g.R.Ring.state c.args.ring.now) (g.R.Ring.state c.args.ring.now) c.args.self.now _ c.args.k _ r c.move_unit-moved.new.request c.move_unit-moved.result found some c.move_unit-moved.ensures.moved
     refl (rw (← c.self.view_is) refl)
 
 pub returns-clause-changes : goal.returns-clause-changes
@@ -36,8 +38,8 @@ returns-clause-changes g c =
     let found : slice_get c.args.self.now c.args.k ≡ Some r = rw (← c.self.view_is) at in
     let shut : is_open r ≡ false = rw (← same) (sym c.is_open.ensures ∙ c.if-is_open.false) in
     let left : c.remove-request.new.self.items ≡ remove c.args.self.now c.args.k = rw (← c.self.view_is) c.remove-request.ensures.items in
-    ended g.L.TouchLog.after c.args.sectors.now.honest c.args.device c.args.shape.now c.args.ram.now.bytes c.complete.new.ram.bytes c.args.sectors.now.content c.args.log.now _ (g.R.Ring.state c.args.ring.now) (g.R.Ring.state c.complete.new.ring) c.args.self.now c.remove-request.new.self.items c.args.k _ r c.complete.result found shut c.recall-2.ensures.whole
-    c.complete.ensures.answer c.complete.ensures.bytes c.complete.ensures.ring left c.complete.ensures.log
+    ended _ c.args.sectors.now.honest c.args.device c.args.shape.now c.args.ram.now.bytes c.complete.new.ram.bytes c.args.sectors.now.content (g.R.Ring.state c.args.ring.now) (g.R.Ring.state c.complete.new.ring) c.args.self.now c.remove-request.new.self.items c.args.k _ r c.complete.result found shut c.recall-2.ensures.whole
+    c.complete.ensures.answer c.complete.ensures.bytes c.complete.ensures.ring left (record { log_is = c.complete.ensures.log; rises = c.complete.ensures.rises })
 
 pub returns-then-is_open-clause-sound : goal.returns-then-is_open-clause-sound
 returns-then-is_open-clause-sound g c =

@@ -1,12 +1,11 @@
 use Rattle.std.proofs.Common.{ap, arith, refl}
-use Rattle.guestmem.specs.LaterLaws.{later_same}
 use Rattle.machine.specs.Direct.{accepted_reply}
 use Rattle.machine.specs.Outcome.{outcome_of}
 use Rattle.machine.specs.Seen.{DeviceSeen}
 use Rattle.machine.specs.Step.{input_of}
 use Rattle.machine.specs.declared.event.Event.TheVariants as events
 use Rattle.machine.proofs.Keeping.{rings_stay}
-use Rattle.machine.proofs.At.{IsAt, map-set_same, input_step, held_step, applied_step}
+use Rattle.machine.proofs.At.{IsAt, map-set_same, input_step, held_step, applied_quiet}
 use Rattle.machine.proofs.machine.Machine.input.Goals as goal
 
 pub invariant_of-self : goal.invariant_of-self
@@ -23,7 +22,7 @@ returns g c =
     let i = c.self.inside in
     let at : IsAt i.devices.items c.args.dev c.index_mut.result.now = record { below = omega arith; is = c.index_mut.ensures.value } in
     rw (← c.self.view_is, c.input.ensures.count)
-    (applied_step i.shapes.items (record { memory = i.ram; devices = i.devices.items }) _ (events.Input c.args.dev c.args.bytes.now) (accepted_reply (input_of c.index_mut.result.now.state.own c.args.bytes.now)) c.self.invariant.0 (c.ranges.dev.fits, c.recall_bytes.ensures)
+    (applied_quiet i.shapes.items (record { memory = i.ram; devices = i.devices.items }) _ (events.Input c.args.dev c.args.bytes.now) (accepted_reply (input_of c.index_mut.result.now.state.own c.args.bytes.now)) tt c.self.invariant.0 (c.ranges.dev.fits, c.recall_bytes.ensures)
     (input_step i.ram i.devices.items c.args.dev c.args.bytes.now c.index_mut.result.now c.input.new.self (input_of c.index_mut.result.now.state.own c.args.bytes.now) refl at c.input.ensures.device)
-    (later_same i.ram)
+    refl
     (map-set_same (λ (d : DeviceSeen). d.marks) i.devices.items c.args.dev c.index_mut.result.now c.input.new.self at (ap (λ (d : DeviceSeen). d.marks) c.input.ensures.device)) tt)

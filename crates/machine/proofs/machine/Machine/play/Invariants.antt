@@ -1,7 +1,7 @@
 use Rattle.std.proofs.Common.{◌≡◌, ◌≤◌, length, take, map, vec_len}
 use Rattle.std.specs.Vec.{vec_capacity}
 use Rattle.guestmem.specs.Later.{IsLater}
-use Rattle.machine.specs.Applied.{FailOnlyUnsteady, marks_run}
+use Rattle.machine.specs.Applied.{AreApplied, FailOnlyUnsteady, marks_run}
 use Rattle.machine.specs.Seen.{AreHonest, state_of, all_marks}
 use Rattle.machine.specs.Outcome.{outcome_of}
 use Rattle.machine.specs.Run.{IsRun}
@@ -16,5 +16,6 @@ invariant-loop-event g l = record {
   unsteady : FailOnlyUnsteady (all_marks l.fn.self) (take l.event-index l.events) l.replies.items;
   later : IsLater l.fn.self.memory l.self.memory;
   sound : IsSound (state_of l.self);
+  applied : AreApplied l.fn.self (take l.event-index l.events) l.replies.items l.self;
   so_far : AreHonest l.fn.self → IsRun (state_of l.fn.self) (take l.event-index l.events) (map outcome_of l.replies.items) l.replies.items (state_of l.self);
 }

@@ -1,11 +1,10 @@
-use Rattle.std.proofs.Common.{ap, arith}
-use Rattle.guestmem.specs.LaterLaws.{later_same}
+use Rattle.std.proofs.Common.{ap, arith, refl}
 use Rattle.machine.specs.Direct.{done_reply}
 use Rattle.machine.specs.Outcome.{outcome_of}
 use Rattle.machine.specs.Seen.{DeviceSeen}
 use Rattle.machine.specs.declared.event.Event.TheVariants as events
 use Rattle.machine.proofs.Keeping.{rings_stay}
-use Rattle.machine.proofs.At.{IsAt, map-set_same, size_step, held_step, applied_step}
+use Rattle.machine.proofs.At.{IsAt, map-set_same, size_step, held_step, applied_quiet}
 use Rattle.machine.proofs.machine.Machine.resize.Goals as goal
 
 pub invariant_of-self : goal.invariant_of-self
@@ -22,7 +21,7 @@ returns g c =
     let i = c.self.inside in
     let at : IsAt i.devices.items c.args.dev c.index_mut.result.now = record { below = omega arith; is = c.index_mut.ensures.value } in
     rw (← c.self.view_is)
-    (applied_step i.shapes.items (record { memory = i.ram; devices = i.devices.items }) _ (events.Resize c.args.dev c.args.cols c.args.rows) (done_reply c.resize.result) c.self.invariant.0 (c.ranges.dev.fits, c.ranges.cols.fits, c.ranges.rows.fits)
+    (applied_quiet i.shapes.items (record { memory = i.ram; devices = i.devices.items }) _ (events.Resize c.args.dev c.args.cols c.args.rows) (done_reply c.resize.result) tt c.self.invariant.0 (c.ranges.dev.fits, c.ranges.cols.fits, c.ranges.rows.fits)
     (size_step i.ram i.devices.items c.args.dev c.args.cols c.args.rows c.index_mut.result.now c.resize.new.self c.resize.result at c.resize.ensures.disk c.resize.ensures.state)
-    (later_same i.ram)
+    refl
     (map-set_same (λ (d : DeviceSeen). d.marks) i.devices.items c.args.dev c.index_mut.result.now c.resize.new.self at (ap (λ (d : DeviceSeen). d.marks) c.resize.ensures.disk)) tt)

@@ -1,6 +1,7 @@
 use Rattle.std.proofs.Common.{refl, arith}
 use Rattle.guestmem.specs.Item.{sector}
 use Rattle.guestmem.specs.LaterLaws.{later_same}
+use Rattle.guestmem.specs.RisesLaws.{touches_none}
 use Rattle.machine.specs.declared.event.Event.TheVariants as events
 use Rattle.machine.specs.declared.reply.Refusal.TheVariants as refusals
 use Rattle.machine.specs.declared.reply.Reply.TheVariants as replies
@@ -13,7 +14,7 @@ returns-then-number-len g c =
     let i = c.self.inside in
     rw (← c.self.view_is)
     (applied_logged g.L.TouchLog.after i.shapes.items (record { memory = i.ram; devices = i.devices.items }) _ c.args.log.now c.args.log.now (events.Step c.args.dev c.args.pick) (replies.Refused refusals.NoDevice) c.self.invariant.0 (c.ranges.dev.fits, c.ranges.pick.fits)
-    (missing_step g.L.TouchLog.after i.ram c.args.log.now i.devices.items c.args.dev c.args.pick (omega arith)) (later_same i.ram) refl (λ h. cc))
+    (missing_step _ i.ram i.devices.items c.args.dev c.args.pick (omega arith) (touches_none g.L.TouchLog.after c.args.log.now c.args.log.now i.ram i.ram refl refl)) (later_same i.ram) refl (λ h. cc))
 
 pub step-requires-clause-sound : goal.step-requires-clause-sound
 step-requires-clause-sound g c =
@@ -36,7 +37,7 @@ invariant_of-self g c =
     let i = c.self.inside in
     let d = c.index_mut-device.result.now in
     let at : IsAt i.devices.items c.args.dev d = record { below = omega arith; is = c.index_mut-device.ensures.value } in (
-      held_worked g.L.TouchLog.after i.shapes.items i.ram c.step.new.ram c.args.log.now c.step.new.log i.devices.items c.args.dev c.args.pick d c.step.new.self c.step.result c.self.invariant.0 at c.step.ensures.step c.step.ensures.later.bytes c.step.ensures.bytes c.step.ensures.whole c.step.ensures.capacity,
+      held_worked _ i.shapes.items i.ram c.step.new.ram i.devices.items c.args.dev c.args.pick d c.step.new.self c.step.result c.self.invariant.0 at c.step.ensures.step c.step.ensures.later.bytes c.step.ensures.bytes c.step.ensures.whole c.step.ensures.capacity,
       rings_stepped c.self.inside.rings.items c.self.inside.ram c.step.new.ram c.self.inside.devices.items c.args.dev c.step.new.self c.ring_place.result c.step.new.ring c.self.invariant.1 c.step.ensures.later c.step.ensures.fits,
     )
 

@@ -1,5 +1,7 @@
 use Rattle.std.proofs.Common.{refl, sym, ◌∙◌, arith}
 use Rattle.guestmem.specs.LaterLaws.{later_same}
+use Rattle.guestmem.specs.Rises.{Touches}
+use Rattle.guestmem.specs.RisesLaws.{touches_none}
 use Rattle.machine.specs.Outcome.{fine}
 use Rattle.machine.specs.Seen.{state_of}
 use Rattle.machine.specs.declared.event.Event.TheVariants as events
@@ -13,21 +15,21 @@ returns-in-Some g c =
     let i = c.self.inside in
     rw (← c.self.view_is)
     (applied_logged g.L.TouchLog.after i.shapes.items (record { memory = i.ram; devices = i.devices.items }) _ c.args.log.now c.args.log.now (events.MemWrite c.args.addr c.args.bytes.now) (replies.Refused c.from.result) c.self.invariant.0 (c.ranges.addr.fits, λ k. omega (arith, c.type_inv.bytes k))
-    (unstored_step g.L.TouchLog.after i.ram c.args.log.now i.devices.items c.args.addr c.args.bytes.now c.in-Some.error c.from.result (sym c.refusal.ensures ∙ c.in-Some.is) c.from.ensures) (later_same i.ram) refl tt)
+    (unstored_step _ i.ram i.devices.items c.args.addr c.args.bytes.now c.in-Some.error c.from.result (sym c.refusal.ensures ∙ c.in-Some.is) c.from.ensures (touches_none g.L.TouchLog.after c.args.log.now c.args.log.now i.ram i.ram refl refl)) (later_same i.ram) refl tt)
 
 pub invariant_of-self : goal.invariant_of-self
 invariant_of-self g c =
     let i = c.self.inside in
-    let step = stored_step g.L.TouchLog.after i.ram c.put.new.self c.args.log.now c.put.new.log i.devices.items c.args.addr c.args.bytes.now (sym c.refusal.ensures ∙ c.in_default.is) c.put.ensures.bytes c.put.ensures.log in (
+    let step = stored_step (Touches g.L.TouchLog.after c.args.log.now c.put.new.log i.ram c.put.new.self) i.ram c.put.new.self i.devices.items c.args.addr c.args.bytes.now (sym c.refusal.ensures ∙ c.in_default.is) c.put.ensures.bytes (record { log_is = c.put.ensures.log; rises = c.put.ensures.rises }) in (
       held_step i.shapes.items (record { memory = i.ram; devices = i.devices.items }) _ (events.MemWrite c.args.addr c.args.bytes.now) fine replies.Done c.self.invariant.0 (c.ranges.addr.fits, c.recall_bytes.ensures)
-          (plain_step g.L.TouchLog.after (state_of (record { memory = i.ram; devices = i.devices.items })) _ c.args.log.now c.put.new.log (events.MemWrite c.args.addr c.args.bytes.now) replies.Done step),
+          (plain_step _ (state_of (record { memory = i.ram; devices = i.devices.items })) _ (events.MemWrite c.args.addr c.args.bytes.now) replies.Done step),
       rings_later c.self.inside.rings.items c.self.inside.ram c.put.new.self _ c.self.invariant.1 c.put.ensures.later,
     )
 
 pub returns : goal.returns
 returns g c =
     let i = c.self.inside in
-    let step = stored_step g.L.TouchLog.after i.ram c.put.new.self c.args.log.now c.put.new.log i.devices.items c.args.addr c.args.bytes.now (sym c.refusal.ensures ∙ c.in_default.is) c.put.ensures.bytes c.put.ensures.log in
+    let step = stored_step (Touches g.L.TouchLog.after c.args.log.now c.put.new.log i.ram c.put.new.self) i.ram c.put.new.self i.devices.items c.args.addr c.args.bytes.now (sym c.refusal.ensures ∙ c.in_default.is) c.put.ensures.bytes (record { log_is = c.put.ensures.log; rises = c.put.ensures.rises }) in
     rw (← c.self.view_is)
     (applied_logged g.L.TouchLog.after i.shapes.items (record { memory = i.ram; devices = i.devices.items }) _ c.args.log.now c.put.new.log (events.MemWrite c.args.addr c.args.bytes.now) replies.Done c.self.invariant.0 (c.ranges.addr.fits, c.recall_bytes.ensures)
     step c.put.ensures.later refl tt)

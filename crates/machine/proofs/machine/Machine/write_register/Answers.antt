@@ -1,11 +1,10 @@
-use Rattle.std.proofs.Common.{ap, arith}
-use Rattle.guestmem.specs.LaterLaws.{later_same}
+use Rattle.std.proofs.Common.{ap, arith, refl}
 use Rattle.machine.specs.Outcome.{outcome_of}
 use Rattle.machine.specs.Step.{out_reply, written_out}
 use Rattle.machine.specs.Seen.{DeviceSeen}
 use Rattle.machine.specs.declared.event.Event.TheVariants as events
 use Rattle.machine.proofs.Keeping.{rings_written}
-use Rattle.machine.proofs.At.{IsAt, map-set_same, register_step, held_step, applied_step}
+use Rattle.machine.proofs.At.{IsAt, map-set_same, register_step, held_step, applied_quiet}
 use Rattle.machine.proofs.machine.Machine.write_register.Goals as goal
 
 pub invariant_of-self : goal.invariant_of-self
@@ -22,7 +21,7 @@ returns g c =
     let i = c.self.inside in
     let at : IsAt i.devices.items c.args.dev c.index_mut-device.result.now = record { below = omega arith; is = c.index_mut-device.ensures.value } in
     rw (← c.self.view_is, c.write_one.ensures.out)
-    (applied_step i.shapes.items (record { memory = i.ram; devices = i.devices.items }) _ (events.RegWrite c.args.dev c.args.offset c.args.width c.args.value) (out_reply (written_out c.index_mut-device.result.now.state.own c.args.offset c.args.width c.args.value)) c.self.invariant.0 (c.ranges.dev.fits, c.ranges.offset.fits, c.ranges.width.fits, c.ranges.value.fits)
+    (applied_quiet i.shapes.items (record { memory = i.ram; devices = i.devices.items }) _ (events.RegWrite c.args.dev c.args.offset c.args.width c.args.value) (out_reply (written_out c.index_mut-device.result.now.state.own c.args.offset c.args.width c.args.value)) tt c.self.invariant.0 (c.ranges.dev.fits, c.ranges.offset.fits, c.ranges.width.fits, c.ranges.value.fits)
     (register_step i.ram i.devices.items c.args.dev c.args.offset c.args.width c.args.value c.index_mut-device.result.now c.write_one.new.device at c.write_one.ensures.device)
-    (later_same i.ram)
+    refl
     (map-set_same (λ (d : DeviceSeen). d.marks) i.devices.items c.args.dev c.index_mut-device.result.now c.write_one.new.device at (ap (λ (d : DeviceSeen). d.marks) c.write_one.ensures.device)) tt)

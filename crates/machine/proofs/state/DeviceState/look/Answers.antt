@@ -21,5 +21,5 @@ returns-in-Ok-clause-looked g c =
     let i = c.self.inside in
     let sound = rw (← c.self.view_is) at c.requires.sound in
     rw (← c.self.view_is, c.tell.ensures.reply, c.positions.ensures)
-    (served_look g.L.TouchLog.after c.args.ram.now.bytes c.args.log.now i.shape i.registers i.positions i.own c.args.pick (ring_in c.args.ring.now) c.in-Ok.served c.serve.new.ram.bytes (ring_in c.serve.new.ring) c.serve.new.self c.serve.new.log c.tell.new.registers
+    (served_look _ c.args.ram.now.bytes i.shape i.registers i.positions i.own c.args.pick (ring_in c.args.ring.now) c.in-Ok.served c.serve.new.ram.bytes (ring_in c.serve.new.ring) c.serve.new.self c.tell.new.registers
     (rw (← c.self.view_is) at c.requires.there) c.in-Ok.ensures.served c.tell.ensures.registers (ap (λ r. length r.queues) c.tell.ensures.registers ∙ (served_registers i.registers c.args.pick c.in-Ok.served sound.registers).same.queue_count))

@@ -1,11 +1,10 @@
--- An image is let go, and what it owned is forgotten.
+-- `forget` hands out the sectors, as they are.
 use Rattle.std.proofs.Common.{List, [], ◌∷◌, ◌++◌, refl, sym, subst}
-use mir.Syntax.{impl, tnil, dnil}
 use mir.Val.{Val, vunit}
-use base.Logic.{SProp, ent, emp, id⊢}
+use base.Logic.{SProp, ent, id⊢}
 use base.Fml.{ftrue}
 use prog.Wp.{WpFn}
-use types.Kit.{‵, raw, ◌⊛◌, ◌$◌, ◌∵◌, !, qed, by, move, drop, split, fsplit, fjoin, feq_i, suffices, keep, use0}
+use types.Kit.{‵, raw, ◌⊛◌, ◌$◌, ◌∵◌, !, qed, by, move, drop, split, fsplit, fjoin, feq_i, suffices}
 use types.Run.{unit_lit, of_opd, returns, enter}
 use types.ByLocal.{alloc_all, pass_all, free_all, look_at, sets}
 use contract.Running.{tables}
@@ -13,20 +12,17 @@ use denote.RattleType.{owns}
 use denote.Signature.{types_at, plain}
 use denote.Steps.{nothing}
 use denote.Triple.Walked.{Stays, stay_dropped, walk_of, Goes-dropped}
+use Rattle.std.proofs.ResultValues.{and_tt}
 use Rattle.std.proofs.raw_atomic.Walks.{proved_at, leaves}
-use Rattle.std.proofs.alloc.Calls.{Al, handle_tells}
+use Rattle.mapped_disk.specs.declared.image.Image.{Image}
 use Rattle.mapped_disk.specs.contracts.image.Image as held
-use Rattle.mapped_disk.proofs.image.Image.TheLaws as laws
 use Rattle.mapped_disk.specs.contracts.image.Image.forget as f
+use Rattle.mapped_disk.proofs.Images.{word, image_had, pointer_typed}
 use Rattle.mapped_disk.proofs.image.Image.forget.Statement.{statement}
 use Rattle.mapped_disk.proofs.image.Image.forget.Code as code
 
 abbrev stayed : Stays (f.ended).signature.params (f.ended).kept
 stayed = (stay_dropped _ (f.ended).kept.0, tt)
-
--- An image is one machine value, as a handle of a heap is.
-abbrev al : Al
-al = record { row = held.the_row; laws = laws.the_row_laws; g = record { dealloc_token = λ a σ p. ftrue }; d = impl [] tnil dnil; drops = impl [] tnil dnil }
 
 pub forget_spec : {M : Type 1} → statement M
 forget_spec 𝓤 𝓛 𝓜 𝓡 wired =
@@ -34,11 +30,13 @@ forget_spec 𝓤 𝓛 𝓜 𝓡 wired =
     proved_at 𝓛 f.ended stayed c 𝓜 𝓡 (Goes-dropped 𝓛 0 (plain (λ _. held.the_row)) (f.ended).kept.0 (λ κs x w. refl), tt)
     f.Key.name code.function (code.unfolded 𝓤 H 𝓜 𝓡 wired) (λ z are.
     let Post : Val → SProp 𝓤 = (walk_of 𝓛 f.ended stayed c).post z in let Run : List Val → SProp 𝓤 = λ ws. WpFn 𝓤 H 𝓣.C 𝓣.Λ code.function ws Post in
+    let d : Image = z.0.3.0 in
     qed 𝓛 ((‵ ftrue ⊛ ‵ (owns (types_at (f.ended).signature.params tt) z.0.3 z.0.4)) ∷ raw ((c tt z.0.3).requires z.1) ∷ []) ∵ move ! (1 ∷ []) $ drop ! $ split ! $ drop ! $ fsplit ! $ move ! (1 ∷ []) $ drop ! $
-    handle_tells al ! z.0.3.0 z.0.4.0 (λ v e fits. drop ! $
-    suffices ! (Run (v ∷ [])) (subst (λ (us : List Val). ent 𝓤 (Run (v ∷ [])) (Run us)) (sym (λ i. e i ++ [])) (id⊢ 𝓤 (Run (v ∷ [])))) $
-    enter ! 𝓣.C 𝓣.Λ code.function (v ∷ []) Post $ alloc_all ! (λ l. pass_all ! refl (fits, tt) $
+    image_had ! d z.0.4.0 (λ is small.
+    let w : Val = word d.at d.sectors in
+    suffices ! (Run (w ∷ [])) (subst (λ (us : List Val). ent 𝓤 (Run (w ∷ [])) (Run us)) (sym (λ i. is i ++ [])) (id⊢ 𝓤 (Run (w ∷ [])))) $
+    enter ! 𝓣.C 𝓣.Λ code.function (w ∷ []) Post $ alloc_all ! (λ l. pass_all ! refl ((and_tt _ (pointer_typed d.at).0, ((pointer_typed d.at).1, (record { fits = small }, tt))), tt) $
     sets ! (of_opd ! (unit_lit !)) refl (tt, tt) $
     returns ! (look_at ! 0 refl) $ free_all ! refl $
-    use0 𝓛 (raw (emp 𝓤)) (id⊢ 𝓤 (emp 𝓤)) $ feq_i ! (List Val) (vunit ∷ []) (vunit ∷ []) refl $ nothing ! $ nothing ! $ fjoin ! $ nothing ! $
-    keep ! (0 ∷ 1 ∷ 2 ∷ 3 ∷ []) $ by ! (leaves 𝓛 f.ended stayed c z vunit tt (tt, tt) (tt, tt)))))
+    feq_i ! (List Val) (vunit ∷ []) (vunit ∷ []) refl $ nothing ! $ nothing ! $ fjoin ! $ nothing ! $
+    by ! (leaves 𝓛 f.ended stayed c z vunit tt (tt, tt) (tt, tt)))))

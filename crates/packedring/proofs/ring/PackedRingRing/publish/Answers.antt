@@ -9,3 +9,7 @@ returns-clause-bytes g c = rw (← c.self.view_is) (simp (c.put.ensures.bytes, c
 pub returns-clause-log : goal.returns-clause-log
 unfolding packed_published
 returns-clause-log g c = rw (← c.self.view_is) (simp (c.put.ensures.log, c.used_bytes-bytes.ensures) refl)
+
+pub returns-clause-rises : goal.returns-clause-rises
+unfolding packed_published
+returns-clause-rises g c = rw (← c.self.view_is) (rw c.used_bytes-bytes.ensures at c.put.ensures.rises)

@@ -40,7 +40,7 @@ returns-in-Ok-clause-received g c = λ honest b f.
     let h = come_of _ c.self.inside.taken b c.self.inside.held.items c.in-Ended.intake ended in
     let trusted : AreHonestDisks (disk_marks_of g.D.Disk.state c.self.inside.disks.items) = subst AreHonestDisks (sym (ap (λ (v : Received). v.marks) c.self.view_is)) honest in
     let sound = read_sound h.ended.read (h.ended.complete.devices refl) c.recall.ensures.bytes (rw c.deref.ensures.value at c.recall_disks.ensures) in
-    rw (c.in-Ok.ensures.restored) (whole_stream _ b h.pages h.shapes c.in-Ended.intake h.ended sound trusted)
+    rw (c.in-Ok.ensures.restored) (whole_stream _ b h.opening c.in-Ended.intake h.ended sound trusted)
 
 pub returns-in-Ok-clause-marks : goal.returns-in-Ok-clause-marks
 returns-in-Ok-clause-marks g c =
@@ -80,4 +80,4 @@ returns-in-Ok-clause-whole g c = λ b f.
     let fed : HasBeenFed seen b = subst (λ (v : Received). HasBeenFed v b) (sym c.self.view_is) f in
     let ended : IsTaken (map g.D.Disk.state c.self.inside.disks.items) c.self.inside.taken b c.self.inside.held.items (stages.Ended c.in-Ended.intake) = rw c.in-Ended.is at fed.taken in
     let h = come_of _ c.self.inside.taken b c.self.inside.held.items c.in-Ended.intake ended in
-    subst (λ (v : Received). IsWholeFor v.sizes b) c.self.view_is (whole_for _ b h.pages h.shapes c.in-Ended.intake h.ended)
+    subst (λ (v : Received). IsWholeFor v.sizes b) c.self.view_is (whole_for _ b h.opening c.in-Ended.intake h.ended)

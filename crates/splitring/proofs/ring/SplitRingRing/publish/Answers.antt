@@ -1,5 +1,6 @@
 use Rattle.std.proofs.Common.{refl}
 use Rattle.guestmem.specs.LaterLaws.{later_trans}
+use Rattle.guestmem.specs.RisesLaws.{rises_append}
 use Rattle.chains.specs.Publish.{split_published}
 use Rattle.splitring.proofs.ring.SplitRingRing.publish.Goals as goal
 
@@ -13,3 +14,7 @@ returns-clause-log g c = rw (← c.self.view_is) (simp (c.put-2.ensures.log, c.p
 
 pub returns-clause-after : goal.returns-clause-after
 returns-clause-after g c = record { later = later_trans _ _ _ c.put.ensures.later c.put-2.ensures.later; pages = c.put-2.ensures.may }
+
+pub returns-clause-rises : goal.returns-clause-rises
+unfolding split_published
+returns-clause-rises g c = rw (← c.self.view_is) (rises_append _ _ _ _ _ (rw c.element_bytes.ensures at c.put.ensures.rises) (rw c.index_bytes.ensures at c.put-2.ensures.rises))

@@ -1,4 +1,4 @@
-use Rattle.std.proofs.Common.{◌≡◌, ap, refl, rules, sym, subst, ◌∙◌}
+use Rattle.std.proofs.Common.{◌≡◌, ap, refl, sym, subst, ◌∙◌}
 use Rattle.receiver.specs.declared.recv_error.RecvError.{RecvError}
 use Rattle.receiver.specs.declared.recv_error.RecvError.TheVariants.{AlreadyFailed}
 use Rattle.vmig_c.specs.ArrivalSeen.{ArrivalSeen, AtBody, AtHead, Refused}
