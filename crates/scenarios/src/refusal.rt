@@ -10,10 +10,6 @@ use receiver::Receiver;
 use std::alloc::Global;
 use wire::decode_header;
 
-/// Of streams that differ in a byte and are reported alike, each is received whole and byte by byte, and one in this many in
-/// pieces of more bytes.
-const SELDOM: usize = 16;
-
 /// Receives the stream of a line, which is followed by ` -> ` and the number of its refusal, or 0 where it is received. Fed in
 /// pieces of any size, it gets the same answer. After the number there may be ` AT ` and an offset: that many bytes show the
 /// refusal, and no fewer.
@@ -101,7 +97,7 @@ struct Refusals<'t> {
 }
 
 impl<'t> Refusals<'t> {
-    /// Fails if another refusal is reported of the stream that is changed at this position, whole or byte by byte.
+    /// Fails if another refusal is reported of the stream that is changed at this position, whole or in pieces.
     fn tell(&self, alloc: Global, streams: &Streams, place: usize) -> Result<()> {
         let stream = streams.stream(alloc, place)?;
         let number = *self.numbers.get(place).context("no number")?;
@@ -114,18 +110,7 @@ impl<'t> Refusals<'t> {
         if let Some(expected) = self.places.get(place) {
             ensure!(told_at == *expected, "at byte {told_at} at {place}");
         }
-        if place % SELDOM == 0 || !self.is_as_before(place) {
-            self.tell_in_pieces(alloc, streams, place, told_at)?;
-        }
-        Ok(())
-    }
-
-    /// Whether this stream gets the same answer as the one before it.
-    fn is_as_before(&self, place: usize) -> bool {
-        match place.checked_sub(1) {
-            Some(before) => self.numbers.get(place) == self.numbers.get(before),
-            None => false,
-        }
+        self.tell_in_pieces(alloc, streams, place, told_at)
     }
 
     /// Fails if the stream, fed in pieces of more bytes, gets another answer, or gets it in another piece than that of byte
