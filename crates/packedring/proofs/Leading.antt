@@ -1,4 +1,4 @@
-use Rattle.std.proofs.Common.{true, false, ◌≡◌, ℕ, ◌+◌, ◌%◌, List, [], ◌∷◌, ◌++◌, ap, sym, ◌∙◌, append_assoc}
+use Rattle.std.proofs.Common.{true, false, ◌≡◌, ℕ, ◌+◌, ◌%◌, List, [], ◌∷◌, ◌++◌, ap, sym, ◌∙◌, append_assoc, refl}
 use Rattle.chains.specs.declared.descriptor.Descriptor.{Descriptor}
 use Rattle.chains.specs.Descriptor.{descriptor_at}
 use Rattle.chains.specs.PackedChain.{AreConsecutive}
@@ -10,6 +10,10 @@ pub record Leads (ram : List ℕ) (table size slot : ℕ) (front : List Descript
   pub completes : (rest : List Descriptor) → AreConsecutive ram table size next rest → AreConsecutive ram table size slot (front ++ rest)
   pub only : (whole : List Descriptor) → AreConsecutive ram table size slot whole → (rest : List Descriptor) × (whole ≡ front ++ rest) × AreConsecutive ram table size next rest
   pub rows : (rest : List Descriptor) → AreInSlots ram table size next rest → AreInSlots ram table size slot (front ++ rest)
+
+-- Nothing leads to the slot itself.
+pub leads_start : (ram : List ℕ) (table size slot : ℕ) → Leads ram table size slot [] slot
+leads_start ram table size slot = record { completes = λ rest h. h; only = λ whole h. (whole, refl, h); rows = λ rest h. h }
 
 behind : (ram : List ℕ) (table size slot : ℕ) (d : Descriptor) → d ≡ descriptor_at true ram table slot → d.has_next ≡ true
     → (rest : List Descriptor) → AreConsecutive ram table size ((slot + 1) % size) rest → AreConsecutive ram table size slot (d ∷ rest)
@@ -48,3 +52,9 @@ leads_more ram table size slot next front d leads is more = record {
 pub consecutive_first : (ram : List ℕ) (table size slot : ℕ) (d : Descriptor) (ds : List Descriptor) → AreConsecutive ram table size slot (d ∷ ds) → d ≡ descriptor_at true ram table slot
 consecutive_first ram table size slot d [] h = h.0
 consecutive_first ram table size slot d (e ∷ es) h = h.0
+
+-- So they begin with it.
+pub consecutive_begins : (ram : List ℕ) (table size slot : ℕ) (d : Descriptor) → d ≡ descriptor_at true ram table slot → (ds : List Descriptor) → AreConsecutive ram table size slot ds
+    → (rest : List Descriptor) × (ds ≡ d ∷ rest)
+consecutive_begins ram table size slot d is [] h = absurd h
+consecutive_begins ram table size slot d is (x ∷ xs) h = (xs, ap (λ (y : Descriptor). y ∷ xs) (consecutive_first ram table size slot x xs h ∙ sym is))

@@ -1,4 +1,4 @@
+pub mod Held
 pub mod Leading
 pub mod Finding
 pub mod Lists
-pub mod Long

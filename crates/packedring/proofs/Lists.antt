@@ -1,4 +1,4 @@
-use Rattle.std.proofs.Common.{Bool, true, false, ◌≡◌, ℕ, zero, suc, ◌+◌, ◌-◌, ◌<◌, List, [], ◌∷◌, ◌++◌, refl, ap, sym, arith, add-zero}
+use Rattle.std.proofs.Common.{Bool, true, false, ◌≡◌, ℕ, zero, suc, ◌+◌, ◌-◌, ◌<◌, List, [], ◌∷◌, ◌++◌, refl, ap, sym, arith, add-zero, zero-add, ◌∙◌}
 use Rattle.std.specs.Prelude.{◌==◌, ◌&&◌, ◌||◌, not, if◌then◌else◌}
 use Rattle.chains.specs.declared.descriptor.Descriptor.{Descriptor}
 use Rattle.chains.specs.declared.position.Position.{Position}
@@ -14,6 +14,27 @@ entries_more ram table index (suc count) =
     let f : index + 1 + count ≡ index + suc count = omega arith in
     let more = entries_more ram table (index + 1) count in
     rw (e, ← f) (ap (λ (ds : List Descriptor). descriptor_at true ram table index ∷ ds) more)
+
+-- The entries from one on are that one and those behind it.
+pub entries_next : (ram : List ℕ) (table index count : ℕ) → 0 < count → entries_from ram table index count ≡ descriptor_at true ram table index ∷ entries_from ram table (index + 1) (count - 1)
+entries_next ram table index zero some = absurd (omega arith)
+entries_next ram table index (suc count) some = let e : suc count - 1 ≡ count = omega arith in rw e refl
+
+-- The first of so many entries, followed by the others.
+entries_add : (ram : List ℕ) (table index front back : ℕ) → entries_from ram table index (front + back) ≡ entries_from ram table index front ++ entries_from ram table (index + front) back
+entries_add ram table index zero back = rw (zero-add, add-zero) refl
+entries_add ram table index (suc front) back =
+    let e : suc front + back ≡ suc (front + back) = omega arith in
+    let f : index + 1 + front ≡ index + suc front = omega arith in
+    rw (e, entries_add ram table (index + 1) front back, f) refl
+
+-- The entries of a table begin with the first so many and the one behind them.
+pub entries_begin : (ram : List ℕ) (table index count : ℕ) → index < count
+    → entries_from ram table 0 count ≡ entries_from ram table 0 index ++ descriptor_at true ram table index ∷ entries_from ram table (index + 1) (count - index - 1)
+entries_begin ram table index count below =
+    let e : count ≡ index + (count - index) = omega arith in
+    let f : 0 + index ≡ index = omega arith in
+    ap (entries_from ram table 0) e ∙ entries_add ram table 0 index (count - index) ∙ rw (f, entries_next ram table index (count - index) (omega arith)) refl
 
 -- A position is among those of some slots where it is the first of them, or among the others.
 pub among_step : (offset : ℕ) (wrap : Bool) (size : ℕ) (p : Position) (count : ℕ) → 0 < count

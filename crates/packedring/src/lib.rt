@@ -16,8 +16,8 @@
 //! `specs/Walk` has the definitions for the functions inside. Nothing is trusted here beside the crates below.
 #![tactic(auto)]
 
+mod adding;
 mod events;
-mod found;
 mod going_on;
 mod ring;
 mod table;

@@ -5,20 +5,17 @@ ghost use Rattle.guestmem.specs.Memory.{Memory};
 ghost use Rattle.chains.specs.Decoder.{Fits, empty_decoder};
 ghost use Rattle.chains.specs.RingCore.{core_state};
 ghost use Rattle.chains.specs.State.{state_of, MayRing, HasAreas};
-ghost use Rattle.chains.specs.Descriptor.{descriptor_at};
 ghost use Rattle.chains.specs.PackedChain.{IsAvailable};
 ghost use Rattle.chains.specs.Publish.{is_packed_due, bit_if};
 ghost use Rattle.byteorder.specs.Endian.{little_bytes};
 
 use crate::events::{DESC, DISABLE, FLAG_VALUES, FLAGS, asking_at, is_covered};
-use crate::found::Found;
 use crate::going_on::going_on;
 use crate::table::find;
 use byteorder::{ByteOrder, LittleEndian};
 use chains::flags::{AVAIL, USED, WRITE};
 use chains::{
     Chain, DESCRIPTOR_SIZE, Decoder, Descriptor, Next, NextKind, Positions, Ring, RingCore, Walked,
-    fill_segments, is_whole,
 };
 use guestmem::{NoMemory, Ram, TouchLog};
 use mmio::Queue;
@@ -48,8 +45,6 @@ impl Model for PackedRing {
 }
 
 impl PackedRing {
-    ghost use Rattle.packedring.specs.Walk.{ChainGives};
-
     /// The ring of a queue at these positions, under the features that the driver accepted. It takes no memory: the
     /// allocator is for the chains that it finds. It has decoded nothing, so what it keeps fits every RAM.
     pub fn new(alloc: Global, queue: &Queue, features: u64, positions: Positions) -> PackedRing
@@ -90,38 +85,6 @@ impl PackedRing {
         ensures fits { (ram : Memory) → Fits self.new.decoder ram }
     {
         self.decoder.clear();
-    }
-
-    /// Fills in the chain at the taking position, if there is one. `first` is the descriptor there, which is available.
-    fn fill_chain(&mut self, ram: &Ram, first: Descriptor, chain: &mut Chain) -> Walked
-        requires areas { HasAreas (length ram.now.bytes) self.old.state }
-        requires first { first ≡ descriptor_at true ram.now.bytes self.old.state.descriptors self.old.state.taking.place }
-        requires fits { Fits self.old.decoder ram.now }
-        ensures gives { ChainGives ram.now.bytes self.old.state chain.new result }
-        ensures state { self.new.state ≡ self.old.state }
-        ensures fits { Fits self.new.decoder ram.now }
-        ensures few { self.new.decoder.decoded ≤ self.old.decoder.decoded + self.old.state.size }
-        ensures rises { self.old.decoder.decoded ≤ self.new.decoder.decoded }
-    {
-        ram.recall();
-        let core = &self.core;
-        let mut found = Found::new(core.alloc);
-        match find(core, &mut self.decoder, ram, first, &mut found) {
-            Walked::Listed => {}
-            Walked::Missing => return Walked::Missing,
-            Walked::NoMemory => return Walked::NoMemory,
-        }
-        let all = found.all.as_slice();
-        // A rule of both layouts.
-        if !is_whole(all, ram, core.size) {
-            return Walked::Missing;
-        }
-        chain.id = found.id;
-        chain.slots = found.slots;
-        let Ok(()) = fill_segments(all, &mut chain.readable, &mut chain.writable) else {
-            return Walked::NoMemory;
-        };
-        Walked::Listed
     }
 
     /// Whether the driver asks for an interrupt for a chain of `slots` slots at the used position, by what it holds in
@@ -167,7 +130,7 @@ impl Ring for PackedRing {
         if !is_available(&first, taking.wrap) {
             return NextKind::Empty;
         }
-        match self.fill_chain(ram, first, chain) {
+        match find(&self.core, &mut self.decoder, ram, first, chain) {
             Walked::Listed => NextKind::Chain,
             Walked::Missing => NextKind::Malformed,
             Walked::NoMemory => NextKind::NoMemory,

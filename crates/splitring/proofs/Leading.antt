@@ -1,15 +1,16 @@
-use Rattle.std.proofs.Common.{Bool, true, false, ◌/◌, ◌≡◌, ℕ, ◌+◌, ◌-◌, ◌<◌, ◌≤◌, List, [], ◌∷◌, ◌++◌, length, take, refl, ap, sym, ◌∙◌, arith, append_assoc, append-nil, length-append}
-use Rattle.std.proofs.lemmas.List.{take_at, same_from_push}
-use Rattle.std.proofs.lemmas.List.Elements.{All-append, All-drop}
-use Rattle.std.proofs.Math.Seq.{drop-append_seam}
+use Rattle.std.proofs.Common.{true, false, ◌≡◌, ℕ, ◌+◌, ◌<◌, ◌≤◌, List, [], ◌∷◌, ◌++◌, length, refl, ap, sym, ◌∙◌, arith, append_assoc, append-nil, length-append}
+use Rattle.std.proofs.lemmas.List.Elements.{All-push, All-nil}
 use Rattle.chains.specs.declared.descriptor.Descriptor.{Descriptor}
+use Rattle.chains.specs.declared.chain.Chain.{Chain}
+use Rattle.chains.specs.declared.limits.TheConstants.{SHORT_CHAIN_MAX}
 use Rattle.chains.specs.Descriptor.{descriptor_at}
-use Rattle.chains.specs.Whole.{ArePlain, IsTable}
-use Rattle.chains.specs.SplitChain.{AreLinked, IsFromTable, IsReplaced}
-use Rattle.chains.specs.SplitLaws.{linked_same, linked_some}
+use Rattle.chains.specs.Whole.{ArePlain}
+use Rattle.chains.specs.SplitChain.{AreLinked}
+use Rattle.chains.specs.SplitLaws.{linked_some}
 use Rattle.chains.specs.LongQueue.{AreInRow}
-use Rattle.chains.proofs.Cases.{where_true}
-use Rattle.splitring.specs.Walk.{IsNoList, AreListed, IsNoReplacement}
+use Rattle.splitring.specs.Held.{AreSound, AreHeld}
+use Rattle.splitring.specs.Walk.{IsNoneSound, AreGathered, AreBeforeTable, IsLongBehind}
+use Rattle.splitring.proofs.Spelled.{spelled_at, spelled_next, spelled_longer}
 
 -- The list from an index on begins with these, and goes on from another index: what completes the rest completes the
 -- whole, and nothing else does. A row from there on goes on from these, too.
@@ -59,79 +60,116 @@ past ram table entries index beyond [] h = h
 past ram table entries index beyond (d ∷ []) h = omega (arith, h.0)
 past ram table entries index beyond (d ∷ e ∷ es) h = omega (arith, h.0)
 
--- Behind some descriptors stand the first so many of the list that begins at an entry, and it goes on from an index.
-pub record IsWalked (ram : List ℕ) (table entries first : ℕ) (before list : List Descriptor) (count next : ℕ) : Type 0 where
+-- Every list begins with the descriptor at its entry.
+linked_first : (ram : List ℕ) (table entries index : ℕ) (d : Descriptor) → d ≡ descriptor_at false ram table index → (ds : List Descriptor) → AreLinked ram table entries index ds
+    → (rest : List Descriptor) × (ds ≡ d ∷ rest)
+linked_first ram table entries index d is [] h = absurd h
+linked_first ram table entries index d is (x ∷ []) h = ([], ap (λ (y : Descriptor). y ∷ []) (h.1 ∙ sym is))
+linked_first ram table entries index d is (x ∷ e ∷ es) h = (e ∷ es, ap (λ (y : Descriptor). y ∷ e ∷ es) (h.1 ∙ sym is))
+
+-- The first so many of the list that begins at an entry are walked: it goes on from an index, and a chain holds them behind
+-- others.
+pub record IsWalked (ram : List ℕ) (table entries first : ℕ) (before : List Descriptor) (c : Chain) (count next : ℕ) : Type 0 where
   pub walked : List Descriptor
-  pub parts : list ≡ before ++ walked
   pub count_is : length walked ≡ count
   pub leads : Leads ram table entries first walked next
+  pub plain : ArePlain walked
+  pub held : AreHeld (length ram) (before ++ walked) c
 
 -- None yet.
-pub walked_none : (ram : List ℕ) (table entries first : ℕ) (before : List Descriptor) → IsWalked ram table entries first before before 0 first
-walked_none ram table entries first before = record { walked = []; parts = sym (append-nil before); count_is = refl; leads = leads_start ram table entries first }
+pub walked_none : (ram : List ℕ) (table entries first : ℕ) (before : List Descriptor) (c : Chain) → AreHeld (length ram) before c → IsWalked ram table entries first before c 0 first
+walked_none ram table entries first before c h = record {
+  walked = [];
+  count_is = refl;
+  leads = leads_start ram table entries first;
+  plain = All-nil (λ (d : Descriptor). d.is_indirect ≡ false);
+  held = rw append-nil h;
+}
 
 -- One more, that has a next one.
-pub walked_more : (ram : List ℕ) (table entries first : ℕ) (before list : List Descriptor) (count next : ℕ) (d : Descriptor) → IsWalked ram table entries first before list count next
-    → next < entries → d ≡ descriptor_at false ram table next → d.has_next ≡ true → IsWalked ram table entries first before (list ++ d ∷ []) (count + 1) d.next
-walked_more ram table entries first before list count next d w below is more = record {
+pub walked_more : (ram : List ℕ) (table entries first : ℕ) (before : List Descriptor) (c new : Chain) (count next : ℕ) (d : Descriptor) (w : IsWalked ram table entries first before c count next)
+    → next < entries → d ≡ descriptor_at false ram table next → d.is_indirect ≡ false → d.has_next ≡ true → AreHeld (length ram) ((before ++ w.walked) ++ d ∷ []) new
+    → IsWalked ram table entries first before new (count + 1) d.next
+walked_more ram table entries first before c new count next d w below is plain more held = record {
   walked = w.walked ++ d ∷ [];
-  parts = ap (λ (ds : List Descriptor). ds ++ d ∷ []) w.parts ∙ append_assoc before w.walked (d ∷ []);
   count_is = omega (arith, length-append w.walked (d ∷ []), w.count_is);
   leads = leads_more ram table entries first next w.walked d w.leads below is more;
+  plain = All-push (λ (x : Descriptor). x.is_indirect ≡ false) w.walked d w.plain plain;
+  held = rw (append_assoc before w.walked (d ∷ [])) at held;
 }
 
 -- An index past the table.
-pub walked_past : (ram : List ℕ) (table entries first room : ℕ) (before list : List Descriptor) (count next : ℕ) → IsWalked ram table entries first before list count next → entries ≤ next
-    → IsNoList ram table entries first room
-walked_past ram table entries first room before list count next w beyond ds h few = let a = w.leads.only ds h in past ram table entries next beyond a.0 a.2
+pub walked_past : (ram : List ℕ) (table entries first room : ℕ) (before : List Descriptor) (c : Chain) (count next : ℕ) → IsWalked ram table entries first before c count next → entries ≤ next
+    → IsNoneSound ram table entries first room before
+walked_past ram table entries first room before c count next w beyond direct all h s few sound = let a = w.leads.only direct h in past ram table entries next beyond a.0 a.2
 
 -- No room for another one.
-pub walked_full : (ram : List ℕ) (table entries first room : ℕ) (before list : List Descriptor) (count next : ℕ) → IsWalked ram table entries first before list count next → room ≤ count
-    → IsNoList ram table entries first room
-walked_full ram table entries first room before list count next w full ds h few =
-    let a = w.leads.only ds h in
+pub walked_full : (ram : List ℕ) (table entries first room : ℕ) (before : List Descriptor) (c : Chain) (count next : ℕ) → IsWalked ram table entries first before c count next → room ≤ count
+    → IsNoneSound ram table entries first room before
+walked_full ram table entries first room before c count next w full direct all h s few sound =
+    let a = w.leads.only direct h in
     let one : 1 ≤ length a.0 = linked_some ram table entries next a.0 a.2 in
+    let longer : length direct ≤ length all = spelled_longer direct all s in
     omega (arith, ap length a.1, length-append w.walked a.0, w.count_is)
 
--- Behind nothing stands the list itself.
-pub listed_alone : (ram : List ℕ) (table entries first room : ℕ) (all : List Descriptor) → AreListed ram table entries first room [] all → AreLinked ram table entries first all × (length all ≤ room)
-listed_alone ram table entries first room all t = (rw t.parts t.linked, rw t.parts t.few)
+-- An indirect one that has a next one.
+pub walked_indirect : (ram : List ℕ) (table entries first room : ℕ) (before : List Descriptor) (c : Chain) (count next : ℕ) (d : Descriptor) → IsWalked ram table entries first before c count next
+    → d ≡ descriptor_at false ram table next → d.is_indirect ≡ true → d.has_next ≡ true → IsNoneSound ram table entries first room before
+walked_indirect ram table entries first room before c count next d w is named more direct all h s few sound =
+    let a = w.leads.only direct h in
+    let b = first_is ram table entries next d is more a.0 a.2 in
+    let one : 1 ≤ length b.0 = linked_some ram table entries d.next b.0 b.2 in
+    let parts : direct ≡ w.walked ++ d ∷ b.0 = a.1 ∙ ap (λ (ys : List Descriptor). w.walked ++ ys) b.1 in
+    let plain : d.is_indirect ≡ false = spelled_next direct all w.walked d b.0 s parts one in
+    absurd (cc)
 
-front_is : (direct front : List Descriptor) (last : Descriptor) → direct ≡ front ++ last ∷ [] → take (length direct - 1) direct ≡ front
-front_is direct front last parts = rw parts (take_at front (last ∷ []) (length (front ++ last ∷ []) - 1) (omega (arith, length-append front (last ∷ []))))
+-- One that breaks a rule.
+pub walked_broken : (ram : List ℕ) (table entries first room : ℕ) (before : List Descriptor) (c : Chain) (count next : ℕ) (d : Descriptor) (w : IsWalked ram table entries first before c count next)
+    → d ≡ descriptor_at false ram table next → d.is_indirect ≡ false → ((rest : List Descriptor) → AreSound (length ram) ((before ++ w.walked) ++ d ∷ rest) → ⊥)
+    → IsNoneSound ram table entries first room before
+walked_broken ram table entries first room before c count next d w is plain broken direct all h s few sound =
+    let a = w.leads.only direct h in
+    let b = linked_first ram table entries next d is a.0 a.2 in
+    let parts : direct ≡ w.walked ++ d ∷ b.0 = a.1 ∙ ap (λ (ys : List Descriptor). w.walked ++ ys) b.1 in
+    let more = spelled_at direct all w.walked d b.0 s parts plain in
+    let whole : before ++ all ≡ (before ++ w.walked) ++ d ∷ more.0 = ap (λ (ys : List Descriptor). before ++ ys) more.1 ∙ sym (append_assoc before w.walked (d ∷ more.0)) in
+    broken more.0 (rw whole at sound)
 
--- Where the list of the table names a table, there is no replacement.
-none_plain : (ram : List ℕ) (has_indirect : Bool) (direct : List Descriptor) (most : ℕ) (front : List Descriptor) (last : Descriptor) (inner : List Descriptor)
-    → direct ≡ front ++ last ∷ [] → last.is_indirect ≡ true → AreLinked ram last.addr (last.len / 16) 0 inner → (ArePlain inner → ⊥) → IsNoReplacement ram has_indirect direct most
-none_plain ram has_indirect direct most front last inner parts named linked bad all r few =
-    let same : r.last ≡ last = (same_from_push r.front front r.last last (sym r.parts ∙ parts)).1 in
-    let t = rw (same, named) at r.whole in
-    let one : t.1.inner ≡ inner = linked_same ram last.addr (last.len / 16) 0 t.1.inner inner t.1.linked linked in
-    bad (rw one at t.1.plain)
+-- One for which memory was refused.
+pub walked_long : (ram : List ℕ) (table entries first room : ℕ) (before : List Descriptor) (c : Chain) (count next : ℕ) (d : Descriptor) (w : IsWalked ram table entries first before c count next)
+    → next < entries → d ≡ descriptor_at false ram table next → count < room → SHORT_CHAIN_MAX ≤ length (before ++ w.walked) → IsLongBehind ram table entries first room before
+walked_long ram table entries first room before c count next d w below is some long =
+    let size = length-append w.walked (d ∷ []) in
+    let both = length-append before w.walked in
+    record {
+      row = w.walked ++ d ∷ [];
+      in_row = w.leads.rows (d ∷ []) (below, is);
+      few = omega (arith, size, w.count_is);
+      long = omega (arith, size, both);
+    }
 
-pub listed_not_plain : (ram : List ℕ) (has_indirect : Bool) (direct : List Descriptor) (most room : ℕ) (front : List Descriptor) (last : Descriptor) (before all : List Descriptor)
-    → direct ≡ front ++ last ∷ [] → before ≡ take (length direct - 1) direct → last.is_indirect ≡ true → ArePlain front
-    → AreListed ram last.addr (last.len / 16) 0 room before all → (ArePlain all → ⊥) → IsNoReplacement ram has_indirect direct most
-listed_not_plain ram has_indirect direct most room front last before all parts before_is named plain t bad =
-    let first : before ≡ front = before_is ∙ front_is direct front last parts in
-    none_plain ram has_indirect direct most front last t.list parts named t.linked
-    (λ inner. bad (rw (t.parts, first) (All-append (λ (d : Descriptor). d.is_indirect ≡ false) front t.list plain inner)))
+-- The last one.
+pub walked_last : (ram : List ℕ) (table entries first room : ℕ) (before : List Descriptor) (c new : Chain) (count next : ℕ) (d : Descriptor) (w : IsWalked ram table entries first before c count next)
+    → next < entries → d ≡ descriptor_at false ram table next → count < room → d.is_indirect ≡ false → d.has_next ≡ false → AreHeld (length ram) ((before ++ w.walked) ++ d ∷ []) new
+    → AreGathered ram table entries first room before new
+walked_last ram table entries first room before c new count next d w below is some plain last held = record {
+  front = w.walked;
+  last = d;
+  linked = w.leads.completes (d ∷ []) (below, is, last);
+  few = omega (arith, w.count_is);
+  plain = w.plain;
+  last_plain = plain;
+  held = rw (append_assoc before w.walked (d ∷ [])) at held;
+}
 
--- The list of the table stands in the place of the descriptor that names it.
-pub listed_is_replaced : (ram : List ℕ) (has_indirect : Bool) (direct : List Descriptor) (most : ℕ) (front : List Descriptor) (last : Descriptor) (before all : List Descriptor)
-    → direct ≡ front ++ last ∷ [] → before ≡ take (length direct - 1) direct → last.is_indirect ≡ true → ArePlain front → has_indirect ≡ true → IsTable ram last → length direct ≤ most
-    → AreListed ram last.addr (last.len / 16) 0 (most - length front) before all → ArePlain all → IsReplaced ram has_indirect direct all × (length all ≤ most)
-listed_is_replaced ram has_indirect direct most front last before all parts before_is named plain feature table few t all_plain =
-    let whole : all ≡ front ++ t.list = t.parts ∙ ap (λ (ds : List Descriptor). ds ++ t.list) (before_is ∙ front_is direct front last parts) in
-    let inner : ArePlain t.list =
-    rw drop-append_seam at (All-drop (λ (d : Descriptor). d.is_indirect ≡ false) (length front) (front ++ t.list) (rw whole at all_plain)) in (
-      record {
-        front = front;
-        last = last;
-        parts = parts;
-        plain = plain;
-        whole = where_true last.is_indirect ((has_indirect ≡ true) × IsFromTable ram front last all) (all ≡ direct) named
-            (feature, record { table = table; inner = t.list; linked = t.linked; plain = inner; parts = whole });
-      },
-      omega (arith, ap length whole, length-append front t.list, t.few, ap length parts, length-append front (last ∷ [])),
-    )
+-- The last one, where it names a table.
+pub walked_table : (ram : List ℕ) (table entries first room : ℕ) (before : List Descriptor) (c : Chain) (count next : ℕ) (d : Descriptor) → IsWalked ram table entries first before c count next
+    → next < entries → d ≡ descriptor_at false ram table next → count < room → d.is_indirect ≡ true → d.has_next ≡ false → AreBeforeTable ram table entries first room before d c
+walked_table ram table entries first room before c count next d w below is some named last = record {
+  front = w.walked;
+  linked = w.leads.completes (d ∷ []) (below, is, last);
+  few = omega (arith, w.count_is);
+  plain = w.plain;
+  named = named;
+  held = w.held;
+}

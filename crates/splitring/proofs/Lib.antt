@@ -1,3 +1,4 @@
+pub mod Held
+pub mod Spelled
 pub mod Leading
 pub mod Found
-pub mod Long

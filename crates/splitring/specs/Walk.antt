@@ -1,25 +1,55 @@
-use Rattle.std.specs.Prelude.{◌≡◌, ℕ, ◌+◌, ◌-◌, ◌/◌, ◌<◌, ◌≤◌, [], ◌∷◌, List, length, ◌++◌, Bool, true}
+use Rattle.std.specs.Prelude.{◌≡◌, ℕ, ◌+◌, ◌-◌, ◌/◌, ◌<◌, ◌≤◌, [], ◌∷◌, List, length, ◌++◌, Bool, true, false}
 use Rattle.chains.specs.declared.descriptor.Descriptor.{Descriptor}
 use Rattle.chains.specs.declared.descriptor.TheConstants.{DESCRIPTOR_SIZE}
 use Rattle.chains.specs.declared.limits.TheConstants.{SHORT_CHAIN_MAX}
 use Rattle.chains.specs.State.{RingState}
-use Rattle.chains.specs.Whole.{IsTable, ArePlain}
+use Rattle.chains.specs.Whole.{IsTable, ArePlain, IsWhole, readable_of, writable_of}
 use Rattle.chains.specs.declared.chain.Chain.{Chain}
-use Rattle.chains.specs.SplitChain.{AreLinked, IsReplaced, IsSplitChain, head}
+use Rattle.chains.specs.SplitChain.{AreLinked, IsFromTable, IsReplaced, IsSplitChain, head}
 use Rattle.chains.specs.LongQueue.{AreInRow, IsLongSplit}
 use Rattle.chains.specs.declared.walked.Walked.{Walked}
 use Rattle.chains.specs.declared.walked.Walked.TheVariants.{Listed, Missing, NoMemory}
+use Rattle.splitring.specs.declared.stop.Stop.{Stop}
+use Rattle.splitring.specs.declared.stop.Stop.TheVariants as stop
+use Rattle.splitring.specs.Held.{AreSound, AreHeld}
 
--- No list of at most `room` descriptors begins at this entry.
-abbrev pub IsNoList : List ℕ → ℕ → ℕ → ℕ → ℕ → Type 0
-IsNoList ram table entries index room = (ds : List Descriptor) → AreLinked ram table entries index ds → length ds ≤ room → ⊥
+-- `all` may be `direct` with its last descriptor replaced by others, if that one is indirect. None but the last is.
+pub record IsSpelled (direct all : List Descriptor) : Type 0 where
+  pub front : List Descriptor
+  pub last : Descriptor
+  pub tail : List Descriptor
+  pub parts : direct ≡ front ++ last ∷ []
+  pub plain : ArePlain front
+  pub is : all ≡ front ++ tail
+  pub some : 1 ≤ length tail
+  pub same : last.is_indirect ≡ false → tail ≡ last ∷ []
 
--- `all` is `before`, followed by the list that begins at entry `index`, which has at most `room` descriptors.
-pub record AreListed (ram : List ℕ) (table entries index room : ℕ) (before all : List Descriptor) : Type 0 where
-  pub list : List Descriptor
-  pub linked : AreLinked ram table entries index list
-  pub few : length list ≤ room
-  pub parts : all ≡ before ++ list
+-- Whatever list begins at this entry: what it is replaced by has more than `room` descriptors, or breaks a rule behind
+-- `before`.
+abbrev pub IsNoneSound : List ℕ → ℕ → ℕ → ℕ → ℕ → List Descriptor → Type 0
+IsNoneSound ram table entries index room before =
+    (direct all : List Descriptor) → AreLinked ram table entries index direct → IsSpelled direct all → length all ≤ room → AreSound (length ram) (before ++ all) → ⊥
+
+-- The list that begins at this entry has at most `room` descriptors, none of them indirect, and the chain has the segments of
+-- `before` and of them.
+pub record AreGathered (ram : List ℕ) (table entries index room : ℕ) (before : List Descriptor) (c : Chain) : Type 0 where
+  pub front : List Descriptor
+  pub last : Descriptor
+  pub linked : AreLinked ram table entries index (front ++ last ∷ [])
+  pub few : length front < room
+  pub plain : ArePlain front
+  pub last_plain : last.is_indirect ≡ false
+  pub held : AreHeld (length ram) (before ++ (front ++ last ∷ [])) c
+
+-- The list that begins at this entry has at most `room` descriptors. The last one, `last`, is the only one that is indirect,
+-- and the chain has the segments of `before` and of the others.
+pub record AreBeforeTable (ram : List ℕ) (table entries index room : ℕ) (before : List Descriptor) (last : Descriptor) (c : Chain) : Type 0 where
+  pub front : List Descriptor
+  pub linked : AreLinked ram table entries index (front ++ last ∷ [])
+  pub few : length front < room
+  pub plain : ArePlain front
+  pub named : last.is_indirect ≡ true
+  pub held : AreHeld (length ram) (before ++ front) c
 
 -- After `before` there is a row of at most `room` descriptors from entry `index` on, and together they are more than are
 -- handled without allocating memory.
@@ -29,55 +59,60 @@ pub record IsLongBehind (ram : List ℕ) (table entries index room : ℕ) (befor
   pub few : length row ≤ room
   pub long : SHORT_CHAIN_MAX < length before + length row
 
--- What a walk gives, by its list before and after: the list that begins at an entry follows what was there; or there is
--- no such list; or memory was refused for a long row.
-abbrev pub WalkGives : List ℕ → ℕ → ℕ → ℕ → ℕ → List Descriptor → List Descriptor → Walked → Type 0
-WalkGives ram table entries index room before all Listed = AreListed ram table entries index room before all
-WalkGives ram table entries index room before all Missing = IsNoList ram table entries index room
-WalkGives ram table entries index room before all NoMemory = IsLongBehind ram table entries index room before
+-- What a walk gives behind `before`, by the chain that it has added to.
+abbrev pub WalkGives : List ℕ → ℕ → ℕ → ℕ → ℕ → List Descriptor → Chain → Stop → Type 0
+WalkGives ram table entries index room before c stop.Ended = AreGathered ram table entries index room before c
+WalkGives ram table entries index room before c (stop.Table last) = AreBeforeTable ram table entries index room before last c
+WalkGives ram table entries index room before c stop.Missing = IsNoneSound ram table entries index room before
+WalkGives ram table entries index room before c stop.NoMemory = IsLongBehind ram table entries index room before
 
--- `P`, if descriptors were listed.
-abbrev pub WhereListed : Walked → Type 0 → Type 0
-WhereListed Listed P = P
-WhereListed Missing P = Unit {0}
-WhereListed NoMemory P = Unit {0}
+-- `P`, if a walk stopped at a descriptor that names a table.
+abbrev pub WhereTable : Stop → Type 0 → Type 0
+WhereTable stop.Ended P = Unit {0}
+WhereTable (stop.Table last) P = P
+WhereTable stop.Missing P = Unit {0}
+WhereTable stop.NoMemory P = Unit {0}
 
--- `direct`, with its last descriptor replaced by the table if it is indirect, is no list of at most `most` descriptors.
-abbrev pub IsNoReplacement : List ℕ → Bool → List Descriptor → ℕ → Type 0
-IsNoReplacement ram has_indirect direct most = (all : List Descriptor) → IsReplaced ram has_indirect direct all → length all ≤ most → ⊥
+-- These descriptors keep the rules of both layouts, and the segments of the chain are theirs.
+pub record IsMadeOf (ram : List ℕ) (size : ℕ) (all : List Descriptor) (c : Chain) : Type 0 where
+  pub whole : IsWhole ram size all
+  pub readable : c.readable ≡ readable_of all
+  pub writable : c.writable ≡ writable_of all
 
--- Only the last of these descriptors is indirect. The others, followed by a row from entry 0 of its table, are at most
--- `most` descriptors, and more than are handled without allocating memory.
-pub record IsLongReplacement (ram : List ℕ) (has_indirect : Bool) (direct : List Descriptor) (most : ℕ) : Type 0 where
-  pub front : List Descriptor
-  pub last : Descriptor
-  pub parts : direct ≡ front ++ last ∷ []
-  pub plain : ArePlain front
+-- The chain is made of `front`, followed by the list of the table that `last` names.
+pub record IsFollowed (ram : List ℕ) (has_indirect : Bool) (size : ℕ) (front : List Descriptor) (last : Descriptor) (c : Chain) : Type 0 where
+  pub all : List Descriptor
   pub feature : has_indirect ≡ true
-  pub named : last.is_indirect ≡ true
-  pub table : IsTable ram last
-  pub behind : IsLongBehind ram last.addr (last.len / DESCRIPTOR_SIZE) 0 (most - length front) front
+  pub from_table : IsFromTable ram front last all
+  pub made : IsMadeOf ram size all c
 
--- `all` is the list that begins at the head of a queue, with an indirect descriptor replaced by its table, and has no more
--- descriptors than there are slots.
-pub record AreFound (ram : List ℕ) (q : RingState) (all : List Descriptor) : Type 0 where
+-- `front`, followed by a row from entry 0 of the table that `last` names, is at most `size` descriptors, and more than are
+-- handled without allocating memory.
+pub record IsLongTable (ram : List ℕ) (has_indirect : Bool) (size : ℕ) (front : List Descriptor) (last : Descriptor) : Type 0 where
+  pub feature : has_indirect ≡ true
+  pub table : IsTable ram last
+  pub behind : IsLongBehind ram last.addr (last.len / DESCRIPTOR_SIZE) 0 (size - length front) front
+
+-- What it gives to go on in the table that `last` names, behind `front`.
+abbrev pub FollowGives : List ℕ → Bool → ℕ → List Descriptor → Descriptor → Chain → Walked → Type 0
+FollowGives ram has_indirect size front last c Listed = IsFollowed ram has_indirect size front last c
+FollowGives ram has_indirect size front last c Missing = (all : List Descriptor) → has_indirect ≡ true → IsFromTable ram front last all → IsWhole ram size all → ⊥
+FollowGives ram has_indirect size front last c NoMemory = IsLongTable ram has_indirect size front last
+
+-- The chain is made of the list that begins at the head of a queue, with an indirect descriptor replaced by its table.
+pub record IsFound (ram : List ℕ) (q : RingState) (c : Chain) : Type 0 where
   pub direct : List Descriptor
+  pub all : List Descriptor
   pub linked : AreLinked ram q.descriptors q.size (head ram q) direct
   pub replaced : IsReplaced ram q.has_indirect direct all
-  pub few : length all ≤ q.size
+  pub made : IsMadeOf ram q.size all c
 
--- What a replacement gives, by its list before and after: the list with the table in it; or there is none; or memory was
--- refused for a long one.
-abbrev pub ReplaceGives : List ℕ → Bool → ℕ → List Descriptor → List Descriptor → Walked → Type 0
-ReplaceGives ram has_indirect most direct all Listed = IsReplaced ram has_indirect direct all × (length all ≤ most)
-ReplaceGives ram has_indirect most direct all Missing = IsNoReplacement ram has_indirect direct most
-ReplaceGives ram has_indirect most direct all NoMemory = IsLongReplacement ram has_indirect direct most
-
--- What a search for the descriptors at the head of a queue gives, by the list that it has filled in.
-abbrev pub FindGives : List ℕ → RingState → List Descriptor → Walked → Type 0
-FindGives ram q all Listed = AreFound ram q all
-FindGives ram q all Missing = (ds : List Descriptor) → AreFound ram q ds → ⊥
-FindGives ram q all NoMemory = IsLongSplit ram q
+-- What a search for the descriptors at the head of a queue gives, by the chain whose segments it has filled in.
+abbrev pub FindGives : List ℕ → RingState → Chain → Walked → Type 0
+FindGives ram q c Listed = IsFound ram q c
+FindGives ram q c Missing =
+    (direct all : List Descriptor) → AreLinked ram q.descriptors q.size (head ram q) direct → IsReplaced ram q.has_indirect direct all → IsWhole ram q.size all → ⊥
+FindGives ram q c NoMemory = IsLongSplit ram q
 
 -- What a search for the chain of a queue that is not empty gives, by the chain that it has filled in.
 abbrev pub ChainGives : List ℕ → RingState → Chain → Walked → Type 0

@@ -15,7 +15,9 @@
 //! `specs/Walk` has the definitions for the functions inside. Nothing is trusted here beside the crates below.
 #![tactic(auto)]
 
+mod adding;
 mod ring;
+mod stop;
 mod table;
 mod walk;
 

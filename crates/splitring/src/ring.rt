@@ -11,10 +11,7 @@ ghost use Rattle.byteorder.specs.Endian.{little_bytes};
 
 use crate::table::find;
 use byteorder::{ByteOrder, LittleEndian};
-use chains::{
-    Chain, Decoder, Descriptors, Next, NextKind, Position, Positions, Ring, RingCore, Walked,
-    fill_segments, is_whole,
-};
+use chains::{Chain, Decoder, Next, NextKind, Position, Positions, Ring, RingCore, Walked};
 use guestmem::{NoMemory, Ram, TouchLog};
 use mmio::Queue;
 use std::alloc::Global;
@@ -115,21 +112,13 @@ impl SplitRing {
         }
         let slot = core.taking.place % core.size;
         let head = ram.u16_at(core.driver + RING + HEAD_SIZE * slot as u64);
-        let mut all = Descriptors::new(core.alloc);
-        match find(core, &mut self.decoder, ram, head, &mut all) {
+        match find(core, &mut self.decoder, ram, head, chain) {
             Walked::Listed => {}
             Walked::Missing => return Walked::Missing,
             Walked::NoMemory => return Walked::NoMemory,
         }
-        // A rule of both layouts.
-        if !is_whole(all.as_slice(), ram, core.size) {
-            return Walked::Missing;
-        }
         chain.id = head;
         chain.slots = 1;
-        let Ok(()) = fill_segments(all.as_slice(), &mut chain.readable, &mut chain.writable) else {
-            return Walked::NoMemory;
-        };
         Walked::Listed
     }
 

@@ -1,15 +1,19 @@
 //! The list of descriptors that begins at an entry of a table.
 
-ghost use Rattle.std.specs.Prelude.{◌≡◌, ◌+◌, ◌*◌, ◌%◌, ◌≤◌, length, true};
+ghost use Rattle.std.specs.Prelude.{◌≡◌, ◌+◌, ◌*◌, ◌%◌, ◌<◌, ◌≤◌, List, length, true};
+ghost use Rattle.chains.specs.declared.descriptor.Descriptor.{Descriptor};
 ghost use Rattle.chains.specs.Decoder.{Fits};
-ghost use Rattle.splitring.specs.Walk.{WalkGives, WhereListed};
+ghost use Rattle.splitring.specs.Held.{AreHeld, segment_count};
+ghost use Rattle.splitring.specs.Walk.{WalkGives, WhereTable};
 
-use chains::{DESCRIPTOR_SIZE, Decoder, Descriptors, Walked};
+use crate::adding::add;
+use crate::stop::Stop;
+use chains::{Chain, DESCRIPTOR_SIZE, Decoder, Walked};
 use guestmem::Ram;
 
-/// Adds to a list the descriptors of the list that begins at entry `first` of a table. None are listed if there is no
-/// such list, or it has more than `room` descriptors. No more are decoded than `room`, nor than are added. `is_own` says that
-/// the table is the queue's own.
+/// Adds to a chain the buffers of the list that begins at entry `first` of a table, up to one that names a table. It stops at
+/// a descriptor that breaks a rule, and after `room` of them. No more are decoded than `room`, nor, where the last one names a
+/// table, than are added and that one. `is_own` says that the table is the queue's own.
 pub(crate) fn walk(
     ram: &Ram,
     decoder: &mut Decoder,
@@ -18,32 +22,44 @@ pub(crate) fn walk(
     first: u16,
     room: u16,
     is_own: bool,
-    list: &mut Descriptors,
-) -> Walked
+    chain: &mut Chain,
+) -> Stop
     requires inside { table + DESCRIPTOR_SIZE * entries ≤ length ram.now.bytes }
     requires aligned { is_own ≡ true → table % DESCRIPTOR_SIZE ≡ 0 }
     requires fits { Fits decoder.old ram.now }
-    ensures gives { WalkGives ram.now.bytes table entries first room list.old list.new result }
+    requires few { segment_count chain.old ≤ 65536 }
+    ensures gives { (before : List Descriptor) → AreHeld (length ram.now.bytes) before chain.old → WalkGives ram.now.bytes table entries first room before chain.new result }
     ensures fits { Fits decoder.new ram.now }
     ensures few { decoder.new.decoded ≤ decoder.old.decoded + room }
-    ensures each { WhereListed result (decoder.new.decoded + length list.old ≤ decoder.old.decoded + length list.new) }
+    ensures each { WhereTable result (decoder.new.decoded + segment_count chain.old ≤ decoder.old.decoded + segment_count chain.new + 1) }
+    ensures left { WhereTable result (segment_count chain.new < segment_count chain.old + room) }
     ensures rises { decoder.old.decoded ≤ decoder.new.decoded }
 {
+    let len = ram.len();
     let mut index = first;
     for _step in 0..room {
         // An index past the table.
         if index as u32 >= entries {
-            return Walked::Missing;
+            return Stop::Missing;
         }
         let descriptor = decoder.read(ram, false, table, index, is_own);
-        let Ok(()) = list.push(descriptor) else {
-            return Walked::NoMemory;
-        };
+        if descriptor.is_indirect {
+            // INDIRECT and NEXT.
+            if descriptor.has_next {
+                return Stop::Missing;
+            }
+            return Stop::Table(descriptor);
+        }
+        match add(&descriptor, len, chain) {
+            Walked::Listed => {}
+            Walked::Missing => return Stop::Missing,
+            Walked::NoMemory => return Stop::NoMemory,
+        }
         if !descriptor.has_next {
-            return Walked::Listed;
+            return Stop::Ended;
         }
         index = descriptor.next;
     }
     // More descriptors than there is room for, or no end.
-    Walked::Missing
+    Stop::Missing
 }

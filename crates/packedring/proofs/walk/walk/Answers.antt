@@ -1,26 +1,60 @@
-use Rattle.std.proofs.Common.{◌≡◌, false, rules, arith, length-append}
-use Rattle.std.proofs.lemmas.List.Elements.{All-push}
-use Rattle.chains.specs.declared.descriptor.Descriptor.{Descriptor}
-use Rattle.packedring.proofs.Leading.{leads_more}
-use Rattle.packedring.proofs.Finding.{none_named}
+use Rattle.std.proofs.Common.{◌≡◌, true, refl, rules, arith}
+use Rattle.chains.specs.RingCore.{core_state}
+use Rattle.packedring.proofs.Finding.{walked_none, walked_more, walked_named, walked_broken, walked_full, walked_long, walked_last}
 use Rattle.packedring.proofs.walk.walk.Goals as goal
+
+pub loop-step-init : goal.loop-step-init
+loop-step-init c = record {
+  walked = walked_none _ (core_state true c.args.core.now) c.args.chain.now c.requires.none_readable c.requires.none_writable;
+  count = rw (c.requires.none_readable, c.requires.none_writable) refl;
+  inside = c.requires.slot;
+  here = c.requires.first;
+  last_plain = c.requires.plain;
+  fits = c.requires.fits;
+  few = omega arith;
+  rises = omega arith;
+}
+
+pub returns-in-Missing-clause-gives : goal.returns-in-Missing-clause-gives
+returns-in-Missing-clause-gives c =
+    let i = c.loop-step.invariant in
+    walked_broken _ (core_state true c.args.core.now) c.loop-step.chain _ _ c.args.first c.loop-step.descriptor c.requires.first c.requires.plain i.walked i.here
+    (rw c.len-len.ensures at (c.in-Missing.ensures.gives i.walked.walked (rw c.len-len.ensures i.walked.held)))
+
+pub returns-in-NoMemory-clause-gives : goal.returns-in-NoMemory-clause-gives
+returns-in-NoMemory-clause-gives c =
+    let i = c.loop-step.invariant in
+    walked_long _ (core_state true c.args.core.now) c.loop-step.chain _ _ c.loop-step.descriptor i.walked i.here c.loop-step-test.true
+    (c.in-NoMemory.ensures.gives i.walked.walked (rw c.len-len.ensures i.walked.held))
+
+pub returns-then-not-descriptor-clause-gives : goal.returns-then-not-descriptor-clause-gives
+returns-then-not-descriptor-clause-gives c =
+    let i = c.loop-step.invariant in
+    walked_last _ (core_state true c.args.core.now) c.loop-step.chain c.add.new.chain _ _ c.loop-step.descriptor c.ended.result i.walked i.here c.loop-step-test.true i.last_plain (search rules)
+    (rw c.len-len.ensures at (c.in-Listed.ensures.gives i.walked.walked (rw c.len-len.ensures i.walked.held))) c.ended.ensures
 
 pub returns-then-descriptor-clause-gives : goal.returns-then-descriptor-clause-gives
 returns-then-descriptor-clause-gives c =
-    none_named _ _ _ _ c.args.first _ c.requires.first c.requires.plain
-    (leads_more _ _ _ _ c.loop-step.place _ c.loop-step.descriptor c.loop-step.invariant.leads c.loop-step.invariant.here (search rules))
-    c.read-descriptor.ensures.descriptor c.if-descriptor.true
+    let i = c.loop-step.invariant in
+    let more = walked_more _ (core_state true c.args.core.now) c.loop-step.chain c.add.new.chain _ _ c.loop-step.descriptor i.walked i.here i.last_plain (search rules)
+    (rw c.len-len.ensures at (c.in-Listed.ensures.gives i.walked.walked (rw c.len-len.ensures i.walked.held))) in
+    walked_named _ (core_state true c.args.core.now) c.add.new.chain _ _ c.args.first _ c.requires.first c.requires.plain more c.read-descriptor.ensures.descriptor c.if-descriptor.true
 
 pub loop-step-preserved : goal.loop-step-preserved
 loop-step-preserved c =
-    rw c.in-Ok.ensures.ok (record {
-      count = rw length-append (omega (arith, c.loop-step.invariant.count));
+    let i = c.loop-step.invariant in
+    record {
+      walked = walked_more _ (core_state true c.args.core.now) c.loop-step.chain c.add.new.chain _ _ c.loop-step.descriptor i.walked i.here i.last_plain (search rules)
+          (rw c.len-len.ensures at (c.in-Listed.ensures.gives i.walked.walked (rw c.len-len.ensures i.walked.held)));
+      count = omega (arith, i.count, c.in-Listed.ensures.count);
       inside = omega arith;
-      leads = leads_more _ _ _ _ c.loop-step.place _ c.loop-step.descriptor c.loop-step.invariant.leads c.loop-step.invariant.here (search rules);
-      plain = All-push (λ (d : Descriptor). d.is_indirect ≡ false) _ _ c.loop-step.invariant.plain c.loop-step.invariant.last_plain;
       here = c.read-descriptor.ensures.descriptor;
       last_plain = c.if-descriptor.false;
       fits = c.read-descriptor.ensures.fits;
-      few = omega (arith, c.loop-step.invariant.few, c.read-descriptor.ensures.few);
-      rises = omega (arith, c.loop-step.invariant.rises, c.read-descriptor.ensures.rises);
-    })
+      few = omega (arith, i.few, c.read-descriptor.ensures.few);
+      rises = omega (arith, i.rises, c.read-descriptor.ensures.rises);
+    }
+
+pub returns-clause-gives : goal.returns-clause-gives
+returns-clause-gives c =
+    walked_full _ (core_state true c.args.core.now) c.loop-step.chain _ _ c.args.first c.requires.first c.requires.plain c.loop-step.invariant.walked c.loop-step-test.false

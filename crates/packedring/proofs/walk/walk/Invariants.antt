@@ -1,16 +1,16 @@
-use Rattle.std.proofs.Common.{◌≡◌, ◌+◌, ◌<◌, ◌≤◌, length, true, false}
+use Rattle.std.proofs.Common.{◌≡◌, ◌+◌, ◌<◌, ◌≤◌, true, false}
 use Rattle.chains.specs.Descriptor.{descriptor_at}
 use Rattle.chains.specs.Decoder.{Fits}
-use Rattle.chains.specs.Whole.{ArePlain}
-use Rattle.packedring.proofs.Leading.{Leads}
+use Rattle.chains.specs.RingCore.{core_state}
+use Rattle.packedring.specs.Held.{segment_count}
+use Rattle.packedring.proofs.Finding.{IsWalked}
 use Rattle.packedring.proofs.walk.walk.Given as goal
 
 abbrev pub invariant-loop-step : goal.invariant-loop-step
 invariant-loop-step l = record {
-  count : length l.found.all ≡ l.step;
+  walked : IsWalked l.ram.bytes (core_state true l.core) l.chain l.step l.place;
+  count : segment_count l.chain ≡ l.step;
   inside : l.place < l.core.size;
-  leads : Leads l.ram.bytes l.core.descriptors l.core.size l.core.taking.place l.found.all l.place;
-  plain : ArePlain l.found.all;
   here : l.descriptor ≡ descriptor_at true l.ram.bytes l.core.descriptors l.place;
   last_plain : l.descriptor.is_indirect ≡ false;
   fits : Fits l.decoder l.ram;
