@@ -1,4 +1,4 @@
-use Rattle.std.proofs.Common.{◌≡◌, true, refl, rules, arith}
+use Rattle.std.proofs.Common.{true, refl, rules, arith}
 use Rattle.chains.specs.RingCore.{core_state}
 use Rattle.packedring.proofs.Finding.{walked_none, walked_more, walked_named, walked_broken, walked_full, walked_long, walked_last}
 use Rattle.packedring.proofs.walk.walk.Goals as goal
