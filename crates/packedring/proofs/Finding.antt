@@ -1,4 +1,4 @@
-use Rattle.std.proofs.Common.{Bool, true, false, ◌≡◌, ℕ, suc, ◌+◌, ◌/◌, ◌%◌, ◌<◌, ◌≤◌, ◌^◌, List, [], ◌∷◌, ◌++◌, length, refl, ap, sym, ◌∙◌, inl, inr, arith, length-append}
+use Rattle.std.proofs.Common.{Bool, true, false, ◌≡◌, ℕ, suc, ◌+◌, ◌/◌, ◌%◌, ◌<◌, ◌≤◌, List, [], ◌∷◌, ◌++◌, length, refl, ap, sym, ◌∙◌, inl, inr, arith, length-append}
 use Rattle.std.proofs.lemmas.List.Elements.{All-push, All-nil}
 use Rattle.std.specs.Bool.{MatchBool}
 use Rattle.chains.specs.declared.descriptor.Descriptor.{Descriptor}
@@ -8,7 +8,7 @@ use Rattle.chains.specs.declared.walked.Walked.{Walked}
 use Rattle.chains.specs.declared.walked.Walked.TheVariants.{Listed, Missing, NoMemory}
 use Rattle.chains.specs.State.{RingState}
 use Rattle.chains.specs.Descriptor.{descriptor_at}
-use Rattle.chains.specs.Whole.{IsTable, ArePlain, IsWhole, readable_of, writable_of}
+use Rattle.chains.specs.Whole.{IsTable, ArePlain, IsWhole}
 use Rattle.chains.specs.PackedChain.{AreConsecutive, IsPackedTable, IsPackedList, IsPackedChain, entries_from}
 use Rattle.chains.specs.PackedLaws.{packed_list_same}
 use Rattle.chains.specs.ChainLaws.{length_entries}

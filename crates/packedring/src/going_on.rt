@@ -1,6 +1,6 @@
 //! Advancing a position.
 
-ghost use Rattle.std.specs.Prelude.{◌≡◌, ◌<◌, ◌≤◌};
+ghost use Rattle.std.specs.Prelude.{◌≡◌, ◌+◌, ◌%◌, ◌<◌, ◌≤◌};
 ghost use Rattle.chains.specs.Publish.{gone_on};
 
 use chains::Position;
@@ -22,4 +22,16 @@ pub(crate) fn going_on(position: Position, slots: u16, size: u16) -> Position
         place: place - size,
         wrap: !position.wrap,
     }
+}
+
+/// The slot after a slot. The first one follows the last.
+pub(crate) fn slot_after(slot: u16, size: u16) -> u16
+    requires { slot < size }
+    ensures { result ≡ (slot + 1) % size }
+{
+    let next = slot + 1;
+    if next == size {
+        return 0;
+    }
+    next
 }

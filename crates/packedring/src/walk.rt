@@ -8,6 +8,7 @@ ghost use Rattle.chains.specs.Descriptor.{descriptor_at};
 ghost use Rattle.packedring.specs.Walk.{ChainGives};
 
 use crate::adding::{add, ended};
+use crate::going_on::slot_after;
 use chains::{Chain, Decoder, Descriptor, RingCore, Walked};
 use guestmem::Ram;
 
@@ -47,7 +48,7 @@ pub(crate) fn walk(
             chain.slots = step + 1;
             return ended(chain);
         }
-        place = (place + 1) % core.size;
+        place = slot_after(place, core.size);
         descriptor = decoder.read(ram, true, core.descriptors, place, true);
         // INDIRECT after another descriptor.
         if descriptor.is_indirect {

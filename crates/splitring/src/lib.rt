@@ -12,7 +12,8 @@
 //! there are slots, and a table gets the room that the descriptors before the one that names it left. That is the clause `few` of
 //! the trait.
 //!
-//! `specs/Walk` has the definitions for the functions inside. Nothing is trusted here beside the crates below.
+//! Each buffer goes into the caller's chain as its descriptor is read, with its tests. `specs/Held` and `specs/Walk` have the
+//! definitions for the functions inside. Nothing is trusted here beside the crates below.
 #![tactic(auto)]
 
 mod adding;

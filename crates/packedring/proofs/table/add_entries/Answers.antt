@@ -1,4 +1,4 @@
-use Rattle.std.proofs.Common.{sym, refl, zero-add, arith, length}
+use Rattle.std.proofs.Common.{sym, refl, zero-add, arith}
 use Rattle.chains.specs.PackedChain.{entries_from}
 use Rattle.chains.specs.ChainLaws.{length_entries}
 use Rattle.packedring.proofs.Held.{held_none}

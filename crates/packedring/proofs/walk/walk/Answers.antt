@@ -1,4 +1,4 @@
-use Rattle.std.proofs.Common.{◌≡◌, true, refl, rules, arith}
+use Rattle.std.proofs.Common.{true, refl, rules, arith}
 use Rattle.chains.specs.RingCore.{core_state}
 use Rattle.packedring.proofs.Finding.{walked_none, walked_more, walked_named, walked_broken, walked_full, walked_long, walked_last}
 use Rattle.packedring.proofs.walk.walk.Goals as goal
@@ -38,14 +38,15 @@ returns-then-descriptor-clause-gives c =
     let i = c.loop-step.invariant in
     let more = walked_more _ (core_state true c.args.core.now) c.loop-step.chain c.add.new.chain _ _ c.loop-step.descriptor i.walked i.here i.last_plain (search rules)
     (rw c.len-len.ensures at (c.in-Listed.ensures.gives i.walked.walked (rw c.len-len.ensures i.walked.held))) in
-    walked_named _ (core_state true c.args.core.now) c.add.new.chain _ _ c.args.first _ c.requires.first c.requires.plain more c.read-descriptor.ensures.descriptor c.if-descriptor.true
+    walked_named _ (core_state true c.args.core.now) c.add.new.chain _ _ c.args.first _ c.requires.first c.requires.plain more (rw c.slot_after-place.ensures at c.read-descriptor.ensures.descriptor) c.if-descriptor.true
 
 pub loop-step-preserved : goal.loop-step-preserved
 loop-step-preserved c =
     let i = c.loop-step.invariant in
     record {
-      walked = walked_more _ (core_state true c.args.core.now) c.loop-step.chain c.add.new.chain _ _ c.loop-step.descriptor i.walked i.here i.last_plain (search rules)
-          (rw c.len-len.ensures at (c.in-Listed.ensures.gives i.walked.walked (rw c.len-len.ensures i.walked.held)));
+      walked = rw c.slot_after-place.ensures
+          (walked_more _ (core_state true c.args.core.now) c.loop-step.chain c.add.new.chain _ _ c.loop-step.descriptor i.walked i.here i.last_plain (search rules)
+          (rw c.len-len.ensures at (c.in-Listed.ensures.gives i.walked.walked (rw c.len-len.ensures i.walked.held))));
       count = omega (arith, i.count, c.in-Listed.ensures.count);
       inside = omega arith;
       here = c.read-descriptor.ensures.descriptor;
