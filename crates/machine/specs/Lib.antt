@@ -25,3 +25,4 @@ pub mod Sound
 pub mod State
 pub mod Step
 pub mod StepLaws
+pub mod Stepped

@@ -58,6 +58,7 @@ mod reply;
 mod served;
 mod shape;
 mod state;
+mod stepped;
 mod work;
 
 pub use blk::{Disk, DiskFault, FaultDisk, FileDisk, MemDisk, SECTOR_SIZE};

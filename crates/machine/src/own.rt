@@ -1,6 +1,6 @@
 //! What a device has that only its kind has.
 
-ghost use Rattle.std.specs.Prelude.{◌≡◌, ◌≤◌, ◌<◌, ℕ, length, not, IfOk, OnErr, true};
+ghost use Rattle.std.specs.Prelude.{◌≡◌, ◌≤◌, ◌<◌, ℕ, length, not, IfOk, OnErr, true, false};
 ghost use Rattle.guestmem.specs.Rises.{Touches};
 ghost use Rattle.chains.specs.Frame.{MayServe, HasServed, MayLook, HasLooked, IsUntouched};
 ghost use Rattle.blk.specs.Advance.{advance_step, IsAfterAdvancing};
@@ -9,15 +9,15 @@ ghost use Rattle.blk.specs.Sectors.{AreWhole, IsKept};
 ghost use Rattle.blk.specs.Sound.{AreSound};
 ghost use Rattle.machine.specs.DeviceStep.{has_work, wanted_of, MayRefuse, served_frame, served_message, served_of, served_taking, requests_of, with_requests};
 ghost use Rattle.machine.specs.DeviceWork.{IsServed};
-ghost use Rattle.machine.specs.Shapes.{block_of, first_own, first_size};
+ghost use Rattle.machine.specs.Shapes.{block_of, first_own};
+ghost use Rattle.machine.specs.Stepped.{sends, served_in};
 ghost use Rattle.machine.specs.Step.{IsResized, kept_own, input_of, own_with_input, written_out};
-ghost use Rattle.machine.specs.declared.own.Own.TheVariants as owns;
 ghost use Rattle.machine.specs.declared.shape.Shape.{Shape};
-ghost use Rattle.console.specs.declared.size.ConsoleSize.{ConsoleSize};
 
 use crate::reply::{Refusal, Reply};
 use crate::served::Served;
 use crate::shape::Shape;
+use crate::stepped::{Answered, Stepped};
 use blk::{Advanced, BlockShape, Disk, REQUESTS_MAX, Requests, Sectors, Taken};
 use chains::{Ring, Transmitted};
 use console::{ConsoleSize, HostBytes, Received, emergency_byte, receive};
@@ -145,30 +145,48 @@ impl Own {
         }
     }
 
-    /// Serves the queue `number`. Its only error is out of memory, and then nothing has changed.
+    /// Whether the device takes messages from its queue of this number.
+    pub(crate) fn sends(&self, number: u8) -> bool
+        ensures { result ≡ sends self.now number }
+    {
+        match self {
+            Own::Network(_) | Own::Console { .. } => number > 0,
+            Own::Block(_) | Own::Entropy(_) => false,
+        }
+    }
+
+    /// Serves the queue `number`, from which no message is taken. Its only error is out of memory, and then nothing has
+    /// changed.
     pub(crate) fn serve<R: Ring, L: TouchLog>(
         &mut self,
         alloc: Global,
-        shape: Shape,
+        shape: &Shape,
         number: u8,
         ring: &mut R,
         ram: &mut Ram,
         log: &mut L,
-    ) -> Result<Served, NoMemory>
+    ) -> Result<Answered, NoMemory>
         requires ready { MayLook L.may ram.old (R.state ring.old) (R.decoder ring.old) log.old }
         requires room { has_work self.old number ≡ true }
-        requires sound { AreSound (length ram.old.bytes) (R.state ring.old) (block_of shape) (requests_of self.old) }
-        ensures served { IfOk result (λ served. IsServed (Touches L.after log.old log.new ram.old ram.new) ram.old.bytes (R.state ring.old) shape self.old number served ram.new.bytes (R.state ring.new) self.new) }
+        requires silent { sends self.old number ≡ false }
+        requires sound { AreSound (length ram.old.bytes) (R.state ring.old) (block_of shape.now) (requests_of self.old) }
+        ensures served { IfOk result (λ answered. IsServed (Touches L.after log.old log.new ram.old ram.new) ram.old.bytes (R.state ring.old) shape.now self.old number (served_in answered) ram.new.bytes (R.state ring.new) self.new) }
         ensures memory { OnErr result (MayRefuse (wanted_of self.old number) ram.old.bytes (R.state ring.old)) }
         ensures untouched { OnErr result (IsUntouched ram.old ram.new (R.state ring.old) (R.state ring.new) log.old log.new) }
         ensures own_stays { OnErr result (self.new ≡ self.old) }
         ensures after { HasLooked L.may ram.old ram.new (R.decoder ring.new) log.new }
     {
         match self {
-            Own::Network(inbox) => serve_frames(alloc, inbox, number, ring, ram, log),
-            Own::Console { held, .. } => serve_text(alloc, held, number, ring, ram, log),
+            Own::Network(inbox) => match net::receive(alloc, ring, inbox, ram, log) {
+                Ok(received) => Ok(served_frame(received)),
+                Err(error) => Err(error),
+            },
             Own::Block(requests) => match requests.take(alloc, ring, &block_of(shape), ram, log) {
                 Ok(taken) => Ok(served_taking(taken)),
+                Err(error) => Err(error),
+            },
+            Own::Console { held, .. } => match receive(alloc, ring, held, ram, log) {
+                Ok(received) => Ok(served(received)),
                 Err(error) => Err(error),
             },
             Own::Entropy(pool) => match receive(alloc, ring, pool, ram, log) {
@@ -178,10 +196,36 @@ impl Own {
         }
     }
 
+    /// Takes a message from the queue `number`. Its only error is out of memory, and then nothing has changed.
+    pub(crate) fn send<R: Ring, L: TouchLog>(
+        &self,
+        alloc: Global,
+        number: u8,
+        ring: &mut R,
+        ram: &mut Ram,
+        log: &mut L,
+    ) -> Result<Served, NoMemory>
+        requires ready { MayLook L.may ram.old (R.state ring.old) (R.decoder ring.old) log.old }
+        requires message { sends self.now number ≡ true }
+        ensures served { (shape : Shape) → IfOk result (λ served. IsServed (Touches L.after log.old log.new ram.old ram.new) ram.old.bytes (R.state ring.old) shape self.now number served ram.new.bytes (R.state ring.new) self.now) }
+        ensures memory { OnErr result (MayRefuse (wanted_of self.now number) ram.old.bytes (R.state ring.old)) }
+        ensures untouched { OnErr result (IsUntouched ram.old ram.new (R.state ring.old) (R.state ring.new) log.old log.new) }
+        ensures after { HasLooked L.may ram.old ram.new (R.decoder ring.new) log.new }
+    {
+        let answer = match self {
+            Own::Network(_) => net::transmit(alloc, ring, ram, log),
+            _ => console::transmit(alloc, ring, ram, log),
+        };
+        match answer {
+            Ok(transmitted) => Ok(served_message(transmitted)),
+            Err(error) => Err(error),
+        }
+    }
+
     /// Advances the k-th outstanding request, from 0, by one unit, or ends it. A device that is no block device has none.
     pub(crate) fn advance<R: Ring, D: Disk, L: TouchLog>(
         &mut self,
-        shape: Shape,
+        shape: &Shape,
         k: usize,
         ring: &mut R,
         sectors: &mut Sectors<D>,
@@ -190,14 +234,14 @@ impl Own {
         log: &mut L,
     ) -> Advanced
         requires ready { MayServe L.may (length ram.old.bytes) (R.state ring.old) log.old }
-        requires capacity { length sectors.old.content ≡ (block_of shape).sectors }
-        requires sound { AreSound (length ram.old.bytes) (R.state ring.old) (block_of shape) (requests_of self.old) }
+        requires capacity { length sectors.old.content ≡ (block_of shape.now).sectors }
+        requires sound { AreSound (length ram.old.bytes) (R.state ring.old) (block_of shape.now) (requests_of self.old) }
         requires may_sectors { MaySectors L.may log.old device (length sectors.old.content) }
-        ensures changes { IsAfterAdvancing (Touches L.after log.old log.new ram.old ram.new) sectors.old.honest device ram.old.bytes sectors.old.content (λ given. advance_step (block_of shape) ram.old.bytes (R.state ring.old) given (requests_of self.old) k (not (is_disk_failed result))) result ram.new.bytes (R.state ring.new) sectors.new.content (requests_of self.new) }
+        ensures changes { IsAfterAdvancing (Touches L.after log.old log.new ram.old ram.new) sectors.old.honest device ram.old.bytes sectors.old.content (λ given. advance_step (block_of shape.now) ram.old.bytes (R.state ring.old) given (requests_of self.old) k (not (is_disk_failed result))) result ram.new.bytes (R.state ring.new) sectors.new.content (requests_of self.new) }
         ensures own { self.new ≡ with_requests self.old (requests_of self.new) }
         ensures kept { IsKept sectors.old (is_disk_failed result) sectors.new }
         ensures whole { AreWhole sectors.new.content }
-        ensures sound { AreSound (length ram.new.bytes) (R.state ring.new) (block_of shape) (requests_of self.new) }
+        ensures sound { AreSound (length ram.new.bytes) (R.state ring.new) (block_of shape.now) (requests_of self.new) }
         ensures after { HasServed L.may ram.old ram.new log.new }
         ensures decoder { R.decoder ring.new ≡ R.decoder ring.old }
     {
@@ -213,77 +257,19 @@ impl Own {
     }
 }
 
-/// Serves a queue of a network device: queue 0 takes frames of the inbox, and queue 1 frames to be sent.
-fn serve_frames<R: Ring, L: TouchLog>(
-    alloc: Global,
-    inbox: &mut Inbox,
-    number: u8,
-    ring: &mut R,
-    ram: &mut Ram,
-    log: &mut L,
-) -> Result<Served, NoMemory>
-    requires ready { MayLook L.may ram.old (R.state ring.old) (R.decoder ring.old) log.old }
-    requires work { has_work (owns.Network inbox.old) number ≡ true }
-    ensures served { (shape : Shape) → IfOk result (λ served. IsServed (Touches L.after log.old log.new ram.old ram.new) ram.old.bytes (R.state ring.old) shape (owns.Network inbox.old) number served ram.new.bytes (R.state ring.new) (owns.Network inbox.new)) }
-    ensures memory { OnErr result (MayRefuse (wanted_of (owns.Network inbox.old) number) ram.old.bytes (R.state ring.old)) }
-    ensures untouched { OnErr result (IsUntouched ram.old ram.new (R.state ring.old) (R.state ring.new) log.old log.new) }
-    ensures inbox_stays { OnErr result (inbox.new ≡ inbox.old) }
-    ensures after { HasLooked L.may ram.old ram.new (R.decoder ring.new) log.new }
-{
-    if number == 0 {
-        return match net::receive(alloc, ring, inbox, ram, log) {
-            Ok(received) => Ok(served_frame(received)),
-            Err(error) => Err(error),
-        };
-    }
-    match net::transmit(alloc, ring, ram, log) {
-        Ok(transmitted) => Ok(served_message(transmitted)),
-        Err(error) => Err(error),
-    }
-}
-
-/// Serves a queue of a console: queue 0 takes the bytes held, and queue 1 text to be sent.
-fn serve_text<R: Ring, L: TouchLog>(
-    alloc: Global,
-    held: &mut HostBytes,
-    number: u8,
-    ring: &mut R,
-    ram: &mut Ram,
-    log: &mut L,
-) -> Result<Served, NoMemory>
-    requires ready { MayLook L.may ram.old (R.state ring.old) (R.decoder ring.old) log.old }
-    requires work { has_work (owns.Console first_size held.old) number ≡ true }
-    ensures served { (shape : Shape) (size : ConsoleSize) → IfOk result (λ served. IsServed (Touches L.after log.old log.new ram.old ram.new) ram.old.bytes (R.state ring.old) shape (owns.Console size held.old) number served ram.new.bytes (R.state ring.new) (owns.Console size held.new)) }
-    ensures memory { OnErr result (MayRefuse (wanted_of (owns.Console first_size held.old) number) ram.old.bytes (R.state ring.old)) }
-    ensures untouched { OnErr result (IsUntouched ram.old ram.new (R.state ring.old) (R.state ring.new) log.old log.new) }
-    ensures held_stays { OnErr result (held.new ≡ held.old) }
-    ensures after { HasLooked L.may ram.old ram.new (R.decoder ring.new) log.new }
-{
-    if number == 0 {
-        return match receive(alloc, ring, held, ram, log) {
-            Ok(received) => Ok(served(received)),
-            Err(error) => Err(error),
-        };
-    }
-    match console::transmit(alloc, ring, ram, log) {
-        Ok(transmitted) => Ok(served_message(transmitted)),
-        Err(error) => Err(error),
-    }
-}
-
 /// How a queue of frames for the guest was served.
-fn served_frame(received: net::Received) -> Served
-    ensures { result ≡ served_frame received }
+fn served_frame(received: net::Received) -> Answered
+    ensures { served_in result ≡ served_frame received }
 {
     match received {
-        net::Received::Empty => Served::Empty,
-        net::Received::Malformed => Served::Malformed,
-        net::Received::Dropped => Served::Published {
-            reply: Reply::Dropped,
+        net::Received::Empty => Answered::Empty,
+        net::Received::Malformed => Answered::Malformed,
+        net::Received::Dropped => Answered::Published {
+            stepped: Stepped::Dropped,
             is_due: false,
         },
-        net::Received::Completed { len, is_due } => Served::Published {
-            reply: Reply::Completed(len),
+        net::Received::Completed { len, is_due } => Answered::Published {
+            stepped: Stepped::Completed(len),
             is_due,
         },
     }
@@ -304,24 +290,24 @@ fn served_message(transmitted: Transmitted) -> Served
 }
 
 /// How a queue of requests was served.
-fn served_taking(taken: Taken) -> Served
-    ensures { result ≡ served_taking taken }
+fn served_taking(taken: Taken) -> Answered
+    ensures { served_in result ≡ served_taking taken }
 {
     match taken {
-        Taken::Empty => Served::Empty,
-        Taken::Malformed => Served::Malformed,
-        Taken::Taken => Served::Published {
-            reply: Reply::Taken,
+        Taken::Empty => Answered::Empty,
+        Taken::Malformed => Answered::Malformed,
+        Taken::Taken => Answered::Published {
+            stepped: Stepped::Taken,
             is_due: false,
         },
     }
 }
 
 /// What a block device of this shape is. Another device has no sectors.
-fn block_of(shape: Shape) -> BlockShape
-    ensures { result ≡ block_of shape }
+fn block_of(shape: &Shape) -> BlockShape
+    ensures { result ≡ block_of shape.now }
 {
-    match shape {
+    match *shape {
         Shape::Block {
             sectors,
             read_only,
@@ -340,14 +326,14 @@ fn block_of(shape: Shape) -> BlockShape
 }
 
 /// How a queue of buffers for bytes was served.
-fn served(received: Received) -> Served
-    ensures { result ≡ served_of received }
+fn served(received: Received) -> Answered
+    ensures { served_in result ≡ served_of received }
 {
     match received {
-        Received::Empty => Served::Empty,
-        Received::Malformed => Served::Malformed,
-        Received::Completed { len, is_due } => Served::Published {
-            reply: Reply::Completed(len),
+        Received::Empty => Answered::Empty,
+        Received::Malformed => Answered::Malformed,
+        Received::Completed { len, is_due } => Answered::Published {
+            stepped: Stepped::Completed(len),
             is_due,
         },
     }

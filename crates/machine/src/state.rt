@@ -4,18 +4,19 @@ mod first_pick;
 
 ghost use Rattle.std.specs.Prelude.{◌≡◌, ◌≤◌, ◌<◌, ℕ, IfOk, length, take, if◌then◌else◌};
 ghost use Rattle.guestmem.specs.Rises.{Touches};
-ghost use Rattle.mmio.specs.State.{queue_at, with_common};
-ghost use Rattle.mmio.specs.Interrupts.{reset_asked, used_raised};
-ghost use Rattle.mmio.specs.QueueRegisters.{notified_cleared};
+ghost use Rattle.mmio.specs.State.{with_common};
+ghost use Rattle.mmio.specs.Interrupts.{used_raised};
 ghost use Rattle.machine.specs.DeviceStep.{reply_of, reply_to_advance, is_advance_due, registers_after};
 ghost use Rattle.machine.specs.QueuePositions.{first_positions, kept_positions};
 ghost use Rattle.machine.specs.Shapes.{device_id_of, offered_of, queues_of};
+ghost use Rattle.machine.specs.Stepped.{reply_in, sends, served_in};
 
 use crate::any_ring::AnyRing;
 use crate::own::Own;
 use crate::reply::{Refusal, Reply};
 use crate::served::Served;
 use crate::shape::Shape;
+use crate::stepped::{Answered, Stepped};
 use blk::{Advanced, Disk, Sectors};
 use byteorder::{ByteOrder, LittleEndian};
 use chains::{Positions, Ring};
@@ -225,7 +226,7 @@ impl DeviceState {
             return self.look(alloc, pick, ring, ram, log);
         }
         if self.advanced_ring(alloc, pick, ring) {
-            return self.advance(device, pick, ring, sectors, ram, log);
+            return self.advance(device, pick, ring, sectors, ram, log).reply();
         }
         Reply::Idle
     }
@@ -272,12 +273,66 @@ impl DeviceState {
         ensures later { IsLater ram.old ram.new }
         ensures fits { Fits (decoder_in ring.new) ram.new }
     {
-        match self.own.serve(alloc, self.shape, pick, ring, ram, log) {
+        if self.own.sends(pick) {
+            return self.send(alloc, pick, ring, ram, log);
+        }
+        self.serve(alloc, pick, ring, ram, log).reply()
+    }
+
+    /// Looks at the next chain of a queue from which messages are taken.
+    fn send<L: TouchLog>(
+        &mut self,
+        alloc: Global,
+        pick: u8,
+        ring: &mut AnyRing,
+        ram: &mut Ram,
+        log: &mut L,
+    ) -> Reply
+        requires sound { IsSoundDevice (length ram.old.bytes) self.old }
+        requires looked { looked_at self.old pick ≡ Some (ring_in ring.old) }
+        requires fits { Fits (decoder_in ring.old) ram.old }
+        requires there { pick < length self.old.registers.queues }
+        requires message { sends self.old.own pick ≡ true }
+        requires may { MayPages L.may log.old (length ram.old.bytes) }
+        ensures looked { IsLookedStep (Touches L.after log.old log.new ram.old ram.new) ram.old.bytes self.old pick (ring_in ring.old) result ram.new.bytes self.new }
+        ensures later { IsLater ram.old ram.new }
+        ensures fits { Fits (decoder_in ring.new) ram.new }
+    {
+        match self.own.send(alloc, pick, ring, ram, log) {
             Ok(served) => {
                 self.positions[pick as usize] = ring.positions();
-                tell(&mut self.registers, pick, served)
+                tell_message(&mut self.registers, pick, served)
             }
             Err(_) => Reply::NoMemory,
+        }
+    }
+
+    /// Looks at the next chain of a queue from which none are taken.
+    fn serve<L: TouchLog>(
+        &mut self,
+        alloc: Global,
+        pick: u8,
+        ring: &mut AnyRing,
+        ram: &mut Ram,
+        log: &mut L,
+    ) -> Stepped
+        requires sound { IsSoundDevice (length ram.old.bytes) self.old }
+        requires looked { looked_at self.old pick ≡ Some (ring_in ring.old) }
+        requires fits { Fits (decoder_in ring.old) ram.old }
+        requires there { pick < length self.old.registers.queues }
+        requires silent { sends self.old.own pick ≡ false }
+        requires may { MayPages L.may log.old (length ram.old.bytes) }
+        ensures looked { IsLookedStep (Touches L.after log.old log.new ram.old ram.new) ram.old.bytes self.old pick (ring_in ring.old) (reply_in result) ram.new.bytes self.new }
+        ensures later { IsLater ram.old ram.new }
+        ensures fits { Fits (decoder_in ring.new) ram.new }
+    {
+        match self.own.serve(alloc, &self.shape, pick, ring, ram, log) {
+            Ok(answered) => {
+                let stepped = tell(&mut self.registers, pick, answered);
+                self.positions[pick as usize] = ring.positions();
+                stepped
+            }
+            Err(_) => Stepped::NoMemory,
         }
     }
 
@@ -290,25 +345,25 @@ impl DeviceState {
         sectors: &mut Sectors<D>,
         ram: &mut Ram,
         log: &mut L,
-    ) -> Reply
+    ) -> Stepped
         requires sound { IsSoundDevice (length ram.old.bytes) self.old }
         requires capacity { length sectors.old.content ≡ sector_count self.old.shape }
         requires advanced { advanced_at self.old pick ≡ Some (ring_in ring.old) }
         requires fits { Fits (decoder_in ring.old) ram.old }
         requires may { MayPages L.may log.old (length ram.old.bytes) }
         requires may_sectors { MaySectors L.may log.old device (length sectors.old.content) }
-        ensures advanced { IsAdvancedStep (Touches L.after log.old log.new ram.old ram.new) device sectors.old.honest ram.old.bytes sectors.old.content self.old pick (ring_in ring.old) result ram.new.bytes sectors.new.content self.new }
-        ensures kept { IsKept sectors.old (is_failure result) sectors.new }
+        ensures advanced { IsAdvancedStep (Touches L.after log.old log.new ram.old ram.new) device sectors.old.honest ram.old.bytes sectors.old.content self.old pick (ring_in ring.old) (reply_in result) ram.new.bytes sectors.new.content self.new }
+        ensures kept { IsKept sectors.old (is_failure (reply_in result)) sectors.new }
         ensures later { IsLater ram.old ram.new }
         ensures fits { Fits (decoder_in ring.new) ram.new }
     {
         let k = pick as usize - 1;
         let advanced = self
             .own
-            .advance(self.shape, k, ring, sectors, device, ram, log);
+            .advance(&self.shape, k, ring, sectors, device, ram, log);
         self.positions[0] = ring.positions();
-        let reply = reply_to_advance(advanced);
-        publish(&mut self.registers, reply, is_due(advanced))
+        raise_if(&mut self.registers, is_due(advanced));
+        reply_to_advance(advanced)
     }
 
     /// Makes the ring the one on which the request of a pick is published, and says whether there is such a request.
@@ -349,13 +404,12 @@ impl DeviceState {
         if number >= queues.len() {
             return false;
         }
-        let queue = queues[number];
-        if !self.looks(pick, &queue) {
+        let queue = &queues[number];
+        if !self.looks(pick, queue) {
             return false;
         }
         let features = self.registers.features();
-        let positions = self.positions[number];
-        ring.renew(alloc, &queue, features, positions);
+        ring.renew(alloc, queue, features, self.positions[number]);
         true
     }
 
@@ -370,15 +424,15 @@ impl DeviceState {
     }
 }
 
-fn reply_to_advance(advanced: Advanced) -> Reply
-    ensures { result ≡ reply_to_advance advanced }
+fn reply_to_advance(advanced: Advanced) -> Stepped
+    ensures { reply_in result ≡ reply_to_advance advanced }
 {
     match advanced {
-        Advanced::Idle => Reply::Idle,
-        Advanced::Moved => Reply::Moved,
-        Advanced::BadSector => Reply::BadSector,
-        Advanced::DiskFailed => Reply::DiskFailed,
-        Advanced::Completed { len, .. } => Reply::Completed(len),
+        Advanced::Idle => Stepped::Idle,
+        Advanced::Moved => Stepped::Moved,
+        Advanced::BadSector => Stepped::BadSector,
+        Advanced::DiskFailed => Stepped::DiskFailed,
+        Advanced::Completed { len, .. } => Stepped::Completed(len),
     }
 }
 
@@ -393,46 +447,56 @@ fn is_due(advanced: Advanced) -> bool
 }
 
 /// Reports to the driver by the registers how a queue was served, and returns the reply to the step.
-fn tell(registers: &mut Regs, pick: u8, served: Served) -> Reply
+fn tell(registers: &mut Regs, pick: u8, answered: Answered) -> Stepped
+    requires { pick < length registers.old.queues }
+    ensures reply { reply_in result ≡ reply_of (served_in answered) }
+    ensures registers { registers.new ≡ registers_after registers.old pick (served_in answered) }
+{
+    match answered {
+        Answered::Empty => {
+            registers.clear_notified(pick);
+            Stepped::Idle
+        }
+        Answered::Malformed => {
+            registers.ask_reset();
+            Stepped::NeedsReset
+        }
+        Answered::Published { stepped, is_due } => {
+            raise_if(registers, is_due);
+            stepped
+        }
+    }
+}
+
+/// Reports to the driver by the registers how a queue of messages was served, and returns the reply to the step.
+fn tell_message(registers: &mut Regs, pick: u8, served: Served) -> Reply
     requires { pick < length registers.old.queues }
     ensures reply { result ≡ reply_of served }
     ensures registers { registers.new ≡ registers_after registers.old pick served }
 {
     match served {
-        Served::Empty => wait_for_notification(registers, pick),
-        Served::Malformed => ask_reset(registers),
-        Served::Published { reply, is_due } => publish(registers, reply, is_due),
+        Served::Empty => {
+            registers.clear_notified(pick);
+            Reply::Idle
+        }
+        Served::Malformed => {
+            registers.ask_reset();
+            Reply::NeedsReset
+        }
+        Served::Published { reply, is_due } => {
+            raise_if(registers, is_due);
+            reply
+        }
     }
 }
 
-/// The queue was empty: the device waits for its next notification.
-fn wait_for_notification(registers: &mut Regs, pick: u8) -> Reply
-    requires { pick < length registers.old.queues }
-    ensures reply { result ≡ Reply.Idle }
-    ensures registers { registers.new ≡ notified_cleared registers.old pick (queue_at registers.old pick) }
-{
-    registers.clear_notified(pick);
-    Reply::Idle
-}
-
-/// The chain was malformed: the device asks for a reset.
-fn ask_reset(registers: &mut Regs) -> Reply
-    ensures reply { result ≡ Reply.NeedsReset }
-    ensures registers { registers.new ≡ with_common registers.old (reset_asked registers.old.common) }
-{
-    registers.ask_reset();
-    Reply::NeedsReset
-}
-
 /// Raises the used-buffer interrupt if it is due.
-fn publish(registers: &mut Regs, reply: Reply, is_due: bool) -> Reply
-    ensures reply { result ≡ reply }
-    ensures registers { registers.new ≡ (if is_due then with_common registers.old (used_raised registers.old.common) else registers.old) }
+fn raise_if(registers: &mut Regs, is_due: bool)
+    ensures { registers.new ≡ (if is_due then with_common registers.old (used_raised registers.old.common) else registers.old) }
 {
     if is_due {
         registers.raise_used();
     }
-    reply
 }
 
 /// The positions in queues whose registers were written.

@@ -21,11 +21,11 @@ returns-clause-advanced g c =
     let d = held_device i.shape i.registers i.positions i.own in
     let sound = rw (← c.self.view_is) at c.requires.sound in
     let a = c.advance-advanced.result in
-    rw (← c.self.view_is, c.publish.ensures.reply, c.reply_to_advance-reply.ensures, c.positions.ensures)
-    (advanced_step _ c.args.device c.args.sectors.now.honest c.args.ram.now.bytes c.args.sectors.now.content i.shape i.registers i.positions i.own c.args.pick (ring_in c.args.ring.now) a c.advance-advanced.new.ram.bytes (ring_in c.advance-advanced.new.ring) c.advance-advanced.new.sectors.content c.advance-advanced.new.self c.publish.new.registers
+    rw (← c.self.view_is, c.reply_to_advance.ensures, c.positions.ensures)
+    (advanced_step _ c.args.device c.args.sectors.now.honest c.args.ram.now.bytes c.args.sectors.now.content i.shape i.registers i.positions i.own c.args.pick (ring_in c.args.ring.now) a c.advance-advanced.new.ram.bytes (ring_in c.advance-advanced.new.ring) c.advance-advanced.new.sectors.content c.advance-advanced.new.self c.raise_if.new.registers
     (has_queue d c.args.pick (ring_in c.args.ring.now) (length c.args.ram.now.bytes) sound (rw (← c.self.view_is) at c.requires.advanced))
-    c.advance-advanced.ensures.changes c.advance-advanced.ensures.own (rw c.is_due.ensures at c.publish.ensures.registers)
-    (ap (λ r. length r.queues) (rw c.is_due.ensures at c.publish.ensures.registers) ∙ (due_registers i.registers (is_advance_due a) sound.registers).same.queue_count))
+    c.advance-advanced.ensures.changes c.advance-advanced.ensures.own (rw c.is_due.ensures at c.raise_if.ensures)
+    (ap (λ r. length r.queues) (rw c.is_due.ensures at c.raise_if.ensures) ∙ (due_registers i.registers (is_advance_due a) sound.registers).same.queue_count))
 
 pub returns-clause-fits : goal.returns-clause-fits
 returns-clause-fits g c = fits_on _ _ _ _ c.requires.fits c.advance-advanced.ensures.after.later c.advance-advanced.ensures.decoder

@@ -1,6 +1,7 @@
 use Rattle.std.proofs.Common.{refl}
 use Rattle.guestmem.specs.RisesLaws.{touches_none}
 use Rattle.machine.specs.AnyRing.{ring_in}
+use Rattle.machine.specs.Stepped.{reply_in}
 use Rattle.machine.proofs.Stepping.{advanced_device, idle_step, looked_device}
 use Rattle.machine.proofs.state.DeviceState.step.Goals as goal
 
@@ -11,8 +12,9 @@ returns-then-looked_ring-clause-step g c =
 
 pub returns-then-advanced_ring-clause-step : goal.returns-then-advanced_ring-clause-step
 returns-then-advanced_ring-clause-step g c =
-    advanced_device _ c.args.device c.args.sectors.now.honest c.args.ram.now.bytes c.args.sectors.now.content c.args.self.now c.args.pick (ring_in c.advanced_ring.new.ring) c.advance.result c.advance.new.ram.bytes c.advance.new.sectors.content c.advance.new.self
-    (c.looked_ring.ensures.none c.if-looked_ring.false) (c.advanced_ring.ensures.ring c.if-advanced_ring.true) c.advance.ensures.advanced
+    rw c.reply.ensures
+    (advanced_device _ c.args.device c.args.sectors.now.honest c.args.ram.now.bytes c.args.sectors.now.content c.args.self.now c.args.pick (ring_in c.advanced_ring.new.ring) (reply_in c.advance.result) c.advance.new.ram.bytes c.advance.new.sectors.content c.advance.new.self
+    (c.looked_ring.ensures.none c.if-looked_ring.false) (c.advanced_ring.ensures.ring c.if-advanced_ring.true) c.advance.ensures.advanced)
 
 pub returns-clause-step : goal.returns-clause-step
 returns-clause-step g c =
