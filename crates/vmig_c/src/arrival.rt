@@ -88,7 +88,7 @@ impl Arrival {
             Progress::Body(receiver) => match receiver.feed(piece) {
                 Ok(()) => Ok(()),
                 Err(error) => {
-                    self.refuse();
+                    self.progress = Progress::Failed;
                     Err(error)
                 }
             },
@@ -97,8 +97,7 @@ impl Arrival {
         }
     }
 
-    /// Takes the next piece while the header is incomplete. It stands apart, as `refuse` does, so that a piece behind the header
-    /// pays nothing for it.
+    /// Takes the next piece while the header is incomplete. It stands apart, so that a piece behind the header pays nothing for it.
     #[inline(never)]
     fn feed_head(&mut self, piece: &[u8]) -> Result<(), RecvError>
         requires { IsAtHead self.old }
@@ -115,14 +114,6 @@ impl Arrival {
             }
             Err(error) => Err(error),
         }
-    }
-
-    /// Takes nothing from now on.
-    #[inline(never)]
-    fn refuse(&mut self)
-        ensures { self.new ≡ refused_for_good }
-    {
-        self.progress = Progress::Failed;
     }
 
     /// The number of rounds that ended in the bytes fed so far.
