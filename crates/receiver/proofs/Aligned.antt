@@ -1,13 +1,12 @@
 -- Whole good records in the same bytes are the same.
-use Rattle.std.proofs.Common.{◌≡◌, ℕ, Bool, true, false, ◌+◌, ◌*◌, ◌^◌, ◌<◌, ◌≤◌, ◌⊎◌, inl, inr, Some, None, List, [], ◌∷◌, ◌++◌, length, drop, refl, sym, ap, ◌∙◌, append_assoc, append-nil, arith}
+use Rattle.std.proofs.Common.{◌≡◌, ℕ, false, ◌+◌, ◌*◌, ◌^◌, ◌<◌, ◌≤◌, ◌⊎◌, inl, inr, Some, None, List, [], ◌∷◌, ◌++◌, length, drop, refl, sym, ap, ◌∙◌, append_assoc, append-nil, arith}
 use Rattle.std.proofs.lemmas.List.{length-drop}
 use Rattle.std.specs.List.{AllByRecursion}
 use Rattle.wire.specs.Numbers.{digits}
 use Rattle.wire.specs.Records.{Record, page, sector, round_end, device, commit, zero_page, is_zero_page, spelled_record, HasSpelling}
 use Rattle.wire.specs.Stream.{texts, rounds}
 use Rattle.guestmem.specs.Item as items
-use Rattle.machine.specs.Layout.{IsItemIn, layout_by}
-use Rattle.machine.specs.declared.shape.Shape.{Shape}
+use Rattle.machine.specs.Layout.{IsItemIn}
 use Rattle.wire.proofs.Bodies.{body_is_short}
 use Rattle.wire.proofs.HeaderLemmas.{header_of-spelled}
 use Rattle.wire.proofs.Spelling.{head_same, tail_same, split_same, one_record, number_same}

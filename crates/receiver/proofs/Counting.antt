@@ -6,7 +6,6 @@ use Rattle.wire.specs.Records.{Record, spelled_record}
 use Rattle.wire.specs.Stream.{texts, rounds}
 use Rattle.blk.specs.Disk.{DiskState}
 use Rattle.machine.specs.Seen.{Marks}
-use Rattle.machine.specs.declared.shape.Shape.{Shape}
 use Rattle.wire.proofs.HeaderLemmas.{header_of-spelled}
 use Rattle.wire.proofs.Unique.{alike}
 use Rattle.receiver.specs.Disks.{MarksRefused, sizes_in}

@@ -12,6 +12,7 @@ use Rattle.machine.specs.First.{marks_in}
 use Rattle.receiver.specs.Disks.{MarksRefused, all_marks_in, disk_marks_of, sizes_in, sizes_of}
 use Rattle.receiver.specs.Faults.{Fault}
 use Rattle.receiver.specs.Receiving.{HasBeenFed, IsKnown, IsReceiver, IsTaken, NoFault, Received, TellsFault, TellsNow, Took, has_failed, received_by}
+use Rattle.receiver.specs.Waiting.{LacksBytes}
 use Rattle.receiver.specs.declared.stage.Stage.{Stage}
 use Rattle.receiver.specs.declared.stage.Stage.TheVariants as stages
 use Rattle.receiver.specs.declared.recv_error.RecvError.{RecvError}
@@ -87,12 +88,13 @@ is_refused ds new stage d f held rest piece e some took =
           told_more (sizes_in ds) b piece e told (no_fault_known ds d b held stage h.taken);
     }
 
-pub is_receiver : (ds : List DiskState) (digest : Sha256) (held : List ℕ) (room : ℕ) (stage : Stage) (front : List ℕ) → IsKnown ds digest front held stage → length held ≤ 131077 → 131078 ≤ room → IsReceiver ds digest held room stage
-is_receiver ds digest held room stage front known few roomy = record {
+pub is_receiver : (ds : List DiskState) (digest : Sha256) (held : List ℕ) (room lacking : ℕ) (stage : Stage) (front : List ℕ) → IsKnown ds digest front held stage → length held ≤ 131077 → 131078 ≤ room → (0 < lacking → LacksBytes stage held lacking) → IsReceiver ds digest held room lacking stage
+is_receiver ds digest held room lacking stage front known few roomy lacks = record {
   known = λ on. (front, known);
   few = few;
   gone = λ failed. absurd (true_false _ failed (not_failed ds digest front held stage known));
   roomy = λ past. roomy;
+  lacks = lacks;
 }
 
 -- An empty piece.

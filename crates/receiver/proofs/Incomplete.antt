@@ -7,19 +7,18 @@ use Rattle.sha2.proofs.Facts256.{length-sha256}
 use Rattle.blk.specs.Disk.{DiskState}
 use Rattle.guestmem.specs.Number.{IsBytes}
 use Rattle.guestmem.specs.ByteLaws.{IsBytes-append}
-use Rattle.machine.specs.declared.shape.Shape.{Shape}
 use Rattle.wire.specs.Header.{header, Opening}
 use Rattle.wire.specs.RecordHeads.{BeginsHead, body_len, spelled_head}
 use Rattle.wire.specs.Records.{Record}
 use Rattle.wire.specs.Stream.{texts}
 use Rattle.wire.specs.declared.record_head.RecordHead.{RecordHead}
 use Rattle.wire.specs.declared.record_head.RecordHead.TheVariants as heads
-use Rattle.wire.proofs.Heads.{no_body, one_head}
+use Rattle.wire.proofs.Heads.{begins, no_body, one_head}
 use Rattle.receiver.specs.Good.{devices_in}
 use Rattle.receiver.specs.Faults.{IsFault}
 use Rattle.receiver.specs.Fed.{Waits}
 use Rattle.receiver.specs.Receiving.{HasBeenFed, IsKnown, IsPastHead, IsReceiver, IsTaken, has_failed, received_by}
-use Rattle.receiver.specs.Waiting.{IsWithinBody, ReadsRecords}
+use Rattle.receiver.specs.Waiting.{LacksBytes, ReadsRecords}
 use Rattle.receiver.specs.declared.stage.Stage.{Stage}
 use Rattle.receiver.specs.declared.stage.Stage.TheVariants as stages
 use Rattle.receiver.specs.declared.recv_error.RecvError.{RecvError}
@@ -28,6 +27,27 @@ use Rattle.receiver.proofs.Feeding.{GoesOn, is_receiver}
 use Rattle.receiver.proofs.Knowing.{no_fault_known}
 use Rattle.receiver.proofs.Prefixes.{holds_here}
 use Rattle.receiver.proofs.Standing.{second_low}
+
+-- The held bytes begin with a head, and as many as any head has; the record is incomplete also with the piece behind them.
+pub record IsWithinBody (stage : Stage) (held piece : List ℕ) : Type 0 where
+  pub reads : ReadsRecords stage
+  pub bytes : IsBytes (held ++ piece)
+  pub head : RecordHead
+  pub begins : BeginsHead held head
+  pub long : 7 ≤ length held
+  pub short : length held + length piece < length (spelled_head head) + body_len head
+  pub few : length held + length piece ≤ 131077
+
+pub within_body : (stage : Stage) (held piece : List ℕ) (lacking : ℕ) → IsBytes piece → length piece < lacking → LacksBytes stage held lacking → IsWithinBody stage held piece
+within_body stage held piece lacking are less l = record {
+  reads = l.reads;
+  bytes = IsBytes-append held piece l.bytes are;
+  head = l.head;
+  begins = l.begins;
+  long = l.long;
+  short = omega (arith, less, l.short);
+  few = omega (arith, less, l.few);
+}
 
 -- The head, and what is behind it.
 behind_head : (held piece : List ℕ) (head : RecordHead) → BeginsHead held head → held ++ piece ≡ spelled_head head ++ (drop (length (spelled_head head)) held ++ piece)
@@ -110,13 +130,33 @@ held_on ds stage digest held piece are w =
       quiet = λ b h. no_fault_known ds digest (b ++ piece) (held ++ piece) stage (more b h);
     }
 
+-- With the piece behind the held bytes, the record lacks so many fewer.
+lacks_on : (stage : Stage) (held piece : List ℕ) (lacking left : ℕ) → IsBytes piece → left + length piece ≡ lacking → LacksBytes stage held lacking → LacksBytes stage (held ++ piece) left
+lacks_on stage held piece lacking left are is l = record {
+  reads = l.reads;
+  bytes = IsBytes-append held piece l.bytes are;
+  head = l.head;
+  begins = begins (held ++ piece) (drop (length (spelled_head l.head)) held ++ piece) l.head l.begins.fits (behind_head held piece l.head l.begins);
+  long = omega (arith, l.long, length-append held piece);
+  short = omega (arith, l.short, is, length-append held piece);
+  few = omega (arith, l.few, is, length-append held piece);
+}
+
 past_reading : (stage : Stage) → ReadsRecords stage → IsPastHead stage
 past_reading stages.Head reads = absurd reads
 past_reading (stages.Records i) reads = tt
 past_reading (stages.Ended i) reads = absurd reads
 past_reading stages.Failed reads = absurd reads
 
-pub receiver_on : (ds : List DiskState) (digest : Sha256) (held piece : List ℕ) (room more : ℕ) (stage : Stage) → IsWithinBody stage held piece → has_failed stage ≡ false → IsReceiver ds digest held room stage → room ≤ more → IsReceiver ds digest (held ++ piece) more stage
-receiver_on ds digest held piece room more stage w on kept le =
-    let some = kept.known on in
-    is_receiver ds digest (held ++ piece) more stage some.0 (known_on ds digest some.0 held piece stage w some.1) (omega (arith, w.few, length-append held piece)) (omega (arith, kept.roomy (past_reading stage w.reads), le))
+pub on_reading : (stage : Stage) → ReadsRecords stage → has_failed stage ≡ false
+on_reading stages.Head reads = absurd reads
+on_reading (stages.Records i) reads = refl
+on_reading (stages.Ended i) reads = absurd reads
+on_reading stages.Failed reads = absurd reads
+
+pub receiver_on : (ds : List DiskState) (digest : Sha256) (held piece : List ℕ) (room more lacking left : ℕ) (stage : Stage) → IsBytes piece → length piece < lacking → left + length piece ≡ lacking → IsReceiver ds digest held room lacking stage → room ≤ more → IsReceiver ds digest (held ++ piece) more left stage
+receiver_on ds digest held piece room more lacking left stage are less is kept le =
+    let l = kept.lacks (omega (arith, less)) in
+    let w = within_body stage held piece lacking are less l in
+    let some = kept.known (on_reading stage l.reads) in
+    is_receiver ds digest (held ++ piece) more left stage some.0 (known_on ds digest some.0 held piece stage w some.1) (omega (arith, w.few, length-append held piece)) (omega (arith, kept.roomy (past_reading stage l.reads), le)) (λ some_left. lacks_on stage held piece lacking left are is l)

@@ -15,7 +15,7 @@ use Rattle.receiver.specs.Taken.{shown}
 use Rattle.guestmem.specs.Item.{Item}
 use Rattle.blk.specs.Disk.{AreSectors, DiskState}
 use Rattle.machine.specs.First.{dealt_sectors, marked_sectors, saved_machine}
-use Rattle.machine.specs.Layout.{IsItemIn, layout_by, layout_of, number_of, pages_of}
+use Rattle.machine.specs.Layout.{IsItemIn, layout_of, number_of, pages_of}
 use Rattle.machine.specs.Shapes.{disk_sizes}
 use Rattle.machine.specs.Sound.{IsSound, IsSoundDevice}
 use Rattle.machine.specs.State.{DeviceState, MachineState}

@@ -7,7 +7,6 @@ use Rattle.wire.specs.Header.{header, spelled_shapes, Opening, IsVersion}
 use Rattle.wire.specs.Numbers.{digits}
 use Rattle.wire.specs.Records.{Record}
 use Rattle.wire.specs.Stream.{texts}
-use Rattle.machine.specs.declared.shape.Shape.{Shape}
 use Rattle.wire.proofs.Digits.{length-digits, number_at-append}
 use Rattle.wire.proofs.Spelling.{head_same, tail_same}
 use Rattle.wire.proofs.Unique.{cons_same}

@@ -3,7 +3,6 @@ use Rattle.std.proofs.Common.{◌≡◌, ◌⊎◌, ℕ, List, length, inl, inr,
 use Rattle.wire.specs.Records.{Record}
 use Rattle.wire.proofs.Heads.{nothing_read, no_record}
 use Rattle.wire.proofs.Spelling.{head_same}
-use Rattle.machine.specs.declared.shape.Shape.{Shape}
 use Rattle.receiver.specs.Good.{devices_in}
 use Rattle.receiver.specs.Faults.{MayTag, IsComplete, IsLate, IsPageTag, Opens, IsBadPage, IsLongZeros, IsBadSector, IsBadRound, IsBadHead, IsBadBody, IsBadDigest, IsTrailing, IsFault}
 use Rattle.receiver.specs.Fed.{Waits}

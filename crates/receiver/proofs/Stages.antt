@@ -9,8 +9,7 @@ use Rattle.wire.specs.Header.{header, Begins, Opening, layout_in}
 use Rattle.wire.specs.Records.{Record}
 use Rattle.wire.specs.Stream.{texts, rounds}
 use Rattle.blk.specs.Disk.{DiskState}
-use Rattle.machine.specs.Layout.{firsts_of, layout_by, size_of}
-use Rattle.machine.specs.declared.shape.Shape.{Shape}
+use Rattle.machine.specs.Layout.{firsts_of, size_of}
 use Rattle.receiver.proofs.Lists.{empty, take_all}
 use Rattle.receiver.proofs.Takings.{new_taken}
 use Rattle.receiver.specs.Good.{AreGood}

@@ -18,7 +18,7 @@ use Rattle.receiver.specs.Spots.{disks_before}
 use Rattle.receiver.specs.Taken.{AreTaken}
 use Rattle.receiver.proofs.Sectors.{IsChanged, changed, disk_below, honest_at, marks_kept, marks_length, marks_set, record_here, record_there, sizes_kept}
 use Rattle.machine.specs.First.{AreMarksOf, marks_in}
-use Rattle.machine.specs.Layout.{IsItemIn, Layout, layout_by, item_at, number_of, size_of}
+use Rattle.machine.specs.Layout.{IsItemIn, Layout, item_at, number_of, size_of}
 use Rattle.machine.proofs.Numbering.{item_there, number_back, number_below}
 use Rattle.machine.specs.Sound.{IsSoundDevice}
 use Rattle.machine.specs.State.{DeviceState}

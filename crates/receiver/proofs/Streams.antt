@@ -8,11 +8,10 @@ use Rattle.sha2.proofs.Facts256.{length-sha256}
 use Rattle.blk.specs.Disk.{DiskState}
 use Rattle.guestmem.specs.Number.{IsBytes}
 use Rattle.wire.specs.Records.{Record, commit, spelled_record, HasSpelling, IsOf, BeginsNoRecord}
-use Rattle.wire.specs.Stream.{IsStream, IsEntry, texts, shapes_in, device_texts, before_commit, opening_in}
+use Rattle.wire.specs.Stream.{IsStream, IsEntry, texts, device_texts, before_commit, opening_in}
 use Rattle.machine.specs.Layout.{Layout, layout_of, pages_of}
 use Rattle.machine.specs.Sound.{IsSoundDevice}
 use Rattle.machine.specs.State.{DeviceState, MachineState}
-use Rattle.machine.specs.declared.shape.Shape.{Shape}
 use Rattle.guestmem.specs.ByteLaws.{IsBytes-drop}
 use Rattle.wire.proofs.Unique.{body_spells, stream_begins, alike}
 use Rattle.wire.proofs.HeaderLemmas.{header_of-spelled}

@@ -12,7 +12,6 @@ use Rattle.wire.specs.Stream.{texts}
 use Rattle.wire.specs.declared.record_head.RecordHead.{RecordHead}
 use Rattle.wire.specs.declared.record_head.RecordHead.TheVariants as heads
 use Rattle.wire.proofs.Heads.{spelled_with}
-use Rattle.machine.specs.declared.shape.Shape.{Shape}
 use Rattle.receiver.specs.Disks.{sizes_in}
 use Rattle.receiver.specs.Fed.{HasRead}
 use Rattle.receiver.specs.Receiving.{HasBeenFed, HasDevice, IsKnown, IsPastHead, IsTaken, Received, received_by}

@@ -8,11 +8,10 @@ use Rattle.wire.specs.DeviceBody.{body}
 use Rattle.wire.specs.Header.{header, Opening, layout_in}
 use Rattle.wire.specs.Records.{Record, page, sector, round_end, device, commit, zero_page}
 use Rattle.wire.specs.Stream.{IsStream, IsEntry, AreNumbered, texts, rounds, shapes_in, device_texts, before_commit, opening_in}
-use Rattle.machine.specs.Layout.{Layout, layout_by, layout_of, pages_of}
+use Rattle.machine.specs.Layout.{Layout, layout_of, pages_of}
 use Rattle.machine.specs.Sound.{IsSoundDevice}
 use Rattle.blk.specs.Sectors.{Sector}
 use Rattle.machine.specs.State.{DeviceState, MachineState}
-use Rattle.machine.specs.declared.shape.Shape.{Shape}
 use Rattle.machine.proofs.Numbering.{sound_layout}
 use Rattle.receiver.proofs.Takings.{rounds_page, rounds_round, rounds_sector, rounds_zeros}
 use Rattle.wire.proofs.Unique.{body_spells, length_shapes, stream_begins}

@@ -11,7 +11,6 @@ use Rattle.wire.specs.Records.{Record, commit, spelled_record}
 use Rattle.wire.specs.Stream.{texts}
 use Rattle.blk.specs.Disk.{DiskState}
 use Rattle.machine.specs.Seen.{Marks}
-use Rattle.machine.specs.declared.shape.Shape.{Shape}
 use Rattle.receiver.specs.Disks.{AreKept, AreRefused, MarksRefused, all_marks_in, sizes_in}
 use Rattle.receiver.specs.Faults.{Opens, IsTrailing, IsFault, IsFront, Fault}
 use Rattle.receiver.specs.Fed.{HasRead, Tells, Waits, Ends, IsOpen, IsEnded}

@@ -8,7 +8,6 @@ use Rattle.blk.specs.Sectors.{sectors_of}
 use Rattle.blk.proofs.Marks.{set_bad, set_good}
 use Rattle.machine.specs.First.{marks_in}
 use Rattle.machine.specs.Seen.{Marks, failed_once, marks_at, or_no_marks}
-use Rattle.machine.specs.declared.shape.Shape.{Shape}
 use Rattle.wire.specs.Records.{HasSpelling, Record, sector, spelled_record}
 use Rattle.receiver.specs.Disks.{AreKept, AreRefused, all_marks_in, sizes_of}
 use Rattle.receiver.specs.Fed.{HasRead, Tells}

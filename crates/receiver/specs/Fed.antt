@@ -10,7 +10,7 @@ use Rattle.blk.specs.Disk.{DiskState}
 use Rattle.wire.specs.Records.{Record, device, commit, spelled_record, BeginsNoRecord}
 use Rattle.wire.specs.Stream.{IsEntry, AreNumbered, rounds, shapes_in, texts}
 use Rattle.machine.specs.First.{AreMarksOf, dealt_sectors, marked_sectors}
-use Rattle.machine.specs.Layout.{layout_by, firsts_of}
+use Rattle.machine.specs.Layout.{firsts_of}
 use Rattle.machine.specs.Shapes.{disk_sizes}
 use Rattle.machine.specs.Sound.{IsSoundDevice}
 use Rattle.blk.specs.Sectors.{Sector}

@@ -5,7 +5,7 @@ use Rattle.wire.specs.Records.{Record, page, sector, round_end, device, commit, 
 use Rattle.wire.specs.Stream.{last_named, rounds}
 use Rattle.guestmem.specs.Item as items
 use Rattle.guestmem.specs.Item.{Item}
-use Rattle.machine.specs.Layout.{Layout, IsItemIn, layout_by}
+use Rattle.machine.specs.Layout.{Layout, IsItemIn}
 use Rattle.machine.specs.State.{DeviceState}
 use Rattle.machine.specs.declared.shape.Shape.{Shape}
 use Rattle.wire.specs.Header.{Opening, layout_in}

@@ -4,13 +4,8 @@ use Rattle.wire.specs.Header.{Begins, spelled_shape, spelled_shapes, Opening}
 use Rattle.machine.specs.Sound.{IsSoundShape}
 use Rattle.machine.specs.declared.shape.Shape.{Shape}
 use Rattle.receiver.specs.Faults.{IsNoShape, IsHeaderFault}
-use Rattle.receiver.specs.declared.heading.Heading.{Heading}
 use Rattle.receiver.specs.declared.recv_error.RecvError.{RecvError}
 use Rattle.receiver.specs.declared.recv_error.RecvError.TheVariants.{BadShape, NoMemory}
-
--- What the header that was read says.
-abbrev pub opening_of : Heading → Opening
-opening_of heading = record { version = heading.version; pages = heading.pages; shapes = heading.shapes.items }
 
 -- The bytes begin with no whole shape, and with none that is wrong.
 pub record ShapeWaits (bytes : List ℕ) : Type 0 where

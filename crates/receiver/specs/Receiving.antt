@@ -10,12 +10,12 @@ use Rattle.wire.specs.Stream.{IsStream, rounds, texts}
 use Rattle.blk.specs.Disk.{DiskState}
 use Rattle.machine.specs.Seen.{Marks}
 use Rattle.machine.specs.State.{MachineState}
-use Rattle.machine.specs.declared.shape.Shape.{Shape}
 use Rattle.receiver.specs.Disks.{AreKept, AreRefused, IsUnsteady, all_marks_in, sizes_in}
 use Rattle.receiver.specs.Good.{Follows}
 use Rattle.receiver.specs.Faults.{Fault, IsComplete, IsFront}
 use Rattle.receiver.specs.Fed.{IsOpen, IsEnded, Tells}
 use Rattle.receiver.specs.Heading.{WaitsHead}
+use Rattle.receiver.specs.Waiting.{LacksBytes}
 use Rattle.receiver.specs.declared.intake.Intake.{Intake}
 use Rattle.receiver.specs.declared.stage.Stage.{Stage}
 use Rattle.receiver.specs.declared.stage.Stage.TheVariants as stages
@@ -112,12 +112,14 @@ pub record HasBeenFed (r : Received) (b : List ℕ) : Type 0 where
   pub taken : IsTaken r.disks r.digest b r.held r.stage
 
 -- What holds of each receiver. Bytes that wait for the rest of a record are fewer than the longest record has, and there is room
--- for such a record once the header was read. After a refusal nothing is held.
-pub record IsReceiver (disks : List DiskState) (digest : Sha256) (held : List ℕ) (room : ℕ) (stage : Stage) : Type 0 where
+-- for such a record once the header was read. After a refusal nothing is held. So many bytes as the record at the front is said to
+-- lack are still to come.
+pub record IsReceiver (disks : List DiskState) (digest : Sha256) (held : List ℕ) (room lacking : ℕ) (stage : Stage) : Type 0 where
   pub known : has_failed stage ≡ false → (front : List ℕ) × IsKnown disks digest front held stage
   pub few : length held ≤ 131077
   pub gone : has_failed stage ≡ true → held ≡ []
   pub roomy : IsPastHead stage → 131078 ≤ room
+  pub lacks : 0 < lacking → LacksBytes stage held lacking
 
 -- A refusal at the end of the bytes: memory was refused, or (`Truncated`) they are not a stream of any machine.
 abbrev pub IsFinish : List ℕ → RecvError → Type 0

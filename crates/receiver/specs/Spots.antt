@@ -2,7 +2,7 @@
 use Rattle.std.specs.Prelude.{◌≡◌, ◌<◌, ℕ, List, ◌∷◌, [], ◌++◌, count_by, length, nat_lt, slice_index_or, take, Result, Ok, Err}
 use Rattle.blk.specs.Disk.{DiskState}
 use Rattle.guestmem.specs.Item as items
-use Rattle.machine.specs.Layout.{IsItemIn, layout_by, number_of}
+use Rattle.machine.specs.Layout.{IsItemIn, number_of}
 use Rattle.machine.specs.Shapes.{sector_count}
 use Rattle.machine.specs.declared.shape.Shape.{Shape}
 use Rattle.wire.specs.Records.{Record, spelled_record}

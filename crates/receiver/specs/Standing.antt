@@ -8,7 +8,7 @@ use Rattle.wire.specs.declared.record_head.RecordHead.{RecordHead}
 use Rattle.wire.specs.declared.record_head.RecordHead.TheVariants as heads
 use Rattle.blk.specs.Disk.{DiskState}
 use Rattle.guestmem.specs.Item as items
-use Rattle.machine.specs.Layout.{IsItemIn, layout_by}
+use Rattle.machine.specs.Layout.{IsItemIn}
 use Rattle.machine.specs.State.{DeviceState}
 use Rattle.machine.specs.declared.shape.Shape.{Shape}
 use Rattle.receiver.specs.Disks.{AreKept, AreRefused}

@@ -1,5 +1,5 @@
--- A piece that lies within the body of the record whose front is held.
-use Rattle.std.specs.Prelude.{◌<◌, ◌≤◌, ℕ, ◌+◌, List, ◌++◌, length}
+-- How much is still to come of the record whose front is held.
+use Rattle.std.specs.Prelude.{◌≤◌, ℕ, ◌+◌, List, length}
 use Rattle.guestmem.specs.Number.{IsBytes}
 use Rattle.wire.specs.RecordHeads.{BeginsHead, body_len, spelled_head}
 use Rattle.wire.specs.declared.record_head.RecordHead.{RecordHead}
@@ -13,12 +13,12 @@ ReadsRecords (stages.Records i) = Unit {0}
 ReadsRecords (stages.Ended i) = ⊥
 ReadsRecords stages.Failed = ⊥
 
--- The held bytes begin with a head, and as many as any head has; the record is incomplete also with the piece behind them.
-pub record IsWithinBody (stage : Stage) (held piece : List ℕ) : Type 0 where
+-- The held bytes begin with a head, and are as many as any head has; of its record at least `count` bytes are still to come.
+pub record LacksBytes (stage : Stage) (held : List ℕ) (count : ℕ) : Type 0 where
   pub reads : ReadsRecords stage
-  pub bytes : IsBytes (held ++ piece)
+  pub bytes : IsBytes held
   pub head : RecordHead
   pub begins : BeginsHead held head
   pub long : 7 ≤ length held
-  pub short : length held + length piece < length (spelled_head head) + body_len head
-  pub few : length held + length piece ≤ 131077
+  pub short : length held + count ≤ length (spelled_head head) + body_len head
+  pub few : length held + count ≤ 131078

@@ -2,23 +2,15 @@
 
 ghost use Rattle.std.specs.Prelude.{◌≡◌, ◌↔◌, ◌≤◌, ◌<◌, ◌+◌, ◌*◌, IsTrue, IfOk, IfErr, MatchOption, drop, false, is_some, length, ℕ, List};
 ghost use Rattle.wire.specs.Header.{Begins};
+ghost use Rattle.wire.specs.HeaderReading.{said};
 ghost use Rattle.receiver.specs.Faults.{MayCount, IsHeaderFault};
-ghost use Rattle.receiver.specs.Heading.{FirstShape, WaitsHead, ReadShapes, TellsHead, opening_of};
+ghost use Rattle.receiver.specs.Heading.{FirstShape, WaitsHead, ReadShapes, TellsHead};
 
 use crate::recv_error::RecvError;
 use guestmem::PAGES_MAX;
 use machine::{DEVICES_MAX, Shape};
 use std::alloc::Global;
-use wire::{FRONT_LEN, MAGIC, is_version, shape_at, shape_len, u32_at};
-
-/// What the header of a stream says.
-#[derive(Drop)]
-pub struct Heading {
-    pub version: u32,
-    pub pages: u32,
-    pub shapes: Vec<Shape>,
-    pub len: usize,
-}
+use wire::{FRONT_LEN, Header, MAGIC, is_version, shape_at, shape_len, u32_at};
 
 /// The shape at the front of the bytes, if it is complete, and the bytes after it.
 fn first_shape(bytes: &[u8]) -> Result<Option<(Shape, &[u8])>, RecvError>
@@ -74,9 +66,9 @@ fn may_count(pages: u32, count: u32) -> bool
 }
 
 /// The header at the front of the bytes. `None` if it is incomplete, with no fault so far.
-pub fn read_heading(alloc: Global, bytes: &[u8]) -> Result<Option<Heading>, RecvError>
+pub fn read_heading(alloc: Global, bytes: &[u8]) -> Result<Option<Header>, RecvError>
     ensures read { IfOk result (λ found. MatchOption found (WaitsHead bytes.now)
-        (λ h. (h.len ≤ length bytes.now) × Begins bytes.now (opening_of h) (drop h.len bytes.now))) }
+        (λ h. (h.len ≤ length bytes.now) × Begins bytes.now (said h) (drop h.len bytes.now))) }
     ensures few { IfOk result (λ found. is_some found ≡ false → length bytes.now ≤ 495) }
     ensures refused { IfErr result (λ e. TellsHead e ((sizes : List ℕ) → (at : ℕ) × IsHeaderFault sizes bytes.now e at)) }
 {
@@ -107,7 +99,7 @@ pub fn read_heading(alloc: Global, bytes: &[u8]) -> Result<Option<Heading>, Recv
         Ok(None) => Ok(None),
         Ok(Some((shapes, rest))) => {
             let len = bytes.len() - rest.len();
-            Ok(Some(Heading {
+            Ok(Some(Header {
                 version,
                 pages,
                 shapes,

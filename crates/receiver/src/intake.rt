@@ -35,8 +35,8 @@ use wire::{
     read_head,
 };
 
-/// What was read of a stream: its version, the shapes of its devices, the pages, the marks of the bad sectors of each disk, how many
-/// rounds ended, and the devices that arrived so far. The good sectors were written to the disks.
+/// What was read of a stream: its version, the shapes of its devices, the pages, the marks of the bad sectors of each disk, how
+/// many rounds ended, and the devices that arrived so far. The good sectors were written to the disks.
 ///
 /// `named` has a mark for each item, in the order of their numbers, and keeps a count of those that are named. `firsts`
 /// has the item number of the first sector of each device.
@@ -445,8 +445,8 @@ fn take_part<D: Disk>(
     take_record(alloc, intake, disks, taken, head, body)
 }
 
-/// Takes the complete records at the front of the bytes, and their bytes into the digest of all bytes before them. Returns how many
-/// bytes they have, and whether the last is the digest.
+/// Takes the complete records at the front of the bytes, and their bytes into the digest of all bytes before them. Returns how
+/// many bytes they have, and whether the last is the digest.
 pub fn work_off<D: Disk>(
     alloc: Global,
     intake: &mut Intake,

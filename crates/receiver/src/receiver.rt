@@ -9,7 +9,7 @@ use crate::intake::Intake;
 use crate::recv_error::RecvError;
 use crate::stage::Stage;
 use crate::taking::take_piece;
-use crate::waiting::is_within_body;
+use crate::waiting::lacking_of;
 use machine::{Disk, Machine};
 use sha2::{Digest, Sha256};
 use std::alloc::Global;
@@ -25,6 +25,9 @@ pub struct Receiver<D: Disk> {
     held: Vec<u8>,
     taken: Sha256,
     stage: Stage,
+
+    /// How many bytes the record at the front of `held` still lacks, if its head is held (`lacking_of`).
+    lacking: usize,
 }
 
 impl<D: Disk> Model for Receiver<D> {
@@ -36,7 +39,7 @@ impl<D: Disk> Model for Receiver<D> {
 
     ghost view = { λ r. received_by (map D.state r.disks.items) r.stage r.taken r.held.items };
 
-    ghost invariant = { λ r. IsReceiver (map D.state r.disks.items) r.taken r.held.items (vec_capacity r.held) r.stage };
+    ghost invariant = { λ r. IsReceiver (map D.state r.disks.items) r.taken r.held.items (vec_capacity r.held) r.lacking r.stage };
 }
 
 impl<D: Disk + Drop> Receiver<D> {
@@ -63,6 +66,7 @@ impl<D: Disk + Drop> Receiver<D> {
             held: Vec::new(alloc),
             taken: Sha256::new(),
             stage: Stage::Head,
+            lacking: 0,
         }
     }
 
@@ -79,16 +83,35 @@ impl<D: Disk + Drop> Receiver<D> {
         ensures memory { result ≡ Err errors.NoMemory → (b : List ℕ) → HasBeenFed self.old b → (opening : Opening) (rest : List ℕ) → Begins b opening rest
             → (from : ℕ) → from + length self.old.held ≡ length b → HasDevice self.old.sizes (b ++ piece.now) from }
     {
+        if piece.len() < self.lacking {
+            self.held.extend_from_slice(piece).unwrap();
+            self.lacking -= piece.len();
+            return Ok(());
+        }
+        self.work_through(piece)
+    }
+
+    /// Takes a piece that may complete the header or a record. It stands apart, so that one of few bytes within a body, which is
+    /// only held, costs little.
+    #[inline(never)]
+    fn work_through(&mut self, piece: &[u8]) -> Result<(), RecvError>
+        ensures sizes { self.new.sizes ≡ self.old.sizes }
+        ensures marks { MarksAfter self.old.marks result self.new.marks }
+        ensures fed { OnOk result ((b : List ℕ) → HasBeenFed self.old b → HasBeenFed self.new (b ++ piece.now)) }
+        ensures quiet { OnOk result ((b : List ℕ) → HasBeenFed self.old b → NoFault self.old.sizes (b ++ piece.now)) }
+        ensures told { IfErr result (λ e. (b : List ℕ) → HasBeenFed self.old b → TellsNow self.old.sizes b piece.now e) }
+        ensures failed { OnErr result (self.new.failed ≡ true) }
+        ensures already { self.old.failed ≡ true → result ≡ Err errors.AlreadyFailed }
+        ensures memory { result ≡ Err errors.NoMemory → (b : List ℕ) → HasBeenFed self.old b → (opening : Opening) (rest : List ℕ) → Begins b opening rest
+            → (from : ℕ) → from + length self.old.held ≡ length b → HasDevice self.old.sizes (b ++ piece.now) from }
+    {
         if is_failed(&self.stage) {
             return Err(RecvError::AlreadyFailed);
         }
         if piece.is_empty() {
             return Ok(());
         }
-        if is_within_body(&self.stage, &self.held, piece) {
-            self.held.extend_from_slice(piece).unwrap();
-            return Ok(());
-        }
+        self.lacking = 0;
         let room = RECORD_MAX - self.held.len();
         if self.held.reserve_exact(room).is_err() {
             self.held.clear();
@@ -105,6 +128,7 @@ impl<D: Disk + Drop> Receiver<D> {
             piece,
         ) {
             Ok(stage) => {
+                self.lacking = lacking_of(&stage, &self.held);
                 self.stage = stage;
                 Ok(())
             }
@@ -152,6 +176,7 @@ impl<D: Disk + Drop> Receiver<D> {
             held: _,
             taken: _,
             stage,
+            lacking: _,
         } = self;
         recall_disks(&disks);
         match stage {

@@ -4,17 +4,17 @@ ghost use Rattle.std.specs.Prelude.{◌≡◌, ◌≤◌, ◌+◌, ◌++◌, [],
 ghost use Rattle.sha2.specs.Hashers.{Holds256};
 ghost use Rattle.blk.specs.Disk.{DiskState};
 ghost use Rattle.wire.specs.Header.{header, Begins, IsHeader, Opening};
+ghost use Rattle.wire.specs.HeaderReading.{said};
 ghost use Rattle.wire.specs.Records as records;
 ghost use Rattle.machine.specs.Layout.{firsts_of, layout_by, size_of};
 ghost use Rattle.machine.specs.declared.shape.Shape as shapes;
 ghost use Rattle.machine.specs.Shapes.{disk_sizes};
 ghost use Rattle.receiver.specs.Disks.{sizes_in, sizes_of};
 ghost use Rattle.receiver.specs.Fed.{HasRead};
-ghost use Rattle.receiver.specs.Heading.{opening_of};
 ghost use Rattle.receiver.specs.declared.recv_error.RecvError.TheVariants as errors;
 ghost use Rattle.receiver.specs.Receiving.{HasDevice, IsKnown, IsPastHead, Stepped};
 
-use crate::heading::{Heading, read_heading};
+use crate::heading::read_heading;
 use crate::intake::{Intake, work_off};
 use crate::recv_error::RecvError;
 use crate::stage::Stage;
@@ -23,6 +23,7 @@ use guestmem::{NoMemory, Ram};
 use machine::{Disk, Shape, are_disks_of};
 use sha2::{Digest, Sha256};
 use std::alloc::Global;
+use wire::Header;
 
 /// The item number of the first sector of each device, and the count of items.
 fn number_items(alloc: Global, pages: u32, shapes: &[Shape]) -> Result<(Vec<u32>, u32), NoMemory>
@@ -51,11 +52,11 @@ fn new_marks<D: Disk>(alloc: Global, disks: &[D]) -> Result<Vec<BitSet>, NoMemor
 }
 
 /// An intake that has taken a header.
-fn new_intake<D: Disk>(alloc: Global, disks: &[D], heading: Heading) -> Result<Intake, NoMemory>
-    requires { IsHeader (opening_of heading) }
-    ensures { IfOk result (λ i. (bytes rest : List ℕ) → Begins bytes (opening_of heading) rest → sizes_of D.state disks.now ≡ disk_sizes heading.shapes.items → HasRead (map D.state disks.now) (opening_of heading) [] i (header (opening_of heading))) }
+fn new_intake<D: Disk>(alloc: Global, disks: &[D], heading: Header) -> Result<Intake, NoMemory>
+    requires { IsHeader (said heading) }
+    ensures { IfOk result (λ i. (bytes rest : List ℕ) → Begins bytes (said heading) rest → sizes_of D.state disks.now ≡ disk_sizes heading.shapes.items → HasRead (map D.state disks.now) (said heading) [] i (header (said heading))) }
 {
-    let Heading {
+    let Header {
         version,
         pages,
         shapes,

@@ -27,6 +27,12 @@ awaited_by (Head held) = AtHead held.items
 awaited_by (Body r) = AtBody r
 awaited_by Failed = Refused
 
+-- The header is incomplete.
+abbrev pub IsAtHead : ArrivalSeen → Type 0
+IsAtHead (AtHead held) = Unit {0}
+IsAtHead (AtBody r) = ⊥
+IsAtHead Refused = ⊥
+
 -- These are all bytes that were fed, and there was no refusal. Once the header was read, the disks are of the sizes that it says.
 abbrev pub HasCome : ArrivalSeen → List ℕ → Type 0
 HasCome (AtHead held) bytes = bytes ≡ held

@@ -56,7 +56,7 @@ impl Model for Arrival {
 
 impl Arrival {
     ghost use Rattle.std.specs.Prelude.{◌≡◌, IfErr, IfOk};
-    ghost use Rattle.vmig_c.specs.Awaited.{CountsRounds, HasArrived, IsFed, TellsEnd, TellsOf, nothing_fed, refused_for_good};
+    ghost use Rattle.vmig_c.specs.Awaited.{CountsRounds, HasArrived, IsAtHead, IsFed, TellsEnd, TellsOf, nothing_fed, refused_for_good};
 
     /// An arrival that was fed nothing yet. It takes no memory.
     #[tactic(auto, using(crate::proofs::Awaited::empty_head))]
@@ -84,24 +84,35 @@ impl Arrival {
         ensures fed { IfOk result (λ x. IsFed self.old piece.now self.new) }
         ensures refused { IfErr result (λ e. TellsOf self.old piece.now e × (self.new ≡ refused_for_good)) }
     {
-        let alloc = self.alloc;
-        let next = match &mut self.progress {
+        match &mut self.progress {
             Progress::Body(receiver) => match receiver.feed(piece) {
-                Ok(()) => return Ok(()),
-                Err(error) => Err(error),
+                Ok(()) => Ok(()),
+                Err(error) => {
+                    self.progress = Progress::Failed;
+                    Err(error)
+                }
             },
-            Progress::Head(held) => take_head(alloc, mem::replace(held, Vec::new(alloc)), piece),
+            Progress::Head(_) => self.feed_head(piece),
             Progress::Failed => Err(RecvError::AlreadyFailed),
+        }
+    }
+
+    /// Takes the next piece while the header is incomplete. It stands apart, so that a piece behind the header pays nothing for it.
+    #[inline(never)]
+    fn feed_head(&mut self, piece: &[u8]) -> Result<(), RecvError>
+        requires { IsAtHead self.old }
+        ensures fed { IfOk result (λ x. IsFed self.old piece.now self.new) }
+        ensures refused { IfErr result (λ e. TellsOf self.old piece.now e × (self.new ≡ refused_for_good)) }
+    {
+        let Progress::Head(held) = mem::replace(&mut self.progress, Progress::Failed) else {
+            unreachable!()
         };
-        match next {
+        match take_head(self.alloc, held, piece) {
             Ok(progress) => {
                 self.progress = progress;
                 Ok(())
             }
-            Err(error) => {
-                self.progress = Progress::Failed;
-                Err(error)
-            }
+            Err(error) => Err(error),
         }
     }
 

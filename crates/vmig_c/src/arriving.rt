@@ -1,16 +1,32 @@
 //! The calls of an arrival, applied to the contents of a handle.
 
-ghost use Rattle.std.specs.Prelude.{◌≡◌};
-ghost use Rattle.vmig_c.specs.Arriving.{CountsKept, Feeds, FeedsKept, FinishesKept};
+ghost use Rattle.std.specs.Prelude.{◌≡◌, IsNone};
+ghost use Rattle.vmig_c.specs.Arriving.{CountsKept, Fed, Feeds, FeedsKept, FinishesKept};
 ghost use Rattle.vmig_c.specs.Awaited.{stream_status};
 
 use crate::arrival::Arrival;
+use crate::handle::Handle;
 use crate::kept::{Contents, Kept};
 use crate::migrating::taken_out;
-use crate::status::{DONE, IN_USE};
+use crate::status::{DONE, IN_USE, NO_MEMORY};
 use receiver::RecvError;
 use std::alloc::Global;
 use std::mem;
+
+/// The first piece of a stream arrives. It stands apart so that the later ones pay nothing for it.
+#[inline(never)]
+#[tactic(auto, using(crate::proofs::ArrivalCalls::fed_first, crate::proofs::ArrivalCalls::fed_full))]
+pub(crate) fn feed_first(alloc: Global, machine: &mut Handle, piece: &[u8]) -> u32
+    requires { IsNone machine.old.machine }
+    ensures { Fed machine.old.machine piece.now result machine.new.machine }
+{
+    let arriving = Kept::new(Contents::Arriving(Arrival::new(alloc)));
+    let Ok(boxed) = Box::new(alloc, arriving) else {
+        return NO_MEMORY;
+    };
+    mem::replace(machine, Handle::of(boxed)).gone();
+    feed(machine.get_mut(), piece)
+}
 
 /// The next piece of a stream arrives.
 #[tactic(auto, using(crate::proofs::Arrivals::fed))]

@@ -66,12 +66,10 @@ mod unmapping;
 mod waiting;
 mod working;
 
-use arrival::Arrival;
-use arriving::{feed, finish, rounds};
+use arriving::{feed, feed_first, finish, rounds};
 pub use device_shape::DeviceShape;
 pub use handle::Handle;
 use images::{are_images, machine_with, read_sector};
-use kept::{Contents, Kept};
 use making::{are_beyond_limits, machine_of};
 use mapped_disk::Image;
 use mapping::{are_counted, machine_over};
@@ -528,16 +526,12 @@ pub extern "C" fn vmig_take(
 
 /// Feeds the next piece of a stream. On a handle of no machine, one begins to arrive.
 #[unsafe(no_mangle)]
-#[tactic(auto, using(crate::proofs::ArrivalCalls::fed_first, crate::proofs::ArrivalCalls::fed_full, crate::proofs::ArrivalCalls::fed_some))]
+#[tactic(auto, using(crate::proofs::ArrivalCalls::fed_some))]
 pub extern "C" fn vmig_feed(alloc: Global, machine: &mut Handle, bytes: &[u8]) -> u32
     ensures { Fed machine.old.machine bytes.now result machine.new.machine }
 {
     if !machine.is_made() {
-        let arriving = Kept::new(Contents::Arriving(Arrival::new(alloc)));
-        let Ok(boxed) = Box::new(alloc, arriving) else {
-            return NO_MEMORY;
-        };
-        std::mem::replace(machine, Handle::of(boxed)).gone();
+        return feed_first(alloc, machine, bytes);
     }
     feed(machine.get_mut(), bytes)
 }

@@ -1,4 +1,4 @@
-use Rattle.std.proofs.Common.{arith, rules, subst, ◌≡◌, drop, true}
+use Rattle.std.proofs.Common.{arith, rules, subst, ◌≡◌, drop}
 use Rattle.guestmem.specs.Number.{number_at}
 use Rattle.wire.specs.Header.{IsVersion}
 use Rattle.receiver.specs.Faults.{Says}

@@ -1,4 +1,4 @@
-use Rattle.std.proofs.Common.{arith, refl, rules, inl, inr, ℕ, ◌≡◌, map, length, true, subst, sym}
+use Rattle.std.proofs.Common.{arith, refl, rules, inl, inr, ℕ, ◌≡◌, map, length, subst, sym}
 use Rattle.wire.specs.Records.{IsOf, record_with}
 use Rattle.wire.specs.declared.record_head.RecordHead.TheVariants as heads
 use Rattle.receiver.proofs.Lists.{not_both_ways}

@@ -1,7 +1,6 @@
 use Rattle.std.proofs.Common.{ℕ, List, ◌≤◌, ◌++◌, ◌-◌, map, take, length}
 use Rattle.sha2.specs.Hashers.{Holds256}
 use Rattle.wire.specs.Records.{Record}
-use Rattle.machine.specs.declared.shape.Shape.{Shape}
 use Rattle.receiver.specs.Fed.{HasRead}
 use Rattle.receiver.proofs.Working.{SoFar}
 use Rattle.receiver.proofs.intake.work_off.Given as goal

@@ -14,21 +14,21 @@ use Rattle.receiver.proofs.receiver.Receiver.finish.Goals as goal
 
 pub restore-requires-clause-sound : goal.restore-requires-clause-sound
 restore-requires-clause-sound g c =
-    let kept : IsReceiver (map g.D.Disk.state c.self.inside.disks.items) c.self.inside.taken c.self.inside.held.items _ c.self.inside.stage = c.self.invariant in
+    let kept : IsReceiver (map g.D.Disk.state c.self.inside.disks.items) c.self.inside.taken c.self.inside.held.items _ _ c.self.inside.stage = c.self.invariant in
     let known = (rw c.in-Ended.is at kept.known) refl in
     let h = known.1.1 in
     read_sound h.ended.read (h.ended.complete.devices refl) c.recall.ensures.bytes (rw c.deref.ensures.value at c.recall_disks.ensures)
 
 pub restore-requires-clause-shapes : goal.restore-requires-clause-shapes
 restore-requires-clause-shapes g c =
-    let kept : IsReceiver (map g.D.Disk.state c.self.inside.disks.items) c.self.inside.taken c.self.inside.held.items _ c.self.inside.stage = c.self.invariant in
+    let kept : IsReceiver (map g.D.Disk.state c.self.inside.disks.items) c.self.inside.taken c.self.inside.held.items _ _ c.self.inside.stage = c.self.invariant in
     let known = (rw c.in-Ended.is at kept.known) refl in
     let h = known.1.1 in
     h.ended.read.shapes_are ∙ sym (whole_shapes h.ended.read (h.ended.complete.devices refl))
 
 pub restore-requires-clause-bad : goal.restore-requires-clause-bad
 restore-requires-clause-bad g c =
-    let kept : IsReceiver (map g.D.Disk.state c.self.inside.disks.items) c.self.inside.taken c.self.inside.held.items _ c.self.inside.stage = c.self.invariant in
+    let kept : IsReceiver (map g.D.Disk.state c.self.inside.disks.items) c.self.inside.taken c.self.inside.held.items _ _ c.self.inside.stage = c.self.invariant in
     let known = (rw c.in-Ended.is at kept.known) refl in
     known.1.1.ended.read.marks_are
 
@@ -44,7 +44,7 @@ returns-in-Ok-clause-received g c = λ honest b f.
 
 pub returns-in-Ok-clause-marks : goal.returns-in-Ok-clause-marks
 returns-in-Ok-clause-marks g c =
-    let kept : IsReceiver (map g.D.Disk.state c.self.inside.disks.items) c.self.inside.taken c.self.inside.held.items _ c.self.inside.stage = c.self.invariant in
+    let kept : IsReceiver (map g.D.Disk.state c.self.inside.disks.items) c.self.inside.taken c.self.inside.held.items _ _ c.self.inside.stage = c.self.invariant in
     let known = (rw c.in-Ended.is at kept.known) refl in
     let h = known.1.1 in
     let marks = marks_mapped g.D.Disk.state c.self.inside.disks.items ∙ ap (λ (v : Received). v.marks) c.self.view_is in
@@ -54,7 +54,7 @@ returns-in-Ok-clause-marks g c =
 
 pub returns-in-Ok-clause-fits : goal.returns-in-Ok-clause-fits
 returns-in-Ok-clause-fits g c =
-    let kept : IsReceiver (map g.D.Disk.state c.self.inside.disks.items) c.self.inside.taken c.self.inside.held.items _ c.self.inside.stage = c.self.invariant in
+    let kept : IsReceiver (map g.D.Disk.state c.self.inside.disks.items) c.self.inside.taken c.self.inside.held.items _ _ c.self.inside.stage = c.self.invariant in
     let known = (rw c.in-Ended.is at kept.known) refl in
     let h = known.1.1 in
     sym (ap (λ (v : Received). v.sizes) c.self.view_is) ∙ h.ended.read.fits ∙ ap disk_sizes (sym (whole_shapes h.ended.read (h.ended.complete.devices refl))) ∙ sym (ap (λ (m : MachineState). disk_sizes (shapes_in m.devices)) c.in-Ok.ensures.restored)
