@@ -1,3 +1,4 @@
 pub mod Copies
 pub mod Cases
 pub mod Filling
+pub mod Held

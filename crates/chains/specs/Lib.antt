@@ -6,6 +6,8 @@ pub mod Descriptor
 pub mod Decoder
 pub mod DecoderLaws
 pub mod Whole
+pub mod Held
+pub mod HeldLaws
 pub mod SplitChain
 pub mod PackedChain
 pub mod Ring

@@ -34,6 +34,8 @@
 //! - `transmit(alloc, ring, form, ram, log)` is `transmit_step` over any `Ring`: it reads the message of the next chain, which a
 //!   `MessageForm` separates from a malformed one, and publishes the chain with nothing written. An error is out of memory, at a long
 //!   chain or where a message waits, and changes nothing.
+//! - `add(descriptor, len, chain)` adds the buffer of a descriptor to a chain that a ring gathers as it walks, with the tests of
+//!   one buffer; `ended(chain)` is the last test, of all bytes together. Both layouts gather by these.
 //! - The module `laws`: a queue has at most one chain, and so one answer; every chain is bounded, whatever the driver wrote; memory
 //!   is taken only at a queue that is not empty.
 //!
@@ -47,6 +49,7 @@
 //! - `specs/Descriptor`: the descriptor at an index of a table;
 //! - `specs/Decoder`: what is kept of descriptors, and when it fits a RAM; `specs/RingSeen`: a ring with that;
 //! - `specs/Whole`: the rules that the descriptors of a chain keep in either layout, and their segments;
+//! - `specs/Held`: the segments of a chain while a ring gathers it;
 //! - `specs/SplitChain` and `specs/PackedChain`: the chain at the taking position, and when there is none;
 //! - `specs/Ring`: the answers of a ring, by its layout;
 //! - `specs/LongQueue`: the queues at which memory may be taken;
@@ -55,12 +58,14 @@
 //! - `specs/Frame`: what is asked before every step, and what holds after it;
 //! - `specs/Look`: what a device sees in a queue, by the chains that it can use;
 //! - `specs/ReceiveBuffer`, `Transmit` and `Transmitted`: what giving bytes to a chain writes, and the step that takes a message;
-//! - `specs/PlaceLaws`, `EffectLaws`, `DecoderLaws`, `FrameLaws`, `SplitLaws`, `PackedLaws`, `ChainLaws` and `LookLaws`: what follows, for proofs above.
+//! - `specs/PlaceLaws`, `EffectLaws`, `DecoderLaws`, `HeldLaws`, `FrameLaws`, `SplitLaws`, `PackedLaws`, `ChainLaws` and `LookLaws`: what follows,
+//!   for proofs above.
 //!
 //! A chain is a relation on whole lists of descriptors: it says which list is the chain, and not how to find it. What no list meets
 //! is malformed. Nothing is trusted here beside the toolchain and the crates below.
 #![tactic(auto)]
 
+mod adding;
 mod chain;
 mod copy;
 mod decoder;
@@ -81,6 +86,7 @@ mod transmitting;
 mod walked;
 mod whole;
 
+pub use adding::{add, ended};
 pub use chain::Chain;
 pub use copy::{copy_in, copy_out};
 pub use decoder::{Decoder, Kept, PLACES};

@@ -1,0 +1,53 @@
+//! What a chain holds while its descriptors are gathered.
+
+ghost use Rattle.std.specs.Prelude.{◌≡◌, ◌+◌, ◌<◌, ◌^◌, List};
+ghost use Rattle.chains.specs.declared.descriptor.Descriptor.{Descriptor};
+ghost use Rattle.chains.specs.Held.{AreHeld, AddGives, EndGives, WhereListed, segment_count};
+
+use crate::chain::Chain;
+use crate::descriptor::Descriptor;
+use crate::segs::Seg;
+use crate::walked::Walked;
+
+/// Adds the buffer of a descriptor to the segments of a chain, in a RAM of `len` bytes. It is not added if it does not lie
+/// inside RAM, or if it is readable and the chain has writable ones. Memory is refused only where the chain has
+/// `SHORT_CHAIN_MAX` segments or more.
+pub fn add(descriptor: &Descriptor, len: u64, chain: &mut Chain) -> Walked
+    requires few { segment_count chain.old < 2 ^ 32 }
+    ensures gives { (ds : List Descriptor) → AreHeld len ds chain.old → AddGives len ds descriptor.now chain.new result }
+    ensures count { WhereListed result (segment_count chain.new ≡ segment_count chain.old + 1) }
+{
+    // A buffer that is not inside RAM.
+    if descriptor.addr > len || descriptor.len as u64 > len - descriptor.addr {
+        return Walked::Missing;
+    }
+    let seg = Seg {
+        addr: descriptor.addr,
+        len: descriptor.len,
+    };
+    if descriptor.is_writable {
+        let Ok(()) = chain.writable.push(seg) else {
+            return Walked::NoMemory;
+        };
+        return Walked::Listed;
+    }
+    // A readable buffer after a writable one.
+    if !chain.writable.is_empty() {
+        return Walked::Missing;
+    }
+    let Ok(()) = chain.readable.push(seg) else {
+        return Walked::NoMemory;
+    };
+    Walked::Listed
+}
+
+/// The test of a chain whose descriptors are gathered: that they have together less than 4 GiB.
+pub fn ended(chain: &Chain) -> Walked
+    ensures { EndGives chain.now result }
+{
+    let readable = chain.readable.total_len();
+    if readable < 1 << 32 && chain.writable.total_len() < (1 << 32) - readable {
+        return Walked::Listed;
+    }
+    Walked::Missing
+}
