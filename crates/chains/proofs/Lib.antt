@@ -1,4 +1,3 @@
 pub mod Copies
-pub mod Cases
 pub mod Filling
 pub mod Held

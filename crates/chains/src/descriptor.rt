@@ -10,7 +10,7 @@ use guestmem::Ram;
 pub const DESCRIPTOR_SIZE: u64 = 16;
 
 /// One entry of a table of descriptors, decoded.
-#[derive(Clone, Copy, Debug, Default, PartialEq, Eq)]
+#[derive(Clone, Copy, Debug, PartialEq, Eq)]
 pub struct Descriptor {
     /// The address of the buffer, or of the table that an indirect descriptor names.
     pub addr: u64,

@@ -39,8 +39,7 @@
 //! - The module `laws`: a queue has at most one chain, and so one answer; every chain is bounded, whatever the driver wrote; memory
 //!   is taken only at a queue that is not empty.
 //!
-//! A chain of at most `SHORT_CHAIN_MAX` descriptors takes no memory: `smallvec` keeps short lists of descriptors and of segments
-//! inline.
+//! A chain of at most `SHORT_CHAIN_MAX` descriptors takes no memory: `smallvec` keeps short lists of segments inline.
 //!
 //! # Definitions
 //! - `specs/State`: what a ring means (`RingState`) and where its three areas lie (`HasAreas`);
@@ -70,7 +69,6 @@ mod chain;
 mod copy;
 mod decoder;
 mod descriptor;
-mod descriptors;
 pub mod flags;
 pub mod laws;
 mod limits;
@@ -84,14 +82,12 @@ mod ring_core;
 mod segs;
 mod transmitting;
 mod walked;
-mod whole;
 
 pub use adding::{add, ended};
 pub use chain::Chain;
 pub use copy::{copy_in, copy_out};
 pub use decoder::{Decoder, Kept, PLACES};
 pub use descriptor::{DESCRIPTOR_SIZE, Descriptor, is_table};
-pub use descriptors::Descriptors;
 pub use limits::SHORT_CHAIN_MAX;
 pub use looking::{Wanted, look};
 pub use next::Next;
@@ -103,4 +99,3 @@ pub use ring_core::RingCore;
 pub use segs::{Seg, Segs};
 pub use transmitting::{MessageForm, Transmitted, transmit};
 pub use walked::Walked;
-pub use whole::{fill_segments, is_whole};
