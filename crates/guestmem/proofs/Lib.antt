@@ -1,4 +1,5 @@
 pub mod Told
 pub mod Later
+pub mod Raising
 pub mod ZeroLemmas
 pub mod Rising

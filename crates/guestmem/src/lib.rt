@@ -11,15 +11,15 @@
 //! # What the layers above may rely on
 //! - `Ram::read` and `Ram::write` return `TooLong` (more than 4,096 bytes), then `OutOfRam`, by `refusal_of` alone. A refusal changes
 //!   nothing, the caller's buffer neither. Else a read gives the bytes, and RAM after a write is `written`.
-//! - `write` returns the pages that it went into. `put` is a write of any length that the caller knows to lie inside RAM; it names
-//!   each page that it touches to a `TouchLog`, which is then what the items make of it.
+//! - `write` returns the pages that it went into. `get` and `put` are a read and a write of any length that the caller knows to lie
+//!   inside RAM; `put` names each page that it touches to a `TouchLog`, which is then what the items make of it.
 //! - Every write makes one copy and takes no memory.
 //! - RAM after a write is a *later* one (`specs/Later`): no version fell, and a byte whose page has kept its version, unless that is
 //!   the greatest, is what it was. By `later_in_turn` this holds through any list of writes. Every call above that writes RAM says
 //!   it, up to `apply`.
 //! - The versions rise in exactly the pages that are written (`specs/Rises`): a page that was not written keeps its version. By
 //!   `rises_in_turn` this holds through any list of writes, and every call above says it of the items that it touched.
-//! - The caller's part: page numbers below the number of pages; for `put`, bytes inside RAM.
+//! - The caller's part: page numbers below the number of pages; for `get` and `put`, bytes inside RAM.
 //!
 //! The contracts speak of the record `Memory` (`specs/Memory`: the bytes in order of their addresses, and the versions) and of the
 //! bytes of a page (`specs/Page`), of the little-endian number at an address (`specs/Number`), of writes and lists of writes

@@ -8,7 +8,7 @@ ghost use Rattle.guestmem.specs.Memory.{Memory, IsMemory};
 ghost use Rattle.guestmem.specs.Page.{page_of};
 ghost use Rattle.guestmem.specs.Later.{IsLater};
 ghost use Rattle.guestmem.specs.Rises.{Rises};
-ghost use Rattle.guestmem.specs.Write.{written, touched_of, refusal_of, unless_refused, raised};
+ghost use Rattle.guestmem.specs.Write.{written, touched_of, refusal_of, unless_refused, raise, raised};
 
 use crate::error::RamError;
 use crate::limits::{ACCESS_MAX, PAGE_SIZE, PAGES_MAX};
@@ -149,9 +149,17 @@ impl Ram {
         if let Some(error) = self.refusal(addr, buf.len()) {
             return Err(error);
         }
+        self.get(addr, buf);
+        Ok(())
+    }
+
+    /// Fills a buffer of any length with the bytes from an address on, for code that knows them to lie inside RAM.
+    pub fn get(&self, addr: u64, buf: &mut [u8])
+        requires { addr + length buf.old ≤ length self.now.bytes }
+        ensures { buf.new ≡ take (length buf.old) (drop addr self.now.bytes) }
+    {
         let start = addr as usize;
         buf.copy_from_slice(&self.bytes[start..start + buf.len()]);
-        Ok(())
     }
 
     /// Writes bytes from an address on, and returns the pages that they went into. A refusal changes nothing.
@@ -202,7 +210,7 @@ impl Ram {
         let end = start + bytes.len();
         self.bytes[start..end].copy_from_slice(bytes);
         let (first, last) = (start / PAGE_SIZE, (end - 1) / PAGE_SIZE);
-        raise_all(&mut self.versions[first..=last]);
+        raise_pages(self.versions.as_mut_slice(), first, last);
         Touched::Pages(first as u64, last as u64)
     }
 }
@@ -222,6 +230,18 @@ fn tell_pages<L: TouchLog>(log: &mut L, first: u64, last: u64)
 pub fn recall_bytes(bytes: &[u8])
     ensures { IsBytes bytes.now }
 {}
+
+/// Raises the versions of the pages from `first` to `last`, both included. A write seldom goes into more than one.
+fn raise_pages(versions: &mut [u64], first: usize, last: usize)
+    requires order { first ≤ last }
+    requires inside { last < length versions.old }
+    ensures { versions.new ≡ raise versions.old first last }
+{
+    versions[first] = raised_version(versions[first]);
+    if first < last {
+        raise_all(&mut versions[first + 1..=last]);
+    }
+}
 
 fn raise_all(versions: &mut [u64])
     ensures { versions.new ≡ map raised versions.old }
