@@ -1,18 +1,14 @@
-use Rattle.std.proofs.Common.{◌≡◌, ℕ, ◌+◌, ◌-◌, ◌≤◌, ◌<◌, List, [], ◌++◌, length, take, drop, min, get_or, slice_index, refl, ap, sym, ◌∙◌, arith, inl, inr, length-append, length-drop, length-take-le, take-add, append-nil, append_assoc}
+use Rattle.std.proofs.Common.{◌≡◌, ℕ, ◌+◌, ◌-◌, ◌≤◌, ◌<◌, List, [], ◌∷◌, ◌++◌, length, take, drop, min, get_or, slice_index, refl, ap, sym, ◌∙◌, arith, inl, inr, length-append, length-drop, length-take-le, append-nil, append_assoc}
 use Rattle.std.proofs.lemmas.Bool.{cases_lt}
 use Rattle.std.proofs.lemmas.List.{drop_more, take-take, take-append-le, map-append}
 use Rattle.std.specs.List.{drop-map}
 use Rattle.std.proofs.lemmas.Slice.{take-put_mid}
 use Rattle.std.proofs.Math.Seq.{drop-append_seam, drop-append-add, take-append-add}
 use borrow.Rule.Slice.PartMut.{put_mid, same_len_mid}
-use Rattle.std.specs.Prelude.{Result, Ok, OnOk, nat_lt, false}
-use Rattle.std.proofs.lemmas.Bool.{le-ltb}
-use Rattle.guestmem.specs.declared.error.RamError.{RamError}
-use Rattle.guestmem.specs.Write.{refusal_of, unless_refused}
 use Rattle.guestmem.specs.Writes.{byte_writes}
 use Rattle.chains.specs.declared.segs.Seg.{Seg}
 use Rattle.chains.specs.Places.{addresses, places, read_places, place_writes}
-use Rattle.chains.specs.PlaceLaws.{length_addresses, addresses_add, read_addresses, run_writes}
+use Rattle.chains.specs.PlaceLaws.{length_addresses, addresses_add, read_addresses, place_writes_take, no_bytes, run_writes}
 
 -- The places from a segment on are its own, and then those of the segments behind it.
 places_here : (segs : List Seg) (i : ℕ) (d : Seg) → i < length segs → places (drop i segs) ≡ addresses (get_or segs i d).addr (get_or segs i d).len ++ places (drop (i + 1) segs)
@@ -104,18 +100,20 @@ read_more ram buf piece wanted segs i skip filled count d below within inside fi
     let parts = segment_bytes ram segs i skip (length buf - filled) d below within inside in
     rw (front, left, append_assoc, read, is) (ap (λ (xs : List ℕ). take filled buf ++ xs) (sym parts) ∙ so_far)
 
--- A read of at most 4,096 bytes inside RAM is not refused.
-pub read_is : (len at count : ℕ) (result : Result (Unit {0}) RamError) (P : Type 0) → result ≡ unless_refused (refusal_of len at count) tt → count ≤ 4096 → at + count ≤ len → OnOk result P → P
-read_is len at count result P is short inside h =
-    let a : nat_lt 4096 count ≡ false = le-ltb 4096 count short in
-    let b : nat_lt len (at + count) ≡ false = le-ltb len (at + count) inside in
-    let e : result ≡ Ok tt = rw (a, b) at is in
-    rw e at h
+-- Bytes that the first segment holds are one run of writes.
+pub first_writes : (segs : List Seg) (d : Seg) (bytes : List ℕ) → 0 < length segs → length bytes ≤ (get_or segs 0 d).len
+    → place_writes (take (length bytes) (drop 0 (places segs))) bytes ≡ byte_writes (get_or segs 0 d).addr bytes
+first_writes [] d bytes some few = absurd (omega arith)
+first_writes (seg ∷ segs) d bytes some few =
+    let run = run_writes seg.addr seg.len (places segs) bytes [] few (λ _. refl) in
+    place_writes_take (places (seg ∷ segs)) bytes ∙ (rw (append-nil, no_bytes, append-nil) at run)
 
--- A run that is read in pieces.
-pub run_more : (buf piece run : List ℕ) (done end : ℕ) → done ≤ end → end ≤ length buf → end ≤ length run → take done buf ≡ take done run → piece ≡ take (end - done) (drop done run)
-    → take end (put_mid done (end - done) buf piece) ≡ take end run
-run_more buf piece run done end order fits long so_far is =
-    let size : length piece ≡ end - done = rw is (length-take-le (end - done) (drop done run) (rw length-drop (omega arith))) in
-    let e : end ≡ done + (end - done) = omega arith in
-    take-put_mid done (end - done) buf piece end (omega arith) (omega arith) ∙ rw (so_far, is) (sym (take-add done (end - done) run)) ∙ ap (λ n. take n run) (sym e)
+-- The first bytes of segments, of which the first has enough, are one run.
+pub first_bytes : (ram : List ℕ) (segs : List Seg) (d : Seg) (m : ℕ) → 0 < length segs → m ≤ (get_or segs 0 d).len → (get_or segs 0 d).addr + (get_or segs 0 d).len ≤ length ram
+    → take m (drop 0 (read_places ram (places segs))) ≡ take m (drop (get_or segs 0 d).addr ram)
+first_bytes ram segs d m some few inside =
+    let parts = segment_bytes ram segs 0 0 m d some (omega arith) inside in
+    let all : min m ((get_or segs 0 d).len - 0) ≡ m = omega arith in
+    let none : m - m ≡ 0 = omega arith in
+    let start : (get_or segs 0 d).addr + 0 ≡ (get_or segs 0 d).addr = omega arith in
+    rw (all, none, start, append-nil) at parts

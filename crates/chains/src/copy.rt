@@ -8,7 +8,7 @@ ghost use Rattle.chains.specs.Frame.{HasServed};
 ghost use Rattle.chains.specs.Places.{places, read_places, place_writes, AreSegmentsInside};
 
 use crate::segs::Seg;
-use guestmem::{ACCESS_MAX, Ram, TouchLog};
+use guestmem::{Ram, TouchLog};
 
 /// Fills the buffer with the bytes of the concatenated segments, from offset `at` on. The segments lie inside RAM, and
 /// have at least `at + buf.len()` bytes. It takes no memory.
@@ -18,6 +18,11 @@ pub fn copy_out(ram: &Ram, segs: &[Seg], at: u64, buf: &mut [u8])
     ensures { buf.new ≡ take (length buf.old) (drop at (read_places ram.now.bytes (places segs.now))) }
 {
     ram.recall();
+    // Most messages lie in one segment.
+    if at == 0 && !segs.is_empty() && buf.len() <= segs[0].len as usize {
+        ram.get(segs[0].addr, buf);
+        return;
+    }
     let mut skip = at;
     let mut filled = 0;
     for seg in segs {
@@ -27,23 +32,9 @@ pub fn copy_out(ram: &Ram, segs: &[Seg], at: u64, buf: &mut [u8])
             continue;
         }
         let count = (buf.len() - filled).min((len - skip) as usize);
-        read_run(ram, seg.addr + skip, &mut buf[filled..filled + count]);
+        ram.get(seg.addr + skip, &mut buf[filled..filled + count]);
         filled += count;
         skip = 0;
-    }
-}
-
-/// Reads any number of bytes: a piece of at most a page that lies inside RAM is never refused.
-fn read_run(ram: &Ram, addr: u64, buf: &mut [u8])
-    requires { addr + length buf.old ≤ length ram.now.bytes }
-    ensures { buf.new ≡ take (length buf.old) (drop addr ram.now.bytes) }
-{
-    ram.recall();
-    let mut done = 0;
-    while done < buf.len() {
-        let end = buf.len().min(done + ACCESS_MAX);
-        let _ = ram.read(addr + done as u64, &mut buf[done..end]);
-        done = end;
     }
 }
 
@@ -60,6 +51,11 @@ pub fn copy_in<L: TouchLog>(ram: &mut Ram, segs: &[Seg], at: u64, bytes: &[u8], 
     ensures after { HasServed L.may ram.old ram.new log.new }
 {
     ram.recall();
+    // Most messages lie in one segment.
+    if at == 0 && !segs.is_empty() && bytes.len() <= segs[0].len as usize {
+        ram.put(segs[0].addr, bytes, log);
+        return;
+    }
     let mut skip = at;
     let mut rest = bytes;
     for seg in segs {

@@ -43,6 +43,7 @@ impl Wanted {
 
 /// Looks at the next chain of a ring, and fills it in. If the ring is empty the event note is written. A chain that the device
 /// cannot use is malformed, and stays. Memory is refused only at a long queue, and then nothing has changed.
+#[inline(always)]
 pub fn look<R: Ring, L: TouchLog>(
     ring: &mut R,
     wanted: Wanted,

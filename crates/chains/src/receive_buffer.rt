@@ -17,6 +17,7 @@ use guestmem::{Ram, TouchLog};
 
 /// Gives bytes to the chain that `Ring::next` found: two slices, one after the other, go to its first writable bytes.
 /// The chain is taken, and published with the count of these bytes. The result is whether an interrupt is due.
+#[inline(always)]
 pub fn fill<R: Ring, L: TouchLog>(
     ring: &mut R,
     chain: &Chain,
@@ -38,7 +39,9 @@ pub fn fill<R: Ring, L: TouchLog>(
 {
     let segs = chain.writable.as_slice();
     copy_in(ram, segs, 0, front, log);
-    copy_in(ram, segs, front.len() as u64, back, log);
+    if !back.is_empty() {
+        copy_in(ram, segs, front.len() as u64, back, log);
+    }
     ring.take(chain);
     let len = (front.len() + back.len()) as u32;
     ring.publish(chain.id, chain.slots, len, len > 0, ram, log)

@@ -1,4 +1,5 @@
 use Rattle.std.proofs.Common.{◌≡◌, ◌+◌, ◌-◌, ◌<◌, ◌++◌, ◌∙◌, length, drop, get_or, refl, sym, arith, length-drop, take-append-drop}
+use Rattle.std.proofs.lemmas.Bool.{eqb-false}
 use Rattle.std.proofs.lemmas.List.{drop_all}
 use Rattle.std.proofs.Math.Seq.{drop-nil}
 use Rattle.guestmem.specs.LaterLaws.{later_trans}
@@ -9,7 +10,7 @@ use Rattle.chains.specs.declared.segs.Seg.{Seg}
 use Rattle.chains.specs.EffectLaws.{after_touched, rises_touched}
 use Rattle.chains.specs.PlaceLaws.{place_writes_take}
 use Rattle.chains.specs.Places.{places, place_writes}
-use Rattle.chains.proofs.Copies.{length_here, passed, segment_writes}
+use Rattle.chains.proofs.Copies.{length_here, passed, segment_writes, first_writes}
 use Rattle.chains.proofs.copy.copy_in.Goals as goal
 
 pub loop-seg-preserved-then-skip-len : goal.loop-seg-preserved-then-skip-len
@@ -41,12 +42,12 @@ loop-seg-preserved g c =
     (λ (h : length front < seg.len - c.loop-seg.skip). rw c.split_at.ensures.back (drop_all c.min-count.result c.loop-seg.rest.now (omega arith))) in
     record {
       room = omega (arith, c.loop-seg.invariant.room);
-      size = c.put.ensures.size ∙ c.loop-seg.invariant.size;
-      later = later_trans _ _ _ c.loop-seg.invariant.later c.put.ensures.later;
-      may = c.put.ensures.may;
-      bytes = rw c.put.ensures.bytes (sym (set_all-append c.loop-seg.ram.bytes (byte_writes (seg.addr + c.loop-seg.skip) front) (place_writes (places (drop (c.loop-seg.seg-index + 1) c.args.segs.now)) back)) ∙ (rw writes at c.loop-seg.invariant.bytes));
-      log = rw c.put.ensures.log (sym (after_touched g.L.TouchLog.after c.loop-seg.log (byte_writes (seg.addr + c.loop-seg.skip) front) (place_writes (places (drop (c.loop-seg.seg-index + 1) c.args.segs.now)) back)) ∙ (rw writes at c.loop-seg.invariant.log));
-      rises = λ new more. (rw writes at c.loop-seg.invariant.rises) new (rises_touched (byte_writes (seg.addr + c.loop-seg.skip) front) (place_writes (places (drop (c.loop-seg.seg-index + 1) c.args.segs.now)) back) c.loop-seg.ram c.put.new.self new c.put.ensures.rises more);
+      size = c.put-in-loop-seg.ensures.size ∙ c.loop-seg.invariant.size;
+      later = later_trans _ _ _ c.loop-seg.invariant.later c.put-in-loop-seg.ensures.later;
+      may = c.put-in-loop-seg.ensures.may;
+      bytes = rw c.put-in-loop-seg.ensures.bytes (sym (set_all-append c.loop-seg.ram.bytes (byte_writes (seg.addr + c.loop-seg.skip) front) (place_writes (places (drop (c.loop-seg.seg-index + 1) c.args.segs.now)) back)) ∙ (rw writes at c.loop-seg.invariant.bytes));
+      log = rw c.put-in-loop-seg.ensures.log (sym (after_touched g.L.TouchLog.after c.loop-seg.log (byte_writes (seg.addr + c.loop-seg.skip) front) (place_writes (places (drop (c.loop-seg.seg-index + 1) c.args.segs.now)) back)) ∙ (rw writes at c.loop-seg.invariant.log));
+      rises = λ new more. (rw writes at c.loop-seg.invariant.rises) new (rises_touched (byte_writes (seg.addr + c.loop-seg.skip) front) (place_writes (places (drop (c.loop-seg.seg-index + 1) c.args.segs.now)) back) c.loop-seg.ram c.put-in-loop-seg.new.self new c.put-in-loop-seg.ensures.rises more);
     }
 
 pub returns-clause-bytes : goal.returns-clause-bytes
@@ -63,3 +64,21 @@ pub returns-clause-rises : goal.returns-clause-rises
 returns-clause-rises g c =
     let end = drop_all c.loop-seg.seg-index c.args.segs.now (omega arith) in
     rw place_writes_take ((rw (end, drop-nil) at c.loop-seg.invariant.rises) c.loop-seg.ram (rises_none c.loop-seg.ram c.loop-seg.ram refl))
+
+pub returns-then-bytes-segs-clause-bytes : goal.returns-then-bytes-segs-clause-bytes
+returns-then-bytes-segs-clause-bytes g c =
+    let zero : c.args.at ≡ 0 = omega arith in
+    let some : 0 < length c.args.segs.now = omega (arith, eqb-false (length c.args.segs.now) 0 (sym c.is_empty.ensures ∙ c.if-not-is_empty.true)) in
+    rw (zero, first_writes c.args.segs.now (record { addr = 0; len = 0 }) c.args.bytes.now some c.if-bytes-segs.true) c.put.ensures.bytes
+
+pub returns-then-bytes-segs-clause-log : goal.returns-then-bytes-segs-clause-log
+returns-then-bytes-segs-clause-log g c =
+    let zero : c.args.at ≡ 0 = omega arith in
+    let some : 0 < length c.args.segs.now = omega (arith, eqb-false (length c.args.segs.now) 0 (sym c.is_empty.ensures ∙ c.if-not-is_empty.true)) in
+    rw (zero, first_writes c.args.segs.now (record { addr = 0; len = 0 }) c.args.bytes.now some c.if-bytes-segs.true) c.put.ensures.log
+
+pub returns-then-bytes-segs-clause-rises : goal.returns-then-bytes-segs-clause-rises
+returns-then-bytes-segs-clause-rises g c =
+    let zero : c.args.at ≡ 0 = omega arith in
+    let some : 0 < length c.args.segs.now = omega (arith, eqb-false (length c.args.segs.now) 0 (sym c.is_empty.ensures ∙ c.if-not-is_empty.true)) in
+    rw (zero, first_writes c.args.segs.now (record { addr = 0; len = 0 }) c.args.bytes.now some c.if-bytes-segs.true) c.put.ensures.rises
