@@ -59,17 +59,17 @@ pub record IsLongBehind (ram : List ℕ) (table entries index room : ℕ) (befor
   pub few : length row ≤ room
   pub long : SHORT_CHAIN_MAX < length before + length row
 
--- What a walk gives behind `before`, by the chain that it has added to.
-abbrev pub WalkGives : List ℕ → ℕ → ℕ → ℕ → ℕ → List Descriptor → Chain → Stop → Type 0
-WalkGives ram table entries index room before c stop.Ended = AreGathered ram table entries index room before c
-WalkGives ram table entries index room before c (stop.Table last) = AreBeforeTable ram table entries index room before last c
-WalkGives ram table entries index room before c stop.Missing = IsNoneSound ram table entries index room before
-WalkGives ram table entries index room before c stop.NoMemory = IsLongBehind ram table entries index room before
+-- What a walk gives behind `before`, by the chain that it has added to, and the last descriptor that it hands out.
+abbrev pub WalkGives : List ℕ → ℕ → ℕ → ℕ → ℕ → List Descriptor → Chain → Descriptor → Stop → Type 0
+WalkGives ram table entries index room before c last stop.Ended = AreGathered ram table entries index room before c
+WalkGives ram table entries index room before c last stop.Table = AreBeforeTable ram table entries index room before last c
+WalkGives ram table entries index room before c last stop.Missing = IsNoneSound ram table entries index room before
+WalkGives ram table entries index room before c last stop.NoMemory = IsLongBehind ram table entries index room before
 
 -- `P`, if a walk stopped at a descriptor that names a table.
 abbrev pub WhereTable : Stop → Type 0 → Type 0
 WhereTable stop.Ended P = Unit {0}
-WhereTable (stop.Table last) P = P
+WhereTable stop.Table P = P
 WhereTable stop.Missing P = Unit {0}
 WhereTable stop.NoMemory P = Unit {0}
 

@@ -6,12 +6,12 @@ ghost use Rattle.chains.specs.Decoder.{Fits, empty_decoder};
 ghost use Rattle.chains.specs.RingCore.{core_state};
 ghost use Rattle.chains.specs.State.{state_of, MayRing, HasAreas};
 ghost use Rattle.chains.specs.SplitChain.{available_index};
-ghost use Rattle.chains.specs.Publish.{is_split_due, next_index};
+ghost use Rattle.chains.specs.Publish.{is_split_due};
 ghost use Rattle.byteorder.specs.Endian.{little_bytes};
 
 use crate::table::find;
 use byteorder::{ByteOrder, LittleEndian};
-use chains::{Chain, Decoder, Next, NextKind, Position, Positions, Ring, RingCore, Walked};
+use chains::{Chain, Decoder, Next, NextKind, Positions, Ring, RingCore, Walked};
 use guestmem::{NoMemory, Ram, TouchLog};
 use mmio::Queue;
 use std::alloc::Global;
@@ -167,7 +167,7 @@ impl Ring for SplitRing {
     }
 
     fn take(&mut self, _chain: &Chain) {
-        self.core.taking = going_on(self.core.taking);
+        self.core.taking.place = self.core.taking.place.wrapping_add(1);
     }
 
     fn publish<L: TouchLog>(
@@ -183,10 +183,10 @@ impl Ring for SplitRing {
         let slot = self.core.used.place % self.core.size;
         let element = self.core.device + RING + ELEMENT_SIZE * slot as u64;
         ram.put(element, &element_bytes(id, len), log);
-        let used = going_on(self.core.used);
-        ram.put(self.core.device + INDEX, &index_bytes(used.place), log);
+        let next = self.core.used.place.wrapping_add(1);
+        ram.put(self.core.device + INDEX, &index_bytes(next), log);
         let is_due = self.is_due(ram);
-        self.core.used = used;
+        self.core.used.place = next;
         is_due
     }
 
@@ -205,15 +205,6 @@ impl Ring for SplitRing {
 
     fn positions(&self) -> Positions {
         self.core.positions()
-    }
-}
-
-fn going_on(position: Position) -> Position
-    ensures { result ≡ next_index position }
-{
-    Position {
-        place: position.place.wrapping_add(1),
-        ..position
     }
 }
 

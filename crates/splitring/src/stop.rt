@@ -1,15 +1,13 @@
 //! Where a walk stopped.
 
-use chains::Descriptor;
-
 /// Where a walk over a list of descriptors stopped.
 #[derive(Clone, Copy, Debug, PartialEq, Eq)]
 pub(crate) enum Stop {
     /// At the end of the list, all of which was gathered.
     Ended,
 
-    /// At the last descriptor of the list, this one, which names a table. Those before it were gathered.
-    Table(Descriptor),
+    /// At the last descriptor of the list, which names a table. Those before it were gathered.
+    Table,
 
     /// At what no chain has.
     Missing,

@@ -35,11 +35,14 @@ pub(crate) fn find(
 {
     chain.readable.clear();
     chain.writable.clear();
+    let mut last = Descriptor::default();
     let size = core.size;
     let (table, entries) = (core.descriptors, size as u32);
-    match walk(ram, decoder, table, entries, first, size, true, chain) {
+    match walk(
+        ram, decoder, table, entries, first, size, true, chain, &mut last,
+    ) {
         Stop::Ended => ended(chain),
-        Stop::Table(last) => follow(core, decoder, ram, &last, chain),
+        Stop::Table => follow(core, decoder, ram, &last, chain),
         Stop::Missing => Walked::Missing,
         Stop::NoMemory => Walked::NoMemory,
     }
@@ -66,10 +69,13 @@ fn follow(
     }
     let room = core.size - (chain.readable.len() + chain.writable.len()) as u16;
     let (table, entries) = (last.addr, last.len / DESCRIPTOR_SIZE as u32);
-    match walk(ram, decoder, table, entries, 0, room, false, chain) {
+    let mut named = Descriptor::default();
+    match walk(
+        ram, decoder, table, entries, 0, room, false, chain, &mut named,
+    ) {
         Stop::Ended => ended(chain),
         // INDIRECT inside the table.
-        Stop::Table(_) => Walked::Missing,
+        Stop::Table => Walked::Missing,
         Stop::Missing => Walked::Missing,
         Stop::NoMemory => Walked::NoMemory,
     }

@@ -8,12 +8,12 @@ ghost use Rattle.splitring.specs.Walk.{WalkGives, WhereTable};
 
 use crate::adding::add;
 use crate::stop::Stop;
-use chains::{Chain, DESCRIPTOR_SIZE, Decoder, Walked};
+use chains::{Chain, DESCRIPTOR_SIZE, Decoder, Descriptor, Walked};
 use guestmem::Ram;
 
-/// Adds to a chain the buffers of the list that begins at entry `first` of a table, up to one that names a table. It stops at
-/// a descriptor that breaks a rule, and after `room` of them. No more are decoded than `room`, nor, where the last one names a
-/// table, than are added and that one. `is_own` says that the table is the queue's own.
+/// Adds to a chain the buffers of the list that begins at entry `first` of a table, up to one that names a table, which it
+/// hands out as `last`. It stops at a descriptor that breaks a rule, and after `room` of them. No more are decoded than `room`,
+/// nor, where the last one names a table, than are added and that one. `is_own` says that the table is the queue's own.
 pub(crate) fn walk(
     ram: &Ram,
     decoder: &mut Decoder,
@@ -23,12 +23,13 @@ pub(crate) fn walk(
     room: u16,
     is_own: bool,
     chain: &mut Chain,
+    last: &mut Descriptor,
 ) -> Stop
     requires inside { table + DESCRIPTOR_SIZE * entries ≤ length ram.now.bytes }
     requires aligned { is_own ≡ true → table % DESCRIPTOR_SIZE ≡ 0 }
     requires fits { Fits decoder.old ram.now }
     requires few { segment_count chain.old ≤ 65536 }
-    ensures gives { (before : List Descriptor) → AreHeld (length ram.now.bytes) before chain.old → WalkGives ram.now.bytes table entries first room before chain.new result }
+    ensures gives { (before : List Descriptor) → AreHeld (length ram.now.bytes) before chain.old → WalkGives ram.now.bytes table entries first room before chain.new last.new result }
     ensures fits { Fits decoder.new ram.now }
     ensures few { decoder.new.decoded ≤ decoder.old.decoded + room }
     ensures each { WhereTable result (decoder.new.decoded + segment_count chain.old ≤ decoder.old.decoded + segment_count chain.new + 1) }
@@ -48,7 +49,8 @@ pub(crate) fn walk(
             if descriptor.has_next {
                 return Stop::Missing;
             }
-            return Stop::Table(descriptor);
+            *last = descriptor;
+            return Stop::Table;
         }
         match add(&descriptor, len, chain) {
             Walked::Listed => {}

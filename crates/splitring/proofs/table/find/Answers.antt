@@ -11,7 +11,7 @@ returns-in-Ended-clause-gives c =
 pub returns-in-Table-clause-gives : goal.returns-in-Table-clause-gives
 returns-in-Table-clause-gives c =
     let b = c.in-Table.ensures.gives [] (held_none _ _ c.clear.ensures c.clear-2.ensures) in
-    found_table _ (core_state false c.args.core.now) c.args.first c.in-Table.last c.walk.new.chain c.follow.new.chain _ c.requires.head b (c.follow.ensures.gives b.front b.held)
+    found_table _ (core_state false c.args.core.now) c.args.first c.walk.new.last c.walk.new.chain c.follow.new.chain _ c.requires.head b (c.follow.ensures.gives b.front b.held)
 
 pub returns-in-Missing-clause-gives : goal.returns-in-Missing-clause-gives
 returns-in-Missing-clause-gives c =

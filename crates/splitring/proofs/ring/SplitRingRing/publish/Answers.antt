@@ -6,7 +6,7 @@ use Rattle.splitring.proofs.ring.SplitRingRing.publish.Goals as goal
 
 pub returns-clause-bytes : goal.returns-clause-bytes
 unfolding split_published
-returns-clause-bytes g c = rw (← c.self.view_is) (simp (c.put-2.ensures.bytes, c.put.ensures.bytes, c.element_bytes.ensures, c.index_bytes.ensures, c.going_on-used.ensures) refl)
+returns-clause-bytes g c = rw (← c.self.view_is) (simp (c.put-2.ensures.bytes, c.put.ensures.bytes, c.element_bytes.ensures, c.index_bytes.ensures) refl)
 
 pub returns-clause-log : goal.returns-clause-log
 unfolding split_published
