@@ -14,9 +14,9 @@ use Rattle.chains.specs.PackedLaws.{packed_list_same}
 use Rattle.chains.specs.ChainLaws.{length_entries}
 use Rattle.chains.specs.LongQueue.{IsLongPacked}
 use Rattle.chains.proofs.Cases.{where_true}
-use Rattle.packedring.specs.Held.{AreSound, AreHeld, EndGives}
+use Rattle.chains.specs.Held.{AreSound, AreHeld, EndGives}
 use Rattle.packedring.specs.Walk.{IsNoChain, ChainGives}
-use Rattle.packedring.proofs.Held.{held_none}
+use Rattle.chains.specs.HeldLaws.{held_none}
 use Rattle.packedring.proofs.Leading.{Leads, leads_start, leads_more, consecutive_first, consecutive_begins}
 
 -- The descriptor at the taking position.

@@ -1,4 +1,3 @@
-pub mod Held
 pub mod Leading
 pub mod Finding
 pub mod Lists

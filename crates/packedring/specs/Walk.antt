@@ -6,7 +6,7 @@ use Rattle.chains.specs.PackedChain.{IsPackedChain, entries_from}
 use Rattle.chains.specs.LongQueue.{IsLongPacked}
 use Rattle.chains.specs.declared.walked.Walked.{Walked}
 use Rattle.chains.specs.declared.walked.Walked.TheVariants.{Listed, Missing, NoMemory}
-use Rattle.packedring.specs.Held.{AreSound, AreHeld}
+use Rattle.chains.specs.Held.{AreSound, AreHeld}
 
 -- There is no chain at the taking position.
 abbrev pub IsNoChain : List ℕ → RingState → Type 0

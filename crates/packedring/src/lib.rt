@@ -13,11 +13,10 @@
 //! Looking for a chain decodes at most one descriptor more than there are slots, whatever RAM holds: a walk stops after one round, and
 //! a table with more entries than slots is refused before it is read. That is the clause `few` of the trait.
 //!
-//! Each buffer goes into the caller's chain as its descriptor is read, with its tests. `specs/Held` and `specs/Walk` have the
+//! Each buffer goes into the caller's chain as its descriptor is read, by `chains::add`, with its tests. `specs/Walk` has the
 //! definitions for the functions inside. Nothing is trusted here beside the crates below.
 #![tactic(auto)]
 
-mod adding;
 mod events;
 mod going_on;
 mod ring;

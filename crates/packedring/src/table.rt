@@ -7,9 +7,8 @@ ghost use Rattle.chains.specs.RingCore.{core_state};
 ghost use Rattle.chains.specs.Descriptor.{descriptor_at};
 ghost use Rattle.packedring.specs.Walk.{ChainGives, EntriesGives};
 
-use crate::adding::{add, ended};
 use crate::walk::walk;
-use chains::{Chain, DESCRIPTOR_SIZE, Decoder, Descriptor, RingCore, Walked, is_table};
+use chains::{Chain, DESCRIPTOR_SIZE, Decoder, Descriptor, RingCore, Walked, add, ended, is_table};
 use guestmem::Ram;
 
 /// Fills in the chain at the taking position, if there is one. The first descriptor there is `first`; where it names a table, the

@@ -7,9 +7,8 @@ ghost use Rattle.chains.specs.RingCore.{core_state};
 ghost use Rattle.chains.specs.Descriptor.{descriptor_at};
 ghost use Rattle.packedring.specs.Walk.{ChainGives};
 
-use crate::adding::{add, ended};
 use crate::going_on::slot_after;
-use chains::{Chain, Decoder, Descriptor, RingCore, Walked};
+use chains::{Chain, Decoder, Descriptor, RingCore, Walked, add, ended};
 use guestmem::Ram;
 
 /// Fills in the chain of the descriptors from the taking position on. The first is `first`, which names no table; each with NEXT

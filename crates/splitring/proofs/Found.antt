@@ -12,7 +12,7 @@ use Rattle.chains.specs.SplitChain.{IsReplaced, IsFromTable, head}
 use Rattle.chains.specs.SplitLaws.{linked_same, linked_some, replaced_same}
 use Rattle.chains.specs.LongQueue.{IsLongSplit}
 use Rattle.chains.proofs.Cases.{where_true}
-use Rattle.splitring.specs.Held.{AreSound, AreHeld, EndGives}
+use Rattle.chains.specs.Held.{AreSound, AreHeld, EndGives}
 use Rattle.splitring.specs.Walk.{IsNoneSound, AreGathered, AreBeforeTable, IsLongBehind, IsMadeOf, FollowGives, FindGives}
 use Rattle.splitring.proofs.Spelled.{spelled_replaced, spelled_plain}
 

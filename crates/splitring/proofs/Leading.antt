@@ -8,7 +8,7 @@ use Rattle.chains.specs.Whole.{ArePlain}
 use Rattle.chains.specs.SplitChain.{AreLinked}
 use Rattle.chains.specs.SplitLaws.{linked_some}
 use Rattle.chains.specs.LongQueue.{AreInRow}
-use Rattle.splitring.specs.Held.{AreSound, AreHeld}
+use Rattle.chains.specs.Held.{AreSound, AreHeld}
 use Rattle.splitring.specs.Walk.{IsNoneSound, AreGathered, AreBeforeTable, IsLongBehind}
 use Rattle.splitring.proofs.Spelled.{spelled_at, spelled_next, spelled_longer}
 

@@ -1,4 +1,3 @@
-pub mod Held
 pub mod Spelled
 pub mod Leading
 pub mod Found

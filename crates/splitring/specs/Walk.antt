@@ -11,7 +11,7 @@ use Rattle.chains.specs.declared.walked.Walked.{Walked}
 use Rattle.chains.specs.declared.walked.Walked.TheVariants.{Listed, Missing, NoMemory}
 use Rattle.splitring.specs.declared.stop.Stop.{Stop}
 use Rattle.splitring.specs.declared.stop.Stop.TheVariants as stop
-use Rattle.splitring.specs.Held.{AreSound, AreHeld}
+use Rattle.chains.specs.Held.{AreSound, AreHeld}
 
 -- `all` may be `direct` with its last descriptor replaced by others, if that one is indirect. None but the last is.
 pub record IsSpelled (direct all : List Descriptor) : Type 0 where

@@ -12,11 +12,10 @@
 //! there are slots, and a table gets the room that the descriptors before the one that names it left. That is the clause `few` of
 //! the trait.
 //!
-//! Each buffer goes into the caller's chain as its descriptor is read, with its tests. `specs/Held` and `specs/Walk` have the
+//! Each buffer goes into the caller's chain as its descriptor is read, by `chains::add`, with its tests. `specs/Walk` has the
 //! definitions for the functions inside. Nothing is trusted here beside the crates below.
 #![tactic(auto)]
 
-mod adding;
 mod ring;
 mod stop;
 mod table;

@@ -6,13 +6,12 @@ ghost use Rattle.chains.specs.Decoder.{Fits};
 ghost use Rattle.chains.specs.State.{HasAreas};
 ghost use Rattle.chains.specs.RingCore.{core_state};
 ghost use Rattle.chains.specs.SplitChain.{head};
-ghost use Rattle.splitring.specs.Held.{AreHeld, segment_count};
+ghost use Rattle.chains.specs.Held.{AreHeld, segment_count};
 ghost use Rattle.splitring.specs.Walk.{FollowGives, FindGives};
 
-use crate::adding::ended;
 use crate::stop::Stop;
 use crate::walk::walk;
-use chains::{Chain, DESCRIPTOR_SIZE, Decoder, Descriptor, RingCore, Walked, is_table};
+use chains::{Chain, DESCRIPTOR_SIZE, Decoder, Descriptor, RingCore, Walked, ended, is_table};
 use guestmem::Ram;
 
 /// Fills in the segments of a chain: the buffers of the list that begins at the head, and where its last descriptor names a

@@ -3,12 +3,11 @@
 ghost use Rattle.std.specs.Prelude.{◌≡◌, ◌+◌, ◌*◌, ◌%◌, ◌<◌, ◌≤◌, List, length, true};
 ghost use Rattle.chains.specs.declared.descriptor.Descriptor.{Descriptor};
 ghost use Rattle.chains.specs.Decoder.{Fits};
-ghost use Rattle.splitring.specs.Held.{AreHeld, segment_count};
+ghost use Rattle.chains.specs.Held.{AreHeld, segment_count};
 ghost use Rattle.splitring.specs.Walk.{WalkGives, WhereTable};
 
-use crate::adding::add;
 use crate::stop::Stop;
-use chains::{Chain, DESCRIPTOR_SIZE, Decoder, Descriptor, Walked};
+use chains::{Chain, DESCRIPTOR_SIZE, Decoder, Descriptor, Walked, add};
 use guestmem::Ram;
 
 /// Adds to a chain the buffers of the list that begins at entry `first` of a table, up to one that names a table, which it

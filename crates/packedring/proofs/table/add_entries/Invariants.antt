@@ -1,7 +1,7 @@
 use Rattle.std.proofs.Common.{◌≡◌, ◌+◌, ◌≤◌, length}
 use Rattle.chains.specs.Decoder.{Fits}
 use Rattle.chains.specs.PackedChain.{entries_from}
-use Rattle.packedring.specs.Held.{AreHeld, segment_count}
+use Rattle.chains.specs.Held.{AreHeld, segment_count}
 use Rattle.packedring.proofs.table.add_entries.Given as goal
 
 abbrev pub invariant-loop-index : goal.invariant-loop-index

@@ -2,7 +2,7 @@ use Rattle.std.proofs.Common.{◌≡◌, ◌+◌, ◌<◌, ◌≤◌, true, fals
 use Rattle.chains.specs.Descriptor.{descriptor_at}
 use Rattle.chains.specs.Decoder.{Fits}
 use Rattle.chains.specs.RingCore.{core_state}
-use Rattle.packedring.specs.Held.{segment_count}
+use Rattle.chains.specs.Held.{segment_count}
 use Rattle.packedring.proofs.Finding.{IsWalked}
 use Rattle.packedring.proofs.walk.walk.Given as goal
 

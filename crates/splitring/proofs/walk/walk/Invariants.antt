@@ -1,7 +1,7 @@
 use Rattle.std.proofs.Common.{◌≡◌, ◌+◌, ◌≤◌, List, length}
 use Rattle.chains.specs.declared.descriptor.Descriptor.{Descriptor}
 use Rattle.chains.specs.Decoder.{Fits}
-use Rattle.splitring.specs.Held.{AreHeld, segment_count}
+use Rattle.chains.specs.Held.{AreHeld, segment_count}
 use Rattle.splitring.proofs.Leading.{IsWalked}
 use Rattle.splitring.proofs.walk.walk.Given as goal
 
