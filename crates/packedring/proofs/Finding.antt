@@ -13,7 +13,6 @@ use Rattle.chains.specs.PackedChain.{AreConsecutive, IsPackedTable, IsPackedList
 use Rattle.chains.specs.PackedLaws.{packed_list_same}
 use Rattle.chains.specs.ChainLaws.{length_entries}
 use Rattle.chains.specs.LongQueue.{IsLongPacked}
-use Rattle.chains.proofs.Cases.{where_true}
 use Rattle.chains.specs.Held.{AreSound, AreHeld, EndGives}
 use Rattle.packedring.specs.Walk.{IsNoChain, ChainGives}
 use Rattle.chains.specs.HeldLaws.{held_none}
@@ -195,6 +194,11 @@ none_sound ram q first is named broken c s =
     let n = named_chain ram q first is named c s in
     let sound : AreSound (length ram) s.all = record { inside = s.whole.inside; in_order = s.whole.in_order } in
     broken (rw n.entries at sound)
+
+-- What is claimed of true is claimed of a test that is true.
+where_true : (b : Bool) (P Q : Type 0) → b ≡ true → P → MatchBool b P Q
+where_true true P Q is p = p
+where_true false P Q is p = absurd (cc)
 
 -- The entries of the table that the first slot names are the chain.
 pub table_made : (ram : List ℕ) (q : RingState) (first : Descriptor) (c : Chain) (gives : Walked) → first ≡ first_of ram q → first.is_indirect ≡ true → first.has_next ≡ false → q.has_indirect ≡ true → IsTable ram first

@@ -14,6 +14,19 @@ use crate::walk::walk;
 use chains::{Chain, DESCRIPTOR_SIZE, Decoder, Descriptor, RingCore, Walked, ended, is_table};
 use guestmem::Ram;
 
+/// What is where a walk puts the last descriptor, until it does.
+const NO_DESCRIPTOR: Descriptor = Descriptor {
+    addr: 0,
+    len: 0,
+    next: 0,
+    id: 0,
+    has_next: false,
+    is_writable: false,
+    is_indirect: false,
+    avail_flag: false,
+    used_flag: false,
+};
+
 /// Fills in the segments of a chain: the buffers of the list that begins at the head, and where its last descriptor names a
 /// table, those of the list of the table in its place. There is no chain if a rule is broken, or there are more buffers than
 /// the queue has slots. The indirect descriptor itself is decoded besides, so at most one more than there are slots is.
@@ -34,7 +47,7 @@ pub(crate) fn find(
 {
     chain.readable.clear();
     chain.writable.clear();
-    let mut last = Descriptor::default();
+    let mut last = NO_DESCRIPTOR;
     let size = core.size;
     let (table, entries) = (core.descriptors, size as u32);
     match walk(
@@ -68,7 +81,7 @@ fn follow(
     }
     let room = core.size - (chain.readable.len() + chain.writable.len()) as u16;
     let (table, entries) = (last.addr, last.len / DESCRIPTOR_SIZE as u32);
-    let mut named = Descriptor::default();
+    let mut named = NO_DESCRIPTOR;
     match walk(
         ram, decoder, table, entries, 0, room, false, chain, &mut named,
     ) {
