@@ -76,6 +76,7 @@ impl Decoder {
     /// The descriptor at an index of a table of the layout. `is_own` says that the table is the queue's own, so that its
     /// descriptors may be kept; the caller's part is then that what is kept fits RAM, and that the table is aligned, so
     /// that no descriptor lies in two pages.
+    #[inline(always)]
     #[tactic(auto, unfolding(crate::specs::Descriptor::descriptor_at))]
     pub fn read(
         &mut self,
@@ -104,6 +105,7 @@ impl Decoder {
         }
     }
 
+    #[inline(always)]
     fn read_own(&mut self, ram: &Ram, is_packed: bool, address: u64, place: usize) -> Descriptor
         requires inside { address + DESCRIPTOR_SIZE ≤ length ram.now.bytes }
         requires aligned { address % DESCRIPTOR_SIZE ≡ 0 }
