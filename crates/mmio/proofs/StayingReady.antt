@@ -1,10 +1,10 @@
 -- A write leaves ready queues as large as they were, and in their layout.
-use Rattle.std.proofs.Common.{◌≡◌, inl, inr, ℕ, zero, suc, ◌<◌, ◌^◌, List, [], ◌∷◌, length, replicate, set, Option, Some, None, Bool, true, false, cond, refl, sym, ◌∙◌, subst, arith, eqb, ltb}
+use Rattle.std.proofs.Common.{◌≡◌, inl, inr, ℕ, zero, suc, ◌<◌, List, [], ◌∷◌, length, replicate, set, Option, Some, None, Bool, true, false, cond, refl, sym, ◌∙◌, subst, arith, eqb, ltb}
 use Rattle.std.specs.Prelude.{◌-◌, not, ◌&&◌, bit_and}
 use Rattle.std.specs.List.{slice_get, All}
 use Rattle.std.proofs.lemmas.Bool.{eqb-false}
 use borrow.Author.Tests.{ltb-true}
-use Rattle.mmio.specs.Bits.{has, with_half}
+use Rattle.mmio.specs.Bits.{with_half}
 use Rattle.mmio.specs.State.{Registers, first_queue, reset_registers, with_common, with_queue, queue_at, selected}
 use Rattle.mmio.specs.Effects.{StaysReady, EachStaysReady, StayReady}
 use Rattle.mmio.specs.QueueReady.{may_be_ready}
@@ -21,27 +21,27 @@ use Rattle.mmio.specs.declared.queue.Queue.{Queue}
 use Rattle.mmio.specs.declared.register.Register.{Register}
 use Rattle.mmio.specs.declared.register.Register.TheVariants as x
 
-stays_by : (b : Bool) (q : Queue) (ready : Bool) → q.is_ready ≡ ready → StaysReady b b q q
+stays_by : (b : ℕ) (q : Queue) (ready : Bool) → q.is_ready ≡ ready → StaysReady b b q q
 stays_by b q true is h = inr (is, refl, refl)
 stays_by b q false is h = cc
 
-stays : (b : Bool) (q : Queue) → StaysReady b b q q
+stays : (b : ℕ) (q : Queue) → StaysReady b b q q
 stays b q = stays_by b q q.is_ready refl
 
-each_stays : (b : Bool) (qs : List Queue) → EachStaysReady b b qs qs
+each_stays : (b : ℕ) (qs : List Queue) → EachStaysReady b b qs qs
 each_stays b [] = tt
 each_stays b (q ∷ qs) = (stays b q, each_stays b qs)
 
-one_set : (b : Bool) (qs : List Queue) (n : ℕ) (q new : Queue) → slice_get qs n ≡ Some q → StaysReady b b q new → EachStaysReady b b qs (set qs n new)
+one_set : (b : ℕ) (qs : List Queue) (n : ℕ) (q new : Queue) → slice_get qs n ≡ Some q → StaysReady b b q new → EachStaysReady b b qs (set qs n new)
 one_set b [] n q new at h = tt
 one_set b (p ∷ qs) zero q new at h = let is : p ≡ q = cc in (subst (λ y. StaysReady b b y new) (sym is) h, each_stays b qs)
 one_set b (p ∷ qs) (suc n) q new at h = (stays b p, one_set b qs n q new at h)
 
-all_first : (was is : Bool) (qs : List Queue) → EachStaysReady was is qs (replicate (length qs) first_queue)
+all_first : (was is : ℕ) (qs : List Queue) → EachStaysReady was is qs (replicate (length qs) first_queue)
 all_first was is [] = tt
 all_first was is (q ∷ qs) = ((λ h. cc), all_first was is qs)
 
-none_ready : (was is : Bool) (qs : List Queue) → All (λ q. q.is_ready ≡ true → ⊥) qs → EachStaysReady was is qs qs
+none_ready : (was is : ℕ) (qs : List Queue) → All (λ q. q.is_ready ≡ true → ⊥) qs → EachStaysReady was is qs qs
 none_ready was is [] h = tt
 none_ready was is (q ∷ qs) h = ((λ r. absurd (h 0 q (omega arith) r)), none_ready was is qs (λ k d below. h (suc k) d (omega (arith, below))))
 
@@ -51,11 +51,11 @@ either r true p q h k = h
 either r false p q h k = k
 
 same : (r : Registers) → StayReady r r
-same r = each_stays (has r.common.features (2 ^ 34)) r.queues
+same r = each_stays r.common.features r.queues
 
 features_by : (r : Registers) (c : Common) (settled : Bool) → eqb (bit_and r.common.status 8) 8 ≡ settled → IsSoundRegisters r → StayReady r (with_common r (cond settled r.common c))
 features_by r c true is sound = same r
-features_by r c false is sound = none_ready (has r.common.features (2 ^ 34)) (has c.features (2 ^ 34)) r.queues
+features_by r c false is sound = none_ready r.common.features c.features r.queues
     (λ k d below h. eqb-false (bit_and r.common.status 8) 8 is ((sound.queues k d below).ready h).settled)
 
 queue_written_ready : (register : Register) (v : ℕ) (q : Queue) → (queue_written register v q).is_ready ≡ q.is_ready
@@ -73,7 +73,7 @@ size_by : (r : Registers) (register : Register) (v : ℕ) (q : Queue) (ready : B
     → StayReady r (cond {A = Effect × Registers} ready (e.None, r) (e.None, with_queue r r.common.queue_select (queue_written register v q))).1
 size_by r register v q true is at = same r
 size_by r register v q false is at =
-    one_set (has r.common.features (2 ^ 34)) r.queues r.common.queue_select q (queue_written register v q) at
+    one_set r.common.features r.queues r.common.queue_select q (queue_written register v q) at
     (λ h. let never : false ≡ true = sym (queue_written_ready register v q ∙ is) ∙ h in cc)
 
 size_stays : (r : Registers) (register : Register) (v : ℕ) (q : Option Queue) → slice_get r.queues r.common.queue_select ≡ q → StayReady r (size_or_address_written r register v q).1
@@ -107,28 +107,28 @@ enabled r v q false is at = same r
 enabled r v q true is at =
     let slots : 0 < q.size = has_slots r.ram_len r.common q (second_of_and _ _ is) in
     let idle : q.is_ready ≡ false = not_true q.is_ready (second_of_and _ _ (first_of_and _ _ is)) in
-    one_set (has r.common.features (2 ^ 34)) r.queues r.common.queue_select q (record q { is_ready = true }) at (λ h. inl (idle, slots))
+    one_set r.common.features r.queues r.common.queue_select q (record q { is_ready = true }) at (λ h. inl (idle, slots))
 
 ready_stays : (r : Registers) (v : ℕ) (q : Option Queue) → slice_get r.queues r.common.queue_select ≡ q → StayReady r (ready_written r v q).1
 ready_stays r v None at = same r
 ready_stays r v (Some q) at =
     either r (eqb v 0) (e.Disabled r.common.queue_select, with_queue r r.common.queue_select (record q { is_ready = false; is_notified = false }))
     (cond (eqb v 1 && not q.is_ready && may_be_ready r.ram_len r.common q) (e.Enabled r.common.queue_select, with_queue r r.common.queue_select (record q { is_ready = true })) (e.None, r))
-    (one_set (has r.common.features (2 ^ 34)) r.queues r.common.queue_select q (record q { is_ready = false; is_notified = false }) at (λ h. cc))
+    (one_set r.common.features r.queues r.common.queue_select q (record q { is_ready = false; is_notified = false }) at (λ h. cc))
     (enabled r v q (eqb v 1 && not q.is_ready && may_be_ready r.ram_len r.common q) refl at)
 
-notified_by : (b : Bool) (q : Queue) (ready : Bool) → q.is_ready ≡ ready → StaysReady b b q (record q { is_notified = true })
+notified_by : (b : ℕ) (q : Queue) (ready : Bool) → q.is_ready ≡ ready → StaysReady b b q (record q { is_notified = true })
 notified_by b q true is h = inr (is, refl, refl)
 notified_by b q false is h = cc
 
 notify_stays : (r : Registers) (v : ℕ) (q : Option Queue) → slice_get r.queues v ≡ q → StayReady r (notify_written r v q).1
 notify_stays r v None at = same r
 notify_stays r v (Some q) at = either r q.is_ready (e.Notified v, with_queue r v (record q { is_notified = true })) (e.None, r)
-    (one_set (has r.common.features (2 ^ 34)) r.queues v q (record q { is_notified = true }) at (notified_by (has r.common.features (2 ^ 34)) q q.is_ready refl)) (same r)
+    (one_set r.common.features r.queues v q (record q { is_notified = true }) at (notified_by r.common.features q q.is_ready refl)) (same r)
 
 status_stays : (r : Registers) (v : ℕ) → StayReady r (status_written r v).1
 status_stays r v = either r (eqb v 0) (e.Reset, reset_registers r) (e.None, with_common r (record r.common { status = status_after r.offered r.common v }))
-    (all_first (has r.common.features (2 ^ 34)) (has 0 (2 ^ 34)) r.queues) (same r)
+    (all_first r.common.features 0 r.queues) (same r)
 
 register_stays : (r : Registers) (register : Register) (v : ℕ) → IsSoundRegisters r → StayReady r (register_written r register v).1
 unfolding register_written

@@ -1,6 +1,5 @@
 -- What holds after every write, whatever was written.
-use Rattle.std.specs.Prelude.{◌≡◌, ◌⊎◌, ℕ, ◌^◌, ◌<◌, Bool, true, false, List, [], ◌∷◌, IsSomeAnd, length}
-use Rattle.mmio.specs.Bits.{has}
+use Rattle.std.specs.Prelude.{◌≡◌, ◌⊎◌, ℕ, ◌<◌, Bool, true, false, List, [], ◌∷◌, IsSomeAnd, length}
 use Rattle.mmio.specs.State.{Registers, queue_at}
 use Rattle.mmio.specs.declared.queue.Queue.{Queue}
 use Rattle.mmio.specs.declared.effect.Effect.{Effect}
@@ -27,16 +26,16 @@ IsTold (e.Disabled number) r = HasQueue r number (λ q. q.is_ready) false
 IsTold _ r = Unit {0}
 
 -- A queue that is ready after a write was just made ready, and has slots; or it was ready before, with the same size and
--- in the same layout.
-abbrev pub StaysReady : Bool → Bool → Queue → Queue → Type 0
-StaysReady was_packed is_packed old new =
-    new.is_ready ≡ true → ((old.is_ready ≡ false) × (0 < new.size)) ⊎ ((old.is_ready ≡ true) × (new.size ≡ old.size) × (is_packed ≡ was_packed))
+-- the same features of the driver.
+abbrev pub StaysReady : ℕ → ℕ → Queue → Queue → Type 0
+StaysReady old_features features old new =
+    new.is_ready ≡ true → ((old.is_ready ≡ false) × (0 < new.size)) ⊎ ((old.is_ready ≡ true) × (new.size ≡ old.size) × (features ≡ old_features))
 
-abbrev pub EachStaysReady : Bool → Bool → List Queue → List Queue → Type 0
-EachStaysReady was is [] [] = Unit {0}
-EachStaysReady was is (o ∷ os) (n ∷ ns) = StaysReady was is o n × EachStaysReady was is os ns
-EachStaysReady was is os ns = ⊥
+abbrev pub EachStaysReady : ℕ → ℕ → List Queue → List Queue → Type 0
+EachStaysReady old_features features [] [] = Unit {0}
+EachStaysReady old_features features (o ∷ os) (n ∷ ns) = StaysReady old_features features o n × EachStaysReady old_features features os ns
+EachStaysReady old_features features os ns = ⊥
 
--- As above, for each queue. The layout is that of the driver's features: packed if bit 34, RING_PACKED, is set.
+-- As above, for each queue. So what the features say of a queue, as its layout, stays as it was while the queue stays ready.
 abbrev pub StayReady : Registers → Registers → Type 0
-StayReady old new = EachStaysReady (has old.common.features (2 ^ 34)) (has new.common.features (2 ^ 34)) old.queues new.queues
+StayReady old new = EachStaysReady old.common.features new.common.features old.queues new.queues
