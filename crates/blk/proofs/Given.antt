@@ -11,7 +11,7 @@ use Rattle.chains.specs.Places.{places, place_writes}
 use Rattle.blk.specs.Disk.{IsSector}
 use Rattle.blk.specs.Sectors.{AreWhole, IsGiven, IsWhole, Sector, bytes_of, is_bad, sector_in}
 use Rattle.blk.specs.Request.{next_sector}
-use Rattle.blk.specs.Move.{AreSet, IsMoved, failed, move_flush, move_id, move_in, move_of, move_out, one_done, unit_bytes}
+use Rattle.blk.specs.Move.{AreSet, IsMoved, failed, move_flush, move_id, move_in, move_of, one_done, write_unit}
 use Rattle.blk.specs.declared.disk.TheConstants.{SECTOR_SIZE}
 use Rattle.blk.specs.declared.request.Kind.{Kind}
 use Rattle.blk.specs.declared.request.Kind.TheVariants.{Flush, GetId}
@@ -91,10 +91,10 @@ id_read touches honest device kind id ram content r is_fine answer new_request n
 })
 
 -- A sector was written, or became bad.
-pub wrote : (touches : List Item → Type 0) (honest : Bool) (device : ℕ) (ram : List ℕ) (content : List Sector) (r : Request) (new_content : List Sector)
-    → AreWhole content → map is_bad new_content ≡ map is_bad (set content (next_sector r) (Some (unit_bytes ram r))) → (IsTrue honest → new_content ≡ set content (next_sector r) (Some (unit_bytes ram r))) → touches (sector device (next_sector r) ∷ [])
-    → IsMoved touches honest device ram content (λ given. move_out ram r true) Moved (one_done r) ram new_content
-wrote touches honest device ram content r new_content whole marks is items_are = record {
+pub wrote : (touches : List Item → Type 0) (honest : Bool) (device : ℕ) (ram bytes : List ℕ) (content : List Sector) (r : Request) (new_content : List Sector)
+    → AreWhole content → map is_bad new_content ≡ map is_bad (set content (next_sector r) (Some bytes)) → (IsTrue honest → new_content ≡ set content (next_sector r) (Some bytes)) → touches (sector device (next_sector r) ∷ [])
+    → IsMoved touches honest device ram content (λ given. write_unit bytes r true) Moved (one_done r) ram new_content
+wrote touches honest device ram bytes content r new_content whole marks is items_are = record {
   given = content;
   is_given = given_itself honest content whole;
   answer_is = refl;
@@ -104,10 +104,10 @@ wrote touches honest device ram content r new_content whole marks is items_are =
   items_are = items_are;
 }
 
-pub wrote_none : (touches : List Item → Type 0) (honest : Bool) (device : ℕ) (ram : List ℕ) (content : List Sector) (r : Request) (new_content : List Sector)
+pub wrote_none : (touches : List Item → Type 0) (honest : Bool) (device : ℕ) (ram bytes : List ℕ) (content : List Sector) (r : Request) (new_content : List Sector)
     → AreWhole content → new_content ≡ set content (next_sector r) None → touches (sector device (next_sector r) ∷ [])
-    → IsMoved touches honest device ram content (λ given. move_out ram r false) DiskFailed (failed r) ram new_content
-wrote_none touches honest device ram content r new_content whole is items_are = record {
+    → IsMoved touches honest device ram content (λ given. write_unit bytes r false) DiskFailed (failed r) ram new_content
+wrote_none touches honest device ram bytes content r new_content whole is items_are = record {
   given = content;
   is_given = given_itself honest content whole;
   answer_is = refl;

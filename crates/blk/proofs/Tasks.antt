@@ -1,8 +1,8 @@
--- What is taken is sound.
-use Rattle.std.proofs.Common.{◌≡◌, ◌≢◌, sym, ◌∙◌, ℕ, zero, suc, ◌+◌, ◌-◌, ◌*◌, ◌/◌, ◌%◌, ◌^◌, ◌<◌, ◌≤◌, ◌==◌, nat_lt, not, ◌&&◌, List, [], ◌∷◌, ◌++◌, Bool, true, false, refl, inl, inr, arith, length}
+-- What is taken is sound, and rests on the bytes that are read for it.
+use Rattle.std.proofs.Common.{◌≡◌, ◌≢◌, sym, ◌∙◌, ℕ, zero, suc, ◌+◌, ◌-◌, ◌*◌, ◌/◌, ◌%◌, ◌^◌, ◌<◌, ◌≤◌, ◌==◌, nat_lt, not, ◌&&◌, ◌||◌, List, [], ◌∷◌, ◌++◌, Bool, true, false, refl, inl, inr, ap, arith, length}
 use Rattle.std.specs.Bool.{if◌then◌else◌}
 use Rattle.std.specs.List.{All}
-use Rattle.std.proofs.lemmas.Bool.{and_parts, cases_Bool, ltb-false, eqb-true, eq-eqb, true≢false}
+use Rattle.std.proofs.lemmas.Bool.{and_parts, or_parts, cases_Bool, ltb-false, eqb-true, eq-eqb, true≢false}
 use Rattle.std.proofs.lemmas.List.Elements.{All-append}
 use Rattle.guestmem.specs.Number.{number_at}
 use Rattle.chains.specs.State.{RingState}
@@ -11,19 +11,19 @@ use Rattle.chains.specs.Places.{places}
 use Rattle.chains.specs.Ring.{IsBounded}
 use Rattle.chains.specs.declared.chain.Chain.{Chain}
 use Rattle.chains.specs.declared.looking.Wanted.TheVariants as wanted
-use Rattle.blk.specs.declared.request.Kind.TheVariants.{In, Out, Flush, GetId}
+use Rattle.blk.specs.declared.request.Kind.TheVariants.{In, Out, Flush, GetId, Zero}
 use Rattle.blk.specs.declared.request.Verdict.TheVariants.{Good, IoError, Unsupported}
 use Rattle.blk.specs.declared.request.Request.{Request}
 use Rattle.blk.specs.declared.shape.BlockShape.{BlockShape}
 use Rattle.blk.specs.declared.task.Task.{Task}
-use Rattle.blk.specs.Task.{task_of, transfer, refused}
+use Rattle.blk.specs.Task.{clear, task_of, transfer, refused}
 use Rattle.blk.specs.declared.request.TheConstants.{HEADER_SIZE}
 use Rattle.blk.specs.Take.{request_for}
 use Rattle.blk.specs.Sound.{IsSoundWork, IsSoundRequest, AreSound}
 
 -- A task on which nothing is done yet is sound.
-abbrev pub IsSoundTask : ℕ → ℕ → ℕ → Bool → Task → Type 0
-IsSoundTask readable writable capacity read_only t = IsSoundWork t.kind readable writable capacity read_only t.verdict t.first t.units 0
+abbrev pub IsSoundTask : ℕ → ℕ → BlockShape → Task → Type 0
+IsSoundTask readable writable shape t = IsSoundWork t.kind readable writable shape t.verdict t.first t.units 0
 
 either : (b : Bool) (P : Bool → Type 0) → (b ≡ true → P true) → (b ≡ false → P false) → P b
 either b P when_true when_false = elim (cases_Bool b) as (λ _. P b) [ inl e ↦ rw e (when_true e) | inr e ↦ rw e (when_false e) ]
@@ -41,57 +41,114 @@ whole_units bytes e =
     let h : bytes % 512 ≡ 0 = eqb-true (bytes % 512) 0 (not-false (bytes % 512 == 0) e) in
     omega (arith, h)
 
-in_sound : (sector readable writable capacity : ℕ) (read_only : Bool) → 1 ≤ writable → IsSoundTask readable writable capacity read_only (transfer In sector (writable - 1) capacity)
-in_sound sector readable writable capacity read_only some =
-    either (not ((writable - 1) % 512 == 0)) (λ b. IsSoundTask readable writable capacity read_only (if b then refused IoError else if nat_lt capacity (sector + (writable - 1) / 512) then refused IoError else record { kind = In; verdict = Good; first = sector; units = (writable - 1) / 512 }))
+in_sound : (sector readable writable : ℕ) (shape : BlockShape) → 1 ≤ writable → IsSoundTask readable writable shape (transfer In sector (writable - 1) shape.sectors)
+in_sound sector readable writable shape some =
+    either (not ((writable - 1) % 512 == 0)) (λ b. IsSoundTask readable writable shape (if b then refused IoError else if nat_lt shape.sectors (sector + (writable - 1) / 512) then refused IoError else record { kind = In; verdict = Good; first = sector; units = (writable - 1) / 512 }))
     (λ e. (refl, refl, refl, refl))
-    (λ e. either (nat_lt capacity (sector + (writable - 1) / 512)) (λ b. IsSoundTask readable writable capacity read_only (if b then refused IoError else record { kind = In; verdict = Good; first = sector; units = (writable - 1) / 512 }))
+    (λ e. either (nat_lt shape.sectors (sector + (writable - 1) / 512)) (λ b. IsSoundTask readable writable shape (if b then refused IoError else record { kind = In; verdict = Good; first = sector; units = (writable - 1) / 512 }))
     (λ f. (refl, refl, refl, refl))
     (λ f.
     let whole = whole_units (writable - 1) e in
-    (omega arith, omega (arith, whole), ltb-false capacity (sector + (writable - 1) / 512) f)))
+    (omega arith, omega (arith, whole), ltb-false shape.sectors (sector + (writable - 1) / 512) f)))
 
-out_sound : (sector readable writable capacity : ℕ) → 16 ≤ readable → IsSoundTask readable writable capacity false (transfer Out sector (readable - 16) capacity)
-out_sound sector readable writable capacity some =
-    either (not ((readable - 16) % 512 == 0)) (λ b. IsSoundTask readable writable capacity false (if b then refused IoError else if nat_lt capacity (sector + (readable - 16) / 512) then refused IoError else record { kind = Out; verdict = Good; first = sector; units = (readable - 16) / 512 }))
+out_sound : (sector readable writable : ℕ) (shape : BlockShape) → shape.read_only ≡ false → 16 ≤ readable → IsSoundTask readable writable shape (transfer Out sector (readable - 16) shape.sectors)
+out_sound sector readable writable shape may some =
+    either (not ((readable - 16) % 512 == 0)) (λ b. IsSoundTask readable writable shape (if b then refused IoError else if nat_lt shape.sectors (sector + (readable - 16) / 512) then refused IoError else record { kind = Out; verdict = Good; first = sector; units = (readable - 16) / 512 }))
     (λ e. (refl, refl, refl, refl))
-    (λ e. either (nat_lt capacity (sector + (readable - 16) / 512)) (λ b. IsSoundTask readable writable capacity false (if b then refused IoError else record { kind = Out; verdict = Good; first = sector; units = (readable - 16) / 512 }))
+    (λ e. either (nat_lt shape.sectors (sector + (readable - 16) / 512)) (λ b. IsSoundTask readable writable shape (if b then refused IoError else record { kind = Out; verdict = Good; first = sector; units = (readable - 16) / 512 }))
     (λ f. (refl, refl, refl, refl))
     (λ f.
     let whole = whole_units (readable - 16) e in
-    (omega arith, omega (arith, whole), ltb-false capacity (sector + (readable - 16) / 512) f, refl)))
+    (omega arith, omega (arith, whole), ltb-false shape.sectors (sector + (readable - 16) / 512) f, may)))
 
-outs_sound : (sector readable writable capacity : ℕ) (read_only : Bool) → 16 ≤ readable → IsSoundTask readable writable capacity read_only (if read_only then refused IoError else transfer Out sector (readable - 16) capacity)
-outs_sound sector readable writable capacity true some = (refl, refl, refl, refl)
-outs_sound sector readable writable capacity false some = out_sound sector readable writable capacity some
+outs_sound : (sector readable writable : ℕ) (shape : BlockShape) → 16 ≤ readable → IsSoundTask readable writable shape (if shape.read_only then refused IoError else transfer Out sector (readable - 16) shape.sectors)
+outs_sound sector readable writable shape some =
+    either shape.read_only (λ b. IsSoundTask readable writable shape (if b then refused IoError else transfer Out sector (readable - 16) shape.sectors))
+    (λ e. (refl, refl, refl, refl))
+    (λ e. out_sound sector readable writable shape e some)
 
-id_sound : (readable writable capacity : ℕ) (read_only : Bool) → IsSoundTask readable writable capacity read_only (if nat_lt (writable - 1) 20 then refused IoError else record { kind = GetId; verdict = Good; first = 0; units = 1 })
-id_sound readable writable capacity read_only =
-    either (nat_lt (writable - 1) 20) (λ b. IsSoundTask readable writable capacity read_only (if b then refused IoError else record { kind = GetId; verdict = Good; first = 0; units = 1 }))
+id_sound : (readable writable : ℕ) (shape : BlockShape) → IsSoundTask readable writable shape (if nat_lt (writable - 1) 20 then refused IoError else record { kind = GetId; verdict = Good; first = 0; units = 1 })
+id_sound readable writable shape =
+    either (nat_lt (writable - 1) 20) (λ b. IsSoundTask readable writable shape (if b then refused IoError else record { kind = GetId; verdict = Good; first = 0; units = 1 }))
     (λ e. (refl, refl, refl, refl))
     (λ e.
     let h = ltb-false (writable - 1) 20 e in
     (refl, omega arith, refl, refl, omega (arith, h)))
 
-pub task_sound : (header : List ℕ) (readable writable capacity : ℕ) (read_only : Bool) → 16 ≤ readable → 1 ≤ writable → IsSoundTask readable writable capacity read_only (task_of header readable writable capacity read_only)
+-- What is to be cleared, once the driver may ask for it and there is one segment.
+abbrev range_of : ℕ → ℕ → ℕ → BlockShape → Task
+range_of first count flags shape =
+    if nat_lt 1 flags then refused Unsupported
+    else if shape.read_only || nat_lt 4096 count || nat_lt shape.sectors (first + count) then refused IoError
+    else record { kind = Zero; verdict = Good; first = first; units = count }
+
+range_sound : (first count flags writable : ℕ) (shape : BlockShape) → shape.write_zeroes ≡ true → IsSoundTask 32 writable shape (range_of first count flags shape)
+range_sound first count flags writable shape may =
+    either (nat_lt 1 flags) (λ b. IsSoundTask 32 writable shape (if b then refused Unsupported else if shape.read_only || nat_lt 4096 count || nat_lt shape.sectors (first + count) then refused IoError else record { kind = Zero; verdict = Good; first = first; units = count }))
+    (λ e. (refl, refl, refl, refl))
+    (λ e. either (shape.read_only || nat_lt 4096 count || nat_lt shape.sectors (first + count)) (λ b. IsSoundTask 32 writable shape (if b then refused IoError else record { kind = Zero; verdict = Good; first = first; units = count }))
+    (λ f. (refl, refl, refl, refl))
+    (λ f.
+    let past = or_parts (shape.read_only || nat_lt 4096 count) (nat_lt shape.sectors (first + count)) f in
+    let most = or_parts shape.read_only (nat_lt 4096 count) past.0 in
+    (omega arith, refl, ltb-false 4096 count most.1, ltb-false shape.sectors (first + count) past.1, most.0, may)))
+
+clear_sound : (segment : List ℕ) (readable writable : ℕ) (shape : BlockShape) → IsSoundTask readable writable shape (clear segment readable shape)
+clear_sound segment readable writable shape =
+    let first = number_at segment 0 8 in
+    let count = number_at segment 8 4 in
+    let flags = number_at segment 12 4 in
+    either (not shape.write_zeroes) (λ b. IsSoundTask readable writable shape (if b then refused Unsupported else if not (readable == 32) then refused IoError else range_of first count flags shape))
+    (λ e. (refl, refl, refl, refl))
+    (λ e. either (not (readable == 32)) (λ b. IsSoundTask readable writable shape (if b then refused IoError else range_of first count flags shape))
+    (λ f. (refl, refl, refl, refl))
+    (λ f.
+    let one : readable ≡ 32 = eqb-true readable 32 (not-false (readable == 32) f) in
+    rw one (range_sound first count flags writable shape (not-false shape.write_zeroes e))))
+
+pub task_sound : (header segment : List ℕ) (readable writable : ℕ) (shape : BlockShape) → 16 ≤ readable → 1 ≤ writable → IsSoundTask readable writable shape (task_of header segment readable writable shape)
 unfolding task_of
-task_sound header readable writable capacity read_only enough some =
+task_sound header segment readable writable shape enough some =
     let type = number_at header 0 4 in
     let sector = number_at header 8 8 in
-    let P : Task → Type 0 = IsSoundTask readable writable capacity read_only in
+    let P : Task → Type 0 = IsSoundTask readable writable shape in
     let unknown : Task = refused Unsupported in
+    let a_clear : Task = clear segment readable shape in
     let an_id : Task = if nat_lt (writable - 1) 20 then refused IoError else record { kind = GetId; verdict = Good; first = 0; units = 1 } in
     let a_flush : Task = record { kind = Flush; verdict = Good; first = 0; units = 1 } in
-    let an_out : Task = if read_only then refused IoError else transfer Out sector (readable - 16) capacity in
-    either (type == 0) (λ b. P (if b then transfer In sector (writable - 1) capacity else if type == 1 then an_out else if type == 4 then a_flush else if type == 8 then an_id else unknown))
-    (λ e. in_sound sector readable writable capacity read_only some)
-    (λ e. either (type == 1) (λ b. P (if b then an_out else if type == 4 then a_flush else if type == 8 then an_id else unknown))
-    (λ f. outs_sound sector readable writable capacity read_only enough)
-    (λ f. either (type == 4) (λ b. P (if b then a_flush else if type == 8 then an_id else unknown))
+    let an_out : Task = if shape.read_only then refused IoError else transfer Out sector (readable - 16) shape.sectors in
+    either (type == 0) (λ b. P (if b then transfer In sector (writable - 1) shape.sectors else if type == 1 then an_out else if type == 4 then a_flush else if type == 8 then an_id else if type == 13 then a_clear else unknown))
+    (λ e. in_sound sector readable writable shape some)
+    (λ e. either (type == 1) (λ b. P (if b then an_out else if type == 4 then a_flush else if type == 8 then an_id else if type == 13 then a_clear else unknown))
+    (λ f. outs_sound sector readable writable shape enough)
+    (λ f. either (type == 4) (λ b. P (if b then a_flush else if type == 8 then an_id else if type == 13 then a_clear else unknown))
     (λ h. (omega arith, refl, refl))
-    (λ h. either (type == 8) (λ b. P (if b then an_id else unknown))
-    (λ i. id_sound readable writable capacity read_only)
-    (λ i. (refl, refl, refl, refl)))))
+    (λ h. either (type == 8) (λ b. P (if b then an_id else if type == 13 then a_clear else unknown))
+    (λ i. id_sound readable writable shape)
+    (λ i. either (type == 13) (λ b. P (if b then a_clear else unknown))
+    (λ j. clear_sound segment readable writable shape)
+    (λ j. (refl, refl, refl, refl))))))
+
+same_clear : (segment other : List ℕ) (readable : ℕ) (shape : BlockShape) → (readable ≡ 32 → segment ≡ other) → clear segment readable shape ≡ clear other readable shape
+same_clear segment other readable shape same =
+    let rest : List ℕ → Task = λ s. range_of (number_at s 0 8) (number_at s 8 4) (number_at s 12 4) shape in
+    either (readable == 32) (λ b. (if not shape.write_zeroes then refused Unsupported else if not b then refused IoError else rest segment) ≡ (if not shape.write_zeroes then refused Unsupported else if not b then refused IoError else rest other))
+    (λ e. ap (λ s. if not shape.write_zeroes then refused Unsupported else rest s) (same (eqb-true readable 32 e)))
+    (λ e. refl)
+
+-- The segment counts only where the header asks for a range to be cleared, and where there is one segment.
+pub same_task : (header segment other : List ℕ) (readable writable : ℕ) (shape : BlockShape) → (number_at header 0 4 ≡ 13 → readable ≡ 32 → segment ≡ other) → task_of header segment readable writable shape ≡ task_of header other readable writable shape
+unfolding task_of
+same_task header segment other readable writable shape same =
+    let type = number_at header 0 4 in
+    let sector = number_at header 8 8 in
+    let an_id : Task = if nat_lt (writable - 1) 20 then refused IoError else record { kind = GetId; verdict = Good; first = 0; units = 1 } in
+    let a_flush : Task = record { kind = Flush; verdict = Good; first = 0; units = 1 } in
+    let an_out : Task = if shape.read_only then refused IoError else transfer Out sector (readable - 16) shape.sectors in
+    let task : Task → Task = λ last. if type == 0 then transfer In sector (writable - 1) shape.sectors else if type == 1 then an_out else if type == 4 then a_flush else if type == 8 then an_id else last in
+    either (type == 13) (λ b. task (if b then clear segment readable shape else refused Unsupported) ≡ task (if b then clear other readable shape else refused Unsupported))
+    (λ e. ap task (same_clear segment other readable shape (same (eqb-true type 13 e))))
+    (λ e. refl)
 
 enough_bytes : (readable writable : ℕ) → (not (nat_lt readable 16) && not (writable == 0)) ≡ true → (16 ≤ readable) × (1 ≤ writable)
 enough_bytes readable writable e =
@@ -104,11 +161,11 @@ all_one P x p zero d h = p
 all_one P x p (suc k) d h = absurd (omega (arith, h))
 
 -- A request that was just taken is sound.
-pub taken_sound : (len : ℕ) (q : RingState) (shape : BlockShape) (requests : List Request) (header : List ℕ) (c : Chain) → c.id < 2 ^ 16 → IsBounded len q c → fits (wanted.Request HEADER_SIZE) c ≡ true → AreSound len q shape requests
-    → AreSound len q shape (requests ++ request_for c (task_of header (length (places c.readable)) (length (places c.writable)) shape.sectors shape.read_only) ∷ [])
-taken_sound len q shape requests header c below b test sound =
+pub taken_sound : (len : ℕ) (q : RingState) (shape : BlockShape) (requests : List Request) (header segment : List ℕ) (c : Chain) → c.id < 2 ^ 16 → IsBounded len q c → fits (wanted.Request HEADER_SIZE) c ≡ true → AreSound len q shape requests
+    → AreSound len q shape (requests ++ request_for c (task_of header segment (length (places c.readable)) (length (places c.writable)) shape) ∷ [])
+taken_sound len q shape requests header segment c below b test sound =
     let enough = enough_bytes (length (places c.readable)) (length (places c.writable)) test in
-    let R : Request = request_for c (task_of header (length (places c.readable)) (length (places c.writable)) shape.sectors shape.read_only) in
+    let R : Request = request_for c (task_of header segment (length (places c.readable)) (length (places c.writable)) shape) in
     let one : IsSoundRequest len q.is_packed q.size shape R = record {
       some = b.some;
       slots = b.slots;
@@ -120,6 +177,6 @@ taken_sound len q shape requests header c below b test sound =
       total = b.total;
       header = enough.0;
       status = enough.1;
-      work = task_sound header (length (places c.readable)) (length (places c.writable)) shape.sectors shape.read_only enough.0 enough.1;
+      work = task_sound header segment (length (places c.readable)) (length (places c.writable)) shape enough.0 enough.1;
     } in
     All-append (IsSoundRequest len q.is_packed q.size shape) requests (R ∷ []) sound (all_one (IsSoundRequest len q.is_packed q.size shape) R one)

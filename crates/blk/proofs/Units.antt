@@ -34,7 +34,7 @@ whole_length None good whole = absurd (true≢false good)
 whole_length (Some bytes) good whole = whole.size
 
 still_sound : (len : ℕ) (is_packed : Bool) (size : ℕ) (shape : BlockShape) (r : Request) (a : Advanced) → IsSoundRequest len is_packed size shape r
-    → (let new = after_unit r a in IsSoundWork new.kind (length (places new.readable)) (length (places new.writable)) shape.sectors shape.read_only new.verdict new.first new.units new.done)
+    → (let new = after_unit r a in IsSoundWork new.kind (length (places new.readable)) (length (places new.writable)) shape new.verdict new.first new.units new.done)
     → IsSoundRequest len is_packed size shape (after_unit r a)
 still_sound len is_packed size shape r Idle h work = h
 still_sound len is_packed size shape r Moved h work = record { some = h.some; slots = h.slots; id_fits = h.id_fits; id = h.id; few = h.few; readable = h.readable; writable = h.writable; total = h.total; header = h.header; status = h.status; work = work }
@@ -44,7 +44,7 @@ still_sound len is_packed size shape r (Completed used due) h work = h
 
 -- Requests of which one went on by a unit are sound.
 pub goes_on : (len : ℕ) (q : RingState) (shape : BlockShape) (rs : List Request) (k : ℕ) (r new : Request) (a : Advanced) → AreSound len q shape rs → k < length rs → r ≡ get_or rs k r → new ≡ after_unit r a
-    → IsSoundWork new.kind (length (places new.readable)) (length (places new.writable)) shape.sectors shape.read_only new.verdict new.first new.units new.done
+    → IsSoundWork new.kind (length (places new.readable)) (length (places new.writable)) shape new.verdict new.first new.units new.done
     → AreSound len q shape (set rs k new)
 goes_on len q shape rs k r new a sound below at is work =
     let P = IsSoundRequest len q.is_packed q.size shape in

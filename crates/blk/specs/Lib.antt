@@ -3,6 +3,7 @@ pub mod FaultDisk
 pub mod FileDisk
 pub mod Sectors
 pub mod Request
+pub mod Shape
 pub mod Task
 pub mod Take
 pub mod Sound

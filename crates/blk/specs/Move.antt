@@ -1,5 +1,5 @@
 -- One unit of a request (VIRTIO 1.2, 5.2.6).
-use Rattle.std.specs.Prelude.{◌≡◌, ℕ, ◌+◌, ◌*◌, ◌<◌, Bool, true, false, List, [], ◌∷◌, ◌++◌, take, drop, map, slice_set, Some, None, IsTrue, if◌then◌else◌}
+use Rattle.std.specs.Prelude.{◌≡◌, ℕ, ◌+◌, ◌*◌, ◌<◌, Bool, true, false, List, [], ◌∷◌, ◌++◌, take, drop, map, replicate, slice_set, Some, None, IsTrue, if◌then◌else◌}
 use Rattle.guestmem.specs.Item.{Item, sector}
 use Rattle.guestmem.specs.Writes.{Write, set_all, touched}
 use Rattle.chains.specs.Places.{places, read_places, place_writes}
@@ -63,11 +63,19 @@ move_in content r is_fine =
 abbrev pub unit_bytes : List ℕ → Request → List ℕ
 unit_bytes ram r = take SECTOR_SIZE (drop (HEADER_SIZE + SECTOR_SIZE * r.done) (read_places ram (places r.readable)))
 
--- The bytes of a unit are written to its sector. If the write fails the sector becomes bad.
-abbrev pub move_out : List ℕ → Request → Bool → Move
-move_out ram r is_fine =
-    if is_fine then moved r [] (record { number = next_sector r; content = Some (unit_bytes ram r) } ∷ [])
+-- These bytes are written to the sector of a unit. If the write fails the sector becomes bad.
+abbrev pub write_unit : List ℕ → Request → Bool → Move
+write_unit bytes r is_fine =
+    if is_fine then moved r [] (record { number = next_sector r; content = Some bytes } ∷ [])
     else disk_failed r (record { number = next_sector r; content = None } ∷ [])
+
+-- The bytes of a unit are written to its sector.
+abbrev pub move_out : List ℕ → Request → Bool → Move
+move_out ram r is_fine = write_unit (unit_bytes ram r) r is_fine
+
+-- The sector of a unit is cleared: zeros are written to it.
+abbrev pub move_zero : Request → Bool → Move
+move_zero r is_fine = write_unit (replicate SECTOR_SIZE 0) r is_fine
 
 abbrev pub move_flush : Request → Bool → Move
 move_flush r is_fine = if is_fine then moved r [] [] else disk_failed r []
@@ -83,6 +91,7 @@ move_of kind.Out id ram content r is_fine = move_out ram r is_fine
 move_of kind.Flush id ram content r is_fine = move_flush r is_fine
 move_of kind.GetId id ram content r is_fine = move_id id r
 move_of kind.Refused id ram content r is_fine = moved r [] []
+move_of kind.Zero id ram content r is_fine = move_zero r is_fine
 
 -- Whether the disk failed, by the answer.
 abbrev pub is_disk_failed : Advanced → Bool

@@ -5,10 +5,10 @@ use Rattle.chains.specs.Places.{places, AreSegmentsInside}
 use Rattle.chains.specs.State.{RingState}
 use Rattle.blk.specs.Request.{is_good}
 use Rattle.blk.specs.declared.disk.TheConstants.{SECTOR_SIZE}
-use Rattle.blk.specs.declared.request.TheConstants.{HEADER_SIZE}
-use Rattle.blk.specs.declared.shape.TheConstants.{ID_SIZE}
+use Rattle.blk.specs.declared.request.TheConstants.{HEADER_SIZE, SEGMENT_SIZE}
+use Rattle.blk.specs.declared.shape.TheConstants.{ID_SIZE, ZEROES_MAX}
 use Rattle.blk.specs.declared.request.Kind.{Kind}
-use Rattle.blk.specs.declared.request.Kind.TheVariants.{Refused, In, Out, Flush, GetId}
+use Rattle.blk.specs.declared.request.Kind.TheVariants.{Refused, In, Out, Flush, GetId, Zero}
 use Rattle.blk.specs.declared.request.Verdict.{Verdict}
 use Rattle.blk.specs.declared.request.Verdict.TheVariants.{Good, IoError, Unsupported}
 use Rattle.blk.specs.declared.request.Request.{Request}
@@ -21,14 +21,14 @@ MayEnd Good done units = done ≤ units
 MayEnd IoError done units = done < units
 MayEnd Unsupported done units = ⊥
 
--- What holds of a request by its kind, for these numbers of readable and writable bytes and of sectors, and a device that
--- may be read-only.
-abbrev pub IsSoundWork : Kind → ℕ → ℕ → ℕ → Bool → Verdict → ℕ → ℕ → ℕ → Type 0
-IsSoundWork Refused readable writable capacity read_only verdict first units done = (is_good verdict ≡ false) × (first ≡ 0) × (units ≡ 0) × (done ≡ 0)
-IsSoundWork In readable writable capacity read_only verdict first units done = MayEnd verdict done units × (SECTOR_SIZE * units + 1 ≡ writable) × (first + units ≤ capacity)
-IsSoundWork Out readable writable capacity read_only verdict first units done = MayEnd verdict done units × (SECTOR_SIZE * units + HEADER_SIZE ≡ readable) × (first + units ≤ capacity) × (read_only ≡ false)
-IsSoundWork Flush readable writable capacity read_only verdict first units done = MayEnd verdict done units × (units ≡ 1) × (first ≡ 0)
-IsSoundWork GetId readable writable capacity read_only verdict first units done = (is_good verdict ≡ true) × (done ≤ units) × (units ≡ 1) × (first ≡ 0) × (ID_SIZE + 1 ≤ writable)
+-- What holds of a request by its kind, for these numbers of readable and writable bytes, in a device of this shape.
+abbrev pub IsSoundWork : Kind → ℕ → ℕ → BlockShape → Verdict → ℕ → ℕ → ℕ → Type 0
+IsSoundWork Refused readable writable shape verdict first units done = (is_good verdict ≡ false) × (first ≡ 0) × (units ≡ 0) × (done ≡ 0)
+IsSoundWork In readable writable shape verdict first units done = MayEnd verdict done units × (SECTOR_SIZE * units + 1 ≡ writable) × (first + units ≤ shape.sectors)
+IsSoundWork Out readable writable shape verdict first units done = MayEnd verdict done units × (SECTOR_SIZE * units + HEADER_SIZE ≡ readable) × (first + units ≤ shape.sectors) × (shape.read_only ≡ false)
+IsSoundWork Flush readable writable shape verdict first units done = MayEnd verdict done units × (units ≡ 1) × (first ≡ 0)
+IsSoundWork GetId readable writable shape verdict first units done = (is_good verdict ≡ true) × (done ≤ units) × (units ≡ 1) × (first ≡ 0) × (ID_SIZE + 1 ≤ writable)
+IsSoundWork Zero readable writable shape verdict first units done = MayEnd verdict done units × (HEADER_SIZE + SEGMENT_SIZE ≡ readable) × (units ≤ ZEROES_MAX) × (first + units ≤ shape.sectors) × (shape.read_only ≡ false) × (shape.write_zeroes ≡ true)
 
 -- A request that may be outstanding, in a RAM of `len` bytes, on a ring of this layout with `size` slots. Its chain is one
 -- that such a ring can have: its id fits 16 bits; it takes from 1 to `size` slots, in a split ring exactly one, and there
@@ -45,7 +45,7 @@ pub record IsSoundRequest (len : ℕ) (is_packed : Bool) (size : ℕ) (shape : B
   pub total : length (places r.readable) + length (places r.writable) < 2 ^ 32
   pub header : HEADER_SIZE ≤ length (places r.readable)
   pub status : 1 ≤ length (places r.writable)
-  pub work : IsSoundWork r.kind (length (places r.readable)) (length (places r.writable)) shape.sectors shape.read_only r.verdict r.first r.units r.done
+  pub work : IsSoundWork r.kind (length (places r.readable)) (length (places r.writable)) shape r.verdict r.first r.units r.done
 
 -- The requests that may be outstanding.
 abbrev pub AreSound : ℕ → RingState → BlockShape → List Request → Type 0

@@ -1,5 +1,5 @@
 -- The step that takes a request (VIRTIO 1.2, 5.2.6).
-use Rattle.std.specs.Prelude.{◌≡◌, ℕ, List, [], ◌∷◌, ◌++◌, length, take}
+use Rattle.std.specs.Prelude.{◌≡◌, ℕ, List, [], ◌∷◌, ◌++◌, length, take, drop}
 use Rattle.guestmem.specs.Item.{Item}
 use Rattle.guestmem.specs.Writes.{Write, set_all, touched}
 use Rattle.chains.specs.State.{RingState}
@@ -10,7 +10,7 @@ use Rattle.chains.specs.declared.looking.Wanted.TheVariants as wanted
 use Rattle.chains.specs.declared.chain.Chain.{Chain}
 use Rattle.chains.specs.declared.next.Next.{Next}
 use Rattle.chains.specs.declared.next.Next.TheVariants as next
-use Rattle.blk.specs.declared.request.TheConstants.{HEADER_SIZE}
+use Rattle.blk.specs.declared.request.TheConstants.{HEADER_SIZE, SEGMENT_SIZE}
 use Rattle.blk.specs.declared.request.Request.{Request}
 use Rattle.blk.specs.declared.shape.BlockShape.{BlockShape}
 use Rattle.blk.specs.declared.task.Task.{Task}
@@ -29,6 +29,10 @@ pub record TakeStep : Type 0 where
 abbrev pub header_of : List ℕ → Chain → List ℕ
 header_of ram c = take HEADER_SIZE (read_places ram (places c.readable))
 
+-- The segment that names a range to clear: the bytes at the SEGMENT_SIZE places after the header.
+abbrev pub segment_of : List ℕ → Chain → List ℕ
+segment_of ram c = take SEGMENT_SIZE (drop HEADER_SIZE (read_places ram (places c.readable)))
+
 -- A request of which nothing is done yet. It keeps the segments of its chain.
 abbrev pub request_for : Chain → Task → Request
 request_for c t = record {
@@ -44,7 +48,7 @@ request_for c t = record {
 }
 
 abbrev pub task_for : List ℕ → BlockShape → Chain → Task
-task_for ram shape c = task_of (header_of ram c) (length (places c.readable)) (length (places c.writable)) shape.sectors shape.read_only
+task_for ram shape c = task_of (header_of ram c) (segment_of ram c) (length (places c.readable)) (length (places c.writable)) shape
 
 -- The chain is not taken, and nothing is written.
 abbrev pub refuse : RingState → List Request → TakeStep

@@ -138,6 +138,6 @@ fn data_written(kind: Kind, done: u32) -> u64
     match kind {
         Kind::In => SECTOR_SIZE as u64 * done as u64,
         Kind::GetId => ID_SIZE as u64 * done as u64,
-        Kind::Out | Kind::Flush | Kind::Refused => 0,
+        Kind::Out | Kind::Flush | Kind::Refused | Kind::Zero => 0,
     }
 }

@@ -10,6 +10,9 @@
 //! fails leaves any bytes, and its sector is bad until a write succeeds. Contracts see one list of sectors, each with its bytes
 //! or bad (`specs/Sectors`).
 //!
+//! A driver that accepted the feature WRITE_ZEROES may ask for a range of sectors to be cleared: a request of the kind `Zero`,
+//! of one segment, which writes zeros a sector at a time.
+//!
 //! # What the layers above may rely on
 //! - `Requests::take(ring, shape, ram, log)` is `take_step` (`specs/Take`) over any `Ring`, with fewer than 8 requests
 //!   outstanding. An error is out of memory, comes only at a long queue, and leaves all as it was.
@@ -23,9 +26,10 @@
 //! - `Sectors::next_bad` names the least bad sector from one on, and `Sectors::read_good` reads one that is not bad, with no look
 //!   at the marks.
 //!
-//! Other definitions: `specs/Task` (what a request asks for, by its header), `specs/Move` (one unit of a request),
-//! `specs/Sound` (what every outstanding request keeps), `specs/Request`, `specs/FaultDisk` and `specs/FileDisk`. Nothing is
-//! trusted here beside `byteorder` and the crates below; and what a file holds between two calls is not known to any contract.
+//! Other definitions: `specs/Task` (what a request asks for, by its header and the segment that may follow it), `specs/Move`
+//! (one unit of a request), `specs/Sound` (what every outstanding request keeps), `specs/Shape` (the features that a device
+//! offers, and its configuration space), `specs/Request`, `specs/FaultDisk` and `specs/FileDisk`. Nothing is trusted here
+//! beside `byteorder` and the crates below; and what a file holds between two calls is not known to any contract.
 #![tactic(auto)]
 
 mod advancing;
@@ -48,9 +52,13 @@ pub use fault_disk::FaultDisk;
 pub use file_disk::FileDisk;
 pub use mem_disk::MemDisk;
 pub use request::{
-    HEADER_SIZE, Kind, Request, TYPE_FLUSH, TYPE_GET_ID, TYPE_IN, TYPE_OUT, Verdict,
+    HEADER_SIZE, Kind, Request, SEGMENT_SIZE, TYPE_FLUSH, TYPE_GET_ID, TYPE_IN, TYPE_OUT,
+    TYPE_WRITE_ZEROES, Verdict,
 };
 pub use requests::{REQUESTS_MAX, Requests};
 pub use sectors::{Fetched, Sectors};
-pub use shape::{BlockShape, ID_SIZE};
+pub use shape::{
+    BlockShape, CONFIGURATION_SIZE, DEVICE_ID, FLUSH, ID_SIZE, QUEUE_COUNT, RO, WRITE_ZEROES,
+    ZEROES_MAX, configuration, features,
+};
 pub use taking::Taken;

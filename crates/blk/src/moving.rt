@@ -1,14 +1,15 @@
 //! One unit of a request.
 
 ghost use Rattle.std.specs.Prelude.{◌≡◌, ◌≤◌, ◌<◌, ◌+◌, ◌^◌, ◌*◌, IsTrue, length, not, true};
-ghost use Rattle.guestmem.specs.Item.{MayPages, after_all};
+ghost use Rattle.guestmem.specs.Item.{MayPages, after_all, sector};
+ghost use Rattle.guestmem.specs.Memory.{Memory};
 ghost use Rattle.guestmem.specs.Writes.{set_all, touched};
 ghost use Rattle.guestmem.specs.Rises.{Rises, Touches};
 ghost use Rattle.chains.specs.Frame.{HasServed};
 ghost use Rattle.chains.specs.Places.{places, AreSegmentsInside};
-ghost use Rattle.blk.specs.Request.{is_open};
+ghost use Rattle.blk.specs.Request.{is_open, next_sector};
 ghost use Rattle.blk.specs.Sectors.{IsKept, AreWhole};
-ghost use Rattle.blk.specs.Move.{IsMoved, MaySectors, move_in, move_out, move_flush, move_id, move_of, after_unit, is_disk_failed};
+ghost use Rattle.blk.specs.Move.{IsMoved, MaySectors, move_in, move_out, move_zero, move_flush, move_id, move_of, write_unit, after_unit, is_disk_failed};
 ghost use Rattle.blk.specs.Sound.{IsSoundWork};
 ghost use Rattle.blk.specs.declared.advancing.Advanced.TheVariants.{Moved};
 ghost use Rattle.blk.specs.declared.request.Kind.TheVariants as kinds;
@@ -87,8 +88,6 @@ fn move_out<D: Disk, L: TouchLog>(
     ensures kept { IsKept sectors.old (is_disk_failed result) sectors.new }
     ensures after { HasServed L.may ram.old ram.new log.new }
 {
-    sectors.recall();
-    let n = request.next_sector();
     let mut buffer = [0; SECTOR_SIZE];
     copy_out(
         ram,
@@ -96,7 +95,48 @@ fn move_out<D: Disk, L: TouchLog>(
         HEADER_SIZE as u64 + SECTOR_SIZE as u64 * request.done as u64,
         &mut buffer,
     );
-    let written = sectors.write(n, &buffer);
+    write_unit(request, sectors, device, &buffer, log)
+}
+
+/// Clears the sector of one unit.
+fn move_zero<D: Disk, L: TouchLog>(
+    request: &mut Request,
+    sectors: &mut Sectors<D>,
+    device: u8,
+    log: &mut L,
+) -> Advanced
+    requires sector { request.old.first + request.old.done < length sectors.old.content }
+    requires open { request.old.done < request.old.units }
+    requires small { length sectors.old.content < 2 ^ 64 }
+    requires may_sectors { MaySectors L.may log.old device (length sectors.old.content) }
+    ensures moved { (ram : Memory) → IsMoved (Touches L.after log.old log.new ram ram) sectors.old.honest device ram.bytes sectors.old.content (λ given. move_zero request.old (not (is_disk_failed result))) result request.new ram.bytes sectors.new.content }
+    ensures request { request.new ≡ after_unit request.old result }
+    ensures kept { IsKept sectors.old (is_disk_failed result) sectors.new }
+    ensures log { log.new ≡ L.after log.old (sector device (next_sector request.old)) }
+{
+    write_unit(request, sectors, device, &[0; SECTOR_SIZE], log)
+}
+
+/// Writes these bytes into the sector of one unit.
+fn write_unit<D: Disk, L: TouchLog>(
+    request: &mut Request,
+    sectors: &mut Sectors<D>,
+    device: u8,
+    bytes: &[u8; SECTOR_SIZE],
+    log: &mut L,
+) -> Advanced
+    requires sector { request.old.first + request.old.done < length sectors.old.content }
+    requires open { request.old.done < request.old.units }
+    requires small { length sectors.old.content < 2 ^ 64 }
+    requires may_sectors { MaySectors L.may log.old device (length sectors.old.content) }
+    ensures moved { (ram : Memory) → IsMoved (Touches L.after log.old log.new ram ram) sectors.old.honest device ram.bytes sectors.old.content (λ given. write_unit bytes.now request.old (not (is_disk_failed result))) result request.new ram.bytes sectors.new.content }
+    ensures request { request.new ≡ after_unit request.old result }
+    ensures kept { IsKept sectors.old (is_disk_failed result) sectors.new }
+    ensures log { log.new ≡ L.after log.old (sector device (next_sector request.old)) }
+{
+    sectors.recall();
+    let n = request.next_sector();
+    let written = sectors.write(n, bytes);
     log.sector(device, n);
     if written.is_err() {
         request.verdict = Verdict::IoError;
@@ -158,14 +198,14 @@ pub(crate) fn move_unit<D: Disk, L: TouchLog>(
 ) -> Advanced
     requires open { is_open request.old ≡ true }
     requires capacity { length sectors.old.content ≡ shape.now.sectors }
-    requires sound { IsSoundWork request.old.kind (length (places request.old.readable)) (length (places request.old.writable)) shape.now.sectors shape.now.read_only request.old.verdict request.old.first request.old.units request.old.done }
+    requires sound { IsSoundWork request.old.kind (length (places request.old.readable)) (length (places request.old.writable)) shape.now request.old.verdict request.old.first request.old.units request.old.done }
     requires readable { AreSegmentsInside (length ram.old.bytes) request.old.readable }
     requires writable { AreSegmentsInside (length ram.old.bytes) request.old.writable }
     requires may { MayPages L.may log.old (length ram.old.bytes) }
     requires may_sectors { MaySectors L.may log.old device (length sectors.old.content) }
     ensures moved { IsMoved (Touches L.after log.old log.new ram.old ram.new) sectors.old.honest device ram.old.bytes sectors.old.content (λ given. move_of request.old.kind shape.now.id ram.old.bytes given request.old (not (is_disk_failed result))) result request.new ram.new.bytes sectors.new.content }
     ensures request { request.new ≡ after_unit request.old result }
-    ensures sound { IsSoundWork request.new.kind (length (places request.new.readable)) (length (places request.new.writable)) shape.now.sectors shape.now.read_only request.new.verdict request.new.first request.new.units request.new.done }
+    ensures sound { IsSoundWork request.new.kind (length (places request.new.readable)) (length (places request.new.writable)) shape.now request.new.verdict request.new.first request.new.units request.new.done }
     ensures kept { IsKept sectors.old (is_disk_failed result) sectors.new }
     ensures flushed { request.old.kind ≡ kinds.Flush → result ≡ Moved → IsTrue sectors.new.is_flushed }
     ensures after { HasServed L.may ram.old ram.new log.new }
@@ -176,6 +216,7 @@ pub(crate) fn move_unit<D: Disk, L: TouchLog>(
         Kind::Out => move_out(request, sectors, device, ram, log),
         Kind::Flush => move_flush(request, sectors),
         Kind::GetId => move_id(request, &shape.id, ram, log),
+        Kind::Zero => move_zero(request, sectors, device, log),
         Kind::Refused => Advanced::Idle,
     }
 }

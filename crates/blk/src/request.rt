@@ -20,6 +20,12 @@ pub const TYPE_FLUSH: u32 = 4;
 /// The type of a request that reads the id of the device.
 pub const TYPE_GET_ID: u32 = 8;
 
+/// The type of a request that clears a range of sectors.
+pub const TYPE_WRITE_ZEROES: u32 = 13;
+
+/// Bytes in the segment that names the range to clear: its first sector, how many there are, and flags (VIRTIO 1.2, 5.2.6).
+pub const SEGMENT_SIZE: usize = 16;
+
 /// What a request does.
 #[derive(Clone, Copy, Debug, PartialEq, Eq)]
 pub enum Kind {
@@ -37,6 +43,9 @@ pub enum Kind {
 
     /// It reads the id of the device.
     GetId,
+
+    /// It clears sectors.
+    Zero,
 }
 
 /// How a request went (VIRTIO 1.2, 5.2.6).
@@ -80,16 +89,16 @@ pub struct Request {
     /// How it went so far.
     pub verdict: Verdict,
 
-    /// The first sector that it moves.
+    /// The first sector that it moves or clears.
     pub first: u64,
 
-    /// How many units it has: sectors to move, or 1 for what is done at once.
+    /// How many units it has: sectors to move or to clear, or 1 for what is done at once.
     pub units: u32,
 
     /// How many of them are done.
     pub done: u32,
 
-    /// The segments that the device may read: the header, and what is written to the disk.
+    /// The segments that the device may read: the header, and what is written to the disk or names the range to clear.
     pub readable: Segs,
 
     /// The segments that the device may write: what is read from the disk, and the verdict.

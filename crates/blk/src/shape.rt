@@ -1,9 +1,35 @@
-//! What a block device was made as.
+//! What a block device is to its driver (VIRTIO 1.2, 5.2): its id, its queue, its features and its configuration space.
+
+ghost use Rattle.std.specs.Prelude.{◌≡◌};
+ghost use Rattle.blk.specs.Shape.{configuration_of, features_of};
+
+use byteorder::{ByteOrder, LittleEndian};
+
+/// The device ID of a block device (VIRTIO 1.2, 5.2.1).
+pub const DEVICE_ID: u32 = 2;
+
+/// It has one queue, of requests (VIRTIO 1.2, 5.2.2).
+pub const QUEUE_COUNT: u8 = 1;
+
+/// The feature RO: the driver may only read the disk (VIRTIO 1.2, 5.2.3).
+pub const RO: u64 = 1 << 5;
+
+/// The feature FLUSH: the driver may ask for a flush of the disk (VIRTIO 1.2, 5.2.3).
+pub const FLUSH: u64 = 1 << 9;
+
+/// The feature WRITE_ZEROES: the driver may ask for a range of sectors to be cleared (VIRTIO 1.2, 5.2.3).
+pub const WRITE_ZEROES: u64 = 1 << 14;
+
+/// The most sectors that one request may clear (VIRTIO 1.2, 5.2.4: max_write_zeroes_sectors).
+pub const ZEROES_MAX: u32 = 4096;
+
+/// Bytes in the configuration space (VIRTIO 1.2, 5.2.4).
+pub const CONFIGURATION_SIZE: usize = 57;
 
 /// Bytes in the id of a device (VIRTIO 1.2, 5.2.6).
 pub const ID_SIZE: usize = 20;
 
-/// What a block device was made as.
+/// What a block device was made as, and what its driver accepted of it.
 #[derive(Clone, Copy, Debug, PartialEq, Eq)]
 pub struct BlockShape {
     /// How many sectors its disk has (VIRTIO 1.2, 5.2.4: the capacity).
@@ -14,4 +40,30 @@ pub struct BlockShape {
 
     /// The id that it reports.
     pub id: [u8; ID_SIZE],
+
+    /// Whether the driver accepted WRITE_ZEROES (VIRTIO 1.2, 5.2.3), so that it may ask for ranges to be cleared.
+    pub write_zeroes: bool,
+}
+
+/// The features that a block device offers, beside those that every device offers (VIRTIO 1.2, 5.2.3).
+pub fn features(read_only: bool) -> u64
+    ensures { result ≡ features_of read_only }
+{
+    if read_only {
+        FLUSH | WRITE_ZEROES | RO
+    } else {
+        FLUSH | WRITE_ZEROES
+    }
+}
+
+/// The configuration space of a device with `sectors` sectors (VIRTIO 1.2, 5.2.4).
+#[tactic(auto, unfolding(crate::specs::Shape::configuration_of))]
+pub fn configuration(sectors: u64) -> [u8; CONFIGURATION_SIZE]
+    ensures { result ≡ configuration_of sectors }
+{
+    let mut bytes = [0; CONFIGURATION_SIZE];
+    LittleEndian::write_u64(&mut bytes[0..], sectors);
+    LittleEndian::write_u32(&mut bytes[48..], ZEROES_MAX);
+    LittleEndian::write_u32(&mut bytes[52..], 1);
+    bytes
 }

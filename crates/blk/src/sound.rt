@@ -1,15 +1,15 @@
 //! Whether requests that are given to a device may be outstanding.
 
-ghost use Rattle.std.specs.Prelude.{◌≡◌, ◌≤◌, ◌<◌, ◌+◌, ◌^◌, ◌↔◌, IsTrue, All, length};
+ghost use Rattle.std.specs.Prelude.{◌≡◌, ◌≤◌, ◌<◌, ◌+◌, ◌^◌, ◌↔◌, IsTrue, All, length, true, false};
 ghost use Rattle.std.specs.Bool.{MatchBool};
 ghost use Rattle.chains.specs.Places.{places, AreSegmentsInside};
 ghost use Rattle.blk.specs.Request.{is_good};
 ghost use Rattle.blk.specs.Sound.{IsSoundRequest, IsSoundWork, MayEnd};
 
 use crate::disk::SECTOR_SIZE;
-use crate::request::{HEADER_SIZE, Kind, Request, Verdict};
+use crate::request::{HEADER_SIZE, Kind, Request, SEGMENT_SIZE, Verdict};
 use crate::requests::Requests;
-use crate::shape::{BlockShape, ID_SIZE};
+use crate::shape::{BlockShape, ID_SIZE, ZEROES_MAX};
 use chains::Seg;
 
 impl Requests {
@@ -57,7 +57,7 @@ impl Request {
 
     /// Whether its bytes are not too many, have room for its header and its verdict, and fit its kind.
     fn has_sound_bytes(&self, shape: &BlockShape) -> bool
-        ensures { IsTrue result ↔ ((length (places self.now.readable) + length (places self.now.writable) < 2 ^ 32) × (HEADER_SIZE ≤ length (places self.now.readable)) × (1 ≤ length (places self.now.writable)) × IsSoundWork self.now.kind (length (places self.now.readable)) (length (places self.now.writable)) shape.now.sectors shape.now.read_only self.now.verdict self.now.first self.now.units self.now.done) }
+        ensures { IsTrue result ↔ ((length (places self.now.readable) + length (places self.now.writable) < 2 ^ 32) × (HEADER_SIZE ≤ length (places self.now.readable)) × (1 ≤ length (places self.now.writable)) × IsSoundWork self.now.kind (length (places self.now.readable)) (length (places self.now.writable)) shape.now self.now.verdict self.now.first self.now.units self.now.done) }
     {
         let readable = self.readable.total_len();
         let writable = self.writable.total_len();
@@ -71,7 +71,7 @@ impl Request {
 
     /// Whether what it keeps fits its kind, for `readable` readable and `writable` writable bytes.
     fn is_sound_work(&self, readable: u64, writable: u64, shape: &BlockShape) -> bool
-        ensures { IsTrue result ↔ IsSoundWork self.now.kind readable writable shape.now.sectors shape.now.read_only self.now.verdict self.now.first self.now.units self.now.done }
+        ensures { IsTrue result ↔ IsSoundWork self.now.kind readable writable shape.now self.now.verdict self.now.first self.now.units self.now.done }
     {
         let (units, may_end) = (self.units as u64, self.may_end());
         match self.kind {
@@ -95,7 +95,19 @@ impl Request {
                     && self.first == 0
                     && writable > ID_SIZE as u64
             }
+            Kind::Zero => may_end && self.is_sound_range(readable, shape),
         }
+    }
+
+    /// Whether it names sectors that a request with `readable` readable bytes may clear.
+    fn is_sound_range(&self, readable: u64, shape: &BlockShape) -> bool
+        ensures { IsTrue result ↔ ((HEADER_SIZE + SEGMENT_SIZE ≡ readable) × (self.now.units ≤ ZEROES_MAX) × (self.now.first + self.now.units ≤ shape.now.sectors) × (shape.now.read_only ≡ false) × (shape.now.write_zeroes ≡ true)) }
+    {
+        readable == (HEADER_SIZE + SEGMENT_SIZE) as u64
+            && self.units <= ZEROES_MAX
+            && self.is_within(shape.sectors)
+            && !shape.read_only
+            && shape.write_zeroes
     }
 
     /// Whether its verdict fits what is done of it.

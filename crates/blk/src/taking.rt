@@ -1,17 +1,18 @@
 //! The step that takes a request.
 
 ghost use Rattle.std.specs.Prelude.{◌≡◌, ◌≤◌, ◌<◌, ◌+◌, ◌^◌, length, IfOk, OnErr};
+ghost use Rattle.guestmem.specs.Number.{number_at};
 ghost use Rattle.guestmem.specs.Rises.{Touches};
 ghost use Rattle.chains.specs.Frame.{MayLook, HasLooked, IsUntouched};
 ghost use Rattle.chains.specs.Places.{places, AreSegmentsInside};
 ghost use Rattle.chains.specs.LongQueue.{IsLongQueue};
 ghost use Rattle.blk.specs.Sound.{AreSound};
-ghost use Rattle.blk.specs.Take.{IsTaken, task_for, request_for};
+ghost use Rattle.blk.specs.Take.{IsTaken, task_for, request_for, segment_of};
 
-use crate::request::{HEADER_SIZE, Request};
+use crate::request::{HEADER_SIZE, Request, SEGMENT_SIZE, TYPE_WRITE_ZEROES};
 use crate::requests::{REQUESTS_MAX, Requests};
 use crate::shape::BlockShape;
-use crate::task::{Task, task_of};
+use crate::task::{Task, task_of, type_of};
 use chains::{Chain, NextKind, Ring, Wanted, copy_out, look};
 use guestmem::{NoMemory, Ram, TouchLog};
 use std::alloc::Global;
@@ -81,13 +82,35 @@ fn task_for(ram: &Ram, shape: &BlockShape, chain: &Chain) -> Task
 {
     let mut header = [0; HEADER_SIZE];
     copy_out(ram, chain.readable.as_slice(), 0, &mut header);
+    let segment = segment_for(ram, &header, chain);
     task_of(
         &header,
+        &segment,
         chain.readable.total_len(),
         chain.writable.total_len(),
-        shape.sectors,
-        shape.read_only,
+        shape,
     )
+}
+
+/// The segment of a chain that asks for a range to be cleared, if it has one. That of another chain is not read, and nothing
+/// rests on it.
+fn segment_for(ram: &Ram, header: &[u8; HEADER_SIZE], chain: &Chain) -> [u8; SEGMENT_SIZE]
+    requires inside { AreSegmentsInside (length ram.now.bytes) chain.now.readable }
+    ensures { number_at header.now 0 4 ≡ TYPE_WRITE_ZEROES → length (places chain.now.readable) ≡ HEADER_SIZE + SEGMENT_SIZE → result ≡ segment_of ram.now.bytes chain.now }
+{
+    let mut segment = [0; SEGMENT_SIZE];
+    if type_of(header) != TYPE_WRITE_ZEROES
+        || chain.readable.total_len() != (HEADER_SIZE + SEGMENT_SIZE) as u64
+    {
+        return segment;
+    }
+    copy_out(
+        ram,
+        chain.readable.as_slice(),
+        HEADER_SIZE as u64,
+        &mut segment,
+    );
+    segment
 }
 
 /// The request of a chain, which keeps its segments.

@@ -1,12 +1,16 @@
 //! What a request asks for.
 
-ghost use Rattle.std.specs.Prelude.{◌≡◌, ◌≤◌, ◌<◌, ◌+◌, ◌^◌, length};
-ghost use Rattle.blk.specs.Task.{refused, transfer, task_of};
+ghost use Rattle.std.specs.Prelude.{◌≡◌, ◌≤◌, ◌<◌, ◌+◌, ◌^◌, nat_lt};
+ghost use Rattle.guestmem.specs.Number.{number_at};
+ghost use Rattle.blk.specs.Task.{clear, refused, transfer, task_of};
 ghost use Rattle.blk.specs.declared.request.Verdict.TheVariants.{Good};
 
 use crate::disk::SECTOR_SIZE;
-use crate::request::{HEADER_SIZE, Kind, TYPE_FLUSH, TYPE_GET_ID, TYPE_IN, TYPE_OUT, Verdict};
-use crate::shape::ID_SIZE;
+use crate::request::{
+    HEADER_SIZE, Kind, SEGMENT_SIZE, TYPE_FLUSH, TYPE_GET_ID, TYPE_IN, TYPE_OUT, TYPE_WRITE_ZEROES,
+    Verdict,
+};
+use crate::shape::{BlockShape, ID_SIZE, ZEROES_MAX};
 use byteorder::{ByteOrder, LittleEndian};
 
 /// What a request asks for.
@@ -18,12 +22,15 @@ pub struct Task {
     /// How it went so far.
     pub verdict: Verdict,
 
-    /// The first sector that it moves.
+    /// The first sector that it moves or clears.
     pub first: u64,
 
     /// How many units it has.
     pub units: u32,
 }
+
+/// The flag of a segment that allows the device to unmap its sectors (VIRTIO 1.2, 5.2.6).
+const UNMAP: u32 = 1;
 
 /// A request that only reports its verdict.
 fn refused(verdict: Verdict) -> Task
@@ -37,6 +44,13 @@ fn refused(verdict: Verdict) -> Task
     }
 }
 
+/// Whether a range of `count` sectors from `first` on ends past the last of `capacity` sectors.
+fn is_past(first: u64, count: u64, capacity: u64) -> bool
+    ensures { result ≡ nat_lt capacity (first + count) }
+{
+    first > capacity || count > capacity - first
+}
+
 /// Moves `bytes` bytes from or to the sectors from `first` on.
 fn transfer(kind: Kind, first: u64, bytes: u64, capacity: u64) -> Task
     requires { bytes < 2 ^ 32 }
@@ -46,7 +60,7 @@ fn transfer(kind: Kind, first: u64, bytes: u64, capacity: u64) -> Task
         return refused(Verdict::IoError);
     }
     let units = bytes / SECTOR_SIZE as u64;
-    if first > capacity || units > capacity - first {
+    if is_past(first, units, capacity) {
         return refused(Verdict::IoError);
     }
     Task {
@@ -57,30 +71,79 @@ fn transfer(kind: Kind, first: u64, bytes: u64, capacity: u64) -> Task
     }
 }
 
-/// What a request asks for, by its header, the numbers of its readable and writable bytes, the number of sectors, and
-/// whether the device is read-only.
-#[tactic(auto, unfolding(crate::specs::Task::task_of, guestmem::specs::Number::number_at))]
+/// Clears the range of sectors that this segment names, by a request with `readable` readable bytes.
+#[tactic(auto, unfolding(guestmem::specs::Number::number_at))]
+fn clear(segment: &[u8; SEGMENT_SIZE], readable: u64, shape: &BlockShape) -> Task
+    ensures { result ≡ clear segment.now readable shape.now }
+{
+    let first = LittleEndian::read_u64(&segment[..]);
+    let count = LittleEndian::read_u32(&segment[8..]);
+    let flags = LittleEndian::read_u32(&segment[12..]);
+    if !shape.write_zeroes {
+        return refused(Verdict::Unsupported);
+    }
+    if readable != (HEADER_SIZE + SEGMENT_SIZE) as u64 {
+        return refused(Verdict::IoError);
+    }
+    if flags > UNMAP {
+        return refused(Verdict::Unsupported);
+    }
+    if shape.read_only || count > ZEROES_MAX || is_past(first, count as u64, shape.sectors) {
+        return refused(Verdict::IoError);
+    }
+    Task {
+        kind: Kind::Zero,
+        verdict: Verdict::Good,
+        first,
+        units: count,
+    }
+}
+
+/// The type of a request, by its header.
+#[tactic(auto, unfolding(guestmem::specs::Number::number_at))]
+pub fn type_of(header: &[u8; HEADER_SIZE]) -> u32
+    ensures { result ≡ number_at header.now 0 4 }
+{
+    LittleEndian::read_u32(&header[..])
+}
+
+/// The sector of a request, by its header.
+#[tactic(auto, unfolding(guestmem::specs::Number::number_at))]
+fn sector_of(header: &[u8; HEADER_SIZE]) -> u64
+    ensures { result ≡ number_at header.now 8 8 }
+{
+    LittleEndian::read_u64(&header[8..])
+}
+
+/// What a request asks for, by its header, the segment that may follow it, the numbers of its readable and writable
+/// bytes, and what its device is.
+#[tactic(auto, unfolding(crate::specs::Task::task_of))]
 pub fn task_of(
     header: &[u8; HEADER_SIZE],
+    segment: &[u8; SEGMENT_SIZE],
     readable: u64,
     writable: u64,
-    capacity: u64,
-    read_only: bool,
+    shape: &BlockShape,
 ) -> Task
     requires readable { HEADER_SIZE ≤ readable }
     requires writable { 1 ≤ writable }
     requires total { readable + writable < 2 ^ 32 }
-    ensures { result ≡ task_of header.now readable writable capacity read_only }
+    ensures { result ≡ task_of header.now segment.now readable writable shape.now }
 {
-    let request_type = LittleEndian::read_u32(&header[..]);
-    let sector = LittleEndian::read_u64(&header[8..]);
-    match request_type {
-        TYPE_IN => transfer(Kind::In, sector, writable - 1, capacity),
-        TYPE_OUT if read_only => refused(Verdict::IoError),
-        TYPE_OUT => transfer(Kind::Out, sector, readable - HEADER_SIZE as u64, capacity),
+    let sector = sector_of(header);
+    match type_of(header) {
+        TYPE_IN => transfer(Kind::In, sector, writable - 1, shape.sectors),
+        TYPE_OUT if shape.read_only => refused(Verdict::IoError),
+        TYPE_OUT => transfer(
+            Kind::Out,
+            sector,
+            readable - HEADER_SIZE as u64,
+            shape.sectors,
+        ),
         TYPE_FLUSH => at_once(Kind::Flush),
         TYPE_GET_ID if writable - 1 < ID_SIZE as u64 => refused(Verdict::IoError),
         TYPE_GET_ID => at_once(Kind::GetId),
+        TYPE_WRITE_ZEROES => clear(segment, readable, shape),
         _ => refused(Verdict::Unsupported),
     }
 }

@@ -1,0 +1,14 @@
+-- What a block device is to its driver (VIRTIO 1.2, 5.2).
+use Rattle.std.specs.Prelude.{ℕ, ◌+◌, ◌^◌, Bool, List, [], ◌∷◌, ◌++◌, replicate, if◌then◌else◌}
+use Rattle.byteorder.specs.Endian.{little_bytes}
+
+-- The feature bits that a block device offers in addition to those of every device: FLUSH 9, WRITE_ZEROES 14, and RO 5 if it
+-- is read-only (VIRTIO 1.2, 5.2.3).
+abbrev pub features_of : Bool → ℕ
+features_of read_only = if read_only then 2 ^ 9 + 2 ^ 14 + 2 ^ 5 else 2 ^ 9 + 2 ^ 14
+
+-- The configuration space, in 57 bytes (VIRTIO 1.2, 5.2.4): the number of sectors at 0; at 48 how many sectors one request may
+-- clear, 4,096; at 52 how many ranges one request may have, 1; and at 56 whether clearing may unmap, 0. The fields between belong to
+-- features that the device does not offer, and are 0.
+unfoldable pub configuration_of : ℕ → List ℕ
+configuration_of sectors = little_bytes 8 sectors ++ (replicate 40 0 ++ (little_bytes 4 4096 ++ (little_bytes 4 1 ++ 0 ∷ [])))
