@@ -38,7 +38,7 @@ ready_by false requests k h below = let none : length requests ≡ 0 = rw h refl
 own_ready : (len : ℕ) (r : Registers) (shape : Shape) (own : Own) (queue : Queue) (k : ℕ) → queue_at r 0 ≡ Some queue → IsSoundOwn len r shape own → k < length (requests_of own) → queue.is_ready ≡ true
 own_ready len r (shapes.Net mac) (Network frames) queue k there sound below = absurd (omega (arith, below))
 own_ready len r (shapes.Block sectors read_only id) (Block requests) queue k there sound below =
-    let are : AreRequestsOf len (is_packed_by r.common) queue (block_of (shapes.Block sectors read_only id)) requests = rw there at sound in
+    let are : AreRequestsOf len (is_packed_by r.common) queue (block_of (shapes.Block sectors read_only id) r.common.features) requests = rw there at sound in
     ready_by queue.is_ready requests k are.where_ready below
 own_ready len r shapes.Console (Console size held) queue k there sound below = absurd (omega (arith, below))
 own_ready len r shapes.Entropy (Entropy pool) queue k there sound below = absurd (omega (arith, below))

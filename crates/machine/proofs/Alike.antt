@@ -11,7 +11,7 @@ use Rattle.blk.specs.Move.{Move, bad_sector, disk_failed, move_of, moved}
 use Rattle.blk.specs.Request.{is_open, next_sector}
 use Rattle.blk.specs.Sectors.{AreWhole, IsGiven, IsWhole, Sector, bytes_of, is_bad, sector_in}
 use Rattle.blk.specs.declared.request.Kind.{Kind}
-use Rattle.blk.specs.declared.request.Kind.TheVariants.{Refused, In, Out, Flush, GetId}
+use Rattle.blk.specs.declared.request.Kind.TheVariants.{Refused, In, Out, Flush, GetId, Zero}
 use Rattle.blk.specs.declared.request.Request.{Request}
 use Rattle.blk.specs.declared.shape.BlockShape.{BlockShape}
 use Rattle.machine.specs.AppliedLaws.{AnyDiskActsAlike, IsAlike}
@@ -92,6 +92,7 @@ like_moves Out id ram x y r is_fine h = one_move (move_of Out id ram x r is_fine
 like_moves Flush id ram x y r is_fine h = one_move (move_of Flush id ram x r is_fine)
 like_moves GetId id ram x y r is_fine h = one_move (move_of GetId id ram x r is_fine)
 like_moves Refused id ram x y r is_fine h = one_move (move_of Refused id ram x r is_fine)
+like_moves Zero id ram x y r is_fine h = one_move (move_of Zero id ram x r is_fine)
 
 -- A request that goes on, or ends.
 record AreLikeSteps (a b : AdvanceStep) : Type 0 where
@@ -128,7 +129,7 @@ one_answer a = record { reply = refl; writes = refl; sets = refl; device = refl 
 
 like_advances : (d : DeviceState) (ram : List ℕ) (x y : List Sector) (pick : ℕ) (q : RingState) (o : Outcome) → HaveSameMarks x y → AreLikeAnswers (advance_on d ram x pick q o) (advance_on d ram y pick q o)
 like_advances d ram x y pick q o h =
-    let s = like_one (block_of d.shape) ram q x y (requests_of d.own) (pick - 1) (disk_does o) (slice_get (requests_of d.own) (pick - 1)) h in
+    let s = like_one (block_of d.shape d.registers.common.features) ram q x y (requests_of d.own) (pick - 1) (disk_does o) (slice_get (requests_of d.own) (pick - 1)) h in
     record { reply = rw (s.answer) refl; writes = s.writes; sets = s.sets; device = rw (s.answer, s.ring, s.requests) refl }
 
 like_at_ring : (d : DeviceState) (ram : List ℕ) (x y : List Sector) (pick : ℕ) (ring : Option RingState) (o : Outcome) → HaveSameMarks x y → AreLikeAnswers (advance_at d ram x pick ring o) (advance_at d ram y pick ring o)

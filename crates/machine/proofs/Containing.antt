@@ -9,6 +9,7 @@ use Rattle.blk.specs.Advance.{advance_step}
 use Rattle.blk.specs.Sectors.{Sector}
 use Rattle.blk.specs.declared.advancing.Advanced.{Advanced}
 use Rattle.blk.specs.declared.advancing.Advanced.TheVariants as advanced
+use Rattle.blk.specs.declared.shape.BlockShape.{BlockShape}
 use Rattle.chains.specs.declared.chain.Chain.{Chain}
 use Rattle.chains.specs.declared.next.Next.{Next}
 use Rattle.chains.specs.declared.next.Next.TheVariants as next
@@ -34,7 +35,6 @@ use Rattle.machine.specs.declared.event.Event.TheVariants.{RegRead, RegWrite, Me
 use Rattle.machine.specs.declared.own.Own.{Own}
 use Rattle.machine.specs.declared.own.Own.TheVariants.{Network, Block, Console, Entropy}
 use Rattle.machine.specs.declared.reply.Refusal.{Refusal}
-use Rattle.machine.specs.declared.shape.Shape.{Shape}
 use Rattle.machine.specs.declared.reply.Reply.TheVariants.{NeedsReset}
 use Rattle.machine.specs.declared.served.Served.{Served}
 use Rattle.machine.specs.declared.served.Served.TheVariants as served
@@ -76,7 +76,7 @@ message_so form own ram q next.Empty = record { refused = λ h. cc; there = λ h
 message_so form own ram q next.Malformed = record { refused = λ h. record { writes = refl; ring = refl; own_is = refl }; there = λ h. refl; back = λ h. refl; other = λ h. refl }
 message_so form own ram q (next.Chain c) = record { refused = λ h. cc; there = λ h. cc; back = λ h. cc; other = λ h. cc }
 
-served_so : (shape : Shape) (own : Own) (number : ℕ) (ram : List ℕ) (q : RingState) (seen : Next) → IsServedSo own seen (serve shape own number ram q seen) q
+served_so : (shape : BlockShape) (own : Own) (number : ℕ) (ram : List ℕ) (q : RingState) (seen : Next) → IsServedSo own seen (serve shape own number ram q seen) q
 unfolding give
 served_so shape (Block requests) number ram q next.Empty = record { refused = λ h. cc; there = λ h. cc; back = λ h. cc; other = λ h. cc }
 served_so shape (Block requests) number ram q next.Malformed = record { refused = λ h. record { writes = refl; ring = refl; own_is = refl }; there = λ h. refl; back = λ h. refl; other = λ h. refl }
@@ -112,7 +112,7 @@ advance_quiet (advanced.Completed len due) = ((λ h. cc), (λ h. h))
 
 no_reset : (d : DeviceState) (ram : List ℕ) (content : List Sector) (pick : ℕ) (ring : Option RingState) (o : Outcome) → (advance_at d ram content pick ring o).reply ≡ NeedsReset → ⊥
 no_reset d ram content pick None o h = cc
-no_reset d ram content pick (Some q) o h = (advance_quiet (advance_step (block_of d.shape) ram q content (requests_of d.own) (pick - 1) (disk_does o)).answer).0 h
+no_reset d ram content pick (Some q) o h = (advance_quiet (advance_step (block_of d.shape d.registers.common.features) ram q content (requests_of d.own) (pick - 1) (disk_does o)).answer).0 h
 
 contained_ring : (m after : MachineState) (dev pick : ℕ) (seen : Next) (d : DeviceState) → slice_get m.devices dev ≡ Some d → (ring : Option RingState) → looked_at d pick ≡ ring → (o : Outcome)
     → NeedsReset ≡ (step_at d m.ram (disk_of m dev) pick ring o seen).reply
@@ -123,10 +123,11 @@ contained_ring m after dev pick seen d there (Some q) is no_memory replied chang
 contained_ring m after dev pick seen d there (Some q) is disk_failed replied changed = cc
 contained_ring m after dev pick seen d there (Some q) is fine replied changed =
     let look = looked_is d pick q is in
-    let so = served_so d.shape d.own pick m.ram q seen in
+    let shape = block_of d.shape d.registers.common.features in
+    let so = served_so shape d.own pick m.ram q seen in
     let malformed = so.other (sym replied) in
     let no = so.refused malformed in
-    let registers = asked d.registers (serve d.shape d.own pick m.ram q seen).served malformed (left_of_and _ _ look.driven) pick in
+    let registers = asked d.registers (serve shape d.own pick m.ram q seen).served malformed (left_of_and _ _ look.driven) pick in
     record { device = d; there = there; after_is = changed ∙ rw (no.writes, no.ring, no.own_is, registers, positions_stay d pick q look) refl }
 
 contained_device : (m after : MachineState) (dev pick : ℕ) (o : Outcome) (seen : Next) (d : Option DeviceState) → slice_get m.devices dev ≡ d
@@ -146,7 +147,8 @@ asks_ring m dev pick seen d there None is o may replied = absurd (no_reset d m.r
 asks_ring m dev pick seen d there (Some q) is no_memory may replied = cc
 asks_ring m dev pick seen d there (Some q) is disk_failed may replied = cc
 asks_ring m dev pick seen d there (Some q) is fine may replied =
-    let so = served_so d.shape d.own pick m.ram q seen in
+    let shape = block_of d.shape d.registers.common.features in
+    let so = served_so shape d.own pick m.ram q seen in
     (refl, record { device = d; there = there; ring = q; looked = looked_is d pick q is; sees = rw (so.there (so.other (sym replied))) at may })
 
 asks_device : (m : MachineState) (dev pick : ℕ) (o : Outcome) (seen : Next) (d : Option DeviceState) → slice_get m.devices dev ≡ d → MaySeeAt d m.ram pick o seen
@@ -160,7 +162,7 @@ malformed_effect : (m : MachineState) (dev pick : ℕ) (l : LooksAtMalformed m d
 unfolding device_step
 malformed_effect m dev pick l =
     let ring = is_looked l.device pick l.ring l.looked in
-    let malformed = (served_so l.device.shape l.device.own pick m.ram l.ring next.Malformed).back refl in
+    let malformed = (served_so (block_of l.device.shape l.device.registers.common.features) l.device.own pick m.ram l.ring next.Malformed).back refl in
     record {
       seen = next.Malformed;
       may_see = rw (l.there, ring) l.sees;
@@ -190,7 +192,7 @@ quiet_message form own ram q next.Malformed h = h
 quiet_message form own ram q (next.Chain c) h = h
 
 -- Serving a queue is never answered by a refusal.
-pub quiet_service : (shape : Shape) (own : Own) (number : ℕ) (ram : List ℕ) (q : RingState) (seen : Next) → IsRefusal (reply_of (serve shape own number ram q seen).served) → ⊥
+pub quiet_service : (shape : BlockShape) (own : Own) (number : ℕ) (ram : List ℕ) (q : RingState) (seen : Next) → IsRefusal (reply_of (serve shape own number ram q seen).served) → ⊥
 unfolding give
 quiet_service shape (Block requests) number ram q next.Empty h = h
 quiet_service shape (Block requests) number ram q next.Malformed h = h
@@ -210,14 +212,14 @@ quiet_service shape (Entropy pool) number ram q (next.Chain c) h = h
 
 pub quiet_advance : (d : DeviceState) (ram : List ℕ) (content : List Sector) (pick : ℕ) (ring : Option RingState) (o : Outcome) → IsRefusal (advance_at d ram content pick ring o).reply → ⊥
 quiet_advance d ram content pick None o h = h
-quiet_advance d ram content pick (Some q) o h = (advance_quiet (advance_step (block_of d.shape) ram q content (requests_of d.own) (pick - 1) (disk_does o)).answer).1 h
+quiet_advance d ram content pick (Some q) o h = (advance_quiet (advance_step (block_of d.shape d.registers.common.features) ram q content (requests_of d.own) (pick - 1) (disk_does o)).answer).1 h
 
 quiet_ring : (m : MachineState) (dev pick : ℕ) (seen : Next) (d : DeviceState) → slice_get m.devices dev ≡ Some d → (ring : Option RingState) (o : Outcome) → IsRefusal (step_at d m.ram (disk_of m dev) pick ring o seen).reply
     → applied m (record { writes = (step_at d m.ram (disk_of m dev) pick ring o seen).writes; sectors = sets_on dev (step_at d m.ram (disk_of m dev) pick ring o seen).sets; replaced = Some (record { number = dev; device = (step_at d m.ram (disk_of m dev) pick ring o seen).device }) }) ≡ m
 quiet_ring m dev pick seen d there None o h = absurd (quiet_advance d m.ram (disk_of m dev) pick (advanced_at d pick) o h)
 quiet_ring m dev pick seen d there (Some q) no_memory h = same_record m (set m.devices dev d) (set_same m.devices dev d there)
 quiet_ring m dev pick seen d there (Some q) disk_failed h = absurd h
-quiet_ring m dev pick seen d there (Some q) fine h = absurd (quiet_service d.shape d.own pick m.ram q seen h)
+quiet_ring m dev pick seen d there (Some q) fine h = absurd (quiet_service (block_of d.shape d.registers.common.features) d.own pick m.ram q seen h)
 
 quiet_device : (m : MachineState) (dev pick : ℕ) (o : Outcome) (seen : Next) (d : Option DeviceState) → slice_get m.devices dev ≡ d → IsRefusal (step_device dev d m.ram (disk_of m dev) pick o seen).reply → applied m (step_device dev d m.ram (disk_of m dev) pick o seen).effect ≡ m
 unfolding device_step

@@ -110,7 +110,7 @@ first_device_sound bytes (Block sectors true id) fits within id_is =
       offered = refl;
       queues = refl;
       ram_len = refl;
-      registers = first_sound 2 (2 ^ 28 + 2 ^ 29 + 2 ^ 32 + 2 ^ 34 + (2 ^ 9 + 2 ^ 5)) 1 bytes (omega arith) (omega arith) (omega arith) fits;
+      registers = first_sound 2 (2 ^ 28 + 2 ^ 29 + 2 ^ 32 + 2 ^ 34 + (2 ^ 9 + 2 ^ 14 + 2 ^ 5)) 1 bytes (omega arith) (omega arith) (omega arith) fits;
       positions = (record { taking_fits = omega arith; used_fits = omega arith; where_ready = refl }, tt);
       own = record { few = omega arith; sound = All-nil _; where_ready = refl };
     }
@@ -122,7 +122,7 @@ first_device_sound bytes (Block sectors false id) fits within id_is =
       offered = refl;
       queues = refl;
       ram_len = refl;
-      registers = first_sound 2 (2 ^ 28 + 2 ^ 29 + 2 ^ 32 + 2 ^ 34 + 2 ^ 9) 1 bytes (omega arith) (omega arith) (omega arith) fits;
+      registers = first_sound 2 (2 ^ 28 + 2 ^ 29 + 2 ^ 32 + 2 ^ 34 + (2 ^ 9 + 2 ^ 14)) 1 bytes (omega arith) (omega arith) (omega arith) fits;
       positions = (record { taking_fits = omega arith; used_fits = omega arith; where_ready = refl }, tt);
       own = record { few = omega arith; sound = All-nil _; where_ready = refl };
     }

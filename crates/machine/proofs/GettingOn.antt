@@ -40,7 +40,6 @@ use Rattle.machine.specs.declared.reply.Reply.{Reply}
 use Rattle.machine.specs.declared.reply.Reply.TheVariants.{Idle}
 use Rattle.machine.specs.declared.served.Served.{Served}
 use Rattle.machine.specs.declared.served.Served.TheVariants as served
-use Rattle.machine.specs.declared.shape.Shape.{Shape}
 use Rattle.machine.specs.declared.work.Work.{Work}
 use Rattle.machine.proofs.Advancing.{advanced_is}
 use Rattle.machine.proofs.Looking.{looked_is}
@@ -89,7 +88,7 @@ idle_message messages.Empty h = refl
 idle_message messages.Malformed h = cc
 idle_message (messages.Sent bytes due) h = cc
 
-idle_served : (shape : Shape) (own : Own) (number : ℕ) (ram : List ℕ) (q : RingState) (seen : Next) → reply_of (serve shape own number ram q seen).served ≡ Idle → (serve shape own number ram q seen).served ≡ served.Empty
+idle_served : (shape : BlockShape) (own : Own) (number : ℕ) (ram : List ℕ) (q : RingState) (seen : Next) → reply_of (serve shape own number ram q seen).served ≡ Idle → (serve shape own number ram q seen).served ≡ served.Empty
 idle_served shape (Network held) zero ram q seen h = idle_frame _ h
 idle_served shape (Network held) (suc number) ram q seen h = idle_message _ h
 idle_served shape (Console size held) zero ram q seen h = idle_bytes _ h
@@ -108,6 +107,7 @@ busy_move kind.Out id ram content r is_fine = busy_if is_fine _ _ (λ h. cc) (λ
 busy_move kind.Flush id ram content r is_fine = busy_if is_fine _ _ (λ h. cc) (λ h. cc)
 busy_move kind.GetId id ram content r is_fine = λ h. cc
 busy_move kind.Refused id ram content r is_fine = λ h. cc
+busy_move kind.Zero id ram content r is_fine = busy_if is_fine _ _ (λ h. cc) (λ h. cc)
 
 busy_one : (shape : BlockShape) (ram : List ℕ) (q : RingState) (content : List Sector) (requests : List Request) (k : ℕ) (is_fine : Bool) (r : Request) (more : Bool) → is_open r ≡ more → (advance_one shape ram q content requests k is_fine (Some r)).answer ≢ advanced.Idle
 busy_one shape ram q content requests k is_fine r true is = rw is (busy_move r.kind shape.id ram content r is_fine)
@@ -127,7 +127,8 @@ busy_at shape ram q content (r ∷ rs) k is_fine below =
 
 advanced_busy : (len : ℕ) (d : DeviceState) (ram : List ℕ) (content : List Sector) (pick : ℕ) (q : RingState) (o : Outcome) → IsSoundDevice len d → advanced_at d pick ≡ Some q → (advance_on d ram content pick q o).reply ≢ Idle
 advanced_busy len d ram content pick q o sound is =
-    busy_reply (advance_step (block_of d.shape) ram q content (requests_of d.own) (pick - 1) (disk_does o)).answer (busy_at (block_of d.shape) ram q content (requests_of d.own) (pick - 1) (disk_does o) (advanced_is len d pick q sound is).below)
+    let shape = block_of d.shape d.registers.common.features in
+    busy_reply (advance_step shape ram q content (requests_of d.own) (pick - 1) (disk_does o)).answer (busy_at shape ram q content (requests_of d.own) (pick - 1) (disk_does o) (advanced_is len d pick q sound is).below)
 
 -- A queue that was found empty is not notified.
 set_there : {A : Type 0} (xs : List A) (n : ℕ) (x y : A) → slice_get xs n ≡ Some x → slice_get (set xs n y) n ≡ Some y
@@ -165,8 +166,9 @@ by_look m after w d q no_memory seen r there looked may is changed = inl (λ idl
 by_look m after w d q disk_failed seen r there looked may is changed = absurd may
 by_look m after w d q fine seen r there looked may is changed =
     let look = looked_is d w.pick q looked in
-    let s = serve d.shape d.own w.pick m.ram q seen in
-    by_served m after w d look.queue s r s.served there look.there refl (idle_served d.shape d.own w.pick m.ram q seen) is changed
+    let shape = block_of d.shape d.registers.common.features in
+    let s = serve shape d.own w.pick m.ram q seen in
+    by_served m after w d look.queue s r s.served there look.there refl (idle_served shape d.own w.pick m.ram q seen) is changed
 
 by_work : (m after : MachineState) (w : Work) (d : DeviceState) (looked advanced : Option RingState) (o : Outcome) (seen : Next) (r : Reply) → IsSoundDevice (length m.ram) d → slice_get m.devices w.dev ≡ Some d → looked_at d w.pick ≡ looked → advanced_at d w.pick ≡ advanced
     → (is_some looked || is_some advanced) ≡ true → MayLook (wanted_of d.own w.pick) looked m.ram o seen → r ≡ (device_step d m.ram (disk_of m w.dev) w.pick o seen).reply → after.devices ≡ set m.devices w.dev (device_step d m.ram (disk_of m w.dev) w.pick o seen).device

@@ -220,8 +220,8 @@ sent_inside ram q form next.Malformed looked = tt
 sent_inside ram q form (next.Chain c) looked = published_inside (length ram) (after_take q c.slots) c.id c.slots 0 false (may_publish_taken (length ram) q c.slots looked)
 
 -- What serving a queue writes.
-pub served_inside : (len : ℕ) (r : Registers) (shape : Shape) (own : Own) (number : ℕ) (ram : List ℕ) (q : RingState) (seen : Next) → IsLookedRing (length ram) q → Sees (wanted_of own number) ram q seen → IsSoundOwn len r shape own → AreInsideRam (length ram) (serve shape own number ram q seen).writes
-served_inside len r shape (Block requests) number ram q seen looked sees sound = taken_inside ram q (block_of shape) requests seen looked
+pub served_inside : (len : ℕ) (r : Registers) (shape : Shape) (own : Own) (number : ℕ) (ram : List ℕ) (q : RingState) (seen : Next) → IsLookedRing (length ram) q → Sees (wanted_of own number) ram q seen → IsSoundOwn len r shape own → AreInsideRam (length ram) (serve (block_of shape r.common.features) own number ram q seen).writes
+served_inside len r shape (Block requests) number ram q seen looked sees sound = taken_inside ram q (block_of shape r.common.features) requests seen looked
 served_inside len r (shapes.Net mac) (Network frames) zero ram q seen looked sees sound = framed_inside ram q frames seen looked (sight_bounded wanted.Room ram q seen sees) sound
 served_inside len r (shapes.Net mac) (Network frames) (suc number) ram q seen looked sees sound = sent_inside ram q frame_form seen looked
 served_inside len r shapes.Console (Console size held) zero ram q seen looked sees sound = given_inside ram q held seen looked (sight_bounded wanted.Room ram q seen sees) sound.text

@@ -1,5 +1,5 @@
 -- Outstanding requests of a block device as they go on: they stay sound, write inside RAM, and set sectors that are there.
-use Rattle.std.proofs.Common.{◌≡◌, ℕ, zero, suc, ◌+◌, ◌-◌, ◌*◌, ◌<◌, ◌≤◌, Bool, true, false, cond, ltb, List, [], ◌∷◌, length, take, drop, set, get_or, Option, Some, None, refl, sym, ap, arith}
+use Rattle.std.proofs.Common.{◌≡◌, ℕ, zero, suc, ◌+◌, ◌-◌, ◌*◌, ◌<◌, ◌≤◌, Bool, true, false, cond, ltb, List, [], ◌∷◌, length, take, drop, replicate, set, get_or, Option, Some, None, refl, sym, ap, arith}
 use Rattle.std.specs.Prelude.{◌&&◌, slice_get}
 use Rattle.std.specs.List.{All, remove}
 use Rattle.std.proofs.lemmas.List.{length-set, length-take, length-drop}
@@ -12,14 +12,15 @@ use Rattle.chains.specs.Places.{places, place_writes, read_places, AreSegmentsIn
 use Rattle.chains.specs.Publish.{published}
 use Rattle.chains.specs.State.{RingState}
 use Rattle.blk.proofs.Units.{goes_on}
+use Rattle.blk.proofs.Zeros.{zero_bytes}
 use Rattle.blk.specs.Advance.{AdvanceStep, advance_one, advance_step, completed, after_move, end_writes, verdict_writes, used_len}
-use Rattle.blk.specs.Move.{Move, SectorSet, move_of, move_out, move_flush, moved, disk_failed, bad_sector, unit_bytes, one_done, failed}
+use Rattle.blk.specs.Move.{Move, SectorSet, move_of, move_out, move_zero, move_flush, write_unit, moved, disk_failed, bad_sector, unit_bytes, one_done, failed}
 use Rattle.blk.specs.Request.{is_good, is_open, next_sector, verdict_byte}
 use Rattle.blk.specs.Sectors.{Sector, sector_in, bytes_of, is_bad, IsWhole, AreWhole}
 use Rattle.blk.specs.Sound.{AreSound, IsSoundRequest, IsSoundWork}
 use Rattle.blk.specs.declared.advancing.Advanced.TheVariants as advanced
 use Rattle.blk.specs.declared.request.Kind.{Kind}
-use Rattle.blk.specs.declared.request.Kind.TheVariants.{Refused, In, Out, Flush, GetId}
+use Rattle.blk.specs.declared.request.Kind.TheVariants.{Refused, In, Out, Flush, GetId, Zero}
 use Rattle.blk.specs.declared.request.Request.{Request}
 use Rattle.blk.specs.declared.request.Verdict.{Verdict}
 use Rattle.blk.specs.declared.request.Verdict.TheVariants.{Good, IoError, Unsupported}
@@ -50,15 +51,13 @@ pub open_is : (r : Request) → is_open r ≡ true → IsOpen r
 open_is r h = record { good = good_is r.verdict (left_true (is_good r.verdict) (ltb r.done r.units) h); left = ltb-true r.done r.units (right_true (is_good r.verdict) (ltb r.done r.units) h) }
 
 -- The work of an open request after one more unit, and after a failure.
-abbrev Work : Kind → ℕ → ℕ → BlockShape → Verdict → ℕ → ℕ → ℕ → Type 0
-Work k readable writable shape verdict first units done = IsSoundWork k readable writable shape.sectors shape.read_only verdict first units done
-
-one_more : (k : Kind) (readable writable : ℕ) (shape : BlockShape) (first units done : ℕ) → done < units → Work k readable writable shape Good first units done → Work k readable writable shape Good first units (done + 1)
+one_more : (k : Kind) (readable writable : ℕ) (shape : BlockShape) (first units done : ℕ) → done < units → IsSoundWork k readable writable shape Good first units done → IsSoundWork k readable writable shape Good first units (done + 1)
 one_more Refused readable writable shape first units done left h = absurd (true≢false h.0)
 one_more In readable writable shape first units done left h = (omega (arith, left), h.1, h.2)
 one_more Out readable writable shape first units done left h = (omega (arith, left), h.1, h.2, h.3)
 one_more Flush readable writable shape first units done left h = (omega (arith, left), h.1, h.2)
 one_more GetId readable writable shape first units done left h = (h.0, omega (arith, left), h.2, h.3, h.4)
+one_more Zero readable writable shape first units done left h = (omega (arith, left), h.1, h.2, h.3, h.4, h.5)
 
 -- Whether a kind of request calls the disk.
 abbrev Calls : Kind → Type 0
@@ -67,13 +66,15 @@ Calls In = Unit {0}
 Calls Out = Unit {0}
 Calls Flush = Unit {0}
 Calls GetId = ⊥
+Calls Zero = Unit {0}
 
-gone_wrong : (k : Kind) (readable writable : ℕ) (shape : BlockShape) (first units done : ℕ) → Calls k → done < units → Work k readable writable shape Good first units done → Work k readable writable shape IoError first units done
+gone_wrong : (k : Kind) (readable writable : ℕ) (shape : BlockShape) (first units done : ℕ) → Calls k → done < units → IsSoundWork k readable writable shape Good first units done → IsSoundWork k readable writable shape IoError first units done
 gone_wrong Refused readable writable shape first units done calls left h = absurd calls
 gone_wrong In readable writable shape first units done calls left h = (left, h.1, h.2)
 gone_wrong Out readable writable shape first units done calls left h = (left, h.1, h.2, h.3)
 gone_wrong Flush readable writable shape first units done calls left h = (left, h.1, h.2)
 gone_wrong GetId readable writable shape first units done calls left h = absurd calls
+gone_wrong Zero readable writable shape first units done calls left h = (left, h.1, h.2, h.3, h.4, h.5)
 
 -- What one unit brings.
 pub record IsGoodSet (count : ℕ) (s : SectorSet) : Type 0 where
@@ -85,7 +86,7 @@ AreGoodSets count [] = Unit {0}
 AreGoodSets count (s ∷ ss) = IsGoodSet count s × AreGoodSets count ss
 
 abbrev WorkOf : BlockShape → Request → Type 0
-WorkOf shape r = Work r.kind (length (places r.readable)) (length (places r.writable)) shape r.verdict r.first r.units r.done
+WorkOf shape r = IsSoundWork r.kind (length (places r.readable)) (length (places r.writable)) shape r.verdict r.first r.units r.done
 
 record IsMove (len : ℕ) (shape : BlockShape) (r : Request) (m : Move) : Type 0 where
   goes : (k : ℕ) (q : RingState) (rs : List Request) → AreSound len q shape rs → k < length rs → r ≡ get_or rs k r → AreSound len q shape (set rs k m.request)
@@ -147,21 +148,31 @@ unit_whole ram r units are left long =
       bytes = IsBytes-take 512 rest (IsBytes-drop (16 + 512 * r.done) all (read_bytes ram (places r.readable) are));
     }
 
+-- A unit that writes bytes to its sector.
+write_by : (len : ℕ) (shape : BlockShape) (bytes : List ℕ) (r : Request) (is_fine : Bool) → IsWhole (Some bytes) → next_sector r < shape.sectors → IsOpen r → Calls r.kind → WorkOf shape r → IsMove len shape r (write_unit bytes r is_fine)
+write_by len shape bytes r true whole there at_work calls work = record {
+  goes = moved_after len shape r at_work work;
+  inside = tt;
+  sets = (record { there = there; whole = whole }, tt);
+}
+write_by len shape bytes r false whole there at_work calls work = record {
+  goes = failed_after len shape r at_work calls work;
+  inside = tt;
+  sets = (record { there = there; whole = tt }, tt);
+}
+
 out_by : (len : ℕ) (shape : BlockShape) (ram : List ℕ) (r : Request) (is_fine : Bool) → IsBytes ram → IsOpen r → r.kind ≡ Out → WorkOf shape r → IsMove len shape r (move_out ram r is_fine)
-out_by len shape ram r true are at_work kind work =
-    let w : Work Out (length (places r.readable)) (length (places r.writable)) shape r.verdict r.first r.units r.done = rw kind at work in
-    record {
-      goes = moved_after len shape r at_work work;
-      inside = tt;
-      sets = (record { there = omega (arith, at_work.left, w.2); whole = unit_whole ram r r.units are at_work.left w.1 }, tt);
-    }
-out_by len shape ram r false are at_work kind work =
-    let w : Work Out (length (places r.readable)) (length (places r.writable)) shape r.verdict r.first r.units r.done = rw kind at work in
-    record {
-      goes = failed_after len shape r at_work (rw kind tt) work;
-      inside = tt;
-      sets = (record { there = omega (arith, at_work.left, w.2); whole = tt }, tt);
-    }
+out_by len shape ram r is_fine are at_work kind work =
+    let w : IsSoundWork Out (length (places r.readable)) (length (places r.writable)) shape r.verdict r.first r.units r.done = rw kind at work in
+    write_by len shape (unit_bytes ram r) r is_fine (unit_whole ram r r.units are at_work.left w.1) (omega (arith, at_work.left, w.2)) at_work (rw kind tt) work
+
+zeros_whole : IsWhole (Some (replicate 512 0))
+zeros_whole = record { size = refl; bytes = zero_bytes 512 }
+
+zero_by : (len : ℕ) (shape : BlockShape) (r : Request) (is_fine : Bool) → IsOpen r → r.kind ≡ Zero → WorkOf shape r → IsMove len shape r (move_zero r is_fine)
+zero_by len shape r is_fine at_work kind work =
+    let w : IsSoundWork Zero (length (places r.readable)) (length (places r.writable)) shape r.verdict r.first r.units r.done = rw kind at work in
+    write_by len shape (replicate 512 0) r is_fine zeros_whole (omega (arith, at_work.left, w.3)) at_work (rw kind tt) work
 
 flush_by : (len : ℕ) (shape : BlockShape) (r : Request) (is_fine : Bool) → IsOpen r → r.kind ≡ Flush → WorkOf shape r → IsMove len shape r (move_flush r is_fine)
 flush_by len shape r true at_work kind work = record { goes = moved_after len shape r at_work work; inside = tt; sets = tt }
@@ -170,14 +181,15 @@ flush_by len shape r false at_work kind work = record { goes = failed_after len 
 move_by : (len : ℕ) (shape : BlockShape) (ram : List ℕ) (content : List Sector) (r : Request) (is_fine : Bool) (k : Kind) → r.kind ≡ k → IsBytes ram → IsBytes shape.id → length content ≡ shape.sectors → AreWhole content → IsOpen r → WorkOf shape r → AreSegmentsInside len r.writable
     → IsMove len shape r (move_of k shape.id ram content r is_fine)
 move_by len shape ram content r is_fine Refused kind are id long whole at_work work inside =
-    let w : Work Refused (length (places r.readable)) (length (places r.writable)) shape Good r.first r.units r.done = rw (kind, at_work.good) at work in
+    let w : IsSoundWork Refused (length (places r.readable)) (length (places r.writable)) shape Good r.first r.units r.done = rw (kind, at_work.good) at work in
     absurd (true≢false w.0)
 move_by len shape ram content r is_fine In kind are id long whole at_work work inside =
-    let w : Work In (length (places r.readable)) (length (places r.writable)) shape r.verdict r.first r.units r.done = rw kind at work in
+    let w : IsSoundWork In (length (places r.readable)) (length (places r.writable)) shape r.verdict r.first r.units r.done = rw kind at work in
     let there : next_sector r < length content = omega (arith, at_work.left, w.2, long) in
     in_by len shape content r (is_bad (sector_in content (next_sector r))) is_fine at_work kind work inside (whole (next_sector r) None there)
 move_by len shape ram content r is_fine Out kind are id long whole at_work work inside = out_by len shape ram r is_fine are at_work kind work
 move_by len shape ram content r is_fine Flush kind are id long whole at_work work inside = flush_by len shape r is_fine at_work kind work
+move_by len shape ram content r is_fine Zero kind are id long whole at_work work inside = zero_by len shape r is_fine at_work kind work
 move_by len shape ram content r is_fine GetId kind are id long whole at_work work inside = record {
   goes = moved_after len shape r at_work work;
   inside = some_inside len 20 0 r shape.id inside id;

@@ -14,6 +14,7 @@ use Rattle.machine.specs.DeviceStep.{advanced_at, device_step, looked_at, step_a
 use Rattle.machine.specs.Effect.{Effect, applied, items_of, replaced_in, sectors_set, sets_on}
 use Rattle.machine.specs.Outcome.{Outcome, disk_failed, fine, is_failure, no_memory, outcome_of}
 use Rattle.machine.specs.Seen.{Marks, all_marks, state_of}
+use Rattle.machine.specs.Shapes.{block_of}
 use Rattle.machine.specs.State.{DeviceState, MachineState}
 use Rattle.machine.specs.Step.{answer, input_of, put_by, put_in, read_ram, read_register, set_size, size_by, step_device, write_ram, write_register}
 use Rattle.machine.specs.StepLaws.{IsRefusal}
@@ -36,7 +37,7 @@ at_ring : (d : DeviceState) (ram : List ℕ) (content : List Sector) (pick : ℕ
 at_ring d ram content pick seen None o h = absurd (quiet_advance d ram content pick (advanced_at d pick) o h)
 at_ring d ram content pick seen (Some q) no_memory h = (refl, refl)
 at_ring d ram content pick seen (Some q) disk_failed h = absurd h
-at_ring d ram content pick seen (Some q) fine h = absurd (quiet_service d.shape d.own pick ram q seen h)
+at_ring d ram content pick seen (Some q) fine h = absurd (quiet_service (block_of d.shape d.registers.common.features) d.own pick ram q seen h)
 
 of_step : (dev : ℕ) (d : Option DeviceState) (ram : List ℕ) (content : List Sector) (pick : ℕ) (o : Outcome) (seen : Next) → IsRefusal (step_device dev d ram content pick o seen).reply → IsUnwritten (step_device dev d ram content pick o seen).effect
 unfolding device_step

@@ -24,7 +24,7 @@ use Rattle.console.specs.Receive.{receive_step, give}
 use Rattle.blk.proofs.Tasks.{taken_sound}
 use Rattle.machine.proofs.ChainIds.{id_fits}
 use Rattle.blk.specs.Sound.{AreSound}
-use Rattle.blk.specs.Take.{take_step, request_for, task_for, header_of}
+use Rattle.blk.specs.Take.{take_step, request_for, task_for, header_of, segment_of}
 use Rattle.blk.specs.declared.request.TheConstants.{HEADER_SIZE as REQUEST_HEADER_SIZE}
 use Rattle.blk.specs.declared.request.Request.{Request}
 use Rattle.blk.specs.declared.shape.BlockShape.{BlockShape}
@@ -64,28 +64,28 @@ given_on len ram s held (next.Chain c) looked bounded are = record {
   };
 }
 
--- What only a kind has, beside a ready ring in a RAM of so many bytes.
+-- What only a kind has, beside a ready ring in a RAM of so many bytes, where the driver accepted these features.
 pub record AreOutstanding (len : ℕ) (s : RingState) (shape : BlockShape) (requests : List Request) : Type 0 where
   pub few : length requests ≤ 8
   pub sound : AreSound len s shape requests
 
-abbrev pub SoundBeside : ℕ → RingState → Shape → Own → Type 0
-SoundBeside len s (shapes.Net mac) (Network frames) = AreFrames frames
-SoundBeside len s (shapes.Block sectors read_only id) (Block requests) = AreOutstanding len s (block_of (shapes.Block sectors read_only id)) requests
-SoundBeside len s shapes.Console (Console size held) = IsSoundConsole size held
-SoundBeside len s shapes.Entropy (Entropy pool) = AreHostBytes pool
-SoundBeside len s (shapes.Net mac) (Block requests) = ⊥
-SoundBeside len s (shapes.Net mac) (Console size held) = ⊥
-SoundBeside len s (shapes.Net mac) (Entropy pool) = ⊥
-SoundBeside len s (shapes.Block sectors read_only id) (Network frames) = ⊥
-SoundBeside len s (shapes.Block sectors read_only id) (Console size held) = ⊥
-SoundBeside len s (shapes.Block sectors read_only id) (Entropy pool) = ⊥
-SoundBeside len s shapes.Console (Network frames) = ⊥
-SoundBeside len s shapes.Console (Block requests) = ⊥
-SoundBeside len s shapes.Console (Entropy pool) = ⊥
-SoundBeside len s shapes.Entropy (Network frames) = ⊥
-SoundBeside len s shapes.Entropy (Block requests) = ⊥
-SoundBeside len s shapes.Entropy (Console size held) = ⊥
+abbrev pub SoundBeside : ℕ → RingState → Shape → ℕ → Own → Type 0
+SoundBeside len s (shapes.Net mac) features (Network frames) = AreFrames frames
+SoundBeside len s (shapes.Block sectors read_only id) features (Block requests) = AreOutstanding len s (block_of (shapes.Block sectors read_only id) features) requests
+SoundBeside len s shapes.Console features (Console size held) = IsSoundConsole size held
+SoundBeside len s shapes.Entropy features (Entropy pool) = AreHostBytes pool
+SoundBeside len s (shapes.Net mac) features (Block requests) = ⊥
+SoundBeside len s (shapes.Net mac) features (Console size held) = ⊥
+SoundBeside len s (shapes.Net mac) features (Entropy pool) = ⊥
+SoundBeside len s (shapes.Block sectors read_only id) features (Network frames) = ⊥
+SoundBeside len s (shapes.Block sectors read_only id) features (Console size held) = ⊥
+SoundBeside len s (shapes.Block sectors read_only id) features (Entropy pool) = ⊥
+SoundBeside len s shapes.Console features (Network frames) = ⊥
+SoundBeside len s shapes.Console features (Block requests) = ⊥
+SoundBeside len s shapes.Console features (Entropy pool) = ⊥
+SoundBeside len s shapes.Entropy features (Network frames) = ⊥
+SoundBeside len s shapes.Entropy features (Block requests) = ⊥
+SoundBeside len s shapes.Entropy features (Console size held) = ⊥
 
 -- The step that takes a request: the ring after it, and the requests.
 record TakesOn (len : ℕ) (s new : RingState) (shape : BlockShape) (requests : List Request) : Type 0 where
@@ -103,7 +103,7 @@ taken_on ram s shape requests (next.Chain c) room bytes sees looked are =
       ring = record { layout = refl; size = refl; placed = placed_taken s c.slots s.is_packed refl looked.may looked.placed bounded.slots };
       are = record {
         few = omega (arith, ltb-true (length requests) 8 room, length-append requests (request_for c (task_for ram shape c) ∷ []));
-        sound = taken_sound (length ram) s shape requests (header_of ram c) c (id_fits ram s c bytes looked.may.few usage.answers.1) bounded usage.fit are.sound;
+        sound = taken_sound (length ram) s shape requests (header_of ram c) (segment_of ram c) c (id_fits ram s c bytes looked.may.few usage.answers.1) bounded usage.fit are.sound;
       };
     }
 
@@ -138,35 +138,35 @@ sent_on ram s form next.Malformed looked bounded = same_ring s looked.placed
 sent_on ram s form (next.Chain c) looked bounded = record { layout = refl; size = refl; placed = placed_by s c.slots s.is_packed refl looked.may looked.placed bounded.slots }
 
 -- The ring after a queue was served, and what the kind has.
-pub record ServesOn (len : ℕ) (shape : Shape) (s new : RingState) (own : Own) : Type 0 where
+pub record ServesOn (len : ℕ) (shape : Shape) (features : ℕ) (s new : RingState) (own : Own) : Type 0 where
   pub ring : IsSameRing s new
-  pub own_is : SoundBeside len new shape own
+  pub own_is : SoundBeside len new shape features own
 
-pub served_on : (shape : Shape) (own : Own) (number : ℕ) (ram : List ℕ) (s : RingState) (seen : Next) → has_work own number ≡ true → IsBytes ram → IsLookedRing (length ram) s → Sees (wanted_of own number) ram s seen → SoundBeside (length ram) s shape own
-    → ServesOn (length ram) shape s (serve shape own number ram s seen).ring (serve shape own number ram s seen).own
-served_on (shapes.Net mac) (Network frames) zero ram s seen work bytes looked sees sound =
+pub served_on : (shape : Shape) (features : ℕ) (own : Own) (number : ℕ) (ram : List ℕ) (s : RingState) (seen : Next) → has_work own number ≡ true → IsBytes ram → IsLookedRing (length ram) s → Sees (wanted_of own number) ram s seen → SoundBeside (length ram) s shape features own
+    → ServesOn (length ram) shape features s (serve (block_of shape features) own number ram s seen).ring (serve (block_of shape features) own number ram s seen).own
+served_on (shapes.Net mac) features (Network frames) zero ram s seen work bytes looked sees sound =
     let g = framed_on ram s frames seen looked (sight_bounded wanted.Room ram s seen sees) sound in
     record { ring = g.ring; own_is = g.are }
-served_on (shapes.Net mac) (Network frames) (suc number) ram s seen work bytes looked sees sound = record { ring = sent_on ram s frame_form seen looked (sight_bounded (wanted.Message frame_form) ram s seen sees); own_is = sound }
-served_on (shapes.Block sectors read_only id) (Block requests) number ram s seen work bytes looked sees sound =
-    let t = taken_on ram s (block_of (shapes.Block sectors read_only id)) requests seen work bytes sees looked sound in
+served_on (shapes.Net mac) features (Network frames) (suc number) ram s seen work bytes looked sees sound = record { ring = sent_on ram s frame_form seen looked (sight_bounded (wanted.Message frame_form) ram s seen sees); own_is = sound }
+served_on (shapes.Block sectors read_only id) features (Block requests) number ram s seen work bytes looked sees sound =
+    let t = taken_on ram s (block_of (shapes.Block sectors read_only id) features) requests seen work bytes sees looked sound in
     record { ring = t.ring; own_is = t.are }
-served_on shapes.Console (Console size held) zero ram s seen work bytes looked sees sound =
+served_on shapes.Console features (Console size held) zero ram s seen work bytes looked sees sound =
     let g = given_on (length ram) ram s held seen looked (sight_bounded wanted.Room ram s seen sees) sound.text in
     record { ring = g.ring; own_is = record { columns = sound.columns; rows = sound.rows; text = g.left_are } }
-served_on shapes.Console (Console size held) (suc number) ram s seen work bytes looked sees sound = record { ring = sent_on ram s text_form seen looked (sight_bounded (wanted.Message text_form) ram s seen sees); own_is = sound }
-served_on shapes.Entropy (Entropy pool) number ram s seen work bytes looked sees sound =
+served_on shapes.Console features (Console size held) (suc number) ram s seen work bytes looked sees sound = record { ring = sent_on ram s text_form seen looked (sight_bounded (wanted.Message text_form) ram s seen sees); own_is = sound }
+served_on shapes.Entropy features (Entropy pool) number ram s seen work bytes looked sees sound =
     let g = given_on (length ram) ram s pool seen looked (sight_bounded wanted.Room ram s seen sees) sound in
     record { ring = g.ring; own_is = g.left_are }
-served_on (shapes.Net mac) (Block requests) number ram s seen work bytes looked sees sound = absurd sound
-served_on (shapes.Net mac) (Console size held) number ram s seen work bytes looked sees sound = absurd sound
-served_on (shapes.Net mac) (Entropy pool) number ram s seen work bytes looked sees sound = absurd sound
-served_on (shapes.Block sectors read_only id) (Network frames) number ram s seen work bytes looked sees sound = absurd sound
-served_on (shapes.Block sectors read_only id) (Console size held) number ram s seen work bytes looked sees sound = absurd sound
-served_on (shapes.Block sectors read_only id) (Entropy pool) number ram s seen work bytes looked sees sound = absurd sound
-served_on shapes.Console (Network frames) number ram s seen work bytes looked sees sound = absurd sound
-served_on shapes.Console (Block requests) number ram s seen work bytes looked sees sound = absurd sound
-served_on shapes.Console (Entropy pool) number ram s seen work bytes looked sees sound = absurd sound
-served_on shapes.Entropy (Network frames) number ram s seen work bytes looked sees sound = absurd sound
-served_on shapes.Entropy (Block requests) number ram s seen work bytes looked sees sound = absurd sound
-served_on shapes.Entropy (Console size held) number ram s seen work bytes looked sees sound = absurd sound
+served_on (shapes.Net mac) features (Block requests) number ram s seen work bytes looked sees sound = absurd sound
+served_on (shapes.Net mac) features (Console size held) number ram s seen work bytes looked sees sound = absurd sound
+served_on (shapes.Net mac) features (Entropy pool) number ram s seen work bytes looked sees sound = absurd sound
+served_on (shapes.Block sectors read_only id) features (Network frames) number ram s seen work bytes looked sees sound = absurd sound
+served_on (shapes.Block sectors read_only id) features (Console size held) number ram s seen work bytes looked sees sound = absurd sound
+served_on (shapes.Block sectors read_only id) features (Entropy pool) number ram s seen work bytes looked sees sound = absurd sound
+served_on shapes.Console features (Network frames) number ram s seen work bytes looked sees sound = absurd sound
+served_on shapes.Console features (Block requests) number ram s seen work bytes looked sees sound = absurd sound
+served_on shapes.Console features (Entropy pool) number ram s seen work bytes looked sees sound = absurd sound
+served_on shapes.Entropy features (Network frames) number ram s seen work bytes looked sees sound = absurd sound
+served_on shapes.Entropy features (Block requests) number ram s seen work bytes looked sees sound = absurd sound
+served_on shapes.Entropy features (Console size held) number ram s seen work bytes looked sees sound = absurd sound

@@ -66,28 +66,32 @@ of_idle : (b : Bool) (P Q : Type 0) → MatchBool b P Q → b ≡ false → Q
 of_idle true P Q h is = cc
 of_idle false P Q h is = h
 
-still_placed : (was is : Bool) (old new : Queue) (p : Positions) → HasPositions was old p
-    → ((old.is_ready ≡ false) × (0 < new.size)) ⊎ ((old.is_ready ≡ true) × (new.size ≡ old.size) × (is ≡ was)) → ArePlaced is new.size p
+-- Whether these features name the packed layout.
+abbrev is_packed : ℕ → Bool
+is_packed features = has features (2 ^ 34)
+
+still_placed : (was is : ℕ) (old new : Queue) (p : Positions) → HasPositions (is_packed was) old p
+    → ((old.is_ready ≡ false) × (0 < new.size)) ⊎ ((old.is_ready ≡ true) × (new.size ≡ old.size) × (is ≡ was)) → ArePlaced (is_packed is) new.size p
 still_placed was is old new p has (inl made) =
-    let first : p ≡ first_positions = of_idle old.is_ready (ArePlaced was old.size p) (p ≡ first_positions) has.where_ready made.0 in
-    subst (λ x. ArePlaced is new.size x) (sym first) (first_placed is new.size made.1)
+    let first : p ≡ first_positions = of_idle old.is_ready (ArePlaced (is_packed was) old.size p) (p ≡ first_positions) has.where_ready made.0 in
+    subst (λ x. ArePlaced (is_packed is) new.size x) (sym first) (first_placed (is_packed is) new.size made.1)
 still_placed was is old new p has (inr stayed) =
-    let placed : ArePlaced was old.size p = of_ready old.is_ready (ArePlaced was old.size p) (p ≡ first_positions) has.where_ready stayed.0 in
+    let placed : ArePlaced (is_packed was) old.size p = of_ready old.is_ready (ArePlaced (is_packed was) old.size p) (p ≡ first_positions) has.where_ready stayed.0 in
     rw (stayed.1, stayed.2) placed
 
-one_kept : (was is : Bool) (old new : Queue) (p : Positions) (ready : Bool) → new.is_ready ≡ ready → StaysReady was is old new → HasPositions was old p → HasPositions is new (cond ready p first_positions)
+one_kept : (was is : ℕ) (old new : Queue) (p : Positions) (ready : Bool) → new.is_ready ≡ ready → StaysReady was is old new → HasPositions (is_packed was) old p → HasPositions (is_packed is) new (cond ready p first_positions)
 one_kept was is old new p true at stays has = record {
   taking_fits = has.taking_fits;
   used_fits = has.used_fits;
-  where_ready = subst (λ b. MatchBool b (ArePlaced is new.size p) (p ≡ first_positions)) (sym at) (still_placed was is old new p has (stays at));
+  where_ready = subst (λ b. MatchBool b (ArePlaced (is_packed is) new.size p) (p ≡ first_positions)) (sym at) (still_placed was is old new p has (stays at));
 }
 one_kept was is old new p false at stays has = record {
   taking_fits = omega arith;
   used_fits = omega arith;
-  where_ready = subst (λ b. MatchBool b (ArePlaced is new.size first_positions) (first_positions ≡ first_positions)) (sym at) refl;
+  where_ready = subst (λ b. MatchBool b (ArePlaced (is_packed is) new.size first_positions) (first_positions ≡ first_positions)) (sym at) refl;
 }
 
-all_kept : (was is : Bool) (os ns : List Queue) (ps : List Positions) → EachStaysReady was is os ns → HavePositions was os ps → HavePositions is ns (kept_positions ns ps)
+all_kept : (was is : ℕ) (os ns : List Queue) (ps : List Positions) → EachStaysReady was is os ns → HavePositions (is_packed was) os ps → HavePositions (is_packed is) ns (kept_positions ns ps)
 all_kept was is [] [] [] stay have = tt
 all_kept was is [] [] (p ∷ ps) stay have = absurd have
 all_kept was is [] (n ∷ ns) ps stay have = absurd stay
@@ -95,7 +99,7 @@ all_kept was is (o ∷ os) [] ps stay have = absurd stay
 all_kept was is (o ∷ os) (n ∷ ns) [] stay have = absurd have
 all_kept was is (o ∷ os) (n ∷ ns) (p ∷ ps) stay have = (one_kept was is o n p n.is_ready refl stay.0 have.0, all_kept was is os ns ps stay.1 have.1)
 
--- Requests outlive a write only where their queue stays ready.
+-- Requests outlive a write only where their queue stays ready, and so the driver's features stay.
 abbrev NoRequests : List Request
 NoRequests = []
 
@@ -110,25 +114,25 @@ any_where : (b : Bool) (requests : List Request) → b ≡ true → MatchBool b 
 any_where true requests is = tt
 any_where false requests is = cc
 
-kept_by : (len : ℕ) (was is : Bool) (old new : Queue) (shape : BlockShape) (requests : List Request) (ready : Bool) → new.is_ready ≡ ready → StaysReady was is old new → AreRequestsOf len was old shape requests
-    → AreRequestsOf len is new shape (cond ready requests [])
-kept_by len was is old new shape requests false at stays are = no_requests len is new shape
-kept_by len was is old new shape requests true at stays are = elim (stays at) as (λ _. AreRequestsOf len is new shape requests) [
+kept_by : (len : ℕ) (was is : ℕ) (old new : Queue) (shape : ℕ → BlockShape) (requests : List Request) (ready : Bool) → new.is_ready ≡ ready → StaysReady was is old new → AreRequestsOf len (is_packed was) old (shape was) requests
+    → AreRequestsOf len (is_packed is) new (shape is) (cond ready requests [])
+kept_by len was is old new shape requests false at stays are = no_requests len (is_packed is) new (shape is)
+kept_by len was is old new shape requests true at stays are = elim (stays at) as (λ _. AreRequestsOf len (is_packed is) new (shape is) requests) [
   | inl made ↦
       (let none : requests ≡ [] = of_idle old.is_ready (Unit {0}) (requests ≡ []) are.where_ready made.0 in
-      rw none (no_requests len is new shape))
+      rw none (no_requests len (is_packed is) new (shape is)))
   | inr stayed ↦ record { few = are.few; sound = rw (stayed.1, stayed.2) are.sound; where_ready = any_where new.is_ready requests at }
 ]
 
-kept_requests_sound : (len : ℕ) (was is : Bool) (os ns : List Queue) (shape : BlockShape) (requests : List Request) → EachStaysReady was is os ns
-    → IsSomeAnd (slice_get os 0) (λ q. AreRequestsOf len was q shape requests) → IsSomeAnd (slice_get ns 0) (λ q. AreRequestsOf len is q shape (kept_requests ns requests))
+kept_requests_sound : (len : ℕ) (was is : ℕ) (os ns : List Queue) (shape : ℕ → BlockShape) (requests : List Request) → EachStaysReady was is os ns
+    → IsSomeAnd (slice_get os 0) (λ q. AreRequestsOf len (is_packed was) q (shape was) requests) → IsSomeAnd (slice_get ns 0) (λ q. AreRequestsOf len (is_packed is) q (shape is) (kept_requests ns requests))
 kept_requests_sound len was is [] ns shape requests stay are = absurd are
 kept_requests_sound len was is (o ∷ os) [] shape requests stay are = absurd stay
 kept_requests_sound len was is (o ∷ os) (n ∷ ns) shape requests stay are = kept_by len was is o n shape requests n.is_ready refl stay.0 are
 
-own_kept : (len : ℕ) (r new : Registers) (shape : Shape) (own : Own) → EachStaysReady (is_packed_by r.common) (is_packed_by new.common) r.queues new.queues → IsSoundOwn len r shape own → IsSoundOwn len new shape (kept_own new.queues own)
+own_kept : (len : ℕ) (r new : Registers) (shape : Shape) (own : Own) → EachStaysReady r.common.features new.common.features r.queues new.queues → IsSoundOwn len r shape own → IsSoundOwn len new shape (kept_own new.queues own)
 own_kept len r new (shapes.Net mac) (Network frames) stay sound = sound
-own_kept len r new (shapes.Block sectors read_only id) (Block requests) stay sound = kept_requests_sound len (is_packed_by r.common) (is_packed_by new.common) r.queues new.queues (block_of (shapes.Block sectors read_only id)) requests stay sound
+own_kept len r new (shapes.Block sectors read_only id) (Block requests) stay sound = kept_requests_sound len r.common.features new.common.features r.queues new.queues (block_of (shapes.Block sectors read_only id)) requests stay sound
 own_kept len r new shapes.Console (Console size held) stay sound = sound
 own_kept len r new shapes.Entropy (Entropy pool) stay sound = sound
 own_kept len r new (shapes.Net mac) (Block requests) stay sound = absurd sound
@@ -157,7 +161,7 @@ sound_written len d offset width value small sound =
       queues = stays.same.queue_count ∙ sound.queues;
       ram_len = stays.same.ram_len ∙ sound.ram_len;
       registers = stays.sound;
-      positions = all_kept (is_packed_by d.registers.common) (is_packed_by new.common) d.registers.queues new.queues d.positions ready sound.positions;
+      positions = all_kept d.registers.common.features new.common.features d.registers.queues new.queues d.positions ready sound.positions;
       own = own_kept len d.registers new d.shape d.own ready sound.own;
     }
 
@@ -288,10 +292,10 @@ sound_resized len d old size held is columns rows sound =
     }
 
 -- What only a kind has, beside a queue that is ready, and back.
-pub beside : (len : ℕ) (r : Registers) (shape : Shape) (own : Own) (pick : ℕ) (queue : Queue) (s : RingState) → length r.queues ≡ queues_of shape → queue_at r pick ≡ Some queue → s.is_packed ≡ is_packed_by r.common → s.size ≡ queue.size → IsSoundOwn len r shape own → SoundBeside len s shape own
+pub beside : (len : ℕ) (r : Registers) (shape : Shape) (own : Own) (pick : ℕ) (queue : Queue) (s : RingState) → length r.queues ≡ queues_of shape → queue_at r pick ≡ Some queue → s.is_packed ≡ is_packed_by r.common → s.size ≡ queue.size → IsSoundOwn len r shape own → SoundBeside len s shape r.common.features own
 beside len r (shapes.Net mac) (Network frames) pick queue s count there layout size sound = sound
 beside len r (shapes.Block sectors read_only id) (Block requests) zero queue s count there layout size sound =
-    let are : AreRequestsOf len (is_packed_by r.common) queue (block_of (shapes.Block sectors read_only id)) requests = rw there at sound in
+    let are : AreRequestsOf len (is_packed_by r.common) queue (block_of (shapes.Block sectors read_only id) r.common.features) requests = rw there at sound in
     record { few = are.few; sound = rw (layout, size) are.sound }
 beside len r (shapes.Block sectors read_only id) (Block requests) (suc pick) queue s count there layout size sound =
     let below : suc pick < length r.queues = slice_get_within r.queues (suc pick) queue there in
@@ -311,10 +315,10 @@ beside len r shapes.Entropy (Network frames) pick queue s count there layout siz
 beside len r shapes.Entropy (Block requests) pick queue s count there layout size sound = absurd sound
 beside len r shapes.Entropy (Console columns held) pick queue s count there layout size sound = absurd sound
 
-pub back : (len : ℕ) (r : Registers) (shape : Shape) (own : Own) (pick : ℕ) (queue : Queue) (s : RingState) → length r.queues ≡ queues_of shape → queue_at r pick ≡ Some queue → queue.is_ready ≡ true → s.is_packed ≡ is_packed_by r.common → s.size ≡ queue.size → SoundBeside len s shape own → IsSoundOwn len r shape own
+pub back : (len : ℕ) (r : Registers) (shape : Shape) (own : Own) (pick : ℕ) (queue : Queue) (s : RingState) → length r.queues ≡ queues_of shape → queue_at r pick ≡ Some queue → queue.is_ready ≡ true → s.is_packed ≡ is_packed_by r.common → s.size ≡ queue.size → SoundBeside len s shape r.common.features own → IsSoundOwn len r shape own
 back len r (shapes.Net mac) (Network frames) pick queue s count there ready layout size sound = sound
 back len r (shapes.Block sectors read_only id) (Block requests) zero queue s count there ready layout size sound =
-    let are : AreRequestsOf len (is_packed_by r.common) queue (block_of (shapes.Block sectors read_only id)) requests = record { few = sound.few; sound = rw (← layout, ← size) sound.sound; where_ready = any_where queue.is_ready requests ready } in
+    let are : AreRequestsOf len (is_packed_by r.common) queue (block_of (shapes.Block sectors read_only id) r.common.features) requests = record { few = sound.few; sound = rw (← layout, ← size) sound.sound; where_ready = any_where queue.is_ready requests ready } in
     rw there are
 back len r (shapes.Block sectors read_only id) (Block requests) (suc pick) queue s count there ready layout size sound =
     let below : suc pick < length r.queues = slice_get_within r.queues (suc pick) queue there in
@@ -358,48 +362,48 @@ have_after r pick served.Malformed ps have = have_asked r (eqb (bit_and r.common
 have_after r pick (served.Published reply true) ps have = have
 have_after r pick (served.Published reply false) ps have = have
 
--- A queue that is ready, with such a size, under features of such a layout.
-record IsReadyAt (r : Registers) (pick : ℕ) (packed : Bool) (size : ℕ) : Type 0 where
+-- A queue that is ready, with such a size, where the driver accepted these features.
+record IsReadyAt (r : Registers) (pick : ℕ) (features : ℕ) (size : ℕ) : Type 0 where
   queue : Queue
   there : queue_at r pick ≡ Some queue
   ready : queue.is_ready ≡ true
   size_is : queue.size ≡ size
-  layout : is_packed_by r.common ≡ packed
+  accepted : r.common.features ≡ features
 
 set_there : (qs : List Queue) (pick : ℕ) (q new : Queue) → slice_get qs pick ≡ Some q → slice_get (set qs pick new) pick ≡ Some new
 set_there [] pick q new at = cc
 set_there (x ∷ qs) zero q new at = refl
 set_there (x ∷ qs) (suc pick) q new at = set_there qs pick q new at
 
-asked_layout : (r : Registers) (driven : Bool) → is_packed_by (cond driven (record r.common { status = bit_or r.common.status 64; interrupts = bit_or r.common.interrupts 2 }) r.common) ≡ is_packed_by r.common
-asked_layout r true = refl
-asked_layout r false = refl
+asked_features : (r : Registers) (driven : Bool) → (cond driven (record r.common { status = bit_or r.common.status 64; interrupts = bit_or r.common.interrupts 2 }) r.common).features ≡ r.common.features
+asked_features r true = refl
+asked_features r false = refl
 
-after_ready : (r : Registers) (pick : ℕ) (s : Served) (packed : Bool) (size : ℕ) → IsReadyAt r pick packed size → IsReadyAt (registers_after r pick s) pick packed size
-after_ready r pick served.Empty packed size h = rw h.there (record {
+after_ready : (r : Registers) (pick : ℕ) (s : Served) (features size : ℕ) → IsReadyAt r pick features size → IsReadyAt (registers_after r pick s) pick features size
+after_ready r pick served.Empty features size h = rw h.there (record {
   queue = record h.queue { is_notified = false };
   there = set_there r.queues pick h.queue (record h.queue { is_notified = false }) h.there;
   ready = h.ready;
   size_is = h.size_is;
-  layout = h.layout;
+  accepted = h.accepted;
 })
-after_ready r pick served.Malformed packed size h = record { queue = h.queue; there = h.there; ready = h.ready; size_is = h.size_is; layout = asked_layout r (eqb (bit_and r.common.status 4) 4) ∙ h.layout }
-after_ready r pick (served.Published reply true) packed size h = record { queue = h.queue; there = h.there; ready = h.ready; size_is = h.size_is; layout = h.layout }
-after_ready r pick (served.Published reply false) packed size h = h
+after_ready r pick served.Malformed features size h = record { queue = h.queue; there = h.there; ready = h.ready; size_is = h.size_is; accepted = asked_features r (eqb (bit_and r.common.status 4) 4) ∙ h.accepted }
+after_ready r pick (served.Published reply true) features size h = record { queue = h.queue; there = h.there; ready = h.ready; size_is = h.size_is; accepted = h.accepted }
+after_ready r pick (served.Published reply false) features size h = h
 
-sound_served : (d : DeviceState) (ram : List ℕ) (pick : ℕ) (q : RingState) (seen : Next) → IsBytes ram → IsLookedAt d pick q → Sees (wanted_of d.own pick) ram q seen → IsSoundDevice (length ram) d → IsSoundDevice (length ram) (after_service d pick (serve d.shape d.own pick ram q seen))
+sound_served : (d : DeviceState) (ram : List ℕ) (pick : ℕ) (q : RingState) (seen : Next) → IsBytes ram → IsLookedAt d pick q → Sees (wanted_of d.own pick) ram q seen → IsSoundDevice (length ram) d → IsSoundDevice (length ram) (after_service d pick (serve (block_of d.shape d.registers.common.features) d.own pick ram q seen))
 sound_served d ram pick q seen bytes look sees sound =
-    let s = serve d.shape d.own pick ram q seen in
+    let s = serve (block_of d.shape d.registers.common.features) d.own pick ram q seen in
     let ring = looked_ring (length ram) d pick q sound look in
     let q_layout : q.is_packed ≡ is_packed_by d.registers.common = ap (λ (r : RingState). r.is_packed) look.is ∙ packed_same d.registers.common.features in
     let q_size : q.size ≡ look.queue.size = ap (λ (r : RingState). r.size) look.is in
-    let on = served_on d.shape d.own pick ram q seen look.work bytes ring sees (beside (length ram) d.registers d.shape d.own pick look.queue q sound.queues look.there q_layout q_size sound.own) in
+    let on = served_on d.shape d.registers.common.features d.own pick ram q seen look.work bytes ring sees (beside (length ram) d.registers d.shape d.own pick look.queue q sound.queues look.there q_layout q_size sound.own) in
     let stays = served_registers d.registers pick s.served sound.registers in
     let new : Positions = record { taking = s.ring.taking; used = s.ring.used } in
     let layout : s.ring.is_packed ≡ is_packed_by d.registers.common = on.ring.layout ∙ q_layout in
     let size : s.ring.size ≡ look.queue.size = on.ring.size ∙ q_size in
     let placed : ArePlaced (is_packed_by d.registers.common) look.queue.size new = rw (layout, size) at on.ring.placed.placed in
-    let after = after_ready d.registers pick s.served (is_packed_by d.registers.common) look.queue.size (record { queue = look.queue; there = look.there; ready = look.ready; size_is = refl; layout = refl }) in
+    let after = after_ready d.registers pick s.served d.registers.common.features look.queue.size (record { queue = look.queue; there = look.there; ready = look.ready; size_is = refl; accepted = refl }) in
     record {
       shape = sound.shape;
       device_id = stays.same.device_id ∙ sound.device_id;
@@ -412,7 +416,8 @@ sound_served d ram pick q seen bytes look sees sound =
         used_fits = on.ring.placed.used_fits;
         where_ready = subst (λ b. MatchBool b (ArePlaced (is_packed_by d.registers.common) look.queue.size new) (new ≡ first_positions)) (sym look.ready) placed;
       }));
-      own = back (length ram) (registers_after d.registers pick s.served) d.shape s.own pick after.queue s.ring (stays.same.queue_count ∙ sound.queues) after.there after.ready (layout ∙ sym after.layout) (size ∙ sym after.size_is) on.own_is;
+      own = back (length ram) (registers_after d.registers pick s.served) d.shape s.own pick after.queue s.ring (stays.same.queue_count ∙ sound.queues) after.there after.ready (layout ∙ sym (ap is_packed after.accepted)) (size ∙ sym after.size_is)
+          (subst (λ features. SoundBeside (length ram) s.ring d.shape features s.own) (sym after.accepted) on.own_is);
     }
 
 -- A request went on.
@@ -420,34 +425,35 @@ pub due_registers : (r : Registers) (is_due : Bool) → IsSoundRegisters r → S
 due_registers r true sound = used_sound r sound
 due_registers r false sound = record { same = record { device_id = refl; offered = refl; ram_len = refl; queue_count = refl }; sound = sound }
 
-due_ready : (r : Registers) (is_due : Bool) (pick : ℕ) (packed : Bool) (size : ℕ) → IsReadyAt r pick packed size → IsReadyAt (cond is_due (with_common r (used_raised r.common)) r) pick packed size
-due_ready r true pick packed size h = record { queue = h.queue; there = h.there; ready = h.ready; size_is = h.size_is; layout = h.layout }
-due_ready r false pick packed size h = h
+due_ready : (r : Registers) (is_due : Bool) (pick : ℕ) (features size : ℕ) → IsReadyAt r pick features size → IsReadyAt (cond is_due (with_common r (used_raised r.common)) r) pick features size
+due_ready r true pick features size h = record { queue = h.queue; there = h.there; ready = h.ready; size_is = h.size_is; accepted = h.accepted }
+due_ready r false pick features size h = h
 
 have_due : (r : Registers) (is_due : Bool) (ps : List Positions) → HavePositions (is_packed_by r.common) r.queues ps
     → HavePositions (is_packed_by (cond is_due (with_common r (used_raised r.common)) r).common) (cond is_due (with_common r (used_raised r.common)) r).queues ps
 have_due r true ps have = have
 have_due r false ps have = have
 
-own_goes_on : (len : ℕ) (q : RingState) (shape : Shape) (own : Own) (s : AdvanceStep) → GoesOn len q (block_of shape) (requests_of own) s → SoundBeside len q shape own → SoundBeside len s.ring shape (with_requests own s.requests)
-own_goes_on len q (shapes.Net mac) (Network frames) s on sound = sound
-own_goes_on len q (shapes.Block sectors read_only id) (Block requests) s on sound = record { few = omega (arith, on.few, sound.few); sound = rw (on.ring.layout, on.ring.size) on.sound }
-own_goes_on len q shapes.Console (Console size held) s on sound = sound
-own_goes_on len q shapes.Entropy (Entropy pool) s on sound = sound
-own_goes_on len q (shapes.Net mac) (Block requests) s on sound = absurd sound
-own_goes_on len q (shapes.Net mac) (Console size held) s on sound = absurd sound
-own_goes_on len q (shapes.Net mac) (Entropy pool) s on sound = absurd sound
-own_goes_on len q (shapes.Block sectors read_only id) (Network frames) s on sound = absurd sound
-own_goes_on len q (shapes.Block sectors read_only id) (Console size held) s on sound = absurd sound
-own_goes_on len q (shapes.Block sectors read_only id) (Entropy pool) s on sound = absurd sound
-own_goes_on len q shapes.Console (Network frames) s on sound = absurd sound
-own_goes_on len q shapes.Console (Block requests) s on sound = absurd sound
-own_goes_on len q shapes.Console (Entropy pool) s on sound = absurd sound
-own_goes_on len q shapes.Entropy (Network frames) s on sound = absurd sound
-own_goes_on len q shapes.Entropy (Block requests) s on sound = absurd sound
-own_goes_on len q shapes.Entropy (Console size held) s on sound = absurd sound
+own_goes_on : (len : ℕ) (q : RingState) (shape : Shape) (features : ℕ) (own : Own) (s : AdvanceStep) → GoesOn len q (block_of shape features) (requests_of own) s → SoundBeside len q shape features own
+    → SoundBeside len s.ring shape features (with_requests own s.requests)
+own_goes_on len q (shapes.Net mac) features (Network frames) s on sound = sound
+own_goes_on len q (shapes.Block sectors read_only id) features (Block requests) s on sound = record { few = omega (arith, on.few, sound.few); sound = rw (on.ring.layout, on.ring.size) on.sound }
+own_goes_on len q shapes.Console features (Console size held) s on sound = sound
+own_goes_on len q shapes.Entropy features (Entropy pool) s on sound = sound
+own_goes_on len q (shapes.Net mac) features (Block requests) s on sound = absurd sound
+own_goes_on len q (shapes.Net mac) features (Console size held) s on sound = absurd sound
+own_goes_on len q (shapes.Net mac) features (Entropy pool) s on sound = absurd sound
+own_goes_on len q (shapes.Block sectors read_only id) features (Network frames) s on sound = absurd sound
+own_goes_on len q (shapes.Block sectors read_only id) features (Console size held) s on sound = absurd sound
+own_goes_on len q (shapes.Block sectors read_only id) features (Entropy pool) s on sound = absurd sound
+own_goes_on len q shapes.Console features (Network frames) s on sound = absurd sound
+own_goes_on len q shapes.Console features (Block requests) s on sound = absurd sound
+own_goes_on len q shapes.Console features (Entropy pool) s on sound = absurd sound
+own_goes_on len q shapes.Entropy features (Network frames) s on sound = absurd sound
+own_goes_on len q shapes.Entropy features (Block requests) s on sound = absurd sound
+own_goes_on len q shapes.Entropy features (Console size held) s on sound = absurd sound
 
-sound_advanced : (len : ℕ) (d : DeviceState) (pick : ℕ) (q : RingState) (s : AdvanceStep) → (look : IsAdvancedAt d pick q) → IsSoundDevice len d → GoesOn len q (block_of d.shape) (requests_of d.own) s → IsSoundDevice len (after_advance d s)
+sound_advanced : (len : ℕ) (d : DeviceState) (pick : ℕ) (q : RingState) (s : AdvanceStep) → (look : IsAdvancedAt d pick q) → IsSoundDevice len d → GoesOn len q (block_of d.shape d.registers.common.features) (requests_of d.own) s → IsSoundDevice len (after_advance d s)
 sound_advanced len d pick q s look sound on =
     let due = is_advance_due s.answer in
     let q_layout : q.is_packed ≡ is_packed_by d.registers.common = ap (λ (r : RingState). r.is_packed) look.is ∙ packed_same d.registers.common.features in
@@ -458,7 +464,7 @@ sound_advanced len d pick q s look sound on =
     let layout : s.ring.is_packed ≡ is_packed_by d.registers.common = on.ring.layout ∙ q_layout in
     let size : s.ring.size ≡ look.queue.size = on.ring.size ∙ q_size in
     let placed : ArePlaced (is_packed_by d.registers.common) look.queue.size new = rw (layout, size) at on.ring.placed.placed in
-    let after = due_ready d.registers due 0 (is_packed_by d.registers.common) look.queue.size (record { queue = look.queue; there = look.there; ready = look.ready; size_is = refl; layout = refl }) in
+    let after = due_ready d.registers due 0 d.registers.common.features look.queue.size (record { queue = look.queue; there = look.there; ready = look.ready; size_is = refl; accepted = refl }) in
     record {
       shape = sound.shape;
       device_id = stays.same.device_id ∙ sound.device_id;
@@ -471,7 +477,8 @@ sound_advanced len d pick q s look sound on =
         used_fits = on.ring.placed.used_fits;
         where_ready = subst (λ b. MatchBool b (ArePlaced (is_packed_by d.registers.common) look.queue.size new) (new ≡ first_positions)) (sym look.ready) placed;
       }));
-      own = back len (after_advance d s).registers d.shape (with_requests d.own s.requests) 0 after.queue s.ring (stays.same.queue_count ∙ sound.queues) after.there after.ready (layout ∙ sym after.layout) (size ∙ sym after.size_is) (own_goes_on len q d.shape d.own s on old);
+      own = back len (after_advance d s).registers d.shape (with_requests d.own s.requests) 0 after.queue s.ring (stays.same.queue_count ∙ sound.queues) after.there after.ready (layout ∙ sym (ap is_packed after.accepted)) (size ∙ sym after.size_is)
+          (subst (λ features. SoundBeside len s.ring d.shape features (with_requests d.own s.requests)) (sym after.accepted) (own_goes_on len q d.shape d.registers.common.features d.own s on old));
     }
 
 -- What a step of a device has to do with: sectors of its disk, whole and as many as its shape says.
@@ -479,44 +486,45 @@ pub record HasSectors (d : DeviceState) (content : List Sector) : Type 0 where
   pub count : length content ≡ sector_count d.shape
   pub whole : AreWhole content
 
-pub block_count : (shape : Shape) → (block_of shape).sectors ≡ sector_count shape
-block_count (shapes.Net mac) = refl
-block_count (shapes.Block sectors read_only id) = refl
-block_count shapes.Console = refl
-block_count shapes.Entropy = refl
+pub block_count : (shape : Shape) (features : ℕ) → (block_of shape features).sectors ≡ sector_count shape
+block_count (shapes.Net mac) features = refl
+block_count (shapes.Block sectors read_only id) features = refl
+block_count shapes.Console features = refl
+block_count shapes.Entropy features = refl
 
-block_id : (shape : Shape) → IsSoundShape shape → IsBytes (block_of shape).id
-block_id (shapes.Net mac) h = zero_bytes 20
-block_id (shapes.Block sectors read_only id) h = h.id_bytes
-block_id shapes.Console h = zero_bytes 20
-block_id shapes.Entropy h = zero_bytes 20
+block_id : (shape : Shape) (features : ℕ) → IsSoundShape shape → IsBytes (block_of shape features).id
+block_id (shapes.Net mac) features h = zero_bytes 20
+block_id (shapes.Block sectors read_only id) features h = h.id_bytes
+block_id shapes.Console features h = zero_bytes 20
+block_id shapes.Entropy features h = zero_bytes 20
 
-pub outstanding : (len : ℕ) (q : RingState) (shape : Shape) (own : Own) → SoundBeside len q shape own → AreSound len q (block_of shape) (requests_of own)
-outstanding len q (shapes.Net mac) (Network frames) h = λ k d below. absurd (omega (arith, below))
-outstanding len q (shapes.Block sectors read_only id) (Block requests) h = h.sound
-outstanding len q shapes.Console (Console size held) h = λ k d below. absurd (omega (arith, below))
-outstanding len q shapes.Entropy (Entropy pool) h = λ k d below. absurd (omega (arith, below))
-outstanding len q (shapes.Net mac) (Block requests) h = absurd h
-outstanding len q (shapes.Net mac) (Console size held) h = absurd h
-outstanding len q (shapes.Net mac) (Entropy pool) h = absurd h
-outstanding len q (shapes.Block sectors read_only id) (Network frames) h = absurd h
-outstanding len q (shapes.Block sectors read_only id) (Console size held) h = absurd h
-outstanding len q (shapes.Block sectors read_only id) (Entropy pool) h = absurd h
-outstanding len q shapes.Console (Network frames) h = absurd h
-outstanding len q shapes.Console (Block requests) h = absurd h
-outstanding len q shapes.Console (Entropy pool) h = absurd h
-outstanding len q shapes.Entropy (Network frames) h = absurd h
-outstanding len q shapes.Entropy (Block requests) h = absurd h
-outstanding len q shapes.Entropy (Console size held) h = absurd h
+pub outstanding : (len : ℕ) (q : RingState) (shape : Shape) (features : ℕ) (own : Own) → SoundBeside len q shape features own → AreSound len q (block_of shape features) (requests_of own)
+outstanding len q (shapes.Net mac) features (Network frames) h = λ k d below. absurd (omega (arith, below))
+outstanding len q (shapes.Block sectors read_only id) features (Block requests) h = h.sound
+outstanding len q shapes.Console features (Console size held) h = λ k d below. absurd (omega (arith, below))
+outstanding len q shapes.Entropy features (Entropy pool) h = λ k d below. absurd (omega (arith, below))
+outstanding len q (shapes.Net mac) features (Block requests) h = absurd h
+outstanding len q (shapes.Net mac) features (Console size held) h = absurd h
+outstanding len q (shapes.Net mac) features (Entropy pool) h = absurd h
+outstanding len q (shapes.Block sectors read_only id) features (Network frames) h = absurd h
+outstanding len q (shapes.Block sectors read_only id) features (Console size held) h = absurd h
+outstanding len q (shapes.Block sectors read_only id) features (Entropy pool) h = absurd h
+outstanding len q shapes.Console features (Network frames) h = absurd h
+outstanding len q shapes.Console features (Block requests) h = absurd h
+outstanding len q shapes.Console features (Entropy pool) h = absurd h
+outstanding len q shapes.Entropy features (Network frames) h = absurd h
+outstanding len q shapes.Entropy features (Block requests) h = absurd h
+outstanding len q shapes.Entropy features (Console size held) h = absurd h
 
 pub advanced_goes_on : (d : DeviceState) (ram : List ℕ) (content : List Sector) (pick : ℕ) (q : RingState) (is_fine : Bool) → (look : IsAdvancedAt d pick q) → IsBytes ram → IsSoundDevice (length ram) d → HasSectors d content
-    → GoesOn (length ram) q (block_of d.shape) (requests_of d.own) (advance_step (block_of d.shape) ram q content (requests_of d.own) (pick - 1) is_fine)
+    → GoesOn (length ram) q (block_of d.shape d.registers.common.features) (requests_of d.own) (advance_step (block_of d.shape d.registers.common.features) ram q content (requests_of d.own) (pick - 1) is_fine)
 advanced_goes_on d ram content pick q is_fine look are sound has =
     let ring = ready_ring (length ram) d 0 look.queue look.positions sound look.there look.placed look.ready in
     let q_layout : q.is_packed ≡ is_packed_by d.registers.common = ap (λ (r : RingState). r.is_packed) look.is ∙ packed_same d.registers.common.features in
     let q_size : q.size ≡ look.queue.size = ap (λ (r : RingState). r.size) look.is in
     let old = beside (length ram) d.registers d.shape d.own 0 look.queue q sound.queues look.there q_layout q_size sound.own in
-    goes_on_by (length ram) (block_of d.shape) ram q content (requests_of d.own) (pick - 1) is_fine (rw look.is ring) are (block_id d.shape sound.shape) (has.count ∙ sym (block_count d.shape)) has.whole (outstanding (length ram) q d.shape d.own old)
+    let features = d.registers.common.features in
+    goes_on_by (length ram) (block_of d.shape features) ram q content (requests_of d.own) (pick - 1) is_fine (rw look.is ring) are (block_id d.shape features sound.shape) (has.count ∙ sym (block_count d.shape features)) has.whole (outstanding (length ram) q d.shape features d.own old)
 
 sound_advance_at : (d : DeviceState) (ram : List ℕ) (content : List Sector) (pick : ℕ) (ring : Option RingState) (o : Outcome) → advanced_at d pick ≡ ring → IsBytes ram → IsSoundDevice (length ram) d → HasSectors d content → IsSoundDevice (length ram) (advance_at d ram content pick ring o).device
 sound_advance_at d ram content pick None o is are sound has = sound

@@ -11,6 +11,7 @@ use Rattle.blk.specs.Sound.{AreSound}
 use Rattle.blk.specs.Take.{take_step}
 use Rattle.blk.specs.declared.advancing.Advanced.{Advanced}
 use Rattle.blk.specs.declared.advancing.Advanced.TheVariants as advanced
+use Rattle.blk.specs.declared.shape.BlockShape.{BlockShape}
 use Rattle.blk.specs.declared.taking.Taken.{Taken}
 use Rattle.blk.specs.declared.taking.Taken.TheVariants as taken
 use Rattle.mmio.specs.Interrupts.{used_raised}
@@ -99,19 +100,19 @@ advanced_ring len d pick q sound is =
     let look = advanced_is len d pick q sound is in
     rw look.is (ready_ring len d 0 look.queue look.positions sound look.there look.placed look.ready)
 
-pub advanced_sound : (len : ℕ) (d : DeviceState) (pick : ℕ) (q : RingState) → IsSoundDevice len d → advanced_at d pick ≡ Some q → AreSound len q (block_of d.shape) (requests_of d.own)
+pub advanced_sound : (len : ℕ) (d : DeviceState) (pick : ℕ) (q : RingState) → IsSoundDevice len d → advanced_at d pick ≡ Some q → AreSound len q (block_of d.shape d.registers.common.features) (requests_of d.own)
 advanced_sound len d pick q sound is =
     let look = advanced_is len d pick q sound is in
     let layout : q.is_packed ≡ is_packed_by d.registers.common = ap (λ (r : RingState). r.is_packed) look.is ∙ packed_same d.registers.common.features in
     let size : q.size ≡ look.queue.size = ap (λ (r : RingState). r.size) look.is in
-    outstanding len q d.shape d.own (beside len d.registers d.shape d.own 0 look.queue q sound.queues look.there layout size sound.own)
+    outstanding len q d.shape d.registers.common.features d.own (beside len d.registers d.shape d.own 0 look.queue q sound.queues look.there layout size sound.own)
 
-pub looked_sound : (len : ℕ) (d : DeviceState) (pick : ℕ) (q : RingState) → IsSoundDevice len d → looked_at d pick ≡ Some q → AreSound len q (block_of d.shape) (requests_of d.own)
+pub looked_sound : (len : ℕ) (d : DeviceState) (pick : ℕ) (q : RingState) → IsSoundDevice len d → looked_at d pick ≡ Some q → AreSound len q (block_of d.shape d.registers.common.features) (requests_of d.own)
 looked_sound len d pick q sound is =
     let look = looked_is d pick q is in
     let layout : q.is_packed ≡ is_packed_by d.registers.common = ap (λ (r : RingState). r.is_packed) look.is ∙ packed_same d.registers.common.features in
     let size : q.size ≡ look.queue.size = ap (λ (r : RingState). r.size) look.is in
-    outstanding len q d.shape d.own (beside len d.registers d.shape d.own pick look.queue q sound.queues look.there layout size sound.own)
+    outstanding len q d.shape d.registers.common.features d.own (beside len d.registers d.shape d.own pick look.queue q sound.queues look.there layout size sound.own)
 
 pub has_queue : (d : DeviceState) (pick : ℕ) (q : RingState) (len : ℕ) → IsSoundDevice len d → advanced_at d pick ≡ Some q → 0 < length d.registers.queues
 has_queue d pick q len sound is = let look = advanced_is len d pick q sound is in slice_get_within d.registers.queues 0 look.queue look.there
@@ -204,20 +205,20 @@ fine_message messages.Empty = refl
 fine_message messages.Malformed = refl
 fine_message (messages.Sent bytes due) = refl
 
-fine_service : (shape : Shape) (own : Own) (number : ℕ) (ram : List ℕ) (q : RingState) (seen : Next) → outcome_of (reply_of (serve shape own number ram q seen).served) ≡ fine
+fine_service : (shape : BlockShape) (own : Own) (number : ℕ) (ram : List ℕ) (q : RingState) (seen : Next) → outcome_of (reply_of (serve shape own number ram q seen).served) ≡ fine
 fine_service shape (Network frames) zero ram q seen = fine_frame (receiving.receive_step ram q frames seen).answer
 fine_service shape (Network frames) (suc number) ram q seen = fine_message (transmit_step ram q frame_form seen).answer
 fine_service shape (Console size held) zero ram q seen = fine_bytes (receive_step ram q held seen).answer
 fine_service shape (Console size held) (suc number) ram q seen = fine_message (transmit_step ram q text_form seen).answer
-fine_service shape (Block requests) number ram q seen = fine_taking (take_step ram q (block_of shape) requests seen).answer
+fine_service shape (Block requests) number ram q seen = fine_taking (take_step ram q shape requests seen).answer
 fine_service shape (Entropy pool) number ram q seen = fine_bytes (receive_step ram q pool seen).answer
 
 pub served_look : (touches : List Item → Type 0) (ram : List ℕ) (shape : Shape) (r : Registers) (held : List Positions) (own : Own) (pick : ℕ) (q : RingState) (s : Served) (new_ram : List ℕ) (new_ring : RingState) (new_own : Own) (new_r : Registers)
-    → pick < length r.queues → IsServed touches ram q shape own pick s new_ram new_ring new_own → new_r ≡ registers_after r pick s → length new_r.queues ≡ length r.queues
+    → pick < length r.queues → IsServed touches ram q (block_of shape r.common.features) own pick s new_ram new_ring new_own → new_r ≡ registers_after r pick s → length new_r.queues ≡ length r.queues
     → IsLookedStep touches ram (held_device shape r held own) pick q (reply_of s) new_ram (held_device shape new_r (set held pick (record { taking = new_ring.taking; used = new_ring.used })) new_own)
 served_look touches ram shape r held own pick q s new_ram new_ring new_own new_r there h registers count =
     let new : Positions = record { taking = new_ring.taking; used = new_ring.used } in
-    let was_fine : outcome_of (reply_of s) ≡ fine = rw h.served_is (fine_service shape own pick ram q h.seen) in
+    let was_fine : outcome_of (reply_of s) ≡ fine = rw h.served_is (fine_service (block_of shape r.common.features) own pick ram q h.seen) in
     let place : take (length new_r.queues) (set held pick new) ≡ set (take (length r.queues) held) pick new = ap (λ n. take n (set held pick new)) count ∙ take-set-lt (length r.queues) held pick new there in
     record {
       seen = h.seen;
@@ -293,12 +294,12 @@ failure_by advanced.DiskFailed = refl
 failure_by (advanced.Completed len due) = refl
 
 pub advanced_step : (touches : List Item → Type 0) (number : ℕ) (honest : Bool) (ram : List ℕ) (content : List Sector) (shape : Shape) (r : Registers) (held : List Positions) (own : Own) (pick : ℕ) (q : RingState) (a : Advanced) (new_ram : List ℕ) (new_ring : RingState) (new_content : List Sector) (new_own : Own) (new_r : Registers)
-    → 0 < length r.queues → IsAfterAdvancing touches honest number ram content (λ given. advance_step (block_of shape) ram q given (requests_of own) (pick - 1) (not (is_disk_failed a))) a new_ram new_ring new_content (requests_of new_own)
+    → 0 < length r.queues → IsAfterAdvancing touches honest number ram content (λ given. advance_step (block_of shape r.common.features) ram q given (requests_of own) (pick - 1) (not (is_disk_failed a))) a new_ram new_ring new_content (requests_of new_own)
     → new_own ≡ with_requests own (requests_of new_own) → new_r ≡ cond (is_advance_due a) (with_common r (used_raised r.common)) r → length new_r.queues ≡ length r.queues
     → IsAdvancedStep touches number honest ram content (held_device shape r held own) pick q (reply_to_advance a) new_ram new_content (held_device shape new_r (set held 0 (record { taking = new_ring.taking; used = new_ring.used })) new_own)
 advanced_step touches number honest ram content shape r held own pick q a new_ram new_ring new_content new_own new_r there h own_is registers count =
     let new : Positions = record { taking = new_ring.taking; used = new_ring.used } in
-    let s = advance_step (block_of shape) ram q h.given (requests_of own) (pick - 1) (not (is_disk_failed a)) in
+    let s = advance_step (block_of shape r.common.features) ram q h.given (requests_of own) (pick - 1) (not (is_disk_failed a)) in
     let place : take (length new_r.queues) (set held 0 new) ≡ set (take (length r.queues) held) 0 new = ap (λ n. take n (set held 0 new)) count ∙ take-set-lt (length r.queues) held 0 new there in
     let requests : with_requests own (requests_of new_own) ≡ with_requests own s.requests = ap (with_requests own) h.requests_are in
     record {

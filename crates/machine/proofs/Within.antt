@@ -244,7 +244,7 @@ good_sets m dev (s ∷ ss) h = ((good_sector (slice_get m.disks dev) s.number h.
 advance_sets : (d : DeviceState) (ram : List ℕ) (content : List Sector) (pick : ℕ) (ring : Option RingState) (o : Outcome) → advanced_at d pick ≡ ring → IsBytes ram → IsSoundDevice (length ram) d → HasSectors d content → AreGoodSets (length content) (advance_at d ram content pick ring o).sets
 advance_sets d ram content pick None o is are sound has = tt
 advance_sets d ram content pick (Some q) o is are sound has =
-    let count : length content ≡ (block_of d.shape).sectors = has.count ∙ sym (block_count d.shape) in
+    let count : length content ≡ (block_of d.shape d.registers.common.features).sectors = has.count ∙ sym (block_count d.shape d.registers.common.features) in
     rw count (advanced_goes_on d ram content pick q (disk_does o) (advanced_is (length ram) d pick q sound is) are sound has).sets
 
 worked_sets : (d : DeviceState) (ram : List ℕ) (content : List Sector) (pick : ℕ) (ring : Option RingState) (o : Outcome) (seen : Next) → IsBytes ram → IsSoundDevice (length ram) d → HasSectors d content → AreGoodSets (length content) (step_at d ram content pick ring o seen).sets

@@ -26,6 +26,7 @@ use Rattle.blk.specs.declared.advancing.Advanced.TheVariants as advanced
 use Rattle.blk.specs.declared.request.Request.{Request}
 use Rattle.blk.specs.declared.request.TheConstants.{HEADER_SIZE}
 use Rattle.blk.specs.declared.requests.TheConstants.{REQUESTS_MAX}
+use Rattle.blk.specs.declared.shape.BlockShape.{BlockShape}
 use Rattle.blk.specs.declared.taking.Taken.{Taken}
 use Rattle.blk.specs.declared.taking.Taken.TheVariants as taken
 use Rattle.console.specs.Receive.{receive_step}
@@ -45,7 +46,6 @@ use Rattle.machine.specs.declared.reply.Reply.{Reply}
 use Rattle.machine.specs.declared.reply.Reply.TheVariants.{Idle, Moved, BadSector, DiskFailed, Completed, Sent, Dropped, NeedsReset, NoMemory}
 use Rattle.machine.specs.declared.reply.Reply.TheVariants as replies
 use Rattle.machine.specs.declared.served.Served.{Served}
-use Rattle.machine.specs.declared.shape.Shape.{Shape}
 use Rattle.machine.specs.declared.served.Served.TheVariants as served
 
 -- A device has something to do at its queue of this number. At queue 0 a network device has a frame to deliver, and a console
@@ -157,8 +157,8 @@ take_message form own ram q seen =
     let s = transmit_step ram q form seen in
     record { served = served_message s.answer; writes = s.writes; ring = s.ring; own = own }
 
--- Serving the queue of this number, given what the device sees there.
-abbrev pub serve : Shape → Own → ℕ → List ℕ → RingState → Next → Service
+-- Serving the queue of this number, given what the device sees there, and what it is as a block device.
+abbrev pub serve : BlockShape → Own → ℕ → List ℕ → RingState → Next → Service
 serve shape (Network frames) zero ram q seen =
     let s = receiving.receive_step ram q frames seen in
     record { served = served_frame s.answer; writes = s.writes; ring = s.ring; own = Network s.left }
@@ -168,7 +168,7 @@ serve shape (Console size held) zero ram q seen =
     record { served = served_of s.answer; writes = s.writes; ring = s.ring; own = Console size s.left }
 serve shape (Console size held) (suc number) ram q seen = take_message text_form (Console size held) ram q seen
 serve shape (Block requests) number ram q seen =
-    let s = take_step ram q (block_of shape) requests seen in
+    let s = take_step ram q shape requests seen in
     record { served = served_taking s.answer; writes = s.writes; ring = s.ring; own = Block s.requests }
 serve shape (Entropy pool) number ram q seen =
     let s = receive_step ram q pool seen in
@@ -232,7 +232,7 @@ after_advancing d s = record { reply = reply_to_advance s.answer; writes = s.wri
 
 -- Advances the outstanding request that this pick names, on this ring.
 abbrev pub advance_on : DeviceState → List ℕ → List Sector → ℕ → RingState → Outcome → DeviceAnswer
-advance_on d ram content pick q o = after_advancing d (advance_step (block_of d.shape) ram q content (requests_of d.own) (pick - 1) (disk_does o))
+advance_on d ram content pick q o = after_advancing d (advance_step (block_of d.shape d.registers.common.features) ram q content (requests_of d.own) (pick - 1) (disk_does o))
 
 -- A step that looks at no queue, given the ring of the request that it advances. Without one it is idle.
 abbrev pub advance_at : DeviceState → List ℕ → List Sector → ℕ → Option RingState → Outcome → DeviceAnswer
@@ -243,7 +243,7 @@ advance_at d ram content pick (Some q) o = advance_on d ram content pick q o
 abbrev pub looked_step : DeviceState → List ℕ → ℕ → RingState → Outcome → Next → DeviceAnswer
 looked_step d ram pick q no_memory seen = unmoved d NoMemory
 looked_step d ram pick q disk_failed seen = unmoved d Idle
-looked_step d ram pick q fine seen = after_serving d pick (serve d.shape d.own pick ram q seen)
+looked_step d ram pick q fine seen = after_serving d pick (serve (block_of d.shape d.registers.common.features) d.own pick ram q seen)
 
 -- A step of a device whose disk has these sectors, given the ring that it looks at, if any, the outcome, and what the device
 -- sees there.

@@ -5,6 +5,7 @@ use Rattle.guestmem.specs.Item.{Item}
 use Rattle.guestmem.specs.Writes.{set_all, touched}
 use Rattle.blk.specs.Move.{AreSet, sectors_touched}
 use Rattle.blk.specs.Sectors.{IsGiven, Sector}
+use Rattle.blk.specs.declared.shape.BlockShape.{BlockShape}
 use Rattle.chains.specs.Look.{Sees}
 use Rattle.chains.specs.State.{RingState}
 use Rattle.chains.specs.declared.next.Next.{Next}
@@ -14,11 +15,10 @@ use Rattle.machine.specs.Outcome.{outcome_of}
 use Rattle.machine.specs.declared.own.Own.{Own}
 use Rattle.machine.specs.declared.reply.Reply.{Reply}
 use Rattle.machine.specs.declared.served.Served.{Served}
-use Rattle.machine.specs.declared.shape.Shape.{Shape}
 
--- The queue of this number was served, given what the device sees there: how it went, and RAM, the ring and the kind-specific state
--- after it.
-pub record IsServed (touches : List Item → Type 0) (ram : List ℕ) (q : RingState) (shape : Shape) (own : Own) (number : ℕ) (served : Served) (new_ram : List ℕ) (new_ring : RingState) (new_own : Own) : Type 0 where
+-- The queue of this number was served, given what the device sees there and what it is as a block device: how it went, and RAM, the
+-- ring and the kind-specific state after it.
+pub record IsServed (touches : List Item → Type 0) (ram : List ℕ) (q : RingState) (shape : BlockShape) (own : Own) (number : ℕ) (served : Served) (new_ram : List ℕ) (new_ring : RingState) (new_own : Own) : Type 0 where
   pub seen : Next
   pub sees : Sees (wanted_of own number) ram q seen
   pub served_is : served ≡ (serve shape own number ram q seen).served

@@ -1,11 +1,12 @@
 -- What the shape (kind and configuration) of a device determines.
-use Rattle.std.specs.Prelude.{ℕ, ◌+◌, ◌^◌, ◌==◌, ◌||◌, nat_lt, Bool, false, List, [], ◌∷◌, Option, Some, None, replicate, if◌then◌else◌}
-use Rattle.byteorder.specs.Endian.{little_bytes}
+use Rattle.std.specs.Prelude.{ℕ, ◌+◌, ◌^◌, ◌==◌, ◌||◌, nat_lt, Bool, false, List, [], ◌∷◌, Option, Some, None, replicate}
+use Rattle.blk.specs.Shape as blocks
 use Rattle.blk.specs.declared.shape.BlockShape.{BlockShape}
 use Rattle.console.specs.Size as sizes
 use Rattle.console.specs.declared.features.TheConstants.{SIZE, EMERGENCY_WRITE}
 use Rattle.console.specs.declared.size.ConsoleSize.{ConsoleSize}
 use Rattle.net.specs.declared.features.TheConstants.{MAC}
+use Rattle.mmio.specs.Bits.{has}
 use Rattle.mmio.specs.State.{first_registers}
 use Rattle.chains.specs.declared.position.Positions.{Positions}
 use Rattle.mmio.specs.declared.common.Common.{Common}
@@ -30,15 +31,11 @@ device_id_of Entropy = 4
 abbrev pub common_features : ℕ
 common_features = 2 ^ 28 + 2 ^ 29 + 2 ^ 32 + 2 ^ 34
 
--- The feature bits that a block device offers in addition: FLUSH 9, and RO 5 if it is read-only (VIRTIO 1.2, 5.2.3).
-abbrev pub block_features : Bool → ℕ
-block_features read_only = if read_only then 2 ^ 9 + 2 ^ 5 else 2 ^ 9
-
 -- The feature bits that the device offers: in addition to those that every device offers, a network device offers MAC 5 (VIRTIO
--- 1.2, 5.1.3), a console SIZE 0 and EMERG_WRITE 2 (5.3.3), and a block device its own (above).
+-- 1.2, 5.1.3), a console SIZE 0 and EMERG_WRITE 2 (5.3.3), and a block device its own (5.2.3).
 abbrev pub offered_of : Shape → ℕ
 offered_of (Net mac) = common_features + MAC
-offered_of (Block sectors read_only id) = common_features + block_features read_only
+offered_of (Block sectors read_only id) = common_features + blocks.features_of read_only
 offered_of Console = common_features + (SIZE + EMERGENCY_WRITE)
 offered_of Entropy = common_features
 
@@ -54,11 +51,11 @@ abbrev pub size_configuration : Own → List ℕ
 size_configuration (own.Console size held) = sizes.configuration_of size
 size_configuration _ = []
 
--- The configuration space: of a network device the six bytes of its MAC (VIRTIO 1.2, 5.1.4), of a block device the number of
--- its sectors, in 8 bytes (5.2.4); an entropy device has none (5.4.4).
+-- The configuration space: of a network device the six bytes of its MAC (VIRTIO 1.2, 5.1.4), of a block device its own (5.2.4); an
+-- entropy device has none (5.4.4).
 abbrev pub configuration_of : Shape → Own → List ℕ
 configuration_of (Net mac) o = mac
-configuration_of (Block sectors read_only id) o = little_bytes 8 sectors
+configuration_of (Block sectors read_only id) o = blocks.configuration_of sectors
 configuration_of Console o = size_configuration o
 configuration_of Entropy o = []
 
@@ -86,10 +83,10 @@ abbrev pub disk_sizes : List Shape → List ℕ
 disk_sizes [] = []
 disk_sizes (shape ∷ shapes) = with_size (disk_size_of shape) (disk_sizes shapes)
 
--- The shape as that of a block device. For a device of another kind it has no sectors.
-abbrev pub block_of : Shape → BlockShape
-block_of (Block sectors read_only id) = record { sectors = sectors; read_only = read_only; id = id }
-block_of _ = record { sectors = 0; read_only = false; id = replicate 20 0 }
+-- The shape as that of a block device whose driver accepted these features. For a device of another kind it has no sectors.
+abbrev pub block_of : Shape → ℕ → BlockShape
+block_of (Block sectors read_only id) features = record { sectors = sectors; read_only = read_only; id = id; write_zeroes = has features (2 ^ 14) }
+block_of _ features = record { sectors = 0; read_only = false; id = replicate 20 0; write_zeroes = false }
 
 -- Whether a shape is beyond its limits: a block device has 1 to 2,097,152 sectors; other devices have no such limit.
 abbrev pub is_beyond : Shape → Bool

@@ -72,7 +72,7 @@ AreRequests bytes r shape requests = IsSomeAnd (queue_at r 0) (λ q. AreRequests
 -- The kind-specific state that a device of this shape can have, with these registers, in a machine with `bytes` bytes of RAM.
 abbrev pub IsSoundOwn : ℕ → Registers → Shape → Own → Type 0
 IsSoundOwn bytes r (Net mac) (own.Network frames) = AreFrames frames
-IsSoundOwn bytes r (Block sectors read_only id) (own.Block requests) = AreRequests bytes r (block_of (Block sectors read_only id)) requests
+IsSoundOwn bytes r (Block sectors read_only id) (own.Block requests) = AreRequests bytes r (block_of (Block sectors read_only id) r.common.features) requests
 IsSoundOwn bytes r Console (own.Console size held) = IsSoundConsole size held
 IsSoundOwn bytes r Entropy (own.Entropy pool) = AreHostBytes pool
 IsSoundOwn bytes r shape own_is = ⊥

@@ -12,13 +12,15 @@ ghost use Rattle.machine.specs.DeviceWork.{IsServed};
 ghost use Rattle.machine.specs.Shapes.{block_of, first_own};
 ghost use Rattle.machine.specs.Stepped.{sends, served_in};
 ghost use Rattle.machine.specs.Step.{IsResized, kept_own, input_of, own_with_input, written_out};
-ghost use Rattle.machine.specs.declared.shape.Shape.{Shape};
+ghost use Rattle.blk.specs.declared.shape.BlockShape.{BlockShape};
 
 use crate::reply::{Refusal, Reply};
 use crate::served::Served;
 use crate::shape::Shape;
 use crate::stepped::{Answered, Stepped};
-use blk::{Advanced, BlockShape, Disk, REQUESTS_MAX, Requests, Sectors, Taken};
+use blk::{
+    Advanced, BlockShape, Disk, ID_SIZE, REQUESTS_MAX, Requests, Sectors, Taken, WRITE_ZEROES,
+};
 use chains::{Ring, Transmitted};
 use console::{ConsoleSize, HostBytes, Received, emergency_byte, receive};
 use guestmem::{NoMemory, Ram, TouchLog};
@@ -161,6 +163,7 @@ impl Own {
         &mut self,
         alloc: Global,
         shape: &Shape,
+        features: u64,
         number: u8,
         ring: &mut R,
         ram: &mut Ram,
@@ -169,8 +172,8 @@ impl Own {
         requires ready { MayLook L.may ram.old (R.state ring.old) (R.decoder ring.old) log.old }
         requires room { has_work self.old number ≡ true }
         requires silent { sends self.old number ≡ false }
-        requires sound { AreSound (length ram.old.bytes) (R.state ring.old) (block_of shape.now) (requests_of self.old) }
-        ensures served { IfOk result (λ answered. IsServed (Touches L.after log.old log.new ram.old ram.new) ram.old.bytes (R.state ring.old) shape.now self.old number (served_in answered) ram.new.bytes (R.state ring.new) self.new) }
+        requires sound { AreSound (length ram.old.bytes) (R.state ring.old) (block_of shape.now features) (requests_of self.old) }
+        ensures served { IfOk result (λ answered. IsServed (Touches L.after log.old log.new ram.old ram.new) ram.old.bytes (R.state ring.old) (block_of shape.now features) self.old number (served_in answered) ram.new.bytes (R.state ring.new) self.new) }
         ensures memory { OnErr result (MayRefuse (wanted_of self.old number) ram.old.bytes (R.state ring.old)) }
         ensures untouched { OnErr result (IsUntouched ram.old ram.new (R.state ring.old) (R.state ring.new) log.old log.new) }
         ensures own_stays { OnErr result (self.new ≡ self.old) }
@@ -181,7 +184,13 @@ impl Own {
                 Ok(received) => Ok(served_frame(received)),
                 Err(error) => Err(error),
             },
-            Own::Block(requests) => match requests.take(alloc, ring, &block_of(shape), ram, log) {
+            Own::Block(requests) => match requests.take(
+                alloc,
+                ring,
+                &block_of(shape, features),
+                ram,
+                log,
+            ) {
                 Ok(taken) => Ok(served_taking(taken)),
                 Err(error) => Err(error),
             },
@@ -207,7 +216,7 @@ impl Own {
     ) -> Result<Served, NoMemory>
         requires ready { MayLook L.may ram.old (R.state ring.old) (R.decoder ring.old) log.old }
         requires message { sends self.now number ≡ true }
-        ensures served { (shape : Shape) → IfOk result (λ served. IsServed (Touches L.after log.old log.new ram.old ram.new) ram.old.bytes (R.state ring.old) shape self.now number served ram.new.bytes (R.state ring.new) self.now) }
+        ensures served { (shape : BlockShape) → IfOk result (λ served. IsServed (Touches L.after log.old log.new ram.old ram.new) ram.old.bytes (R.state ring.old) shape self.now number served ram.new.bytes (R.state ring.new) self.now) }
         ensures memory { OnErr result (MayRefuse (wanted_of self.now number) ram.old.bytes (R.state ring.old)) }
         ensures untouched { OnErr result (IsUntouched ram.old ram.new (R.state ring.old) (R.state ring.new) log.old log.new) }
         ensures after { HasLooked L.may ram.old ram.new (R.decoder ring.new) log.new }
@@ -226,6 +235,7 @@ impl Own {
     pub(crate) fn advance<R: Ring, D: Disk, L: TouchLog>(
         &mut self,
         shape: &Shape,
+        features: u64,
         k: usize,
         ring: &mut R,
         sectors: &mut Sectors<D>,
@@ -234,20 +244,28 @@ impl Own {
         log: &mut L,
     ) -> Advanced
         requires ready { MayServe L.may (length ram.old.bytes) (R.state ring.old) log.old }
-        requires capacity { length sectors.old.content ≡ (block_of shape.now).sectors }
-        requires sound { AreSound (length ram.old.bytes) (R.state ring.old) (block_of shape.now) (requests_of self.old) }
+        requires capacity { length sectors.old.content ≡ (block_of shape.now features).sectors }
+        requires sound { AreSound (length ram.old.bytes) (R.state ring.old) (block_of shape.now features) (requests_of self.old) }
         requires may_sectors { MaySectors L.may log.old device (length sectors.old.content) }
-        ensures changes { IsAfterAdvancing (Touches L.after log.old log.new ram.old ram.new) sectors.old.honest device ram.old.bytes sectors.old.content (λ given. advance_step (block_of shape.now) ram.old.bytes (R.state ring.old) given (requests_of self.old) k (not (is_disk_failed result))) result ram.new.bytes (R.state ring.new) sectors.new.content (requests_of self.new) }
+        ensures changes { IsAfterAdvancing (Touches L.after log.old log.new ram.old ram.new) sectors.old.honest device ram.old.bytes sectors.old.content (λ given. advance_step (block_of shape.now features) ram.old.bytes (R.state ring.old) given (requests_of self.old) k (not (is_disk_failed result))) result ram.new.bytes (R.state ring.new) sectors.new.content (requests_of self.new) }
         ensures own { self.new ≡ with_requests self.old (requests_of self.new) }
         ensures kept { IsKept sectors.old (is_disk_failed result) sectors.new }
         ensures whole { AreWhole sectors.new.content }
-        ensures sound { AreSound (length ram.new.bytes) (R.state ring.new) (block_of shape.now) (requests_of self.new) }
+        ensures sound { AreSound (length ram.new.bytes) (R.state ring.new) (block_of shape.now features) (requests_of self.new) }
         ensures after { HasServed L.may ram.old ram.new log.new }
         ensures decoder { R.decoder ring.new ≡ R.decoder ring.old }
     {
         match self {
             Own::Block(requests) => {
-                requests.advance(k, ring, &block_of(shape), sectors, device, ram, log)
+                requests.advance(
+                    k,
+                    ring,
+                    &block_of(shape, features),
+                    sectors,
+                    device,
+                    ram,
+                    log,
+                )
             }
             Own::Network(_) | Own::Console { .. } | Own::Entropy(_) => {
                 sectors.recall();
@@ -303,9 +321,9 @@ fn served_taking(taken: Taken) -> Answered
     }
 }
 
-/// What a block device of this shape is. Another device has no sectors.
-fn block_of(shape: &Shape) -> BlockShape
-    ensures { result ≡ block_of shape.now }
+/// What a block device of this shape is whose driver accepted these features. Another device has no sectors.
+fn block_of(shape: &Shape, features: u64) -> BlockShape
+    ensures { result ≡ block_of shape.now features }
 {
     match *shape {
         Shape::Block {
@@ -316,11 +334,13 @@ fn block_of(shape: &Shape) -> BlockShape
             sectors,
             read_only,
             id,
+            write_zeroes: features & WRITE_ZEROES == WRITE_ZEROES,
         },
         Shape::Net { .. } | Shape::Console | Shape::Entropy => BlockShape {
             sectors: 0,
             read_only: false,
-            id: [0; 20],
+            id: [0; ID_SIZE],
+            write_zeroes: false,
         },
     }
 }

@@ -18,7 +18,6 @@ use crate::served::Served;
 use crate::shape::Shape;
 use crate::stepped::{Answered, Stepped};
 use blk::{Advanced, Disk, Sectors};
-use byteorder::{ByteOrder, LittleEndian};
 use chains::{Positions, Ring};
 use console::ConsoleSize;
 use guestmem::{NoMemory, Ram, TouchLog};
@@ -144,9 +143,8 @@ impl DeviceState {
     {
         match self.shape {
             Shape::Block { sectors, .. } => {
-                let mut capacity = [0; 8];
-                LittleEndian::write_u64(&mut capacity, sectors);
-                self.registers.read(offset, width, &capacity)
+                self.registers
+                    .read(offset, width, &blk::configuration(sectors))
             }
             Shape::Net { mac } => self.registers.read(offset, width, mac.as_slice()),
             Shape::Console => self.read_size(offset, width),
@@ -326,7 +324,11 @@ impl DeviceState {
         ensures later { IsLater ram.old ram.new }
         ensures fits { Fits (decoder_in ring.new) ram.new }
     {
-        match self.own.serve(alloc, &self.shape, pick, ring, ram, log) {
+        let features = self.registers.features();
+        match self
+            .own
+            .serve(alloc, &self.shape, features, pick, ring, ram, log)
+        {
             Ok(answered) => {
                 let stepped = tell(&mut self.registers, pick, answered);
                 self.positions[pick as usize] = ring.positions();
@@ -358,9 +360,10 @@ impl DeviceState {
         ensures fits { Fits (decoder_in ring.new) ram.new }
     {
         let k = pick as usize - 1;
+        let features = self.registers.features();
         let advanced = self
             .own
-            .advance(&self.shape, k, ring, sectors, device, ram, log);
+            .advance(&self.shape, features, k, ring, sectors, device, ram, log);
         self.positions[0] = ring.positions();
         raise_if(&mut self.registers, is_due(advanced));
         reply_to_advance(advanced)
@@ -528,7 +531,7 @@ fn device_id(shape: Shape) -> u32
 {
     match shape {
         Shape::Net { .. } => 1,
-        Shape::Block { .. } => 2,
+        Shape::Block { .. } => blk::DEVICE_ID,
         Shape::Console => 3,
         Shape::Entropy => 4,
     }
@@ -539,14 +542,7 @@ pub fn offered(shape: Shape) -> u64
     ensures { result ≡ offered_of shape }
 {
     match shape {
-        Shape::Block {
-            read_only: true,
-            ..
-        } => COMMON_FEATURES | BLK_FLUSH | BLK_RO,
-        Shape::Block {
-            read_only: false,
-            ..
-        } => COMMON_FEATURES | BLK_FLUSH,
+        Shape::Block { read_only, .. } => COMMON_FEATURES | blk::features(read_only),
         Shape::Net { .. } => COMMON_FEATURES | net::MAC,
         Shape::Console => COMMON_FEATURES | console::SIZE | console::EMERGENCY_WRITE,
         Shape::Entropy => COMMON_FEATURES,
@@ -558,17 +554,11 @@ fn queue_count(shape: Shape) -> u8
 {
     match shape {
         Shape::Net { .. } => 2,
-        Shape::Block { .. } => 1,
+        Shape::Block { .. } => blk::QUEUE_COUNT,
         Shape::Console => 2,
         Shape::Entropy => 1,
     }
 }
-
-/// The driver may only read the disk (VIRTIO 1.2, 5.2.3).
-const BLK_RO: u64 = 1 << 5;
-
-/// The driver may ask for a flush of the disk (VIRTIO 1.2, 5.2.3).
-const BLK_FLUSH: u64 = 1 << 9;
 
 const COMMON_FEATURES: u64 = mmio::INDIRECT_DESC
     | mmio::EVENT_IDX

@@ -14,4 +14,4 @@ returns-in-Network-clause-changes g c =
       | inr b ↦ elim b as (λ _. requests_of c.args.self.now ≡ []) [ inl a ↦ rw (a.2) refl | inr a ↦ rw (a.1) refl ]
     ] in
     let past : slice_get (requests_of c.args.self.now) c.args.k ≡ None = slice_get_past (requests_of c.args.self.now) c.args.k (omega (arith, ap length none)) in
-    stayed _ c.args.sectors.now.honest c.args.device (block_of c.args.shape.now) c.args.ram.now.bytes c.args.sectors.now.content (g.R.Ring.state c.args.ring.now) (requests_of c.args.self.now) c.args.k _ past c.recall.ensures.whole (touches_none g.L.TouchLog.after c.args.log.now c.args.log.now c.args.ram.now c.args.ram.now refl refl)
+    stayed _ c.args.sectors.now.honest c.args.device (block_of c.args.shape.now c.args.features) c.args.ram.now.bytes c.args.sectors.now.content (g.R.Ring.state c.args.ring.now) (requests_of c.args.self.now) c.args.k _ past c.recall.ensures.whole (touches_none g.L.TouchLog.after c.args.log.now c.args.log.now c.args.ram.now c.args.ram.now refl refl)

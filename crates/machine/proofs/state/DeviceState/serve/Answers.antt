@@ -15,7 +15,8 @@ serve-requires-clause-ready g c =
 pub serve-requires-clause-sound : goal.serve-requires-clause-sound
 serve-requires-clause-sound g c =
     let i = c.self.inside in
-    looked_sound (length c.args.ram.now.bytes) (held_device i.shape i.registers i.positions i.own) c.args.pick (ring_in c.args.ring.now) (rw (← c.self.view_is) at c.requires.sound) (rw (← c.self.view_is) at c.requires.looked)
+    rw c.features-features.ensures
+    (looked_sound (length c.args.ram.now.bytes) (held_device i.shape i.registers i.positions i.own) c.args.pick (ring_in c.args.ring.now) (rw (← c.self.view_is) at c.requires.sound) (rw (← c.self.view_is) at c.requires.looked))
 
 pub returns-in-Ok-clause-looked : goal.returns-in-Ok-clause-looked
 returns-in-Ok-clause-looked g c =
@@ -23,4 +24,4 @@ returns-in-Ok-clause-looked g c =
     let sound = rw (← c.self.view_is) at c.requires.sound in
     rw (← c.self.view_is, c.tell-stepped.ensures.reply, c.positions.ensures)
     (served_look _ c.args.ram.now.bytes i.shape i.registers i.positions i.own c.args.pick (ring_in c.args.ring.now) (served_in c.in-Ok.answered) c.serve.new.ram.bytes (ring_in c.serve.new.ring) c.serve.new.self c.tell-stepped.new.registers
-    (rw (← c.self.view_is) at c.requires.there) c.in-Ok.ensures.served c.tell-stepped.ensures.registers (ap (λ r. length r.queues) c.tell-stepped.ensures.registers ∙ (served_registers i.registers c.args.pick (served_in c.in-Ok.answered) sound.registers).same.queue_count))
+    (rw (← c.self.view_is) at c.requires.there) (rw c.features-features.ensures at c.in-Ok.ensures.served) c.tell-stepped.ensures.registers (ap (λ r. length r.queues) c.tell-stepped.ensures.registers ∙ (served_registers i.registers c.args.pick (served_in c.in-Ok.answered) sound.registers).same.queue_count))
