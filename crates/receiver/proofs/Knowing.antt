@@ -7,7 +7,7 @@ use Rattle.sha2.specs.Sha256.{sha256}
 use Rattle.sha2.specs.declared.Sha256.{Sha256}
 use Rattle.sha2.proofs.Facts256.{length-sha256}
 use Rattle.guestmem.specs.Number.{IsBytes}
-use Rattle.wire.specs.DeviceBody.{body}
+use Rattle.wire.specs.DeviceBody.{body, IsDeviceOf}
 use Rattle.wire.specs.Header.{header, Opening, layout_in}
 use Rattle.wire.specs.Records.{Record, page, sector, round_end, device, commit, spelled_record, zero_page}
 use Rattle.wire.specs.Stream.{IsStream, texts, rounds, shapes_in, device_texts, before_commit, last_named, record_in}
@@ -200,6 +200,7 @@ whole_stream ds held opening i w sound honest =
             sym (ap (last_named item) h.split ∙ last_entries item 0 h.entries i.devices.items)
             ∙ rw disks (some_shown (get_or i.named (number_of (layout_in opening) item) false) (record_in opening.version i.ram.bytes (held_sectors opening.shapes ds i.bad.items) item) (last_named item w.before) (h.taken.last honest item here) (w.complete.items item here));
         sound = sound;
+        devices = All-from_recursion (IsDeviceOf opening.version) i.devices.items h.has;
         whole = rw size (w.whole ∙ ap (λ (x : List ℕ). x ++ spelled_record (commit (sha256 x))) front);
       };
     }

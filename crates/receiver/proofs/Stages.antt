@@ -53,6 +53,7 @@ new_read ds bytes rest opening i b fits size marks ends version same none firsts
   taken = new_taken opening.version (AreHonestDisks (all_marks_in ds)) i.ram.bytes (held_sectors opening.shapes ds i.bad.items) i.named (layout_in opening) size marks;
   devices_are = rw none refl;
   sound = rw none tt;
+  has = rw none tt;
 }
 
 pub head_taken : (held : List ℕ) (opening : Opening) (len : ℕ) → len ≤ length held → Begins held opening (drop len held) → take len held ≡ header opening

@@ -4,7 +4,7 @@ use Rattle.std.specs.Prelude.{set, All, IsTrue}
 use Rattle.std.proofs.lemmas.List.Elements.{All-get_or, All-from_get_or}
 use Rattle.std.specs.List.{AllByRecursion}
 use Rattle.std.proofs.lemmas.List.{length-append, length-replicate}
-use Rattle.wire.specs.DeviceBody.{body, IsBodyOf}
+use Rattle.wire.specs.DeviceBody.{body, IsBodyOf, IsDeviceOf}
 use Rattle.wire.specs.Header.{header, Opening, layout_in}
 use Rattle.wire.specs.Records.{Record, page, sector, round_end, device, commit, spelled_record, HasSpelling, IsOf, is_zero_page, page_record, zero_page}
 use Rattle.wire.specs.Stream.{IsEntry, AreNumbered, rounds, texts, shapes_in, record_in}
@@ -110,6 +110,7 @@ more_entry ds ds2 front opening before i j r h none follows entry numbers ends t
       taken = taken;
       devices_are = rw same.devices h.devices_are;
       sound = rw same.devices h.sound;
+      has = rw same.devices h.has;
     }
 
 more_page_as : (ds : List DiskState) (front : List ℕ) (opening : Opening) (before : List Record) (i j : Intake) (n : ℕ) (b : List ℕ) (r : Record) → HasRead ds opening before i front → devices_in before ≡ 0
@@ -212,9 +213,10 @@ rounds_device (device d c ∷ es) n b = rounds_device es n b
 rounds_device (commit c ∷ es) n b = rounds_device es n b
 rounds_device (zero_page z ∷ es) n b = rounds_device es n b
 
-sound-snoc : (ram_len : ℕ) (ds : List DeviceState) (d : DeviceState) → AllByRecursion (IsSoundDevice ram_len) ds → IsSoundDevice ram_len d → AllByRecursion (IsSoundDevice ram_len) (ds ++ d ∷ [])
-sound-snoc ram_len [] d h k = (k, tt)
-sound-snoc ram_len (t ∷ ds) d h k = (h.0, sound-snoc ram_len ds d h.1 k)
+-- What holds of each device and of one more.
+all-snoc : (P : DeviceState → Type 0) (ds : List DeviceState) (d : DeviceState) → AllByRecursion P ds → P d → AllByRecursion P (ds ++ d ∷ [])
+all-snoc P [] d h k = (k, tt)
+all-snoc P (t ∷ ds) d h k = (h.0, all-snoc P ds d h.1 k)
 
 shapes-snoc : (ds : List DeviceState) (d : DeviceState) → shapes_in (ds ++ d ∷ []) ≡ shapes_in ds ++ d.shape ∷ []
 shapes-snoc [] d = refl
@@ -230,7 +232,7 @@ next_shape (s ∷ shapes) (suc n) shape others e =
     rw m (ap (λ (x : List Shape). s ∷ x) (next_shape shapes n shape others e))
 
 pub more_device : (ds : List DiskState) (front : List ℕ) (opening : Opening) (others : List Shape) (shape : Shape) (before : List Record) (i j : Intake) (n : ℕ) (raw : List ℕ) (d : DeviceState) → HasRead ds opening before i front
-    → AreNamed (layout_in opening) before → HasSpelling (device n raw) → n ≡ devices_in before → drop n opening.shapes ≡ shape ∷ others → IsBodyOf shape (4096 * opening.pages) raw d
+    → AreNamed (layout_in opening) before → HasSpelling (device n raw) → n ≡ devices_in before → drop n opening.shapes ≡ shape ∷ others → IsBodyOf opening.version shape (4096 * opening.pages) raw d
     → j.ram.bytes ≡ i.ram.bytes → j.named ≡ i.named → j.rounds ≡ i.rounds → j.version ≡ i.version → j.shapes.items ≡ i.shapes.items → j.firsts.items ≡ i.firsts.items → j.bad.items ≡ i.bad.items → j.devices.items ≡ i.devices.items ++ d ∷ []
     → HasRead ds opening (before ++ device n raw ∷ []) j (front ++ spelled_record (device n raw))
 more_device ds front opening others shape before i j n raw d h named spells next here is ram marks ends same_version same_shapes same_firsts same_bad more =
@@ -259,7 +261,8 @@ more_device ds front opening others shape before i j n raw d h named spells next
       rounds_are = ends ∙ h.rounds_are ∙ sym (rounds_device before n raw);
       taken = rw (ram, marks, same_bad) (taken_device opening.version (AreHonestDisks (all_marks_in ds)) i.ram.bytes (held_sectors opening.shapes ds i.bad.items) i.named (layout_in opening) n raw before h.taken);
       devices_are = rw more (shown ∙ ap (λ (k : ℕ). take k opening.shapes) (sym size));
-      sound = rw more (sound-snoc (4096 * opening.pages) i.devices.items d h.sound is.sound);
+      sound = rw more (all-snoc (IsSoundDevice (4096 * opening.pages)) i.devices.items d h.sound is.sound);
+      has = rw more (all-snoc (IsDeviceOf opening.version) i.devices.items d h.has is.has);
     }
 
 -- What may stand next, by the intake.

@@ -4,7 +4,7 @@ use Rattle.std.specs.Prelude.{is_some}
 use Rattle.std.proofs.lemmas.List.Elements.{recursion_from_All}
 use Rattle.std.specs.List.{AllByRecursion}
 use Rattle.sha2.specs.Sha256.{sha256}
-use Rattle.wire.specs.DeviceBody.{body}
+use Rattle.wire.specs.DeviceBody.{body, IsDeviceOf}
 use Rattle.wire.specs.Header.{header, Opening, layout_in}
 use Rattle.wire.specs.Records.{Record, page, sector, round_end, device, commit, zero_page}
 use Rattle.wire.specs.Stream.{IsStream, IsEntry, AreNumbered, texts, rounds, shapes_in, device_texts, before_commit, opening_in}
@@ -78,19 +78,19 @@ entries_good opening acc (zero_page n ∷ es) h k none = (
 )
 
 devices_good : (opening : Opening) (k : ℕ) (acc : List Record) (ds : List DeviceState) → AreNamed (layout_in opening) acc → devices_in acc ≡ k → k + length ds ≤ 256 → drop k opening.shapes ≡ shapes_in ds → AllByRecursion (IsSoundDevice (4096 * opening.pages)) ds
-    → AreGood opening acc (device_records k ds)
+    → AllByRecursion (IsDeviceOf opening.version) ds → AreGood opening acc (device_records k ds)
 unfolding AreGood device_records
-devices_good opening k acc [] named count low here h = tt
-devices_good opening k acc (d ∷ ds) named count low here h =
+devices_good opening k acc [] named count low here h has = tt
+devices_good opening k acc (d ∷ ds) named count low here h has =
     let after : drop (k + 1) opening.shapes ≡ shapes_in ds = sym (drop-drop 1 k opening.shapes) ∙ ap (drop 1) here in (
       record {
         spells = body_spells (4096 * opening.pages) k d (omega (arith, low)) h.0;
         has = tt;
-        may = record { named = named; next = sym count; shape = d.shape; others = shapes_in ds; here = here; state = d; is = record { shape_is = refl; sound = h.0; is = refl } };
+        may = record { named = named; next = sym count; shape = d.shape; others = shapes_in ds; here = here; state = d; is = record { shape_is = refl; sound = h.0; has = has.0; is = refl } };
       },
       devices_good opening (k + 1) (acc ++ device k (body d) ∷ []) ds
-          (λ item has. ap is_some (named-snoc item acc (device k (body d))) ∙ named item has)
-          (omega (arith, count, devices_in-append acc (device k (body d) ∷ []), one_in_device k (body d))) (omega (arith, low)) after h.1,
+          (λ item within. ap is_some (named-snoc item acc (device k (body d))) ∙ named item within)
+          (omega (arith, count, devices_in-append acc (device k (body d) ∷ []), one_in_device k (body d))) (omega (arith, low)) after h.1 has.1,
     )
 
 good-append : (opening : Opening) (acc rs ss : List Record) → AreGood opening acc rs → AreGood opening (acc ++ rs) ss → AreGood opening acc (rs ++ ss)
@@ -137,10 +137,11 @@ stream_front sizes bytes m s fits =
     let named : AreNamed (layout_in opening) s.entries = λ item has. ap is_some (s.by.last item (rw layout has)) in
     let named_all : AreNamed (layout_in opening) all = λ item has. ap is_some (last_entries item 0 s.entries m.devices) ∙ named item has in
     let sound : AllByRecursion (IsSoundDevice (4096 * (pages_of m))) m.devices = rw s.by.sound.whole_pages at (recursion_from_All (IsSoundDevice (length m.ram)) m.devices s.by.sound.devices) in
+    let has : AllByRecursion (IsDeviceOf s.version) m.devices = recursion_from_All (IsDeviceOf s.version) m.devices s.by.devices in
     let goods : AreGood opening [] s.entries = entries_good opening [] s.entries (rw layout at s.by.each) (rw none_ended s.by.numbered) none_yet in
     let few : 0 + length m.devices ≤ 256 = omega (arith, s.by.sound.few_devices) in
     let entries_count : devices_in s.entries ≡ 0 = ap devices_in (sym (append-nil s.entries)) ∙ count_none s.version (layout_of m) s.entries s.by.each in
-    let good : AreGood opening [] all = good-append opening [] s.entries devices goods (devices_good opening 0 s.entries m.devices named entries_count few refl sound) in
+    let good : AreGood opening [] all = good-append opening [] s.entries devices goods (devices_good opening 0 s.entries m.devices named entries_count few refl sound has) in
     let complete : IsComplete opening all 5 = record { items = named_all; devices = λ five. count_all s.version (layout_of m) 0 s.entries m.devices s.by.each ∙ sym (length_shapes m.devices) } in
     let whole : bytes ≡ header opening ++ (texts all ++ (5 ∷ digest)) =
     s.by.whole ∙ ap (λ (x : List ℕ). before_all ++ x) (commit_text digest) ∙ ap (λ (x : List ℕ). x ++ (5 ∷ digest)) (sym front) ∙ append_assoc (header opening) (texts all) (5 ∷ digest) in

@@ -127,7 +127,7 @@ pub record IsBadHead (opening : Opening) (before : List Record) (tail : List ℕ
   pub never : ¬ (IsNextHead before number len)
   pub there : place ≡ 6
 
--- BadDevice (9), found at the end of the body: no sound device of the shape that is next has this body.
+-- BadDevice (9), found at the end of the body: no sound device of the shape that is next, which the version has, has this body.
 pub record IsBadBody (opening : Opening) (before : List Record) (tail : List ℕ) (place : ℕ) : Type 0 where
   pub body : List ℕ
   pub more : List ℕ
@@ -136,7 +136,7 @@ pub record IsBadBody (opening : Opening) (before : List Record) (tail : List ℕ
   pub opens : Opens opening before tail 4 (devices_in before ∷ (digits 4 (length body) ++ (body ++ more)))
   pub few : length body ≤ 131072
   pub here : drop (devices_in before) opening.shapes ≡ shape ∷ others
-  pub never : (d : DeviceState) → ¬ (IsBodyOf shape (4096 * opening.pages) body d)
+  pub never : (d : DeviceState) → ¬ (IsBodyOf opening.version shape (4096 * opening.pages) body d)
   pub there : place ≡ 6 + length body
 
 -- BadDigest (10), found at the last byte of the digest.

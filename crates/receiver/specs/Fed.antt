@@ -4,7 +4,7 @@ use Rattle.std.specs.List.{AllByRecursion}
 use Rattle.sha2.specs.Hashers.{Holds256}
 use Rattle.sha2.specs.Sha256.{sha256}
 use Rattle.sha2.specs.declared.Sha256.{Sha256}
-use Rattle.wire.specs.DeviceBody.{body}
+use Rattle.wire.specs.DeviceBody.{body, IsDeviceOf}
 use Rattle.wire.specs.Header.{header, IsHeader, Opening, layout_in}
 use Rattle.blk.specs.Disk.{DiskState}
 use Rattle.wire.specs.Records.{Record, device, commit, spelled_record, BeginsNoRecord}
@@ -54,6 +54,7 @@ pub record HasRead (disks : List DiskState) (opening : Opening) (before : List R
   pub taken : AreTaken opening.version (AreHonestDisks (all_marks_in disks)) i.ram.bytes (held_sectors opening.shapes disks i.bad.items) i.named (layout_in opening) before
   pub devices_are : shapes_in i.devices.items ≡ take (length i.devices.items) opening.shapes
   pub sound : AllByRecursion (IsSoundDevice (4096 * opening.pages)) i.devices.items
+  pub has : AllByRecursion (IsDeviceOf opening.version) i.devices.items
 
 -- What a refusal means: there is this fault, unless memory was refused or a disk failed.
 abbrev pub Tells : RecvError → Type 0 → Type 0

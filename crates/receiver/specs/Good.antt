@@ -21,7 +21,7 @@ abbrev pub AreNamed : Layout → List Record → Type 0
 AreNamed l rs = (i : Item) → IsItemIn l i → IsSome (last_named i rs)
 
 -- A device's record that may come next: every item is named, the device's number is the next one, and the body is that of a
--- sound device of the shape that is next.
+-- sound device of the shape that is next, which the version has.
 pub record IsNextDevice (opening : Opening) (before : List Record) (d : ℕ) (body : List ℕ) : Type 0 where
   pub named : AreNamed (layout_in opening) before
   pub next : d ≡ devices_in before
@@ -29,7 +29,7 @@ pub record IsNextDevice (opening : Opening) (before : List Record) (d : ℕ) (bo
   pub others : List Shape
   pub here : drop d opening.shapes ≡ shape ∷ others
   pub state : DeviceState
-  pub is : IsBodyOf shape (4096 * opening.pages) body state
+  pub is : IsBodyOf opening.version shape (4096 * opening.pages) body state
 
 -- The record may follow those before it. The digest ends a stream, and is none of these records.
 abbrev pub MayFollow : Opening → List Record → Record → Type 0

@@ -59,12 +59,12 @@ HasRoom i (heads.Device number len) = (number < length i.shapes.items) × (len �
 HasRoom i heads.Commit = Unit {0}
 HasRoom i (heads.ZeroPage number) = (4096 * number + 4096 ≤ length i.ram.bytes) × (number < length i.named)
 
--- No sound device of the shape that is next has this body.
+-- No sound device of the shape that is next, which the version has, has this body.
 pub record IsNoBody (opening : Opening) (number : ℕ) (body : List ℕ) : Type 0 where
   pub shape : Shape
   pub others : List Shape
   pub here : drop number opening.shapes ≡ shape ∷ others
-  pub never : (d : DeviceState) → ¬ (IsBodyOf shape (4096 * opening.pages) body d)
+  pub never : (d : DeviceState) → ¬ (IsBodyOf opening.version shape (4096 * opening.pages) body d)
 
 -- One device more was taken in, or its body was refused, or memory.
 abbrev pub TakingDevice : List DiskState → Opening → List Record → Intake → List ℕ → ℕ → List ℕ → Result (Unit {0}) RecvError → Type 0

@@ -261,7 +261,7 @@ fn take_device(alloc: Global, intake: &mut Intake, number: u8, body: &[u8]) -> R
 {
     let shape = nth(&intake.shapes, number as usize);
     let ram_len = intake.ram.len();
-    match decode_device(alloc, shape, ram_len, body) {
+    match decode_device(alloc, intake.version, shape, ram_len, body) {
         Ok(state) => {
             let Ok(()) = intake.devices.push(state) else {
                 return Err(RecvError::NoMemory);

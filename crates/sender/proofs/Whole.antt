@@ -18,6 +18,7 @@ use Rattle.wire.specs.Header.{header, opening_of}
 use Rattle.wire.specs.Records.{Record, commit, device, is_zero_page, page, page_record, round_end, sector, spelled_record, zero_page}
 use Rattle.wire.specs.Stream.{AreNumbered, IsEntry, IsStream, device_texts, last_named, record_of, rounds, shapes_in, texts}
 use Rattle.guestmem.specs.Page.{page_of}
+use Rattle.wire.proofs.Bodies.{second_has_all}
 use Rattle.wire.proofs.PageRecords.{as_page, as_zeros}
 use Rattle.wire.proofs.Whole.{each-snoc, is_item_entry, numbered_item}
 use Rattle.sender.specs.History.{AllAllowed, Allowed, AllowedBy, History, IsItsChange, IsStaleItem, entries, is_due, is_stale, machine_after, next_phase, nothing, phase_of, text, then_came, went}
@@ -233,6 +234,7 @@ module _ (m : MachineState) (h : History) (a : AllAllowed m h) (sound : IsSound 
               let Q : items.Item → Type 0 = λ x. last_named x (entries m (then_came h Stop (r.Stopped pages sectors) c)) ≡ Some (record_of mid x) in
               subst Q (item_back (layout_of m) i within) (fresh_is_last m (then_came h Stop (r.Stopped pages sectors) c) number (a, may, none) (number_below (layout_of m) i within) (and_not (is_stale (layout_of m) h number)));
           sound = sound_here;
+          devices = second_has_all mid.devices;
           whole = closed_same (text m h) (header (opening_of (pages_of mid) (shapes_in mid.devices))) (texts (entries m h)) (texts (entries m h ++ xs)) (texts xs) (device_texts 0 mid.devices) (λ y. spelled_record (commit (sha256 y)))
               (b.text_is ∙ ap (λ (y : List ℕ). y ++ texts (entries m h)) heads) (texts-append (entries m h) xs);
         };

@@ -1,6 +1,6 @@
 -- Bodies of devices: what is read was spelled so, and what is spelled so is read.
 use Rattle.std.proofs.Common.{◌≡◌, ℕ, zero, suc, ◌+◌, ◌*◌, ◌<◌, ◌≤◌, Bool, true, false, List, [], ◌∷◌, ◌++◌, length, take, drop, get_or, Some, None, refl, sym, ap, subst, ◌∙◌, append_assoc, drop-drop, arith}
-use Rattle.std.specs.List.{AllByRecursion}
+use Rattle.std.specs.List.{All, AllByRecursion}
 use Rattle.std.proofs.lemmas.Nat.{and_le_l}
 use Rattle.std.proofs.lemmas.List.Elements.{recursion_from_All}
 use Rattle.std.proofs.lemmas.List.{take-append-drop, length-append, length-drop, drop_at}
@@ -11,7 +11,7 @@ use Rattle.mmio.specs.Sound.{IsSoundCommon, IsSoundQueue}
 use Rattle.mmio.specs.declared.common.Common.{Common}
 use Rattle.mmio.specs.declared.queue.Queue.{Queue}
 use Rattle.wire.specs.Numbers.{Fit, flag}
-use Rattle.wire.specs.DeviceBody.{IsBodyOf, body, common_numbers, common_text, common_widths, own_text, queue_numbers, queue_text, queue_widths, queues_text}
+use Rattle.wire.specs.DeviceBody.{IsBodyOf, IsDeviceOf, body, common_numbers, common_text, common_widths, has_zeroes, own_text, queue_numbers, queue_text, queue_widths, queues_text}
 use Rattle.wire.specs.BodyReading.{HasFlags, HasFront, HaveFlags, common_from, common_of, device_of, own_of, positions_from, positions_in, positions_of, queue_from, queue_of, queues_in}
 use Rattle.machine.specs.QueuePositions.{HasPositions, HavePositions, is_packed_by}
 use Rattle.machine.specs.Shapes.{queues_of, saved_device}
@@ -266,38 +266,54 @@ body_reads_as ram_len d sound =
 
 -- The answers of the reader.
 
-pub no_front : (shape : Shape) (ram_len : ℕ) (bytes : List ℕ) → ¬ (HasFront (queues_of shape) bytes) → (d : DeviceState) → ¬ (IsBodyOf shape ram_len bytes d)
-no_front shape ram_len bytes never d is =
+pub no_front : (version : ℕ) (shape : Shape) (ram_len : ℕ) (bytes : List ℕ) → ¬ (HasFront (queues_of shape) bytes) → (d : DeviceState) → ¬ (IsBodyOf version shape ram_len bytes d)
+no_front version shape ram_len bytes never d is =
     never (subst (HasFront (queues_of shape)) (sym is.is) (subst (λ (s : Shape). HasFront (queues_of s) (body d)) is.shape_is (body_reads_as ram_len d is.sound).form))
 
+-- What such a body tells of the common registers is the device's.
+common_told : (version : ℕ) (shape : Shape) (ram_len : ℕ) (bytes : List ℕ) (d : DeviceState) → IsBodyOf version shape ram_len bytes d → common_of bytes ≡ d.registers.common
+common_told version shape ram_len bytes d is = ap common_of is.is ∙ ap (λ (x : DeviceState). x.registers.common) (body_reads_as ram_len d is.sound).device
+
+pub not_had : (version : ℕ) (shape : Shape) (ram_len : ℕ) (bytes : List ℕ) → ¬ (version ≡ 1 → has_zeroes shape (common_of bytes) ≡ false) → (d : DeviceState) → ¬ (IsBodyOf version shape ram_len bytes d)
+not_had version shape ram_len bytes never d is =
+    never
+    (λ first. ap (has_zeroes shape) (common_told version shape ram_len bytes d is) ∙ ap (λ (s : Shape). has_zeroes s d.registers.common) (sym is.shape_is) ∙ is.has first)
+
 -- What such a body tells beside its registers and its queues is the device's own.
-own_told : (shape : Shape) (ram_len : ℕ) (bytes : List ℕ) (d : DeviceState) → IsBodyOf shape ram_len bytes d → own_of shape (drop (26 + 36 * queues_of shape) bytes) ≡ Some d.own
-own_told shape ram_len bytes d is =
+own_told : (version : ℕ) (shape : Shape) (ram_len : ℕ) (bytes : List ℕ) (d : DeviceState) → IsBodyOf version shape ram_len bytes d → own_of shape (drop (26 + 36 * queues_of shape) bytes) ≡ Some d.own
+own_told version shape ram_len bytes d is =
     rw is.is (subst (λ (s : Shape). own_of s (drop (26 + 36 * queues_of s) (body d)) ≡ Some d.own) is.shape_is (body_reads_as ram_len d is.sound).own)
 
-pub no_own : (shape : Shape) (ram_len : ℕ) (bytes : List ℕ) → own_of shape (drop (26 + 36 * queues_of shape) bytes) ≡ None → (d : DeviceState) → ¬ (IsBodyOf shape ram_len bytes d)
-no_own shape ram_len bytes none d is = let told = own_told shape ram_len bytes d is in cc
+pub no_own : (version : ℕ) (shape : Shape) (ram_len : ℕ) (bytes : List ℕ) → own_of shape (drop (26 + 36 * queues_of shape) bytes) ≡ None → (d : DeviceState) → ¬ (IsBodyOf version shape ram_len bytes d)
+no_own version shape ram_len bytes none d is = let told = own_told version shape ram_len bytes d is in cc
 
-device_told : (shape : Shape) (ram_len : ℕ) (bytes : List ℕ) (d : DeviceState) (o : Own) → IsBodyOf shape ram_len bytes d → own_of shape (drop (26 + 36 * queues_of shape) bytes) ≡ Some o → device_of ram_len shape bytes o ≡ d
-device_told shape ram_len bytes d o is read =
-    let same : o ≡ d.own = same_found o d.own (sym read ∙ own_told shape ram_len bytes d is) in
+device_told : (version : ℕ) (shape : Shape) (ram_len : ℕ) (bytes : List ℕ) (d : DeviceState) (o : Own) → IsBodyOf version shape ram_len bytes d → own_of shape (drop (26 + 36 * queues_of shape) bytes) ≡ Some o → device_of ram_len shape bytes o ≡ d
+device_told version shape ram_len bytes d o is read =
+    let same : o ≡ d.own = same_found o d.own (sym read ∙ own_told version shape ram_len bytes d is) in
     ap (device_of ram_len shape bytes) same
     ∙ ap (λ (s : Shape). device_of ram_len s bytes d.own) (sym is.shape_is)
     ∙ ap (λ (x : List ℕ). device_of ram_len d.shape x d.own) is.is
     ∙ (body_reads_as ram_len d is.sound).device
 
-pub not_sound : (shape : Shape) (ram_len : ℕ) (bytes : List ℕ) (o : Own) → own_of shape (drop (26 + 36 * queues_of shape) bytes) ≡ Some o → ¬ (IsSoundDevice ram_len (device_of ram_len shape bytes o)) → (d : DeviceState)
-    → ¬ (IsBodyOf shape ram_len bytes d)
-not_sound shape ram_len bytes o read never d is = never (subst (IsSoundDevice ram_len) (sym (device_told shape ram_len bytes d o is read)) is.sound)
+pub not_sound : (version : ℕ) (shape : Shape) (ram_len : ℕ) (bytes : List ℕ) (o : Own) → own_of shape (drop (26 + 36 * queues_of shape) bytes) ≡ Some o → ¬ (IsSoundDevice ram_len (device_of ram_len shape bytes o)) → (d : DeviceState)
+    → ¬ (IsBodyOf version shape ram_len bytes d)
+not_sound version shape ram_len bytes o read never d is = never (subst (IsSoundDevice ram_len) (sym (device_told version shape ram_len bytes d o is read)) is.sound)
 
-pub is_body : (shape : Shape) (ram_len : ℕ) (bytes : List ℕ) (o : Own) → IsBytes bytes → HasFront (queues_of shape) bytes → own_of shape (drop (26 + 36 * queues_of shape) bytes) ≡ Some o
-    → IsSoundDevice ram_len (device_of ram_len shape bytes o) → IsBodyOf shape ram_len bytes (device_of ram_len shape bytes o)
-is_body shape ram_len bytes o are form read sound = record { shape_is = refl; sound = sound; is = body_written ram_len shape bytes o are form read }
+pub is_body : (version : ℕ) (shape : Shape) (ram_len : ℕ) (bytes : List ℕ) (o : Own) → IsBytes bytes → HasFront (queues_of shape) bytes → own_of shape (drop (26 + 36 * queues_of shape) bytes) ≡ Some o
+    → IsSoundDevice ram_len (device_of ram_len shape bytes o) → (version ≡ 1 → has_zeroes shape (common_of bytes) ≡ false) → IsBodyOf version shape ram_len bytes (device_of ram_len shape bytes o)
+is_body version shape ram_len bytes o are form read sound has = record { shape_is = refl; sound = sound; has = has; is = body_written ram_len shape bytes o are form read }
+
+-- Version 2 has every device.
+second_has : (d : DeviceState) → IsDeviceOf 2 d
+second_has d first = absurd (omega (arith, first))
+
+pub second_has_all : (ds : List DeviceState) → All (IsDeviceOf 2) ds
+second_has_all ds k d below first = absurd (omega (arith, first))
 
 -- One body is of one sound device, and it is short.
 pub one_body : (ram_len : ℕ) (d e : DeviceState) → d.shape ≡ e.shape → IsSoundDevice ram_len d → IsSoundDevice ram_len e → body d ≡ body e → d ≡ e
 one_body ram_len d e shape sound other same =
-    sym (device_told e.shape ram_len (body e) d e.own (record { shape_is = shape; sound = sound; is = sym same }) (body_reads_as ram_len e other).own) ∙ (body_reads_as ram_len e other).device
+    sym (device_told 2 e.shape ram_len (body e) d e.own (record { shape_is = shape; sound = sound; has = second_has d; is = sym same }) (body_reads_as ram_len e other).own) ∙ (body_reads_as ram_len e other).device
 
 pub body_is_short : (ram_len : ℕ) (d : DeviceState) → IsSoundDevice ram_len d → length (body d) ≤ 131072
 body_is_short ram_len d sound = omega (arith, (body_front ram_len d sound).long, sound.queues, sound.registers.few, (device_fits ram_len d sound).own.short)

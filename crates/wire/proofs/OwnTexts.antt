@@ -216,12 +216,12 @@ own_written Entropy bytes o are e = pool_written bytes o are e
 
 -- The requests of a device's first queue.
 queue_requests : (len sectors : ℕ) (read_only : Bool) (id : List ℕ) (r : Registers) (rs : List Request) (found : Option Queue) → queue_at r 0 ≡ found → sectors ≤ 2097152 → IsSoundRegisters r → r.ram_len ≡ len
-    → IsSomeAnd found (λ q. AreRequestsOf len (is_packed_by r.common) q (block_of (Block sectors read_only id)) rs) → RequestsFit rs
+    → IsSomeAnd found (λ q. AreRequestsOf len (is_packed_by r.common) q (block_of (Block sectors read_only id) r.common.features) rs) → RequestsFit rs
 queue_requests len sectors read_only id r rs None at few sound ram_len are = absurd are
 queue_requests len sectors read_only id r rs (Some q) at few sound ram_len are =
     let queue : IsSoundQueue r.ram_len r.common q = rw (get_or_from_slice_get r.queues 0 q q at) at (sound.queues 0 q (slice_get_within r.queues 0 q at)) in
     let low : len < 2 ^ 64 = omega (arith, sound.ram_len, ram_len) in
-    requests_fit len (is_packed_by r.common) q r.common (block_of (Block sectors read_only id)) rs low few (rw ram_len at queue) are
+    requests_fit len (is_packed_by r.common) q r.common (block_of (Block sectors read_only id) r.common.features) rs low few (rw ram_len at queue) are
 
 pub own_reads : (len : ℕ) (r : Registers) (s : Shape) (o : Own) → IsSoundShape s → IsSoundRegisters r → r.ram_len ≡ len → IsSoundOwn len r s o → ReadsOwn s o
 own_reads len r (Net mac) (own.Network frames) shape sound ram_len are = frames_own mac frames are

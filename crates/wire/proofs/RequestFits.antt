@@ -10,7 +10,7 @@ use Rattle.chains.specs.declared.segs.Seg.{Seg}
 use Rattle.blk.specs.Request.{verdict_byte}
 use Rattle.blk.specs.Sound.{IsSoundRequest, IsSoundWork, MayEnd}
 use Rattle.blk.specs.declared.request.Kind.{Kind}
-use Rattle.blk.specs.declared.request.Kind.TheVariants.{Refused, In, Out, Flush, GetId}
+use Rattle.blk.specs.declared.request.Kind.TheVariants.{Refused, In, Out, Flush, GetId, Zero}
 use Rattle.blk.specs.declared.request.Verdict.{Verdict}
 use Rattle.blk.specs.declared.request.Verdict.TheVariants.{Good, IoError, Unsupported}
 use Rattle.blk.specs.declared.request.Request.{Request}
@@ -43,16 +43,17 @@ record FitsWork (first units done : ℕ) : Type 0 where
 small_work : (first units done : ℕ) → first + units ≤ 2097152 → done ≤ units → FitsWork first units done
 small_work first units done few some = record { first_fits = omega (arith, few); units_fit = omega (arith, few); done_fits = omega (arith, few, some) }
 
-work_fits : (k : Kind) (readable writable capacity : ℕ) (read_only : Bool) (v : Verdict) (first units done : ℕ) → capacity ≤ 2097152 → IsSoundWork k readable writable capacity read_only v first units done → FitsWork first units done
-work_fits Refused readable writable capacity read_only v first units done few h = small_work first units done (omega (arith, h.1, h.2)) (omega (arith, h.2, h.3))
-work_fits In readable writable capacity read_only v first units done few h = small_work first units done (omega (arith, few, h.2)) (may_end v done units h.0)
-work_fits Out readable writable capacity read_only v first units done few h = small_work first units done (omega (arith, few, h.2)) (may_end v done units h.0)
-work_fits Flush readable writable capacity read_only v first units done few h = small_work first units done (omega (arith, h.1, h.2)) (may_end v done units h.0)
-work_fits GetId readable writable capacity read_only v first units done few h = small_work first units done (omega (arith, h.2, h.3)) h.1
+work_fits : (k : Kind) (readable writable : ℕ) (shape : BlockShape) (v : Verdict) (first units done : ℕ) → shape.sectors ≤ 2097152 → IsSoundWork k readable writable shape v first units done → FitsWork first units done
+work_fits Refused readable writable shape v first units done few h = small_work first units done (omega (arith, h.1, h.2)) (omega (arith, h.2, h.3))
+work_fits In readable writable shape v first units done few h = small_work first units done (omega (arith, few, h.2)) (may_end v done units h.0)
+work_fits Out readable writable shape v first units done few h = small_work first units done (omega (arith, few, h.2)) (may_end v done units h.0)
+work_fits Flush readable writable shape v first units done few h = small_work first units done (omega (arith, h.1, h.2)) (may_end v done units h.0)
+work_fits GetId readable writable shape v first units done few h = small_work first units done (omega (arith, h.2, h.3)) h.1
+work_fits Zero readable writable shape v first units done few h = small_work first units done (omega (arith, few, h.3)) (may_end v done units h.0)
 
 pub request_fits : (len size : ℕ) (is_packed : Bool) (shape : BlockShape) (r : Request) → len < 2 ^ 64 → size ≤ 256 → shape.sectors ≤ 2097152 → IsSoundRequest len is_packed size shape r → FitsRequest r
 request_fits len size is_packed shape r low few capacity h =
-    let work = work_fits r.kind (length (places r.readable)) (length (places r.writable)) shape.sectors shape.read_only r.verdict r.first r.units r.done capacity h.work in
+    let work = work_fits r.kind (length (places r.readable)) (length (places r.writable)) shape r.verdict r.first r.units r.done capacity h.work in
     let kind : kind_number r.kind < 256 = omega (arith, few_kinds r.kind) in
     let verdict : verdict_byte r.verdict < 256 = omega (arith, few_verdicts r.verdict) in
     let readable : length r.readable < 2 ^ 16 = omega (arith, h.few, few) in

@@ -9,7 +9,7 @@ use Rattle.guestmem.specs.Number.{number_at, IsBytes}
 use Rattle.chains.specs.declared.segs.Seg.{Seg}
 use Rattle.blk.specs.Request.{verdict_byte}
 use Rattle.blk.specs.declared.request.Kind.{Kind}
-use Rattle.blk.specs.declared.request.Kind.TheVariants.{Refused, In, Out, Flush, GetId}
+use Rattle.blk.specs.declared.request.Kind.TheVariants.{Refused, In, Out, Flush, GetId, Zero}
 use Rattle.blk.specs.declared.request.Verdict.{Verdict}
 use Rattle.blk.specs.declared.request.Verdict.TheVariants.{Good, IoError, Unsupported}
 use Rattle.blk.specs.declared.request.Request.{Request}
@@ -90,19 +90,21 @@ kind_of-number In = refl
 kind_of-number Out = refl
 kind_of-number Flush = refl
 kind_of-number GetId = refl
+kind_of-number Zero = refl
 
 verdict_of-byte : (v : Verdict) → verdict_of (verdict_byte v) ≡ v
 verdict_of-byte Good = refl
 verdict_of-byte IoError = refl
 verdict_of-byte Unsupported = refl
 
-kind_number-of : (n : ℕ) → n ≤ 4 → kind_number (kind_of n) ≡ n
+kind_number-of : (n : ℕ) → n ≤ 5 → kind_number (kind_of n) ≡ n
 kind_number-of zero few = refl
 kind_number-of (suc zero) few = refl
 kind_number-of (suc (suc zero)) few = refl
 kind_number-of (suc (suc (suc zero))) few = refl
 kind_number-of (suc (suc (suc (suc zero)))) few = refl
-kind_number-of (suc (suc (suc (suc (suc n))))) few = absurd (omega (arith, few))
+kind_number-of (suc (suc (suc (suc (suc zero))))) few = refl
+kind_number-of (suc (suc (suc (suc (suc (suc n)))))) few = absurd (omega (arith, few))
 
 verdict_byte-of : (n : ℕ) → n ≤ 2 → verdict_byte (verdict_of n) ≡ n
 verdict_byte-of zero few = refl
@@ -110,12 +112,13 @@ verdict_byte-of (suc zero) few = refl
 verdict_byte-of (suc (suc zero)) few = refl
 verdict_byte-of (suc (suc (suc n))) few = absurd (omega (arith, few))
 
-pub few_kinds : (k : Kind) → kind_number k ≤ 4
+pub few_kinds : (k : Kind) → kind_number k ≤ 5
 few_kinds Refused = omega arith
 few_kinds In = omega arith
 few_kinds Out = omega arith
 few_kinds Flush = omega arith
 few_kinds GetId = omega arith
+few_kinds Zero = omega arith
 
 pub few_verdicts : (v : Verdict) → verdict_byte v ≤ 2
 few_verdicts Good = omega arith
@@ -131,7 +134,7 @@ pub record FitsRequest (r : Request) : Type 0 where
 -- What the head of a request says of the bytes that begin with it.
 record Headed (bytes : List ℕ) (r : Request) (rest : List ℕ) : Type 0 where
   pub long : 26 ≤ length bytes
-  pub kind : number_at bytes 4 1 ≤ 4
+  pub kind : number_at bytes 4 1 ≤ 5
   pub verdict : number_at bytes 5 1 ≤ 2
   pub readable : number_at bytes 22 2 ≡ length r.readable
   pub writable : number_at bytes 24 2 ≡ length r.writable
@@ -153,7 +156,7 @@ headed r rest fits =
     let nth = λ (k : ℕ). ap (λ (l : List ℕ). get_or l k 0) read in
     record {
       long = omega (arith, length-append (spelled request_widths ns) rest, length-spelled request_widths ns fits.head);
-      kind = at_most 4 (nth 2) (few_kinds r.kind);
+      kind = at_most 5 (nth 2) (few_kinds r.kind);
       verdict = at_most 2 (nth 3) (few_verdicts r.verdict);
       readable = nth 7;
       writable = nth 8;
@@ -169,7 +172,7 @@ read_so bytes r rest h fits =
     let size_a = length-segs_text r.readable in
     let size_b = length-segs_text r.writable in
     let long : nat_lt (length bytes) 26 ≡ false = le-ltb _ _ h.long in
-    let kind : nat_lt 4 (number_at bytes 4 1) ≡ false = le-ltb _ _ h.kind in
+    let kind : nat_lt 5 (number_at bytes 4 1) ≡ false = le-ltb _ _ h.kind in
     let verdict : nat_lt 2 (number_at bytes 5 1) ≡ false = le-ltb _ _ h.verdict in
     let room : nat_lt (length (a ++ (b ++ rest))) (12 * (length r.readable + length r.writable)) ≡ false = le-ltb _ _ (omega (arith, size_a, size_b, length-append a (b ++ rest), length-append b rest)) in
     let first = take_at a (b ++ rest) (12 * length r.readable) size_a in
@@ -187,7 +190,7 @@ request_of-text r rest fits =
     append_assoc head (segs_text r.readable ++ segs_text r.writable) rest ∙ ap (λ (x : List ℕ). head ++ x) (append_assoc (segs_text r.readable) (segs_text r.writable) rest) in
     ap request_of grouped ∙ read_so (head ++ (segs_text r.readable ++ (segs_text r.writable ++ rest))) r rest (headed r (segs_text r.readable ++ (segs_text r.writable ++ rest)) fits) fits
 
-head_text-of : (bytes : List ℕ) (readable writable : List Seg) → IsBytes bytes → 26 ≤ length bytes → number_at bytes 4 1 ≤ 4 → number_at bytes 5 1 ≤ 2
+head_text-of : (bytes : List ℕ) (readable writable : List Seg) → IsBytes bytes → 26 ≤ length bytes → number_at bytes 4 1 ≤ 5 → number_at bytes 5 1 ≤ 2
     → head_text (headed_by bytes readable writable) (number_at bytes 22 2) (number_at bytes 24 2) ≡ take 26 bytes
 unfolding head_text headed_by
 head_text-of bytes readable writable are long kind verdict =
@@ -212,7 +215,7 @@ writable_by : (bytes : List ℕ) (readable writable : List Seg) → (headed_by b
 unfolding headed_by
 writable_by bytes readable writable = refl
 
-taken_so : (bytes : List ℕ) (m n : ℕ) → IsBytes bytes → 26 ≤ length bytes → number_at bytes 4 1 ≤ 4 → number_at bytes 5 1 ≤ 2 → number_at bytes 22 2 ≡ m → number_at bytes 24 2 ≡ n → 12 * (m + n) ≤ length (drop 26 bytes)
+taken_so : (bytes : List ℕ) (m n : ℕ) → IsBytes bytes → 26 ≤ length bytes → number_at bytes 4 1 ≤ 5 → number_at bytes 5 1 ≤ 2 → number_at bytes 22 2 ≡ m → number_at bytes 24 2 ≡ n → 12 * (m + n) ≤ length (drop 26 bytes)
     → WasSpelled request_text Any bytes (headed_by bytes (segs_of m (take (12 * m) (drop 26 bytes))) (segs_of n (take (12 * n) (drop (12 * m) (drop 26 bytes)))), drop (12 * n) (drop (12 * m) (drop 26 bytes)))
 taken_so bytes m n are long kind verdict e f room =
     let x = drop 26 bytes in
@@ -233,7 +236,7 @@ taken_so bytes m n are long kind verdict e f room =
       whole = joined bytes x y (drop (12 * n) y) head (ap segs_text (readable_by bytes rs ws) ∙ a) (ap segs_text (writable_by bytes rs ws) ∙ b) (take-append-drop 26 bytes) (take-append-drop (12 * m) x) (take-append-drop (12 * n) y);
     }
 
-request_found : (bytes : List ℕ) (m n : ℕ) (found : Request × List ℕ) → IsBytes bytes → 26 ≤ length bytes → number_at bytes 4 1 ≤ 4 → number_at bytes 5 1 ≤ 2 → number_at bytes 22 2 ≡ m → number_at bytes 24 2 ≡ n
+request_found : (bytes : List ℕ) (m n : ℕ) (found : Request × List ℕ) → IsBytes bytes → 26 ≤ length bytes → number_at bytes 4 1 ≤ 5 → number_at bytes 5 1 ≤ 2 → number_at bytes 22 2 ≡ m → number_at bytes 24 2 ≡ n
     → request_with bytes m n (drop 26 bytes) ≡ Some found → WasSpelled request_text Any bytes found
 request_found bytes m n found are long kind verdict e f is =
     let room = not_chosen (nat_lt (length (drop 26 bytes)) (12 * (m + n))) _ found is in
@@ -242,10 +245,10 @@ request_found bytes m n found are long kind verdict e f is =
 pub text-request_of : (bytes : List ℕ) (found : Request × List ℕ) → IsBytes bytes → request_of bytes ≡ Some found → WasSpelled request_text Any bytes found
 unfolding request_of
 text-request_of bytes found are is =
-    let good = not_chosen (nat_lt (length bytes) 26 || nat_lt 4 (number_at bytes 4 1) || nat_lt 2 (number_at bytes 5 1)) _ found is in
-    let verdict = neither (nat_lt (length bytes) 26 || nat_lt 4 (number_at bytes 4 1)) (nat_lt 2 (number_at bytes 5 1)) good.0 in
-    let kind = neither (nat_lt (length bytes) 26) (nat_lt 4 (number_at bytes 4 1)) verdict.0 in
-    request_found bytes (number_at bytes 22 2) (number_at bytes 24 2) found are (ltb-false (length bytes) 26 kind.0) (ltb-false 4 (number_at bytes 4 1) kind.1) (ltb-false 2 (number_at bytes 5 1) verdict.1) refl refl good.1
+    let good = not_chosen (nat_lt (length bytes) 26 || nat_lt 5 (number_at bytes 4 1) || nat_lt 2 (number_at bytes 5 1)) _ found is in
+    let verdict = neither (nat_lt (length bytes) 26 || nat_lt 5 (number_at bytes 4 1)) (nat_lt 2 (number_at bytes 5 1)) good.0 in
+    let kind = neither (nat_lt (length bytes) 26) (nat_lt 5 (number_at bytes 4 1)) verdict.0 in
+    request_found bytes (number_at bytes 22 2) (number_at bytes 24 2) found are (ltb-false (length bytes) 26 kind.0) (ltb-false 5 (number_at bytes 4 1) kind.1) (ltb-false 2 (number_at bytes 5 1) verdict.1) refl refl good.1
 
 -- The size of a request, and its bytes.
 pub length-request_text : (r : Request) → length (request_text r) ≡ 26 + 12 * (length r.readable + length r.writable)

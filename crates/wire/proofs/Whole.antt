@@ -19,9 +19,11 @@ use Rattle.machine.specs.State.{DeviceState, MachineState}
 use Rattle.machine.specs.declared.shape.Shape.{Shape}
 use Rattle.machine.specs.declared.shape.Shape.TheVariants.{Net, Block, Console, Entropy}
 use Rattle.machine.proofs.Numbering.{either_way, has_item, item_there}
-use Rattle.wire.specs.Records.{Record, page, sector, round_end, device, commit, zero_page, is_zero_page, page_record, spelled_record, HasSpelling, IsOf}
-use Rattle.wire.specs.Stream.{IsStream, IsStreamBy, IsEntry, MayStand, AreNumbered, content_of, record_in, records_in, saved_in, texts, whole, whole_in}
+use Rattle.wire.specs.Records.{Record, page, sector, round_end, device, commit, zero_page, is_zero_page, page_record, spelled_record, HasSpelling}
+use Rattle.wire.specs.Stream.{IsStream, IsStreamBy, IsEntry, MayStand, AreNumbered, content_of, record_in, records_in, texts, whole, whole_in}
+use Rattle.wire.specs.DeviceBody.{IsDeviceOf}
 use Rattle.wire.specs.Header.{IsVersion}
+use Rattle.wire.proofs.Bodies.{second_has_all}
 use Rattle.wire.proofs.ItemRecords.{all_named}
 use Rattle.wire.proofs.PageRecords.{as_page, as_zeros, has_page_record}
 
@@ -140,14 +142,15 @@ unfolding records_in
 items_numbered v m zero = tt
 items_numbered v m (suc n) = numbered_item v 1 (records_in v m n) m (item_at (layout_of m) n) (items_numbered v m n)
 
-pub each_version : (v : ℕ) (m : MachineState) → IsVersion v → IsSound m → IsStreamBy v (whole_in v m) m (records_in v m (size_of (layout_of m)))
+pub each_version : (v : ℕ) (m : MachineState) → IsVersion v → IsSound m → All (IsDeviceOf v) m.devices → IsStreamBy v (whole_in v m) m (records_in v m (size_of (layout_of m)))
 unfolding whole_in
-each_version v m known sound = record {
+each_version v m known sound has = record {
   known = known;
   each = items_each v m (size_of (layout_of m)) sound (omega arith);
   numbered = items_numbered v m (size_of (layout_of m));
   last = all_named v m;
   sound = sound;
+  devices = has;
   whole = refl;
 }
 
@@ -155,5 +158,5 @@ pub whole_is_stream : (m : MachineState) → IsSound m → IsStream (whole m) m
 whole_is_stream m sound = record {
   version = 2;
   entries = records_in 2 m (size_of (layout_of m));
-  by = each_version 2 m (record { least = omega arith; most = omega arith }) sound;
+  by = each_version 2 m (record { least = omega arith; most = omega arith }) sound (second_has_all m.devices);
 }

@@ -124,6 +124,6 @@ device_of ram_len shape bytes own_is =
     saved_device ram_len shape (common_of bytes) (queues_in (queues_of shape) (drop 26 bytes)) (positions_in (queues_of shape) (drop 26 bytes)) own_is
 
 -- What an error says of the bytes: with `BadBody` they are the body of no such device; `NoMemory` says nothing of them.
-abbrev pub RefusesBody : Shape → ℕ → List ℕ → DecodeError → Type 0
-RefusesBody shape ram_len bytes BadBody = (d : DeviceState) → ¬ (IsBodyOf shape ram_len bytes d)
-RefusesBody shape ram_len bytes NoMemory = Unit {0}
+abbrev pub RefusesBody : ℕ → Shape → ℕ → List ℕ → DecodeError → Type 0
+RefusesBody version shape ram_len bytes BadBody = (d : DeviceState) → ¬ (IsBodyOf version shape ram_len bytes d)
+RefusesBody version shape ram_len bytes NoMemory = Unit {0}

@@ -1,9 +1,11 @@
 -- The body of a device's record: the registers that it has once, each queue with its positions, and its kind-specific state.
 -- Every number is little-endian.
-use Rattle.std.specs.Prelude.{◌≡◌, ℕ, List, [], ◌∷◌, ◌++◌, length}
+use Rattle.std.specs.Prelude.{◌≡◌, ◌^◌, ◌&&◌, ℕ, Bool, false, List, [], ◌∷◌, ◌++◌, length}
 use Rattle.chains.specs.declared.position.Positions.{Positions}
 use Rattle.console.specs.declared.size.ConsoleSize.{ConsoleSize}
+use Rattle.mmio.specs.Bits.{has}
 use Rattle.mmio.specs.declared.common.Common.{Common}
+use Rattle.mmio.specs.declared.constants.TheConstants.{FEATURES_OK}
 use Rattle.mmio.specs.declared.queue.Queue.{Queue}
 use Rattle.wire.specs.Numbers.{spelled, digits, flag}
 use Rattle.machine.specs.Sound.{IsSoundDevice}
@@ -11,6 +13,7 @@ use Rattle.machine.specs.State.{DeviceState}
 use Rattle.machine.specs.declared.own.Own.{Own}
 use Rattle.machine.specs.declared.own.Own.TheVariants.{Network, Block, Console, Entropy}
 use Rattle.machine.specs.declared.shape.Shape.{Shape}
+use Rattle.machine.specs.declared.shape.Shape.TheVariants as shapes
 use Rattle.wire.specs.FrameText.{frames_text}
 use Rattle.wire.specs.RequestText.{requests_text}
 
@@ -68,8 +71,21 @@ own_text (Entropy pool) = held_text pool
 abbrev pub body : DeviceState → List ℕ
 body d = common_text d.registers.common ++ (queues_text d.registers.queues d.positions ++ own_text d.own)
 
--- The bytes are the body of this device, which has this shape and is sound in a machine with `ram_len` bytes of RAM.
-pub record IsBodyOf (shape : Shape) (ram_len : ℕ) (bytes : List ℕ) (d : DeviceState) : Type 0 where
+-- Whether the driver of a block device accepted WRITE_ZEROES: bit 14 of the features, which FEATURES_OK settles (VIRTIO 1.2, 2.1
+-- and 5.2.3).
+abbrev pub has_zeroes : Shape → Common → Bool
+has_zeroes (shapes.Block sectors read_only id) c = has c.status FEATURES_OK && has c.features (2 ^ 14)
+has_zeroes _ c = false
+
+-- A version has this device. In version 1 no block device has a driver that accepted WRITE_ZEROES, and so none has a request to clear
+-- sectors.
+abbrev pub IsDeviceOf : ℕ → DeviceState → Type 0
+IsDeviceOf version d = version ≡ 1 → has_zeroes d.shape d.registers.common ≡ false
+
+-- The bytes are the body of this device in a version: the device has this shape, is sound in a machine with `ram_len` bytes of RAM,
+-- and the version has it.
+pub record IsBodyOf (version : ℕ) (shape : Shape) (ram_len : ℕ) (bytes : List ℕ) (d : DeviceState) : Type 0 where
   pub shape_is : d.shape ≡ shape
   pub sound : IsSoundDevice ram_len d
+  pub has : IsDeviceOf version d
   pub is : bytes ≡ body d

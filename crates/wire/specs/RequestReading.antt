@@ -3,7 +3,7 @@ use Rattle.std.specs.Prelude.{ℕ, zero, suc, ◌+◌, ◌*◌, List, [], ◌∷
 use Rattle.guestmem.specs.Number.{number_at}
 use Rattle.chains.specs.declared.segs.Seg.{Seg}
 use Rattle.blk.specs.declared.request.Kind.{Kind}
-use Rattle.blk.specs.declared.request.Kind.TheVariants.{Refused, In, Out, Flush, GetId}
+use Rattle.blk.specs.declared.request.Kind.TheVariants.{Refused, In, Out, Flush, GetId, Zero}
 use Rattle.blk.specs.declared.request.Verdict.{Verdict}
 use Rattle.blk.specs.declared.request.Verdict.TheVariants.{Good, IoError, Unsupported}
 use Rattle.blk.specs.declared.request.Request.{Request}
@@ -23,9 +23,9 @@ unfoldable pub segs_of : ℕ → List ℕ → List Seg
 segs_of zero bytes = []
 segs_of (suc n) bytes = seg_of bytes ∷ segs_of n (drop 12 bytes)
 
--- The kind of a request, by a number that is at most 4, and its verdict, by one that is at most 2.
+-- The kind of a request, by a number that is at most 5, and its verdict, by one that is at most 2.
 abbrev pub kind_of : ℕ → Kind
-kind_of n = if n == 0 then Refused else if n == 1 then In else if n == 2 then Out else if n == 3 then Flush else GetId
+kind_of n = if n == 0 then Refused else if n == 1 then In else if n == 2 then Out else if n == 3 then Flush else if n == 4 then GetId else Zero
 
 abbrev pub verdict_of : ℕ → Verdict
 verdict_of n = if n == 0 then Good else if n == 1 then IoError else Unsupported
@@ -51,5 +51,5 @@ request_with bytes readable writable rest =
 -- The request at the front of the bytes, and the bytes after it.
 unfoldable pub request_of : List ℕ → Option (Request × List ℕ)
 request_of bytes =
-    if nat_lt (length bytes) 26 || nat_lt 4 (number_at bytes 4 1) || nat_lt 2 (number_at bytes 5 1) then None
+    if nat_lt (length bytes) 26 || nat_lt 5 (number_at bytes 4 1) || nat_lt 2 (number_at bytes 5 1) then None
     else request_with bytes (number_at bytes 22 2) (number_at bytes 24 2) (drop 26 bytes)

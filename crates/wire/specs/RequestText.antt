@@ -4,7 +4,7 @@ use Rattle.std.specs.List.{flat_map}
 use Rattle.chains.specs.declared.segs.Seg.{Seg}
 use Rattle.blk.specs.Request.{verdict_byte}
 use Rattle.blk.specs.declared.request.Kind.{Kind}
-use Rattle.blk.specs.declared.request.Kind.TheVariants.{Refused, In, Out, Flush, GetId}
+use Rattle.blk.specs.declared.request.Kind.TheVariants.{Refused, In, Out, Flush, GetId, Zero}
 use Rattle.blk.specs.declared.request.Request.{Request}
 use Rattle.wire.specs.Numbers.{spelled, digits}
 
@@ -28,6 +28,7 @@ kind_number In = 1
 kind_number Out = 2
 kind_number Flush = 3
 kind_number GetId = 4
+kind_number Zero = 5
 
 -- The head of a request, in 26 bytes: its id and its slots, its kind and its verdict (the number of the status), its first
 -- sector, its units and how many of them are done, and the counts of its readable and of its writable segments.

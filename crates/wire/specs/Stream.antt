@@ -1,6 +1,6 @@
 -- The stream of a machine: a header; pages, sectors and ends of rounds in any order; each device once, in order; and the
 -- digest of all bytes before it.
-use Rattle.std.specs.Prelude.{◌≡◌, ℕ, zero, suc, ◌+◌, List, [], ◌∷◌, ◌++◌, map, slice_get, Option, Some, None, Bool, false, ◌==◌, ◌&&◌, if◌then◌else◌}
+use Rattle.std.specs.Prelude.{◌≡◌, All, ℕ, zero, suc, ◌+◌, List, [], ◌∷◌, ◌++◌, map, slice_get, Option, Some, None, Bool, false, ◌==◌, ◌&&◌, if◌then◌else◌}
 use Rattle.std.specs.List.{AllByRecursion}
 use Rattle.sha2.specs.Sha256.{sha256}
 use Rattle.blk.specs.Sectors.{Sector}
@@ -12,7 +12,7 @@ use Rattle.machine.specs.Layout.{Layout, IsItemIn, layout_of, pages_of, item_at,
 use Rattle.machine.specs.Sound.{IsSound}
 use Rattle.machine.specs.State.{DeviceState, MachineState}
 use Rattle.machine.specs.declared.shape.Shape.{Shape}
-use Rattle.wire.specs.DeviceBody.{body}
+use Rattle.wire.specs.DeviceBody.{body, IsDeviceOf}
 use Rattle.wire.specs.Header.{IsVersion, Opening, header}
 use Rattle.wire.specs.Records.{Record, page, sector, round_end, device, commit, zero_page, page_record, spelled_record, HasSpelling, IsOf}
 
@@ -96,13 +96,14 @@ abbrev pub before_commit : ℕ → ℕ → List Record → List DeviceState → 
 before_commit version pages entries devices = header (opening_in version pages devices) ++ (texts entries ++ device_texts 0 devices)
 
 -- The bytes are a stream of this machine in this version, with these records before its devices: each item of the machine is
--- named, and the last record that names it holds its contents in the machine.
+-- named, and the last record that names it holds its contents in the machine; and the version has each of its devices.
 pub record IsStreamBy (version : ℕ) (bytes : List ℕ) (m : MachineState) (entries : List Record) : Type 0 where
   pub known : IsVersion version
   pub each : AllByRecursion (IsEntry version (layout_of m)) entries
   pub numbered : AreNumbered 1 entries
   pub last : (i : Item) → IsItemIn (layout_of m) i → last_named i entries ≡ Some (record_in version m.ram m.disks i)
   pub sound : IsSound m
+  pub devices : All (IsDeviceOf version) m.devices
   pub whole : bytes ≡ before_commit version (pages_of m) entries m.devices ++ spelled_record (commit (sha256 (before_commit version (pages_of m) entries m.devices)))
 
 -- The bytes are a stream of this machine, in one of the versions.

@@ -1,5 +1,6 @@
 -- The laws of streams.
-use Rattle.std.specs.Prelude.{◌≡◌, List, ◌++◌, ℕ}
+use Rattle.std.specs.Prelude.{◌≡◌, All, List, ◌++◌, ℕ}
+use Rattle.wire.specs.DeviceBody.{IsDeviceOf}
 use Rattle.wire.specs.Header.{IsVersion}
 use Rattle.wire.specs.Records.{Record, HasSpelling, spelled_record}
 use Rattle.machine.specs.Sound.{IsSound}
@@ -24,9 +25,10 @@ OneCount = (bytes : List ℕ) (m k : MachineState) (a : IsStream bytes m) (b : I
 abbrev pub OneVersion : Type 0
 OneVersion = (bytes : List ℕ) (m k : MachineState) (a : IsStream bytes m) (b : IsStream bytes k) → a.version ≡ b.version
 
--- A sound machine has a stream in each version, and all of them mean this machine: what a stream of it is, is one definition.
+-- A sound machine has a stream in each version that has its devices, and all of them mean this machine: what a stream of it is, is one
+-- definition.
 abbrev pub EachVersion : Type 0
-EachVersion = (version : ℕ) (m : MachineState) → IsVersion version → IsSound m → IsStreamBy version (whole_in version m) m (records_in version m (size_of (layout_of m)))
+EachVersion = (version : ℕ) (m : MachineState) → IsVersion version → IsSound m → All (IsDeviceOf version) m.devices → IsStreamBy version (whole_in version m) m (records_in version m (size_of (layout_of m)))
 
 -- The whole stream of a sound machine is a stream of it.
 abbrev pub WholeIsStream : Type 0

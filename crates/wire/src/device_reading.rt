@@ -1,41 +1,49 @@
 //! Decodes the body of a device.
 
-ghost use Rattle.std.specs.Prelude.{◌≡◌, ◌≤◌, ◌*◌, ◌↔◌, [], All, IsSomeAnd, IsTrue, IfOk, IfErr, length, slice_get, take};
+ghost use Rattle.std.specs.Prelude.{◌≡◌, ◌≤◌, ◌*◌, ◌^◌, ◌↔◌, [], All, IsSomeAnd, IsTrue, false, IfOk, IfErr, length, slice_get, take};
 ghost use Rattle.wire.specs.BodyReading.{HasFront, HaveFlags, RefusesBody, positions_in, queues_in};
-ghost use Rattle.wire.specs.DeviceBody.{IsBodyOf};
+ghost use Rattle.wire.specs.DeviceBody.{IsBodyOf, has_zeroes};
 ghost use Rattle.machine.specs.QueuePositions.{HasPositions, HavePositions, is_packed_by};
 ghost use Rattle.machine.specs.Shapes.{queues_of, saved_device};
 ghost use Rattle.machine.specs.Sound.{AreRequestsOf, IsBlockShape, IsSoundConsole, IsSoundDevice, IsSoundOwn, IsSoundShape};
+ghost use Rattle.mmio.specs.Bits.{has};
 ghost use Rattle.mmio.specs.Sound.{IsSoundQueue};
 ghost use Rattle.mmio.specs.declared.constants.TheConstants.{QUEUE_COUNT_MAX};
 
 use crate::decode_error::DecodeError;
+use crate::header::FIRST_VERSION;
 use crate::own_reading::own_at;
 use crate::registers_text::{COMMON_LEN, QUEUE_LEN, common_at, has_flags, positions_at, queue_at};
-use blk::{BlockShape, REQUESTS_MAX, Requests};
+use blk::{BlockShape, REQUESTS_MAX, Requests, WRITE_ZEROES};
 use chains::{Position, Positions};
 use console::{ConsoleSize, HostBytes};
 use guestmem::recall_bytes;
 use machine::{DeviceState, Own, SECTORS_MAX, Shape, offered};
-use mmio::{Common, QUEUE_COUNT_MAX, Queue, RING_PACKED, is_sound_common, is_sound_queue};
+use mmio::{
+    Common, FEATURES_OK, QUEUE_COUNT_MAX, Queue, RING_PACKED, is_sound_common, is_sound_queue,
+};
 use std::alloc::Global;
 
-/// Decodes the body of a device of this shape, in a machine with `ram_len` bytes of RAM. `BadBody` if the bytes are the
-/// body of no sound device of this shape.
+/// Decodes the body of a device of this shape, in a stream of this version of a machine with `ram_len` bytes of RAM. `BadBody` if the
+/// bytes are the body of no sound device of this shape, or of one that the version does not have.
 pub fn decode_device(
     alloc: Global,
+    version: u32,
     shape: Shape,
     ram_len: u64,
     body: &[u8],
 ) -> Result<DeviceState, DecodeError>
-    ensures read { IfOk result (λ d. IsBodyOf shape ram_len body.now d) }
-    ensures refused { IfErr result (λ e. RefusesBody shape ram_len body.now e) }
+    ensures read { IfOk result (λ d. IsBodyOf version shape ram_len body.now d) }
+    ensures refused { IfErr result (λ e. RefusesBody version shape ram_len body.now e) }
 {
     let count = queue_count(shape);
     if !has_front(count, body) {
         return Err(DecodeError::BadBody);
     }
     let common = common_at(body);
+    if !has_device(version, shape, &common) {
+        return Err(DecodeError::BadBody);
+    }
     let (_, rest) = body.split_at(COMMON_LEN);
     let (queues, positions) = queues_at(count, rest);
     let (_, rest) = body.split_at(COMMON_LEN + QUEUE_LEN * count);
@@ -57,6 +65,33 @@ fn queue_count(shape: Shape) -> usize
         Shape::Net { .. } | Shape::Console => 2,
         Shape::Block { .. } | Shape::Entropy => 1,
     }
+}
+
+/// Whether this version has a device of this shape with these registers: version 1 has no block device whose driver accepted
+/// WRITE_ZEROES.
+fn has_device(version: u32, shape: Shape, common: &Common) -> bool
+    ensures { IsTrue result ↔ (version ≡ 1 → has_zeroes shape common.now ≡ false) }
+{
+    version != FIRST_VERSION || !has_zeroes(shape, common)
+}
+
+/// Whether this is a block device whose driver accepted WRITE_ZEROES.
+fn has_zeroes(shape: Shape, common: &Common) -> bool
+    ensures { result ≡ has_zeroes shape common.now }
+{
+    match shape {
+        Shape::Block { .. } => {
+            common.status & FEATURES_OK == FEATURES_OK && accepts_zeroes(common)
+        }
+        Shape::Net { .. } | Shape::Console | Shape::Entropy => false,
+    }
+}
+
+/// Whether the driver's features have WRITE_ZEROES.
+fn accepts_zeroes(common: &Common) -> bool
+    ensures { result ≡ has common.now.features (2 ^ 14) }
+{
+    common.features & WRITE_ZEROES == WRITE_ZEROES
 }
 
 /// Whether the bytes begin with registers and `queues` queues.
@@ -177,6 +212,7 @@ fn is_sound_own(ram_len: u64, shape: Shape, common: &Common, queues: &[Queue], o
                 sectors,
                 read_only,
                 id,
+                write_zeroes: accepts_zeroes(common),
             };
             are_requests_of(ram_len, is_packed(common), queues, &shape, requests)
         }

@@ -22,7 +22,7 @@ pub fn a_stream_has_one_version()
     ensures { OneVersion }
 {}
 
-/// A sound machine has a stream in each version.
+/// A sound machine has a stream in each version that has its devices.
 pub fn each_version_has_a_stream()
     ensures { EachVersion }
 {}

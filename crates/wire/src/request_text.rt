@@ -57,6 +57,7 @@ fn kind_byte(kind: Kind) -> u8
         Kind::Out => 2,
         Kind::Flush => 3,
         Kind::GetId => 4,
+        Kind::Zero => 5,
     }
 }
 
@@ -68,7 +69,8 @@ fn kind_of(number: u8) -> Kind
         1 => Kind::In,
         2 => Kind::Out,
         3 => Kind::Flush,
-        _ => Kind::GetId,
+        4 => Kind::GetId,
+        _ => Kind::Zero,
     }
 }
 
@@ -154,7 +156,7 @@ fn request_with<'a>(
 fn request_at(alloc: Global, bytes: &[u8]) -> Result<Option<(Request, &[u8])>, NoMemory>
     ensures { IfOk result (λ found. MatchOption found (request_of bytes.now ≡ None) (λ x. request_of bytes.now ≡ Some (x.0, x.1.now))) }
 {
-    if bytes.len() < HEAD_LEN || u8_at(bytes, 4) > 4 || u8_at(bytes, 5) > 2 {
+    if bytes.len() < HEAD_LEN || u8_at(bytes, 4) > 5 || u8_at(bytes, 5) > 2 {
         return Ok(None);
     }
     let (_, rest) = bytes.split_at(HEAD_LEN);
