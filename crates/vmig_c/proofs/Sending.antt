@@ -19,6 +19,7 @@ use Rattle.blk.specs.declared.advancing.Advanced.{Advanced}
 use Rattle.blk.specs.declared.advancing.Advanced.TheVariants as advanced
 use Rattle.blk.specs.declared.taking.Taken.{Taken}
 use Rattle.blk.specs.declared.taking.Taken.TheVariants as taken
+use Rattle.blk.specs.declared.shape.BlockShape.{BlockShape}
 use Rattle.chains.specs.Places.{places, read_places}
 use Rattle.chains.specs.State.{RingState}
 use Rattle.chains.specs.Look.{Sees}
@@ -43,7 +44,6 @@ use Rattle.machine.specs.declared.event.Event.TheVariants.{Step}
 use Rattle.machine.specs.declared.own.Own.{Own}
 use Rattle.machine.specs.declared.own.Own.TheVariants.{Network, Block, Console, Entropy}
 use Rattle.machine.specs.declared.reply.Reply.{Reply}
-use Rattle.machine.specs.declared.shape.Shape.{Shape}
 use Rattle.vmig_c.specs.Stepped.{most_of, most_sent, most_sent_by, sent_in, Steps}
 use Rattle.vmig_c.specs.Status.{status_of}
 use Rattle.vmig_c.specs.Told.{number_of}
@@ -101,25 +101,25 @@ of_advance advanced.BadSector most = nothing_sent most
 of_advance advanced.DiskFailed most = nothing_sent most
 of_advance (advanced.Completed len due) most = nothing_sent most
 
-of_service : (shape : Shape) (own : Own) (pick : ℕ) (ram : List ℕ) (q : RingState) (seen : Next) → Sees (wanted_of own pick) ram q seen
+of_service : (shape : BlockShape) (own : Own) (pick : ℕ) (ram : List ℕ) (q : RingState) (seen : Next) → Sees (wanted_of own pick) ram q seen
     → Within (reply_of (serve shape own pick ram q seen).served) (most_of (wanted_of own pick))
 of_service shape (Network frames) zero ram q seen sees = of_frame (receiving.receive_step ram q frames seen).answer 0
 of_service shape (Network frames) (suc n) ram q seen sees = of_transmission ram q frame_form seen sees
 of_service shape (Console size held) zero ram q seen sees = of_bytes (receive_step ram q held seen).answer 0
 of_service shape (Console size held) (suc n) ram q seen sees = of_transmission ram q text_form seen sees
-of_service shape (Block requests) n ram q seen sees = of_taking (take_step ram q (block_of shape) requests seen).answer 0
+of_service shape (Block requests) n ram q seen sees = of_taking (take_step ram q shape requests seen).answer 0
 of_service shape (Entropy pool) n ram q seen sees = of_bytes (receive_step ram q pool seen).answer 0
 
 of_look : (d : DeviceState) (ram : List ℕ) (pick : ℕ) (q : RingState) (o : Outcome) (seen : Next) → MayLookAt (wanted_of d.own pick) q ram o seen
     → Within (looked_step d ram pick q o seen).reply (most_of (wanted_of d.own pick))
 of_look d ram pick q no_memory seen may = nothing_sent (most_of (wanted_of d.own pick))
 of_look d ram pick q disk_failed seen may = nothing_sent (most_of (wanted_of d.own pick))
-of_look d ram pick q fine seen may = of_service d.shape d.own pick ram q seen may
+of_look d ram pick q fine seen may = of_service (block_of d.shape d.registers.common.features) d.own pick ram q seen may
 
 of_request : (d : DeviceState) (ram : List ℕ) (content : List Sector) (pick : ℕ) (at : Option RingState) (o : Outcome) (most : ℕ)
     → Within (advance_at d ram content pick at o).reply most
 of_request d ram content pick None o most = nothing_sent most
-of_request d ram content pick (Some q) o most = of_advance (advance_step (block_of d.shape) ram q content (requests_of d.own) (pick - 1) (disk_does o)).answer most
+of_request d ram content pick (Some q) o most = of_advance (advance_step (block_of d.shape d.registers.common.features) ram q content (requests_of d.own) (pick - 1) (disk_does o)).answer most
 
 of_step : (d : DeviceState) (ram : List ℕ) (content : List Sector) (pick : ℕ) (at : Option RingState) (o : Outcome) (seen : Next) → MayLook (wanted_of d.own pick) at ram o seen
     → Within (step_at d ram content pick at o seen).reply (most_of (wanted_of d.own pick))
