@@ -101,6 +101,21 @@ static void network(void)
     vmig_free(&m);
 }
 
+static void names(void)
+{
+    static const uint32_t unknown[] = {6, 16, 36, 46, 63, 79, 255, UINT32_MAX};
+    uint32_t known = 0;
+
+    expect("name of a success", (uint64_t)strcmp(vmig_status_name(VMIG_OK), "VMIG_OK"), 0);
+    expect("name of a refusal", (uint64_t)strcmp(vmig_status_name(VMIG_NO_DEVICE), "VMIG_NO_DEVICE"), 0);
+    expect("name of the last status", (uint64_t)strcmp(vmig_status_name(VMIG_WORK), "VMIG_WORK"), 0);
+    for (uint32_t status = 0; status < 256; status++)
+        if (strncmp(vmig_status_name(status), "VMIG_", 5) == 0) known++;
+    expect("statuses that have a name", known, 50);
+    for (size_t i = 0; i < sizeof unknown / sizeof *unknown; i++)
+        expect("no name", (uint64_t)strcmp(vmig_status_name(unknown[i]), "unknown status"), 0);
+}
+
 /* Under a sanitizer the address space is no measure of memory. */
 #if defined(__SANITIZE_ADDRESS__) || defined(__SANITIZE_THREAD__)
 static void memory(void) {}
@@ -141,6 +156,7 @@ int main(void)
 {
     streams();
     network();
+    names();
     memory();
     return ended("statuses");
 }
