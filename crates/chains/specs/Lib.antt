@@ -1,3 +1,4 @@
+pub mod CaseLaws
 pub mod State
 pub mod RingCore
 pub mod RingSeen

@@ -12,11 +12,23 @@ use Rattle.chains.specs.declared.next.Next.{Next}
 use Rattle.chains.specs.declared.next.Next.TheVariants as next
 use Rattle.chains.specs.declared.transmitting.MessageForm.{MessageForm}
 use Rattle.chains.specs.declared.transmitting.Transmitted.{Transmitted}
-use Rattle.chains.specs.declared.transmitting.Transmitted.TheVariants.{Empty, Malformed, Sent}
+use Rattle.chains.specs.declared.transmitting.Transmitted.TheVariants as transmitted
+
+-- What a step answers: that the queue is empty, that its chain is malformed, or what was sent and whether an interrupt is due.
+pub data Sending : Type 0 where
+  Empty : Sending
+  Malformed : Sending
+  Sent : List ℕ → Bool → Sending
+
+-- The answer of a call that leaves the message in a buffer.
+abbrev pub sending_in : Transmitted → List ℕ → Sending
+sending_in transmitted.Empty message = Empty
+sending_in transmitted.Malformed message = Malformed
+sending_in (transmitted.Sent is_due) message = Sent message is_due
 
 -- What a step returns and changes: its answer, writes of RAM, and the ring's positions.
 pub record Transmission : Type 0 where
-  pub answer : Transmitted
+  pub answer : Sending
   pub writes : List Write
   pub ring : RingState
 

@@ -4,15 +4,14 @@ use Rattle.guestmem.specs.Item.{Item}
 use Rattle.guestmem.specs.Writes.{set_all, touched}
 use Rattle.chains.specs.State.{RingState}
 use Rattle.chains.specs.Look.{Sees}
-use Rattle.chains.specs.Transmit.{transmit_step}
+use Rattle.chains.specs.Transmit.{Sending, transmit_step}
 use Rattle.chains.specs.declared.looking.Wanted.TheVariants.{Message}
 use Rattle.chains.specs.declared.next.Next.{Next}
 use Rattle.chains.specs.declared.transmitting.MessageForm.{MessageForm}
-use Rattle.chains.specs.declared.transmitting.Transmitted.{Transmitted}
 
 -- Such a step was made, by what the device sees: RAM and the ring after it, and which items were touched. What touching is, as that
 -- a log has taken them in, `touches` says.
-pub record IsTransmitted (touches : List Item → Type 0) (ram : List ℕ) (q : RingState) (form : MessageForm) (answer : Transmitted) (new_ram : List ℕ) (new_ring : RingState) : Type 0 where
+pub record IsTransmitted (touches : List Item → Type 0) (ram : List ℕ) (q : RingState) (form : MessageForm) (answer : Sending) (new_ram : List ℕ) (new_ring : RingState) : Type 0 where
   pub seen : Next
   pub sees : Sees (Message form) ram q seen
   pub answer_is : answer ≡ (transmit_step ram q form seen).answer

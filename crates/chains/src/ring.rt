@@ -17,6 +17,7 @@ use crate::next::Next;
 use crate::next_kind::NextKind;
 use crate::position::Positions;
 use guestmem::{NoMemory, Ram, TouchLog};
+use std::alloc::Global;
 
 /// A ring of either layout, through which a driver hands chains to a device and gets them back.
 ///
@@ -31,6 +32,9 @@ pub trait Ring {
     /// What it has decoded, and what it keeps of that.
     ghost decoder: { Self → DecoderState };
 
+    /// For the chains that `next` makes.
+    fn alloc(&self) -> Global;
+
     /// What is at the taking position. The state of the ring stays as it was, so asking again on the same RAM gives the
     /// same answer. A chain, whatever the driver wrote, is bounded: its segments lie inside RAM. The only error is out
     /// of memory, which comes only after more than `SHORT_CHAIN_MAX` descriptors. Whatever RAM holds, it decodes at most one
@@ -44,7 +48,16 @@ pub trait Ring {
         ensures state { state self.new ≡ state self.old }
         ensures fits { Fits (decoder self.new) ram.now }
         ensures few { (decoder self.new).decoded ≤ (decoder self.old).decoded + ((state self.old).size + 1) }
-        ensures rises { (decoder self.old).decoded ≤ (decoder self.new).decoded };
+        ensures rises { (decoder self.old).decoded ≤ (decoder self.new).decoded }
+    {
+        let mut chain = Chain::new(self.alloc());
+        match self.next_into(ram, &mut chain) {
+            NextKind::Empty => Ok(Next::Empty),
+            NextKind::Malformed => Ok(Next::Malformed),
+            NextKind::Chain => Ok(Next::Chain(chain)),
+            NextKind::NoMemory => Err(NoMemory),
+        }
+    }
 
     /// As `next`, with the chain filled in where the caller has it. What the chain held before makes no difference; where
     /// there is no chain, it may hold anything afterwards.

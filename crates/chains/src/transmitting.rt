@@ -1,6 +1,6 @@
 //! The step that takes bytes of the guest to be sent.
 
-ghost use Rattle.std.specs.Prelude.{◌≡◌, ◌≤◌, ◌<◌, ◌+◌, ◌^◌, length, IfOk, OnErr, Some};
+ghost use Rattle.std.specs.Prelude.{◌≡◌, ◌≤◌, ◌<◌, ◌+◌, ◌^◌, length, IfOk, OnOk, OnErr};
 ghost use Rattle.guestmem.specs.Item.{after_all};
 ghost use Rattle.guestmem.specs.Rises.{Rises, Touches};
 ghost use Rattle.guestmem.specs.Writes.{set_all, touched};
@@ -8,7 +8,7 @@ ghost use Rattle.chains.specs.Frame.{MayServe, HasServed, MayLook, HasLooked, Is
 ghost use Rattle.chains.specs.Places.{places, AreSegmentsInside};
 ghost use Rattle.chains.specs.Publish.{is_interrupt_due, after_take, after_publish};
 ghost use Rattle.chains.specs.Ring.{IsBounded};
-ghost use Rattle.chains.specs.Transmit.{message_of, handed_back, MayWantMemory};
+ghost use Rattle.chains.specs.Transmit.{message_of, handed_back, sending_in, MayWantMemory};
 ghost use Rattle.chains.specs.Transmitted.{IsTransmitted};
 
 use crate::chain::Chain;
@@ -16,7 +16,7 @@ use crate::copy::copy_out;
 use crate::looking::{Wanted, look};
 use crate::next_kind::NextKind;
 use crate::ring::Ring;
-use guestmem::{Bytes, NoMemory, Ram, TouchLog};
+use guestmem::{NoMemory, Ram, TouchLog};
 use std::alloc::Global;
 
 /// What the readable bytes of a chain are, for a device that sends them.
@@ -33,7 +33,7 @@ pub struct MessageForm {
 }
 
 /// How a step on a queue of transmit buffers went.
-#[derive(Debug, Drop)]
+#[derive(Clone, Copy, Debug, PartialEq, Eq)]
 pub enum Transmitted {
     /// The queue was empty, and the event note is written.
     Empty,
@@ -43,26 +43,25 @@ pub enum Transmitted {
 
     /// The chain was read, and published with no byte written into it.
     Sent {
-        /// The bytes to be sent.
-        bytes: Bytes,
-
         /// Whether an interrupt is due.
         is_due: bool,
     },
 }
 
-/// Reads the message of the next chain of a ring, and publishes the chain. Its only error is out of memory, for the
-/// chain or for the message, and then nothing has changed.
+/// Reads the message of the next chain of a ring into a buffer, and publishes the chain. The buffer is cut or grows to the message,
+/// and where nothing is sent it may hold anything. The only error is out of memory, for the chain or for a buffer that has to grow, and
+/// then RAM, ring and log are as they were.
 pub fn transmit<R: Ring, L: TouchLog>(
     alloc: Global,
     ring: &mut R,
     form: MessageForm,
+    message: &mut Vec<u8>,
     ram: &mut Ram,
     log: &mut L,
 ) -> Result<Transmitted, NoMemory>
     requires ready { MayLook L.may ram.old (R.state ring.old) (R.decoder ring.old) log.old }
     requires form { form.header ≤ form.least }
-    ensures transmitted { IfOk result (λ answer. IsTransmitted (Touches L.after log.old log.new ram.old ram.new) ram.old.bytes (R.state ring.old) form answer ram.new.bytes (R.state ring.new)) }
+    ensures transmitted { IfOk result (λ answer. IsTransmitted (Touches L.after log.old log.new ram.old ram.new) ram.old.bytes (R.state ring.old) form (sending_in answer message.new.items) ram.new.bytes (R.state ring.new)) }
     ensures memory { OnErr result (MayWantMemory ram.old.bytes (R.state ring.old) form) }
     ensures untouched { OnErr result (IsUntouched ram.old ram.new (R.state ring.old) (R.state ring.new) log.old log.new) }
     ensures after { HasLooked L.may ram.old ram.new (R.decoder ring.new) log.new }
@@ -72,40 +71,38 @@ pub fn transmit<R: Ring, L: TouchLog>(
         NextKind::Empty => Ok(Transmitted::Empty),
         NextKind::Malformed => Ok(Transmitted::Malformed),
         NextKind::Chain => {
-            let bytes = match read_message(alloc, form.header, &chain, ram) {
-                Ok(bytes) => bytes,
-                Err(error) => return Err(error),
-            };
-            Ok(send(ring, &chain, bytes, ram, log))
+            read_message(form.header, &chain, message, ram)?;
+            let is_due = hand_back(ring, &chain, ram, log);
+            Ok(Transmitted::Sent { is_due })
         }
         NextKind::NoMemory => Err(NoMemory),
     }
 }
 
 /// Reads the bytes after the header, with one copy.
-fn read_message(alloc: Global, header: u32, chain: &Chain, ram: &Ram) -> Result<Bytes, NoMemory>
+fn read_message(
+    header: u32,
+    chain: &Chain,
+    message: &mut Vec<u8>,
+    ram: &Ram,
+) -> Result<(), NoMemory>
     requires inside { AreSegmentsInside (length ram.now.bytes) chain.now.readable }
     requires header { header ≤ length (places chain.now.readable) }
     requires total { length (places chain.now.readable) < 2 ^ 32 }
-    ensures { IfOk result (λ bytes. bytes ≡ message_of ram.now.bytes header chain.now) }
+    ensures { OnOk result (message.new.items ≡ message_of ram.now.bytes header chain.now) }
 {
     let count = chain.readable.total_len() - header as u64;
-    let mut bytes = vec![in alloc; 0u8; count as usize]?;
-    copy_out(ram, chain.readable.as_slice(), header as u64, &mut bytes);
-    Ok(Bytes::from_vec(bytes))
+    message.resize(count as usize, 0)?;
+    let segs = chain.readable.as_slice();
+    copy_out(ram, segs, header as u64, message.as_mut_slice());
+    Ok(())
 }
 
-/// Publishes a chain whose message was read.
-fn send<R: Ring, L: TouchLog>(
-    ring: &mut R,
-    chain: &Chain,
-    bytes: Bytes,
-    ram: &mut Ram,
-    log: &mut L,
-) -> Transmitted
+/// Publishes a chain whose message was read. The result is whether an interrupt is due.
+fn hand_back<R: Ring, L: TouchLog>(ring: &mut R, chain: &Chain, ram: &mut Ram, log: &mut L) -> bool
     requires ready { MayServe L.may (length ram.old.bytes) (R.state ring.old) log.old }
     requires bounded { IsBounded (length ram.old.bytes) (R.state ring.old) chain.now }
-    ensures answer { result ≡ Transmitted.Sent bytes (is_interrupt_due (after_take (R.state ring.old) chain.now.slots) chain.now.slots ram.new.bytes) }
+    ensures due { result ≡ is_interrupt_due (after_take (R.state ring.old) chain.now.slots) chain.now.slots ram.new.bytes }
     ensures bytes { ram.new.bytes ≡ set_all ram.old.bytes (handed_back (R.state ring.old) chain.now) }
     ensures state { R.state ring.new ≡ after_publish (after_take (R.state ring.old) chain.now.slots) chain.now.slots }
     ensures log { log.new ≡ after_all L.after log.old (touched (handed_back (R.state ring.old) chain.now)) }
@@ -114,6 +111,5 @@ fn send<R: Ring, L: TouchLog>(
     ensures decoder { R.decoder ring.new ≡ R.decoder ring.old }
 {
     ring.take(chain);
-    let is_due = ring.publish(chain.id, chain.slots, 0, false, ram, log);
-    Transmitted::Sent { bytes, is_due }
+    ring.publish(chain.id, chain.slots, 0, false, ram, log)
 }

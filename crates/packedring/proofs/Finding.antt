@@ -1,6 +1,7 @@
 use Rattle.std.proofs.Common.{Bool, true, false, ◌≡◌, ℕ, suc, ◌+◌, ◌/◌, ◌%◌, ◌<◌, ◌≤◌, List, [], ◌∷◌, ◌++◌, length, refl, ap, sym, ◌∙◌, inl, inr, arith, length-append}
 use Rattle.std.proofs.lemmas.List.Elements.{All-push, All-nil}
 use Rattle.std.specs.Bool.{MatchBool}
+use Rattle.chains.specs.CaseLaws.{where_true}
 use Rattle.chains.specs.declared.descriptor.Descriptor.{Descriptor}
 use Rattle.chains.specs.declared.chain.Chain.{Chain}
 use Rattle.chains.specs.declared.limits.TheConstants.{SHORT_CHAIN_MAX}
@@ -194,11 +195,6 @@ none_sound ram q first is named broken c s =
     let n = named_chain ram q first is named c s in
     let sound : AreSound (length ram) s.all = record { inside = s.whole.inside; in_order = s.whole.in_order } in
     broken (rw n.entries at sound)
-
--- What is claimed of true is claimed of a test that is true.
-where_true : (b : Bool) (P Q : Type 0) → b ≡ true → P → MatchBool b P Q
-where_true true P Q is p = p
-where_true false P Q is p = absurd (cc)
 
 -- The entries of the table that the first slot names are the chain.
 pub table_made : (ram : List ℕ) (q : RingState) (first : Descriptor) (c : Chain) (gives : Walked) → first ≡ first_of ram q → first.is_indirect ≡ true → first.has_next ≡ false → q.has_indirect ≡ true → IsTable ram first

@@ -112,14 +112,8 @@ impl Ring for PackedRing {
 
     ghost decoder = { λ r. r.decoder };
 
-    fn next(&mut self, ram: &Ram) -> Result<Next, NoMemory> {
-        let mut chain = Chain::new(self.core.alloc);
-        match self.next_into(ram, &mut chain) {
-            NextKind::Empty => Ok(Next::Empty),
-            NextKind::Malformed => Ok(Next::Malformed),
-            NextKind::Chain => Ok(Next::Chain(chain)),
-            NextKind::NoMemory => Err(NoMemory),
-        }
+    fn alloc(&self) -> Global {
+        self.core.alloc
     }
 
     fn next_into(&mut self, ram: &Ram, chain: &mut Chain) -> NextKind {

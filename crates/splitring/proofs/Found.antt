@@ -1,8 +1,8 @@
 use Rattle.std.proofs.Common.{Bool, true, false, ◌≡◌, ℕ, ◌+◌, ◌/◌, ◌<◌, ◌≤◌, List, [], ◌∷◌, ◌++◌, length, refl, ap, sym, ◌∙◌, inl, inr, arith, length-append}
-use Rattle.std.specs.Bool.{MatchBool}
 use Rattle.std.proofs.lemmas.Bool.{MatchBool-at_true}
 use Rattle.std.proofs.lemmas.List.{same_from_push, get_or_at}
 use Rattle.std.proofs.lemmas.List.Elements.{All-push}
+use Rattle.chains.specs.CaseLaws.{where_true}
 use Rattle.chains.specs.declared.descriptor.Descriptor.{Descriptor}
 use Rattle.chains.specs.declared.chain.Chain.{Chain}
 use Rattle.chains.specs.declared.walked.Walked.{Walked}
@@ -96,11 +96,6 @@ found_end ram q first c Missing is g end = λ direct all linked r whole.
     let also : all ≡ list = replaced_same ram q.has_indirect list all list (rw same at r) (itself ram q.has_indirect g.front g.last g.plain g.last_plain) in
     too_large ram q.size list c g.held end (rw also at whole)
 found_end ram q first c NoMemory is g end = absurd end
-
--- What is claimed of true is claimed of a test that is true.
-where_true : (b : Bool) (P Q : Type 0) → b ≡ true → P → MatchBool b P Q
-where_true true P Q is p = p
-where_true false P Q is p = absurd (cc)
 
 -- What it gives to go on in a table is what a search gives.
 pub found_table : (ram : List ℕ) (q : RingState) (first : ℕ) (last : Descriptor) (c new : Chain) (gives : Walked) → first ≡ head ram q → (b : AreBeforeTable ram q.descriptors q.size first q.size [] last c)
