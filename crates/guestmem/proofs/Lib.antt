@@ -3,3 +3,4 @@ pub mod Later
 pub mod Raising
 pub mod ZeroLemmas
 pub mod Rising
+pub mod Filling

@@ -1,3 +1,4 @@
+pub mod Arriving
 pub mod ByteLaws
 pub mod Failures
 pub mod Item

@@ -28,6 +28,10 @@
 //!
 //! `is_zero` tells whether a page has zeros alone (`specs/Zeros`).
 //!
+//! An `ArrivingRam` is a RAM whose pages come one by one, as from a stream (`specs/Arriving`). It takes its memory when it is made, and
+//! writes a page only when that page comes or a later one does. It reads as zeros where none came, and `into_ram` makes it a `Ram`.
+//! Its versions stay 0: nobody can have read of it before.
+//!
 //! `Bytes` are bytes of any number that are handed on as one value: what was read, or what is to be written.
 //!
 //! A habit of these crates: a method `recall` changes nothing and returns nothing. Its contract is what every value of its type
@@ -35,6 +39,7 @@
 //! checker, and the lines after it rely on what it says.
 #![tactic(auto)]
 
+mod arriving;
 mod bytes;
 mod error;
 pub mod laws;
@@ -44,6 +49,7 @@ mod ram;
 mod touched;
 mod zero_page;
 
+pub use arriving::ArrivingRam;
 pub use bytes::Bytes;
 pub use error::RamError;
 pub use limits::{ACCESS_MAX, PAGE_SIZE, PAGES_MAX};

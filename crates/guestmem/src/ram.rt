@@ -55,6 +55,14 @@ impl Ram {
         Ok(Ram { bytes, versions })
     }
 
+    /// The RAM with these bytes and these versions of its pages.
+    pub(crate) fn from_parts(bytes: Vec<u8>, versions: Vec<u64>) -> Ram
+        requires { IsMemory (record { bytes = bytes.items; versions = versions.items }) }
+        ensures { result ≡ record { bytes = bytes.items; versions = versions.items } }
+    {
+        Ram { bytes, versions }
+    }
+
     /// States for proofs what holds of every RAM.
     pub fn recall(&self)
         ensures sound { IsMemory self.now }

@@ -1,4 +1,4 @@
-use Rattle.std.proofs.Common.{◌≡◌, length, take, arith}
+use Rattle.std.proofs.Common.{take, arith}
 use Rattle.std.proofs.lemmas.List.{length-take}
 use Rattle.guestmem.proofs.ZeroLemmas.{block_zeros}
 use Rattle.guestmem.proofs.zero_page.begins_with_zeros.Goals as goal

@@ -1,4 +1,4 @@
-use Rattle.std.proofs.Common.{◌≡◌, ℕ, ◌*◌, true, take, List, refl, sym, ap, ◌∙◌, arith, take_all}
+use Rattle.std.proofs.Common.{ℕ, ◌*◌, take, List, refl, sym, ap, ◌∙◌}
 use Rattle.guestmem.specs.Zeros.{are_zeros}
 use Rattle.guestmem.proofs.ZeroLemmas.{zeros_fail, zeros_more}
 use Rattle.guestmem.proofs.zero_page.is_zero.Goals as goal
