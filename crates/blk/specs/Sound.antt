@@ -1,11 +1,12 @@
 -- The invariants of outstanding requests.
-use Rattle.std.specs.Prelude.{◌≡◌, ℕ, ◌+◌, ◌*◌, ◌<◌, ◌≤◌, ◌^◌, List, length, All, Bool, true, false}
+use Rattle.std.specs.Prelude.{◌≡◌, ℕ, ◌+◌, ◌*◌, ◌<◌, ◌≤◌, ◌^◌, List, [], length, All, Bool, true, false}
 use Rattle.std.specs.Bool.{MatchBool}
 use Rattle.chains.specs.Places.{places, AreSegmentsInside}
 use Rattle.chains.specs.State.{RingState}
 use Rattle.blk.specs.Request.{is_good}
 use Rattle.blk.specs.declared.disk.TheConstants.{SECTOR_SIZE}
 use Rattle.blk.specs.declared.request.TheConstants.{HEADER_SIZE, SEGMENT_SIZE}
+use Rattle.blk.specs.declared.requests.TheConstants.{REQUESTS_MAX}
 use Rattle.blk.specs.declared.shape.TheConstants.{ID_SIZE, ZEROES_MAX}
 use Rattle.blk.specs.declared.request.Kind.{Kind}
 use Rattle.blk.specs.declared.request.Kind.TheVariants.{Refused, In, Out, Flush, GetId, Zero}
@@ -13,6 +14,7 @@ use Rattle.blk.specs.declared.request.Verdict.{Verdict}
 use Rattle.blk.specs.declared.request.Verdict.TheVariants.{Good, IoError, Unsupported}
 use Rattle.blk.specs.declared.request.Request.{Request}
 use Rattle.blk.specs.declared.shape.BlockShape.{BlockShape}
+use Rattle.mmio.specs.declared.queue.Queue.{Queue}
 
 -- The verdict so far fits the progress: it is good, with no more units done than there are; or an I/O error, with some left
 -- undone.
@@ -50,3 +52,10 @@ pub record IsSoundRequest (len : ℕ) (is_packed : Bool) (size : ℕ) (shape : B
 -- The requests that may be outstanding.
 abbrev pub AreSound : ℕ → RingState → BlockShape → List Request → Type 0
 AreSound len q shape requests = All (IsSoundRequest len q.is_packed q.size shape) requests
+
+-- Requests that a device of this shape with this queue can have outstanding: at most 8, each sound, and none unless its queue is
+-- ready.
+pub record AreRequestsOf (bytes : ℕ) (is_packed : Bool) (q : Queue) (shape : BlockShape) (requests : List Request) : Type 0 where
+  pub few : length requests ≤ REQUESTS_MAX
+  pub sound : All (IsSoundRequest bytes is_packed q.size shape) requests
+  pub where_ready : MatchBool q.is_ready (Unit {0}) (requests ≡ [])

@@ -58,7 +58,7 @@ pub use request::{
 pub use requests::{REQUESTS_MAX, Requests};
 pub use sectors::{Fetched, Sectors};
 pub use shape::{
-    BlockShape, CONFIGURATION_SIZE, DEVICE_ID, FLUSH, ID_SIZE, QUEUE_COUNT, RO, WRITE_ZEROES,
-    ZEROES_MAX, configuration, features,
+    BlockShape, CONFIGURATION_SIZE, DEVICE_ID, FLUSH, ID_SIZE, QUEUE_COUNT, RO, SECTORS_MAX,
+    WRITE_ZEROES, ZEROES_MAX, configuration, features, is_block_shape,
 };
 pub use taking::Taken;

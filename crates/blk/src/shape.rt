@@ -1,9 +1,11 @@
-//! What a block device is to its driver (VIRTIO 1.2, 5.2): its id, its queue, its features and its configuration space.
+//! What a block device is to its driver (VIRTIO 1.2, 5.2): its id, its queue, its features and its configuration space; and what one
+//! may be made as.
 
-ghost use Rattle.std.specs.Prelude.{◌≡◌};
-ghost use Rattle.blk.specs.Shape.{configuration_of, features_of};
+ghost use Rattle.std.specs.Prelude.{◌≡◌, ◌↔◌, IsTrue};
+ghost use Rattle.blk.specs.Shape.{IsBlockShape, configuration_of, features_of, with_features};
 
 use byteorder::{ByteOrder, LittleEndian};
+use guestmem::recall_bytes;
 
 /// The device ID of a block device (VIRTIO 1.2, 5.2.1).
 pub const DEVICE_ID: u32 = 2;
@@ -22,6 +24,9 @@ pub const WRITE_ZEROES: u64 = 1 << 14;
 
 /// The most sectors that one request may clear (VIRTIO 1.2, 5.2.4: max_write_zeroes_sectors).
 pub const ZEROES_MAX: u32 = 4096;
+
+/// The most sectors that a block device can have.
+pub const SECTORS_MAX: u64 = 2_097_152;
 
 /// Bytes in the configuration space (VIRTIO 1.2, 5.2.4).
 pub const CONFIGURATION_SIZE: usize = 57;
@@ -43,6 +48,28 @@ pub struct BlockShape {
 
     /// Whether the driver accepted WRITE_ZEROES (VIRTIO 1.2, 5.2.3), so that it may ask for ranges to be cleared.
     pub write_zeroes: bool,
+}
+
+impl BlockShape {
+    /// What a block device was made as whose driver accepted these features.
+    pub fn new(sectors: u64, read_only: bool, id: [u8; ID_SIZE], features: u64) -> BlockShape
+        ensures { result ≡ with_features sectors read_only id features }
+    {
+        BlockShape {
+            sectors,
+            read_only,
+            id,
+            write_zeroes: features & WRITE_ZEROES == WRITE_ZEROES,
+        }
+    }
+}
+
+/// Whether a block device may have `sectors` sectors and this id.
+pub fn is_block_shape(sectors: u64, id: &[u8; ID_SIZE]) -> bool
+    ensures { IsTrue result ↔ IsBlockShape sectors id.now }
+{
+    recall_bytes(id);
+    1 <= sectors && sectors <= SECTORS_MAX
 }
 
 /// The features that a block device offers, beside those that every device offers (VIRTIO 1.2, 5.2.3).

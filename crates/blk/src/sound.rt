@@ -4,15 +4,26 @@ ghost use Rattle.std.specs.Prelude.{◌≡◌, ◌≤◌, ◌<◌, ◌+◌, ◌^
 ghost use Rattle.std.specs.Bool.{MatchBool};
 ghost use Rattle.chains.specs.Places.{places, AreSegmentsInside};
 ghost use Rattle.blk.specs.Request.{is_good};
-ghost use Rattle.blk.specs.Sound.{IsSoundRequest, IsSoundWork, MayEnd};
+ghost use Rattle.blk.specs.Sound.{AreRequestsOf, IsSoundRequest, IsSoundWork, MayEnd};
 
 use crate::disk::SECTOR_SIZE;
 use crate::request::{HEADER_SIZE, Kind, Request, SEGMENT_SIZE, Verdict};
-use crate::requests::Requests;
+use crate::requests::{REQUESTS_MAX, Requests};
 use crate::shape::{BlockShape, ID_SIZE, ZEROES_MAX};
 use chains::Seg;
+use mmio::Queue;
 
 impl Requests {
+    /// Whether a device of this shape with this queue may have them outstanding, in a RAM of `ram_len` bytes: they are not too many,
+    /// each may be outstanding, and there are none unless the queue is ready.
+    pub fn are_of(&self, ram_len: u64, is_packed: bool, queue: &Queue, shape: &BlockShape) -> bool
+        ensures { IsTrue result ↔ AreRequestsOf ram_len is_packed queue.now shape.now self.now }
+    {
+        self.len() <= REQUESTS_MAX
+            && self.are_sound(ram_len, is_packed, queue.size, shape)
+            && (queue.is_ready || self.is_empty())
+    }
+
     /// Whether each of them may be outstanding (see `Request::is_sound`).
     pub fn are_sound(&self, ram_len: u64, is_packed: bool, size: u32, shape: &BlockShape) -> bool
         ensures { IsTrue result ↔ All (IsSoundRequest ram_len is_packed size shape.now) self.now }

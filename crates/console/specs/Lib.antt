@@ -2,3 +2,4 @@ pub mod Receive
 pub mod Transmit
 pub mod Size
 pub mod Emergency
+pub mod Shape

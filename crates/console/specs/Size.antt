@@ -4,7 +4,7 @@ use Rattle.guestmem.specs.ByteLaws.{little_bytes}
 use Rattle.mmio.specs.State.{Registers, with_common}
 use Rattle.mmio.specs.Interrupts.{configuration_changed}
 use Rattle.console.specs.declared.size.ConsoleSize.{ConsoleSize}
-use Rattle.console.specs.declared.features.TheConstants.{SIZE}
+use Rattle.console.specs.declared.shape.TheConstants.{SIZE}
 
 -- The configuration: columns and rows, two bytes each; and the greatest number of ports and the emergency register, four
 -- bytes each, which read 0.

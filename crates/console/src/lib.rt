@@ -14,15 +14,16 @@
 #![tactic(auto)]
 
 mod emergency;
-mod features;
+pub mod entropy;
 mod host_bytes;
 mod receiving;
+mod shape;
 mod size;
 mod transmitting;
 
 pub use emergency::{EMERGENCY, emergency_byte};
-pub use features::{EMERGENCY_WRITE, SIZE};
 pub use host_bytes::{HOST_BYTES_MAX, HostBytes};
 pub use receiving::{Received, receive};
+pub use shape::{DEVICE_ID, EMERGENCY_WRITE, FEATURES, QUEUE_COUNT, SIZE, recall_console};
 pub use size::{CONFIGURATION_SIZE, ConsoleSize};
 pub use transmitting::{TEXT_MAX, transmit};

@@ -1,6 +1,6 @@
 //! The size of a console.
 
-use crate::features::SIZE;
+use crate::shape::SIZE;
 use mmio::Regs;
 
 /// How many bytes the configuration of a console has.

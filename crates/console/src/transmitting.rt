@@ -3,7 +3,7 @@
 ghost use Rattle.std.specs.Prelude.{◌≡◌, ◌≤◌, length, IfOk, OnErr};
 ghost use Rattle.guestmem.specs.Rises.{Touches};
 ghost use Rattle.chains.specs.Frame.{MayLook, HasLooked, IsUntouched};
-ghost use Rattle.chains.specs.Transmit.{MayWantMemory};
+ghost use Rattle.chains.specs.Transmit.{MayWantMemory, sending_in};
 ghost use Rattle.chains.specs.Transmitted.{IsTransmitted};
 ghost use Rattle.console.specs.Transmit.{text_form};
 
@@ -26,14 +26,15 @@ const TEXT: MessageForm = MessageForm {
 pub fn transmit<R: Ring, L: TouchLog>(
     alloc: Global,
     ring: &mut R,
+    message: &mut Vec<u8>,
     ram: &mut Ram,
     log: &mut L,
 ) -> Result<Transmitted, NoMemory>
     requires ready { MayLook L.may ram.old (R.state ring.old) (R.decoder ring.old) log.old }
-    ensures transmitted { IfOk result (λ answer. IsTransmitted (Touches L.after log.old log.new ram.old ram.new) ram.old.bytes (R.state ring.old) text_form answer ram.new.bytes (R.state ring.new)) }
+    ensures transmitted { IfOk result (λ answer. IsTransmitted (Touches L.after log.old log.new ram.old ram.new) ram.old.bytes (R.state ring.old) text_form (sending_in answer message.new.items) ram.new.bytes (R.state ring.new)) }
     ensures memory { OnErr result (MayWantMemory ram.old.bytes (R.state ring.old) text_form) }
     ensures untouched { OnErr result (IsUntouched ram.old ram.new (R.state ring.old) (R.state ring.new) log.old log.new) }
     ensures after { HasLooked L.may ram.old ram.new (R.decoder ring.new) log.new }
 {
-    chains::transmit(alloc, ring, TEXT, ram, log)
+    chains::transmit(alloc, ring, TEXT, message, ram, log)
 }

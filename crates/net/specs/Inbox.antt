@@ -1,5 +1,5 @@
 -- Frames that the host queues for the guest.
-use Rattle.std.specs.Prelude.{ℕ, nat_lt, ◌≤◌, ◌&&◌, Bool, not, List, [], ◌∷◌, ◌++◌, length, if◌then◌else◌}
+use Rattle.std.specs.Prelude.{ℕ, nat_lt, ◌≤◌, ◌&&◌, Bool, not, List, [], ◌∷◌, ◌++◌, length, All, if◌then◌else◌}
 use Rattle.guestmem.specs.Number.{IsBytes}
 use Rattle.net.specs.declared.limits.TheConstants.{FRAME_MIN, FRAME_MAX, INBOX_MAX}
 
@@ -12,6 +12,11 @@ pub record IsFrame (bytes : List ℕ) : Type 0 where
 -- Whether a frame may have `len` bytes.
 abbrev pub is_frame_len : ℕ → Bool
 is_frame_len len = not (nat_lt len FRAME_MIN) && not (nat_lt FRAME_MAX len)
+
+-- Frames that wait in the inbox of a network device: at most 64.
+pub record AreFrames (frames : List (List ℕ)) : Type 0 where
+  pub few : length frames ≤ INBOX_MAX
+  pub are : All IsFrame frames
 
 -- How many bytes of a frame are accepted: all of them if there is room for one more frame, else none.
 abbrev pub kept_of : List (List ℕ) → List ℕ → ℕ

@@ -2,3 +2,4 @@ pub mod Inbox
 pub mod Header
 pub mod Receive
 pub mod Transmit
+pub mod Shape

@@ -16,18 +16,18 @@
 //! Nothing is trusted here beside `circular_buffer` and the crates below.
 #![tactic(auto)]
 
-mod features;
 mod frame;
 mod header;
 mod inbox;
 mod limits;
 mod receiving;
+mod shape;
 mod transmitting;
 
-pub use features::MAC;
 pub use frame::is_frame_len;
 pub use header::HEADER_SIZE;
 pub use inbox::Inbox;
 pub use limits::{FRAME_MAX, FRAME_MIN, INBOX_MAX};
 pub use receiving::{Received, receive};
+pub use shape::{DEVICE_ID, FEATURES, MAC, QUEUE_COUNT};
 pub use transmitting::transmit;
