@@ -3,20 +3,19 @@ use Rattle.std.proofs.Common.{◌≡◌, ℕ, ◌-◌, ◌<◌, List, [], length
 use Rattle.std.specs.Prelude.{slice_get}
 use Rattle.std.specs.Bool.{MatchBool}
 use borrow.Author.Tests.{ltb-true}
+use Rattle.blk.specs.Shape.{with_features}
+use Rattle.blk.specs.Sound.{AreRequestsOf}
 use Rattle.blk.specs.declared.request.Request.{Request}
 use Rattle.mmio.specs.State.{Registers, queue_at}
 use Rattle.mmio.specs.declared.queue.Queue.{Queue}
 use Rattle.chains.specs.State.{RingState, state_of}
 use Rattle.chains.specs.declared.position.Positions.{Positions}
 use Rattle.machine.specs.DeviceStep.{advances, advanced_by, advanced_at, requests_of}
-use Rattle.machine.specs.Sound.{IsSoundDevice, IsSoundOwn, AreRequestsOf}
+use Rattle.machine.specs.Sound.{IsSoundDevice, IsSoundKind}
 use Rattle.machine.specs.QueuePositions.{is_packed_by}
-use Rattle.machine.specs.Shapes.{block_of}
 use Rattle.machine.specs.State.{DeviceState}
-use Rattle.machine.specs.declared.own.Own.{Own}
-use Rattle.machine.specs.declared.own.Own.TheVariants.{Network, Block, Console, Entropy}
-use Rattle.machine.specs.declared.shape.Shape.{Shape}
-use Rattle.machine.specs.declared.shape.Shape.TheVariants as shapes
+use Rattle.machine.specs.declared.kind.Kind.{Kind}
+use Rattle.machine.specs.declared.kind.Kind.TheVariants.{Network, Block, Console, Entropy}
 use Rattle.machine.proofs.Looking.{left_of_and, right_of_and, same_some}
 
 -- A step of a sound device with this pick advances a request, which goes on on this ring: that of queue 0, which is ready.
@@ -26,7 +25,7 @@ pub record IsAdvancedAt (d : DeviceState) (pick : ℕ) (q : RingState) : Type 0 
   pub there : queue_at d.registers 0 ≡ Some queue
   pub placed : slice_get d.positions 0 ≡ Some positions
   pub some : 0 < pick
-  pub below : pick - 1 < length (requests_of d.own)
+  pub below : pick - 1 < length (requests_of d.kind)
   pub ready : queue.is_ready ≡ true
   pub is : q ≡ state_of queue d.registers.common.features positions
 
@@ -35,31 +34,19 @@ ready_by : (b : Bool) (requests : List Request) (k : ℕ) → MatchBool b (Unit 
 ready_by true requests k h below = refl
 ready_by false requests k h below = let none : length requests ≡ 0 = rw h refl in absurd (omega (arith, below, none))
 
-own_ready : (len : ℕ) (r : Registers) (shape : Shape) (own : Own) (queue : Queue) (k : ℕ) → queue_at r 0 ≡ Some queue → IsSoundOwn len r shape own → k < length (requests_of own) → queue.is_ready ≡ true
-own_ready len r (shapes.Net mac) (Network frames) queue k there sound below = absurd (omega (arith, below))
-own_ready len r (shapes.Block sectors read_only id) (Block requests) queue k there sound below =
-    let are : AreRequestsOf len (is_packed_by r.common) queue (block_of (shapes.Block sectors read_only id) r.common.features) requests = rw there at sound in
+kind_ready : (len : ℕ) (r : Registers) (kind : Kind) (queue : Queue) (k : ℕ) → queue_at r 0 ≡ Some queue → IsSoundKind len r kind → k < length (requests_of kind) → queue.is_ready ≡ true
+kind_ready len r (Network mac frames) queue k there sound below = absurd (omega (arith, below))
+kind_ready len r (Block sectors read_only id requests) queue k there sound below =
+    let are : AreRequestsOf len (is_packed_by r.common) queue (with_features sectors read_only id r.common.features) requests = rw there at sound in
     ready_by queue.is_ready requests k are.where_ready below
-own_ready len r shapes.Console (Console size held) queue k there sound below = absurd (omega (arith, below))
-own_ready len r shapes.Entropy (Entropy pool) queue k there sound below = absurd (omega (arith, below))
-own_ready len r (shapes.Net mac) (Block requests) queue k there sound below = absurd sound
-own_ready len r (shapes.Net mac) (Console size held) queue k there sound below = absurd sound
-own_ready len r (shapes.Net mac) (Entropy pool) queue k there sound below = absurd sound
-own_ready len r (shapes.Block sectors read_only id) (Network frames) queue k there sound below = absurd sound
-own_ready len r (shapes.Block sectors read_only id) (Console size held) queue k there sound below = absurd sound
-own_ready len r (shapes.Block sectors read_only id) (Entropy pool) queue k there sound below = absurd sound
-own_ready len r shapes.Console (Network frames) queue k there sound below = absurd sound
-own_ready len r shapes.Console (Block requests) queue k there sound below = absurd sound
-own_ready len r shapes.Console (Entropy pool) queue k there sound below = absurd sound
-own_ready len r shapes.Entropy (Network frames) queue k there sound below = absurd sound
-own_ready len r shapes.Entropy (Block requests) queue k there sound below = absurd sound
-own_ready len r shapes.Entropy (Console size held) queue k there sound below = absurd sound
+kind_ready len r (Console size held) queue k there sound below = absurd (omega (arith, below))
+kind_ready len r (Entropy pool) queue k there sound below = absurd (omega (arith, below))
 
 advance_if : (len : ℕ) (d : DeviceState) (pick : ℕ) (queue : Queue) (p : Positions) (q : RingState) (b : Bool) → IsSoundDevice len d → advances d pick ≡ b → queue_at d.registers 0 ≡ Some queue → slice_get d.positions 0 ≡ Some p
     → cond b (Some (state_of queue d.registers.common.features p)) None ≡ Some q → IsAdvancedAt d pick q
 advance_if len d pick queue p q true sound all there placed is =
     let two = left_of_and _ _ all in
-    let below = ltb-true (pick - 1) (length (requests_of d.own)) (right_of_and _ _ all) in
+    let below = ltb-true (pick - 1) (length (requests_of d.kind)) (right_of_and _ _ all) in
     record {
       queue = queue;
       positions = p;
@@ -67,7 +54,7 @@ advance_if len d pick queue p q true sound all there placed is =
       placed = placed;
       some = ltb-true 0 pick (right_of_and _ _ two);
       below = below;
-      ready = own_ready len d.registers d.shape d.own queue (pick - 1) there sound.own below;
+      ready = kind_ready len d.registers d.kind queue (pick - 1) there sound.kind below;
       is = sym (same_some (state_of queue d.registers.common.features p) q is);
     }
 advance_if len d pick queue p q false sound all there placed is = cc

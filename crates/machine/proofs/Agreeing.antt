@@ -26,7 +26,7 @@ look_same want d ram content pick (Some q) no_memory x y h k = refl
 device_same : (number : ℕ) (d : Option DeviceState) (ram : List ℕ) (content : List Sector) (pick : ℕ) (o : Outcome) (x y : Next) → MaySeeAt d ram pick o x → MaySeeAt d ram pick o y → step_device number d ram content pick o x ≡ step_device number d ram content pick o y
 unfolding device_step
 device_same number None ram content pick o x y h k = refl
-device_same number (Some d) ram content pick o x y h k = rw (look_same (wanted_of d.own pick) d ram content pick (looked_at d pick) o x y h k) refl
+device_same number (Some d) ram content pick o x y h k = rw (look_same (wanted_of d.kind pick) d ram content pick (looked_at d pick) o x y h k) refl
 
 answers_same : (m : MachineState) (e : Event) (o : Outcome) (x y : Next) → MaySee m e o x → MaySee m e o y → answer m e o x ≡ answer m e o y
 answers_same m (RegRead dev off width) o x y h k = refl

@@ -19,7 +19,7 @@ use Rattle.machine.specs.DeviceStep.{DeviceAnswer, advance_at, advance_on, advan
 use Rattle.machine.specs.Effect.{sets_on}
 use Rattle.machine.specs.Outcome.{Outcome, disk_does, outcome_of}
 use Rattle.machine.specs.Seen.{all_marks, marks_at, state_of}
-use Rattle.machine.specs.Shapes.{block_of}
+use Rattle.machine.specs.Shapes.{block_of, made_as}
 use Rattle.machine.specs.State.{DeviceState}
 use Rattle.machine.specs.Step.{Answer, answer, disk_of, disk_or_none, step_device}
 use Rattle.machine.specs.declared.event.Event.TheVariants.{RegRead, RegWrite, MemRead, MemWrite, Step, Input, Resize}
@@ -129,7 +129,7 @@ one_answer a = record { reply = refl; writes = refl; sets = refl; device = refl 
 
 like_advances : (d : DeviceState) (ram : List ℕ) (x y : List Sector) (pick : ℕ) (q : RingState) (o : Outcome) → HaveSameMarks x y → AreLikeAnswers (advance_on d ram x pick q o) (advance_on d ram y pick q o)
 like_advances d ram x y pick q o h =
-    let s = like_one (block_of d.shape d.registers.common.features) ram q x y (requests_of d.own) (pick - 1) (disk_does o) (slice_get (requests_of d.own) (pick - 1)) h in
+    let s = like_one (block_of (made_as d.kind) d.registers.common.features) ram q x y (requests_of d.kind) (pick - 1) (disk_does o) (slice_get (requests_of d.kind) (pick - 1)) h in
     record { reply = rw (s.answer) refl; writes = s.writes; sets = s.sets; device = rw (s.answer, s.ring, s.requests) refl }
 
 like_at_ring : (d : DeviceState) (ram : List ℕ) (x y : List Sector) (pick : ℕ) (ring : Option RingState) (o : Outcome) → HaveSameMarks x y → AreLikeAnswers (advance_at d ram x pick ring o) (advance_at d ram y pick ring o)

@@ -32,16 +32,17 @@ use Rattle.machine.specs.EffectLaws.{HasItem, IsSameShape}
 use Rattle.machine.specs.Held.{IsHeld}
 use Rattle.machine.specs.Outcome.{Outcome, is_failure, outcome_of}
 use Rattle.machine.specs.Seen.{DeviceSeen, Marks, Seen, state_of, all_marks, failed_at, failed_if, marks_at}
+use Rattle.machine.specs.Shapes.{made_as}
 use Rattle.machine.specs.Sound.{IsSound, IsSoundDevice}
 use Rattle.machine.specs.State.{DeviceState, MachineState}
-use Rattle.machine.specs.Step.{HasEffect, IsStep, IsTouchingStep, IsResized, ResizesDevice, disk_of, disk_or_none, input_of, out_reply, own_with_input, ram_refusal, refused, size_by, written_out, register_set, with_input}
+use Rattle.machine.specs.Step.{HasEffect, IsStep, IsTouchingStep, IsResized, ResizesDevice, disk_of, disk_or_none, input_of, out_reply, kind_with_input, ram_refusal, refused, size_by, written_out, register_set, with_input}
 use Rattle.machine.specs.StepLaws.{Fits}
 use Rattle.machine.specs.declared.event.Event.{Event}
 use Rattle.machine.specs.declared.event.Event.TheVariants.{RegRead, RegWrite, MemRead, MemWrite, Step, Input, Resize}
 use Rattle.machine.specs.declared.reply.Refusal.{Refusal}
 use Rattle.machine.specs.declared.reply.Refusal.TheVariants.{NoDevice, WrongKind, BadFrame}
-use Rattle.machine.specs.declared.own.Own.{Own}
-use Rattle.machine.specs.declared.own.Own.TheVariants.{Network, Block, Console, Entropy}
+use Rattle.machine.specs.declared.kind.Kind.{Kind}
+use Rattle.machine.specs.declared.kind.Kind.TheVariants.{Network, Block, Console, Entropy}
 use Rattle.machine.specs.declared.reply.Reply.{Reply}
 use Rattle.machine.specs.declared.reply.Reply.TheVariants.{Done, Refused}
 use Rattle.machine.specs.declared.shape.Shape.{Shape}
@@ -83,7 +84,7 @@ changed_at m new_m ds dev d new ws at same bytes =
 
 -- Its device took a write to a register.
 pub register_step : (m : Memory) (ds : List DeviceSeen) (dev offset width value : ℕ) (d new : DeviceSeen) → IsAt ds dev d → new ≡ record d { state = register_set d.state offset width value }
-    → IsStep (state_of (record { memory = m; devices = ds })) (RegWrite dev offset width value) (outcome_of (out_reply (written_out d.state.own offset width value))) (out_reply (written_out d.state.own offset width value)) (state_of (record { memory = m; devices = set ds dev new }))
+    → IsStep (state_of (record { memory = m; devices = ds })) (RegWrite dev offset width value) (outcome_of (out_reply (written_out d.state.kind offset width value))) (out_reply (written_out d.state.kind offset width value)) (state_of (record { memory = m; devices = set ds dev new }))
 register_step m ds dev offset width value d new at is = record {
   effect = changing dev [] new.state;
   has = record { seen = Empty; may_see = tt; reply_is = rw (found ds dev d at) refl; effect_is = rw (found ds dev d at, is) refl; outcome_is = refl };
@@ -91,51 +92,51 @@ register_step m ds dev offset width value d new at is = record {
 }
 
 -- Its device took another size, or none.
-size_refused : (m : Memory) (ds : List DeviceSeen) (dev cols rows : ℕ) (d new : DeviceSeen) (own : Own) (result : Result (Unit {0}) Refusal) → d.state.own ≡ own → IsAt ds dev d → new ≡ record d { state = new.state }
-    → new.state ≡ record d.state { registers = new.state.registers; own = new.state.own } → result ≡ Err WrongKind → new.state.own ≡ own → new.state.registers ≡ d.state.registers → size_by dev d.state own (record { columns = cols; rows = rows }) ≡ refused WrongKind
+size_refused : (m : Memory) (ds : List DeviceSeen) (dev cols rows : ℕ) (d new : DeviceSeen) (kind : Kind) (result : Result (Unit {0}) Refusal) → d.state.kind ≡ kind → IsAt ds dev d → new ≡ record d { state = new.state }
+    → new.state ≡ record d.state { registers = new.state.registers; kind = new.state.kind } → result ≡ Err WrongKind → new.state.kind ≡ kind → new.state.registers ≡ d.state.registers → size_by dev d.state kind (record { columns = cols; rows = rows }) ≡ refused WrongKind
     → IsStep (state_of (record { memory = m; devices = ds })) (Resize dev cols rows) (outcome_of (done_reply result)) (done_reply result) (state_of (record { memory = m; devices = set ds dev new }))
-size_refused m ds dev cols rows d new own result own_is at same state_is refused_is own_stays registers_stay none =
-    let state : new.state ≡ d.state = state_is ∙ rw (own_stays ∙ sym own_is, registers_stay) refl in
+size_refused m ds dev cols rows d new kind result kind_is at same state_is refused_is kind_stays registers_stay none =
+    let state : new.state ≡ d.state = state_is ∙ rw (kind_stays ∙ sym kind_is, registers_stay) refl in
     let device : new ≡ d = same ∙ ap (λ s. record d { state = s }) state in
     let all : set ds dev new ≡ ds = rw device (set_found ds dev d at) in
     rw refused_is (record {
       effect = no_effect;
-      has = record { seen = Empty; may_see = tt; reply_is = rw (found ds dev d at, own_is, none) refl; effect_is = rw (found ds dev d at, own_is, none) refl; outcome_is = refl };
+      has = record { seen = Empty; may_see = tt; reply_is = rw (found ds dev d at, kind_is, none) refl; effect_is = rw (found ds dev d at, kind_is, none) refl; outcome_is = refl };
       changed = rw all refl;
     })
 
-size_answer : (m : Memory) (ds : List DeviceSeen) (dev cols rows : ℕ) (d new : DeviceSeen) (own : Own) (result : Result (Unit {0}) Refusal) → d.state.own ≡ own → IsAt ds dev d → new ≡ record d { state = new.state }
-    → new.state ≡ record d.state { registers = new.state.registers; own = new.state.own } → IsResized own (record { columns = cols; rows = rows }) d.state.registers result new.state.own new.state.registers
+size_answer : (m : Memory) (ds : List DeviceSeen) (dev cols rows : ℕ) (d new : DeviceSeen) (kind : Kind) (result : Result (Unit {0}) Refusal) → d.state.kind ≡ kind → IsAt ds dev d → new ≡ record d { state = new.state }
+    → new.state ≡ record d.state { registers = new.state.registers; kind = new.state.kind } → IsResized kind (record { columns = cols; rows = rows }) d.state.registers result new.state.kind new.state.registers
     → IsStep (state_of (record { memory = m; devices = ds })) (Resize dev cols rows) (outcome_of (done_reply result)) (done_reply result) (state_of (record { memory = m; devices = set ds dev new }))
-size_answer m ds dev cols rows d new (Console old held) result own_is at same state_is h =
+size_answer m ds dev cols rows d new (Console old held) result kind_is at same state_is h =
     let size : ConsoleSize = record { columns = cols; rows = rows } in
-    let state : new.state ≡ record d.state { registers = resized old size d.state.registers; own = Console size held } = state_is ∙ rw (h.1, h.2) refl in
+    let state : new.state ≡ record d.state { registers = resized old size d.state.registers; kind = Console size held } = state_is ∙ rw (h.1, h.2) refl in
     rw h.0 (record {
       effect = changing dev [] new.state;
-      has = record { seen = Empty; may_see = tt; reply_is = rw (found ds dev d at, own_is) refl; effect_is = rw (found ds dev d at, own_is, state) refl; outcome_is = refl };
+      has = record { seen = Empty; may_see = tt; reply_is = rw (found ds dev d at, kind_is) refl; effect_is = rw (found ds dev d at, kind_is, state) refl; outcome_is = refl };
       changed = changed_at m m ds dev d new [] at (ap (λ (x : DeviceSeen). x.sectors) same) refl;
     })
-size_answer m ds dev cols rows d new (Network frames) result own_is at same state_is h = size_refused m ds dev cols rows d new (Network frames) result own_is at same state_is h.0 h.1 h.2 refl
-size_answer m ds dev cols rows d new (Block requests) result own_is at same state_is h = size_refused m ds dev cols rows d new (Block requests) result own_is at same state_is h.0 h.1 h.2 refl
-size_answer m ds dev cols rows d new (Entropy pool) result own_is at same state_is h = size_refused m ds dev cols rows d new (Entropy pool) result own_is at same state_is h.0 h.1 h.2 refl
+size_answer m ds dev cols rows d new (Network mac frames) result kind_is at same state_is h = size_refused m ds dev cols rows d new (Network mac frames) result kind_is at same state_is h.0 h.1 h.2 refl
+size_answer m ds dev cols rows d new (Block sectors read_only id requests) result kind_is at same state_is h = size_refused m ds dev cols rows d new (Block sectors read_only id requests) result kind_is at same state_is h.0 h.1 h.2 refl
+size_answer m ds dev cols rows d new (Entropy pool) result kind_is at same state_is h = size_refused m ds dev cols rows d new (Entropy pool) result kind_is at same state_is h.0 h.1 h.2 refl
 
 pub size_step : (m : Memory) (ds : List DeviceSeen) (dev cols rows : ℕ) (d new : DeviceSeen) (result : Result (Unit {0}) Refusal) → IsAt ds dev d → new ≡ record d { state = new.state }
     → ResizesDevice d.state (record { columns = cols; rows = rows }) result new.state
     → IsStep (state_of (record { memory = m; devices = ds })) (Resize dev cols rows) (outcome_of (done_reply result)) (done_reply result) (state_of (record { memory = m; devices = set ds dev new }))
-size_step m ds dev cols rows d new result at same h = size_answer m ds dev cols rows d new d.state.own result refl at same h.0 h.1
+size_step m ds dev cols rows d new result at same h = size_answer m ds dev cols rows d new d.state.kind result refl at same h.0 h.1
 
 -- Its device kept bytes of the host, or took none.
-same_frames : (frames : List (List ℕ)) (bytes : List ℕ) (good : Bool) (refusal : Refusal) → cond good (Ok (kept_of frames bytes)) (Err BadFrame) ≡ Err refusal → cond good (Network (frames_with frames bytes)) (Network frames) ≡ Network frames
-same_frames frames bytes true refusal h = cc
-same_frames frames bytes false refusal h = refl
+same_frames : (mac : List ℕ) (frames : List (List ℕ)) (bytes : List ℕ) (good : Bool) (refusal : Refusal) → cond good (Ok (kept_of frames bytes)) (Err BadFrame) ≡ Err refusal → cond good (Network mac (frames_with frames bytes)) (Network mac frames) ≡ Network mac frames
+same_frames mac frames bytes true refusal h = cc
+same_frames mac frames bytes false refusal h = refl
 
-same_own : (own : Own) (bytes : List ℕ) (refusal : Refusal) → input_of own bytes ≡ Err refusal → own_with_input own bytes ≡ own
-same_own (Network frames) bytes refusal h = same_frames frames bytes (is_frame_len (length bytes)) refusal h
-same_own (Block requests) bytes refusal h = refl
-same_own (Console size held) bytes refusal h = cc
-same_own (Entropy pool) bytes refusal h = cc
+same_kind : (kind : Kind) (bytes : List ℕ) (refusal : Refusal) → input_of kind bytes ≡ Err refusal → kind_with_input kind bytes ≡ kind
+same_kind (Network mac frames) bytes refusal h = same_frames mac frames bytes (is_frame_len (length bytes)) refusal h
+same_kind (Block sectors read_only id requests) bytes refusal h = refl
+same_kind (Console size held) bytes refusal h = cc
+same_kind (Entropy pool) bytes refusal h = cc
 
-pub input_step : (m : Memory) (ds : List DeviceSeen) (dev : ℕ) (bytes : List ℕ) (d new : DeviceSeen) (answer : Result ℕ Refusal) → input_of d.state.own bytes ≡ answer → IsAt ds dev d → new ≡ record d { state = with_input d.state bytes }
+pub input_step : (m : Memory) (ds : List DeviceSeen) (dev : ℕ) (bytes : List ℕ) (d new : DeviceSeen) (answer : Result ℕ Refusal) → input_of d.state.kind bytes ≡ answer → IsAt ds dev d → new ≡ record d { state = with_input d.state bytes }
     → IsStep (state_of (record { memory = m; devices = ds })) (Input dev bytes) (outcome_of (accepted_reply answer)) (accepted_reply answer) (state_of (record { memory = m; devices = set ds dev new }))
 input_step m ds dev bytes d new (Ok count) kept at is = record {
   effect = changing dev [] new.state;
@@ -143,7 +144,7 @@ input_step m ds dev bytes d new (Ok count) kept at is = record {
   changed = changed_at m m ds dev d new [] at (ap (λ (x : DeviceSeen). x.sectors) is) refl;
 }
 input_step m ds dev bytes d new (Err refusal) kept at is =
-    let same : new ≡ d = is ∙ ap (λ own. record d { state = record d.state { own = own } }) (same_own d.state.own bytes refusal kept) in
+    let same : new ≡ d = is ∙ ap (λ kind. record d { state = record d.state { kind = kind } }) (same_kind d.state.kind bytes refusal kept) in
     let none : set ds dev new ≡ ds = rw same (set_found ds dev d at) in
     record {
       effect = no_effect;
@@ -231,15 +232,15 @@ missing_step touches m ds dev pick h untouched = record {
 pub sound_device : (m : Memory) (ds : List DeviceSeen) (dev : ℕ) (d : DeviceSeen) → IsAt ds dev d → IsSound (state_of (record { memory = m; devices = ds })) → IsSoundDevice (length m.bytes) d.state
 sound_device m ds dev d at sound = sound_at (state_of (record { memory = m; devices = ds })) dev d.state (found ds dev d at) sound
 
-pub shapes_seen : (ds : List DeviceSeen) → map (λ (x : DeviceSeen). x.state.shape) ds ≡ map (λ (d : DeviceState). d.shape) (map (λ (x : DeviceSeen). x.state) ds)
+pub shapes_seen : (ds : List DeviceSeen) → map (λ (x : DeviceSeen). made_as x.state.kind) ds ≡ map (λ (d : DeviceState). made_as d.kind) (map (λ (x : DeviceSeen). x.state) ds)
 shapes_seen [] = refl
-shapes_seen (x ∷ ds) = ap (λ xs. x.state.shape ∷ xs) (shapes_seen ds)
+shapes_seen (x ∷ ds) = ap (λ xs. (made_as x.state.kind) ∷ xs) (shapes_seen ds)
 
 -- A machine that is held is held after a step.
 pub held_step : (shapes : List Shape) (old new : Seen) (e : Event) (o : Outcome) (reply : Reply) → IsHeld shapes old → Fits e → IsStep (state_of old) e o reply (state_of new) → IsHeld shapes new
 held_step shapes old new e o reply held fits h =
     let same = step_shape (state_of old) e o reply h.effect h.has in
-    let devices : map (λ (d : DeviceState). d.shape) (state_of new).devices ≡ map (λ (d : DeviceState). d.shape) (state_of old).devices = ap (λ (k : MachineState). map (λ (d : DeviceState). d.shape) k.devices) h.changed ∙ same.devices in
+    let devices : map (λ (d : DeviceState). made_as d.kind) (state_of new).devices ≡ map (λ (d : DeviceState). made_as d.kind) (state_of old).devices = ap (λ (k : MachineState). map (λ (d : DeviceState). made_as d.kind) k.devices) h.changed ∙ same.devices in
     record {
       sound = rw h.changed (step_sound (state_of old) e o reply h.effect held.sound fits h.has);
       shapes_are = held.shapes_are ∙ shapes_seen old.devices ∙ sym devices ∙ sym (shapes_seen new.devices);
@@ -331,13 +332,13 @@ pub has_disk : (m : Memory) (ds : List DeviceSeen) (dev : ℕ) (d : DeviceSeen) 
 has_disk m ds dev d at sound = rw (found_disk ds dev d at) at (has_sectors (state_of (record { memory = m; devices = ds })) dev d.state (found ds dev d at) sound)
 
 worked_shape : (touches : List Item → Type 0) (m new_m : Memory) (dev pick : ℕ) (d new : DeviceSeen) (reply : Reply)
-    → IsDeviceStep touches dev d.marks.honest m.bytes d.sectors d.state pick reply new_m.bytes new.sectors new.state → new.state.shape ≡ d.state.shape
+    → IsDeviceStep touches dev d.marks.honest m.bytes d.sectors d.state pick reply new_m.bytes new.sectors new.state → (made_as new.state.kind) ≡ (made_as d.state.kind)
 unfolding device_step
-worked_shape touches m new_m dev pick d new reply h = ap (λ (x : DeviceState). x.shape) h.device_is ∙ shape_at d.state m.bytes h.given pick (looked_at d.state pick) (outcome_of reply) h.seen
+worked_shape touches m new_m dev pick d new reply h = ap (λ (x : DeviceState). made_as x.kind) h.device_is ∙ shape_at d.state m.bytes h.given pick (looked_at d.state pick) (outcome_of reply) h.seen
 
 seen_shapes : (touches : List Item → Type 0) (m new_m : Memory) (ds : List DeviceSeen) (dev pick : ℕ) (d new : DeviceSeen) (reply : Reply) → IsAt ds dev d
-    → IsDeviceStep touches dev d.marks.honest m.bytes d.sectors d.state pick reply new_m.bytes new.sectors new.state → map (λ (x : DeviceSeen). x.state.shape) (set ds dev new) ≡ map (λ (x : DeviceSeen). x.state.shape) ds
-seen_shapes touches m new_m ds dev pick d new reply at h = map-set_same (λ (x : DeviceSeen). x.state.shape) ds dev d new at (worked_shape touches m new_m dev pick d new reply h)
+    → IsDeviceStep touches dev d.marks.honest m.bytes d.sectors d.state pick reply new_m.bytes new.sectors new.state → map (λ (x : DeviceSeen). made_as x.state.kind) (set ds dev new) ≡ map (λ (x : DeviceSeen). made_as x.state.kind) ds
+seen_shapes touches m new_m ds dev pick d new reply at h = map-set_same (λ (x : DeviceSeen). made_as x.state.kind) ds dev d new at (worked_shape touches m new_m dev pick d new reply h)
 
 same_worked : (touches : List Item → Type 0) (m new_m : Memory) (ds : List DeviceSeen) (dev pick : ℕ) (d new : DeviceSeen) (reply : Reply) → IsAt ds dev d
     → IsDeviceStep touches dev d.marks.honest m.bytes d.sectors d.state pick reply new_m.bytes new.sectors new.state

@@ -9,90 +9,69 @@ use Rattle.blk.specs.Advance.{advance_step}
 use Rattle.blk.specs.Sectors.{Sector}
 use Rattle.blk.specs.declared.advancing.Advanced.{Advanced}
 use Rattle.blk.specs.declared.advancing.Advanced.TheVariants as advanced
-use Rattle.blk.specs.declared.shape.BlockShape.{BlockShape}
 use Rattle.chains.specs.declared.chain.Chain.{Chain}
 use Rattle.chains.specs.declared.next.Next.{Next}
 use Rattle.chains.specs.declared.next.Next.TheVariants as next
 use Rattle.chains.specs.State.{RingState}
 use Rattle.chains.specs.Places.{places}
-use Rattle.chains.specs.declared.transmitting.MessageForm.{MessageForm}
-use Rattle.console.specs.Transmit.{text_form}
 use Rattle.console.specs.declared.size.ConsoleSize.{ConsoleSize}
 use Rattle.net.specs.Receive as net
-use Rattle.net.specs.Transmit.{frame_form}
 use Rattle.net.specs.declared.header.TheConstants.{HEADER_SIZE}
 use Rattle.console.specs.Receive.{give}
-use Rattle.machine.specs.DeviceStep.{advance_at, advanced_at, device_step, looked_at, MayLook, wanted_of, requests_of, reply_to_advance, step_at, serve, Service, served_frame, take_message, reply_of, registers_after}
+use Rattle.machine.specs.DeviceStep.{advance_at, advanced_at, device_step, looked_at, MayLook, wanted_of, requests_of, reply_to_advance, step_at, serve, served_frame, registers_after}
 use Rattle.machine.specs.Effect.{Effect, applied, sets_on}
 use Rattle.machine.specs.Looked.{IsLookedAt, LooksAtMalformed}
 use Rattle.machine.specs.Outcome.{Outcome, fine, disk_failed, no_memory, disk_does}
-use Rattle.machine.specs.Shapes.{block_of}
+use Rattle.machine.specs.Shapes.{block_of, made_as}
 use Rattle.machine.specs.State.{MachineState, DeviceState}
 use Rattle.machine.specs.Step.{answer, disk_of, input_of, MaySeeAt, HasEffect, out_reply, put_by, set_size, size_by, written_out, read_register, write_register, read_ram, write_ram, put_in, step_device}
 use Rattle.machine.specs.StepLaws.{IsContained, MalformedIsContained, MalformedAsksForReset, IsRefusal, RefusalsChangeNothing}
 use Rattle.machine.specs.declared.event.Event.{Event}
 use Rattle.machine.specs.declared.event.Event.TheVariants.{RegRead, RegWrite, MemRead, MemWrite, Step, Input, Resize}
-use Rattle.machine.specs.declared.own.Own.{Own}
-use Rattle.machine.specs.declared.own.Own.TheVariants.{Network, Block, Console, Entropy}
+use Rattle.machine.specs.declared.kind.Kind.{Kind}
+use Rattle.machine.specs.declared.kind.Kind.TheVariants.{Network, Block, Console, Entropy}
 use Rattle.machine.specs.declared.reply.Refusal.{Refusal}
 use Rattle.machine.specs.declared.reply.Reply.TheVariants.{NeedsReset}
-use Rattle.machine.specs.declared.served.Served.{Served}
-use Rattle.machine.specs.declared.served.Served.TheVariants as served
+use Rattle.machine.specs.Served as served
 use Rattle.machine.proofs.Agreeing.{effects_same}
+use Rattle.machine.proofs.Answering.{answered}
 use Rattle.machine.proofs.Looking.{looked_is, is_looked, left_of_and}
 
 -- A device that asked for a reset.
-asked : (r : Registers) (s : Served) → s ≡ served.Malformed → has r.common.status 4 ≡ true → (pick : ℕ)
-    → registers_after r pick s ≡ with_common r (record r.common { status = bit_or r.common.status 64; interrupts = bit_or r.common.interrupts 2 })
-asked r s is drives pick = rw (is, drives) refl
+asked : (r : Registers) → has r.common.status 4 ≡ true → (pick : ℕ) → registers_after r pick served.Malformed ≡ with_common r (record r.common { status = bit_or r.common.status 64; interrupts = bit_or r.common.interrupts 2 })
+asked r drives pick = rw drives refl
 
--- A chain that is refused stays, with all else of its ring.
-record IsRefused (s : Service) (q : RingState) (own : Own) : Type 0 where
-  writes : s.writes ≡ []
-  ring : s.ring ≡ q
-  own_is : s.own ≡ own
+-- A queue that is malformed stays, with all else of its ring.
+served_malformed : (features : ℕ) (kind : Kind) (number : ℕ) (ram : List ℕ) (q : RingState) → serve features kind number ram q next.Malformed ≡ record { served = served.Malformed; writes = []; ring = q; kind = kind }
+served_malformed features (Network mac frames) zero ram q = refl
+served_malformed features (Network mac frames) (suc number) ram q = refl
+served_malformed features (Block sectors read_only id requests) number ram q = refl
+served_malformed features (Console size held) zero ram q = refl
+served_malformed features (Console size held) (suc number) ram q = refl
+served_malformed features (Entropy pool) number ram q = refl
 
--- A queue is served as malformed exactly if the device sees it so.
-record IsServedSo (own : Own) (seen : Next) (s : Service) (q : RingState) : Type 0 where
-  refused : s.served ≡ served.Malformed → IsRefused s q own
-  there : s.served ≡ served.Malformed → seen ≡ next.Malformed
-  back : seen ≡ next.Malformed → s.served ≡ served.Malformed
-  other : reply_of s.served ≡ NeedsReset → s.served ≡ served.Malformed
-
--- A frame that is dropped or given is no call for a reset.
-first_by : (ram : List ℕ) (q : RingState) (frame : List ℕ) (rest : List (List ℕ)) (c : Chain) (short : Bool)
-    → IsServedSo (Network (frame ∷ rest)) (next.Chain c) (record {
-      served = served_frame (cond short (net.drop_frame q rest) (net.give ram q frame rest c)).answer;
-      writes = (cond short (net.drop_frame q rest) (net.give ram q frame rest c)).writes;
-      ring = (cond short (net.drop_frame q rest) (net.give ram q frame rest c)).ring;
-      own = Network (cond short (net.drop_frame q rest) (net.give ram q frame rest c)).left;
-    }) q
+-- A queue is served as malformed only if the device sees it so.
+frame_so : (ram : List ℕ) (q : RingState) (frame : List ℕ) (rest : List (List ℕ)) (c : Chain) (short : Bool) → served_frame (cond short (net.drop_frame q rest) (net.give ram q frame rest c)).answer ≡ served.Malformed → ⊥
 unfolding net.give
-first_by ram q frame rest c true = record { refused = λ h. cc; there = λ h. cc; back = λ h. cc; other = λ h. cc }
-first_by ram q frame rest c false = record { refused = λ h. cc; there = λ h. cc; back = λ h. cc; other = λ h. cc }
+frame_so ram q frame rest c true h = cc
+frame_so ram q frame rest c false h = cc
 
-message_so : (form : MessageForm) (own : Own) (ram : List ℕ) (q : RingState) (seen : Next) → IsServedSo own seen (take_message form own ram q seen) q
-message_so form own ram q next.Empty = record { refused = λ h. cc; there = λ h. cc; back = λ h. cc; other = λ h. cc }
-message_so form own ram q next.Malformed = record { refused = λ h. record { writes = refl; ring = refl; own_is = refl }; there = λ h. refl; back = λ h. refl; other = λ h. refl }
-message_so form own ram q (next.Chain c) = record { refused = λ h. cc; there = λ h. cc; back = λ h. cc; other = λ h. cc }
-
-served_so : (shape : BlockShape) (own : Own) (number : ℕ) (ram : List ℕ) (q : RingState) (seen : Next) → IsServedSo own seen (serve shape own number ram q seen) q
+seen_so : (features : ℕ) (kind : Kind) (number : ℕ) (ram : List ℕ) (q : RingState) (seen : Next) → (serve features kind number ram q seen).served ≡ served.Malformed → seen ≡ next.Malformed
 unfolding give
-served_so shape (Block requests) number ram q next.Empty = record { refused = λ h. cc; there = λ h. cc; back = λ h. cc; other = λ h. cc }
-served_so shape (Block requests) number ram q next.Malformed = record { refused = λ h. record { writes = refl; ring = refl; own_is = refl }; there = λ h. refl; back = λ h. refl; other = λ h. refl }
-served_so shape (Block requests) number ram q (next.Chain c) = record { refused = λ h. cc; there = λ h. cc; back = λ h. cc; other = λ h. cc }
-served_so shape (Network frames) zero ram q next.Empty = record { refused = λ h. cc; there = λ h. cc; back = λ h. cc; other = λ h. cc }
-served_so shape (Network frames) zero ram q next.Malformed = record { refused = λ h. record { writes = refl; ring = refl; own_is = refl }; there = λ h. refl; back = λ h. refl; other = λ h. refl }
-served_so shape (Network []) zero ram q (next.Chain c) = record { refused = λ h. cc; there = λ h. cc; back = λ h. cc; other = λ h. cc }
-served_so shape (Network (frame ∷ rest)) zero ram q (next.Chain c) = first_by ram q frame rest c (ltb (length (places c.writable)) (HEADER_SIZE + length frame))
-served_so shape (Network frames) (suc number) ram q seen = message_so frame_form (Network frames) ram q seen
-served_so shape (Console size held) zero ram q next.Empty = record { refused = λ h. cc; there = λ h. cc; back = λ h. cc; other = λ h. cc }
-served_so shape (Console size held) zero ram q next.Malformed = record { refused = λ h. record { writes = refl; ring = refl; own_is = refl }; there = λ h. refl; back = λ h. refl; other = λ h. refl }
-served_so shape (Console size held) zero ram q (next.Chain c) = record { refused = λ h. cc; there = λ h. cc; back = λ h. cc; other = λ h. cc }
-served_so shape (Console size held) (suc number) ram q seen = message_so text_form (Console size held) ram q seen
-served_so shape (Entropy pool) number ram q next.Empty = record { refused = λ h. cc; there = λ h. cc; back = λ h. cc; other = λ h. cc }
-served_so shape (Entropy pool) number ram q next.Malformed = record { refused = λ h. record { writes = refl; ring = refl; own_is = refl }; there = λ h. refl; back = λ h. refl; other = λ h. refl }
-served_so shape (Entropy pool) number ram q (next.Chain c) = record { refused = λ h. cc; there = λ h. cc; back = λ h. cc; other = λ h. cc }
+seen_so features kind number ram q next.Malformed h = refl
+seen_so features (Network mac frames) zero ram q next.Empty h = cc
+seen_so features (Network mac []) zero ram q (next.Chain c) h = cc
+seen_so features (Network mac (frame ∷ rest)) zero ram q (next.Chain c) h = absurd (frame_so ram q frame rest c (ltb (length (places c.writable)) (HEADER_SIZE + length frame)) h)
+seen_so features (Network mac frames) (suc number) ram q next.Empty h = cc
+seen_so features (Network mac frames) (suc number) ram q (next.Chain c) h = cc
+seen_so features (Block sectors read_only id requests) number ram q next.Empty h = cc
+seen_so features (Block sectors read_only id requests) number ram q (next.Chain c) h = cc
+seen_so features (Console size held) zero ram q next.Empty h = cc
+seen_so features (Console size held) zero ram q (next.Chain c) h = cc
+seen_so features (Console size held) (suc number) ram q next.Empty h = cc
+seen_so features (Console size held) (suc number) ram q (next.Chain c) h = cc
+seen_so features (Entropy pool) number ram q next.Empty h = cc
+seen_so features (Entropy pool) number ram q (next.Chain c) h = cc
 
 set_same : {A : Type 0} (xs : List A) (n : ℕ) (x : A) → slice_get xs n ≡ Some x → set xs n x ≡ xs
 set_same [] n x h = refl
@@ -112,7 +91,7 @@ advance_quiet (advanced.Completed len due) = ((λ h. cc), (λ h. h))
 
 no_reset : (d : DeviceState) (ram : List ℕ) (content : List Sector) (pick : ℕ) (ring : Option RingState) (o : Outcome) → (advance_at d ram content pick ring o).reply ≡ NeedsReset → ⊥
 no_reset d ram content pick None o h = cc
-no_reset d ram content pick (Some q) o h = (advance_quiet (advance_step (block_of d.shape d.registers.common.features) ram q content (requests_of d.own) (pick - 1) (disk_does o)).answer).0 h
+no_reset d ram content pick (Some q) o h = (advance_quiet (advance_step (block_of (made_as d.kind) d.registers.common.features) ram q content (requests_of d.kind) (pick - 1) (disk_does o)).answer).0 h
 
 contained_ring : (m after : MachineState) (dev pick : ℕ) (seen : Next) (d : DeviceState) → slice_get m.devices dev ≡ Some d → (ring : Option RingState) → looked_at d pick ≡ ring → (o : Outcome)
     → NeedsReset ≡ (step_at d m.ram (disk_of m dev) pick ring o seen).reply
@@ -123,12 +102,10 @@ contained_ring m after dev pick seen d there (Some q) is no_memory replied chang
 contained_ring m after dev pick seen d there (Some q) is disk_failed replied changed = cc
 contained_ring m after dev pick seen d there (Some q) is fine replied changed =
     let look = looked_is d pick q is in
-    let shape = block_of d.shape d.registers.common.features in
-    let so = served_so shape d.own pick m.ram q seen in
-    let malformed = so.other (sym replied) in
-    let no = so.refused malformed in
-    let registers = asked d.registers (serve shape d.own pick m.ram q seen).served malformed (left_of_and _ _ look.driven) pick in
-    record { device = d; there = there; after_is = changed ∙ rw (no.writes, no.ring, no.own_is, registers, positions_stay d pick q look) refl }
+    let features = d.registers.common.features in
+    let malformed = seen_so features d.kind pick m.ram q seen ((answered features d.kind pick m.ram q seen).reset (sym replied)) in
+    let registers = asked d.registers (left_of_and _ _ look.driven) pick in
+    record { device = d; there = there; after_is = changed ∙ rw (malformed, served_malformed features d.kind pick m.ram q, registers, positions_stay d pick q look) refl }
 
 contained_device : (m after : MachineState) (dev pick : ℕ) (o : Outcome) (seen : Next) (d : Option DeviceState) → slice_get m.devices dev ≡ d
     → NeedsReset ≡ (step_device dev d m.ram (disk_of m dev) pick o seen).reply → after ≡ applied m (step_device dev d m.ram (disk_of m dev) pick o seen).effect → IsContained m after dev
@@ -141,15 +118,15 @@ contained m dev pick o after h =
     contained_device m after dev pick o h.has.seen (slice_get m.devices dev) refl h.has.reply_is (h.changed ∙ ap (λ (f : Effect). applied m f) h.has.effect_is)
 
 -- A device asks for a reset exactly where it looks at a queue that is malformed.
-asks_ring : (m : MachineState) (dev pick : ℕ) (seen : Next) (d : DeviceState) → slice_get m.devices dev ≡ Some d → (ring : Option RingState) → looked_at d pick ≡ ring → (o : Outcome) → MayLook (wanted_of d.own pick) ring m.ram o seen
+asks_ring : (m : MachineState) (dev pick : ℕ) (seen : Next) (d : DeviceState) → slice_get m.devices dev ≡ Some d → (ring : Option RingState) → looked_at d pick ≡ ring → (o : Outcome) → MayLook (wanted_of d.kind pick) ring m.ram o seen
     → NeedsReset ≡ (step_at d m.ram (disk_of m dev) pick ring o seen).reply → (o ≡ fine) × LooksAtMalformed m dev pick
 asks_ring m dev pick seen d there None is o may replied = absurd (no_reset d m.ram (disk_of m dev) pick (advanced_at d pick) o (sym replied))
 asks_ring m dev pick seen d there (Some q) is no_memory may replied = cc
 asks_ring m dev pick seen d there (Some q) is disk_failed may replied = cc
 asks_ring m dev pick seen d there (Some q) is fine may replied =
-    let shape = block_of d.shape d.registers.common.features in
-    let so = served_so shape d.own pick m.ram q seen in
-    (refl, record { device = d; there = there; ring = q; looked = looked_is d pick q is; sees = rw (so.there (so.other (sym replied))) at may })
+    let features = d.registers.common.features in
+    let malformed = seen_so features d.kind pick m.ram q seen ((answered features d.kind pick m.ram q seen).reset (sym replied)) in
+    (refl, record { device = d; there = there; ring = q; looked = looked_is d pick q is; sees = rw malformed at may })
 
 asks_device : (m : MachineState) (dev pick : ℕ) (o : Outcome) (seen : Next) (d : Option DeviceState) → slice_get m.devices dev ≡ d → MaySeeAt d m.ram pick o seen
     → NeedsReset ≡ (step_device dev d m.ram (disk_of m dev) pick o seen).reply → (o ≡ fine) × LooksAtMalformed m dev pick
@@ -162,11 +139,10 @@ malformed_effect : (m : MachineState) (dev pick : ℕ) (l : LooksAtMalformed m d
 unfolding device_step
 malformed_effect m dev pick l =
     let ring = is_looked l.device pick l.ring l.looked in
-    let malformed = (served_so (block_of l.device.shape l.device.registers.common.features) l.device.own pick m.ram l.ring next.Malformed).back refl in
     record {
       seen = next.Malformed;
       may_see = rw (l.there, ring) l.sees;
-      reply_is = rw (l.there, ring, malformed) refl;
+      reply_is = rw (l.there, ring, served_malformed l.device.registers.common.features l.device.kind pick m.ram l.ring) refl;
       effect_is = refl;
       outcome_is = refl;
     }
@@ -181,45 +157,16 @@ asks m dev pick o r after h = (
 same_record : (m : MachineState) (devices : List DeviceState) → devices ≡ m.devices → record m { devices = devices } ≡ m
 same_record m devices is = rw is refl
 
-quiet_first : (ram : List ℕ) (q : RingState) (frame : List ℕ) (rest : List (List ℕ)) (c : Chain) (short : Bool) → IsRefusal (reply_of (served_frame (cond short (net.drop_frame q rest) (net.give ram q frame rest c)).answer)) → ⊥
-unfolding net.give
-quiet_first ram q frame rest c true h = h
-quiet_first ram q frame rest c false h = h
-
-quiet_message : (form : MessageForm) (own : Own) (ram : List ℕ) (q : RingState) (seen : Next) → IsRefusal (reply_of (take_message form own ram q seen).served) → ⊥
-quiet_message form own ram q next.Empty h = h
-quiet_message form own ram q next.Malformed h = h
-quiet_message form own ram q (next.Chain c) h = h
-
--- Serving a queue is never answered by a refusal.
-pub quiet_service : (shape : BlockShape) (own : Own) (number : ℕ) (ram : List ℕ) (q : RingState) (seen : Next) → IsRefusal (reply_of (serve shape own number ram q seen).served) → ⊥
-unfolding give
-quiet_service shape (Block requests) number ram q next.Empty h = h
-quiet_service shape (Block requests) number ram q next.Malformed h = h
-quiet_service shape (Block requests) number ram q (next.Chain c) h = h
-quiet_service shape (Network frames) zero ram q next.Empty h = h
-quiet_service shape (Network frames) zero ram q next.Malformed h = h
-quiet_service shape (Network []) zero ram q (next.Chain c) h = h
-quiet_service shape (Network (frame ∷ rest)) zero ram q (next.Chain c) h = quiet_first ram q frame rest c (ltb (length (places c.writable)) (HEADER_SIZE + length frame)) h
-quiet_service shape (Network frames) (suc number) ram q seen h = quiet_message frame_form (Network frames) ram q seen h
-quiet_service shape (Console size held) zero ram q next.Empty h = h
-quiet_service shape (Console size held) zero ram q next.Malformed h = h
-quiet_service shape (Console size held) zero ram q (next.Chain c) h = h
-quiet_service shape (Console size held) (suc number) ram q seen h = quiet_message text_form (Console size held) ram q seen h
-quiet_service shape (Entropy pool) number ram q next.Empty h = h
-quiet_service shape (Entropy pool) number ram q next.Malformed h = h
-quiet_service shape (Entropy pool) number ram q (next.Chain c) h = h
-
 pub quiet_advance : (d : DeviceState) (ram : List ℕ) (content : List Sector) (pick : ℕ) (ring : Option RingState) (o : Outcome) → IsRefusal (advance_at d ram content pick ring o).reply → ⊥
 quiet_advance d ram content pick None o h = h
-quiet_advance d ram content pick (Some q) o h = (advance_quiet (advance_step (block_of d.shape d.registers.common.features) ram q content (requests_of d.own) (pick - 1) (disk_does o)).answer).1 h
+quiet_advance d ram content pick (Some q) o h = (advance_quiet (advance_step (block_of (made_as d.kind) d.registers.common.features) ram q content (requests_of d.kind) (pick - 1) (disk_does o)).answer).1 h
 
 quiet_ring : (m : MachineState) (dev pick : ℕ) (seen : Next) (d : DeviceState) → slice_get m.devices dev ≡ Some d → (ring : Option RingState) (o : Outcome) → IsRefusal (step_at d m.ram (disk_of m dev) pick ring o seen).reply
     → applied m (record { writes = (step_at d m.ram (disk_of m dev) pick ring o seen).writes; sectors = sets_on dev (step_at d m.ram (disk_of m dev) pick ring o seen).sets; replaced = Some (record { number = dev; device = (step_at d m.ram (disk_of m dev) pick ring o seen).device }) }) ≡ m
 quiet_ring m dev pick seen d there None o h = absurd (quiet_advance d m.ram (disk_of m dev) pick (advanced_at d pick) o h)
 quiet_ring m dev pick seen d there (Some q) no_memory h = same_record m (set m.devices dev d) (set_same m.devices dev d there)
 quiet_ring m dev pick seen d there (Some q) disk_failed h = absurd h
-quiet_ring m dev pick seen d there (Some q) fine h = absurd (quiet_service (block_of d.shape d.registers.common.features) d.own pick m.ram q seen h)
+quiet_ring m dev pick seen d there (Some q) fine h = absurd ((answered d.registers.common.features d.kind pick m.ram q seen).quiet h)
 
 quiet_device : (m : MachineState) (dev pick : ℕ) (o : Outcome) (seen : Next) (d : Option DeviceState) → slice_get m.devices dev ≡ d → IsRefusal (step_device dev d m.ram (disk_of m dev) pick o seen).reply → applied m (step_device dev d m.ram (disk_of m dev) pick o seen).effect ≡ m
 unfolding device_step
@@ -236,7 +183,7 @@ quiet_out (Some byte) h = h
 
 quiet_set : (m : MachineState) (dev : ℕ) (d : Option DeviceState) (offset width value : ℕ) → IsRefusal (write_register dev d offset width value).reply → applied m (write_register dev d offset width value).effect ≡ m
 quiet_set m dev None offset width value h = refl
-quiet_set m dev (Some d) offset width value h = absurd (quiet_out (written_out d.own offset width value) h)
+quiet_set m dev (Some d) offset width value h = absurd (quiet_out (written_out d.kind offset width value) h)
 
 quiet_read : (m : MachineState) (addr len : ℕ) (error : Option RamError) (o : Outcome) → applied m (read_ram m.ram addr len error o).effect ≡ m
 quiet_read m addr len (Some error) o = refl
@@ -254,17 +201,17 @@ quiet_put_by m dev d bytes (Err refusal) h = refl
 
 quiet_put : (m : MachineState) (dev : ℕ) (d : Option DeviceState) (bytes : List ℕ) → IsRefusal (put_in dev d bytes).reply → applied m (put_in dev d bytes).effect ≡ m
 quiet_put m dev None bytes h = refl
-quiet_put m dev (Some d) bytes h = quiet_put_by m dev d bytes (input_of d.own bytes) h
+quiet_put m dev (Some d) bytes h = quiet_put_by m dev d bytes (input_of d.kind bytes) h
 
-quiet_size_by : (m : MachineState) (dev : ℕ) (d : DeviceState) (own : Own) (size : ConsoleSize) → IsRefusal (size_by dev d own size).reply → applied m (size_by dev d own size).effect ≡ m
-quiet_size_by m dev d (Network frames) size h = refl
-quiet_size_by m dev d (Block requests) size h = refl
+quiet_size_by : (m : MachineState) (dev : ℕ) (d : DeviceState) (kind : Kind) (size : ConsoleSize) → IsRefusal (size_by dev d kind size).reply → applied m (size_by dev d kind size).effect ≡ m
+quiet_size_by m dev d (Network mac frames) size h = refl
+quiet_size_by m dev d (Block sectors read_only id requests) size h = refl
 quiet_size_by m dev d (Console old held) size h = absurd h
 quiet_size_by m dev d (Entropy pool) size h = refl
 
 quiet_size : (m : MachineState) (dev : ℕ) (d : Option DeviceState) (size : ConsoleSize) → IsRefusal (set_size dev d size).reply → applied m (set_size dev d size).effect ≡ m
 quiet_size m dev None size h = refl
-quiet_size m dev (Some d) size h = quiet_size_by m dev d d.own size h
+quiet_size m dev (Some d) size h = quiet_size_by m dev d d.kind size h
 
 pub quiet : (m : MachineState) (e : Event) (o : Outcome) (seen : Next) → IsRefusal (answer m e o seen).reply → applied m (answer m e o seen).effect ≡ m
 quiet m (RegRead dev off width) o seen h = quiet_look m (slice_get m.devices dev) off width

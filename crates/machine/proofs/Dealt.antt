@@ -8,7 +8,7 @@ use Rattle.blk.specs.Sectors.{SectorsState, sectors_of}
 use Rattle.machine.specs.First.{AreMarksOf, dealt_sectors, dealt_marks, given, good_marks, marked, marked_sectors, marks_in, next_disk, left_over, saved_machine, seen_with, seen_devices}
 use Rattle.machine.specs.Held.{IsHeld}
 use Rattle.machine.specs.Seen.{DeviceSeen, Marks, disk_marks, marks_of, no_marks, sectors_of as content_of, state_of}
-use Rattle.machine.specs.Shapes.{disk_size_of}
+use Rattle.machine.specs.Shapes.{disk_size_of, made_as}
 use Rattle.machine.specs.Sound.{IsSound}
 use Rattle.machine.specs.State.{DeviceState}
 use Rattle.machine.specs.declared.shape.Shape.{Shape}
@@ -30,13 +30,13 @@ one_good state xs i x bad pushed marks below is marks_are pushed_is so_far =
 
 -- A device without a disk, and one that gets the next.
 pub next_without : (all pushed : List DeviceSeen) (d : DeviceState) (left rest : List DeviceState) (disks others : List SectorsState) (disk : Option SectorsState) (device : DeviceSeen) (whole : List DeviceSeen)
-    → left ≡ d ∷ rest → disk_size_of d.shape ≡ None → disk ≡ None → others ≡ disks → device ≡ seen_with d disk → pushed ≡ all ++ device ∷ []
+    → left ≡ d ∷ rest → disk_size_of (made_as d.kind) ≡ None → disk ≡ None → others ≡ disks → device ≡ seen_with d disk → pushed ≡ all ++ device ∷ []
     → all ++ seen_devices left disks ≡ whole → pushed ++ seen_devices rest others ≡ whole
 next_without all pushed d left rest disks others disk device whole left_is size disk_is same device_is pushed_is so_far =
     rw (pushed_is, behind all device (seen_devices rest others), device_is, disk_is, same) (rw (left_is, size) at so_far)
 
 pub next_with : (all pushed : List DeviceSeen) (d : DeviceState) (left rest : List DeviceState) (disks others : List SectorsState) (disk : Option SectorsState) (device : DeviceSeen) (size : ℕ) (whole : List DeviceSeen)
-    → left ≡ d ∷ rest → disk_size_of d.shape ≡ Some size → next_disk (Some size) disks ≡ disk → left_over (Some size) disks ≡ others → device ≡ seen_with d disk → pushed ≡ all ++ device ∷ []
+    → left ≡ d ∷ rest → disk_size_of (made_as d.kind) ≡ Some size → next_disk (Some size) disks ≡ disk → left_over (Some size) disks ≡ others → device ≡ seen_with d disk → pushed ≡ all ++ device ∷ []
     → all ++ seen_devices left disks ≡ whole → pushed ++ seen_devices rest others ≡ whole
 next_with all pushed d left rest disks others disk device size whole left_is size_is disk_is others_are device_is pushed_is so_far =
     rw (pushed_is, behind all device (seen_devices rest others), device_is, ← disk_is, ← others_are) (rw (left_is, size_is) at so_far)
@@ -57,11 +57,11 @@ rest_taken disks others None size is none = let empty : disks ≡ [] = none refl
 -- What is seen of devices that got their disks.
 pub seen_states : (states : List DeviceState) (disks : List SectorsState) → map (λ (x : DeviceSeen). x.state) (seen_devices states disks) ≡ states
 seen_states [] disks = refl
-seen_states (d ∷ states) disks = ap (λ xs. d ∷ xs) (seen_states states (left_over (disk_size_of d.shape) disks))
+seen_states (d ∷ states) disks = ap (λ xs. d ∷ xs) (seen_states states (left_over (disk_size_of (made_as d.kind)) disks))
 
-pub seen_shapes : (states : List DeviceState) (disks : List SectorsState) → map (λ (x : DeviceSeen). x.state.shape) (seen_devices states disks) ≡ map (λ (d : DeviceState). d.shape) states
+pub seen_shapes : (states : List DeviceState) (disks : List SectorsState) → map (λ (x : DeviceSeen). made_as x.state.kind) (seen_devices states disks) ≡ map (λ (d : DeviceState). made_as d.kind) states
 seen_shapes [] disks = refl
-seen_shapes (d ∷ states) disks = ap (λ xs. d.shape ∷ xs) (seen_shapes states (left_over (disk_size_of d.shape) disks))
+seen_shapes (d ∷ states) disks = ap (λ xs. (made_as d.kind) ∷ xs) (seen_shapes states (left_over (disk_size_of (made_as d.kind)) disks))
 
 left_mapped : {A : Type 0} (f : SectorsState → A) (size : Option ℕ) (disks : List SectorsState) → map f (left_over size disks) ≡ left_over size (map f disks)
 left_mapped f None disks = refl
@@ -78,15 +78,15 @@ marks_given None disks = refl
 marks_given (Some size) [] = refl
 marks_given (Some size) (disk ∷ disks) = refl
 
-seen_sectors : (states : List DeviceState) (disks : List SectorsState) → map (λ (x : DeviceSeen). x.sectors) (seen_devices states disks) ≡ dealt_sectors (map (λ (d : DeviceState). d.shape) states) (map (λ (s : SectorsState). s.content) disks)
+seen_sectors : (states : List DeviceState) (disks : List SectorsState) → map (λ (x : DeviceSeen). x.sectors) (seen_devices states disks) ≡ dealt_sectors (map (λ (d : DeviceState). made_as d.kind) states) (map (λ (s : SectorsState). s.content) disks)
 seen_sectors [] disks = refl
 seen_sectors (d ∷ states) disks =
-    rw (content_given (disk_size_of d.shape) disks, seen_sectors states (left_over (disk_size_of d.shape) disks), left_mapped (λ (s : SectorsState). s.content) (disk_size_of d.shape) disks) refl
+    rw (content_given (disk_size_of (made_as d.kind)) disks, seen_sectors states (left_over (disk_size_of (made_as d.kind)) disks), left_mapped (λ (s : SectorsState). s.content) (disk_size_of (made_as d.kind)) disks) refl
 
-pub seen_marks : (states : List DeviceState) (disks : List SectorsState) → map (λ (x : DeviceSeen). x.marks) (seen_devices states disks) ≡ dealt_marks (map (λ (d : DeviceState). d.shape) states) (map disk_marks disks)
+pub seen_marks : (states : List DeviceState) (disks : List SectorsState) → map (λ (x : DeviceSeen). x.marks) (seen_devices states disks) ≡ dealt_marks (map (λ (d : DeviceState). made_as d.kind) states) (map disk_marks disks)
 seen_marks [] disks = refl
 seen_marks (d ∷ states) disks =
-    rw (marks_given (disk_size_of d.shape) disks, seen_marks states (left_over (disk_size_of d.shape) disks), left_mapped disk_marks (disk_size_of d.shape) disks) refl
+    rw (marks_given (disk_size_of (made_as d.kind)) disks, seen_marks states (left_over (disk_size_of (made_as d.kind)) disks), left_mapped disk_marks (disk_size_of (made_as d.kind)) disks) refl
 
 -- The machine that such devices make.
 pub is_made : (ram : Memory) (states : List DeviceState) (disks : List SectorsState) (ds : List DeviceSeen) → ds ≡ seen_devices states disks
@@ -94,13 +94,13 @@ pub is_made : (ram : Memory) (states : List DeviceState) (disks : List SectorsSt
 is_made ram states disks ds is = rw (is, seen_states states disks, seen_sectors states disks) refl
 
 pub is_held : (shapes : List Shape) (ram : Memory) (states : List DeviceState) (disks : List SectorsState) (ds : List DeviceSeen) → ds ≡ seen_devices states disks
-    → IsSound (saved_machine ram.bytes states (map (λ (s : SectorsState). s.content) disks)) → shapes ≡ map (λ (d : DeviceState). d.shape) states → IsHeld shapes (record { memory = ram; devices = ds })
+    → IsSound (saved_machine ram.bytes states (map (λ (s : SectorsState). s.content) disks)) → shapes ≡ map (λ (d : DeviceState). made_as d.kind) states → IsHeld shapes (record { memory = ram; devices = ds })
 is_held shapes ram states disks ds is sound same = record {
   sound = rw (is_made ram states disks ds is) sound;
-  shapes_are = same ∙ sym (ap (map (λ (x : DeviceSeen). x.state.shape)) is ∙ seen_shapes states disks);
+  shapes_are = same ∙ sym (ap (map (λ (x : DeviceSeen). made_as x.state.kind)) is ∙ seen_shapes states disks);
 }
 
-pub are_marks : (shapes : List Shape) (states : List DeviceState) (disks : List SectorsState) (marks : List Marks) (ds : List DeviceSeen) → ds ≡ seen_devices states disks → shapes ≡ map (λ (d : DeviceState). d.shape) states
+pub are_marks : (shapes : List Shape) (states : List DeviceState) (disks : List SectorsState) (marks : List Marks) (ds : List DeviceSeen) → ds ≡ seen_devices states disks → shapes ≡ map (λ (d : DeviceState). made_as d.kind) states
     → map disk_marks disks ≡ marks → map (λ (x : DeviceSeen). x.marks) ds ≡ dealt_marks shapes marks
 are_marks shapes states disks marks ds is same marks_are = ap (map (λ (x : DeviceSeen). x.marks)) is ∙ seen_marks states disks ∙ rw (same, marks_are) refl
 
@@ -121,4 +121,4 @@ marked_marks state (x ∷ xs) (marks ∷ bad) are = let rest : AreMarksOf (map s
 -- There are as many devices as states.
 pub devices_long : (states : List DeviceState) (disks : List SectorsState) → length (seen_devices states disks) ≡ length states
 devices_long [] disks = refl
-devices_long (d ∷ ds) disks = ap suc (devices_long ds (left_over (disk_size_of d.shape) disks))
+devices_long (d ∷ ds) disks = ap suc (devices_long ds (left_over (disk_size_of (made_as d.kind)) disks))

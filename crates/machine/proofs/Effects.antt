@@ -12,6 +12,7 @@ use Rattle.blk.specs.Sectors.{Sector}
 use Rattle.machine.specs.State.{MachineState, DeviceState}
 use Rattle.machine.specs.Effect.{SectorSet, Replacement, set_on, sectors_set, replaced_in}
 use Rattle.machine.specs.EffectLaws.{UntouchedStays, TouchedExists, ShapeStays, HasItem, MayReplace, sector_on}
+use Rattle.machine.specs.Shapes.{made_as}
 
 -- Lists of items: what is among one of two, and what is among a map.
 among_left : (is js : List Item) (i : Item) → Among is i → Among (is ++ js) i
@@ -107,12 +108,12 @@ exists m e within i h = elim (among_either (touched e.writes) (map (λ (s : Sect
   | inr y ↦ sector_exists m e.sectors i within.sectors y
 ]
 
-shapes_stay : (devices : List DeviceState) (n : ℕ) (old new : DeviceState) → slice_get devices n ≡ Some old → new.shape ≡ old.shape → map (λ (d : DeviceState). d.shape) (set devices n new) ≡ map (λ (d : DeviceState). d.shape) devices
+shapes_stay : (devices : List DeviceState) (n : ℕ) (old new : DeviceState) → slice_get devices n ≡ Some old → (made_as new.kind) ≡ (made_as old.kind) → map (λ (d : DeviceState). made_as d.kind) (set devices n new) ≡ map (λ (d : DeviceState). made_as d.kind) devices
 shapes_stay [] n old new there same = refl
-shapes_stay (d ∷ devices) zero old new there same = let is : d ≡ old = cc in ap (λ x. x ∷ map (λ (d : DeviceState). d.shape) devices) (same ∙ sym (ap (λ (d : DeviceState). d.shape) is))
-shapes_stay (d ∷ devices) (suc n) old new there same = ap (λ xs. d.shape ∷ xs) (shapes_stay devices n old new there same)
+shapes_stay (d ∷ devices) zero old new there same = let is : d ≡ old = cc in ap (λ x. x ∷ map (λ (d : DeviceState). made_as d.kind) devices) (same ∙ sym (ap (λ (d : DeviceState). made_as d.kind) is))
+shapes_stay (d ∷ devices) (suc n) old new there same = ap (λ xs. (made_as d.kind) ∷ xs) (shapes_stay devices n old new there same)
 
-pub replaced_shapes : (devices : List DeviceState) (r : Option Replacement) → MayReplace devices r → map (λ (d : DeviceState). d.shape) (replaced_in devices r) ≡ map (λ (d : DeviceState). d.shape) devices
+pub replaced_shapes : (devices : List DeviceState) (r : Option Replacement) → MayReplace devices r → map (λ (d : DeviceState). made_as d.kind) (replaced_in devices r) ≡ map (λ (d : DeviceState). made_as d.kind) devices
 replaced_shapes devices None may = refl
 replaced_shapes devices (Some r) may = shapes_stay devices r.number may.0 r.device may.1 may.2
 

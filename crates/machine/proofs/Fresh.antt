@@ -1,5 +1,5 @@
 -- A machine as it begins is sound.
-use Rattle.std.proofs.Common.{◌≡◌, ℕ, zero, suc, ◌+◌, ◌*◌, ◌^◌, ◌<◌, ◌≤◌, List, [], ◌∷◌, length, map, replicate, get_or, Bool, true, false, cond, Some, None, refl, ap, sym, ◌∙◌, arith, eqb, ltb}
+use Rattle.std.proofs.Common.{◌≡◌, ℕ, zero, suc, ◌*◌, ◌^◌, ◌<◌, ◌≤◌, List, [], ◌∷◌, length, map, replicate, get_or, Bool, true, false, cond, Some, None, refl, ap, sym, ◌∙◌, arith, eqb, ltb}
 use Rattle.std.specs.Prelude.{◌||◌, not}
 use Rattle.std.specs.List.{All}
 use Rattle.std.proofs.lemmas.List.{length-map, length-replicate}
@@ -10,16 +10,19 @@ use Rattle.blk.proofs.Zeros.{zero_bytes}
 use Rattle.blk.specs.Disk.{AreSectors, DiskState}
 use Rattle.blk.specs.Sectors.{Sector, AreWhole, IsWhole}
 use Rattle.mmio.proofs.StayingSound.{first_sound}
+use Rattle.mmio.specs.State.{first_common, first_queue}
 use Rattle.machine.specs.First.{HasBytes, are_beyond, are_same, dealt_sectors, first_machine, good_marks, marked_sectors, new_refusal, saved_machine}
 use Rattle.machine.specs.Parts.{ArePartsFor, PartsSeen, machine_of}
-use Rattle.machine.specs.Shapes.{disk_sizes, first_device, is_beyond, sector_count}
-use Rattle.machine.specs.Sound.{IsSound, IsSoundDevice}
+use Rattle.machine.specs.QueuePositions.{HavePositions, first_positions, is_packed_by}
+use Rattle.machine.specs.Shapes.{device_id_of, disk_sizes, first_device, first_kind, is_beyond, made_as, offered_of, queues_of, sector_count}
+use Rattle.machine.specs.Sound.{IsSound, IsSoundDevice, IsSoundKind, IsSoundShape}
 use Rattle.machine.specs.State.{DeviceState}
 use Rattle.machine.specs.declared.new_error.NewError.TheVariants.{BadShape, DiskMismatch}
 use Rattle.machine.specs.declared.shape.Shape.{Shape}
 use Rattle.machine.specs.declared.shape.Shape.TheVariants.{Net, Block, Console, Entropy}
 use Rattle.machine.proofs.Dealt.{good_are_marks, good_content}
 use Rattle.machine.proofs.Disks.{same_sizes}
+use Rattle.machine.proofs.MadeAs.{first_as}
 use Rattle.machine.proofs.Numbering.{shape_counts}
 
 -- What holds where no machine is refused.
@@ -71,60 +74,43 @@ each_within (shape ∷ shapes) is zero d below = (both_false (is_beyond shape) (
 each_within (shape ∷ shapes) is (suc k) d below = each_within shapes (both_false (is_beyond shape) (are_beyond shapes) is).1 k d (omega (arith, below))
 
 -- A new device is sound.
+shape_sound : (shape : Shape) → is_beyond shape ≡ false → HasBytes shape → IsSoundShape shape
+shape_sound (Net mac) within has = record { size = has.size; bytes = has.bytes }
+shape_sound (Block sectors read_only id) within has =
+    let count = sectors_within sectors read_only id within in
+    record { some = count.0; few = count.1; id_size = has.size; id_bytes = has.bytes }
+shape_sound Console within has = tt
+shape_sound Entropy within has = tt
+
+numbers_fit : (shape : Shape) → (device_id_of shape < 2 ^ 32) × (offered_of shape < 2 ^ 64) × (queues_of shape ≤ 2)
+numbers_fit (Net mac) = (omega arith, omega arith, omega arith)
+numbers_fit (Block sectors true id) = (omega arith, omega arith, omega arith)
+numbers_fit (Block sectors false id) = (omega arith, omega arith, omega arith)
+numbers_fit Console = (omega arith, omega arith, omega arith)
+numbers_fit Entropy = (omega arith, omega arith, omega arith)
+
+have_first : (packed : Bool) (count : ℕ) → HavePositions packed (replicate count first_queue) (replicate count first_positions)
+have_first packed zero = tt
+have_first packed (suc count) = (record { taking_fits = omega arith; used_fits = omega arith; where_ready = refl }, have_first packed count)
+
+kind_sound : (bytes : ℕ) (shape : Shape) → IsSoundKind bytes (first_device bytes shape).registers (first_kind shape)
+kind_sound bytes (Net mac) = record { few = omega arith; are = All-nil _ }
+kind_sound bytes (Block sectors read_only id) = record { few = omega arith; sound = All-nil _; where_ready = refl }
+kind_sound bytes Console = record { columns = omega arith; rows = omega arith; text = record { few = omega arith; are = λ i. omega arith } }
+kind_sound bytes Entropy = record { few = omega arith; are = λ i. omega arith }
+
 first_device_sound : (bytes : ℕ) (shape : Shape) → bytes < 2 ^ 64 → is_beyond shape ≡ false → HasBytes shape → IsSoundDevice bytes (first_device bytes shape)
-first_device_sound bytes (Net mac) fits within id_is = record {
-  shape = record { size = id_is.size; bytes = id_is.bytes };
-  device_id = refl;
-  offered = refl;
-  queues = refl;
-  ram_len = refl;
-  registers = first_sound 1 (2 ^ 28 + 2 ^ 29 + 2 ^ 32 + 2 ^ 34 + 2 ^ 5) 2 bytes (omega arith) (omega arith) (omega arith) fits;
-  positions = (record { taking_fits = omega arith; used_fits = omega arith; where_ready = refl }, (record { taking_fits = omega arith; used_fits = omega arith; where_ready = refl }, tt));
-  own = record { few = omega arith; are = All-nil _ };
-}
-first_device_sound bytes Console fits within id_is = record {
-  shape = tt;
-  device_id = refl;
-  offered = refl;
-  queues = refl;
-  ram_len = refl;
-  registers = first_sound 3 (2 ^ 28 + 2 ^ 29 + 2 ^ 32 + 2 ^ 34 + (2 ^ 0 + 2 ^ 2)) 2 bytes (omega arith) (omega arith) (omega arith) fits;
-  positions = (record { taking_fits = omega arith; used_fits = omega arith; where_ready = refl }, (record { taking_fits = omega arith; used_fits = omega arith; where_ready = refl }, tt));
-  own = record { columns = omega arith; rows = omega arith; text = record { few = omega arith; are = λ i. omega arith } };
-}
-first_device_sound bytes Entropy fits within id_is = record {
-  shape = tt;
-  device_id = refl;
-  offered = refl;
-  queues = refl;
-  ram_len = refl;
-  registers = first_sound 4 (2 ^ 28 + 2 ^ 29 + 2 ^ 32 + 2 ^ 34) 1 bytes (omega arith) (omega arith) (omega arith) fits;
-  positions = (record { taking_fits = omega arith; used_fits = omega arith; where_ready = refl }, tt);
-  own = record { few = omega arith; are = λ i. omega arith };
-}
-first_device_sound bytes (Block sectors true id) fits within id_is =
-    let count = sectors_within sectors true id within in
+first_device_sound bytes shape fits within has =
+    let small = numbers_fit shape in
     record {
-      shape = record { some = count.0; few = count.1; id_size = id_is.size; id_bytes = id_is.bytes };
-      device_id = refl;
-      offered = refl;
-      queues = refl;
+      shape = rw (first_as shape) (shape_sound shape within has);
+      device_id = rw (first_as shape) refl;
+      offered = rw (first_as shape) refl;
+      queues = rw (first_as shape) (length-replicate (queues_of shape) first_queue);
       ram_len = refl;
-      registers = first_sound 2 (2 ^ 28 + 2 ^ 29 + 2 ^ 32 + 2 ^ 34 + (2 ^ 9 + 2 ^ 14 + 2 ^ 5)) 1 bytes (omega arith) (omega arith) (omega arith) fits;
-      positions = (record { taking_fits = omega arith; used_fits = omega arith; where_ready = refl }, tt);
-      own = record { few = omega arith; sound = All-nil _; where_ready = refl };
-    }
-first_device_sound bytes (Block sectors false id) fits within id_is =
-    let count = sectors_within sectors false id within in
-    record {
-      shape = record { some = count.0; few = count.1; id_size = id_is.size; id_bytes = id_is.bytes };
-      device_id = refl;
-      offered = refl;
-      queues = refl;
-      ram_len = refl;
-      registers = first_sound 2 (2 ^ 28 + 2 ^ 29 + 2 ^ 32 + 2 ^ 34 + (2 ^ 9 + 2 ^ 14)) 1 bytes (omega arith) (omega arith) (omega arith) fits;
-      positions = (record { taking_fits = omega arith; used_fits = omega arith; where_ready = refl }, tt);
-      own = record { few = omega arith; sound = All-nil _; where_ready = refl };
+      registers = first_sound (device_id_of shape) (offered_of shape) (queues_of shape) bytes small.0 small.1 small.2 fits;
+      positions = have_first (is_packed_by (first_common 0)) (queues_of shape);
+      kind = kind_sound bytes shape;
     }
 
 -- Disks of the right sizes, dealt to devices: each device has as many sectors as it is to have.
@@ -139,9 +125,9 @@ dealt_counts (Block sectors read_only id ∷ shapes) (disk ∷ disks) is =
     let rest : disk_sizes shapes ≡ map length disks = cc in
     rw (here, dealt_counts shapes disks rest) refl
 
-pub dealt_sizes : (states : List DeviceState) (disks : List (List Sector)) → disk_sizes (map (λ (d : DeviceState). d.shape) states) ≡ map length disks
-    → map length (dealt_sectors (map (λ (d : DeviceState). d.shape) states) disks) ≡ map (λ (d : DeviceState). sector_count d.shape) states
-dealt_sizes states disks is = dealt_counts (map (λ (d : DeviceState). d.shape) states) disks is ∙ sym (shape_counts states)
+pub dealt_sizes : (states : List DeviceState) (disks : List (List Sector)) → disk_sizes (map (λ (d : DeviceState). made_as d.kind) states) ≡ map length disks
+    → map length (dealt_sectors (map (λ (d : DeviceState). made_as d.kind) states) disks) ≡ map (λ (d : DeviceState). sector_count (made_as d.kind)) states
+dealt_sizes states disks is = dealt_counts (map (λ (d : DeviceState). made_as d.kind) states) disks is ∙ sym (shape_counts states)
 
 pub dealt_whole : (shapes : List Shape) (disks : List (List Sector)) → All AreWhole disks → All AreWhole (dealt_sectors shapes disks)
 dealt_whole [] disks whole k d below = absurd (omega (arith, below))
@@ -157,13 +143,12 @@ dealt_whole (Block sectors read_only id ∷ shapes) (disk ∷ disks) whole zero 
 dealt_whole (Block sectors read_only id ∷ shapes) (disk ∷ disks) whole (suc k) d below =
     dealt_whole shapes disks (λ j e lt. whole (suc j) e (omega (arith, lt))) k d (omega (arith, below))
 
-first_counts : (bytes : ℕ) (shapes : List Shape) → map (λ (d : DeviceState). sector_count d.shape) (map (first_device bytes) shapes) ≡ map sector_count shapes
-first_counts bytes [] = refl
-first_counts bytes (shape ∷ shapes) = ap (λ xs. sector_count shape ∷ xs) (first_counts bytes shapes)
-
-pub first_shapes : (bytes : ℕ) (shapes : List Shape) → map (λ (d : DeviceState). d.shape) (map (first_device bytes) shapes) ≡ shapes
+pub first_shapes : (bytes : ℕ) (shapes : List Shape) → map (λ (d : DeviceState). made_as d.kind) (map (first_device bytes) shapes) ≡ shapes
 first_shapes bytes [] = refl
-first_shapes bytes (shape ∷ shapes) = ap (λ xs. shape ∷ xs) (first_shapes bytes shapes)
+first_shapes bytes (shape ∷ shapes) = rw (first_as shape) (ap (λ xs. shape ∷ xs) (first_shapes bytes shapes))
+
+first_counts : (bytes : ℕ) (shapes : List Shape) → map (λ (d : DeviceState). sector_count (made_as d.kind)) (map (first_device bytes) shapes) ≡ map sector_count shapes
+first_counts bytes shapes = shape_counts (map (first_device bytes) shapes) ∙ ap (map sector_count) (first_shapes bytes shapes)
 
 -- A new machine is sound.
 pub first_machine_sound : (pages : ℕ) (shapes : List Shape) (sizes : List ℕ) (disks : List (List Sector)) → new_refusal pages shapes sizes ≡ None → All HasBytes shapes
@@ -217,7 +202,7 @@ are_first state pages shapes xs p none ids whole zeros same states_are bad_are =
     record {
       parts = record {
         sound = rw made (first_machine_sound pages shapes (map (λ x. length (state x).sectors) xs) disks none ids (good_sizes state xs) (good_whole state xs whole));
-        shapes = same ∙ sym (ap (map (λ (d : DeviceState). d.shape)) states_are ∙ first_shapes (length p.ram) shapes);
+        shapes = same ∙ sym (ap (map (λ (d : DeviceState). made_as d.kind)) states_are ∙ first_shapes (length p.ram) shapes);
         marks = rw bad_are (good_are_marks (map state xs));
       };
       made = made;

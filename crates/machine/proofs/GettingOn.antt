@@ -7,41 +7,32 @@ use Rattle.mmio.specs.State.{queue_at}
 use Rattle.mmio.specs.declared.queue.Queue.{Queue}
 use Rattle.chains.specs.State.{RingState}
 use Rattle.chains.specs.declared.next.Next.{Next}
-use Rattle.chains.specs.declared.transmitting.Transmitted.{Transmitted}
-use Rattle.chains.specs.declared.transmitting.Transmitted.TheVariants as messages
 use Rattle.blk.specs.Advance.{advance_one, advance_step}
 use Rattle.blk.specs.Move.{Move, move_of}
 use Rattle.blk.specs.Request.{is_open, next_sector}
 use Rattle.blk.specs.Sectors.{Sector, is_bad, sector_in}
 use Rattle.blk.specs.declared.advancing.Advanced.{Advanced}
 use Rattle.blk.specs.declared.advancing.Advanced.TheVariants as advanced
-use Rattle.blk.specs.declared.request.Kind.{Kind}
-use Rattle.blk.specs.declared.request.Kind.TheVariants as kind
+use Rattle.blk.specs.declared.request.Kind as blk
+use Rattle.blk.specs.declared.request.Kind.TheVariants as request
 use Rattle.blk.specs.declared.request.Request.{Request}
 use Rattle.blk.specs.declared.shape.BlockShape.{BlockShape}
-use Rattle.blk.specs.declared.taking.Taken.{Taken}
-use Rattle.blk.specs.declared.taking.Taken.TheVariants as taken
-use Rattle.console.specs.declared.receiving.Received.{Received}
-use Rattle.console.specs.declared.receiving.Received.TheVariants as received
-use Rattle.net.specs.declared.receiving.Received as net
-use Rattle.net.specs.declared.receiving.Received.TheVariants as frames
-use Rattle.machine.specs.DeviceStep.{advance_on, advanced_at, after_service, device_step, looked_at, looked_step, wanted_of, reply_of, reply_to_advance, requests_of, serve, served_frame, served_message, served_of, served_taking, unmoved, MayLook, MayLookAt, Service}
+use Rattle.machine.specs.DeviceStep.{advance_on, advanced_at, after_service, device_step, looked_at, looked_step, wanted_of, reply_of, reply_to_advance, requests_of, serve, unmoved, MayLook, MayLookAt, Service}
 use Rattle.machine.specs.Effect.{Effect, applied}
 use Rattle.machine.specs.NextWork.{IdleWithoutWork, IsNotNotified, WorkGetsOn, device_has_work}
 use Rattle.machine.specs.Outcome.{Outcome, fine, disk_failed, no_memory, disk_does}
-use Rattle.machine.specs.Shapes.{block_of}
+use Rattle.machine.specs.Shapes.{block_of, made_as}
 use Rattle.machine.specs.Sound.{IsSound, IsSoundDevice}
 use Rattle.machine.specs.State.{DeviceState, MachineState}
 use Rattle.machine.specs.Step.{answer, disk_of, step_device, Answer, MaySeeAt}
 use Rattle.machine.specs.declared.event.Event.TheVariants.{Step}
-use Rattle.machine.specs.declared.own.Own.{Own}
-use Rattle.machine.specs.declared.own.Own.TheVariants.{Network, Block, Console, Entropy}
 use Rattle.machine.specs.declared.reply.Reply.{Reply}
 use Rattle.machine.specs.declared.reply.Reply.TheVariants.{Idle}
-use Rattle.machine.specs.declared.served.Served.{Served}
-use Rattle.machine.specs.declared.served.Served.TheVariants as served
+use Rattle.machine.specs.Served.{Served}
+use Rattle.machine.specs.Served as served
 use Rattle.machine.specs.declared.work.Work.{Work}
 use Rattle.machine.proofs.Advancing.{advanced_is}
+use Rattle.machine.proofs.Answering.{answered}
 use Rattle.machine.proofs.Looking.{looked_is}
 use Rattle.machine.proofs.Within.{sound_at}
 
@@ -66,48 +57,18 @@ idle_without m dev pick d o r after there looked advanced h =
     let effect : h.effect ≡ record { writes = []; sectors = []; replaced = Some (record { number = dev; device = d }) } = h.has.effect_is ∙ ap (λ (a : Answer). a.effect) is in
     (h.has.reply_is ∙ ap (λ (a : Answer). a.reply) is, h.changed ∙ ap (λ (e : Effect). applied m e) effect ∙ ap (λ (ds : List DeviceState). record { ram = m.ram; devices = ds; disks = m.disks }) stays)
 
--- A queue that was served is idle only where it is empty.
-idle_bytes : (x : Received) → reply_of (served_of x) ≡ Idle → served_of x ≡ served.Empty
-idle_bytes received.Empty h = refl
-idle_bytes received.Malformed h = cc
-idle_bytes (received.Completed len due) h = cc
-
-idle_taking : (x : Taken) → reply_of (served_taking x) ≡ Idle → served_taking x ≡ served.Empty
-idle_taking taken.Empty h = refl
-idle_taking taken.Malformed h = cc
-idle_taking taken.Taken h = cc
-
-idle_frame : (x : net.Received) → reply_of (served_frame x) ≡ Idle → served_frame x ≡ served.Empty
-idle_frame frames.Empty h = refl
-idle_frame frames.Malformed h = cc
-idle_frame frames.Dropped h = cc
-idle_frame (frames.Completed len due) h = cc
-
-idle_message : (x : Transmitted) → reply_of (served_message x) ≡ Idle → served_message x ≡ served.Empty
-idle_message messages.Empty h = refl
-idle_message messages.Malformed h = cc
-idle_message (messages.Sent bytes due) h = cc
-
-idle_served : (shape : BlockShape) (own : Own) (number : ℕ) (ram : List ℕ) (q : RingState) (seen : Next) → reply_of (serve shape own number ram q seen).served ≡ Idle → (serve shape own number ram q seen).served ≡ served.Empty
-idle_served shape (Network held) zero ram q seen h = idle_frame _ h
-idle_served shape (Network held) (suc number) ram q seen h = idle_message _ h
-idle_served shape (Console size held) zero ram q seen h = idle_bytes _ h
-idle_served shape (Console size held) (suc number) ram q seen h = idle_message _ h
-idle_served shape (Block requests) number ram q seen h = idle_taking _ h
-idle_served shape (Entropy pool) number ram q seen h = idle_bytes _ h
-
 -- An outstanding request that is advanced is never idle.
 busy_if : (b : Bool) (x y : Move) → x.answer ≢ advanced.Idle → y.answer ≢ advanced.Idle → (cond b x y).answer ≢ advanced.Idle
 busy_if true x y h k = h
 busy_if false x y h k = k
 
-busy_move : (k : Kind) (id ram : List ℕ) (content : List Sector) (r : Request) (is_fine : Bool) → (move_of k id ram content r is_fine).answer ≢ advanced.Idle
-busy_move kind.In id ram content r is_fine = busy_if (is_bad (sector_in content (next_sector r))) _ _ (λ h. cc) (busy_if is_fine _ _ (λ h. cc) (λ h. cc))
-busy_move kind.Out id ram content r is_fine = busy_if is_fine _ _ (λ h. cc) (λ h. cc)
-busy_move kind.Flush id ram content r is_fine = busy_if is_fine _ _ (λ h. cc) (λ h. cc)
-busy_move kind.GetId id ram content r is_fine = λ h. cc
-busy_move kind.Refused id ram content r is_fine = λ h. cc
-busy_move kind.Zero id ram content r is_fine = busy_if is_fine _ _ (λ h. cc) (λ h. cc)
+busy_move : (k : blk.Kind) (id ram : List ℕ) (content : List Sector) (r : Request) (is_fine : Bool) → (move_of k id ram content r is_fine).answer ≢ advanced.Idle
+busy_move request.In id ram content r is_fine = busy_if (is_bad (sector_in content (next_sector r))) _ _ (λ h. cc) (busy_if is_fine _ _ (λ h. cc) (λ h. cc))
+busy_move request.Out id ram content r is_fine = busy_if is_fine _ _ (λ h. cc) (λ h. cc)
+busy_move request.Flush id ram content r is_fine = busy_if is_fine _ _ (λ h. cc) (λ h. cc)
+busy_move request.GetId id ram content r is_fine = λ h. cc
+busy_move request.Refused id ram content r is_fine = λ h. cc
+busy_move request.Zero id ram content r is_fine = busy_if is_fine _ _ (λ h. cc) (λ h. cc)
 
 busy_one : (shape : BlockShape) (ram : List ℕ) (q : RingState) (content : List Sector) (requests : List Request) (k : ℕ) (is_fine : Bool) (r : Request) (more : Bool) → is_open r ≡ more → (advance_one shape ram q content requests k is_fine (Some r)).answer ≢ advanced.Idle
 busy_one shape ram q content requests k is_fine r true is = rw is (busy_move r.kind shape.id ram content r is_fine)
@@ -127,8 +88,8 @@ busy_at shape ram q content (r ∷ rs) k is_fine below =
 
 advanced_busy : (len : ℕ) (d : DeviceState) (ram : List ℕ) (content : List Sector) (pick : ℕ) (q : RingState) (o : Outcome) → IsSoundDevice len d → advanced_at d pick ≡ Some q → (advance_on d ram content pick q o).reply ≢ Idle
 advanced_busy len d ram content pick q o sound is =
-    let shape = block_of d.shape d.registers.common.features in
-    busy_reply (advance_step shape ram q content (requests_of d.own) (pick - 1) (disk_does o)).answer (busy_at shape ram q content (requests_of d.own) (pick - 1) (disk_does o) (advanced_is len d pick q sound is).below)
+    let shape = block_of (made_as d.kind) d.registers.common.features in
+    busy_reply (advance_step shape ram q content (requests_of d.kind) (pick - 1) (disk_does o)).answer (busy_at shape ram q content (requests_of d.kind) (pick - 1) (disk_does o) (advanced_is len d pick q sound is).below)
 
 -- A queue that was found empty is not notified.
 set_there : {A : Type 0} (xs : List A) (n : ℕ) (x y : A) → slice_get xs n ≡ Some x → slice_get (set xs n y) n ≡ Some y
@@ -160,18 +121,17 @@ goes_on : (d : DeviceState) (ram : List ℕ) (content : List Sector) (pick : ℕ
 unfolding device_step
 goes_on d ram content pick q o seen looked advanced = rw (looked, advanced) refl
 
-by_look : (m after : MachineState) (w : Work) (d : DeviceState) (q : RingState) (o : Outcome) (seen : Next) (r : Reply) → slice_get m.devices w.dev ≡ Some d → looked_at d w.pick ≡ Some q → MayLookAt (wanted_of d.own w.pick) q m.ram o seen
+by_look : (m after : MachineState) (w : Work) (d : DeviceState) (q : RingState) (o : Outcome) (seen : Next) (r : Reply) → slice_get m.devices w.dev ≡ Some d → looked_at d w.pick ≡ Some q → MayLookAt (wanted_of d.kind w.pick) q m.ram o seen
     → r ≡ (looked_step d m.ram w.pick q o seen).reply → after.devices ≡ set m.devices w.dev (looked_step d m.ram w.pick q o seen).device → (r ≢ Idle) ⊎ IsNotNotified after w.dev w.pick
 by_look m after w d q no_memory seen r there looked may is changed = inl (λ idle. cc)
 by_look m after w d q disk_failed seen r there looked may is changed = absurd may
 by_look m after w d q fine seen r there looked may is changed =
     let look = looked_is d w.pick q looked in
-    let shape = block_of d.shape d.registers.common.features in
-    let s = serve shape d.own w.pick m.ram q seen in
-    by_served m after w d look.queue s r s.served there look.there refl (idle_served shape d.own w.pick m.ram q seen) is changed
+    let s = serve d.registers.common.features d.kind w.pick m.ram q seen in
+    by_served m after w d look.queue s r s.served there look.there refl (answered d.registers.common.features d.kind w.pick m.ram q seen).idle is changed
 
 by_work : (m after : MachineState) (w : Work) (d : DeviceState) (looked advanced : Option RingState) (o : Outcome) (seen : Next) (r : Reply) → IsSoundDevice (length m.ram) d → slice_get m.devices w.dev ≡ Some d → looked_at d w.pick ≡ looked → advanced_at d w.pick ≡ advanced
-    → (is_some looked || is_some advanced) ≡ true → MayLook (wanted_of d.own w.pick) looked m.ram o seen → r ≡ (device_step d m.ram (disk_of m w.dev) w.pick o seen).reply → after.devices ≡ set m.devices w.dev (device_step d m.ram (disk_of m w.dev) w.pick o seen).device
+    → (is_some looked || is_some advanced) ≡ true → MayLook (wanted_of d.kind w.pick) looked m.ram o seen → r ≡ (device_step d m.ram (disk_of m w.dev) w.pick o seen).reply → after.devices ≡ set m.devices w.dev (device_step d m.ram (disk_of m w.dev) w.pick o seen).device
     → (r ≢ Idle) ⊎ IsNotNotified after w.dev w.pick
 by_work m after w d (Some q) advanced o seen r sound there looked goes work may is changed =
     by_look m after w d q o seen r there looked may (rw (looks_on d m.ram (disk_of m w.dev) w.pick q o seen looked) at is) (rw (looks_on d m.ram (disk_of m w.dev) w.pick q o seen looked) at changed)

@@ -31,12 +31,12 @@ use Rattle.blk.specs.declared.request.Request.{Request}
 use Rattle.blk.specs.declared.shape.BlockShape.{BlockShape}
 use Rattle.mmio.specs.State.{Registers}
 use Rattle.machine.specs.DeviceStep.{serve, wanted_of}
-use Rattle.machine.specs.Shapes.{block_of}
-use Rattle.machine.specs.Sound.{AreFrames, AreHostBytes, IsSoundOwn}
-use Rattle.machine.specs.declared.own.Own.{Own}
-use Rattle.machine.specs.declared.own.Own.TheVariants.{Network, Block, Console, Entropy}
-use Rattle.machine.specs.declared.shape.Shape.{Shape}
-use Rattle.machine.specs.declared.shape.Shape.TheVariants as shapes
+use Rattle.machine.specs.Sound.{IsSoundKind}
+use Rattle.net.specs.Inbox.{AreFrames}
+use Rattle.machine.specs.declared.kind.Kind.{Kind}
+use Rattle.machine.specs.declared.kind.Kind.TheVariants.{Network, Block, Console, Entropy}
+use Rattle.console.specs.Shape.{AreHostBytes}
+use Rattle.blk.specs.Shape.{with_features}
 use Rattle.machine.proofs.Rings.{IsLookedRing}
 
 -- Each write is one of a byte inside a RAM of so many bytes.
@@ -220,19 +220,10 @@ sent_inside ram q form next.Malformed looked = tt
 sent_inside ram q form (next.Chain c) looked = published_inside (length ram) (after_take q c.slots) c.id c.slots 0 false (may_publish_taken (length ram) q c.slots looked)
 
 -- What serving a queue writes.
-pub served_inside : (len : ℕ) (r : Registers) (shape : Shape) (own : Own) (number : ℕ) (ram : List ℕ) (q : RingState) (seen : Next) → IsLookedRing (length ram) q → Sees (wanted_of own number) ram q seen → IsSoundOwn len r shape own → AreInsideRam (length ram) (serve (block_of shape r.common.features) own number ram q seen).writes
-served_inside len r shape (Block requests) number ram q seen looked sees sound = taken_inside ram q (block_of shape r.common.features) requests seen looked
-served_inside len r (shapes.Net mac) (Network frames) zero ram q seen looked sees sound = framed_inside ram q frames seen looked (sight_bounded wanted.Room ram q seen sees) sound
-served_inside len r (shapes.Net mac) (Network frames) (suc number) ram q seen looked sees sound = sent_inside ram q frame_form seen looked
-served_inside len r shapes.Console (Console size held) zero ram q seen looked sees sound = given_inside ram q held seen looked (sight_bounded wanted.Room ram q seen sees) sound.text
-served_inside len r shapes.Console (Console size held) (suc number) ram q seen looked sees sound = sent_inside ram q text_form seen looked
-served_inside len r shapes.Entropy (Entropy pool) number ram q seen looked sees sound = given_inside ram q pool seen looked (sight_bounded wanted.Room ram q seen sees) sound
-served_inside len r (shapes.Net mac) (Console size held) number ram q seen looked sees sound = absurd sound
-served_inside len r (shapes.Net mac) (Entropy pool) number ram q seen looked sees sound = absurd sound
-served_inside len r (shapes.Block sectors read_only id) (Network frames) number ram q seen looked sees sound = absurd sound
-served_inside len r (shapes.Block sectors read_only id) (Console size held) number ram q seen looked sees sound = absurd sound
-served_inside len r (shapes.Block sectors read_only id) (Entropy pool) number ram q seen looked sees sound = absurd sound
-served_inside len r shapes.Console (Network frames) number ram q seen looked sees sound = absurd sound
-served_inside len r shapes.Console (Entropy pool) number ram q seen looked sees sound = absurd sound
-served_inside len r shapes.Entropy (Network frames) number ram q seen looked sees sound = absurd sound
-served_inside len r shapes.Entropy (Console size held) number ram q seen looked sees sound = absurd sound
+pub served_inside : (len : ℕ) (r : Registers) (kind : Kind) (number : ℕ) (ram : List ℕ) (q : RingState) (seen : Next) → IsLookedRing (length ram) q → Sees (wanted_of kind number) ram q seen → IsSoundKind len r kind → AreInsideRam (length ram) (serve r.common.features kind number ram q seen).writes
+served_inside len r (Block sectors read_only id requests) number ram q seen looked sees sound = taken_inside ram q (with_features sectors read_only id r.common.features) requests seen looked
+served_inside len r (Network mac frames) zero ram q seen looked sees sound = framed_inside ram q frames seen looked (sight_bounded wanted.Room ram q seen sees) sound
+served_inside len r (Network mac frames) (suc number) ram q seen looked sees sound = sent_inside ram q frame_form seen looked
+served_inside len r (Console size held) zero ram q seen looked sees sound = given_inside ram q held seen looked (sight_bounded wanted.Room ram q seen sees) sound.text
+served_inside len r (Console size held) (suc number) ram q seen looked sees sound = sent_inside ram q text_form seen looked
+served_inside len r (Entropy pool) number ram q seen looked sees sound = given_inside ram q pool seen looked (sight_bounded wanted.Room ram q seen sees) sound

@@ -1,9 +1,11 @@
 pub mod Advancing
 pub mod Agreeing
+pub mod Answering
 pub mod Effects
 pub mod Failing
 pub mod GettingOn
 pub mod Inside
+pub mod MadeAs
 pub mod Looking
 pub mod NextWork
 pub mod Rings

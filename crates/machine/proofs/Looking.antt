@@ -56,7 +56,7 @@ all_four a b c e p q r s = rw (p, q, r, s) refl
 
 pub is_looked : (d : DeviceState) (pick : ℕ) (q : RingState) → IsLookedAt d pick q → looked_at d pick ≡ Some q
 is_looked d pick q h =
-    let all : looks d pick h.queue ≡ true = all_four (is_running d.registers.common) h.queue.is_ready h.queue.is_notified (has_work d.own pick) h.driven h.ready h.notified h.work in
+    let all : looks d pick h.queue ≡ true = all_four (is_running d.registers.common) h.queue.is_ready h.queue.is_notified (has_work d.kind pick) h.driven h.ready h.notified h.work in
     rw (h.there, h.placed, all, h.is) refl
 
 -- A pick that names no queue, and a queue that is not looked at.

@@ -7,9 +7,10 @@ use Rattle.std.proofs.lemmas.List.Folds.{find-append}
 use Rattle.std.proofs.lemmas.Option.{slice_get-get_or, slice_get_past, slice_get_within}
 use Rattle.mmio.specs.State.{first_queue}
 use Rattle.chains.specs.State.{RingState, state_of}
-use Rattle.machine.specs.DeviceStep.{advanced_at, advances, looked_at}
+use Rattle.mmio.specs.declared.queue.Queue.{Queue}
+use Rattle.machine.specs.DeviceStep.{advanced_at, advances, looked_at, looks}
 use Rattle.machine.specs.NextWork.{HaveNoWork, has_work_at, has_work_with, next_work, number_of, picks_from, steps_between, work_of}
-use Rattle.machine.specs.Shapes.{queues_of}
+use Rattle.machine.specs.Shapes.{made_as, queues_of}
 use Rattle.machine.specs.Sound.{IsSoundDevice}
 use Rattle.machine.specs.State.{DeviceState}
 use Rattle.machine.specs.declared.shape.Shape.{Shape}
@@ -180,9 +181,18 @@ some_if : {A : Type 0} (b : Bool) (x : A) → is_some (cond b (Some x) None) ≡
 some_if true x = refl
 some_if false x = refl
 
+pub looks_some : (len : ℕ) (d : DeviceState) (pick : ℕ) (qs : List Queue) → IsSoundDevice len d → qs ≡ d.registers.queues → pick < length qs → looks d pick (get_or qs pick first_queue) ≡ is_some (looked_at d pick)
+looks_some len d pick qs sound same below =
+    let there : pick < length d.registers.queues = omega (arith, below, ap length same) in
+    let long : length d.positions ≡ length d.registers.queues = positions_long _ d.registers.queues d.positions sound.positions in
+    let queue = get_or d.registers.queues pick first_queue in
+    let placed = get_or d.positions pick no_positions in
+    rw (same, slice_get-get_or d.registers.queues pick first_queue there, slice_get-get_or d.positions pick no_positions (omega (arith, there, long)))
+    (sym (some_if (looks d pick queue) (state_of queue d.registers.common.features placed)))
+
 pub advances_some : (len : ℕ) (d : DeviceState) (pick : ℕ) → IsSoundDevice len d → is_some (advanced_at d pick) ≡ advances d pick
 advances_some len d pick sound =
-    let queues : 0 < length d.registers.queues = omega (arith, some_queues d.shape, sound.queues) in
+    let queues : 0 < length d.registers.queues = omega (arith, some_queues (made_as d.kind), sound.queues) in
     let long : length d.positions ≡ length d.registers.queues = positions_long _ d.registers.queues d.positions sound.positions in
     rw (slice_get-get_or d.registers.queues 0 first_queue queues, slice_get-get_or d.positions 0 no_positions (omega (arith, queues, long)))
     (some_if (advances d pick) (state_of (get_or d.registers.queues 0 first_queue) d.registers.common.features (get_or d.positions 0 no_positions)))

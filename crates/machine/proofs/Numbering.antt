@@ -5,7 +5,7 @@ use borrow.Author.Tests.{ltb-true, ltb-false}
 use Rattle.guestmem.specs.Item.{Item, page, sector}
 use Rattle.machine.specs.EffectLaws.{HasItem, IsSameShape, sector_on}
 use Rattle.machine.specs.Layout.{Layout, IsItemIn, layout_by, layout_of, pages_of, firsts_from, size_from, size_of, number_of, sector_from, item_at}
-use Rattle.machine.specs.Shapes.{sector_count}
+use Rattle.machine.specs.Shapes.{made_as, sector_count}
 use Rattle.machine.specs.Sound.{IsSound}
 use Rattle.blk.specs.Sectors.{Sector}
 use Rattle.machine.specs.State.{DeviceState, MachineState}
@@ -151,9 +151,9 @@ pub same_layout : (m k : MachineState) → IsSameShape m k → layout_of k ≡ l
 same_layout m k h = layouts (pages_of k) (pages_of m) (map length k.disks) (map length m.disks) (ap (λ n. n / 4096) h.ram) h.disks
 
 -- The layout of a sound machine is that of its pages and devices.
-pub shape_counts : (ds : List DeviceState) → map (λ (d : DeviceState). sector_count d.shape) ds ≡ map sector_count (map (λ (d : DeviceState). d.shape) ds)
+pub shape_counts : (ds : List DeviceState) → map (λ (d : DeviceState). sector_count (made_as d.kind)) ds ≡ map sector_count (map (λ (d : DeviceState). made_as d.kind) ds)
 shape_counts [] = refl
-shape_counts (d ∷ ds) = ap (λ xs. sector_count d.shape ∷ xs) (shape_counts ds)
+shape_counts (d ∷ ds) = ap (λ xs. sector_count (made_as d.kind) ∷ xs) (shape_counts ds)
 
-pub sound_layout : (m : MachineState) → IsSound m → layout_of m ≡ layout_by (pages_of m) (map (λ (d : DeviceState). d.shape) m.devices)
-sound_layout m sound = layouts (pages_of m) (pages_of m) (map length m.disks) (map sector_count (map (λ (d : DeviceState). d.shape) m.devices)) refl (sound.disks ∙ shape_counts m.devices)
+pub sound_layout : (m : MachineState) → IsSound m → layout_of m ≡ layout_by (pages_of m) (map (λ (d : DeviceState). made_as d.kind) m.devices)
+sound_layout m sound = layouts (pages_of m) (pages_of m) (map length m.disks) (map sector_count (map (λ (d : DeviceState). made_as d.kind) m.devices)) refl (sound.disks ∙ shape_counts m.devices)

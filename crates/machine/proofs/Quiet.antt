@@ -14,8 +14,8 @@ use Rattle.machine.specs.State.{DeviceState, MachineState}
 use Rattle.machine.specs.Step.{answer, input_of, put_by, put_in, read_ram, read_register, set_size, size_by, write_register}
 use Rattle.machine.specs.declared.event.Event.{Event}
 use Rattle.machine.specs.declared.event.Event.TheVariants.{RegRead, RegWrite, MemRead, MemWrite, Step, Input, Resize}
-use Rattle.machine.specs.declared.own.Own.{Own}
-use Rattle.machine.specs.declared.own.Own.TheVariants.{Network, Block, Console, Entropy}
+use Rattle.machine.specs.declared.kind.Kind.{Kind}
+use Rattle.machine.specs.declared.kind.Kind.TheVariants.{Network, Block, Console, Entropy}
 use Rattle.machine.specs.declared.reply.Refusal.{Refusal}
 use Rattle.machine.specs.declared.reply.Reply.{Reply}
 
@@ -44,17 +44,17 @@ of_put dev d bytes (Err refusal) = refl
 
 of_input : (dev : ℕ) (d : Option DeviceState) (bytes : List ℕ) → items_of (put_in dev d bytes).effect ≡ []
 of_input dev None bytes = refl
-of_input dev (Some d) bytes = of_put dev d bytes (input_of d.own bytes)
+of_input dev (Some d) bytes = of_put dev d bytes (input_of d.kind bytes)
 
-of_own : (dev : ℕ) (d : DeviceState) (own : Own) (size : ConsoleSize) → items_of (size_by dev d own size).effect ≡ []
-of_own dev d (Console old held) size = refl
-of_own dev d (Network frames) size = refl
-of_own dev d (Block requests) size = refl
-of_own dev d (Entropy pool) size = refl
+of_kind : (dev : ℕ) (d : DeviceState) (kind : Kind) (size : ConsoleSize) → items_of (size_by dev d kind size).effect ≡ []
+of_kind dev d (Console old held) size = refl
+of_kind dev d (Network mac frames) size = refl
+of_kind dev d (Block sectors read_only id requests) size = refl
+of_kind dev d (Entropy pool) size = refl
 
 of_size : (dev : ℕ) (d : Option DeviceState) (size : ConsoleSize) → items_of (set_size dev d size).effect ≡ []
 of_size dev None size = refl
-of_size dev (Some d) size = of_own dev d d.own size
+of_size dev (Some d) size = of_kind dev d d.kind size
 
 pub no_items : (m : MachineState) (e : Event) (o : Outcome) (seen : Next) → IsQuiet e → items_of (answer m e o seen).effect ≡ []
 no_items m (RegRead dev off width) o seen quiet = of_read (slice_get m.devices dev) off width

@@ -12,6 +12,7 @@ use Rattle.machine.specs.EffectLaws.{HasItem, sector_on, sectors_on}
 use Rattle.machine.specs.Held.{IsHeld}
 use Rattle.machine.specs.NextBad.{found_good}
 use Rattle.machine.specs.Seen.{DeviceSeen, failed_if, state_of}
+use Rattle.machine.specs.Shapes.{made_as}
 use Rattle.machine.specs.declared.shape.Shape.{Shape}
 use Rattle.machine.proofs.At.{IsAt, map-set_same}
 
@@ -27,7 +28,7 @@ pub held_so : (shapes : List Shape) (m : Memory) (ds : List DeviceSeen) (dev : �
     → IsHeld shapes (record { memory = m; devices = ds }) → IsHeld shapes (record { memory = m; devices = set ds dev new })
 held_so shapes m ds dev d new at state sectors held = record {
   sound = rw (same_state m ds dev d new at state sectors) held.sound;
-  shapes_are = held.shapes_are ∙ sym (map-set_same (λ (x : DeviceSeen). x.state.shape) ds dev d new at (ap (λ s. s.shape) state));
+  shapes_are = held.shapes_are ∙ sym (map-set_same (λ (x : DeviceSeen). made_as x.state.kind) ds dev d new at (ap (λ s. made_as s.kind) state));
 }
 
 -- What is seen of the device itself.

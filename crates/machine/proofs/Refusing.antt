@@ -14,18 +14,18 @@ use Rattle.machine.specs.DeviceStep.{advanced_at, device_step, looked_at, step_a
 use Rattle.machine.specs.Effect.{Effect, applied, items_of, replaced_in, sectors_set, sets_on}
 use Rattle.machine.specs.Outcome.{Outcome, disk_failed, fine, is_failure, no_memory, outcome_of}
 use Rattle.machine.specs.Seen.{Marks, all_marks, state_of}
-use Rattle.machine.specs.Shapes.{block_of}
 use Rattle.machine.specs.State.{DeviceState, MachineState}
 use Rattle.machine.specs.Step.{answer, input_of, put_by, put_in, read_ram, read_register, set_size, size_by, step_device, write_ram, write_register}
 use Rattle.machine.specs.StepLaws.{IsRefusal}
 use Rattle.machine.specs.declared.event.Event.{Event}
 use Rattle.machine.specs.declared.event.Event.TheVariants.{RegRead, RegWrite, MemRead, MemWrite, Step, Input, Resize}
-use Rattle.machine.specs.declared.own.Own.{Own}
-use Rattle.machine.specs.declared.own.Own.TheVariants.{Network, Block, Console, Entropy}
+use Rattle.machine.specs.declared.kind.Kind.{Kind}
+use Rattle.machine.specs.declared.kind.Kind.TheVariants.{Network, Block, Console, Entropy}
 use Rattle.machine.specs.declared.reply.Refusal.{Refusal}
 use Rattle.machine.specs.declared.reply.Reply.{Reply}
 use Rattle.machine.specs.declared.reply.Reply.TheVariants as replies
-use Rattle.machine.proofs.Containing.{quiet, quiet_advance, quiet_service}
+use Rattle.machine.proofs.Answering.{answered}
+use Rattle.machine.proofs.Containing.{quiet, quiet_advance}
 
 -- An effect that writes nothing.
 record IsUnwritten (f : Effect) : Type 0 where
@@ -37,7 +37,7 @@ at_ring : (d : DeviceState) (ram : List ℕ) (content : List Sector) (pick : ℕ
 at_ring d ram content pick seen None o h = absurd (quiet_advance d ram content pick (advanced_at d pick) o h)
 at_ring d ram content pick seen (Some q) no_memory h = (refl, refl)
 at_ring d ram content pick seen (Some q) disk_failed h = absurd h
-at_ring d ram content pick seen (Some q) fine h = absurd (quiet_service (block_of d.shape d.registers.common.features) d.own pick ram q seen h)
+at_ring d ram content pick seen (Some q) fine h = absurd ((answered d.registers.common.features d.kind pick ram q seen).quiet h)
 
 of_step : (dev : ℕ) (d : Option DeviceState) (ram : List ℕ) (content : List Sector) (pick : ℕ) (o : Outcome) (seen : Next) → IsRefusal (step_device dev d ram content pick o seen).reply → IsUnwritten (step_device dev d ram content pick o seen).effect
 unfolding device_step
@@ -70,17 +70,17 @@ of_put_by dev d bytes (Err refusal) = record { writes = refl; sectors = refl }
 
 of_put : (dev : ℕ) (d : Option DeviceState) (bytes : List ℕ) → IsUnwritten (put_in dev d bytes).effect
 of_put dev None bytes = record { writes = refl; sectors = refl }
-of_put dev (Some d) bytes = of_put_by dev d bytes (input_of d.own bytes)
+of_put dev (Some d) bytes = of_put_by dev d bytes (input_of d.kind bytes)
 
-of_size_by : (dev : ℕ) (d : DeviceState) (own : Own) (size : ConsoleSize) → IsUnwritten (size_by dev d own size).effect
-of_size_by dev d (Network frames) size = record { writes = refl; sectors = refl }
-of_size_by dev d (Block requests) size = record { writes = refl; sectors = refl }
+of_size_by : (dev : ℕ) (d : DeviceState) (kind : Kind) (size : ConsoleSize) → IsUnwritten (size_by dev d kind size).effect
+of_size_by dev d (Network mac frames) size = record { writes = refl; sectors = refl }
+of_size_by dev d (Block sectors read_only id requests) size = record { writes = refl; sectors = refl }
 of_size_by dev d (Console old held) size = record { writes = refl; sectors = refl }
 of_size_by dev d (Entropy pool) size = record { writes = refl; sectors = refl }
 
 of_size : (dev : ℕ) (d : Option DeviceState) (size : ConsoleSize) → IsUnwritten (set_size dev d size).effect
 of_size dev None size = record { writes = refl; sectors = refl }
-of_size dev (Some d) size = of_size_by dev d d.own size
+of_size dev (Some d) size = of_size_by dev d d.kind size
 
 unwritten : (m : MachineState) (e : Event) (o : Outcome) (seen : Next) → IsRefusal (answer m e o seen).reply → IsUnwritten (answer m e o seen).effect
 unwritten m (RegRead dev off width) o seen h = of_look (slice_get m.devices dev) off width

@@ -17,24 +17,23 @@ use Rattle.chains.specs.declared.next.Next.TheVariants as next
 use Rattle.chains.specs.Transmit.{transmit_step}
 use Rattle.chains.specs.declared.transmitting.MessageForm.{MessageForm}
 use Rattle.console.specs.Transmit.{text_form}
+use Rattle.net.specs.Inbox.{AreFrames}
 use Rattle.net.specs.Receive as net
 use Rattle.net.specs.Transmit.{frame_form}
 use Rattle.net.specs.declared.header.TheConstants.{HEADER_SIZE}
 use Rattle.console.specs.Receive.{receive_step, give}
+use Rattle.console.specs.Shape.{AreHostBytes, IsSoundConsole}
 use Rattle.blk.proofs.Tasks.{taken_sound}
 use Rattle.machine.proofs.ChainIds.{id_fits}
+use Rattle.blk.specs.Shape.{with_features}
 use Rattle.blk.specs.Sound.{AreSound}
 use Rattle.blk.specs.Take.{take_step, request_for, task_for, header_of, segment_of}
 use Rattle.blk.specs.declared.request.TheConstants.{HEADER_SIZE as REQUEST_HEADER_SIZE}
 use Rattle.blk.specs.declared.request.Request.{Request}
 use Rattle.blk.specs.declared.shape.BlockShape.{BlockShape}
 use Rattle.machine.specs.DeviceStep.{has_work, serve, wanted_of}
-use Rattle.machine.specs.Shapes.{block_of}
-use Rattle.machine.specs.Sound.{AreFrames, AreHostBytes, IsSoundConsole}
-use Rattle.machine.specs.declared.own.Own.{Own}
-use Rattle.machine.specs.declared.own.Own.TheVariants.{Network, Block, Console, Entropy}
-use Rattle.machine.specs.declared.shape.Shape.{Shape}
-use Rattle.machine.specs.declared.shape.Shape.TheVariants as shapes
+use Rattle.machine.specs.declared.kind.Kind.{Kind}
+use Rattle.machine.specs.declared.kind.Kind.TheVariants.{Network, Block, Console, Entropy}
 use Rattle.machine.proofs.Rings.{IsLookedRing, IsPlacedRing, placed_by, placed_taken}
 
 -- A ring of the same layout and size, whose places fit.
@@ -69,23 +68,11 @@ pub record AreOutstanding (len : ℕ) (s : RingState) (shape : BlockShape) (requ
   pub few : length requests ≤ 8
   pub sound : AreSound len s shape requests
 
-abbrev pub SoundBeside : ℕ → RingState → Shape → ℕ → Own → Type 0
-SoundBeside len s (shapes.Net mac) features (Network frames) = AreFrames frames
-SoundBeside len s (shapes.Block sectors read_only id) features (Block requests) = AreOutstanding len s (block_of (shapes.Block sectors read_only id) features) requests
-SoundBeside len s shapes.Console features (Console size held) = IsSoundConsole size held
-SoundBeside len s shapes.Entropy features (Entropy pool) = AreHostBytes pool
-SoundBeside len s (shapes.Net mac) features (Block requests) = ⊥
-SoundBeside len s (shapes.Net mac) features (Console size held) = ⊥
-SoundBeside len s (shapes.Net mac) features (Entropy pool) = ⊥
-SoundBeside len s (shapes.Block sectors read_only id) features (Network frames) = ⊥
-SoundBeside len s (shapes.Block sectors read_only id) features (Console size held) = ⊥
-SoundBeside len s (shapes.Block sectors read_only id) features (Entropy pool) = ⊥
-SoundBeside len s shapes.Console features (Network frames) = ⊥
-SoundBeside len s shapes.Console features (Block requests) = ⊥
-SoundBeside len s shapes.Console features (Entropy pool) = ⊥
-SoundBeside len s shapes.Entropy features (Network frames) = ⊥
-SoundBeside len s shapes.Entropy features (Block requests) = ⊥
-SoundBeside len s shapes.Entropy features (Console size held) = ⊥
+abbrev pub SoundBeside : ℕ → RingState → ℕ → Kind → Type 0
+SoundBeside len s features (Network mac frames) = AreFrames frames
+SoundBeside len s features (Block sectors read_only id requests) = AreOutstanding len s (with_features sectors read_only id features) requests
+SoundBeside len s features (Console size held) = IsSoundConsole size held
+SoundBeside len s features (Entropy pool) = AreHostBytes pool
 
 -- The step that takes a request: the ring after it, and the requests.
 record TakesOn (len : ℕ) (s new : RingState) (shape : BlockShape) (requests : List Request) : Type 0 where
@@ -138,35 +125,23 @@ sent_on ram s form next.Malformed looked bounded = same_ring s looked.placed
 sent_on ram s form (next.Chain c) looked bounded = record { layout = refl; size = refl; placed = placed_by s c.slots s.is_packed refl looked.may looked.placed bounded.slots }
 
 -- The ring after a queue was served, and what the kind has.
-pub record ServesOn (len : ℕ) (shape : Shape) (features : ℕ) (s new : RingState) (own : Own) : Type 0 where
+pub record ServesOn (len : ℕ) (features : ℕ) (s new : RingState) (kind : Kind) : Type 0 where
   pub ring : IsSameRing s new
-  pub own_is : SoundBeside len new shape features own
+  pub kind_is : SoundBeside len new features kind
 
-pub served_on : (shape : Shape) (features : ℕ) (own : Own) (number : ℕ) (ram : List ℕ) (s : RingState) (seen : Next) → has_work own number ≡ true → IsBytes ram → IsLookedRing (length ram) s → Sees (wanted_of own number) ram s seen → SoundBeside (length ram) s shape features own
-    → ServesOn (length ram) shape features s (serve (block_of shape features) own number ram s seen).ring (serve (block_of shape features) own number ram s seen).own
-served_on (shapes.Net mac) features (Network frames) zero ram s seen work bytes looked sees sound =
+pub served_on : (features : ℕ) (kind : Kind) (number : ℕ) (ram : List ℕ) (s : RingState) (seen : Next) → has_work kind number ≡ true → IsBytes ram → IsLookedRing (length ram) s → Sees (wanted_of kind number) ram s seen → SoundBeside (length ram) s features kind
+    → ServesOn (length ram) features s (serve features kind number ram s seen).ring (serve features kind number ram s seen).kind
+served_on features (Network mac frames) zero ram s seen work bytes looked sees sound =
     let g = framed_on ram s frames seen looked (sight_bounded wanted.Room ram s seen sees) sound in
-    record { ring = g.ring; own_is = g.are }
-served_on (shapes.Net mac) features (Network frames) (suc number) ram s seen work bytes looked sees sound = record { ring = sent_on ram s frame_form seen looked (sight_bounded (wanted.Message frame_form) ram s seen sees); own_is = sound }
-served_on (shapes.Block sectors read_only id) features (Block requests) number ram s seen work bytes looked sees sound =
-    let t = taken_on ram s (block_of (shapes.Block sectors read_only id) features) requests seen work bytes sees looked sound in
-    record { ring = t.ring; own_is = t.are }
-served_on shapes.Console features (Console size held) zero ram s seen work bytes looked sees sound =
+    record { ring = g.ring; kind_is = g.are }
+served_on features (Network mac frames) (suc number) ram s seen work bytes looked sees sound = record { ring = sent_on ram s frame_form seen looked (sight_bounded (wanted.Message frame_form) ram s seen sees); kind_is = sound }
+served_on features (Block sectors read_only id requests) number ram s seen work bytes looked sees sound =
+    let t = taken_on ram s (with_features sectors read_only id features) requests seen work bytes sees looked sound in
+    record { ring = t.ring; kind_is = t.are }
+served_on features (Console size held) zero ram s seen work bytes looked sees sound =
     let g = given_on (length ram) ram s held seen looked (sight_bounded wanted.Room ram s seen sees) sound.text in
-    record { ring = g.ring; own_is = record { columns = sound.columns; rows = sound.rows; text = g.left_are } }
-served_on shapes.Console features (Console size held) (suc number) ram s seen work bytes looked sees sound = record { ring = sent_on ram s text_form seen looked (sight_bounded (wanted.Message text_form) ram s seen sees); own_is = sound }
-served_on shapes.Entropy features (Entropy pool) number ram s seen work bytes looked sees sound =
+    record { ring = g.ring; kind_is = record { columns = sound.columns; rows = sound.rows; text = g.left_are } }
+served_on features (Console size held) (suc number) ram s seen work bytes looked sees sound = record { ring = sent_on ram s text_form seen looked (sight_bounded (wanted.Message text_form) ram s seen sees); kind_is = sound }
+served_on features (Entropy pool) number ram s seen work bytes looked sees sound =
     let g = given_on (length ram) ram s pool seen looked (sight_bounded wanted.Room ram s seen sees) sound in
-    record { ring = g.ring; own_is = g.left_are }
-served_on (shapes.Net mac) features (Block requests) number ram s seen work bytes looked sees sound = absurd sound
-served_on (shapes.Net mac) features (Console size held) number ram s seen work bytes looked sees sound = absurd sound
-served_on (shapes.Net mac) features (Entropy pool) number ram s seen work bytes looked sees sound = absurd sound
-served_on (shapes.Block sectors read_only id) features (Network frames) number ram s seen work bytes looked sees sound = absurd sound
-served_on (shapes.Block sectors read_only id) features (Console size held) number ram s seen work bytes looked sees sound = absurd sound
-served_on (shapes.Block sectors read_only id) features (Entropy pool) number ram s seen work bytes looked sees sound = absurd sound
-served_on shapes.Console features (Network frames) number ram s seen work bytes looked sees sound = absurd sound
-served_on shapes.Console features (Block requests) number ram s seen work bytes looked sees sound = absurd sound
-served_on shapes.Console features (Entropy pool) number ram s seen work bytes looked sees sound = absurd sound
-served_on shapes.Entropy features (Network frames) number ram s seen work bytes looked sees sound = absurd sound
-served_on shapes.Entropy features (Block requests) number ram s seen work bytes looked sees sound = absurd sound
-served_on shapes.Entropy features (Console size held) number ram s seen work bytes looked sees sound = absurd sound
+    record { ring = g.ring; kind_is = g.left_are }

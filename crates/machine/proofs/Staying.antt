@@ -2,7 +2,7 @@
 use Rattle.std.proofs.Common.{◌≡◌, ℕ, zero, suc, ◌+◌, ◌%◌, ◌^◌, ◌<◌, ◌≤◌, ◌⊎◌, inl, inr, Bool, true, false, cond, eqb, ltb, List, [], ◌∷◌, ◌++◌, length, take, set, get_or, Option, Some, None, refl, sym, ap, ◌∙◌, subst, arith, length-append}
 use Rattle.std.proofs.lemmas.List.Elements.{All-append}
 use borrow.Author.Tests.{ltb-true, ltb-false}
-use Rattle.net.specs.Inbox.{IsFrame, is_frame_len}
+use Rattle.net.specs.Inbox.{AreFrames, IsFrame, is_frame_len}
 use Rattle.std.specs.Prelude.{◌-◌, ◌&&◌, not, bit_and, bit_or, slice_get, IsSomeAnd}
 use Rattle.std.proofs.lemmas.Option.{slice_get_within}
 use Rattle.std.proofs.lemmas.Nat.{mod_below}
@@ -12,17 +12,19 @@ use Rattle.guestmem.specs.ByteLaws.{IsBytes-append, IsBytes-take}
 use Rattle.guestmem.specs.Number.{IsBytes}
 use Rattle.blk.specs.Advance.{AdvanceStep, advance_step}
 use Rattle.blk.specs.Sectors.{Sector, AreWhole}
-use Rattle.blk.specs.Sound.{AreSound}
+use Rattle.blk.specs.Shape.{with_features}
+use Rattle.blk.specs.Sound.{AreRequestsOf, AreSound}
 use Rattle.blk.specs.declared.request.Request.{Request}
 use Rattle.blk.specs.declared.shape.BlockShape.{BlockShape}
 use Rattle.chains.specs.Look.{Sees}
-use Rattle.chains.specs.State.{RingState}
+use Rattle.chains.specs.State.{RingState, state_of}
 use Rattle.chains.specs.declared.next.Next.{Next}
 use Rattle.chains.specs.declared.position.Positions.{Positions}
 use Rattle.mmio.specs.Effects.{StaysReady, EachStaysReady}
 use Rattle.mmio.specs.QueueRegisters.{notified_cleared}
 use Rattle.mmio.specs.RegisterWrite.{register_write}
 use Rattle.mmio.specs.Sound.{IsSoundRegisters}
+use Rattle.console.specs.Shape.{AreHostBytes, IsSoundConsole}
 use Rattle.console.specs.Size.{differ, resized}
 use Rattle.console.specs.declared.size.ConsoleSize.{ConsoleSize}
 use Rattle.mmio.proofs.Keeping.{change_kept, registers_stay}
@@ -36,22 +38,40 @@ use Rattle.machine.specs.DeviceStep.{serve, registers_after, after_service, afte
 use Rattle.machine.specs.Looked.{IsLookedAt}
 use Rattle.machine.specs.Outcome.{Outcome, fine, disk_failed, no_memory, disk_does}
 use Rattle.machine.specs.QueuePositions.{HavePositions, HasPositions, ArePlaced, first_positions, kept_positions, is_packed_by}
-use Rattle.machine.specs.Shapes.{block_of, queues_of, sector_count}
-use Rattle.machine.specs.Sound.{AreFrames, AreHostBytes, AreRequestsOf, IsSoundDevice, IsSoundOwn, IsSoundShape}
+use Rattle.machine.specs.Shapes.{block_of, made_as, queues_of, sector_count}
+use Rattle.machine.specs.Sound.{IsSoundDevice, IsSoundKind, IsSoundShape}
 use Rattle.machine.specs.State.{DeviceState}
-use Rattle.machine.specs.Step.{register_set, kept_in, kept_own, kept_requests, own_with_input, with_input}
-use Rattle.machine.specs.declared.own.Own.{Own}
-use Rattle.machine.specs.declared.own.Own.TheVariants.{Network, Block, Console, Entropy}
-use Rattle.machine.specs.declared.served.Served.{Served}
-use Rattle.machine.specs.declared.served.Served.TheVariants as served
+use Rattle.machine.specs.Step.{register_set, kept_in, kept_kind, kept_requests, kind_with_input, with_input}
+use Rattle.machine.specs.declared.kind.Kind.{Kind}
+use Rattle.machine.specs.declared.kind.Kind.TheVariants.{Network, Block, Console, Entropy}
+use Rattle.machine.specs.Served.{Served}
+use Rattle.machine.specs.Served as served
 use Rattle.machine.specs.declared.shape.Shape.{Shape}
 use Rattle.machine.specs.declared.shape.Shape.TheVariants as shapes
 use Rattle.machine.proofs.Advancing.{IsAdvancedAt, advanced_is}
+use Rattle.machine.proofs.MadeAs.{kept_as, input_as, served_as, requests_as}
 use Rattle.machine.proofs.Looking.{looked_is}
 use Rattle.machine.proofs.Outstanding.{GoesOn, goes_on_by}
 use Rattle.machine.proofs.Rings.{have_set, have_cleared, looked_ring, packed_same, ready_ring}
-use Rattle.machine.proofs.Serving.{SoundBeside, served_on}
+use Rattle.machine.proofs.Serving.{IsSameRing, SoundBeside, served_on}
 use Rattle.blk.proofs.Zeros.{zero_bytes}
+
+-- A device stays sound if it stays what it was made as, its registers stay sound, and its positions and what only its kind has
+-- are such as it can have.
+stays_sound : (len : ℕ) (d new : DeviceState) → made_as new.kind ≡ made_as d.kind → StaysSound d.registers new.registers → HavePositions (is_packed_by new.registers.common) new.registers.queues new.positions → IsSoundKind len new.registers new.kind → IsSoundDevice len d → IsSoundDevice len new
+stays_sound len d new same stays positions kind sound = record {
+  shape = rw same sound.shape;
+  device_id = rw same (stays.same.device_id ∙ sound.device_id);
+  offered = rw same (stays.same.offered ∙ sound.offered);
+  queues = rw same (stays.same.queue_count ∙ sound.queues);
+  ram_len = stays.same.ram_len ∙ sound.ram_len;
+  registers = stays.sound;
+  positions = positions;
+  kind = kind;
+}
+
+same_registers : (r : Registers) → IsSoundRegisters r → StaysSound r r
+same_registers r sound = record { same = record { device_id = refl; offered = refl; ram_len = refl; queue_count = refl }; sound = sound }
 
 first_placed : (packed : Bool) (size : ℕ) → 0 < size → ArePlaced packed size first_positions
 first_placed true size some = (some, some)
@@ -130,23 +150,11 @@ kept_requests_sound len was is [] ns shape requests stay are = absurd are
 kept_requests_sound len was is (o ∷ os) [] shape requests stay are = absurd stay
 kept_requests_sound len was is (o ∷ os) (n ∷ ns) shape requests stay are = kept_by len was is o n shape requests n.is_ready refl stay.0 are
 
-own_kept : (len : ℕ) (r new : Registers) (shape : Shape) (own : Own) → EachStaysReady r.common.features new.common.features r.queues new.queues → IsSoundOwn len r shape own → IsSoundOwn len new shape (kept_own new.queues own)
-own_kept len r new (shapes.Net mac) (Network frames) stay sound = sound
-own_kept len r new (shapes.Block sectors read_only id) (Block requests) stay sound = kept_requests_sound len r.common.features new.common.features r.queues new.queues (block_of (shapes.Block sectors read_only id)) requests stay sound
-own_kept len r new shapes.Console (Console size held) stay sound = sound
-own_kept len r new shapes.Entropy (Entropy pool) stay sound = sound
-own_kept len r new (shapes.Net mac) (Block requests) stay sound = absurd sound
-own_kept len r new (shapes.Net mac) (Console size held) stay sound = absurd sound
-own_kept len r new (shapes.Net mac) (Entropy pool) stay sound = absurd sound
-own_kept len r new (shapes.Block sectors read_only id) (Network frames) stay sound = absurd sound
-own_kept len r new (shapes.Block sectors read_only id) (Console size held) stay sound = absurd sound
-own_kept len r new (shapes.Block sectors read_only id) (Entropy pool) stay sound = absurd sound
-own_kept len r new shapes.Console (Network frames) stay sound = absurd sound
-own_kept len r new shapes.Console (Block requests) stay sound = absurd sound
-own_kept len r new shapes.Console (Entropy pool) stay sound = absurd sound
-own_kept len r new shapes.Entropy (Network frames) stay sound = absurd sound
-own_kept len r new shapes.Entropy (Block requests) stay sound = absurd sound
-own_kept len r new shapes.Entropy (Console size held) stay sound = absurd sound
+kind_kept : (len : ℕ) (r new : Registers) (kind : Kind) → EachStaysReady r.common.features new.common.features r.queues new.queues → IsSoundKind len r kind → IsSoundKind len new (kept_kind new.queues kind)
+kind_kept len r new (Network mac frames) stay sound = sound
+kind_kept len r new (Block sectors read_only id requests) stay sound = kept_requests_sound len r.common.features new.common.features r.queues new.queues (with_features sectors read_only id) requests stay sound
+kind_kept len r new (Console size held) stay sound = sound
+kind_kept len r new (Entropy pool) stay sound = sound
 
 -- The driver writes a register.
 pub sound_written : (len : ℕ) (d : DeviceState) (offset width value : ℕ) → value < 2 ^ 32 → IsSoundDevice len d → IsSoundDevice len (register_set d offset width value)
@@ -154,16 +162,8 @@ sound_written len d offset width value small sound =
     let new = (register_write d.registers offset width value).1 in
     let stays : StaysSound d.registers new = write_sound d.registers offset width value small sound.registers in
     let ready = write_stays d.registers offset width value sound.registers in
-    record {
-      shape = sound.shape;
-      device_id = stays.same.device_id ∙ sound.device_id;
-      offered = stays.same.offered ∙ sound.offered;
-      queues = stays.same.queue_count ∙ sound.queues;
-      ram_len = stays.same.ram_len ∙ sound.ram_len;
-      registers = stays.sound;
-      positions = all_kept d.registers.common.features new.common.features d.registers.queues new.queues d.positions ready sound.positions;
-      own = own_kept len d.registers new d.shape d.own ready sound.own;
-    }
+    stays_sound len d (register_set d offset width value) (kept_as new.queues d.kind) stays
+    (all_kept d.registers.common.features new.common.features d.registers.queues new.queues d.positions ready sound.positions) (kind_kept len d.registers new d.kind ready sound.kind) sound
 
 -- The host puts bytes in.
 host_bytes_more : (pool bytes : List ℕ) → AreHostBytes pool → IsBytes bytes → length pool + length bytes ≤ 4096 → AreHostBytes (pool ++ bytes)
@@ -186,15 +186,11 @@ one_frame : (frame : List ℕ) (d : List ℕ) (k : ℕ) → k < 1 → IsFrame fr
 one_frame frame d zero below h = h
 one_frame frame d (suc k) below h = absurd (omega (arith, below))
 
-abbrev IsSoundFrames : Own → Type 0
-IsSoundFrames (Network frames) = AreFrames frames
-IsSoundFrames _ = ⊥
-
-frames_put : (frames : List (List ℕ)) (bytes : List ℕ) (good room : Bool) → is_frame_len (length bytes) ≡ good → ltb (length frames) 64 ≡ room → AreFrames frames → IsBytes bytes
-    → IsSoundFrames (cond good (Network (cond room (frames ++ bytes ∷ []) frames)) (Network frames))
-frames_put frames bytes false room is less sound are = sound
-frames_put frames bytes true false is less sound are = sound
-frames_put frames bytes true true is less sound are =
+frames_put : (len : ℕ) (r : Registers) (mac : List ℕ) (frames : List (List ℕ)) (bytes : List ℕ) (good room : Bool) → is_frame_len (length bytes) ≡ good → ltb (length frames) 64 ≡ room → AreFrames frames → IsBytes bytes
+    → IsSoundKind len r (cond good (Network mac (cond room (frames ++ bytes ∷ []) frames)) (Network mac frames))
+frames_put len r mac frames bytes false room is less sound are = sound
+frames_put len r mac frames bytes true false is less sound are = sound
+frames_put len r mac frames bytes true true is less sound are =
     let long = frame_is (length bytes) is in
     let frame : IsFrame bytes = record { long = long.0; short = long.1; are = are } in
     record {
@@ -202,40 +198,17 @@ frames_put frames bytes true true is less sound are =
       are = All-append IsFrame frames (bytes ∷ []) sound.are (λ k d below. one_frame bytes d k below frame);
     }
 
-sound_put : (len : ℕ) (r : Registers) (shape : Shape) (own : Own) (bytes : List ℕ) → IsSoundOwn len r shape own → IsBytes bytes → IsSoundOwn len r shape (own_with_input own bytes)
-sound_put len r (shapes.Net mac) (Network frames) bytes sound are = frames_put frames bytes (is_frame_len (length bytes)) (ltb (length frames) 64) refl refl sound are
-sound_put len r (shapes.Block sectors read_only id) (Block requests) bytes sound are = sound
-sound_put len r shapes.Console (Console size held) bytes sound are = record { columns = sound.columns; rows = sound.rows; text = bytes_put held bytes sound.text are }
-sound_put len r shapes.Entropy (Entropy pool) bytes sound are = bytes_put pool bytes sound are
-sound_put len r (shapes.Net mac) (Block requests) bytes sound are = absurd sound
-sound_put len r (shapes.Net mac) (Console size held) bytes sound are = absurd sound
-sound_put len r (shapes.Net mac) (Entropy pool) bytes sound are = absurd sound
-sound_put len r (shapes.Block sectors read_only id) (Network frames) bytes sound are = absurd sound
-sound_put len r (shapes.Block sectors read_only id) (Console size held) bytes sound are = absurd sound
-sound_put len r (shapes.Block sectors read_only id) (Entropy pool) bytes sound are = absurd sound
-sound_put len r shapes.Console (Network frames) bytes sound are = absurd sound
-sound_put len r shapes.Console (Block requests) bytes sound are = absurd sound
-sound_put len r shapes.Console (Entropy pool) bytes sound are = absurd sound
-sound_put len r shapes.Entropy (Network frames) bytes sound are = absurd sound
-sound_put len r shapes.Entropy (Block requests) bytes sound are = absurd sound
-sound_put len r shapes.Entropy (Console size held) bytes sound are = absurd sound
+sound_put : (len : ℕ) (r : Registers) (kind : Kind) (bytes : List ℕ) → IsSoundKind len r kind → IsBytes bytes → IsSoundKind len r (kind_with_input kind bytes)
+sound_put len r (Network mac frames) bytes sound are = frames_put len r mac frames bytes (is_frame_len (length bytes)) (ltb (length frames) 64) refl refl sound are
+sound_put len r (Block sectors read_only id requests) bytes sound are = sound
+sound_put len r (Console size held) bytes sound are = record { columns = sound.columns; rows = sound.rows; text = bytes_put held bytes sound.text are }
+sound_put len r (Entropy pool) bytes sound are = bytes_put pool bytes sound are
 
 pub sound_input : (len : ℕ) (d : DeviceState) (bytes : List ℕ) → IsBytes bytes → IsSoundDevice len d → IsSoundDevice len (with_input d bytes)
-sound_input len d bytes are sound = record {
-  shape = sound.shape;
-  device_id = sound.device_id;
-  offered = sound.offered;
-  queues = sound.queues;
-  ram_len = sound.ram_len;
-  registers = sound.registers;
-  positions = sound.positions;
-  own = sound_put len d.registers d.shape d.own bytes sound.own are;
-}
+sound_input len d bytes are sound =
+    stays_sound len d (with_input d bytes) (input_as d.kind bytes) (same_registers d.registers sound.registers) sound.positions (sound_put len d.registers d.kind bytes sound.kind are) sound
 
 -- The host sets the size of a console.
-same_registers : (r : Registers) → IsSoundRegisters r → StaysSound r r
-same_registers r sound = record { same = record { device_id = refl; offered = refl; ram_len = refl; queue_count = refl }; sound = sound }
-
 counted_small : (n : ℕ) → (n + 1) % 2 ^ 32 < 2 ^ 32
 counted_small n = mod_below (n + 1) (2 ^ 32) (omega arith)
 
@@ -271,79 +244,86 @@ resized_positions : (r : Registers) (other : Bool) (ps : List Positions) → Hav
 resized_positions r true ps have = have
 resized_positions r false ps have = have
 
-console_own : (len : ℕ) (r new : Registers) (shape : Shape) (old size : ConsoleSize) (held : List ℕ) → size.columns < 2 ^ 16 → size.rows < 2 ^ 16 → IsSoundOwn len r shape (Console old held) → IsSoundOwn len new shape (Console size held)
-console_own len r new (shapes.Net mac) old size held columns rows sound = absurd sound
-console_own len r new (shapes.Block sectors read_only id) old size held columns rows sound = absurd sound
-console_own len r new shapes.Console old size held columns rows sound = record { columns = columns; rows = rows; text = sound.text }
-console_own len r new shapes.Entropy old size held columns rows sound = absurd sound
-
-pub sound_resized : (len : ℕ) (d : DeviceState) (old size : ConsoleSize) (held : List ℕ) → d.own ≡ Console old held → size.columns < 2 ^ 16 → size.rows < 2 ^ 16 → IsSoundDevice len d → IsSoundDevice len (record d { registers = resized old size d.registers; own = Console size held })
+pub sound_resized : (len : ℕ) (d : DeviceState) (old size : ConsoleSize) (held : List ℕ) → d.kind ≡ Console old held → size.columns < 2 ^ 16 → size.rows < 2 ^ 16 → IsSoundDevice len d → IsSoundDevice len (record d { registers = resized old size d.registers; kind = Console size held })
 sound_resized len d old size held is columns rows sound =
     let stays = resized_by d.registers (differ old size) sound.registers in
-    record {
-      shape = sound.shape;
-      device_id = stays.same.device_id ∙ sound.device_id;
-      offered = stays.same.offered ∙ sound.offered;
-      queues = stays.same.queue_count ∙ sound.queues;
-      ram_len = stays.same.ram_len ∙ sound.ram_len;
-      registers = stays.sound;
-      positions = resized_positions d.registers (differ old size) d.positions sound.positions;
-      own = console_own len d.registers (resized old size d.registers) d.shape old size held columns rows (rw is at sound.own);
-    }
+    let was : IsSoundConsole old held = rw is at sound.kind in
+    stays_sound len d (record d { registers = resized old size d.registers; kind = Console size held }) (ap made_as (sym is)) stays
+    (resized_positions d.registers (differ old size) d.positions sound.positions) (record { columns = columns; rows = rows; text = was.text }) sound
 
--- What only a kind has, beside a queue that is ready, and back.
-pub beside : (len : ℕ) (r : Registers) (shape : Shape) (own : Own) (pick : ℕ) (queue : Queue) (s : RingState) → length r.queues ≡ queues_of shape → queue_at r pick ≡ Some queue → s.is_packed ≡ is_packed_by r.common → s.size ≡ queue.size → IsSoundOwn len r shape own → SoundBeside len s shape r.common.features own
-beside len r (shapes.Net mac) (Network frames) pick queue s count there layout size sound = sound
-beside len r (shapes.Block sectors read_only id) (Block requests) zero queue s count there layout size sound =
-    let are : AreRequestsOf len (is_packed_by r.common) queue (block_of (shapes.Block sectors read_only id) r.common.features) requests = rw there at sound in
-    record { few = are.few; sound = rw (layout, size) are.sound }
-beside len r (shapes.Block sectors read_only id) (Block requests) (suc pick) queue s count there layout size sound =
+-- What only a kind has, beside the ring of a queue.
+beside_by : (len : ℕ) (r : Registers) (kind : Kind) (pick : ℕ) (queue : Queue) (p : Positions) → length r.queues ≡ queues_of (made_as kind) → queue_at r pick ≡ Some queue → IsSoundKind len r kind → SoundBeside len (state_of queue r.common.features p) r.common.features kind
+beside_by len r (Network mac frames) pick queue p count there sound = sound
+beside_by len r (Block sectors read_only id requests) zero queue p count there sound =
+    let are : AreRequestsOf len (is_packed_by r.common) queue (with_features sectors read_only id r.common.features) requests = rw there at sound in
+    record { few = are.few; sound = rw (packed_same r.common.features) are.sound }
+beside_by len r (Block sectors read_only id requests) (suc pick) queue p count there sound =
     let below : suc pick < length r.queues = slice_get_within r.queues (suc pick) queue there in
     absurd (omega (arith, below, count))
-beside len r shapes.Console (Console columns held) pick queue s count there layout size sound = sound
-beside len r shapes.Entropy (Entropy pool) pick queue s count there layout size sound = sound
-beside len r (shapes.Net mac) (Block requests) pick queue s count there layout size sound = absurd sound
-beside len r (shapes.Net mac) (Console columns held) pick queue s count there layout size sound = absurd sound
-beside len r (shapes.Net mac) (Entropy pool) pick queue s count there layout size sound = absurd sound
-beside len r (shapes.Block sectors read_only id) (Network frames) pick queue s count there layout size sound = absurd sound
-beside len r (shapes.Block sectors read_only id) (Console columns held) pick queue s count there layout size sound = absurd sound
-beside len r (shapes.Block sectors read_only id) (Entropy pool) pick queue s count there layout size sound = absurd sound
-beside len r shapes.Console (Network frames) pick queue s count there layout size sound = absurd sound
-beside len r shapes.Console (Block requests) pick queue s count there layout size sound = absurd sound
-beside len r shapes.Console (Entropy pool) pick queue s count there layout size sound = absurd sound
-beside len r shapes.Entropy (Network frames) pick queue s count there layout size sound = absurd sound
-beside len r shapes.Entropy (Block requests) pick queue s count there layout size sound = absurd sound
-beside len r shapes.Entropy (Console columns held) pick queue s count there layout size sound = absurd sound
+beside_by len r (Console size held) pick queue p count there sound = sound
+beside_by len r (Entropy pool) pick queue p count there sound = sound
 
-pub back : (len : ℕ) (r : Registers) (shape : Shape) (own : Own) (pick : ℕ) (queue : Queue) (s : RingState) → length r.queues ≡ queues_of shape → queue_at r pick ≡ Some queue → queue.is_ready ≡ true → s.is_packed ≡ is_packed_by r.common → s.size ≡ queue.size → SoundBeside len s shape r.common.features own → IsSoundOwn len r shape own
-back len r (shapes.Net mac) (Network frames) pick queue s count there ready layout size sound = sound
-back len r (shapes.Block sectors read_only id) (Block requests) zero queue s count there ready layout size sound =
-    let are : AreRequestsOf len (is_packed_by r.common) queue (block_of (shapes.Block sectors read_only id) r.common.features) requests = record { few = sound.few; sound = rw (← layout, ← size) sound.sound; where_ready = any_where queue.is_ready requests ready } in
-    rw there are
-back len r (shapes.Block sectors read_only id) (Block requests) (suc pick) queue s count there ready layout size sound =
-    let below : suc pick < length r.queues = slice_get_within r.queues (suc pick) queue there in
+pub beside : (len : ℕ) (d : DeviceState) (pick : ℕ) (queue : Queue) (p : Positions) (q : RingState) → IsSoundDevice len d → queue_at d.registers pick ≡ Some queue → q ≡ state_of queue d.registers.common.features p → SoundBeside len q d.registers.common.features d.kind
+beside len d pick queue p q sound there is = rw is (beside_by len d.registers d.kind pick queue p sound.queues there sound.kind)
+
+-- A queue that is ready, with such a size, where the driver accepted these features.
+record IsReadyAt (r : Registers) (pick : ℕ) (features : ℕ) (size : ℕ) : Type 0 where
+  queue : Queue
+  there : queue_at r pick ≡ Some queue
+  ready : queue.is_ready ≡ true
+  size_is : queue.size ≡ size
+  accepted : r.common.features ≡ features
+
+-- Back from what a kind has beside the ring of such a queue.
+back : (len : ℕ) (r : Registers) (kind : Kind) (pick features size : ℕ) (s : RingState) → length r.queues ≡ queues_of (made_as kind) → IsReadyAt r pick features size → s.is_packed ≡ is_packed features → s.size ≡ size → SoundBeside len s features kind → IsSoundKind len r kind
+back len r (Network mac frames) pick features size s count at layout long sound = sound
+back len r (Block sectors read_only id requests) zero features size s count at layout long sound =
+    let are : AreRequestsOf len (is_packed_by r.common) at.queue (with_features sectors read_only id r.common.features) requests =
+    record { few = sound.few; sound = rw (at.accepted, at.size_is, ← layout, ← long) sound.sound; where_ready = any_where at.queue.is_ready requests at.ready } in
+    rw at.there are
+back len r (Block sectors read_only id requests) (suc pick) features size s count at layout long sound =
+    let below : suc pick < length r.queues = slice_get_within r.queues (suc pick) at.queue at.there in
     absurd (omega (arith, below, count))
-back len r shapes.Console (Console columns held) pick queue s count there ready layout size sound = sound
-back len r shapes.Entropy (Entropy pool) pick queue s count there ready layout size sound = sound
-back len r (shapes.Net mac) (Block requests) pick queue s count there ready layout size sound = absurd sound
-back len r (shapes.Net mac) (Console columns held) pick queue s count there ready layout size sound = absurd sound
-back len r (shapes.Net mac) (Entropy pool) pick queue s count there ready layout size sound = absurd sound
-back len r (shapes.Block sectors read_only id) (Network frames) pick queue s count there ready layout size sound = absurd sound
-back len r (shapes.Block sectors read_only id) (Console columns held) pick queue s count there ready layout size sound = absurd sound
-back len r (shapes.Block sectors read_only id) (Entropy pool) pick queue s count there ready layout size sound = absurd sound
-back len r shapes.Console (Network frames) pick queue s count there ready layout size sound = absurd sound
-back len r shapes.Console (Block requests) pick queue s count there ready layout size sound = absurd sound
-back len r shapes.Console (Entropy pool) pick queue s count there ready layout size sound = absurd sound
-back len r shapes.Entropy (Network frames) pick queue s count there ready layout size sound = absurd sound
-back len r shapes.Entropy (Block requests) pick queue s count there ready layout size sound = absurd sound
-back len r shapes.Entropy (Console columns held) pick queue s count there ready layout size sound = absurd sound
+back len r (Console columns held) pick features size s count at layout long sound = sound
+back len r (Entropy pool) pick features size s count at layout long sound = sound
+
+-- The ring of a queue was used: the registers, the ring and the kind are new.
+record IsUsed (len : ℕ) (d : DeviceState) (pick : ℕ) (queue : Queue) (q s : RingState) (r : Registers) (kind : Kind) : Type 0 where
+  there : queue_at d.registers pick ≡ Some queue
+  ready : queue.is_ready ≡ true
+  positions : Positions
+  was : q ≡ state_of queue d.registers.common.features positions
+  ring : IsSameRing q s
+  registers : StaysSound d.registers r
+  stays : IsReadyAt d.registers pick d.registers.common.features queue.size → IsReadyAt r pick d.registers.common.features queue.size
+  have : (ps : List Positions) → HavePositions (is_packed_by d.registers.common) d.registers.queues ps → HavePositions (is_packed_by r.common) r.queues ps
+  same : made_as kind ≡ made_as d.kind
+  beside : SoundBeside len s d.registers.common.features kind
+
+sound_used : (len : ℕ) (d : DeviceState) (pick : ℕ) (queue : Queue) (q s : RingState) (r : Registers) (kind : Kind) → IsUsed len d pick queue q s r kind → IsSoundDevice len d
+    → IsSoundDevice len (record { kind = kind; registers = r; positions = set d.positions pick (record { taking = s.taking; used = s.used }) })
+sound_used len d pick queue q s r kind h sound =
+    let packed = is_packed_by d.registers.common in
+    let new : Positions = record { taking = s.taking; used = s.used } in
+    let layout : s.is_packed ≡ packed = h.ring.layout ∙ ap (λ (q : RingState). q.is_packed) h.was ∙ packed_same d.registers.common.features in
+    let size : s.size ≡ queue.size = h.ring.size ∙ ap (λ (q : RingState). q.size) h.was in
+    let placed : ArePlaced packed queue.size new = rw (layout, size) at h.ring.placed.placed in
+    let after = h.stays (record { queue = queue; there = h.there; ready = h.ready; size_is = refl; accepted = refl }) in
+    stays_sound len d (record { kind = kind; registers = r; positions = set d.positions pick new }) h.same h.registers
+    (h.have (set d.positions pick new) (have_set packed d.registers.queues d.positions pick queue new sound.positions h.there (record {
+      taking_fits = h.ring.placed.taking_fits;
+      used_fits = h.ring.placed.used_fits;
+      where_ready = subst (λ b. MatchBool b (ArePlaced packed queue.size new) (new ≡ first_positions)) (sym h.ready) placed;
+    })))
+    (back len r kind pick d.registers.common.features queue.size s (h.registers.same.queue_count ∙ rw h.same sound.queues) after layout size h.beside)
+    sound
 
 -- A queue was served.
 pub served_registers : (r : Registers) (pick : ℕ) (s : Served) → IsSoundRegisters r → StaysSound r (registers_after r pick s)
 served_registers r pick served.Empty sound = cleared_sound r pick (queue_at r pick) refl sound
 served_registers r pick served.Malformed sound = asked_sound r sound
 served_registers r pick (served.Published reply true) sound = used_sound r sound
-served_registers r pick (served.Published reply false) sound = record { same = record { device_id = refl; offered = refl; ram_len = refl; queue_count = refl }; sound = sound }
+served_registers r pick (served.Published reply false) sound = same_registers r sound
 
 have_cleared_at : (r : Registers) (pick : ℕ) (q : Option Queue) (ps : List Positions) → queue_at r pick ≡ q → HavePositions (is_packed_by r.common) r.queues ps
     → HavePositions (is_packed_by (notified_cleared r pick q).common) (notified_cleared r pick q).queues ps
@@ -361,14 +341,6 @@ have_after r pick served.Empty ps have = have_cleared_at r pick (queue_at r pick
 have_after r pick served.Malformed ps have = have_asked r (eqb (bit_and r.common.status 4) 4) ps have
 have_after r pick (served.Published reply true) ps have = have
 have_after r pick (served.Published reply false) ps have = have
-
--- A queue that is ready, with such a size, where the driver accepted these features.
-record IsReadyAt (r : Registers) (pick : ℕ) (features : ℕ) (size : ℕ) : Type 0 where
-  queue : Queue
-  there : queue_at r pick ≡ Some queue
-  ready : queue.is_ready ≡ true
-  size_is : queue.size ≡ size
-  accepted : r.common.features ≡ features
 
 set_there : (qs : List Queue) (pick : ℕ) (q new : Queue) → slice_get qs pick ≡ Some q → slice_get (set qs pick new) pick ≡ Some new
 set_there [] pick q new at = cc
@@ -391,39 +363,28 @@ after_ready r pick served.Malformed features size h = record { queue = h.queue; 
 after_ready r pick (served.Published reply true) features size h = record { queue = h.queue; there = h.there; ready = h.ready; size_is = h.size_is; accepted = h.accepted }
 after_ready r pick (served.Published reply false) features size h = h
 
-sound_served : (d : DeviceState) (ram : List ℕ) (pick : ℕ) (q : RingState) (seen : Next) → IsBytes ram → IsLookedAt d pick q → Sees (wanted_of d.own pick) ram q seen → IsSoundDevice (length ram) d → IsSoundDevice (length ram) (after_service d pick (serve (block_of d.shape d.registers.common.features) d.own pick ram q seen))
+sound_served : (d : DeviceState) (ram : List ℕ) (pick : ℕ) (q : RingState) (seen : Next) → IsBytes ram → IsLookedAt d pick q → Sees (wanted_of d.kind pick) ram q seen → IsSoundDevice (length ram) d → IsSoundDevice (length ram) (after_service d pick (serve d.registers.common.features d.kind pick ram q seen))
 sound_served d ram pick q seen bytes look sees sound =
-    let s = serve (block_of d.shape d.registers.common.features) d.own pick ram q seen in
-    let ring = looked_ring (length ram) d pick q sound look in
-    let q_layout : q.is_packed ≡ is_packed_by d.registers.common = ap (λ (r : RingState). r.is_packed) look.is ∙ packed_same d.registers.common.features in
-    let q_size : q.size ≡ look.queue.size = ap (λ (r : RingState). r.size) look.is in
-    let on = served_on d.shape d.registers.common.features d.own pick ram q seen look.work bytes ring sees (beside (length ram) d.registers d.shape d.own pick look.queue q sound.queues look.there q_layout q_size sound.own) in
-    let stays = served_registers d.registers pick s.served sound.registers in
-    let new : Positions = record { taking = s.ring.taking; used = s.ring.used } in
-    let layout : s.ring.is_packed ≡ is_packed_by d.registers.common = on.ring.layout ∙ q_layout in
-    let size : s.ring.size ≡ look.queue.size = on.ring.size ∙ q_size in
-    let placed : ArePlaced (is_packed_by d.registers.common) look.queue.size new = rw (layout, size) at on.ring.placed.placed in
-    let after = after_ready d.registers pick s.served d.registers.common.features look.queue.size (record { queue = look.queue; there = look.there; ready = look.ready; size_is = refl; accepted = refl }) in
-    record {
-      shape = sound.shape;
-      device_id = stays.same.device_id ∙ sound.device_id;
-      offered = stays.same.offered ∙ sound.offered;
-      queues = stays.same.queue_count ∙ sound.queues;
-      ram_len = stays.same.ram_len ∙ sound.ram_len;
-      registers = stays.sound;
-      positions = have_after d.registers pick s.served (set d.positions pick new) (have_set (is_packed_by d.registers.common) d.registers.queues d.positions pick look.queue new sound.positions look.there (record {
-        taking_fits = on.ring.placed.taking_fits;
-        used_fits = on.ring.placed.used_fits;
-        where_ready = subst (λ b. MatchBool b (ArePlaced (is_packed_by d.registers.common) look.queue.size new) (new ≡ first_positions)) (sym look.ready) placed;
-      }));
-      own = back (length ram) (registers_after d.registers pick s.served) d.shape s.own pick after.queue s.ring (stays.same.queue_count ∙ sound.queues) after.there after.ready (layout ∙ sym (ap is_packed after.accepted)) (size ∙ sym after.size_is)
-          (subst (λ features. SoundBeside (length ram) s.ring d.shape features s.own) (sym after.accepted) on.own_is);
-    }
+    let features = d.registers.common.features in
+    let s = serve features d.kind pick ram q seen in
+    let on = served_on features d.kind pick ram q seen look.work bytes (looked_ring (length ram) d pick q sound look) sees (beside (length ram) d pick look.queue look.positions q sound look.there look.is) in
+    sound_used (length ram) d pick look.queue q s.ring (registers_after d.registers pick s.served) s.kind (record {
+      there = look.there;
+      ready = look.ready;
+      positions = look.positions;
+      was = look.is;
+      ring = on.ring;
+      registers = served_registers d.registers pick s.served sound.registers;
+      stays = after_ready d.registers pick s.served features look.queue.size;
+      have = have_after d.registers pick s.served;
+      same = served_as features d.kind pick ram q seen;
+      beside = on.kind_is;
+    }) sound
 
 -- A request went on.
 pub due_registers : (r : Registers) (is_due : Bool) → IsSoundRegisters r → StaysSound r (cond is_due (with_common r (used_raised r.common)) r)
 due_registers r true sound = used_sound r sound
-due_registers r false sound = record { same = record { device_id = refl; offered = refl; ram_len = refl; queue_count = refl }; sound = sound }
+due_registers r false sound = same_registers r sound
 
 due_ready : (r : Registers) (is_due : Bool) (pick : ℕ) (features size : ℕ) → IsReadyAt r pick features size → IsReadyAt (cond is_due (with_common r (used_raised r.common)) r) pick features size
 due_ready r true pick features size h = record { queue = h.queue; there = h.there; ready = h.ready; size_is = h.size_is; accepted = h.accepted }
@@ -434,56 +395,33 @@ have_due : (r : Registers) (is_due : Bool) (ps : List Positions) → HavePositio
 have_due r true ps have = have
 have_due r false ps have = have
 
-own_goes_on : (len : ℕ) (q : RingState) (shape : Shape) (features : ℕ) (own : Own) (s : AdvanceStep) → GoesOn len q (block_of shape features) (requests_of own) s → SoundBeside len q shape features own
-    → SoundBeside len s.ring shape features (with_requests own s.requests)
-own_goes_on len q (shapes.Net mac) features (Network frames) s on sound = sound
-own_goes_on len q (shapes.Block sectors read_only id) features (Block requests) s on sound = record { few = omega (arith, on.few, sound.few); sound = rw (on.ring.layout, on.ring.size) on.sound }
-own_goes_on len q shapes.Console features (Console size held) s on sound = sound
-own_goes_on len q shapes.Entropy features (Entropy pool) s on sound = sound
-own_goes_on len q (shapes.Net mac) features (Block requests) s on sound = absurd sound
-own_goes_on len q (shapes.Net mac) features (Console size held) s on sound = absurd sound
-own_goes_on len q (shapes.Net mac) features (Entropy pool) s on sound = absurd sound
-own_goes_on len q (shapes.Block sectors read_only id) features (Network frames) s on sound = absurd sound
-own_goes_on len q (shapes.Block sectors read_only id) features (Console size held) s on sound = absurd sound
-own_goes_on len q (shapes.Block sectors read_only id) features (Entropy pool) s on sound = absurd sound
-own_goes_on len q shapes.Console features (Network frames) s on sound = absurd sound
-own_goes_on len q shapes.Console features (Block requests) s on sound = absurd sound
-own_goes_on len q shapes.Console features (Entropy pool) s on sound = absurd sound
-own_goes_on len q shapes.Entropy features (Network frames) s on sound = absurd sound
-own_goes_on len q shapes.Entropy features (Block requests) s on sound = absurd sound
-own_goes_on len q shapes.Entropy features (Console size held) s on sound = absurd sound
+kind_goes_on : (len : ℕ) (q : RingState) (features : ℕ) (kind : Kind) (s : AdvanceStep) → GoesOn len q (block_of (made_as kind) features) (requests_of kind) s → SoundBeside len q features kind
+    → SoundBeside len s.ring features (with_requests kind s.requests)
+kind_goes_on len q features (Network mac frames) s on sound = sound
+kind_goes_on len q features (Block sectors read_only id requests) s on sound = record { few = omega (arith, on.few, sound.few); sound = rw (on.ring.layout, on.ring.size) on.sound }
+kind_goes_on len q features (Console size held) s on sound = sound
+kind_goes_on len q features (Entropy pool) s on sound = sound
 
-sound_advanced : (len : ℕ) (d : DeviceState) (pick : ℕ) (q : RingState) (s : AdvanceStep) → (look : IsAdvancedAt d pick q) → IsSoundDevice len d → GoesOn len q (block_of d.shape d.registers.common.features) (requests_of d.own) s → IsSoundDevice len (after_advance d s)
+sound_advanced : (len : ℕ) (d : DeviceState) (pick : ℕ) (q : RingState) (s : AdvanceStep) → (look : IsAdvancedAt d pick q) → IsSoundDevice len d → GoesOn len q (block_of (made_as d.kind) d.registers.common.features) (requests_of d.kind) s → IsSoundDevice len (after_advance d s)
 sound_advanced len d pick q s look sound on =
+    let features = d.registers.common.features in
     let due = is_advance_due s.answer in
-    let q_layout : q.is_packed ≡ is_packed_by d.registers.common = ap (λ (r : RingState). r.is_packed) look.is ∙ packed_same d.registers.common.features in
-    let q_size : q.size ≡ look.queue.size = ap (λ (r : RingState). r.size) look.is in
-    let old = beside len d.registers d.shape d.own 0 look.queue q sound.queues look.there q_layout q_size sound.own in
-    let stays = due_registers d.registers due sound.registers in
-    let new : Positions = record { taking = s.ring.taking; used = s.ring.used } in
-    let layout : s.ring.is_packed ≡ is_packed_by d.registers.common = on.ring.layout ∙ q_layout in
-    let size : s.ring.size ≡ look.queue.size = on.ring.size ∙ q_size in
-    let placed : ArePlaced (is_packed_by d.registers.common) look.queue.size new = rw (layout, size) at on.ring.placed.placed in
-    let after = due_ready d.registers due 0 d.registers.common.features look.queue.size (record { queue = look.queue; there = look.there; ready = look.ready; size_is = refl; accepted = refl }) in
-    record {
-      shape = sound.shape;
-      device_id = stays.same.device_id ∙ sound.device_id;
-      offered = stays.same.offered ∙ sound.offered;
-      queues = stays.same.queue_count ∙ sound.queues;
-      ram_len = stays.same.ram_len ∙ sound.ram_len;
-      registers = stays.sound;
-      positions = have_due d.registers due (set d.positions 0 new) (have_set (is_packed_by d.registers.common) d.registers.queues d.positions 0 look.queue new sound.positions look.there (record {
-        taking_fits = on.ring.placed.taking_fits;
-        used_fits = on.ring.placed.used_fits;
-        where_ready = subst (λ b. MatchBool b (ArePlaced (is_packed_by d.registers.common) look.queue.size new) (new ≡ first_positions)) (sym look.ready) placed;
-      }));
-      own = back len (after_advance d s).registers d.shape (with_requests d.own s.requests) 0 after.queue s.ring (stays.same.queue_count ∙ sound.queues) after.there after.ready (layout ∙ sym (ap is_packed after.accepted)) (size ∙ sym after.size_is)
-          (subst (λ features. SoundBeside len s.ring d.shape features (with_requests d.own s.requests)) (sym after.accepted) (own_goes_on len q d.shape d.registers.common.features d.own s on old));
-    }
+    sound_used len d 0 look.queue q s.ring (after_advance d s).registers (with_requests d.kind s.requests) (record {
+      there = look.there;
+      ready = look.ready;
+      positions = look.positions;
+      was = look.is;
+      ring = on.ring;
+      registers = due_registers d.registers due sound.registers;
+      stays = due_ready d.registers due 0 features look.queue.size;
+      have = have_due d.registers due;
+      same = requests_as d.kind s.requests;
+      beside = kind_goes_on len q features d.kind s on (beside len d 0 look.queue look.positions q sound look.there look.is);
+    }) sound
 
 -- What a step of a device has to do with: sectors of its disk, whole and as many as its shape says.
 pub record HasSectors (d : DeviceState) (content : List Sector) : Type 0 where
-  pub count : length content ≡ sector_count d.shape
+  pub count : length content ≡ sector_count (made_as d.kind)
   pub whole : AreWhole content
 
 pub block_count : (shape : Shape) (features : ℕ) → (block_of shape features).sectors ≡ sector_count shape
@@ -498,33 +436,19 @@ block_id (shapes.Block sectors read_only id) features h = h.id_bytes
 block_id shapes.Console features h = zero_bytes 20
 block_id shapes.Entropy features h = zero_bytes 20
 
-pub outstanding : (len : ℕ) (q : RingState) (shape : Shape) (features : ℕ) (own : Own) → SoundBeside len q shape features own → AreSound len q (block_of shape features) (requests_of own)
-outstanding len q (shapes.Net mac) features (Network frames) h = λ k d below. absurd (omega (arith, below))
-outstanding len q (shapes.Block sectors read_only id) features (Block requests) h = h.sound
-outstanding len q shapes.Console features (Console size held) h = λ k d below. absurd (omega (arith, below))
-outstanding len q shapes.Entropy features (Entropy pool) h = λ k d below. absurd (omega (arith, below))
-outstanding len q (shapes.Net mac) features (Block requests) h = absurd h
-outstanding len q (shapes.Net mac) features (Console size held) h = absurd h
-outstanding len q (shapes.Net mac) features (Entropy pool) h = absurd h
-outstanding len q (shapes.Block sectors read_only id) features (Network frames) h = absurd h
-outstanding len q (shapes.Block sectors read_only id) features (Console size held) h = absurd h
-outstanding len q (shapes.Block sectors read_only id) features (Entropy pool) h = absurd h
-outstanding len q shapes.Console features (Network frames) h = absurd h
-outstanding len q shapes.Console features (Block requests) h = absurd h
-outstanding len q shapes.Console features (Entropy pool) h = absurd h
-outstanding len q shapes.Entropy features (Network frames) h = absurd h
-outstanding len q shapes.Entropy features (Block requests) h = absurd h
-outstanding len q shapes.Entropy features (Console size held) h = absurd h
+pub outstanding : (len : ℕ) (q : RingState) (features : ℕ) (kind : Kind) → SoundBeside len q features kind → AreSound len q (block_of (made_as kind) features) (requests_of kind)
+outstanding len q features (Network mac frames) h = λ k d below. absurd (omega (arith, below))
+outstanding len q features (Block sectors read_only id requests) h = h.sound
+outstanding len q features (Console size held) h = λ k d below. absurd (omega (arith, below))
+outstanding len q features (Entropy pool) h = λ k d below. absurd (omega (arith, below))
 
 pub advanced_goes_on : (d : DeviceState) (ram : List ℕ) (content : List Sector) (pick : ℕ) (q : RingState) (is_fine : Bool) → (look : IsAdvancedAt d pick q) → IsBytes ram → IsSoundDevice (length ram) d → HasSectors d content
-    → GoesOn (length ram) q (block_of d.shape d.registers.common.features) (requests_of d.own) (advance_step (block_of d.shape d.registers.common.features) ram q content (requests_of d.own) (pick - 1) is_fine)
+    → GoesOn (length ram) q (block_of (made_as d.kind) d.registers.common.features) (requests_of d.kind) (advance_step (block_of (made_as d.kind) d.registers.common.features) ram q content (requests_of d.kind) (pick - 1) is_fine)
 advanced_goes_on d ram content pick q is_fine look are sound has =
     let ring = ready_ring (length ram) d 0 look.queue look.positions sound look.there look.placed look.ready in
-    let q_layout : q.is_packed ≡ is_packed_by d.registers.common = ap (λ (r : RingState). r.is_packed) look.is ∙ packed_same d.registers.common.features in
-    let q_size : q.size ≡ look.queue.size = ap (λ (r : RingState). r.size) look.is in
-    let old = beside (length ram) d.registers d.shape d.own 0 look.queue q sound.queues look.there q_layout q_size sound.own in
     let features = d.registers.common.features in
-    goes_on_by (length ram) (block_of d.shape features) ram q content (requests_of d.own) (pick - 1) is_fine (rw look.is ring) are (block_id d.shape features sound.shape) (has.count ∙ sym (block_count d.shape features)) has.whole (outstanding (length ram) q d.shape features d.own old)
+    let old = beside (length ram) d 0 look.queue look.positions q sound look.there look.is in
+    goes_on_by (length ram) (block_of (made_as d.kind) features) ram q content (requests_of d.kind) (pick - 1) is_fine (rw look.is ring) are (block_id (made_as d.kind) features sound.shape) (has.count ∙ sym (block_count (made_as d.kind) features)) has.whole (outstanding (length ram) q features d.kind old)
 
 sound_advance_at : (d : DeviceState) (ram : List ℕ) (content : List Sector) (pick : ℕ) (ring : Option RingState) (o : Outcome) → advanced_at d pick ≡ ring → IsBytes ram → IsSoundDevice (length ram) d → HasSectors d content → IsSoundDevice (length ram) (advance_at d ram content pick ring o).device
 sound_advance_at d ram content pick None o is are sound has = sound
@@ -532,7 +456,7 @@ sound_advance_at d ram content pick (Some q) o is are sound has =
     let look = advanced_is (length ram) d pick q sound is in
     sound_advanced (length ram) d pick q _ look sound (advanced_goes_on d ram content pick q (disk_does o) look are sound has)
 
-sound_stepped_at : (d : DeviceState) (ram : List ℕ) (content : List Sector) (pick : ℕ) (ring : Option RingState) (o : Outcome) (seen : Next) → looked_at d pick ≡ ring → MayLook (wanted_of d.own pick) ring ram o seen → IsBytes ram → IsSoundDevice (length ram) d → HasSectors d content
+sound_stepped_at : (d : DeviceState) (ram : List ℕ) (content : List Sector) (pick : ℕ) (ring : Option RingState) (o : Outcome) (seen : Next) → looked_at d pick ≡ ring → MayLook (wanted_of d.kind pick) ring ram o seen → IsBytes ram → IsSoundDevice (length ram) d → HasSectors d content
     → IsSoundDevice (length ram) (step_at d ram content pick ring o seen).device
 sound_stepped_at d ram content pick None o seen is may are sound has = sound_advance_at d ram content pick (advanced_at d pick) o refl are sound has
 sound_stepped_at d ram content pick (Some q) fine seen is may are sound has = sound_served d ram pick q seen are (looked_is d pick q is) may sound
@@ -540,6 +464,6 @@ sound_stepped_at d ram content pick (Some q) disk_failed seen is may are sound h
 sound_stepped_at d ram content pick (Some q) no_memory seen is may are sound has = sound
 
 -- A device does a piece of its work.
-pub sound_stepped : (d : DeviceState) (ram : List ℕ) (content : List Sector) (pick : ℕ) (o : Outcome) (seen : Next) → MayLook (wanted_of d.own pick) (looked_at d pick) ram o seen → IsBytes ram → IsSoundDevice (length ram) d → HasSectors d content → IsSoundDevice (length ram) (device_step d ram content pick o seen).device
+pub sound_stepped : (d : DeviceState) (ram : List ℕ) (content : List Sector) (pick : ℕ) (o : Outcome) (seen : Next) → MayLook (wanted_of d.kind pick) (looked_at d pick) ram o seen → IsBytes ram → IsSoundDevice (length ram) d → HasSectors d content → IsSoundDevice (length ram) (device_step d ram content pick o seen).device
 unfolding device_step
 sound_stepped d ram content pick o seen may are sound has = sound_stepped_at d ram content pick (looked_at d pick) o seen refl may are sound has

@@ -8,76 +8,59 @@ use Rattle.blk.specs.Advance.{advance_step, IsAfterAdvancing}
 use Rattle.blk.specs.Move.{is_disk_failed}
 use Rattle.blk.specs.Sectors.{AreWhole, Sector}
 use Rattle.blk.specs.Sound.{AreSound}
-use Rattle.blk.specs.Take.{take_step}
 use Rattle.blk.specs.declared.advancing.Advanced.{Advanced}
 use Rattle.blk.specs.declared.advancing.Advanced.TheVariants as advanced
-use Rattle.blk.specs.declared.shape.BlockShape.{BlockShape}
-use Rattle.blk.specs.declared.taking.Taken.{Taken}
-use Rattle.blk.specs.declared.taking.Taken.TheVariants as taken
 use Rattle.mmio.specs.Interrupts.{used_raised}
 use Rattle.mmio.specs.State.{Registers, first_queue, queue_at, with_common}
 use Rattle.mmio.specs.declared.queue.Queue.{Queue}
-use Rattle.chains.specs.Transmit.{transmit_step}
 use Rattle.chains.specs.declared.looking.Wanted.{Wanted}
-use Rattle.chains.specs.declared.transmitting.Transmitted.{Transmitted}
-use Rattle.chains.specs.declared.transmitting.Transmitted.TheVariants as messages
-use Rattle.console.specs.Transmit.{text_form}
-use Rattle.net.specs.Receive as receiving
-use Rattle.net.specs.Transmit.{frame_form}
-use Rattle.net.specs.declared.receiving.Received as net
-use Rattle.net.specs.declared.receiving.Received.TheVariants as frames
 use Rattle.chains.specs.State.{RingState, state_of}
 use Rattle.chains.specs.declared.next.Next.{Next}
 use Rattle.chains.specs.declared.next.Next.TheVariants as next
 use Rattle.chains.specs.declared.position.Positions.{Positions}
-use Rattle.console.specs.Receive.{receive_step}
-use Rattle.console.specs.declared.receiving.Received.{Received}
-use Rattle.console.specs.declared.receiving.Received.TheVariants as received
-use Rattle.machine.specs.DeviceStep.{advances, advanced_at, advanced_by, device_step, is_advance_due, looks, looked_at, looked_step, MayLookAt, requests_of, reply_to_advance, serve, wanted_of, MayRefuse, served_frame, served_message, served_of, served_taking, reply_of, registers_after, with_requests}
+use Rattle.machine.specs.DeviceStep.{advances, advanced_at, advanced_by, device_step, is_advance_due, looks, looked_at, looked_step, MayLookAt, requests_of, reply_to_advance, wanted_of, MayRefuse, reply_of, registers_after, with_requests}
 use Rattle.machine.specs.DeviceWork.{IsServed, IsAdvancedStep, IsDeviceStep, IsLookedStep}
 use Rattle.machine.specs.Outcome.{Outcome, fine, disk_failed, no_memory, disk_does, is_failure, outcome_of}
-use Rattle.machine.specs.Shapes.{block_of, sector_count}
-use Rattle.machine.specs.QueuePositions.{is_packed_by}
-use Rattle.machine.specs.Sound.{IsSoundDevice, IsSoundOwn, IsSoundShape}
+use Rattle.machine.specs.Shapes.{block_of, made_as, sector_count}
+use Rattle.machine.specs.Sound.{IsSoundDevice, IsSoundShape}
 use Rattle.machine.specs.State.{DeviceState}
-use Rattle.machine.specs.declared.own.Own.{Own}
-use Rattle.machine.specs.declared.own.Own.TheVariants.{Network, Block, Console, Entropy}
+use Rattle.machine.specs.declared.kind.Kind.{Kind}
+use Rattle.machine.specs.declared.kind.Kind.TheVariants.{Network, Block, Console, Entropy}
 use Rattle.machine.specs.declared.reply.Reply.{Reply}
 use Rattle.machine.specs.declared.reply.Reply.TheVariants.{DiskFailed, Idle, NoMemory}
 use Rattle.machine.specs.declared.reply.Reply.TheVariants as replies
-use Rattle.machine.specs.declared.served.Served.{Served}
-use Rattle.machine.specs.declared.shape.Shape.{Shape}
-use Rattle.machine.specs.declared.shape.Shape.TheVariants as shapes
+use Rattle.machine.specs.Served.{Served}
 use Rattle.blk.proofs.Given.{given_itself, none_set}
 use Rattle.machine.proofs.Advancing.{advanced_is}
+use Rattle.machine.proofs.Answering.{answered}
 use Rattle.machine.proofs.Looking.{looked_is, some_looked}
-use Rattle.machine.proofs.Rings.{IsLookedRing, looked_ring, packed_same, positions_long, ready_ring}
+use Rattle.machine.proofs.Rings.{IsLookedRing, looked_ring, positions_long, ready_ring}
 use Rattle.machine.proofs.Staying.{beside, outstanding}
 
 -- A device as it is held.
-abbrev pub held_device : Shape → Registers → List Positions → Own → DeviceState
-held_device shape r held own = record { shape = shape; registers = r; positions = take (length r.queues) held; own = own }
+abbrev pub held_device : Kind → Registers → List Positions → DeviceState
+held_device kind r held = record { kind = kind; registers = r; positions = take (length r.queues) held }
 
 abbrev pub no_positions : Positions
 no_positions = record { taking = record { place = 0; wrap = false }; used = record { place = 0; wrap = false } }
 
 -- The ring of the queue that is looked at, as it is made.
-pub made_ring : (len : ℕ) (shape : Shape) (r : Registers) (held : List Positions) (own : Own) (pick : ℕ) (qs : List Queue) (features : ℕ) → IsSoundDevice len (held_device shape r held own) → qs ≡ r.queues → pick < length qs
-    → true ≡ looks (held_device shape r held own) pick (get_or qs pick first_queue) → features ≡ r.common.features
+pub made_ring : (len : ℕ) (kind : Kind) (r : Registers) (held : List Positions) (pick : ℕ) (qs : List Queue) (features : ℕ) → IsSoundDevice len (held_device kind r held) → qs ≡ r.queues → pick < length qs
+    → true ≡ looks (held_device kind r held) pick (get_or qs pick first_queue) → features ≡ r.common.features
     → IsLookedRing len (state_of (get_or qs pick first_queue) features (get_or held pick no_positions))
-made_ring len shape r held own pick qs features sound same below looking feature =
-    let d = held_device shape r held own in
+made_ring len kind r held pick qs features sound same below looking feature =
+    let d = held_device kind r held in
     let there : pick < length r.queues = omega (arith, below, ap length same) in
     let looking_here = rw same at looking in
     let long : length d.positions ≡ length r.queues = positions_long _ r.queues d.positions sound.positions in
     let is = some_looked d pick first_queue no_positions held there refl long looking_here in
     rw (same, feature) (looked_ring len d pick (state_of (get_or r.queues pick first_queue) r.common.features (get_or held pick no_positions)) sound (looked_is d pick _ is))
 
-pub made_look : (len : ℕ) (shape : Shape) (r : Registers) (held : List Positions) (own : Own) (pick : ℕ) (qs : List Queue) (features : ℕ) → IsSoundDevice len (held_device shape r held own) → qs ≡ r.queues → pick < length qs
-    → true ≡ looks (held_device shape r held own) pick (get_or qs pick first_queue) → features ≡ r.common.features
-    → looked_at (held_device shape r held own) pick ≡ Some (state_of (get_or qs pick first_queue) features (get_or held pick no_positions))
-made_look len shape r held own pick qs features sound same below looking feature =
-    let d = held_device shape r held own in
+pub made_look : (len : ℕ) (kind : Kind) (r : Registers) (held : List Positions) (pick : ℕ) (qs : List Queue) (features : ℕ) → IsSoundDevice len (held_device kind r held) → qs ≡ r.queues → pick < length qs
+    → true ≡ looks (held_device kind r held) pick (get_or qs pick first_queue) → features ≡ r.common.features
+    → looked_at (held_device kind r held) pick ≡ Some (state_of (get_or qs pick first_queue) features (get_or held pick no_positions))
+made_look len kind r held pick qs features sound same below looking feature =
+    let d = held_device kind r held in
     let there : pick < length r.queues = omega (arith, below, ap length same) in
     let looking_here = rw same at looking in
     let long : length d.positions ≡ length r.queues = positions_long _ r.queues d.positions sound.positions in
@@ -100,45 +83,32 @@ advanced_ring len d pick q sound is =
     let look = advanced_is len d pick q sound is in
     rw look.is (ready_ring len d 0 look.queue look.positions sound look.there look.placed look.ready)
 
-pub advanced_sound : (len : ℕ) (d : DeviceState) (pick : ℕ) (q : RingState) → IsSoundDevice len d → advanced_at d pick ≡ Some q → AreSound len q (block_of d.shape d.registers.common.features) (requests_of d.own)
+pub advanced_sound : (len : ℕ) (d : DeviceState) (pick : ℕ) (q : RingState) → IsSoundDevice len d → advanced_at d pick ≡ Some q → AreSound len q (block_of (made_as d.kind) d.registers.common.features) (requests_of d.kind)
 advanced_sound len d pick q sound is =
     let look = advanced_is len d pick q sound is in
-    let layout : q.is_packed ≡ is_packed_by d.registers.common = ap (λ (r : RingState). r.is_packed) look.is ∙ packed_same d.registers.common.features in
-    let size : q.size ≡ look.queue.size = ap (λ (r : RingState). r.size) look.is in
-    outstanding len q d.shape d.registers.common.features d.own (beside len d.registers d.shape d.own 0 look.queue q sound.queues look.there layout size sound.own)
+    outstanding len q d.registers.common.features d.kind (beside len d 0 look.queue look.positions q sound look.there look.is)
 
-pub looked_sound : (len : ℕ) (d : DeviceState) (pick : ℕ) (q : RingState) → IsSoundDevice len d → looked_at d pick ≡ Some q → AreSound len q (block_of d.shape d.registers.common.features) (requests_of d.own)
+pub looked_sound : (len : ℕ) (d : DeviceState) (pick : ℕ) (q : RingState) → IsSoundDevice len d → looked_at d pick ≡ Some q → AreSound len q (block_of (made_as d.kind) d.registers.common.features) (requests_of d.kind)
 looked_sound len d pick q sound is =
     let look = looked_is d pick q is in
-    let layout : q.is_packed ≡ is_packed_by d.registers.common = ap (λ (r : RingState). r.is_packed) look.is ∙ packed_same d.registers.common.features in
-    let size : q.size ≡ look.queue.size = ap (λ (r : RingState). r.size) look.is in
-    outstanding len q d.shape d.registers.common.features d.own (beside len d.registers d.shape d.own pick look.queue q sound.queues look.there layout size sound.own)
+    outstanding len q d.registers.common.features d.kind (beside len d pick look.queue look.positions q sound look.there look.is)
 
 pub has_queue : (d : DeviceState) (pick : ℕ) (q : RingState) (len : ℕ) → IsSoundDevice len d → advanced_at d pick ≡ Some q → 0 < length d.registers.queues
 has_queue d pick q len sound is = let look = advanced_is len d pick q sound is in slice_get_within d.registers.queues 0 look.queue look.there
 
 -- A device without a disk has no requests.
-empty_handed : (len : ℕ) (r : Registers) (shape : Shape) (own : Own) → IsSoundShape shape → IsSoundOwn len r shape own → sector_count shape ≡ 0 → length (requests_of own) ≡ 0
-empty_handed len r (shapes.Net mac) (Network frames) limits sound none = refl
-empty_handed len r (shapes.Block sectors read_only id) own limits sound none = absurd (omega (arith, limits.some, none))
-empty_handed len r shapes.Console (Console size held) limits sound none = refl
-empty_handed len r shapes.Entropy (Entropy pool) limits sound none = refl
-empty_handed len r (shapes.Net mac) (Block requests) limits sound none = absurd sound
-empty_handed len r (shapes.Net mac) (Console size held) limits sound none = absurd sound
-empty_handed len r (shapes.Net mac) (Entropy pool) limits sound none = absurd sound
-empty_handed len r shapes.Console (Network frames) limits sound none = absurd sound
-empty_handed len r shapes.Console (Block requests) limits sound none = absurd sound
-empty_handed len r shapes.Console (Entropy pool) limits sound none = absurd sound
-empty_handed len r shapes.Entropy (Network frames) limits sound none = absurd sound
-empty_handed len r shapes.Entropy (Block requests) limits sound none = absurd sound
-empty_handed len r shapes.Entropy (Console size held) limits sound none = absurd sound
+empty_handed : (kind : Kind) → IsSoundShape (made_as kind) → sector_count (made_as kind) ≡ 0 → length (requests_of kind) ≡ 0
+empty_handed (Network mac frames) limits none = refl
+empty_handed (Block sectors read_only id requests) limits none = absurd (omega (arith, limits.some, none))
+empty_handed (Console size held) limits none = refl
+empty_handed (Entropy pool) limits none = refl
 
-none_or : (len : ℕ) (d : DeviceState) (pick : ℕ) (ring : Option RingState) → IsSoundDevice len d → length (requests_of d.own) ≡ 0 → advanced_at d pick ≡ ring → advanced_at d pick ≡ None
+none_or : (len : ℕ) (d : DeviceState) (pick : ℕ) (ring : Option RingState) → IsSoundDevice len d → length (requests_of d.kind) ≡ 0 → advanced_at d pick ≡ ring → advanced_at d pick ≡ None
 none_or len d pick None sound none is = is
 none_or len d pick (Some q) sound none is = let look = advanced_is len d pick q sound is in absurd (omega (arith, look.below, none))
 
-pub none_without : (len : ℕ) (d : DeviceState) (pick : ℕ) → IsSoundDevice len d → sector_count d.shape ≡ 0 → advanced_at d pick ≡ None
-none_without len d pick sound none = none_or len d pick (advanced_at d pick) sound (empty_handed len d.registers d.shape d.own sound.shape sound.own none) refl
+pub none_without : (len : ℕ) (d : DeviceState) (pick : ℕ) → IsSoundDevice len d → sector_count (made_as d.kind) ≡ 0 → advanced_at d pick ≡ None
+none_without len d pick sound none = none_or len d pick (advanced_at d pick) sound (empty_handed d.kind sound.shape none) refl
 
 pub none_queued : (d : DeviceState) (pick : ℕ) (qs : List Queue) → qs ≡ d.registers.queues → length qs ≡ 0 → advanced_at d pick ≡ None
 none_queued d pick qs is none = none_there d pick (slice_get_past d.registers.queues 0 (omega (arith, ap length is, none)))
@@ -148,17 +118,17 @@ first_held zero held some long = absurd (omega (arith, some))
 first_held (suc n) [] some long = absurd (omega (arith, long))
 first_held (suc n) (p ∷ held) some long = refl
 
-pub some_advanced : (len : ℕ) (shape : Shape) (r : Registers) (held : List Positions) (own : Own) (pick : ℕ) (qs : List Queue) (features : ℕ) → IsSoundDevice len (held_device shape r held own) → qs ≡ r.queues → 1 ≤ length qs → true ≡ advances (held_device shape r held own) pick → features ≡ r.common.features
-    → advanced_at (held_device shape r held own) pick ≡ Some (state_of (get_or qs 0 first_queue) features (get_or held 0 no_positions))
-some_advanced len shape r held own pick qs features sound is some all feature =
+pub some_advanced : (len : ℕ) (kind : Kind) (r : Registers) (held : List Positions) (pick : ℕ) (qs : List Queue) (features : ℕ) → IsSoundDevice len (held_device kind r held) → qs ≡ r.queues → 1 ≤ length qs → true ≡ advances (held_device kind r held) pick → features ≡ r.common.features
+    → advanced_at (held_device kind r held) pick ≡ Some (state_of (get_or qs 0 first_queue) features (get_or held 0 no_positions))
+some_advanced len kind r held pick qs features sound is some all feature =
     let below : 0 < length r.queues = omega (arith, ap length is, some) in
     let long : length (take (length r.queues) held) ≡ length r.queues = positions_long _ r.queues (take (length r.queues) held) sound.positions in
     rw (slice_get-get_or r.queues 0 first_queue below, first_held (length r.queues) held below (omega (arith, long, below)), ← all, is, feature) refl
 
-pub made_advanced : (len : ℕ) (shape : Shape) (r : Registers) (held : List Positions) (own : Own) (pick : ℕ) (qs : List Queue) (features : ℕ) → IsSoundDevice len (held_device shape r held own) → qs ≡ r.queues → 1 ≤ length qs → true ≡ advances (held_device shape r held own) pick → features ≡ r.common.features
+pub made_advanced : (len : ℕ) (kind : Kind) (r : Registers) (held : List Positions) (pick : ℕ) (qs : List Queue) (features : ℕ) → IsSoundDevice len (held_device kind r held) → qs ≡ r.queues → 1 ≤ length qs → true ≡ advances (held_device kind r held) pick → features ≡ r.common.features
     → IsLookedRing len (state_of (get_or qs 0 first_queue) features (get_or held 0 no_positions))
-made_advanced len shape r held own pick qs features sound is some all feature =
-    advanced_ring len (held_device shape r held own) pick _ sound (some_advanced len shape r held own pick qs features sound is some all feature)
+made_advanced len kind r held pick qs features sound is some all feature =
+    advanced_ring len (held_device kind r held) pick _ sound (some_advanced len kind r held pick qs features sound is some all feature)
 
 -- A device without a disk has no sectors.
 pub none_whole : AreWhole []
@@ -180,51 +150,21 @@ idle_step touches number honest ram content d pick whole none no_request untouch
 }
 
 -- A look that is refused memory, and one that serves a queue.
-pub refused_look : (touches : List Item → Type 0) (ram : List ℕ) (d : DeviceState) (pick : ℕ) (q : RingState) → MayRefuse (wanted_of d.own pick) ram q → touches [] → IsLookedStep touches ram d pick q NoMemory ram d
+pub refused_look : (touches : List Item → Type 0) (ram : List ℕ) (d : DeviceState) (pick : ℕ) (q : RingState) → MayRefuse (wanted_of d.kind pick) ram q → touches [] → IsLookedStep touches ram d pick q NoMemory ram d
 refused_look touches ram d pick q full untouched = record { seen = next.Empty; may_look = full; reply_is = refl; device_is = refl; ram_is = refl; items_are = untouched }
 
--- A queue that was served is answered by no refusal.
-fine_bytes : (answer : Received) → outcome_of (reply_of (served_of answer)) ≡ fine
-fine_bytes received.Empty = refl
-fine_bytes received.Malformed = refl
-fine_bytes (received.Completed len due) = refl
-
-fine_taking : (answer : Taken) → outcome_of (reply_of (served_taking answer)) ≡ fine
-fine_taking taken.Empty = refl
-fine_taking taken.Malformed = refl
-fine_taking taken.Taken = refl
-
-fine_frame : (answer : net.Received) → outcome_of (reply_of (served_frame answer)) ≡ fine
-fine_frame frames.Empty = refl
-fine_frame frames.Malformed = refl
-fine_frame frames.Dropped = refl
-fine_frame (frames.Completed len due) = refl
-
-fine_message : (answer : Transmitted) → outcome_of (reply_of (served_message answer)) ≡ fine
-fine_message messages.Empty = refl
-fine_message messages.Malformed = refl
-fine_message (messages.Sent bytes due) = refl
-
-fine_service : (shape : BlockShape) (own : Own) (number : ℕ) (ram : List ℕ) (q : RingState) (seen : Next) → outcome_of (reply_of (serve shape own number ram q seen).served) ≡ fine
-fine_service shape (Network frames) zero ram q seen = fine_frame (receiving.receive_step ram q frames seen).answer
-fine_service shape (Network frames) (suc number) ram q seen = fine_message (transmit_step ram q frame_form seen).answer
-fine_service shape (Console size held) zero ram q seen = fine_bytes (receive_step ram q held seen).answer
-fine_service shape (Console size held) (suc number) ram q seen = fine_message (transmit_step ram q text_form seen).answer
-fine_service shape (Block requests) number ram q seen = fine_taking (take_step ram q shape requests seen).answer
-fine_service shape (Entropy pool) number ram q seen = fine_bytes (receive_step ram q pool seen).answer
-
-pub served_look : (touches : List Item → Type 0) (ram : List ℕ) (shape : Shape) (r : Registers) (held : List Positions) (own : Own) (pick : ℕ) (q : RingState) (s : Served) (new_ram : List ℕ) (new_ring : RingState) (new_own : Own) (new_r : Registers)
-    → pick < length r.queues → IsServed touches ram q (block_of shape r.common.features) own pick s new_ram new_ring new_own → new_r ≡ registers_after r pick s → length new_r.queues ≡ length r.queues
-    → IsLookedStep touches ram (held_device shape r held own) pick q (reply_of s) new_ram (held_device shape new_r (set held pick (record { taking = new_ring.taking; used = new_ring.used })) new_own)
-served_look touches ram shape r held own pick q s new_ram new_ring new_own new_r there h registers count =
+pub served_look : (touches : List Item → Type 0) (ram : List ℕ) (kind : Kind) (r : Registers) (held : List Positions) (pick : ℕ) (q : RingState) (s : Served) (new_ram : List ℕ) (new_ring : RingState) (new_kind : Kind) (new_r : Registers)
+    → pick < length r.queues → IsServed touches ram q r.common.features kind pick s new_ram new_ring new_kind → new_r ≡ registers_after r pick s → length new_r.queues ≡ length r.queues
+    → IsLookedStep touches ram (held_device kind r held) pick q (reply_of s) new_ram (held_device new_kind new_r (set held pick (record { taking = new_ring.taking; used = new_ring.used })))
+served_look touches ram kind r held pick q s new_ram new_ring new_kind new_r there h registers count =
     let new : Positions = record { taking = new_ring.taking; used = new_ring.used } in
-    let was_fine : outcome_of (reply_of s) ≡ fine = rw h.served_is (fine_service (block_of shape r.common.features) own pick ram q h.seen) in
+    let was_fine : outcome_of (reply_of s) ≡ fine = rw h.served_is (answered r.common.features kind pick ram q h.seen).outcome in
     let place : take (length new_r.queues) (set held pick new) ≡ set (take (length r.queues) held) pick new = ap (λ n. take n (set held pick new)) count ∙ take-set-lt (length r.queues) held pick new there in
     record {
       seen = h.seen;
       may_look = rw was_fine h.sees;
       reply_is = rw was_fine (ap reply_of h.served_is);
-      device_is = rw (was_fine, place, registers, h.ring_is, h.own_is, h.served_is) refl;
+      device_is = rw (was_fine, place, registers, h.ring_is, h.kind_is, h.served_is) refl;
       ram_is = rw was_fine h.ram_is;
       items_are = rw was_fine h.items_are;
     }
@@ -276,7 +216,7 @@ not_failed want ram q seen disk_failed is h = h
 not_failed want ram q seen no_memory is h = cc
 
 pub fine_look : (touches : List Item → Type 0) (ram : List ℕ) (d : DeviceState) (pick : ℕ) (q : RingState) (reply : Reply) (new_ram : List ℕ) (new : DeviceState) → IsLookedStep touches ram d pick q reply new_ram new → is_failure reply ≡ false
-fine_look touches ram d pick q reply new_ram new h = no_failure reply (λ is. not_failed (wanted_of d.own pick) ram q h.seen (outcome_of reply) (rw is refl) h.may_look)
+fine_look touches ram d pick q reply new_ram new h = no_failure reply (λ is. not_failed (wanted_of d.kind pick) ram q h.seen (outcome_of reply) (rw is refl) h.may_look)
 
 -- A request that went on.
 does_by : (a : Advanced) → disk_does (outcome_of (reply_to_advance a)) ≡ not (is_disk_failed a)
@@ -293,20 +233,20 @@ failure_by advanced.BadSector = refl
 failure_by advanced.DiskFailed = refl
 failure_by (advanced.Completed len due) = refl
 
-pub advanced_step : (touches : List Item → Type 0) (number : ℕ) (honest : Bool) (ram : List ℕ) (content : List Sector) (shape : Shape) (r : Registers) (held : List Positions) (own : Own) (pick : ℕ) (q : RingState) (a : Advanced) (new_ram : List ℕ) (new_ring : RingState) (new_content : List Sector) (new_own : Own) (new_r : Registers)
-    → 0 < length r.queues → IsAfterAdvancing touches honest number ram content (λ given. advance_step (block_of shape r.common.features) ram q given (requests_of own) (pick - 1) (not (is_disk_failed a))) a new_ram new_ring new_content (requests_of new_own)
-    → new_own ≡ with_requests own (requests_of new_own) → new_r ≡ cond (is_advance_due a) (with_common r (used_raised r.common)) r → length new_r.queues ≡ length r.queues
-    → IsAdvancedStep touches number honest ram content (held_device shape r held own) pick q (reply_to_advance a) new_ram new_content (held_device shape new_r (set held 0 (record { taking = new_ring.taking; used = new_ring.used })) new_own)
-advanced_step touches number honest ram content shape r held own pick q a new_ram new_ring new_content new_own new_r there h own_is registers count =
+pub advanced_step : (touches : List Item → Type 0) (number : ℕ) (honest : Bool) (ram : List ℕ) (content : List Sector) (kind : Kind) (r : Registers) (held : List Positions) (pick : ℕ) (q : RingState) (a : Advanced) (new_ram : List ℕ) (new_ring : RingState) (new_content : List Sector) (new_kind : Kind) (new_r : Registers)
+    → 0 < length r.queues → IsAfterAdvancing touches honest number ram content (λ given. advance_step (block_of (made_as kind) r.common.features) ram q given (requests_of kind) (pick - 1) (not (is_disk_failed a))) a new_ram new_ring new_content (requests_of new_kind)
+    → new_kind ≡ with_requests kind (requests_of new_kind) → new_r ≡ cond (is_advance_due a) (with_common r (used_raised r.common)) r → length new_r.queues ≡ length r.queues
+    → IsAdvancedStep touches number honest ram content (held_device kind r held) pick q (reply_to_advance a) new_ram new_content (held_device new_kind new_r (set held 0 (record { taking = new_ring.taking; used = new_ring.used })))
+advanced_step touches number honest ram content kind r held pick q a new_ram new_ring new_content new_kind new_r there h kind_is registers count =
     let new : Positions = record { taking = new_ring.taking; used = new_ring.used } in
-    let s = advance_step (block_of shape r.common.features) ram q h.given (requests_of own) (pick - 1) (not (is_disk_failed a)) in
+    let s = advance_step (block_of (made_as kind) r.common.features) ram q h.given (requests_of kind) (pick - 1) (not (is_disk_failed a)) in
     let place : take (length new_r.queues) (set held 0 new) ≡ set (take (length r.queues) held) 0 new = ap (λ n. take n (set held 0 new)) count ∙ take-set-lt (length r.queues) held 0 new there in
-    let requests : with_requests own (requests_of new_own) ≡ with_requests own s.requests = ap (with_requests own) h.requests_are in
+    let requests : with_requests kind (requests_of new_kind) ≡ with_requests kind s.requests = ap (with_requests kind) h.requests_are in
     record {
       given = h.given;
       is_given = h.is_given;
       reply_is = rw (does_by a) (ap reply_to_advance h.answer_is);
-      device_is = rw (does_by a, place, registers, h.ring_is, own_is, requests, ← h.answer_is) refl;
+      device_is = rw (does_by a, place, registers, h.ring_is, kind_is, requests, ← h.answer_is) refl;
       ram_is = rw (does_by a) h.ram_is;
       content_is = rw (does_by a) h.content_is;
       items_are = rw (does_by a) h.items_are;

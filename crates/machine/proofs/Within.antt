@@ -23,20 +23,23 @@ use Rattle.machine.specs.Effect as effects
 use Rattle.machine.specs.Effect.{Effect, Replacement, applied, replaced_in}
 use Rattle.machine.specs.EffectLaws.{HasItem, IsSameShape, MayReplace, sector_on}
 use Rattle.machine.specs.Outcome.{Outcome, fine, disk_failed, no_memory, disk_does}
-use Rattle.machine.specs.Shapes.{block_of, sector_count}
+use Rattle.machine.specs.Shapes.{block_of, made_as, sector_count}
 use Rattle.machine.specs.Sound.{IsSound, IsSoundDevice}
 use Rattle.machine.specs.State.{MachineState, DeviceState}
 use Rattle.machine.specs.Step.{answer, disk_of, disk_or_none, input_of, MaySee, MaySeeAt, read_register, write_register, read_ram, write_ram, put_by, put_in, set_size, size_by, step_device}
 use Rattle.machine.specs.StepLaws.{Fits, StepStaysWithin, StepKeepsShape, StepStaysSound}
+use Rattle.mmio.specs.RegisterWrite.{register_write}
 use Rattle.machine.specs.declared.event.Event.{Event}
-use Rattle.machine.specs.declared.own.Own.{Own}
-use Rattle.machine.specs.declared.own.Own.TheVariants.{Network, Block, Console, Entropy}
+use Rattle.machine.specs.declared.kind.Kind.{Kind}
+use Rattle.machine.specs.declared.kind.Kind.TheVariants.{Network, Block, Console, Entropy}
 use Rattle.machine.specs.declared.reply.Refusal.{Refusal}
 use Rattle.machine.specs.declared.event.Event.TheVariants.{RegRead, RegWrite, MemRead, MemWrite, Step, Input, Resize}
+use Rattle.machine.proofs.MadeAs.{kept_as, input_as, served_as, requests_as}
 use Rattle.machine.proofs.Effects.{replaced_shapes, all_sizes_stay}
 use Rattle.machine.proofs.Inside.{AreInsideRam, all_inside, bytes_after, run_inside, served_inside}
 use Rattle.machine.proofs.Advancing.{advanced_is}
 use Rattle.machine.proofs.Looking.{looked_is}
+use Rattle.machine.proofs.Numbering.{shape_counts}
 use Rattle.machine.proofs.Outstanding.{AreGoodSets}
 use Rattle.machine.proofs.Rings.{looked_ring}
 use Rattle.machine.proofs.Staying.{HasSectors, advanced_goes_on, block_count, sound_resized, sound_written, sound_input, sound_stepped}
@@ -49,33 +52,33 @@ StaysSoundAt len (Some r) = IsSoundDevice len r.device
 -- A device is replaced by one of its shape.
 may_write : (devices : List DeviceState) (number : ℕ) (found : Option DeviceState) (offset width value : ℕ) → slice_get devices number ≡ found → MayReplace devices (write_register number found offset width value).effect.replaced
 may_write devices number None offset width value is = tt
-may_write devices number (Some d) offset width value is = (d, is, refl)
+may_write devices number (Some d) offset width value is = (d, is, kept_as (register_write d.registers offset width value).1.queues d.kind)
 
 may_put_by : (devices : List DeviceState) (number : ℕ) (d : DeviceState) (bytes : List ℕ) (answer : Result ℕ Refusal) → slice_get devices number ≡ Some d → MayReplace devices (put_by number d bytes answer).effect.replaced
-may_put_by devices number d bytes (Ok count) is = (d, is, refl)
+may_put_by devices number d bytes (Ok count) is = (d, is, input_as d.kind bytes)
 may_put_by devices number d bytes (Err refusal) is = tt
 
 may_put : (devices : List DeviceState) (number : ℕ) (found : Option DeviceState) (bytes : List ℕ) → slice_get devices number ≡ found → MayReplace devices (put_in number found bytes).effect.replaced
 may_put devices number None bytes is = tt
-may_put devices number (Some d) bytes is = may_put_by devices number d bytes (input_of d.own bytes) is
+may_put devices number (Some d) bytes is = may_put_by devices number d bytes (input_of d.kind bytes) is
 
-may_size_by : (devices : List DeviceState) (number : ℕ) (d : DeviceState) (own : Own) (size : ConsoleSize) → slice_get devices number ≡ Some d → MayReplace devices (size_by number d own size).effect.replaced
-may_size_by devices number d (Network frames) size is = tt
-may_size_by devices number d (Block requests) size is = tt
-may_size_by devices number d (Console old held) size is = (d, is, refl)
-may_size_by devices number d (Entropy pool) size is = tt
+may_size_by : (devices : List DeviceState) (number : ℕ) (d : DeviceState) (kind : Kind) (size : ConsoleSize) → d.kind ≡ kind → slice_get devices number ≡ Some d → MayReplace devices (size_by number d kind size).effect.replaced
+may_size_by devices number d (Network mac frames) size of is = tt
+may_size_by devices number d (Block sectors read_only id requests) size of is = tt
+may_size_by devices number d (Console old held) size of is = (d, is, ap made_as (sym of))
+may_size_by devices number d (Entropy pool) size of is = tt
 
 may_size : (devices : List DeviceState) (number : ℕ) (found : Option DeviceState) (size : ConsoleSize) → slice_get devices number ≡ found → MayReplace devices (set_size number found size).effect.replaced
 may_size devices number None size is = tt
-may_size devices number (Some d) size is = may_size_by devices number d d.own size is
+may_size devices number (Some d) size is = may_size_by devices number d d.kind size refl is
 
-shape_advanced : (d : DeviceState) (ram : List ℕ) (content : List Sector) (pick : ℕ) (ring : Option RingState) (o : Outcome) → (advance_at d ram content pick ring o).device.shape ≡ d.shape
+shape_advanced : (d : DeviceState) (ram : List ℕ) (content : List Sector) (pick : ℕ) (ring : Option RingState) (o : Outcome) → made_as (advance_at d ram content pick ring o).device.kind ≡ made_as d.kind
 shape_advanced d ram content pick None o = refl
-shape_advanced d ram content pick (Some q) o = refl
+shape_advanced d ram content pick (Some q) o = requests_as d.kind _
 
-pub shape_at : (d : DeviceState) (ram : List ℕ) (content : List Sector) (pick : ℕ) (ring : Option RingState) (o : Outcome) (seen : Next) → (step_at d ram content pick ring o seen).device.shape ≡ d.shape
+pub shape_at : (d : DeviceState) (ram : List ℕ) (content : List Sector) (pick : ℕ) (ring : Option RingState) (o : Outcome) (seen : Next) → made_as (step_at d ram content pick ring o seen).device.kind ≡ made_as d.kind
 shape_at d ram content pick None o seen = shape_advanced d ram content pick (advanced_at d pick) o
-shape_at d ram content pick (Some q) fine seen = refl
+shape_at d ram content pick (Some q) fine seen = served_as d.registers.common.features d.kind pick ram q seen
 shape_at d ram content pick (Some q) disk_failed seen = refl
 shape_at d ram content pick (Some q) no_memory seen = refl
 
@@ -144,15 +147,15 @@ pub sound_at : (m : MachineState) (dev : ℕ) (d : DeviceState) → slice_get m.
 sound_at m dev d there sound = rw (get_or_from_slice_get m.devices dev d d there) at (sound.devices dev d (slice_get_within m.devices dev d there))
 
 -- What a device has of the sectors of a sound machine.
-disk_at : (ds : List DeviceState) (disks : List (List Sector)) (dev : ℕ) (d : DeviceState) → map length disks ≡ map (λ (x : DeviceState). sector_count x.shape) ds → All AreWhole disks → slice_get ds dev ≡ Some d → HasSectors d (disk_or_none (slice_get disks dev))
+disk_at : (ds : List DeviceState) (disks : List (List Sector)) (dev : ℕ) (d : DeviceState) → map length disks ≡ map (λ (x : DeviceState). sector_count (made_as x.kind)) ds → All AreWhole disks → slice_get ds dev ≡ Some d → HasSectors d (disk_or_none (slice_get disks dev))
 disk_at [] disks dev d sizes whole there = cc
 disk_at (x ∷ ds) [] dev d sizes whole there = cc
 disk_at (x ∷ ds) (disk ∷ disks) zero d sizes whole there =
     let one : x ≡ d = cc in
-    let size : length disk ≡ sector_count x.shape = cc in
+    let size : length disk ≡ sector_count (made_as x.kind) = cc in
     rw (← one) (record { count = size; whole = whole 0 disk (omega arith) })
 disk_at (x ∷ ds) (disk ∷ disks) (suc dev) d sizes whole there =
-    let others : map length disks ≡ map (λ (y : DeviceState). sector_count y.shape) ds = cc in
+    let others : map length disks ≡ map (λ (y : DeviceState). sector_count (made_as y.kind)) ds = cc in
     disk_at ds disks dev d others (λ k e below. whole (suc k) e (omega (arith, below))) there
 
 pub has_sectors : (m : MachineState) (dev : ℕ) (d : DeviceState) → slice_get m.devices dev ≡ Some d → IsSound m → HasSectors d (disk_of m dev)
@@ -162,9 +165,9 @@ advance_inside : (d : DeviceState) (ram : List ℕ) (content : List Sector) (pic
 advance_inside d ram content pick None o is are sound has = tt
 advance_inside d ram content pick (Some q) o is are sound has = (advanced_goes_on d ram content pick q (disk_does o) (advanced_is (length ram) d pick q sound is) are sound has).inside
 
-worked_at : (d : DeviceState) (ram : List ℕ) (content : List Sector) (pick : ℕ) (ring : Option RingState) (o : Outcome) (seen : Next) → looked_at d pick ≡ ring → MayLook (wanted_of d.own pick) ring ram o seen → IsBytes ram → IsSoundDevice (length ram) d → HasSectors d content → AreInsideRam (length ram) (step_at d ram content pick ring o seen).writes
+worked_at : (d : DeviceState) (ram : List ℕ) (content : List Sector) (pick : ℕ) (ring : Option RingState) (o : Outcome) (seen : Next) → looked_at d pick ≡ ring → MayLook (wanted_of d.kind pick) ring ram o seen → IsBytes ram → IsSoundDevice (length ram) d → HasSectors d content → AreInsideRam (length ram) (step_at d ram content pick ring o seen).writes
 worked_at d ram content pick None o seen is may are sound has = advance_inside d ram content pick (advanced_at d pick) o refl are sound has
-worked_at d ram content pick (Some q) fine seen is may are sound has = served_inside (length ram) d.registers d.shape d.own pick ram q seen (looked_ring (length ram) d pick q sound (looked_is d pick q is)) may sound.own
+worked_at d ram content pick (Some q) fine seen is may are sound has = served_inside (length ram) d.registers d.kind pick ram q seen (looked_ring (length ram) d pick q sound (looked_is d pick q is)) may sound.kind
 worked_at d ram content pick (Some q) disk_failed seen is may are sound has = tt
 worked_at d ram content pick (Some q) no_memory seen is may are sound has = tt
 
@@ -188,15 +191,15 @@ no_writes_read ram addr len None fine = refl
 no_writes_read ram addr len None disk_failed = refl
 no_writes_read ram addr len None no_memory = refl
 
-no_writes_size_by : (dev : ℕ) (d : DeviceState) (own : Own) (size : ConsoleSize) → (size_by dev d own size).effect.writes ≡ []
-no_writes_size_by dev d (Network frames) size = refl
-no_writes_size_by dev d (Block requests) size = refl
+no_writes_size_by : (dev : ℕ) (d : DeviceState) (kind : Kind) (size : ConsoleSize) → (size_by dev d kind size).effect.writes ≡ []
+no_writes_size_by dev d (Network mac frames) size = refl
+no_writes_size_by dev d (Block sectors read_only id requests) size = refl
 no_writes_size_by dev d (Console old held) size = refl
 no_writes_size_by dev d (Entropy pool) size = refl
 
 no_writes_size : (dev : ℕ) (found : Option DeviceState) (size : ConsoleSize) → (set_size dev found size).effect.writes ≡ []
 no_writes_size dev None size = refl
-no_writes_size dev (Some d) size = no_writes_size_by dev d d.own size
+no_writes_size dev (Some d) size = no_writes_size_by dev d d.kind size
 
 no_writes_put_by : (dev : ℕ) (d : DeviceState) (bytes : List ℕ) (answer : Result ℕ Refusal) → (put_by dev d bytes answer).effect.writes ≡ []
 no_writes_put_by dev d bytes (Ok count) = refl
@@ -204,7 +207,7 @@ no_writes_put_by dev d bytes (Err refusal) = refl
 
 no_writes_put : (dev : ℕ) (found : Option DeviceState) (bytes : List ℕ) → (put_in dev found bytes).effect.writes ≡ []
 no_writes_put dev None bytes = refl
-no_writes_put dev (Some d) bytes = no_writes_put_by dev d bytes (input_of d.own bytes)
+no_writes_put dev (Some d) bytes = no_writes_put_by dev d bytes (input_of d.kind bytes)
 
 below_of : (m : MachineState) (e : Event) (o : Outcome) (seen : Next) → MaySee m e o seen → IsSound m → All (λ (w : Write). w.address < length m.ram) (answer m e o seen).effect.writes
 below_of m (RegRead dev off width) o seen may sound = rw (no_writes_looked (slice_get m.devices dev) off width) (none_below (length m.ram))
@@ -244,7 +247,7 @@ good_sets m dev (s ∷ ss) h = ((good_sector (slice_get m.disks dev) s.number h.
 advance_sets : (d : DeviceState) (ram : List ℕ) (content : List Sector) (pick : ℕ) (ring : Option RingState) (o : Outcome) → advanced_at d pick ≡ ring → IsBytes ram → IsSoundDevice (length ram) d → HasSectors d content → AreGoodSets (length content) (advance_at d ram content pick ring o).sets
 advance_sets d ram content pick None o is are sound has = tt
 advance_sets d ram content pick (Some q) o is are sound has =
-    let count : length content ≡ (block_of d.shape d.registers.common.features).sectors = has.count ∙ sym (block_count d.shape d.registers.common.features) in
+    let count : length content ≡ (block_of (made_as d.kind) d.registers.common.features).sectors = has.count ∙ sym (block_count (made_as d.kind) d.registers.common.features) in
     rw count (advanced_goes_on d ram content pick q (disk_does o) (advanced_is (length ram) d pick q sound is) are sound has).sets
 
 worked_sets : (d : DeviceState) (ram : List ℕ) (content : List Sector) (pick : ℕ) (ring : Option RingState) (o : Outcome) (seen : Next) → IsBytes ram → IsSoundDevice (length ram) d → HasSectors d content → AreGoodSets (length content) (step_at d ram content pick ring o seen).sets
@@ -277,15 +280,15 @@ no_sectors_stored : (addr : ℕ) (bytes : List ℕ) (error : Option RamError) �
 no_sectors_stored addr bytes (Some error) = refl
 no_sectors_stored addr bytes None = refl
 
-no_sectors_size_by : (dev : ℕ) (d : DeviceState) (own : Own) (size : ConsoleSize) → (size_by dev d own size).effect.sectors ≡ []
-no_sectors_size_by dev d (Network frames) size = refl
-no_sectors_size_by dev d (Block requests) size = refl
+no_sectors_size_by : (dev : ℕ) (d : DeviceState) (kind : Kind) (size : ConsoleSize) → (size_by dev d kind size).effect.sectors ≡ []
+no_sectors_size_by dev d (Network mac frames) size = refl
+no_sectors_size_by dev d (Block sectors read_only id requests) size = refl
 no_sectors_size_by dev d (Console old held) size = refl
 no_sectors_size_by dev d (Entropy pool) size = refl
 
 no_sectors_size : (dev : ℕ) (found : Option DeviceState) (size : ConsoleSize) → (set_size dev found size).effect.sectors ≡ []
 no_sectors_size dev None size = refl
-no_sectors_size dev (Some d) size = no_sectors_size_by dev d d.own size
+no_sectors_size dev (Some d) size = no_sectors_size_by dev d d.kind size
 
 no_sectors_put_by : (dev : ℕ) (d : DeviceState) (bytes : List ℕ) (answer : Result ℕ Refusal) → (put_by dev d bytes answer).effect.sectors ≡ []
 no_sectors_put_by dev d bytes (Ok count) = refl
@@ -293,7 +296,7 @@ no_sectors_put_by dev d bytes (Err refusal) = refl
 
 no_sectors_put : (dev : ℕ) (found : Option DeviceState) (bytes : List ℕ) → (put_in dev found bytes).effect.sectors ≡ []
 no_sectors_put dev None bytes = refl
-no_sectors_put dev (Some d) bytes = no_sectors_put_by dev d bytes (input_of d.own bytes)
+no_sectors_put dev (Some d) bytes = no_sectors_put_by dev d bytes (input_of d.kind bytes)
 
 sets_of : (m : MachineState) (e : Event) (o : Outcome) (seen : Next) → IsSound m → AreGoodIn m (answer m e o seen).effect.sectors
 sets_of m (RegRead dev off width) o seen sound = rw (no_sectors_looked (slice_get m.devices dev) off width) tt
@@ -323,16 +326,16 @@ set_sound len dev devices None offset width value there all small = tt
 set_sound len dev devices (Some d) offset width value there all small =
     sound_written len d offset width value small (rw (get_or_from_slice_get devices dev d d there) at (all dev d (slice_get_within devices dev d there)))
 
-size_sound_by : (len dev : ℕ) (d : DeviceState) (own : Own) (size : ConsoleSize) → d.own ≡ own → size.columns < 2 ^ 16 → size.rows < 2 ^ 16 → IsSoundDevice len d → StaysSoundAt len (size_by dev d own size).effect.replaced
-size_sound_by len dev d (Network frames) size is columns rows sound = tt
-size_sound_by len dev d (Block requests) size is columns rows sound = tt
+size_sound_by : (len dev : ℕ) (d : DeviceState) (kind : Kind) (size : ConsoleSize) → d.kind ≡ kind → size.columns < 2 ^ 16 → size.rows < 2 ^ 16 → IsSoundDevice len d → StaysSoundAt len (size_by dev d kind size).effect.replaced
+size_sound_by len dev d (Network mac frames) size is columns rows sound = tt
+size_sound_by len dev d (Block sectors read_only id requests) size is columns rows sound = tt
 size_sound_by len dev d (Console old held) size is columns rows sound = sound_resized len d old size held is columns rows sound
 size_sound_by len dev d (Entropy pool) size is columns rows sound = tt
 
 size_sound : (len dev : ℕ) (devices : List DeviceState) (found : Option DeviceState) (size : ConsoleSize) → slice_get devices dev ≡ found → All (IsSoundDevice len) devices → size.columns < 2 ^ 16 → size.rows < 2 ^ 16
     → StaysSoundAt len (set_size dev found size).effect.replaced
 size_sound len dev devices None size there all columns rows = tt
-size_sound len dev devices (Some d) size there all columns rows = size_sound_by len dev d d.own size refl columns rows (rw (get_or_from_slice_get devices dev d d there) at (all dev d (slice_get_within devices dev d there)))
+size_sound len dev devices (Some d) size there all columns rows = size_sound_by len dev d d.kind size refl columns rows (rw (get_or_from_slice_get devices dev d d there) at (all dev d (slice_get_within devices dev d there)))
 
 put_sound_by : (len dev : ℕ) (d : DeviceState) (bytes : List ℕ) (answer : Result ℕ Refusal) → IsBytes bytes → IsSoundDevice len d → StaysSoundAt len (put_by dev d bytes answer).effect.replaced
 put_sound_by len dev d bytes (Ok count) are sound = sound_input len d bytes are sound
@@ -341,7 +344,7 @@ put_sound_by len dev d bytes (Err refusal) are sound = tt
 put_sound : (len dev : ℕ) (devices : List DeviceState) (found : Option DeviceState) (bytes : List ℕ) → slice_get devices dev ≡ found → All (IsSoundDevice len) devices → IsBytes bytes
     → StaysSoundAt len (put_in dev found bytes).effect.replaced
 put_sound len dev devices None bytes there all are = tt
-put_sound len dev devices (Some d) bytes there all are = put_sound_by len dev d bytes (input_of d.own bytes) are (rw (get_or_from_slice_get devices dev d d there) at (all dev d (slice_get_within devices dev d there)))
+put_sound len dev devices (Some d) bytes there all are = put_sound_by len dev d bytes (input_of d.kind bytes) are (rw (get_or_from_slice_get devices dev d d there) at (all dev d (slice_get_within devices dev d there)))
 
 work_sound : (m : MachineState) (dev : ℕ) (found : Option DeviceState) (pick : ℕ) (o : Outcome) (seen : Next) → slice_get m.devices dev ≡ found → MaySeeAt found m.ram pick o seen → IsSound m
     → StaysSoundAt (length m.ram) (step_device dev found m.ram (disk_of m dev) pick o seen).effect.replaced
@@ -379,10 +382,6 @@ count_replaced : (devices : List DeviceState) (r : Option Replacement) → lengt
 count_replaced devices None = refl
 count_replaced devices (Some r) = length-set devices r.number r.device
 
-pub sizes_by_shape : (ds : List DeviceState) → map (λ (d : DeviceState). sector_count d.shape) ds ≡ map sector_count (map (λ (d : DeviceState). d.shape) ds)
-sizes_by_shape [] = refl
-sizes_by_shape (d ∷ ds) = ap (λ (ns : List ℕ). sector_count d.shape ∷ ns) (sizes_by_shape ds)
-
 -- Disks are whole after sectors were set that are whole.
 whole_on : (disks : List (List Sector)) (s : effects.SectorSet) (disk : Option (List Sector)) → slice_get disks s.device ≡ disk → IsWhole s.content → All AreWhole disks → All AreWhole (effects.set_on disks s disk)
 whole_on disks s None at whole all = all
@@ -404,7 +403,7 @@ sound_by m k same count devices bytes whole sound = record {
   few_devices = rw count sound.few_devices;
   devices = rw same.ram devices;
   bytes = bytes;
-  disks = same.disks ∙ sound.disks ∙ sizes_by_shape m.devices ∙ sym (ap (map sector_count) same.devices) ∙ sym (sizes_by_shape k.devices);
+  disks = same.disks ∙ sound.disks ∙ shape_counts m.devices ∙ sym (ap (map sector_count) same.devices) ∙ sym (shape_counts k.devices);
   sectors = whole;
 }
 

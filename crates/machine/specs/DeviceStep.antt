@@ -8,10 +8,9 @@ use Rattle.mmio.specs.QueueRegisters.{notified_cleared}
 use Rattle.mmio.specs.declared.queue.Queue.{Queue}
 use Rattle.chains.specs.State.{RingState, state_of}
 use Rattle.chains.specs.LongQueue.{IsLongQueue}
-use Rattle.chains.specs.Transmit.{MayWantMemory, transmit_step}
+use Rattle.chains.specs.Transmit.{MayWantMemory, Sending, transmit_step}
+use Rattle.chains.specs.Transmit as messages
 use Rattle.chains.specs.declared.transmitting.MessageForm.{MessageForm}
-use Rattle.chains.specs.declared.transmitting.Transmitted.{Transmitted}
-use Rattle.chains.specs.declared.transmitting.Transmitted.TheVariants as messages
 use Rattle.chains.specs.Look.{Sees}
 use Rattle.chains.specs.declared.looking.Wanted.{Wanted}
 use Rattle.chains.specs.declared.looking.Wanted.TheVariants as wanted
@@ -20,13 +19,13 @@ use Rattle.chains.specs.declared.position.Positions.{Positions}
 use Rattle.blk.specs.Advance.{AdvanceStep, advance_step}
 use Rattle.blk.specs.Move.{SectorSet}
 use Rattle.blk.specs.Sectors.{Sector}
+use Rattle.blk.specs.Shape.{with_features}
 use Rattle.blk.specs.Take.{take_step}
 use Rattle.blk.specs.declared.advancing.Advanced.{Advanced}
 use Rattle.blk.specs.declared.advancing.Advanced.TheVariants as advanced
 use Rattle.blk.specs.declared.request.Request.{Request}
 use Rattle.blk.specs.declared.request.TheConstants.{HEADER_SIZE}
 use Rattle.blk.specs.declared.requests.TheConstants.{REQUESTS_MAX}
-use Rattle.blk.specs.declared.shape.BlockShape.{BlockShape}
 use Rattle.blk.specs.declared.taking.Taken.{Taken}
 use Rattle.blk.specs.declared.taking.Taken.TheVariants as taken
 use Rattle.console.specs.Receive.{receive_step}
@@ -38,31 +37,31 @@ use Rattle.net.specs.declared.receiving.Received.TheVariants as frames
 use Rattle.console.specs.declared.receiving.Received.{Received}
 use Rattle.console.specs.declared.receiving.Received.TheVariants as received
 use Rattle.machine.specs.Outcome.{Outcome, fine, disk_failed, no_memory, disk_does}
-use Rattle.machine.specs.Shapes.{block_of}
+use Rattle.machine.specs.Shapes.{block_of, made_as}
 use Rattle.machine.specs.State.{DeviceState}
-use Rattle.machine.specs.declared.own.Own.{Own}
-use Rattle.machine.specs.declared.own.Own.TheVariants.{Network, Block, Console, Entropy}
+use Rattle.machine.specs.declared.kind.Kind.{Kind}
+use Rattle.machine.specs.declared.kind.Kind.TheVariants.{Network, Block, Console, Entropy}
 use Rattle.machine.specs.declared.reply.Reply.{Reply}
 use Rattle.machine.specs.declared.reply.Reply.TheVariants.{Idle, Moved, BadSector, DiskFailed, Completed, Sent, Dropped, NeedsReset, NoMemory}
 use Rattle.machine.specs.declared.reply.Reply.TheVariants as replies
-use Rattle.machine.specs.declared.served.Served.{Served}
-use Rattle.machine.specs.declared.served.Served.TheVariants as served
+use Rattle.machine.specs.Served.{Served}
+use Rattle.machine.specs.Served as served
 
 -- A device has something to do at its queue of this number. At queue 0 a network device has a frame to deliver, and a console
 -- has input; at queue 1 both always have (VIRTIO 1.2, 5.1.6 and 5.3.6). A block device has room for one more request (5.2.6),
 -- and an entropy device has bytes in its pool (5.4.6).
-abbrev pub has_work : Own → ℕ → Bool
-has_work (Network frames) zero = not (length frames == 0)
-has_work (Network frames) (suc number) = true
+abbrev pub has_work : Kind → ℕ → Bool
+has_work (Network mac frames) zero = not (length frames == 0)
+has_work (Network mac frames) (suc number) = true
 has_work (Console size held) zero = not (length held == 0)
 has_work (Console size held) (suc number) = true
-has_work (Block requests) number = nat_lt (length requests) REQUESTS_MAX
+has_work (Block sectors read_only id requests) number = nat_lt (length requests) REQUESTS_MAX
 has_work (Entropy pool) number = not (length pool == 0)
 
 -- A step looks at a queue exactly if DRIVER_OK is set and DEVICE_NEEDS_RESET is not, the queue is ready and notified, and the
 -- device has something to do there (VIRTIO 1.2, 2.1.2).
 abbrev pub looks : DeviceState → ℕ → Queue → Bool
-looks d number q = is_running d.registers.common && q.is_ready && q.is_notified && has_work d.own number
+looks d number q = is_running d.registers.common && q.is_ready && q.is_notified && has_work d.kind number
 
 abbrev pub looked_by : DeviceState → ℕ → Option Queue → Option Positions → Option RingState
 looked_by d number (Some q) (Some p) = if looks d number q then Some (state_of q d.registers.common.features p) else None
@@ -74,12 +73,12 @@ looked_at d pick = looked_by d pick (queue_at d.registers pick) (slice_get d.pos
 
 -- The chains that a device can use in its queue of this number. A network device and a console fill those of queue 0, and send
 -- the messages of those of queue 1: frames, and text. A block device takes requests, and an entropy device fills its chains.
-abbrev pub wanted_of : Own → ℕ → Wanted
-wanted_of (Network frames) zero = wanted.Room
-wanted_of (Network frames) (suc number) = wanted.Message frame_form
+abbrev pub wanted_of : Kind → ℕ → Wanted
+wanted_of (Network mac frames) zero = wanted.Room
+wanted_of (Network mac frames) (suc number) = wanted.Message frame_form
 wanted_of (Console size held) zero = wanted.Room
 wanted_of (Console size held) (suc number) = wanted.Message text_form
-wanted_of (Block requests) number = wanted.Request HEADER_SIZE
+wanted_of (Block sectors read_only id requests) number = wanted.Request HEADER_SIZE
 wanted_of (Entropy pool) number = wanted.Room
 
 -- Memory may be refused only at a queue with a longer row of descriptors than is handled without an allocation, or for a
@@ -101,18 +100,18 @@ MayLook want None ram o seen = Unit {0}
 MayLook want (Some q) ram o seen = MayLookAt want q ram o seen
 
 -- The outstanding requests of a device: only a block device has any.
-abbrev pub requests_of : Own → List Request
-requests_of (Block requests) = requests
+abbrev pub requests_of : Kind → List Request
+requests_of (Block sectors read_only id requests) = requests
 requests_of _ = []
 
-abbrev pub with_requests : Own → List Request → Own
-with_requests (Block old) requests = Block requests
-with_requests own requests = own
+abbrev pub with_requests : Kind → List Request → Kind
+with_requests (Block sectors read_only id old) requests = Block sectors read_only id requests
+with_requests kind requests = kind
 
 -- With DRIVER_OK set and DEVICE_NEEDS_RESET not, a step whose pick is n > 0 advances the n-th outstanding request, counted from
 -- 1 in the order of taking, if there is one (VIRTIO 1.2, 5.2.6).
 abbrev pub advances : DeviceState → ℕ → Bool
-advances d pick = is_running d.registers.common && nat_lt 0 pick && nat_lt (pick - 1) (length (requests_of d.own))
+advances d pick = is_running d.registers.common && nat_lt 0 pick && nat_lt (pick - 1) (length (requests_of d.kind))
 
 abbrev pub advanced_by : DeviceState → ℕ → Option Queue → Option Positions → Option RingState
 advanced_by d pick (Some q) (Some p) = if advances d pick then Some (state_of q d.registers.common.features p) else None
@@ -122,13 +121,13 @@ advanced_by d pick q p = None
 abbrev pub advanced_at : DeviceState → ℕ → Option RingState
 advanced_at d pick = advanced_by d pick (queue_at d.registers 0) (slice_get d.positions 0)
 
--- The result of serving a queue: how it went, the bytes written, the ring with its positions, and the kind-specific state after
+-- The result of serving a queue: how it went, the bytes written, the ring with its positions, and the kind with its state after
 -- it.
 pub record Service : Type 0 where
   pub served : Served
   pub writes : List Write
   pub ring : RingState
-  pub own : Own
+  pub kind : Kind
 
 abbrev pub served_of : Received → Served
 served_of received.Empty = served.Empty
@@ -146,33 +145,33 @@ served_frame frames.Malformed = served.Malformed
 served_frame frames.Dropped = served.Published Dropped false
 served_frame (frames.Completed len due) = served.Published (Completed len) due
 
-abbrev pub served_message : Transmitted → Served
+abbrev pub served_message : Sending → Served
 served_message messages.Empty = served.Empty
 served_message messages.Malformed = served.Malformed
 served_message (messages.Sent bytes due) = served.Published (Sent bytes) due
 
--- A message is taken from a queue; the kind-specific state is unchanged.
-abbrev pub take_message : MessageForm → Own → List ℕ → RingState → Next → Service
-take_message form own ram q seen =
+-- A message is taken from a queue; the state that only its kind has is unchanged.
+abbrev pub take_message : MessageForm → Kind → List ℕ → RingState → Next → Service
+take_message form kind ram q seen =
     let s = transmit_step ram q form seen in
-    record { served = served_message s.answer; writes = s.writes; ring = s.ring; own = own }
+    record { served = served_message s.answer; writes = s.writes; ring = s.ring; kind = kind }
 
--- Serving the queue of this number, given what the device sees there, and what it is as a block device.
-abbrev pub serve : BlockShape → Own → ℕ → List ℕ → RingState → Next → Service
-serve shape (Network frames) zero ram q seen =
+-- Serving the queue of this number, given the features that the driver accepted and what the device sees there.
+abbrev pub serve : ℕ → Kind → ℕ → List ℕ → RingState → Next → Service
+serve features (Network mac frames) zero ram q seen =
     let s = receiving.receive_step ram q frames seen in
-    record { served = served_frame s.answer; writes = s.writes; ring = s.ring; own = Network s.left }
-serve shape (Network frames) (suc number) ram q seen = take_message frame_form (Network frames) ram q seen
-serve shape (Console size held) zero ram q seen =
+    record { served = served_frame s.answer; writes = s.writes; ring = s.ring; kind = Network mac s.left }
+serve features (Network mac frames) (suc number) ram q seen = take_message frame_form (Network mac frames) ram q seen
+serve features (Console size held) zero ram q seen =
     let s = receive_step ram q held seen in
-    record { served = served_of s.answer; writes = s.writes; ring = s.ring; own = Console size s.left }
-serve shape (Console size held) (suc number) ram q seen = take_message text_form (Console size held) ram q seen
-serve shape (Block requests) number ram q seen =
-    let s = take_step ram q shape requests seen in
-    record { served = served_taking s.answer; writes = s.writes; ring = s.ring; own = Block s.requests }
-serve shape (Entropy pool) number ram q seen =
+    record { served = served_of s.answer; writes = s.writes; ring = s.ring; kind = Console size s.left }
+serve features (Console size held) (suc number) ram q seen = take_message text_form (Console size held) ram q seen
+serve features (Block sectors read_only id requests) number ram q seen =
+    let s = take_step ram q (with_features sectors read_only id features) requests seen in
+    record { served = served_taking s.answer; writes = s.writes; ring = s.ring; kind = Block sectors read_only id s.requests }
+serve features (Entropy pool) number ram q seen =
     let s = receive_step ram q pool seen in
-    record { served = served_of s.answer; writes = s.writes; ring = s.ring; own = Entropy s.left }
+    record { served = served_of s.answer; writes = s.writes; ring = s.ring; kind = Entropy s.left }
 
 abbrev pub reply_of : Served → Reply
 reply_of served.Empty = Idle
@@ -201,7 +200,7 @@ abbrev pub after_service : DeviceState → ℕ → Service → DeviceState
 after_service d pick s = record d {
   registers = registers_after d.registers pick s.served;
   positions = slice_set d.positions pick (record { taking = s.ring.taking; used = s.ring.used });
-  own = s.own;
+  kind = s.kind;
 }
 
 abbrev pub after_serving : DeviceState → ℕ → Service → DeviceAnswer
@@ -224,7 +223,7 @@ abbrev pub after_advance : DeviceState → AdvanceStep → DeviceState
 after_advance d s = record d {
   registers = if is_advance_due s.answer then with_common d.registers (used_raised d.registers.common) else d.registers;
   positions = slice_set d.positions 0 (record { taking = s.ring.taking; used = s.ring.used });
-  own = with_requests d.own s.requests;
+  kind = with_requests d.kind s.requests;
 }
 
 abbrev pub after_advancing : DeviceState → AdvanceStep → DeviceAnswer
@@ -232,7 +231,7 @@ after_advancing d s = record { reply = reply_to_advance s.answer; writes = s.wri
 
 -- Advances the outstanding request that this pick names, on this ring.
 abbrev pub advance_on : DeviceState → List ℕ → List Sector → ℕ → RingState → Outcome → DeviceAnswer
-advance_on d ram content pick q o = after_advancing d (advance_step (block_of d.shape d.registers.common.features) ram q content (requests_of d.own) (pick - 1) (disk_does o))
+advance_on d ram content pick q o = after_advancing d (advance_step (block_of (made_as d.kind) d.registers.common.features) ram q content (requests_of d.kind) (pick - 1) (disk_does o))
 
 -- A step that looks at no queue, given the ring of the request that it advances. Without one it is idle.
 abbrev pub advance_at : DeviceState → List ℕ → List Sector → ℕ → Option RingState → Outcome → DeviceAnswer
@@ -243,7 +242,7 @@ advance_at d ram content pick (Some q) o = advance_on d ram content pick q o
 abbrev pub looked_step : DeviceState → List ℕ → ℕ → RingState → Outcome → Next → DeviceAnswer
 looked_step d ram pick q no_memory seen = unmoved d NoMemory
 looked_step d ram pick q disk_failed seen = unmoved d Idle
-looked_step d ram pick q fine seen = after_serving d pick (serve (block_of d.shape d.registers.common.features) d.own pick ram q seen)
+looked_step d ram pick q fine seen = after_serving d pick (serve d.registers.common.features d.kind pick ram q seen)
 
 -- A step of a device whose disk has these sectors, given the ring that it looks at, if any, the outcome, and what the device
 -- sees there.

@@ -6,6 +6,7 @@ use Rattle.guestmem.specs.Page.{page_of}
 use Rattle.blk.specs.Sectors.{Sector}
 use Rattle.machine.specs.State.{MachineState, DeviceState}
 use Rattle.machine.specs.Effect.{Effect, Replacement, applied, items_of}
+use Rattle.machine.specs.Shapes.{made_as}
 
 -- The sectors of a device's disk.
 abbrev pub sectors_on : MachineState → ℕ → Option (List Sector)
@@ -33,7 +34,7 @@ HasItem m (sector dev n) = (content : Sector) × (sector_on (sectors_on m dev) n
 -- the same shape.
 abbrev pub MayReplace : List DeviceState → Option Replacement → Type 0
 MayReplace devices None = Unit {0}
-MayReplace devices (Some r) = (old : DeviceState) × (slice_get devices r.number ≡ Some old) × (r.device.shape ≡ old.shape)
+MayReplace devices (Some r) = (old : DeviceState) × (slice_get devices r.number ≡ Some old) × (made_as r.device.kind ≡ made_as old.kind)
 
 pub record IsWithin (m : MachineState) (e : Effect) : Type 0 where
   pub writes : All (λ w. w.address < length m.ram) e.writes
@@ -48,7 +49,7 @@ TouchedExists = (m : MachineState) (e : Effect) → IsWithin m e → (i : Item) 
 -- sizes.
 pub record IsSameShape (m k : MachineState) : Type 0 where
   pub ram : length k.ram ≡ length m.ram
-  pub devices : map (λ d. d.shape) k.devices ≡ map (λ d. d.shape) m.devices
+  pub devices : map (λ d. made_as d.kind) k.devices ≡ map (λ d. made_as d.kind) m.devices
   pub disks : map length k.disks ≡ map length m.disks
 
 -- An effect keeps the shape of the machine.

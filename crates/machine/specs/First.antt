@@ -4,7 +4,7 @@ use Rattle.guestmem.specs.declared.limits.TheConstants.{PAGE_SIZE, PAGES_MAX}
 use Rattle.guestmem.specs.Number.{IsBytes}
 use Rattle.blk.specs.Disk.{DiskState}
 use Rattle.blk.specs.Sectors.{Sector, SectorsState, seen_of}
-use Rattle.machine.specs.Shapes.{first_device, disk_size_of, disk_sizes, is_beyond}
+use Rattle.machine.specs.Shapes.{first_device, disk_size_of, disk_sizes, is_beyond, made_as}
 use Rattle.machine.specs.State.{MachineState, DeviceState}
 use Rattle.machine.specs.Seen.{DeviceSeen, Marks, no_marks, sectors_of, marks_of}
 use Rattle.machine.specs.declared.machine.TheConstants.{DEVICES_MAX}
@@ -104,8 +104,8 @@ next_disk (Some size) (disk ∷ disks) = Some disk
 
 abbrev pub seen_devices : List DeviceState → List SectorsState → List DeviceSeen
 seen_devices [] disks = []
-seen_devices (d ∷ ds) disks = seen_with d (next_disk (disk_size_of d.shape) disks) ∷ seen_devices ds (left_over (disk_size_of d.shape) disks)
+seen_devices (d ∷ ds) disks = seen_with d (next_disk (disk_size_of (made_as d.kind)) disks) ∷ seen_devices ds (left_over (disk_size_of (made_as d.kind)) disks)
 
 -- A machine as it was saved, whose disks have these sectors in the order of the devices that have one.
 abbrev pub saved_machine : List ℕ → List DeviceState → List (List Sector) → MachineState
-saved_machine ram states disks = record { ram = ram; devices = states; disks = dealt_sectors (map (λ d. d.shape) states) disks }
+saved_machine ram states disks = record { ram = ram; devices = states; disks = dealt_sectors (map (λ d. made_as d.kind) states) disks }

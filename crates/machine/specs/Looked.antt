@@ -20,7 +20,7 @@ pub record IsLookedAt (d : DeviceState) (pick : ℕ) (q : RingState) : Type 0 wh
   pub driven : is_running d.registers.common ≡ true
   pub ready : queue.is_ready ≡ true
   pub notified : queue.is_notified ≡ true
-  pub work : has_work d.own pick ≡ true
+  pub work : has_work d.kind pick ≡ true
   pub is : q ≡ state_of queue d.registers.common.features positions
 
 -- A step of a device with this pick looks at a queue that is malformed for it: there is no chain at all, or one that the device
@@ -30,4 +30,4 @@ pub record LooksAtMalformed (m : MachineState) (dev pick : ℕ) : Type 0 where
   pub there : slice_get m.devices dev ≡ Some device
   pub ring : RingState
   pub looked : IsLookedAt device pick ring
-  pub sees : Sees (wanted_of device.own pick) m.ram ring Malformed
+  pub sees : Sees (wanted_of device.kind pick) m.ram ring Malformed

@@ -5,6 +5,7 @@ use Rattle.machine.specs.First.{AreMarksOf, marked_sectors, saved_machine}
 use Rattle.machine.specs.Sound.{IsSound}
 use Rattle.machine.specs.State.{DeviceState, MachineState}
 use Rattle.machine.specs.declared.shape.Shape.{Shape}
+use Rattle.machine.specs.Shapes.{made_as}
 
 -- The bytes of RAM, the shapes and the states of the devices, and the marks of the bad sectors of each disk.
 pub record PartsSeen : Type 0 where
@@ -25,5 +26,5 @@ machine_of parts disks = saved_machine parts.ram parts.states (marked_sectors di
 -- The parts fit one another and these disks, and make a sound machine with them.
 pub record ArePartsFor (disks : List DiskState) (parts : PartsSeen) : Type 0 where
   pub sound : IsSound (machine_of parts disks)
-  pub shapes : parts.shapes ≡ map (λ d. d.shape) parts.states
+  pub shapes : parts.shapes ≡ map (λ d. made_as d.kind) parts.states
   pub marks : AreMarksOf disks parts.bad

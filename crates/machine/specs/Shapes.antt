@@ -1,23 +1,27 @@
--- What the shape (kind and configuration) of a device determines.
+-- What the kind of a device determines, and what it was made as (its shape).
 use Rattle.std.specs.Prelude.{ℕ, ◌+◌, ◌^◌, ◌==◌, ◌||◌, nat_lt, Bool, false, List, [], ◌∷◌, Option, Some, None, replicate}
 use Rattle.blk.specs.Shape as blocks
 use Rattle.blk.specs.declared.shape.BlockShape.{BlockShape}
 use Rattle.console.specs.Size as sizes
-use Rattle.console.specs.declared.features.TheConstants.{SIZE, EMERGENCY_WRITE}
+use Rattle.blk.specs.declared.shape.TheConstants as blk
 use Rattle.console.specs.declared.size.ConsoleSize.{ConsoleSize}
-use Rattle.net.specs.declared.features.TheConstants.{MAC}
-use Rattle.mmio.specs.Bits.{has}
 use Rattle.mmio.specs.State.{first_registers}
 use Rattle.chains.specs.declared.position.Positions.{Positions}
 use Rattle.mmio.specs.declared.common.Common.{Common}
 use Rattle.mmio.specs.declared.queue.Queue.{Queue}
-use Rattle.machine.specs.declared.own.Own.{Own}
-use Rattle.machine.specs.declared.own.Own.TheVariants as own
-use Rattle.machine.specs.declared.shape.TheConstants.{SECTORS_MAX}
+use Rattle.machine.specs.declared.kind.Kind.{Kind}
+use Rattle.machine.specs.declared.kind.Kind.TheVariants as kinds
 use Rattle.machine.specs.declared.shape.Shape.{Shape}
 use Rattle.machine.specs.declared.shape.Shape.TheVariants.{Net, Block, Console, Entropy}
 use Rattle.machine.specs.State.{DeviceState}
 use Rattle.machine.specs.QueuePositions.{first_positions}
+
+-- What a device of this kind was made as.
+abbrev pub made_as : Kind → Shape
+made_as (kinds.Network mac frames) = Net mac
+made_as (kinds.Block sectors read_only id requests) = Block sectors read_only id
+made_as (kinds.Console size held) = Console
+made_as (kinds.Entropy pool) = Entropy
 
 -- The device ID (VIRTIO 1.2, 5).
 abbrev pub device_id_of : Shape → ℕ
@@ -34,9 +38,9 @@ common_features = 2 ^ 28 + 2 ^ 29 + 2 ^ 32 + 2 ^ 34
 -- The feature bits that the device offers: in addition to those that every device offers, a network device offers MAC 5 (VIRTIO
 -- 1.2, 5.1.3), a console SIZE 0 and EMERG_WRITE 2 (5.3.3), and a block device its own (5.2.3).
 abbrev pub offered_of : Shape → ℕ
-offered_of (Net mac) = common_features + MAC
+offered_of (Net mac) = common_features + 2 ^ 5
 offered_of (Block sectors read_only id) = common_features + blocks.features_of read_only
-offered_of Console = common_features + (SIZE + EMERGENCY_WRITE)
+offered_of Console = common_features + (2 ^ 0 + 2 ^ 2)
 offered_of Entropy = common_features
 
 -- The number of its queues (VIRTIO 1.2, 5.1.2, 5.2.2, 5.3.2 and 5.4.2).
@@ -46,18 +50,13 @@ queues_of (Block sectors read_only id) = 1
 queues_of Console = 2
 queues_of Entropy = 1
 
--- The configuration space of a console is that of its size (VIRTIO 1.2, 5.3.4).
-abbrev pub size_configuration : Own → List ℕ
-size_configuration (own.Console size held) = sizes.configuration_of size
-size_configuration _ = []
-
--- The configuration space: of a network device the six bytes of its MAC (VIRTIO 1.2, 5.1.4), of a block device its own (5.2.4); an
--- entropy device has none (5.4.4).
-abbrev pub configuration_of : Shape → Own → List ℕ
-configuration_of (Net mac) o = mac
-configuration_of (Block sectors read_only id) o = blocks.configuration_of sectors
-configuration_of Console o = size_configuration o
-configuration_of Entropy o = []
+-- The configuration space: of a network device the six bytes of its MAC (VIRTIO 1.2, 5.1.4), of a block device its own (5.2.4), of a
+-- console that of its size (5.3.4); an entropy device has none (5.4.4).
+abbrev pub configuration_of : Kind → List ℕ
+configuration_of (kinds.Network mac frames) = mac
+configuration_of (kinds.Block sectors read_only id requests) = blocks.configuration_of sectors
+configuration_of (kinds.Console size held) = sizes.configuration_of size
+configuration_of (kinds.Entropy pool) = []
 
 -- How many sectors its disk has, if it has one.
 abbrev pub disk_size_of : Shape → Option ℕ
@@ -85,39 +84,37 @@ disk_sizes (shape ∷ shapes) = with_size (disk_size_of shape) (disk_sizes shape
 
 -- The shape as that of a block device whose driver accepted these features. For a device of another kind it has no sectors.
 abbrev pub block_of : Shape → ℕ → BlockShape
-block_of (Block sectors read_only id) features = record { sectors = sectors; read_only = read_only; id = id; write_zeroes = has features (2 ^ 14) }
-block_of _ features = record { sectors = 0; read_only = false; id = replicate 20 0; write_zeroes = false }
+block_of (Block sectors read_only id) features = blocks.with_features sectors read_only id features
+block_of _ features = blocks.with_features 0 false (replicate blk.ID_SIZE 0) 0
 
 -- Whether a shape is beyond its limits: a block device has 1 to 2,097,152 sectors; other devices have no such limit.
 abbrev pub is_beyond : Shape → Bool
-is_beyond (Block sectors read_only id) = sectors == 0 || nat_lt SECTORS_MAX sectors
+is_beyond (Block sectors read_only id) = sectors == 0 || nat_lt blk.SECTORS_MAX sectors
 is_beyond _ = false
 
 -- A new console has 80 columns and 25 rows.
 abbrev pub first_size : ConsoleSize
 first_size = record { columns = 80; rows = 25 }
 
--- The initial kind-specific state of a device.
-abbrev pub first_own : Shape → Own
-first_own (Net mac) = own.Network []
-first_own (Block sectors read_only id) = own.Block []
-first_own Console = own.Console first_size []
-first_own Entropy = own.Entropy []
+-- A new device that is made as this.
+abbrev pub first_kind : Shape → Kind
+first_kind (Net mac) = kinds.Network mac []
+first_kind (Block sectors read_only id) = kinds.Block sectors read_only id []
+first_kind Console = kinds.Console first_size []
+first_kind Entropy = kinds.Entropy []
 
 -- A new device in a machine with `ram_len` bytes of RAM.
 abbrev pub first_device : ℕ → Shape → DeviceState
 first_device ram_len shape = record {
-  shape = shape;
+  kind = first_kind shape;
   registers = first_registers (device_id_of shape) (offered_of shape) (queues_of shape) ram_len;
   positions = replicate (queues_of shape) first_positions;
-  own = first_own shape;
 }
 
 -- A device as it was saved.
-abbrev pub saved_device : ℕ → Shape → Common → List Queue → List Positions → Own → DeviceState
-saved_device ram_len shape common queues positions own_is = record {
-  shape = shape;
-  registers = record { device_id = device_id_of shape; offered = offered_of shape; ram_len = ram_len; common = common; queues = queues };
+abbrev pub saved_device : ℕ → Kind → Common → List Queue → List Positions → DeviceState
+saved_device ram_len kind common queues positions = record {
+  kind = kind;
+  registers = record { device_id = device_id_of (made_as kind); offered = offered_of (made_as kind); ram_len = ram_len; common = common; queues = queues };
   positions = positions;
-  own = own_is;
 }

@@ -3,16 +3,14 @@ use Rattle.std.specs.Prelude.{List, ℕ}
 use Rattle.blk.specs.Sectors.{Sector}
 use Rattle.mmio.specs.State.{Registers}
 use Rattle.chains.specs.declared.position.Positions.{Positions}
-use Rattle.machine.specs.declared.own.Own.{Own}
-use Rattle.machine.specs.declared.shape.Shape.{Shape}
+use Rattle.machine.specs.declared.kind.Kind.{Kind}
 
--- A device: its shape (what it was made as), its registers with its queues, its positions in each queue, and its kind-specific
--- state.
+-- A device: its kind (what it was made as, with the state that only its kind has), its registers with its queues, and its
+-- positions in each queue.
 pub record DeviceState : Type 0 where
-  pub shape : Shape
+  pub kind : Kind
   pub registers : Registers
   pub positions : List Positions
-  pub own : Own
 
 -- A machine: the bytes of its RAM, its devices in order, and for each device the sectors of its disk, each 512 bytes or bad. A
 -- device without a disk has no sectors. Two machines are equal when all of this is.

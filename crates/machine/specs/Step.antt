@@ -25,8 +25,8 @@ use Rattle.machine.specs.Shapes.{configuration_of}
 use Rattle.machine.specs.State.{DeviceState, MachineState}
 use Rattle.machine.specs.declared.event.Event.{Event}
 use Rattle.machine.specs.declared.event.Event.TheVariants.{RegRead, RegWrite, MemRead, MemWrite, Step, Input, Resize}
-use Rattle.machine.specs.declared.own.Own.{Own}
-use Rattle.machine.specs.declared.own.Own.TheVariants.{Network, Block, Console, Entropy}
+use Rattle.machine.specs.declared.kind.Kind.{Kind}
+use Rattle.machine.specs.declared.kind.Kind.TheVariants.{Network, Block, Console, Entropy}
 use Rattle.machine.specs.declared.reply.Refusal.{Refusal}
 use Rattle.machine.specs.declared.reply.Refusal.TheVariants.{NoDevice, OutOfRam, TooLong, WrongKind, BadFrame}
 use Rattle.machine.specs.declared.reply.Reply.{Reply}
@@ -56,7 +56,7 @@ becomes number device reply = record {
 
 -- The driver reads a register: the value is that of the register table.
 abbrev pub register_value_of : DeviceState → ℕ → ℕ → ℕ
-register_value_of d offset width = register_read d.registers offset width (configuration_of d.shape d.own)
+register_value_of d offset width = register_read d.registers offset width (configuration_of d.kind)
 
 abbrev pub read_register : Option DeviceState → ℕ → ℕ → Answer
 read_register None offset width = refused NoDevice
@@ -67,14 +67,14 @@ abbrev pub kept_requests : List Queue → List Request → List Request
 kept_requests [] requests = []
 kept_requests (q ∷ qs) requests = if q.is_ready then requests else []
 
-abbrev pub kept_own : List Queue → Own → Own
-kept_own queues (Block requests) = Block (kept_requests queues requests)
-kept_own queues own = own
+abbrev pub kept_kind : List Queue → Kind → Kind
+kept_kind queues (Block sectors read_only id requests) = Block sectors read_only id (kept_requests queues requests)
+kept_kind queues kind = kind
 
 -- A device with these registers: for a queue that is not ready in them the positions are the first ones again, and the requests
 -- of a block device whose queue 0 is not ready are dropped.
 abbrev pub with_registers : DeviceState → Registers → DeviceState
-with_registers d r = record d { registers = r; positions = kept_positions r.queues d.positions; own = kept_own r.queues d.own }
+with_registers d r = record d { registers = r; positions = kept_positions r.queues d.positions; kind = kept_kind r.queues d.kind }
 
 -- The reply to a write of a register. It does not say whether the write was accepted; but a console gives out the byte that is
 -- written into its emergency register (VIRTIO 1.2, 5.3.5).
@@ -82,7 +82,7 @@ abbrev pub out_reply : Option ℕ → Reply
 out_reply None = Done
 out_reply (Some byte) = OutByte byte
 
-abbrev pub written_out : Own → ℕ → ℕ → ℕ → Option ℕ
+abbrev pub written_out : Kind → ℕ → ℕ → ℕ → Option ℕ
 written_out (Console size held) offset width value = emergency_byte offset width value
 written_out _ offset width value = None
 
@@ -93,7 +93,7 @@ register_set d offset width value = with_registers d (register_write d.registers
 
 abbrev pub write_register : ℕ → Option DeviceState → ℕ → ℕ → ℕ → Answer
 write_register number None offset width value = refused NoDevice
-write_register number (Some d) offset width value = becomes number (register_set d offset width value) (out_reply (written_out d.own offset width value))
+write_register number (Some d) offset width value = becomes number (register_set d offset width value) (out_reply (written_out d.kind offset width value))
 
 -- The guest reads RAM. The reply holds the bytes, so memory may be refused.
 abbrev pub read_ram : List ℕ → ℕ → ℕ → Option RamError → Outcome → Answer
@@ -116,20 +116,20 @@ abbrev pub kept_in : List ℕ → List ℕ → ℕ
 kept_in pool bytes = min (length bytes) (HOST_BYTES_MAX - length pool)
 
 -- The count of bytes that are kept, or why the input is refused.
-abbrev pub input_of : Own → List ℕ → Result ℕ Refusal
-input_of (Network frames) bytes = if is_frame_len (length bytes) then Ok (kept_of frames bytes) else Err BadFrame
-input_of (Block requests) bytes = Err WrongKind
+abbrev pub input_of : Kind → List ℕ → Result ℕ Refusal
+input_of (Network mac frames) bytes = if is_frame_len (length bytes) then Ok (kept_of frames bytes) else Err BadFrame
+input_of (Block sectors read_only id requests) bytes = Err WrongKind
 input_of (Console size held) bytes = Ok (kept_in held bytes)
 input_of (Entropy pool) bytes = Ok (kept_in pool bytes)
 
-abbrev pub own_with_input : Own → List ℕ → Own
-own_with_input (Network frames) bytes = if is_frame_len (length bytes) then Network (frames_with frames bytes) else Network frames
-own_with_input (Block requests) bytes = Block requests
-own_with_input (Console size held) bytes = Console size (held ++ take (kept_in held bytes) bytes)
-own_with_input (Entropy pool) bytes = Entropy (pool ++ take (kept_in pool bytes) bytes)
+abbrev pub kind_with_input : Kind → List ℕ → Kind
+kind_with_input (Network mac frames) bytes = if is_frame_len (length bytes) then Network mac (frames_with frames bytes) else Network mac frames
+kind_with_input (Block sectors read_only id requests) bytes = Block sectors read_only id requests
+kind_with_input (Console size held) bytes = Console size (held ++ take (kept_in held bytes) bytes)
+kind_with_input (Entropy pool) bytes = Entropy (pool ++ take (kept_in pool bytes) bytes)
 
 abbrev pub with_input : DeviceState → List ℕ → DeviceState
-with_input d bytes = record d { own = own_with_input d.own bytes }
+with_input d bytes = record d { kind = kind_with_input d.kind bytes }
 
 abbrev pub put_by : ℕ → DeviceState → List ℕ → Result ℕ Refusal → Answer
 put_by number d bytes (Err refusal) = refused refusal
@@ -137,24 +137,24 @@ put_by number d bytes (Ok count) = becomes number (with_input d bytes) (Accepted
 
 abbrev pub put_in : ℕ → Option DeviceState → List ℕ → Answer
 put_in number None bytes = refused NoDevice
-put_in number (Some d) bytes = put_by number d bytes (input_of d.own bytes)
+put_in number (Some d) bytes = put_by number d bytes (input_of d.kind bytes)
 
 -- The host sets the size of a console. A different size is a change of its configuration (VIRTIO 1.2, 5.3.6).
-abbrev pub size_by : ℕ → DeviceState → Own → ConsoleSize → Answer
-size_by number d (Console old held) size = becomes number (record d { registers = resized old size d.registers; own = Console size held }) Done
+abbrev pub size_by : ℕ → DeviceState → Kind → ConsoleSize → Answer
+size_by number d (Console old held) size = becomes number (record d { registers = resized old size d.registers; kind = Console size held }) Done
 size_by number d _ size = refused WrongKind
 
--- As above, for the kind-specific state and the registers of the device. Another device refuses, and both stay as they were.
-abbrev pub IsResized : Own → ConsoleSize → Registers → Result (Unit {0}) Refusal → Own → Registers → Type 0
+-- As above, for the kind and the registers of the device. Another device refuses, and both stay as they were.
+abbrev pub IsResized : Kind → ConsoleSize → Registers → Result (Unit {0}) Refusal → Kind → Registers → Type 0
 IsResized (Console old held) size r result new new_r = (result ≡ Ok tt) × (new ≡ Console size held) × (new_r ≡ resized old size r)
-IsResized own size r result new new_r = (result ≡ Err WrongKind) × (new ≡ own) × (new_r ≡ r)
+IsResized kind size r result new new_r = (result ≡ Err WrongKind) × (new ≡ kind) × (new_r ≡ r)
 
 abbrev pub ResizesDevice : DeviceState → ConsoleSize → Result (Unit {0}) Refusal → DeviceState → Type 0
-ResizesDevice d size result new = (new ≡ record d { registers = new.registers; own = new.own }) × IsResized d.own size d.registers result new.own new.registers
+ResizesDevice d size result new = (new ≡ record d { registers = new.registers; kind = new.kind }) × IsResized d.kind size d.registers result new.kind new.registers
 
 abbrev pub set_size : ℕ → Option DeviceState → ConsoleSize → Answer
 set_size number None size = refused NoDevice
-set_size number (Some d) size = size_by number d d.own size
+set_size number (Some d) size = size_by number d d.kind size
 
 -- A device does one piece of its work, where its disk has these sectors. If there is nothing to do it is idle.
 abbrev pub step_device : ℕ → Option DeviceState → List ℕ → List Sector → ℕ → Outcome → Next → Answer
@@ -188,7 +188,7 @@ answer m (Resize dev cols rows) o seen = set_size dev (slice_get m.devices dev) 
 -- What a step may see: if it looks at a queue, what the device sees there. This also says when memory may be refused.
 abbrev pub MaySeeAt : Option DeviceState → List ℕ → ℕ → Outcome → Next → Type 0
 MaySeeAt None ram pick o seen = Unit {0}
-MaySeeAt (Some d) ram pick o seen = MayLook (wanted_of d.own pick) (looked_at d pick) ram o seen
+MaySeeAt (Some d) ram pick o seen = MayLook (wanted_of d.kind pick) (looked_at d pick) ram o seen
 
 abbrev pub MaySee : MachineState → Event → Outcome → Next → Type 0
 MaySee m (Step dev pick) o seen = MaySeeAt (slice_get m.devices dev) m.ram pick o seen

@@ -1,37 +1,30 @@
--- The answers of steps that send no message, as replies.
-use Rattle.std.specs.Prelude.{ℕ, zero, suc, Bool, true, false}
-use Rattle.machine.specs.declared.own.Own.{Own}
-use Rattle.machine.specs.declared.own.Own.TheVariants.{Network, Block, Console, Entropy}
+-- The answers of steps, as replies. The bytes of a message are in a buffer.
+use Rattle.std.specs.Prelude.{ℕ, List}
+use Rattle.machine.specs.Served.{Served}
+use Rattle.machine.specs.Served as served
 use Rattle.machine.specs.declared.reply.Reply.{Reply}
 use Rattle.machine.specs.declared.reply.Reply.TheVariants as replies
-use Rattle.machine.specs.declared.served.Served.{Served}
-use Rattle.machine.specs.declared.served.Served.TheVariants as served
 use Rattle.machine.specs.declared.stepped.Answered.{Answered}
 use Rattle.machine.specs.declared.stepped.Answered.TheVariants as answered
 use Rattle.machine.specs.declared.stepped.Stepped.{Stepped}
 use Rattle.machine.specs.declared.stepped.Stepped.TheVariants as stepped
 
-abbrev pub reply_in : Stepped → Reply
-reply_in stepped.Idle = replies.Idle
-reply_in stepped.Taken = replies.Taken
-reply_in stepped.Moved = replies.Moved
-reply_in stepped.BadSector = replies.BadSector
-reply_in stepped.DiskFailed = replies.DiskFailed
-reply_in (stepped.Completed len) = replies.Completed len
-reply_in stepped.Dropped = replies.Dropped
-reply_in stepped.NeedsReset = replies.NeedsReset
-reply_in stepped.NoMemory = replies.NoMemory
+-- The reply of a step, where the buffer holds these bytes.
+abbrev pub reply_in : Stepped → List ℕ → Reply
+reply_in stepped.Idle sent = replies.Idle
+reply_in stepped.Taken sent = replies.Taken
+reply_in stepped.Moved sent = replies.Moved
+reply_in stepped.BadSector sent = replies.BadSector
+reply_in stepped.DiskFailed sent = replies.DiskFailed
+reply_in (stepped.Completed len) sent = replies.Completed len
+reply_in stepped.Sent sent = replies.Sent sent
+reply_in stepped.Dropped sent = replies.Dropped
+reply_in stepped.NeedsReset sent = replies.NeedsReset
+reply_in stepped.NoMemory sent = replies.NoMemory
+reply_in (stepped.Refused refusal) sent = replies.Refused refusal
 
-abbrev pub served_in : Answered → Served
-served_in answered.Empty = served.Empty
-served_in answered.Malformed = served.Malformed
-served_in (answered.Published answer is_due) = served.Published (reply_in answer) is_due
-
--- A device takes messages from its queue of this number: a network device and a console from queue 1.
-abbrev pub sends : Own → ℕ → Bool
-sends (Network frames) zero = false
-sends (Network frames) (suc number) = true
-sends (Console size held) zero = false
-sends (Console size held) (suc number) = true
-sends (Block requests) number = false
-sends (Entropy pool) number = false
+-- How serving a queue went, where the buffer holds these bytes.
+abbrev pub served_in : Answered → List ℕ → Served
+served_in answered.Empty sent = served.Empty
+served_in answered.Malformed sent = served.Malformed
+served_in (answered.Published stepped is_due) sent = served.Published (reply_in stepped sent) is_due

@@ -9,8 +9,8 @@ ghost use Rattle.mmio.specs.declared.constants.TheConstants.{RING_PACKED};
 ghost use Rattle.machine.specs.Rings.{emptied};
 ghost use Rattle.machine.specs.AnyRing.{ring_in, decoder_in, is_packed_in};
 
-use chains::{Chain, Next, NextKind, Positions, Ring, RingCore};
-use guestmem::{NoMemory, Ram, TouchLog};
+use chains::{Chain, NextKind, Positions, Ring, RingCore};
+use guestmem::{Ram, TouchLog};
 use mmio::{Queue, RING_PACKED};
 use packedring::PackedRing;
 use splitring::SplitRing;
@@ -95,10 +95,10 @@ impl Ring for AnyRing {
 
     ghost decoder = { decoder_in };
 
-    fn next(&mut self, ram: &Ram) -> Result<Next, NoMemory> {
+    fn alloc(&self) -> Global {
         match self {
-            AnyRing::Split(ring) => ring.next(ram),
-            AnyRing::Packed(ring) => ring.next(ram),
+            AnyRing::Split(ring) => ring.alloc(),
+            AnyRing::Packed(ring) => ring.alloc(),
         }
     }
 

@@ -6,8 +6,9 @@ ghost use Rattle.dirtylog.specs.Members.{IsLeastFrom};
 ghost use Rattle.machine.specs.Seen.{DeviceSeen, sectors_of, marks_of};
 
 use crate::any_ring::AnyRing;
-use crate::reply::{Refusal, Reply};
+use crate::reply::Refusal;
 use crate::state::DeviceState;
+use crate::stepped::Stepped;
 use blk::{Disk, DiskFault, Fetched, Sectors};
 use console::ConsoleSize;
 use guestmem::{NoMemory, Ram, TouchLog};
@@ -29,6 +30,7 @@ impl<D: Disk> Model for Device<D> {
 }
 
 impl<D: Disk> Device<D> {
+    ghost use Rattle.machine.specs.Stepped.{reply_in};
     ghost use Rattle.machine.specs.Step.{ResizesDevice, register_value_of, register_set, input_of, with_input, written_out};
     ghost use Rattle.machine.specs.DeviceWork.{IsDeviceStep};
     ghost use Rattle.chains.specs.Decoder.{Fits};
@@ -42,7 +44,7 @@ impl<D: Disk> Device<D> {
     ghost use Rattle.blk.specs.Sectors.{AreWhole, IsFetched, bytes_of, is_bad, is_failed, sector_in};
     ghost use Rattle.machine.specs.Outcome.{is_failure};
     ghost use Rattle.machine.specs.Seen.{failed_if};
-    ghost use Rattle.machine.specs.Shapes.{sector_count};
+    ghost use Rattle.machine.specs.Shapes.{made_as, sector_count};
 
     /// A device, and the disk that belongs to it.
     pub(crate) fn new(state: DeviceState, disk: Option<Sectors<D>>) -> Device<D>
@@ -80,7 +82,7 @@ impl<D: Disk> Device<D> {
         value: u32,
     ) -> (Option<u8>, Effect)
         ensures device { self.new ≡ record self.old { state = register_set self.old.state offset width value } }
-        ensures out { result.0 ≡ written_out self.old.state.own offset width value }
+        ensures out { result.0 ≡ written_out self.old.state.kind offset width value }
         ensures effect { result.1 ≡ (register_write self.old.state.registers offset width value).0 }
     {
         self.state.write_register(offset, width, value)
@@ -94,7 +96,7 @@ impl<D: Disk> Device<D> {
     }
 
     pub(crate) fn input(&mut self, bytes: &[u8]) -> Result<u32, Refusal>
-        ensures count { result ≡ input_of self.old.state.own bytes.now }
+        ensures count { result ≡ input_of self.old.state.kind bytes.now }
         ensures device { self.new ≡ record self.old { state = with_input self.old.state bytes.now } }
     {
         self.state.input(bytes)
@@ -106,32 +108,35 @@ impl<D: Disk> Device<D> {
         number: u8,
         pick: u8,
         ring: &mut AnyRing,
+        sent: &mut Vec<u8>,
         ram: &mut Ram,
         log: &mut L,
-    ) -> Reply
+    ) -> Stepped
         requires fits { Fits (decoder_in ring.old) ram.old }
         requires sound { IsSoundDevice (length ram.old.bytes) self.old.state }
-        requires capacity { length self.old.sectors ≡ sector_count self.old.state.shape }
+        requires capacity { length self.old.sectors ≡ sector_count (made_as self.old.state.kind) }
         requires may { MayPages L.may log.old (length ram.old.bytes) }
         requires may_sectors { MaySectors L.may log.old number (length self.old.sectors) }
-        ensures step { IsDeviceStep (Touches L.after log.old log.new ram.old ram.new) number self.old.marks.honest ram.old.bytes self.old.sectors self.old.state pick result ram.new.bytes self.new.sectors self.new.state }
-        ensures marks { self.new.marks ≡ failed_if (is_failure result) self.old.marks }
-        ensures unsteady { is_failure result ≡ true → self.old.marks.steady ≡ false }
+        ensures step { IsDeviceStep (Touches L.after log.old log.new ram.old ram.new) number self.old.marks.honest ram.old.bytes self.old.sectors self.old.state pick (reply_in result sent.new.items) ram.new.bytes self.new.sectors self.new.state }
+        ensures marks { self.new.marks ≡ failed_if (is_failure (reply_in result sent.new.items)) self.old.marks }
+        ensures unsteady { is_failure (reply_in result sent.new.items) ≡ true → self.old.marks.steady ≡ false }
         ensures capacity { length self.new.sectors ≡ length self.old.sectors }
         ensures bytes { IsBytes ram.new.bytes }
         ensures whole { AreWhole self.new.sectors }
         ensures later { IsLater ram.old ram.new }
         ensures fits { Fits (decoder_in ring.new) ram.new }
     {
-        let reply = match &mut self.disk {
+        let stepped = match &mut self.disk {
             Some(sectors) => self
                 .state
-                .step(alloc, number, pick, ring, sectors, ram, log),
-            None => self.state.step_without_disk(alloc, pick, ring, ram, log),
+                .step(alloc, number, pick, ring, sectors, sent, ram, log),
+            None => self
+                .state
+                .step_without_disk(alloc, pick, ring, sent, ram, log),
         };
         ram.recall();
         self.recall();
-        reply
+        stepped
     }
 
     /// States for proofs that the sectors of the disk are whole (see the page of `guestmem`).

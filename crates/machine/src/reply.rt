@@ -105,7 +105,28 @@ pub enum Reply {
 
 impl Reply {
     ghost use Rattle.std.specs.Prelude.{◌≡◌};
-    ghost use Rattle.machine.specs.Direct.{accepted_reply, done_reply};
+    ghost use Rattle.machine.specs.Direct.{accepted_reply, done_reply, value_reply, written_result};
+
+    /// The reply to a read of a register.
+    pub fn from_value(answer: Result<u32, Refusal>) -> Reply
+        ensures { result ≡ value_reply answer }
+    {
+        match answer {
+            Ok(value) => Reply::Value(value),
+            Err(refusal) => Reply::Refused(refusal),
+        }
+    }
+
+    /// The reply to a write of a register: `answer` is the byte that it gives out, if any, or the refusal.
+    pub fn from_written(answer: Result<Option<u8>, Refusal>) -> Reply
+        ensures { result ≡ written_result answer }
+    {
+        match answer {
+            Ok(Some(byte)) => Reply::OutByte(byte),
+            Ok(None) => Reply::Done,
+            Err(refusal) => Reply::Refused(refusal),
+        }
+    }
 
     /// The reply to an event that is done, or is refused.
     pub fn from_done(answer: Result<(), Refusal>) -> Reply

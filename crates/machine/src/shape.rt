@@ -3,8 +3,7 @@
 ghost use Rattle.std.specs.Prelude.{◌≡◌};
 ghost use Rattle.machine.specs.Shapes.{sector_count};
 
-/// The most sectors that a block device can have.
-pub const SECTORS_MAX: u64 = 2_097_152;
+use blk::ID_SIZE;
 
 /// What a device is made as. It never changes.
 #[derive(Clone, Copy, Debug, PartialEq, Eq)]
@@ -24,7 +23,7 @@ pub enum Shape {
         read_only: bool,
 
         /// What it answers to a driver that asks for its id.
-        id: [u8; 20],
+        id: [u8; ID_SIZE],
     },
 
     /// A console (VIRTIO 1.2, 5.3).

@@ -2,24 +2,23 @@
 
 mod first_pick;
 
-ghost use Rattle.std.specs.Prelude.{◌≡◌, ◌≤◌, ◌<◌, ℕ, IfOk, length, take, if◌then◌else◌};
+ghost use Rattle.std.specs.Prelude.{◌≡◌, ◌≤◌, ◌<◌, ℕ, List, IfOk, length, take, if◌then◌else◌};
 ghost use Rattle.guestmem.specs.Rises.{Touches};
 ghost use Rattle.mmio.specs.State.{with_common};
 ghost use Rattle.mmio.specs.Interrupts.{used_raised};
 ghost use Rattle.machine.specs.DeviceStep.{reply_of, reply_to_advance, is_advance_due, registers_after};
 ghost use Rattle.machine.specs.QueuePositions.{first_positions, kept_positions};
 ghost use Rattle.machine.specs.Shapes.{device_id_of, offered_of, queues_of};
-ghost use Rattle.machine.specs.Stepped.{reply_in, sends, served_in};
+ghost use Rattle.machine.specs.Stepped.{reply_in, served_in};
 
 use crate::any_ring::AnyRing;
-use crate::own::Own;
-use crate::reply::{Refusal, Reply};
-use crate::served::Served;
+use crate::kind::Kind;
+use crate::reply::Refusal;
 use crate::shape::Shape;
 use crate::stepped::{Answered, Stepped};
 use blk::{Advanced, Disk, Sectors};
 use chains::{Positions, Ring};
-use console::ConsoleSize;
+use console::{ConsoleSize, entropy};
 use guestmem::{NoMemory, Ram, TouchLog};
 use mmio::{Common, Effect, QUEUE_COUNT_MAX, Queue, Regs};
 use std::alloc::Global;
@@ -28,11 +27,10 @@ use std::marker::Model;
 /// The state of a device, without its disk: all that a saved machine holds of it.
 #[derive(Drop)]
 pub struct DeviceState {
-    shape: Shape,
+    kind: Kind,
     registers: Regs,
     // How far the device has come in its queues, of which it has two at most.
     positions: [Positions; QUEUE_COUNT_MAX],
-    own: Own,
 }
 
 impl Model for DeviceState {
@@ -41,11 +39,11 @@ impl Model for DeviceState {
 
     ghost Value = { DeviceState };
 
-    ghost view = { λ d. record { shape = d.shape; registers = d.registers; positions = take (length d.registers.queues) d.positions; own = d.own } };
+    ghost view = { λ d. record { kind = d.kind; registers = d.registers; positions = take (length d.registers.queues) d.positions } };
 }
 
 impl DeviceState {
-    ghost use Rattle.std.specs.Prelude.{◌≡◌, ◌≤◌, ◌<◌, ℕ, [], true, false, IfOk, None, Some, length, take};
+    ghost use Rattle.std.specs.Prelude.{◌≡◌, ◌≤◌, ◌<◌, ℕ, List, [], true, false, IfOk, None, Some, length, take};
     ghost use Rattle.guestmem.specs.Item.{MayPages};
     ghost use Rattle.guestmem.specs.Later.{IsLater};
     ghost use Rattle.guestmem.specs.Memory.{Memory};
@@ -56,8 +54,7 @@ impl DeviceState {
     ghost use Rattle.machine.specs.DeviceStep.{advances, advanced_at, looks, looked_at};
     ghost use Rattle.machine.specs.DeviceWork.{IsDeviceStep, IsLookedStep, IsAdvancedStep};
     ghost use Rattle.machine.specs.Outcome.{is_failure};
-    ghost use Rattle.machine.specs.Shapes.{first_device, saved_device, sector_count, size_configuration};
-    ghost use Rattle.mmio.specs.RegisterRead.{register_read};
+    ghost use Rattle.machine.specs.Shapes.{first_device, made_as, saved_device, sector_count};
     ghost use Rattle.mmio.specs.RegisterWrite.{register_write};
     ghost use Rattle.machine.specs.Sound.{IsSoundDevice};
     ghost use Rattle.machine.specs.Step.{ResizesDevice, register_value_of, register_set, input_of, with_input, written_out};
@@ -66,9 +63,9 @@ impl DeviceState {
     pub(crate) fn new(alloc: Global, shape: Shape, ram_len: u64) -> Result<DeviceState, NoMemory>
         ensures { IfOk result (λ d. d ≡ first_device ram_len shape) }
     {
-        let own = Own::new(alloc, shape)?;
+        let kind = Kind::new(alloc, shape)?;
         Ok(DeviceState {
-            shape,
+            kind,
             registers: Regs::new(
                 device_id(shape),
                 offered(shape),
@@ -76,22 +73,21 @@ impl DeviceState {
                 ram_len,
             ),
             positions: [Positions::FIRST; QUEUE_COUNT_MAX],
-            own,
         })
     }
 
     /// A device as it was saved, in a machine whose RAM has `ram_len` bytes. The caller makes sure that it is sound.
     pub fn restored(
-        shape: Shape,
         ram_len: u64,
         common: Common,
         queues: &[Queue],
         positions: [Positions; QUEUE_COUNT_MAX],
-        own: Own,
+        kind: Kind,
     ) -> DeviceState
-        requires { IsSoundDevice ram_len (saved_device ram_len shape common queues.now (take (length queues.now) positions) own) }
-        ensures { result ≡ saved_device ram_len shape common queues.now (take (length queues.now) positions) own }
+        requires { IsSoundDevice ram_len (saved_device ram_len kind common queues.now (take (length queues.now) positions)) }
+        ensures { result ≡ saved_device ram_len kind common queues.now (take (length queues.now) positions) }
     {
+        let shape = kind.shape();
         let mut registers = Regs::new(
             device_id(shape),
             offered(shape),
@@ -100,18 +96,17 @@ impl DeviceState {
         );
         registers.restore(common, queues);
         DeviceState {
-            shape,
+            kind,
             registers,
             positions,
-            own,
         }
     }
 
     /// What the device was made as.
     pub fn shape(&self) -> Shape
-        ensures { result ≡ self.now.shape }
+        ensures { result ≡ made_as self.now.kind }
     {
-        self.shape
+        self.kind.shape()
     }
 
     /// Its registers.
@@ -131,35 +126,17 @@ impl DeviceState {
         &self.positions[..queues.len()]
     }
 
-    /// Its kind-specific state.
-    pub fn own(&self) -> &Own
-        ensures { result.now ≡ self.now.own }
+    /// Its kind, with the state that only its kind has.
+    pub fn kind(&self) -> &Kind
+        ensures { result.now ≡ self.now.kind }
     {
-        &self.own
+        &self.kind
     }
 
     pub(crate) fn read_register(&self, offset: u32, width: u8) -> u32
         ensures { result ≡ register_value_of self.now offset width }
     {
-        match self.shape {
-            Shape::Block { sectors, .. } => {
-                self.registers
-                    .read(offset, width, &blk::configuration(sectors))
-            }
-            Shape::Net { mac } => self.registers.read(offset, width, mac.as_slice()),
-            Shape::Console => self.read_size(offset, width),
-            Shape::Entropy => self.registers.read(offset, width, &[]),
-        }
-    }
-
-    /// What the driver of a console reads.
-    fn read_size(&self, offset: u32, width: u8) -> u32
-        ensures { result ≡ register_read self.now.registers offset width (size_configuration self.now.own) }
-    {
-        match &self.own {
-            Own::Console { size, .. } => self.registers.read(offset, width, &size.configuration()),
-            _ => self.registers.read(offset, width, &[]),
-        }
+        self.kind.read(&self.registers, offset, width)
     }
 
     /// The driver writes a register. The result is the byte that it writes into the emergency register of a console, if
@@ -171,14 +148,14 @@ impl DeviceState {
         value: u32,
     ) -> (Option<u8>, Effect)
         ensures device { self.new ≡ register_set self.old offset width value }
-        ensures out { result.0 ≡ written_out self.old.own offset width value }
+        ensures out { result.0 ≡ written_out self.old.kind offset width value }
         ensures effect { result.1 ≡ (register_write self.old.registers offset width value).0 }
     {
-        let out = self.own.written(offset, width, value);
+        let out = self.kind.written(offset, width, value);
         let effect = self.registers.write(offset, width, value);
         let queues = self.registers.queues();
         self.positions = kept(queues, self.positions);
-        self.own.keep(queues);
+        self.kind.keep(queues);
         (out, effect)
     }
 
@@ -186,15 +163,15 @@ impl DeviceState {
     pub(crate) fn resize(&mut self, size: ConsoleSize) -> Result<(), Refusal>
         ensures { ResizesDevice self.old size result self.new }
     {
-        self.own.resize(size, &mut self.registers)
+        self.kind.resize(size, &mut self.registers)
     }
 
     /// Keeps the first bytes that fit, and returns how many these are.
     pub(crate) fn input(&mut self, bytes: &[u8]) -> Result<u32, Refusal>
-        ensures count { result ≡ input_of self.old.own bytes.now }
+        ensures count { result ≡ input_of self.old.kind bytes.now }
         ensures device { self.new ≡ with_input self.old bytes.now }
     {
-        self.own.input(bytes)
+        self.kind.input(bytes)
     }
 
     /// Does one piece of the device's work, with the sectors of its disk. `device` is the number under which these are
@@ -206,27 +183,28 @@ impl DeviceState {
         pick: u8,
         ring: &mut AnyRing,
         sectors: &mut Sectors<D>,
+        sent: &mut Vec<u8>,
         ram: &mut Ram,
         log: &mut L,
-    ) -> Reply
+    ) -> Stepped
         requires fits { Fits (decoder_in ring.old) ram.old }
         requires sound { IsSoundDevice (length ram.old.bytes) self.old }
-        requires capacity { length sectors.old.content ≡ sector_count self.old.shape }
+        requires capacity { length sectors.old.content ≡ sector_count (made_as self.old.kind) }
         requires may { MayPages L.may log.old (length ram.old.bytes) }
         requires may_sectors { MaySectors L.may log.old device (length sectors.old.content) }
-        ensures step { IsDeviceStep (Touches L.after log.old log.new ram.old ram.new) device sectors.old.honest ram.old.bytes sectors.old.content self.old pick result ram.new.bytes sectors.new.content self.new }
-        ensures kept { IsKept sectors.old (is_failure result) sectors.new }
+        ensures step { IsDeviceStep (Touches L.after log.old log.new ram.old ram.new) device sectors.old.honest ram.old.bytes sectors.old.content self.old pick (reply_in result sent.new.items) ram.new.bytes sectors.new.content self.new }
+        ensures kept { IsKept sectors.old (is_failure (reply_in result sent.new.items)) sectors.new }
         ensures later { IsLater ram.old ram.new }
         ensures fits { Fits (decoder_in ring.new) ram.new }
     {
         sectors.recall();
         if self.looked_ring(alloc, pick, ring) {
-            return self.look(alloc, pick, ring, ram, log);
+            return self.look(alloc, pick, ring, sent, ram, log);
         }
         if self.advanced_ring(alloc, pick, ring) {
-            return self.advance(device, pick, ring, sectors, ram, log).reply();
+            return self.advance(device, pick, ring, sectors, ram, log);
         }
-        Reply::Idle
+        Stepped::Idle
     }
 
     /// Does one piece of the work of a device that has no disk.
@@ -235,22 +213,23 @@ impl DeviceState {
         alloc: Global,
         pick: u8,
         ring: &mut AnyRing,
+        sent: &mut Vec<u8>,
         ram: &mut Ram,
         log: &mut L,
-    ) -> Reply
+    ) -> Stepped
         requires fits { Fits (decoder_in ring.old) ram.old }
         requires sound { IsSoundDevice (length ram.old.bytes) self.old }
-        requires without { sector_count self.old.shape ≡ 0 }
+        requires without { sector_count (made_as self.old.kind) ≡ 0 }
         requires may { MayPages L.may log.old (length ram.old.bytes) }
-        ensures step { (device : ℕ) → IsDeviceStep (Touches L.after log.old log.new ram.old ram.new) device true ram.old.bytes [] self.old pick result ram.new.bytes [] self.new }
-        ensures fine { is_failure result ≡ false }
+        ensures step { (device : ℕ) → IsDeviceStep (Touches L.after log.old log.new ram.old ram.new) device true ram.old.bytes [] self.old pick (reply_in result sent.new.items) ram.new.bytes [] self.new }
+        ensures fine { is_failure (reply_in result sent.new.items) ≡ false }
         ensures later { IsLater ram.old ram.new }
         ensures fits { Fits (decoder_in ring.new) ram.new }
     {
         if self.looked_ring(alloc, pick, ring) {
-            return self.look(alloc, pick, ring, ram, log);
+            return self.look(alloc, pick, ring, sent, ram, log);
         }
-        Reply::Idle
+        Stepped::Idle
     }
 
     /// Looks at the next chain of a queue.
@@ -259,58 +238,7 @@ impl DeviceState {
         alloc: Global,
         pick: u8,
         ring: &mut AnyRing,
-        ram: &mut Ram,
-        log: &mut L,
-    ) -> Reply
-        requires sound { IsSoundDevice (length ram.old.bytes) self.old }
-        requires looked { looked_at self.old pick ≡ Some (ring_in ring.old) }
-        requires fits { Fits (decoder_in ring.old) ram.old }
-        requires there { pick < length self.old.registers.queues }
-        requires may { MayPages L.may log.old (length ram.old.bytes) }
-        ensures looked { IsLookedStep (Touches L.after log.old log.new ram.old ram.new) ram.old.bytes self.old pick (ring_in ring.old) result ram.new.bytes self.new }
-        ensures later { IsLater ram.old ram.new }
-        ensures fits { Fits (decoder_in ring.new) ram.new }
-    {
-        if self.own.sends(pick) {
-            return self.send(alloc, pick, ring, ram, log);
-        }
-        self.serve(alloc, pick, ring, ram, log).reply()
-    }
-
-    /// Looks at the next chain of a queue from which messages are taken.
-    fn send<L: TouchLog>(
-        &mut self,
-        alloc: Global,
-        pick: u8,
-        ring: &mut AnyRing,
-        ram: &mut Ram,
-        log: &mut L,
-    ) -> Reply
-        requires sound { IsSoundDevice (length ram.old.bytes) self.old }
-        requires looked { looked_at self.old pick ≡ Some (ring_in ring.old) }
-        requires fits { Fits (decoder_in ring.old) ram.old }
-        requires there { pick < length self.old.registers.queues }
-        requires message { sends self.old.own pick ≡ true }
-        requires may { MayPages L.may log.old (length ram.old.bytes) }
-        ensures looked { IsLookedStep (Touches L.after log.old log.new ram.old ram.new) ram.old.bytes self.old pick (ring_in ring.old) result ram.new.bytes self.new }
-        ensures later { IsLater ram.old ram.new }
-        ensures fits { Fits (decoder_in ring.new) ram.new }
-    {
-        match self.own.send(alloc, pick, ring, ram, log) {
-            Ok(served) => {
-                self.positions[pick as usize] = ring.positions();
-                tell_message(&mut self.registers, pick, served)
-            }
-            Err(_) => Reply::NoMemory,
-        }
-    }
-
-    /// Looks at the next chain of a queue from which none are taken.
-    fn serve<L: TouchLog>(
-        &mut self,
-        alloc: Global,
-        pick: u8,
-        ring: &mut AnyRing,
+        sent: &mut Vec<u8>,
         ram: &mut Ram,
         log: &mut L,
     ) -> Stepped
@@ -318,17 +246,13 @@ impl DeviceState {
         requires looked { looked_at self.old pick ≡ Some (ring_in ring.old) }
         requires fits { Fits (decoder_in ring.old) ram.old }
         requires there { pick < length self.old.registers.queues }
-        requires silent { sends self.old.own pick ≡ false }
         requires may { MayPages L.may log.old (length ram.old.bytes) }
-        ensures looked { IsLookedStep (Touches L.after log.old log.new ram.old ram.new) ram.old.bytes self.old pick (ring_in ring.old) (reply_in result) ram.new.bytes self.new }
+        ensures looked { IsLookedStep (Touches L.after log.old log.new ram.old ram.new) ram.old.bytes self.old pick (ring_in ring.old) (reply_in result sent.new.items) ram.new.bytes self.new }
         ensures later { IsLater ram.old ram.new }
         ensures fits { Fits (decoder_in ring.new) ram.new }
     {
         let features = self.registers.features();
-        match self
-            .own
-            .serve(alloc, &self.shape, features, pick, ring, ram, log)
-        {
+        match self.kind.serve(alloc, features, pick, ring, sent, ram, log) {
             Ok(answered) => {
                 let stepped = tell(&mut self.registers, pick, answered);
                 self.positions[pick as usize] = ring.positions();
@@ -349,21 +273,21 @@ impl DeviceState {
         log: &mut L,
     ) -> Stepped
         requires sound { IsSoundDevice (length ram.old.bytes) self.old }
-        requires capacity { length sectors.old.content ≡ sector_count self.old.shape }
+        requires capacity { length sectors.old.content ≡ sector_count (made_as self.old.kind) }
         requires advanced { advanced_at self.old pick ≡ Some (ring_in ring.old) }
         requires fits { Fits (decoder_in ring.old) ram.old }
         requires may { MayPages L.may log.old (length ram.old.bytes) }
         requires may_sectors { MaySectors L.may log.old device (length sectors.old.content) }
-        ensures advanced { IsAdvancedStep (Touches L.after log.old log.new ram.old ram.new) device sectors.old.honest ram.old.bytes sectors.old.content self.old pick (ring_in ring.old) (reply_in result) ram.new.bytes sectors.new.content self.new }
-        ensures kept { IsKept sectors.old (is_failure (reply_in result)) sectors.new }
+        ensures advanced { (sent : List ℕ) → IsAdvancedStep (Touches L.after log.old log.new ram.old ram.new) device sectors.old.honest ram.old.bytes sectors.old.content self.old pick (ring_in ring.old) (reply_in result sent) ram.new.bytes sectors.new.content self.new }
+        ensures kept { (sent : List ℕ) → IsKept sectors.old (is_failure (reply_in result sent)) sectors.new }
         ensures later { IsLater ram.old ram.new }
         ensures fits { Fits (decoder_in ring.new) ram.new }
     {
         let k = pick as usize - 1;
         let features = self.registers.features();
         let advanced = self
-            .own
-            .advance(&self.shape, features, k, ring, sectors, device, ram, log);
+            .kind
+            .advance(features, k, ring, sectors, device, ram, log);
         self.positions[0] = ring.positions();
         raise_if(&mut self.registers, is_due(advanced));
         reply_to_advance(advanced)
@@ -391,7 +315,7 @@ impl DeviceState {
     fn advances(&self, pick: u8) -> bool
         ensures { result ≡ advances self.now pick }
     {
-        self.registers.is_running() && pick > 0 && (pick as usize - 1) < self.own.outstanding()
+        self.registers.is_running() && pick > 0 && (pick as usize - 1) < self.kind.outstanding()
     }
 
     /// Makes the ring the one that a step with this pick looks at, and says whether it looks at one.
@@ -423,12 +347,12 @@ impl DeviceState {
         self.registers.is_running()
             && queue.is_ready
             && queue.is_notified
-            && self.own.has_work(number)
+            && self.kind.has_work(number)
     }
 }
 
 fn reply_to_advance(advanced: Advanced) -> Stepped
-    ensures { reply_in result ≡ reply_to_advance advanced }
+    ensures { (sent : List ℕ) → reply_in result sent ≡ reply_to_advance advanced }
 {
     match advanced {
         Advanced::Idle => Stepped::Idle,
@@ -452,8 +376,8 @@ fn is_due(advanced: Advanced) -> bool
 /// Reports to the driver by the registers how a queue was served, and returns the reply to the step.
 fn tell(registers: &mut Regs, pick: u8, answered: Answered) -> Stepped
     requires { pick < length registers.old.queues }
-    ensures reply { reply_in result ≡ reply_of (served_in answered) }
-    ensures registers { registers.new ≡ registers_after registers.old pick (served_in answered) }
+    ensures reply { (sent : List ℕ) → reply_in result sent ≡ reply_of (served_in answered sent) }
+    ensures registers { (sent : List ℕ) → registers.new ≡ registers_after registers.old pick (served_in answered sent) }
 {
     match answered {
         Answered::Empty => {
@@ -467,28 +391,6 @@ fn tell(registers: &mut Regs, pick: u8, answered: Answered) -> Stepped
         Answered::Published { stepped, is_due } => {
             raise_if(registers, is_due);
             stepped
-        }
-    }
-}
-
-/// Reports to the driver by the registers how a queue of messages was served, and returns the reply to the step.
-fn tell_message(registers: &mut Regs, pick: u8, served: Served) -> Reply
-    requires { pick < length registers.old.queues }
-    ensures reply { result ≡ reply_of served }
-    ensures registers { registers.new ≡ registers_after registers.old pick served }
-{
-    match served {
-        Served::Empty => {
-            registers.clear_notified(pick);
-            Reply::Idle
-        }
-        Served::Malformed => {
-            registers.ask_reset();
-            Reply::NeedsReset
-        }
-        Served::Published { reply, is_due } => {
-            raise_if(registers, is_due);
-            reply
         }
     }
 }
@@ -530,10 +432,10 @@ fn device_id(shape: Shape) -> u32
     ensures { result ≡ device_id_of shape }
 {
     match shape {
-        Shape::Net { .. } => 1,
+        Shape::Net { .. } => net::DEVICE_ID,
         Shape::Block { .. } => blk::DEVICE_ID,
-        Shape::Console => 3,
-        Shape::Entropy => 4,
+        Shape::Console => console::DEVICE_ID,
+        Shape::Entropy => entropy::DEVICE_ID,
     }
 }
 
@@ -543,8 +445,8 @@ pub fn offered(shape: Shape) -> u64
 {
     match shape {
         Shape::Block { read_only, .. } => COMMON_FEATURES | blk::features(read_only),
-        Shape::Net { .. } => COMMON_FEATURES | net::MAC,
-        Shape::Console => COMMON_FEATURES | console::SIZE | console::EMERGENCY_WRITE,
+        Shape::Net { .. } => COMMON_FEATURES | net::FEATURES,
+        Shape::Console => COMMON_FEATURES | console::FEATURES,
         Shape::Entropy => COMMON_FEATURES,
     }
 }
@@ -553,10 +455,10 @@ fn queue_count(shape: Shape) -> u8
     ensures { result ≡ queues_of shape }
 {
     match shape {
-        Shape::Net { .. } => 2,
+        Shape::Net { .. } => net::QUEUE_COUNT,
         Shape::Block { .. } => blk::QUEUE_COUNT,
-        Shape::Console => 2,
-        Shape::Entropy => 1,
+        Shape::Console => console::QUEUE_COUNT,
+        Shape::Entropy => entropy::QUEUE_COUNT,
     }
 }
 

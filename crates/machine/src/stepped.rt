@@ -1,28 +1,53 @@
-//! The answers of steps that send no message. They hold no bytes, so they are copied: a `Reply` is made of one at the end.
+//! The answers of steps. They hold no bytes, so they are copied: a `Reply` is made of one, and of the buffer, at the end.
 
 ghost use Rattle.std.specs.Prelude.{◌≡◌};
 ghost use Rattle.machine.specs.Stepped.{reply_in};
 
-use crate::reply::Reply;
+use crate::reply::{Refusal, Reply};
+use guestmem::Bytes;
 
-/// The reply to a step that sends no message.
-#[derive(Clone, Copy)]
-pub(crate) enum Stepped {
+/// What a machine answers to a step of a device that leaves the bytes of a message in a buffer of the caller. Each answer is that of
+/// `Reply` of the same name.
+#[derive(Clone, Copy, Debug, PartialEq, Eq)]
+pub enum Stepped {
+    /// There was nothing to do.
     Idle,
+
+    /// A request was taken.
     Taken,
+
+    /// A request moved by one unit.
     Moved,
+
+    /// The request's sector was bad.
     BadSector,
+
+    /// The disk failed.
     DiskFailed,
+
+    /// A chain was published, with this used length.
     Completed(u32),
+
+    /// A message was sent. Its bytes are in the buffer.
+    Sent,
+
+    /// A frame did not fit its chain, and was dropped.
     Dropped,
+
+    /// A chain is malformed: the device asks for a reset.
     NeedsReset,
+
+    /// Memory was refused, and nothing has changed.
     NoMemory,
+
+    /// There is no such device, and nothing has changed.
+    Refused(Refusal),
 }
 
 impl Stepped {
-    /// The same as a reply.
-    pub fn reply(self) -> Reply
-        ensures { result ≡ reply_in self }
+    /// The reply of the step that left these bytes in the buffer.
+    pub fn reply(self, sent: Vec<u8>) -> Reply
+        ensures { result ≡ reply_in self sent.items }
     {
         match self {
             Stepped::Idle => Reply::Idle,
@@ -31,14 +56,16 @@ impl Stepped {
             Stepped::BadSector => Reply::BadSector,
             Stepped::DiskFailed => Reply::DiskFailed,
             Stepped::Completed(len) => Reply::Completed(len),
+            Stepped::Sent => Reply::Sent(Bytes::from_vec(sent)),
             Stepped::Dropped => Reply::Dropped,
             Stepped::NeedsReset => Reply::NeedsReset,
             Stepped::NoMemory => Reply::NoMemory,
+            Stepped::Refused(refusal) => Reply::Refused(refusal),
         }
     }
 }
 
-/// How serving a queue went from which no message is taken: as `Served`.
+/// How serving a queue went.
 #[derive(Clone, Copy)]
 pub(crate) enum Answered {
     /// The queue was empty, and the event note is written.
@@ -47,6 +74,6 @@ pub(crate) enum Answered {
     /// The chain is malformed. It stays.
     Malformed,
 
-    /// A chain was published, which this reply reports. An interrupt is due or not.
+    /// A chain was published, which this answer reports. An interrupt is due or not.
     Published { stepped: Stepped, is_due: bool },
 }

@@ -10,6 +10,7 @@ ghost use Rattle.machine.specs.Direct.{value_reply, done_reply, bytes_reply, acc
 ghost use Rattle.machine.specs.Rings.{FitAll, forgotten};
 ghost use Rattle.machine.specs.Seen.{state_of};
 ghost use Rattle.machine.specs.Step.{register_set, written_out};
+ghost use Rattle.machine.specs.Stepped.{reply_in};
 ghost use Rattle.machine.specs.declared.any_ring.AnyRing.{AnyRing};
 ghost use Rattle.machine.specs.declared.event.Event.TheVariants as events;
 
@@ -18,6 +19,7 @@ use crate::device::Device;
 use crate::forgetting::forget;
 use crate::machine::Machine;
 use crate::reply::{Refusal, Reply};
+use crate::stepped::Stepped;
 use blk::Disk;
 use console::ConsoleSize;
 use guestmem::{NoLog, TouchLog, recall_bytes};
@@ -105,7 +107,18 @@ impl<D: Disk> Machine<D> {
     pub fn step(&mut self, dev: u8, pick: u8) -> Reply
         ensures { IsApplied self.old (events.Step dev pick) result self.new }
     {
-        self.step_logged(dev, pick, &mut NoLog)
+        let mut sent = Vec::new(self.alloc);
+        let stepped = self.step_into(dev, pick, &mut sent);
+        stepped.reply(sent)
+    }
+
+    /// Does what `step` does. The bytes of a message go into the buffer, which is cut or grows to them; where none is sent it may hold
+    /// anything. A step that sends no message takes no memory but for a chain of more than four descriptors, and neither does one
+    /// whose message the buffer has room for.
+    pub fn step_into(&mut self, dev: u8, pick: u8, sent: &mut Vec<u8>) -> Stepped
+        ensures { IsApplied self.old (events.Step dev pick) (reply_in result sent.new.items) self.new }
+    {
+        self.step_into_logged(dev, pick, sent, &mut NoLog)
     }
 
     /// Does what `write_ram` does, and reports to the log each page that is written, even if its bytes stay the same.
@@ -126,17 +139,33 @@ impl<D: Disk> Machine<D> {
         Ok(())
     }
 
+    /// Does what `step_into` does, and reports to the log each page and sector that is written, even if its bytes stay the same.
+    pub fn step_into_logged<L: TouchLog>(
+        &mut self,
+        dev: u8,
+        pick: u8,
+        sent: &mut Vec<u8>,
+        log: &mut L,
+    ) -> Stepped
+        requires may { MayItems L.may log.old (state_of self.old) }
+        ensures { IsAppliedLogged L.after self.old log.old (events.Step dev pick) (reply_in result sent.new.items) self.new log.new }
+    {
+        let number = dev as usize;
+        if number >= self.devices.len() {
+            return Stepped::Refused(Refusal::NoDevice);
+        }
+        let device = &mut self.devices[number];
+        let ring = &mut self.rings[ring_place(dev, pick)];
+        device.step(self.alloc, dev, pick, ring, sent, &mut self.ram, log)
+    }
+
     pub(super) fn step_logged<L: TouchLog>(&mut self, dev: u8, pick: u8, log: &mut L) -> Reply
         requires may { MayItems L.may log.old (state_of self.old) }
         ensures { IsAppliedLogged L.after self.old log.old (events.Step dev pick) result self.new log.new }
     {
-        let number = dev as usize;
-        if number >= self.devices.len() {
-            return Reply::Refused(Refusal::NoDevice);
-        }
-        let device = &mut self.devices[number];
-        let ring = &mut self.rings[ring_place(dev, pick)];
-        device.step(self.alloc, dev, pick, ring, &mut self.ram, log)
+        let mut sent = Vec::new(self.alloc);
+        let stepped = self.step_into_logged(dev, pick, &mut sent, log);
+        stepped.reply(sent)
     }
 }
 
@@ -160,7 +189,7 @@ fn write_one<D: Disk>(
 ) -> Option<u8>
     requires there { QUEUE_COUNT_MAX * number + QUEUE_COUNT_MAX ≤ length rings.old.items }
     ensures device { device.new ≡ record device.old { state = register_set device.old.state offset width value } }
-    ensures out { result ≡ written_out device.old.state.own offset width value }
+    ensures out { result ≡ written_out device.old.state.kind offset width value }
     ensures rings { (any : AnyRing) → rings.new.items ≡ forgotten number (register_write device.old.state.registers offset width value).0 any rings.old.items }
     ensures fit { (ram : Memory) → FitAll rings.old.items ram → FitAll rings.new.items ram }
     ensures each { length rings.new.items ≡ length rings.old.items }

@@ -7,6 +7,7 @@ ghost use Rattle.machine.specs.Applied.{ReadsSector};
 ghost use Rattle.machine.specs.EffectLaws.{HasItem};
 ghost use Rattle.machine.specs.Seen.{state_of};
 ghost use Rattle.machine.specs.Lines.{lines_of};
+ghost use Rattle.machine.specs.Shapes.{made_as};
 ghost use Rattle.machine.specs.Sound.{IsSound};
 ghost use Rattle.machine.specs.Step.{disk_of};
 
@@ -34,7 +35,7 @@ impl<D: Disk> Machine<D> {
 
     /// What the devices were made as, in order.
     pub fn shapes(&self) -> &[Shape]
-        ensures shapes { result.now ≡ map (λ d. d.shape) (state_of self.now).devices }
+        ensures shapes { result.now ≡ map (λ d. made_as d.kind) (state_of self.now).devices }
         ensures sound { IsSound (state_of self.now) }
     {
         self.shapes.as_slice()

@@ -4,7 +4,7 @@ ghost use Rattle.std.specs.Prelude.{◌≡◌, ◌≤◌, length, map, All, Err,
 ghost use Rattle.blk.specs.Disk.{AreSectors};
 ghost use Rattle.machine.specs.Parts.{ArePartsFor, machine_of};
 ghost use Rattle.machine.specs.Seen.{state_of, all_marks};
-ghost use Rattle.machine.specs.Shapes.{first_device, is_beyond};
+ghost use Rattle.machine.specs.Shapes.{first_device, is_beyond, made_as};
 ghost use Rattle.machine.specs.First.{AreMarksOf, HasBytes, are_beyond, dealt_marks, first_machine, good_marks, marked_sectors, marks_in, saved_machine, new_refusal};
 ghost use Rattle.machine.specs.Sound.{IsSound};
 ghost use Rattle.machine.specs.declared.new_error.NewError.TheVariants as new_error;
@@ -13,9 +13,9 @@ use crate::fitting::are_disks_of;
 use crate::machine::parts::Parts;
 use crate::machine::{DEVICES_MAX, Machine};
 use crate::new_error::NewError;
-use crate::shape::{SECTORS_MAX, Shape};
+use crate::shape::Shape;
 use crate::state::DeviceState;
-use blk::Disk;
+use blk::{Disk, SECTORS_MAX};
 use dirtylog::BitSet;
 use guestmem::{NoMemory, PAGES_MAX, Ram, recall_bytes};
 use std::alloc::Global;
@@ -78,14 +78,39 @@ impl<D: Disk + Drop> Machine<D> {
         bad: Vec<BitSet>,
     ) -> Result<Machine<D>, NoMemory>
         requires sound { IsSound (saved_machine ram.bytes states.items (marked_sectors (map D.state disks.items) bad.items)) }
-        requires shapes { shapes.items ≡ map (λ d. d.shape) states.items }
+        requires shapes { shapes.items ≡ map (λ d. made_as d.kind) states.items }
         requires bad { AreMarksOf (map D.state disks.items) bad.items }
         ensures restored { IfOk result (λ m. state_of m ≡ saved_machine ram.bytes states.items (marked_sectors (map D.state disks.items) bad.items)) }
         ensures marks { IfOk result (λ m. all_marks m ≡ dealt_marks shapes.items (map (λ d. marks_in (D.state d)) disks.items)) }
         ensures sound { IfOk result (λ m. IsSound (state_of m)) }
     {
-        let parts = Parts::new(alloc, ram, shapes, states, bad)?;
-        Ok(parts.with_disks(disks))
+        match Machine::restore_or_back(alloc, ram, shapes, states, disks, bad) {
+            Ok(machine) => Ok(machine),
+            Err(_disks) => Err(NoMemory),
+        }
+    }
+
+    /// As `restore`, but where memory is refused it gives the disks back, as they were.
+    pub fn restore_or_back(
+        alloc: Global,
+        ram: Ram,
+        shapes: Vec<Shape>,
+        states: Vec<DeviceState>,
+        disks: Vec<D>,
+        bad: Vec<BitSet>,
+    ) -> Result<Machine<D>, Vec<D>>
+        requires sound { IsSound (saved_machine ram.bytes states.items (marked_sectors (map D.state disks.items) bad.items)) }
+        requires shapes { shapes.items ≡ map (λ d. made_as d.kind) states.items }
+        requires bad { AreMarksOf (map D.state disks.items) bad.items }
+        ensures restored { IfOk result (λ m. state_of m ≡ saved_machine ram.bytes states.items (marked_sectors (map D.state disks.items) bad.items)) }
+        ensures marks { IfOk result (λ m. all_marks m ≡ dealt_marks shapes.items (map (λ d. marks_in (D.state d)) disks.items)) }
+        ensures sound { IfOk result (λ m. IsSound (state_of m)) }
+        ensures back { IfErr result (λ back. back.items ≡ disks.items) }
+    {
+        match Parts::new(alloc, ram, shapes, states, bad) {
+            Ok(parts) => Ok(parts.with_disks(disks)),
+            Err(NoMemory) => Err(disks),
+        }
     }
 }
 

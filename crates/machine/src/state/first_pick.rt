@@ -29,7 +29,7 @@ impl DeviceState {
         ensures { (pick : ℕ) → result ≤ pick → has_work_with self.now pick ≡ false }
     {
         let queues = self.registers.queues().len();
-        let requests = self.own.outstanding();
+        let requests = self.kind.outstanding();
         if requests < queues {
             queues as u8
         } else {

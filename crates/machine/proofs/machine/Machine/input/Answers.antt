@@ -12,8 +12,8 @@ pub invariant_of-self : goal.invariant_of-self
 invariant_of-self g c =
     let i = c.self.inside in
     let at : IsAt i.devices.items c.args.dev c.index_mut.result.now = record { below = omega arith; is = c.index_mut.ensures.value } in (
-      held_step i.shapes.items (record { memory = i.ram; devices = i.devices.items }) _ (events.Input c.args.dev c.args.bytes.now) (outcome_of (accepted_reply (input_of c.index_mut.result.now.state.own c.args.bytes.now))) (accepted_reply (input_of c.index_mut.result.now.state.own c.args.bytes.now)) c.self.invariant.0 (c.ranges.dev.fits, c.recall_bytes.ensures)
-          (input_step i.ram i.devices.items c.args.dev c.args.bytes.now c.index_mut.result.now c.input.new.self (input_of c.index_mut.result.now.state.own c.args.bytes.now) refl at c.input.ensures.device),
+      held_step i.shapes.items (record { memory = i.ram; devices = i.devices.items }) _ (events.Input c.args.dev c.args.bytes.now) (outcome_of (accepted_reply (input_of c.index_mut.result.now.state.kind c.args.bytes.now))) (accepted_reply (input_of c.index_mut.result.now.state.kind c.args.bytes.now)) c.self.invariant.0 (c.ranges.dev.fits, c.recall_bytes.ensures)
+          (input_step i.ram i.devices.items c.args.dev c.args.bytes.now c.index_mut.result.now c.input.new.self (input_of c.index_mut.result.now.state.kind c.args.bytes.now) refl at c.input.ensures.device),
       rings_stay c.self.inside.rings.items c.self.inside.ram c.self.inside.devices.items c.args.dev c.input.new.self c.self.invariant.1,
     )
 
@@ -22,7 +22,7 @@ returns g c =
     let i = c.self.inside in
     let at : IsAt i.devices.items c.args.dev c.index_mut.result.now = record { below = omega arith; is = c.index_mut.ensures.value } in
     rw (← c.self.view_is, c.input.ensures.count)
-    (applied_quiet i.shapes.items (record { memory = i.ram; devices = i.devices.items }) _ (events.Input c.args.dev c.args.bytes.now) (accepted_reply (input_of c.index_mut.result.now.state.own c.args.bytes.now)) tt c.self.invariant.0 (c.ranges.dev.fits, c.recall_bytes.ensures)
-    (input_step i.ram i.devices.items c.args.dev c.args.bytes.now c.index_mut.result.now c.input.new.self (input_of c.index_mut.result.now.state.own c.args.bytes.now) refl at c.input.ensures.device)
+    (applied_quiet i.shapes.items (record { memory = i.ram; devices = i.devices.items }) _ (events.Input c.args.dev c.args.bytes.now) (accepted_reply (input_of c.index_mut.result.now.state.kind c.args.bytes.now)) tt c.self.invariant.0 (c.ranges.dev.fits, c.recall_bytes.ensures)
+    (input_step i.ram i.devices.items c.args.dev c.args.bytes.now c.index_mut.result.now c.input.new.self (input_of c.index_mut.result.now.state.kind c.args.bytes.now) refl at c.input.ensures.device)
     refl
     (map-set_same (λ (d : DeviceSeen). d.marks) i.devices.items c.args.dev c.index_mut.result.now c.input.new.self at (ap (λ (d : DeviceSeen). d.marks) c.input.ensures.device)) tt)

@@ -11,7 +11,7 @@ pub invariant_of-self : goal.invariant_of-self
 invariant_of-self g c =
     let i = c.self.inside in
     let at : IsAt i.devices.items c.args.dev c.index_mut-device.result.now = record { below = omega arith; is = c.index_mut-device.ensures.value } in (
-      held_step i.shapes.items (record { memory = i.ram; devices = i.devices.items }) _ (events.RegWrite c.args.dev c.args.offset c.args.width c.args.value) (outcome_of (out_reply (written_out c.index_mut-device.result.now.state.own c.args.offset c.args.width c.args.value))) (out_reply (written_out c.index_mut-device.result.now.state.own c.args.offset c.args.width c.args.value)) c.self.invariant.0 (c.ranges.dev.fits, c.ranges.offset.fits, c.ranges.width.fits, c.ranges.value.fits)
+      held_step i.shapes.items (record { memory = i.ram; devices = i.devices.items }) _ (events.RegWrite c.args.dev c.args.offset c.args.width c.args.value) (outcome_of (out_reply (written_out c.index_mut-device.result.now.state.kind c.args.offset c.args.width c.args.value))) (out_reply (written_out c.index_mut-device.result.now.state.kind c.args.offset c.args.width c.args.value)) c.self.invariant.0 (c.ranges.dev.fits, c.ranges.offset.fits, c.ranges.width.fits, c.ranges.value.fits)
           (register_step i.ram i.devices.items c.args.dev c.args.offset c.args.width c.args.value c.index_mut-device.result.now c.write_one.new.device at c.write_one.ensures.device),
       rings_written c.self.inside.rings.items c.write_one.new.rings.items c.self.inside.ram c.self.inside.devices.items c.args.dev c.write_one.new.device c.self.invariant.1 c.write_one.ensures.each (c.write_one.ensures.fit c.self.inside.ram),
     )
@@ -21,7 +21,7 @@ returns g c =
     let i = c.self.inside in
     let at : IsAt i.devices.items c.args.dev c.index_mut-device.result.now = record { below = omega arith; is = c.index_mut-device.ensures.value } in
     rw (← c.self.view_is, c.write_one.ensures.out)
-    (applied_quiet i.shapes.items (record { memory = i.ram; devices = i.devices.items }) _ (events.RegWrite c.args.dev c.args.offset c.args.width c.args.value) (out_reply (written_out c.index_mut-device.result.now.state.own c.args.offset c.args.width c.args.value)) tt c.self.invariant.0 (c.ranges.dev.fits, c.ranges.offset.fits, c.ranges.width.fits, c.ranges.value.fits)
+    (applied_quiet i.shapes.items (record { memory = i.ram; devices = i.devices.items }) _ (events.RegWrite c.args.dev c.args.offset c.args.width c.args.value) (out_reply (written_out c.index_mut-device.result.now.state.kind c.args.offset c.args.width c.args.value)) tt c.self.invariant.0 (c.ranges.dev.fits, c.ranges.offset.fits, c.ranges.width.fits, c.ranges.value.fits)
     (register_step i.ram i.devices.items c.args.dev c.args.offset c.args.width c.args.value c.index_mut-device.result.now c.write_one.new.device at c.write_one.ensures.device)
     refl
     (map-set_same (λ (d : DeviceSeen). d.marks) i.devices.items c.args.dev c.index_mut-device.result.now c.write_one.new.device at (ap (λ (d : DeviceSeen). d.marks) c.write_one.ensures.device)) tt)

@@ -1,6 +1,6 @@
 use Rattle.std.proofs.Common.{rules, arith, ◌≡◌, ◌∷◌, ◌∙◌, sym, ◌++◌, ap, length, None, []}
 use Rattle.machine.specs.First.{seen_devices}
-use Rattle.machine.specs.Shapes.{disk_size_of}
+use Rattle.machine.specs.Shapes.{disk_size_of, made_as}
 use Rattle.machine.proofs.Dealt.{next_with, next_without, first_taken, rest_taken, no_length}
 use Rattle.machine.proofs.machine.parts.with_sectors.Goals as goal
 use Rattle.machine.proofs.machine.parts.with_sectors.Goals.{in-Some-disk_size, in-None-disk_size}
@@ -9,7 +9,7 @@ pub loop-state-preserved : goal.loop-state-preserved
 loop-state-preserved g c =
     let i = c.loop-state in
     let step : i.state-iterator.rest.items ≡ c.in-Some.state ∷ c.next.new.self.rest.items = search rules in
-    let size : disk_size_of c.in-Some.state.shape ≡ c.disk_size.result = sym (ap disk_size_of c.shape.ensures) ∙ sym c.disk_size.ensures in
+    let size : disk_size_of (made_as c.in-Some.state.kind) ≡ c.disk_size.result = sym (ap disk_size_of c.shape.ensures) ∙ sym c.disk_size.ensures in
     let dealt : c.push_reserved.new.self.items ++ seen_devices c.next.new.self.rest.items c.match-disk_size.sectors.rest.items ≡ seen_devices c.args.states.items c.args.sectors.items = elim c.match-disk_size.branch [
       | in-Some-disk_size w ↦
           let none : w.next-disk.result ≡ None → i.sectors.rest.items ≡ [] = λ e. no_length i.sectors.rest.items (let gone = rw e at w.next-disk.ensures.cases in omega (arith, gone.0)) in

@@ -7,14 +7,13 @@ use Rattle.machine.proofs.state.DeviceState.step.Goals as goal
 
 pub returns-then-looked_ring-clause-step : goal.returns-then-looked_ring-clause-step
 returns-then-looked_ring-clause-step g c =
-    looked_device _ c.args.device c.args.sectors.now.honest c.args.ram.now.bytes c.args.sectors.now.content c.args.self.now c.args.pick (ring_in c.looked_ring.new.ring) c.look.result c.look.new.ram.bytes c.look.new.self
+    looked_device _ c.args.device c.args.sectors.now.honest c.args.ram.now.bytes c.args.sectors.now.content c.args.self.now c.args.pick (ring_in c.looked_ring.new.ring) (reply_in c.look.result c.look.new.sent.items) c.look.new.ram.bytes c.look.new.self
     c.recall.ensures.whole (c.looked_ring.ensures.ring c.if-looked_ring.true) c.look.ensures.looked
 
 pub returns-then-advanced_ring-clause-step : goal.returns-then-advanced_ring-clause-step
 returns-then-advanced_ring-clause-step g c =
-    rw c.reply.ensures
-    (advanced_device _ c.args.device c.args.sectors.now.honest c.args.ram.now.bytes c.args.sectors.now.content c.args.self.now c.args.pick (ring_in c.advanced_ring.new.ring) (reply_in c.advance.result) c.advance.new.ram.bytes c.advance.new.sectors.content c.advance.new.self
-    (c.looked_ring.ensures.none c.if-looked_ring.false) (c.advanced_ring.ensures.ring c.if-advanced_ring.true) c.advance.ensures.advanced)
+    advanced_device _ c.args.device c.args.sectors.now.honest c.args.ram.now.bytes c.args.sectors.now.content c.args.self.now c.args.pick (ring_in c.advanced_ring.new.ring) (reply_in c.advance.result c.args.sent.now.items) c.advance.new.ram.bytes c.advance.new.sectors.content c.advance.new.self
+    (c.looked_ring.ensures.none c.if-looked_ring.false) (c.advanced_ring.ensures.ring c.if-advanced_ring.true) (c.advance.ensures.advanced c.args.sent.now.items)
 
 pub returns-clause-step : goal.returns-clause-step
 returns-clause-step g c =

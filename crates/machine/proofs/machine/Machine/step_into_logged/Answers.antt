@@ -5,9 +5,10 @@ use Rattle.guestmem.specs.RisesLaws.{touches_none}
 use Rattle.machine.specs.declared.event.Event.TheVariants as events
 use Rattle.machine.specs.declared.reply.Refusal.TheVariants as refusals
 use Rattle.machine.specs.declared.reply.Reply.TheVariants as replies
+use Rattle.machine.specs.Stepped.{reply_in}
 use Rattle.machine.proofs.Keeping.{rings_stepped}
 use Rattle.machine.proofs.At.{IsAt, applied_logged, has_disk, has_sector, held_worked, missing_step, sound_device, worked}
-use Rattle.machine.proofs.machine.Machine.step_logged.Goals as goal
+use Rattle.machine.proofs.machine.Machine.step_into_logged.Goals as goal
 
 pub returns-then-number-len : goal.returns-then-number-len
 returns-then-number-len g c =
@@ -37,7 +38,7 @@ invariant_of-self g c =
     let i = c.self.inside in
     let d = c.index_mut-device.result.now in
     let at : IsAt i.devices.items c.args.dev d = record { below = omega arith; is = c.index_mut-device.ensures.value } in (
-      held_worked _ i.shapes.items i.ram c.step.new.ram i.devices.items c.args.dev c.args.pick d c.step.new.self c.step.result c.self.invariant.0 at c.step.ensures.step c.step.ensures.later.bytes c.step.ensures.bytes c.step.ensures.whole c.step.ensures.capacity,
+      held_worked _ i.shapes.items i.ram c.step.new.ram i.devices.items c.args.dev c.args.pick d c.step.new.self (reply_in c.step.result c.step.new.sent.items) c.self.invariant.0 at c.step.ensures.step c.step.ensures.later.bytes c.step.ensures.bytes c.step.ensures.whole c.step.ensures.capacity,
       rings_stepped c.self.inside.rings.items c.self.inside.ram c.step.new.ram c.self.inside.devices.items c.args.dev c.step.new.self c.ring_place.result c.step.new.ring c.self.invariant.1 c.step.ensures.later c.step.ensures.fits,
     )
 
@@ -47,5 +48,5 @@ returns g c =
     let d = c.index_mut-device.result.now in
     let at : IsAt i.devices.items c.args.dev d = record { below = omega arith; is = c.index_mut-device.ensures.value } in
     rw (← c.self.view_is)
-    (worked g.L.TouchLog.after i.shapes.items i.ram c.step.new.ram c.args.log.now c.step.new.log i.devices.items c.args.dev c.args.pick d c.step.new.self c.step.result c.self.invariant.0 at c.step.ensures.step c.step.ensures.later.bytes c.step.ensures.bytes c.step.ensures.whole c.step.ensures.capacity
+    (worked g.L.TouchLog.after i.shapes.items i.ram c.step.new.ram c.args.log.now c.step.new.log i.devices.items c.args.dev c.args.pick d c.step.new.self (reply_in c.step.result c.step.new.sent.items) c.self.invariant.0 at c.step.ensures.step c.step.ensures.later.bytes c.step.ensures.bytes c.step.ensures.whole c.step.ensures.capacity
     c.step.ensures.later c.step.ensures.marks c.step.ensures.unsteady)
