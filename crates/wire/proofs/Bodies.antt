@@ -11,17 +11,17 @@ use Rattle.mmio.specs.Sound.{IsSoundCommon, IsSoundQueue}
 use Rattle.mmio.specs.declared.common.Common.{Common}
 use Rattle.mmio.specs.declared.queue.Queue.{Queue}
 use Rattle.wire.specs.Numbers.{Fit, flag}
-use Rattle.wire.specs.DeviceBody.{IsBodyOf, IsDeviceOf, body, common_numbers, common_text, common_widths, has_zeroes, own_text, queue_numbers, queue_text, queue_widths, queues_text}
-use Rattle.wire.specs.BodyReading.{HasFlags, HasFront, HaveFlags, common_from, common_of, device_of, own_of, positions_from, positions_in, positions_of, queue_from, queue_of, queues_in}
+use Rattle.wire.specs.DeviceBody.{IsBodyOf, IsDeviceOf, body, common_numbers, common_text, common_widths, has_zeroes, kind_text, queue_numbers, queue_text, queue_widths, queues_text}
+use Rattle.wire.specs.BodyReading.{HasFlags, HasFront, HaveFlags, common_from, common_of, device_of, kind_in, positions_from, positions_in, positions_of, queue_from, queue_of, queues_in}
 use Rattle.machine.specs.QueuePositions.{HasPositions, HavePositions, is_packed_by}
-use Rattle.machine.specs.Shapes.{queues_of, saved_device}
+use Rattle.machine.specs.Shapes.{queues_of, saved_device, made_as}
 use Rattle.machine.specs.Sound.{IsSoundDevice}
 use Rattle.machine.specs.State.{DeviceState}
-use Rattle.machine.specs.declared.own.Own.{Own}
+use Rattle.machine.specs.declared.kind.Kind.{Kind}
 use Rattle.machine.specs.declared.shape.Shape.{Shape}
 use Rattle.wire.proofs.Choices.{same_found}
 use Rattle.wire.proofs.Digits.{spelled-numbers, numbers-spelled, IsBytes-spelled, flag-number, number-flag}
-use Rattle.wire.proofs.OwnTexts.{ReadsOwn, own_reads, own_written}
+use Rattle.wire.proofs.KindTexts.{ReadsKind, kind_made, kind_reads, kind_written}
 
 -- The registers that a device has once.
 
@@ -204,22 +204,22 @@ front_written n bytes are form =
 
 -- What is read was spelled so.
 
-body_written : (ram_len : ℕ) (s : Shape) (bytes : List ℕ) (o : Own) → IsBytes bytes → HasFront (queues_of s) bytes → own_of s (drop (26 + 36 * queues_of s) bytes) ≡ Some o → bytes ≡ body (device_of ram_len s bytes o)
+body_written : (ram_len : ℕ) (s : Shape) (bytes : List ℕ) (o : Kind) → IsBytes bytes → HasFront (queues_of s) bytes → kind_in s (drop (26 + 36 * queues_of s) bytes) ≡ Some o → bytes ≡ body (device_of ram_len s bytes o)
 body_written ram_len s bytes o are form read =
     let size = 26 + 36 * queues_of s in
     front_written (queues_of s) bytes are form
-    ∙ ap (front_text (common_of bytes) (queues_in (queues_of s) (drop 26 bytes)) (positions_in (queues_of s) (drop 26 bytes))) (own_written s (drop size bytes) o (IsBytes-drop size bytes are) read)
+    ∙ ap (front_text (common_of bytes) (queues_in (queues_of s) (drop 26 bytes)) (positions_in (queues_of s) (drop 26 bytes))) (kind_written s (drop size bytes) o (IsBytes-drop size bytes are) read)
 
 -- The parts that were read, in place of where they stand.
-pub read_device : (ram_len : ℕ) (s : Shape) (bytes : List ℕ) (o : Own) (c : Common) (qs : List Queue) (ps : List Positions)
-    → common_of bytes ≡ c → queues_in (queues_of s) (drop 26 bytes) ≡ qs → positions_in (queues_of s) (drop 26 bytes) ≡ ps → device_of ram_len s bytes o ≡ saved_device ram_len s c qs ps o
+pub read_device : (ram_len : ℕ) (s : Shape) (bytes : List ℕ) (o : Kind) (c : Common) (qs : List Queue) (ps : List Positions)
+    → common_of bytes ≡ c → queues_in (queues_of s) (drop 26 bytes) ≡ qs → positions_in (queues_of s) (drop 26 bytes) ≡ ps → device_of ram_len s bytes o ≡ saved_device ram_len o c qs ps
 read_device ram_len s bytes o c qs ps e f g = rw (e, f, g) refl
 
 -- The parts of a sound device fit their fields.
 record DeviceFits (d : DeviceState) : Type 0 where
   pub common : Fit common_widths (common_numbers d.registers.common)
   pub queues : FitQueues d.registers.queues d.positions
-  pub own : ReadsOwn d.shape d.own
+  pub kind : ReadsKind d.kind
 
 device_fits : (ram_len : ℕ) (d : DeviceState) → IsSoundDevice ram_len d → DeviceFits d
 device_fits ram_len d sound =
@@ -227,41 +227,41 @@ device_fits ram_len d sound =
     record {
       common = common_fits r.offered r.common sound.registers.common;
       queues = queues_fit r.ram_len (is_packed_by r.common) r.common r.queues d.positions (recursion_from_All (IsSoundQueue r.ram_len r.common) r.queues sound.registers.queues) sound.positions;
-      own = own_reads ram_len r d.shape d.own sound.shape sound.registers sound.ram_len sound.own;
+      kind = kind_reads ram_len r d.kind sound.shape sound.registers sound.ram_len sound.kind;
     }
 
-same_device : (d e : DeviceState) → d.shape ≡ e.shape → d.registers.device_id ≡ e.registers.device_id → d.registers.offered ≡ e.registers.offered → d.registers.ram_len ≡ e.registers.ram_len
-    → d.registers.common ≡ e.registers.common → d.registers.queues ≡ e.registers.queues → d.positions ≡ e.positions → d.own ≡ e.own → d ≡ e
-same_device d e shape id offered ram_len common queues positions own_is =
+same_device : (d e : DeviceState) → d.kind ≡ e.kind → d.registers.device_id ≡ e.registers.device_id → d.registers.offered ≡ e.registers.offered → d.registers.ram_len ≡ e.registers.ram_len
+    → d.registers.common ≡ e.registers.common → d.registers.queues ≡ e.registers.queues → d.positions ≡ e.positions → d ≡ e
+same_device d e kind id offered ram_len common queues positions =
     let same : ◌≡◌ {A = DeviceState}
-    (record { shape = d.shape; registers = record { device_id = d.registers.device_id; offered = d.registers.offered; ram_len = d.registers.ram_len; common = d.registers.common; queues = d.registers.queues }; positions = d.positions; own = d.own })
-    (record { shape = e.shape; registers = record { device_id = e.registers.device_id; offered = e.registers.offered; ram_len = e.registers.ram_len; common = e.registers.common; queues = e.registers.queues }; positions = e.positions; own = e.own })
-    = rw (shape, id, offered, ram_len, common, queues, positions, own_is) refl in
+    (record { kind = d.kind; registers = record { device_id = d.registers.device_id; offered = d.registers.offered; ram_len = d.registers.ram_len; common = d.registers.common; queues = d.registers.queues }; positions = d.positions })
+    (record { kind = e.kind; registers = record { device_id = e.registers.device_id; offered = e.registers.offered; ram_len = e.registers.ram_len; common = e.registers.common; queues = e.registers.queues }; positions = e.positions })
+    = rw (kind, id, offered, ram_len, common, queues, positions) refl in
     same
 
 -- A sound device is as it was saved.
-as_saved : (ram_len : ℕ) (d : DeviceState) → IsSoundDevice ram_len d → saved_device ram_len d.shape d.registers.common d.registers.queues d.positions d.own ≡ d
+as_saved : (ram_len : ℕ) (d : DeviceState) → IsSoundDevice ram_len d → saved_device ram_len d.kind d.registers.common d.registers.queues d.positions ≡ d
 as_saved ram_len d sound =
-    same_device (saved_device ram_len d.shape d.registers.common d.registers.queues d.positions d.own) d refl (sym sound.device_id) (sym sound.offered) (sym sound.ram_len) refl refl refl refl
+    same_device (saved_device ram_len d.kind d.registers.common d.registers.queues d.positions) d refl (sym sound.device_id) (sym sound.offered) (sym sound.ram_len) refl refl refl
 
 -- What the body of a sound device reads as.
 pub record ReadsAs (ram_len : ℕ) (text : List ℕ) (d : DeviceState) : Type 0 where
-  pub form : HasFront (queues_of d.shape) text
-  pub own : own_of d.shape (drop (26 + 36 * queues_of d.shape) text) ≡ Some d.own
-  pub device : device_of ram_len d.shape text d.own ≡ d
+  pub form : HasFront (queues_of (made_as d.kind)) text
+  pub kind : kind_in (made_as d.kind) (drop (26 + 36 * queues_of (made_as d.kind)) text) ≡ Some d.kind
+  pub device : device_of ram_len (made_as d.kind) text d.kind ≡ d
 
-body_front : (ram_len : ℕ) (d : DeviceState) → IsSoundDevice ram_len d → ReadsFront (queues_of d.shape) (body d) d.registers.common d.registers.queues d.positions (own_text d.own)
+body_front : (ram_len : ℕ) (d : DeviceState) → IsSoundDevice ram_len d → ReadsFront (queues_of (made_as d.kind)) (body d) d.registers.common d.registers.queues d.positions (kind_text d.kind)
 body_front ram_len d sound =
     let fits = device_fits ram_len d sound in
-    front_reads (queues_of d.shape) d.registers.common d.registers.queues d.positions (own_text d.own) sound.queues fits.common fits.queues
+    front_reads (queues_of (made_as d.kind)) d.registers.common d.registers.queues d.positions (kind_text d.kind) sound.queues fits.common fits.queues
 
 pub body_reads_as : (ram_len : ℕ) (d : DeviceState) → IsSoundDevice ram_len d → ReadsAs ram_len (body d) d
 body_reads_as ram_len d sound =
     let front = body_front ram_len d sound in
     record {
       form = front.form;
-      own = ap (own_of d.shape) front.rest_is ∙ (device_fits ram_len d sound).own.read;
-      device = read_device ram_len d.shape (body d) d.own _ _ _ front.common front.queues front.positions ∙ as_saved ram_len d sound;
+      kind = ap (kind_in (made_as d.kind)) front.rest_is ∙ (device_fits ram_len d sound).kind.read;
+      device = read_device ram_len (made_as d.kind) (body d) d.kind _ _ _ front.common front.queues front.positions ∙ as_saved ram_len d sound;
     }
 
 -- The answers of the reader.
@@ -279,29 +279,31 @@ not_had version shape ram_len bytes never d is =
     never
     (λ first. ap (has_zeroes shape) (common_told version shape ram_len bytes d is) ∙ ap (λ (s : Shape). has_zeroes s d.registers.common) (sym is.shape_is) ∙ is.has first)
 
--- What such a body tells beside its registers and its queues is the device's own.
-own_told : (version : ℕ) (shape : Shape) (ram_len : ℕ) (bytes : List ℕ) (d : DeviceState) → IsBodyOf version shape ram_len bytes d → own_of shape (drop (26 + 36 * queues_of shape) bytes) ≡ Some d.own
-own_told version shape ram_len bytes d is =
-    rw is.is (subst (λ (s : Shape). own_of s (drop (26 + 36 * queues_of s) (body d)) ≡ Some d.own) is.shape_is (body_reads_as ram_len d is.sound).own)
+-- What such a body tells beside its registers and its queues is the device's kind.
+kind_told : (version : ℕ) (shape : Shape) (ram_len : ℕ) (bytes : List ℕ) (d : DeviceState) → IsBodyOf version shape ram_len bytes d → kind_in shape (drop (26 + 36 * queues_of shape) bytes) ≡ Some d.kind
+kind_told version shape ram_len bytes d is =
+    rw is.is (subst (λ (s : Shape). kind_in s (drop (26 + 36 * queues_of s) (body d)) ≡ Some d.kind) is.shape_is (body_reads_as ram_len d is.sound).kind)
 
-pub no_own : (version : ℕ) (shape : Shape) (ram_len : ℕ) (bytes : List ℕ) → own_of shape (drop (26 + 36 * queues_of shape) bytes) ≡ None → (d : DeviceState) → ¬ (IsBodyOf version shape ram_len bytes d)
-no_own version shape ram_len bytes none d is = let told = own_told version shape ram_len bytes d is in cc
+pub no_kind : (version : ℕ) (shape : Shape) (ram_len : ℕ) (bytes : List ℕ) → kind_in shape (drop (26 + 36 * queues_of shape) bytes) ≡ None → (d : DeviceState) → ¬ (IsBodyOf version shape ram_len bytes d)
+no_kind version shape ram_len bytes none d is = let told = kind_told version shape ram_len bytes d is in cc
 
-device_told : (version : ℕ) (shape : Shape) (ram_len : ℕ) (bytes : List ℕ) (d : DeviceState) (o : Own) → IsBodyOf version shape ram_len bytes d → own_of shape (drop (26 + 36 * queues_of shape) bytes) ≡ Some o → device_of ram_len shape bytes o ≡ d
+device_told : (version : ℕ) (shape : Shape) (ram_len : ℕ) (bytes : List ℕ) (d : DeviceState) (o : Kind) → IsBodyOf version shape ram_len bytes d → kind_in shape (drop (26 + 36 * queues_of shape) bytes) ≡ Some o → device_of ram_len shape bytes o ≡ d
 device_told version shape ram_len bytes d o is read =
-    let same : o ≡ d.own = same_found o d.own (sym read ∙ own_told version shape ram_len bytes d is) in
+    let same : o ≡ d.kind = same_found o d.kind (sym read ∙ kind_told version shape ram_len bytes d is) in
     ap (device_of ram_len shape bytes) same
-    ∙ ap (λ (s : Shape). device_of ram_len s bytes d.own) (sym is.shape_is)
-    ∙ ap (λ (x : List ℕ). device_of ram_len d.shape x d.own) is.is
+    ∙ ap (λ (s : Shape). device_of ram_len s bytes d.kind) (sym is.shape_is)
+    ∙ ap (λ (x : List ℕ). device_of ram_len (made_as d.kind) x d.kind) is.is
     ∙ (body_reads_as ram_len d is.sound).device
 
-pub not_sound : (version : ℕ) (shape : Shape) (ram_len : ℕ) (bytes : List ℕ) (o : Own) → own_of shape (drop (26 + 36 * queues_of shape) bytes) ≡ Some o → ¬ (IsSoundDevice ram_len (device_of ram_len shape bytes o)) → (d : DeviceState)
+pub not_sound : (version : ℕ) (shape : Shape) (ram_len : ℕ) (bytes : List ℕ) (o : Kind) → kind_in shape (drop (26 + 36 * queues_of shape) bytes) ≡ Some o → ¬ (IsSoundDevice ram_len (device_of ram_len shape bytes o)) → (d : DeviceState)
     → ¬ (IsBodyOf version shape ram_len bytes d)
 not_sound version shape ram_len bytes o read never d is = never (subst (IsSoundDevice ram_len) (sym (device_told version shape ram_len bytes d o is read)) is.sound)
 
-pub is_body : (version : ℕ) (shape : Shape) (ram_len : ℕ) (bytes : List ℕ) (o : Own) → IsBytes bytes → HasFront (queues_of shape) bytes → own_of shape (drop (26 + 36 * queues_of shape) bytes) ≡ Some o
+pub is_body : (version : ℕ) (shape : Shape) (ram_len : ℕ) (bytes : List ℕ) (o : Kind) → IsBytes bytes → HasFront (queues_of shape) bytes → kind_in shape (drop (26 + 36 * queues_of shape) bytes) ≡ Some o
     → IsSoundDevice ram_len (device_of ram_len shape bytes o) → (version ≡ 1 → has_zeroes shape (common_of bytes) ≡ false) → IsBodyOf version shape ram_len bytes (device_of ram_len shape bytes o)
-is_body version shape ram_len bytes o are form read sound has = record { shape_is = refl; sound = sound; has = has; is = body_written ram_len shape bytes o are form read }
+is_body version shape ram_len bytes o are form read sound has =
+    let made = kind_made shape (drop (26 + 36 * queues_of shape) bytes) o read in
+    record { shape_is = made; sound = sound; has = λ first. ap (λ s. has_zeroes s (common_of bytes)) made ∙ has first; is = body_written ram_len shape bytes o are form read }
 
 -- Version 2 has every device.
 second_has : (d : DeviceState) → IsDeviceOf 2 d
@@ -311,12 +313,12 @@ pub second_has_all : (ds : List DeviceState) → All (IsDeviceOf 2) ds
 second_has_all ds k d below first = absurd (omega (arith, first))
 
 -- One body is of one sound device, and it is short.
-pub one_body : (ram_len : ℕ) (d e : DeviceState) → d.shape ≡ e.shape → IsSoundDevice ram_len d → IsSoundDevice ram_len e → body d ≡ body e → d ≡ e
+pub one_body : (ram_len : ℕ) (d e : DeviceState) → made_as d.kind ≡ made_as e.kind → IsSoundDevice ram_len d → IsSoundDevice ram_len e → body d ≡ body e → d ≡ e
 one_body ram_len d e shape sound other same =
-    sym (device_told 2 e.shape ram_len (body e) d e.own (record { shape_is = shape; sound = sound; has = second_has d; is = sym same }) (body_reads_as ram_len e other).own) ∙ (body_reads_as ram_len e other).device
+    sym (device_told 2 (made_as e.kind) ram_len (body e) d e.kind (record { shape_is = shape; sound = sound; has = second_has d; is = sym same }) (body_reads_as ram_len e other).kind) ∙ (body_reads_as ram_len e other).device
 
 pub body_is_short : (ram_len : ℕ) (d : DeviceState) → IsSoundDevice ram_len d → length (body d) ≤ 131072
-body_is_short ram_len d sound = omega (arith, (body_front ram_len d sound).long, sound.queues, sound.registers.few, (device_fits ram_len d sound).own.short)
+body_is_short ram_len d sound = omega (arith, (body_front ram_len d sound).long, sound.queues, sound.registers.few, (device_fits ram_len d sound).kind.short)
 
 common_bytes : (c : Common) → Fit common_widths (common_numbers c) → IsBytes (common_text c)
 unfolding common_text
@@ -336,5 +338,5 @@ pub body_bytes : (ram_len : ℕ) (d : DeviceState) → IsSoundDevice ram_len d �
 body_bytes ram_len d sound =
     let fits = device_fits ram_len d sound in
     let c = d.registers.common in
-    IsBytes-append (common_text c) (queues_text d.registers.queues d.positions ++ own_text d.own) (common_bytes c fits.common)
-    (IsBytes-append (queues_text d.registers.queues d.positions) (own_text d.own) (queues_bytes d.registers.queues d.positions fits.queues) fits.own.bytes)
+    IsBytes-append (common_text c) (queues_text d.registers.queues d.positions ++ kind_text d.kind) (common_bytes c fits.common)
+    (IsBytes-append (queues_text d.registers.queues d.positions) (kind_text d.kind) (queues_bytes d.registers.queues d.positions fits.queues) fits.kind.bytes)

@@ -4,6 +4,7 @@ use Rattle.std.specs.List.{AllByRecursion}
 use Rattle.wire.specs.DeviceBody.{body}
 use Rattle.wire.specs.Records.{device, spelled_record}
 use Rattle.wire.specs.Stream.{device_texts, shapes_in}
+use Rattle.machine.specs.Shapes.{made_as}
 use Rattle.machine.specs.Sound.{IsSoundDevice}
 use Rattle.machine.specs.State.{DeviceState}
 use Rattle.machine.specs.declared.shape.Shape.{Shape}
@@ -19,6 +20,6 @@ pub sound-snoc : (ram_len : ℕ) (ds : List DeviceState) (d : DeviceState) → A
 sound-snoc ram_len [] d h k = (k, tt)
 sound-snoc ram_len (t ∷ ds) d h k = (h.0, sound-snoc ram_len ds d h.1 k)
 
-pub shapes-snoc : (ds : List DeviceState) (d : DeviceState) → shapes_in (ds ++ d ∷ []) ≡ shapes_in ds ++ d.shape ∷ []
+pub shapes-snoc : (ds : List DeviceState) (d : DeviceState) → shapes_in (ds ++ d ∷ []) ≡ shapes_in ds ++ made_as d.kind ∷ []
 shapes-snoc [] d = refl
-shapes-snoc (t ∷ ds) d = ap (λ (x : List Shape). t.shape ∷ x) (shapes-snoc ds d)
+shapes-snoc (t ∷ ds) d = ap (λ (x : List Shape). made_as t.kind ∷ x) (shapes-snoc ds d)

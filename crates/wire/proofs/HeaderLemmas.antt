@@ -14,7 +14,9 @@ use Rattle.std.specs.Int.{byte_at}
 use Rattle.std.specs.Prelude.{codes, not, ◌||◌, ◌%◌}
 use Rattle.machine.specs.declared.shape.Shape.{Shape}
 use Rattle.machine.specs.declared.shape.Shape.TheVariants.{Net, Block, Console, Entropy}
-use Rattle.machine.specs.Sound.{IsBlockShape, IsMac, IsSoundShape}
+use Rattle.blk.specs.Shape.{IsBlockShape}
+use Rattle.net.specs.Shape.{IsMac}
+use Rattle.machine.specs.Sound.{IsSoundShape}
 use Rattle.wire.specs.ShapeReading.{block_shape_of, net_shape_of, shape_length, shape_of, shapes_of}
 use Rattle.wire.proofs.Lists.{WasSpelled, WereSpelled, several-spelled, spelled-several}
 use Rattle.wire.specs.Header.{spelled_shape, spelled_shapes, front, header, IsHeader, IsVersion, Begins, Opening}

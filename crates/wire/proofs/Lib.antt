@@ -6,8 +6,8 @@ pub mod FrameLemmas
 pub mod HeaderLemmas
 pub mod Heads
 pub mod ItemRecords
+pub mod KindTexts
 pub mod Lists
-pub mod OwnTexts
 pub mod PageRecords
 pub mod PartLengths
 pub mod RequestFits

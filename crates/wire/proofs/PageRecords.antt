@@ -1,10 +1,10 @@
 -- The record of a page, with its bytes or as a page of zeros.
-use Rattle.std.proofs.Common.{◌≡◌, ℕ, zero, suc, ◌≤◌, Bool, true, false, ◌&&◌, ◌==◌, eqb, inl, inr, List, [], ◌∷◌, length, if◌then◌else◌, refl, sym, ap, ◌∙◌, arith}
+use Rattle.std.proofs.Common.{◌≡◌, ℕ, Bool, true, false, ◌&&◌, ◌==◌, inl, inr, List, [], ◌∷◌, length, refl, sym, ◌∙◌, arith}
 use Rattle.std.specs.Prelude.{IsTrue, not}
 use Rattle.std.proofs.lemmas.Bool.{eqb-true}
 use Rattle.guestmem.specs.Zeros.{are_zeros}
 use Rattle.machine.proofs.Numbering.{either_way}
-use Rattle.wire.specs.Records.{Record, page, zero_page, is_zero_page, page_record, IsOf}
+use Rattle.wire.specs.Records.{page, zero_page, is_zero_page, page_record, IsOf}
 
 both_true : (a b : Bool) → (a && b) ≡ true → (a ≡ true) × (b ≡ true)
 both_true true b e = (refl, e)

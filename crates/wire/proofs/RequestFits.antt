@@ -18,7 +18,7 @@ use Rattle.blk.specs.declared.shape.BlockShape.{BlockShape}
 use Rattle.mmio.specs.Sound.{IsSoundQueue}
 use Rattle.mmio.specs.declared.common.Common.{Common}
 use Rattle.mmio.specs.declared.queue.Queue.{Queue}
-use Rattle.machine.specs.Sound.{AreRequestsOf}
+use Rattle.blk.specs.Sound.{AreRequestsOf}
 use Rattle.wire.specs.RequestText.{kind_number}
 use Rattle.wire.proofs.RequestLemmas.{FitsSeg, FitsRequest, few_kinds, few_verdicts}
 

@@ -10,7 +10,7 @@ use Rattle.chains.specs.declared.position.Positions.{Positions}
 use Rattle.mmio.specs.declared.queue.Queue.{Queue}
 use Rattle.blk.specs.Request.{verdict_byte}
 use Rattle.blk.specs.declared.request.Request.{Request}
-use Rattle.wire.specs.DeviceBody.{body, common_text, queue_text, queues_text, own_text}
+use Rattle.wire.specs.DeviceBody.{body, common_text, queue_text, queues_text, kind_text}
 use Rattle.wire.specs.Numbers.{digits, spelled}
 use Rattle.wire.specs.RequestText.{head_text, kind_number}
 use Rattle.wire.specs.Records.{device, spelled_record}
@@ -75,12 +75,12 @@ length_queues (q ∷ qs) [] e = refl
 length_queues (q ∷ qs) (p ∷ ps) e =
     omega (arith, length-append (queue_text q p) (queues_text qs ps), length-queue_text q p, length_queues qs ps (omega (arith, e)))
 
-pub length_body : (d : DeviceState) → length d.positions ≡ length d.registers.queues → length (body d) ≡ 26 + 36 * length d.positions + length (own_text d.own)
+pub length_body : (d : DeviceState) → length d.positions ≡ length d.registers.queues → length (body d) ≡ 26 + 36 * length d.positions + length (kind_text d.kind)
 length_body d each =
     omega (
       arith,
-      length-append (common_text d.registers.common) (queues_text d.registers.queues d.positions ++ own_text d.own),
-      length-append (queues_text d.registers.queues d.positions) (own_text d.own),
+      length-append (common_text d.registers.common) (queues_text d.registers.queues d.positions ++ kind_text d.kind),
+      length-append (queues_text d.registers.queues d.positions) (kind_text d.kind),
       length-common_text d.registers.common,
       length_queues d.registers.queues d.positions each,
     )

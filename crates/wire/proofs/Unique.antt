@@ -7,13 +7,13 @@ use Rattle.std.specs.List.{AllByRecursion, All}
 use Rattle.sha2.specs.Sha256.{sha256}
 use Rattle.wire.specs.DeviceBody.{body}
 use Rattle.wire.specs.Header.{header, IsHeader, IsVersion, Begins, Opening}
-use Rattle.wire.specs.Records.{Record, page, sector, round_end, device, commit, zero_page, page_record, HasSpelling, spelled_record}
+use Rattle.wire.specs.Records.{Record, page, sector, round_end, device, commit, zero_page, HasSpelling, spelled_record}
 use Rattle.blk.specs.Sectors.{Sector}
 use Rattle.guestmem.specs.Item.{Item, page as page_item, sector as sector_item}
 use Rattle.guestmem.specs.Page.{page_of}
 use Rattle.machine.specs.EffectLaws.{sector_on}
 use Rattle.machine.specs.Layout.{Layout, IsItemIn, layout_of, pages_of}
-use Rattle.machine.specs.Shapes.{sector_count}
+use Rattle.machine.specs.Shapes.{sector_count, made_as}
 use Rattle.machine.specs.Sound.{IsSound, IsSoundDevice, IsSoundShape}
 use Rattle.machine.proofs.Numbering.{in_layout}
 use Rattle.machine.specs.State.{DeviceState, MachineState}
@@ -78,7 +78,7 @@ shape_first e = (cc, cc)
 bodies_alike : (i j : ℕ) (a b : List ℕ) → device i a ≡ device j b → a ≡ b
 bodies_alike i j a b e = cc
 
-first_device_alike : (ram_len number : ℕ) (s t : DeviceState) (x y : List ℕ) → number < 256 → s.shape ≡ t.shape → IsSoundDevice ram_len s → IsSoundDevice ram_len t
+first_device_alike : (ram_len number : ℕ) (s t : DeviceState) (x y : List ℕ) → number < 256 → made_as s.kind ≡ made_as t.kind → IsSoundDevice ram_len s → IsSoundDevice ram_len t
     → spelled_record (device number (body s)) ++ x ≡ spelled_record (device number (body t)) ++ y → (s ≡ t) × (x ≡ y)
 first_device_alike ram_len number s t x y low kinds h k e =
     let o = one_record (device number (body s)) (device number (body t)) x y (body_spells ram_len number s low h) (body_spells ram_len number t low k) e in
@@ -109,7 +109,7 @@ pages_limits v m known sound = record {
   few_pages = sound.few_pages;
   some_device = omega (arith, length_shapes m.devices, sound.some_devices);
   few_devices = omega (arith, length_shapes m.devices, sound.few_devices);
-  sound = All-map IsSoundShape (λ (d : DeviceState). d.shape) m.devices (λ k d below. (sound.devices k d below).shape);
+  sound = All-map IsSoundShape (λ (d : DeviceState). made_as d.kind) m.devices (λ k d below. (sound.devices k d below).shape);
 }
 
 pub after_header : (v pages : ℕ) (entries : List Record) (ss : List DeviceState) (c : List ℕ) → before_commit v pages entries ss ++ c ≡ header (opening_in v pages ss) ++ (texts entries ++ (device_texts 0 ss ++ c))
@@ -250,7 +250,7 @@ told_alike : (v w : ℕ) (bytes : List ℕ) (m n : MachineState) (es fs : List R
 told_alike v w bytes m n es fs i a b f e has too = some_same (a.last i has) (ap (last_named i) e ∙ b.last i too ∙ ap (λ (x : ℕ). Some (record_in x n.ram n.disks i)) (sym f))
 
 sizes_alike : (m n : MachineState) → IsSound m → IsSound n → m.devices ≡ n.devices → map length m.disks ≡ map length n.disks
-sizes_alike m n h k e = h.disks ∙ ap (map (λ (d : DeviceState). sector_count d.shape)) e ∙ sym k.disks
+sizes_alike m n h k e = h.disks ∙ ap (map (λ (d : DeviceState). sector_count (made_as d.kind))) e ∙ sym k.disks
 
 from_parts : (bytes : List ℕ) (m n : MachineState) (a : IsStream bytes m) (b : IsStream bytes n) → SameParts a.version b.version (pages_of m) (pages_of n) a.entries b.entries m.devices n.devices → m ≡ n
 from_parts bytes m n a b s =

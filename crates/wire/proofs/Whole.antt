@@ -13,7 +13,7 @@ use Rattle.guestmem.specs.Number.{IsBytes}
 use Rattle.guestmem.specs.Page.{page_of}
 use Rattle.machine.specs.EffectLaws.{sector_on}
 use Rattle.machine.specs.Layout.{Layout, IsItemIn, layout_of, item_at, size_of}
-use Rattle.machine.specs.Shapes.{sector_count}
+use Rattle.machine.specs.Shapes.{sector_count, made_as}
 use Rattle.machine.specs.Sound.{IsSound, IsSoundDevice, IsSoundShape}
 use Rattle.machine.specs.State.{DeviceState, MachineState}
 use Rattle.machine.specs.declared.shape.Shape.{Shape}
@@ -104,9 +104,9 @@ few_sectors (Block sectors read_only id) n good below = omega (arith, good.few, 
 few_sectors Console n good below = omega (arith, below)
 few_sectors Entropy n good below = omega (arith, below)
 
-few_counts : (ram_len : ℕ) (ds : List DeviceState) (dev n : ℕ) → AllByRecursion (IsSoundDevice ram_len) ds → n < get_or (map (λ (d : DeviceState). sector_count d.shape) ds) dev 0 → (dev < length ds) × (n < 2 ^ 32)
+few_counts : (ram_len : ℕ) (ds : List DeviceState) (dev n : ℕ) → AllByRecursion (IsSoundDevice ram_len) ds → n < get_or (map (λ (d : DeviceState). sector_count (made_as d.kind)) ds) dev 0 → (dev < length ds) × (n < 2 ^ 32)
 few_counts ram_len [] dev n sound below = absurd (omega (arith, below))
-few_counts ram_len (d ∷ ds) zero n sound below = (omega arith, few_sectors d.shape n sound.0.shape below)
+few_counts ram_len (d ∷ ds) zero n sound below = (omega arith, few_sectors (made_as d.kind) n sound.0.shape below)
 few_counts ram_len (d ∷ ds) (suc dev) n sound below = let h = few_counts ram_len ds dev n sound.1 below in (omega (arith, h.0), h.1)
 
 whole_sector_by : (disks : List (List Sector)) (found : Option (List Sector)) (dev n : ℕ) (content : Sector) → All (All IsWhole) disks → slice_get disks dev ≡ found → sector_on found n ≡ Some content → IsWhole content

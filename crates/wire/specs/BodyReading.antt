@@ -1,5 +1,5 @@
 -- How the body of a device is decoded. That this is the inverse of the encoding is proved in `proofs/`.
-use Rattle.std.specs.Prelude.{ℕ, zero, suc, ◌+◌, ◌*◌, ◌≤◌, ◌==◌, ◌||◌, not, nat_eq, nat_lt, if◌then◌else◌, List, [], ◌∷◌, drop, length, Option, Some, None}
+use Rattle.std.specs.Prelude.{ℕ, zero, suc, ◌+◌, ◌*◌, ◌≤◌, ◌==◌, ◌||◌, not, nat_eq, nat_lt, if◌then◌else◌, List, [], ◌∷◌, drop, length, Option, Some, None, Bool}
 use Rattle.std.specs.Option.{option_map}
 use Rattle.guestmem.specs.Number.{number_at}
 use Rattle.blk.specs.declared.requests.TheConstants.{REQUESTS_MAX}
@@ -18,8 +18,8 @@ use Rattle.wire.specs.Several.{several}
 use Rattle.machine.specs.QueuePositions.{first_positions}
 use Rattle.machine.specs.Shapes.{first_size, queues_of, saved_device}
 use Rattle.machine.specs.State.{DeviceState}
-use Rattle.machine.specs.declared.own.Own.{Own}
-use Rattle.machine.specs.declared.own.Own.TheVariants as own
+use Rattle.machine.specs.declared.kind.Kind.{Kind}
+use Rattle.machine.specs.declared.kind.Kind.TheVariants as kinds
 use Rattle.machine.specs.declared.shape.Shape.{Shape}
 use Rattle.machine.specs.declared.shape.Shape.TheVariants.{Net, Block, Console, Entropy}
 use Rattle.wire.specs.declared.decode_error.DecodeError.{DecodeError}
@@ -73,21 +73,21 @@ pub record HasFront (queues : ℕ) (bytes : List ℕ) : Type 0 where
   pub long : 26 + 36 * queues ≤ length bytes
   pub flags : HaveFlags queues (drop 26 bytes)
 
--- The kind-specific state that has all these, if no bytes follow them.
-abbrev pub all_of : {A : Type 0} → (List A → Own) → Option (List A × List ℕ) → Option Own
+-- The kind that has all these, if no bytes follow them.
+abbrev pub all_of : {A : Type 0} → (List A → Kind) → Option (List A × List ℕ) → Option Kind
 all_of has None = None
 all_of has (Some found) = if length found.1 == 0 then Some (has found.0) else None
 
--- The kind-specific state of a network device: its frames.
-unfoldable pub net_own_of : List ℕ → Option Own
-net_own_of bytes =
+-- A network device with this MAC: its frames.
+unfoldable pub net_kind_in : List ℕ → List ℕ → Option Kind
+net_kind_in mac bytes =
     if nat_lt (length bytes) 2 || nat_lt INBOX_MAX (number_at bytes 0 2) then None
-    else all_of own.Network (several frame_of (number_at bytes 0 2) (drop 2 bytes))
+    else all_of (kinds.Network mac) (several frame_of (number_at bytes 0 2) (drop 2 bytes))
 
--- The kind-specific state of a block device: its requests.
-unfoldable pub block_own_of : List ℕ → Option Own
-block_own_of [] = None
-block_own_of (count ∷ bytes) = if nat_lt REQUESTS_MAX count then None else all_of own.Block (several request_of count bytes)
+-- A block device that was made as this: its requests.
+unfoldable pub block_kind_in : ℕ → Bool → List ℕ → List ℕ → Option Kind
+block_kind_in sectors read_only id [] = None
+block_kind_in sectors read_only id (count ∷ bytes) = if nat_lt REQUESTS_MAX count then None else all_of (kinds.Block sectors read_only id) (several request_of count bytes)
 
 -- Bytes of the host, which are all that follows their count in two bytes, and at most 4,096.
 unfoldable pub held_of : List ℕ → Option (List ℕ)
@@ -95,7 +95,7 @@ held_of bytes =
     if nat_lt (length bytes) 2 || not (number_at bytes 0 2 + 2 == length bytes) || nat_lt HOST_BYTES_MAX (number_at bytes 0 2) then None
     else Some (drop 2 bytes)
 
--- The kind-specific state of a console: its size, in the first 4 bytes, and the bytes held for its driver.
+-- A console: its size, in the first 4 bytes, and the bytes held for its driver.
 abbrev pub size_from : List ℕ → ConsoleSize
 size_from (a ∷ b ∷ rest) = record { columns = a; rows = b }
 size_from numbers = first_size
@@ -103,25 +103,25 @@ size_from numbers = first_size
 unfoldable pub size_of : List ℕ → ConsoleSize
 size_of bytes = size_from (numbers size_widths 0 bytes)
 
-unfoldable pub console_own_of : List ℕ → Option Own
-console_own_of bytes = if nat_lt (length bytes) 4 then None else option_map (own.Console (size_of bytes)) (held_of (drop 4 bytes))
+unfoldable pub console_kind_in : List ℕ → Option Kind
+console_kind_in bytes = if nat_lt (length bytes) 4 then None else option_map (kinds.Console (size_of bytes)) (held_of (drop 4 bytes))
 
--- The kind-specific state of an entropy device: its pool.
-abbrev pub entropy_own_of : List ℕ → Option Own
-entropy_own_of bytes = option_map own.Entropy (held_of bytes)
+-- An entropy device: its pool.
+abbrev pub entropy_kind_in : List ℕ → Option Kind
+entropy_kind_in bytes = option_map kinds.Entropy (held_of bytes)
 
--- The kind-specific state of a device of this shape, in the bytes after its queues.
-abbrev pub own_of : Shape → List ℕ → Option Own
-own_of (Net mac) bytes = net_own_of bytes
-own_of (Block sectors read_only id) bytes = block_own_of bytes
-own_of Console bytes = console_own_of bytes
-own_of Entropy bytes = entropy_own_of bytes
+-- The kind of a device of this shape, with its state in the bytes after its queues.
+abbrev pub kind_in : Shape → List ℕ → Option Kind
+kind_in (Net mac) bytes = net_kind_in mac bytes
+kind_in (Block sectors read_only id) bytes = block_kind_in sectors read_only id bytes
+kind_in Console bytes = console_kind_in bytes
+kind_in Entropy bytes = entropy_kind_in bytes
 
 -- The device of this shape, in a machine with `ram_len` bytes of RAM, whose common registers and queues are encoded in the
--- first of these bytes, and whose kind-specific state is `own_is`.
-abbrev pub device_of : ℕ → Shape → List ℕ → Own → DeviceState
-device_of ram_len shape bytes own_is =
-    saved_device ram_len shape (common_of bytes) (queues_in (queues_of shape) (drop 26 bytes)) (positions_in (queues_of shape) (drop 26 bytes)) own_is
+-- first of these bytes, and whose kind, with its state, is `kind_is`.
+abbrev pub device_of : ℕ → Shape → List ℕ → Kind → DeviceState
+device_of ram_len shape bytes kind_is =
+    saved_device ram_len kind_is (common_of bytes) (queues_in (queues_of shape) (drop 26 bytes)) (positions_in (queues_of shape) (drop 26 bytes))
 
 -- What an error says of the bytes: with `BadBody` they are the body of no such device; `NoMemory` says nothing of them.
 abbrev pub RefusesBody : ℕ → Shape → ℕ → List ℕ → DecodeError → Type 0

@@ -8,10 +8,11 @@ use Rattle.mmio.specs.declared.common.Common.{Common}
 use Rattle.mmio.specs.declared.constants.TheConstants.{FEATURES_OK}
 use Rattle.mmio.specs.declared.queue.Queue.{Queue}
 use Rattle.wire.specs.Numbers.{spelled, digits, flag}
+use Rattle.machine.specs.Shapes.{made_as}
 use Rattle.machine.specs.Sound.{IsSoundDevice}
 use Rattle.machine.specs.State.{DeviceState}
-use Rattle.machine.specs.declared.own.Own.{Own}
-use Rattle.machine.specs.declared.own.Own.TheVariants.{Network, Block, Console, Entropy}
+use Rattle.machine.specs.declared.kind.Kind.{Kind}
+use Rattle.machine.specs.declared.kind.Kind.TheVariants.{Network, Block, Console, Entropy}
 use Rattle.machine.specs.declared.shape.Shape.{Shape}
 use Rattle.machine.specs.declared.shape.Shape.TheVariants as shapes
 use Rattle.wire.specs.FrameText.{frames_text}
@@ -62,14 +63,14 @@ size_text s = spelled size_widths (size_numbers s)
 -- The kind-specific state: of a network device the frames of its inbox, the oldest first; of a block device its outstanding
 -- requests in the order of taking; of a console its size and the bytes held for its driver; of an entropy device the bytes of
 -- its pool.
-abbrev pub own_text : Own → List ℕ
-own_text (Network frames) = frames_text frames
-own_text (Block requests) = requests_text requests
-own_text (Console size held) = size_text size ++ held_text held
-own_text (Entropy pool) = held_text pool
+abbrev pub kind_text : Kind → List ℕ
+kind_text (Network mac frames) = frames_text frames
+kind_text (Block sectors read_only id requests) = requests_text requests
+kind_text (Console size held) = size_text size ++ held_text held
+kind_text (Entropy pool) = held_text pool
 
 abbrev pub body : DeviceState → List ℕ
-body d = common_text d.registers.common ++ (queues_text d.registers.queues d.positions ++ own_text d.own)
+body d = common_text d.registers.common ++ (queues_text d.registers.queues d.positions ++ kind_text d.kind)
 
 -- Whether the driver of a block device accepted WRITE_ZEROES: bit 14 of the features, which FEATURES_OK settles (VIRTIO 1.2, 2.1
 -- and 5.2.3).
@@ -80,12 +81,12 @@ has_zeroes _ c = false
 -- A version has this device. In version 1 no block device has a driver that accepted WRITE_ZEROES, and so none has a request to clear
 -- sectors.
 abbrev pub IsDeviceOf : ℕ → DeviceState → Type 0
-IsDeviceOf version d = version ≡ 1 → has_zeroes d.shape d.registers.common ≡ false
+IsDeviceOf version d = version ≡ 1 → has_zeroes (made_as d.kind) d.registers.common ≡ false
 
 -- The bytes are the body of this device in a version: the device has this shape, is sound in a machine with `ram_len` bytes of RAM,
 -- and the version has it.
 pub record IsBodyOf (version : ℕ) (shape : Shape) (ram_len : ℕ) (bytes : List ℕ) (d : DeviceState) : Type 0 where
-  pub shape_is : d.shape ≡ shape
+  pub shape_is : made_as d.kind ≡ shape
   pub sound : IsSoundDevice ram_len d
   pub has : IsDeviceOf version d
   pub is : bytes ≡ body d

@@ -1,5 +1,5 @@
 -- How a header is decoded. That this is the inverse of the encoding is proved in `proofs/`.
-use Rattle.std.specs.Prelude.{ℕ, not, List, length, drop, nat_lt, ◌||◌, ◌&&◌, ◌==◌, if◌then◌else◌, Option, Some, None}
+use Rattle.std.specs.Prelude.{ℕ, not, List, length, drop, nat_lt, ◌||◌, ◌==◌, if◌then◌else◌, Option, Some, None}
 use Rattle.guestmem.specs.Number.{number_at}
 use Rattle.machine.specs.declared.shape.Shape.{Shape}
 use Rattle.wire.specs.Header.{Opening}

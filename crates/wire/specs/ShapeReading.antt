@@ -3,7 +3,7 @@ use Rattle.std.specs.Prelude.{ℕ, List, [], ◌∷◌, length, take, drop, nat_
 use Rattle.guestmem.specs.Number.{number_at}
 use Rattle.machine.specs.declared.shape.Shape.{Shape}
 use Rattle.machine.specs.declared.shape.Shape.TheVariants.{Net, Block, Console, Entropy}
-use Rattle.machine.specs.declared.shape.TheConstants.{SECTORS_MAX}
+use Rattle.blk.specs.declared.shape.TheConstants.{SECTORS_MAX}
 use Rattle.wire.specs.Several.{several}
 
 -- How many bytes the encoding of a shape has, given its first byte, the device ID.

@@ -11,13 +11,14 @@ use Rattle.machine.specs.EffectLaws.{sector_on}
 use Rattle.machine.specs.Layout.{Layout, IsItemIn, layout_of, pages_of, item_at, size_of}
 use Rattle.machine.specs.Sound.{IsSound}
 use Rattle.machine.specs.State.{DeviceState, MachineState}
+use Rattle.machine.specs.Shapes.{made_as}
 use Rattle.machine.specs.declared.shape.Shape.{Shape}
 use Rattle.wire.specs.DeviceBody.{body, IsDeviceOf}
 use Rattle.wire.specs.Header.{IsVersion, Opening, header}
 use Rattle.wire.specs.Records.{Record, page, sector, round_end, device, commit, zero_page, page_record, spelled_record, HasSpelling, IsOf}
 
 abbrev pub shapes_in : List DeviceState → List Shape
-shapes_in devices = map (λ d. d.shape) devices
+shapes_in devices = map (λ d. made_as d.kind) devices
 
 -- The records that may come before the devices: pages and sectors that exist, and ends of rounds.
 abbrev pub MayStand : Layout → Record → Type 0

@@ -4,21 +4,22 @@ ghost use Rattle.std.specs.Prelude.{◌≡◌, ◌≤◌, ◌*◌, ◌^◌, ◌�
 ghost use Rattle.wire.specs.BodyReading.{HasFront, HaveFlags, RefusesBody, positions_in, queues_in};
 ghost use Rattle.wire.specs.DeviceBody.{IsBodyOf, has_zeroes};
 ghost use Rattle.machine.specs.QueuePositions.{HasPositions, HavePositions, is_packed_by};
-ghost use Rattle.machine.specs.Shapes.{queues_of, saved_device};
-ghost use Rattle.machine.specs.Sound.{AreRequestsOf, IsBlockShape, IsSoundConsole, IsSoundDevice, IsSoundOwn, IsSoundShape};
+ghost use Rattle.blk.specs.Sound.{AreRequestsOf};
+ghost use Rattle.machine.specs.Shapes.{made_as, queues_of, saved_device};
+ghost use Rattle.machine.specs.Sound.{IsSoundDevice, IsSoundKind, IsSoundShape};
 ghost use Rattle.mmio.specs.Bits.{has};
 ghost use Rattle.mmio.specs.Sound.{IsSoundQueue};
 ghost use Rattle.mmio.specs.declared.constants.TheConstants.{QUEUE_COUNT_MAX};
 
 use crate::decode_error::DecodeError;
 use crate::header::FIRST_VERSION;
-use crate::own_reading::own_at;
+use crate::kind_reading::kind_at;
 use crate::registers_text::{COMMON_LEN, QUEUE_LEN, common_at, has_flags, positions_at, queue_at};
-use blk::{BlockShape, REQUESTS_MAX, Requests, WRITE_ZEROES};
+use blk::{BlockShape, Requests, WRITE_ZEROES, is_block_shape};
 use chains::{Position, Positions};
-use console::{ConsoleSize, HostBytes};
+use console::recall_console;
 use guestmem::recall_bytes;
-use machine::{DeviceState, Own, SECTORS_MAX, Shape, offered};
+use machine::{DeviceState, Kind, Shape, offered};
 use mmio::{
     Common, FEATURES_OK, QUEUE_COUNT_MAX, Queue, RING_PACKED, is_sound_common, is_sound_queue,
 };
@@ -47,14 +48,14 @@ pub fn decode_device(
     let (_, rest) = body.split_at(COMMON_LEN);
     let (queues, positions) = queues_at(count, rest);
     let (_, rest) = body.split_at(COMMON_LEN + QUEUE_LEN * count);
-    let Some(own) = own_at(alloc, shape, rest)? else {
+    let Some(kind) = kind_at(alloc, shape, rest)? else {
         return Err(DecodeError::BadBody);
     };
     let queues = &queues[..count];
-    if !is_sound_device(ram_len, shape, &common, queues, &positions[..count], &own) {
+    if !is_sound_device(ram_len, shape, &common, queues, &positions[..count], &kind) {
         return Err(DecodeError::BadBody);
     }
-    Ok(DeviceState::restored(shape, ram_len, common, queues, positions, own))
+    Ok(DeviceState::restored(ram_len, common, queues, positions, kind))
 }
 
 /// How many queues a device of this shape has.
@@ -62,8 +63,10 @@ fn queue_count(shape: Shape) -> usize
     ensures { result ≡ queues_of shape }
 {
     match shape {
-        Shape::Net { .. } | Shape::Console => 2,
-        Shape::Block { .. } | Shape::Entropy => 1,
+        Shape::Net { .. } => net::QUEUE_COUNT as usize,
+        Shape::Block { .. } => blk::QUEUE_COUNT as usize,
+        Shape::Console => console::QUEUE_COUNT as usize,
+        Shape::Entropy => console::entropy::QUEUE_COUNT as usize,
     }
 }
 
@@ -139,28 +142,29 @@ fn queues_at(count: usize, rest: &[u8]) -> ([Queue; QUEUE_COUNT_MAX], [Positions
     ([queue, queue_at(after)], [positions, positions_at(after)])
 }
 
-/// Whether a device of this shape may have these registers, queues, positions and kind-specific state.
+/// Whether a device of this shape may have these registers, queues, positions and this kind.
 fn is_sound_device(
     ram_len: u64,
     shape: Shape,
     common: &Common,
     queues: &[Queue],
     positions: &[Positions],
-    own: &Own,
+    kind: &Kind,
 ) -> bool
+    requires made { made_as kind.now ≡ shape }
     requires count { length queues.now ≡ queues_of shape }
     requires few { length queues.now ≤ QUEUE_COUNT_MAX }
     requires each { length positions.now ≡ length queues.now }
-    ensures { IsTrue result ↔ IsSoundDevice ram_len (saved_device ram_len shape common.now queues.now positions.now own.now) }
+    ensures { IsTrue result ↔ IsSoundDevice ram_len (saved_device ram_len kind.now common.now queues.now positions.now) }
 {
     is_sound_shape(shape)
         && is_sound_common(offered(shape), common)
         && are_sound_queues(ram_len, common, queues)
         && have_positions(is_packed(common), queues, positions)
-        && is_sound_own(ram_len, shape, common, queues, own)
+        && is_sound_kind(ram_len, common, queues, kind)
 }
 
-/// Whether this is a valid shape (device configuration).
+/// Whether a device may be made as this.
 fn is_sound_shape(shape: Shape) -> bool
     ensures { IsTrue result ↔ IsSoundShape shape }
 {
@@ -174,14 +178,6 @@ fn is_sound_shape(shape: Shape) -> bool
     }
 }
 
-/// Whether a block device may have `sectors` sectors and this id.
-fn is_block_shape(sectors: u64, id: &[u8; 20]) -> bool
-    ensures { IsTrue result ↔ IsBlockShape sectors id.now }
-{
-    recall_bytes(id);
-    1 <= sectors && sectors <= SECTORS_MAX
-}
-
 /// Whether each queue is sound, with these registers and this length of RAM.
 fn are_sound_queues(ram_len: u64, common: &Common, queues: &[Queue]) -> bool
     ensures { IsTrue result ↔ All (IsSoundQueue ram_len common.now) queues.now }
@@ -191,53 +187,33 @@ fn are_sound_queues(ram_len: u64, common: &Common, queues: &[Queue]) -> bool
         .all(|queue| is_sound_queue(ram_len, common, queue))
 }
 
-/// Whether a device of this shape, with these registers and queues, may have this kind-specific state.
-fn is_sound_own(ram_len: u64, shape: Shape, common: &Common, queues: &[Queue], own: &Own) -> bool
-    ensures { IsTrue result ↔ IsSoundOwn ram_len (saved_device ram_len shape common.now queues.now [] own.now).registers shape own.now }
+/// Whether a device with these registers and queues may have this kind, with its state.
+fn is_sound_kind(ram_len: u64, common: &Common, queues: &[Queue], kind: &Kind) -> bool
+    ensures { IsTrue result ↔ IsSoundKind ram_len (saved_device ram_len kind.now common.now queues.now []).registers kind.now }
 {
-    match (shape, own) {
-        (Shape::Net { .. }, Own::Network(inbox)) => {
+    match kind {
+        Kind::Network { inbox, .. } => {
             inbox.recall();
             true
         }
-        (
-            Shape::Block {
-                sectors,
-                read_only,
-                id,
-            },
-            Own::Block(requests),
-        ) => {
-            let shape = BlockShape {
-                sectors,
-                read_only,
-                id,
-                write_zeroes: accepts_zeroes(common),
-            };
+        Kind::Block {
+            sectors,
+            read_only,
+            id,
+            requests,
+        } => {
+            let shape = BlockShape::new(*sectors, *read_only, *id, common.features);
             are_requests_of(ram_len, is_packed(common), queues, &shape, requests)
         }
-        (Shape::Console, Own::Console { size, held }) => {
+        Kind::Console { size, held } => {
             recall_console(size, held);
             true
         }
-        (Shape::Entropy, Own::Entropy(pool)) => {
+        Kind::Entropy(pool) => {
             pool.recall();
             true
         }
-        _ => false,
     }
-}
-
-/// For proofs: the size and the held input of a console are sound (see the page of `guestmem`).
-fn recall_console(size: &ConsoleSize, held: &HostBytes)
-    ensures { IsSoundConsole size.now held.now }
-{
-    // Each field is read, so that it is known to fit its type.
-    let ConsoleSize {
-        columns: _columns,
-        rows: _rows,
-    } = *size;
-    held.recall();
 }
 
 /// Whether a block device with these queues may have these requests outstanding.
@@ -251,25 +227,9 @@ fn are_requests_of(
     ensures { IsTrue result ↔ IsSomeAnd (slice_get queues.now 0) (λ q. AreRequestsOf ram_len is_packed q shape.now requests.now) }
 {
     match queues {
-        [first, ..] => are_requests(ram_len, is_packed, first, shape, requests),
+        [first, ..] => requests.are_of(ram_len, is_packed, first, shape),
         [] => false,
     }
-}
-
-/// Whether a block device may have these requests outstanding: each must be sound, and there are none unless its queue is
-/// ready.
-fn are_requests(
-    ram_len: u64,
-    is_packed: bool,
-    queue: &Queue,
-    shape: &BlockShape,
-    requests: &Requests,
-) -> bool
-    ensures { IsTrue result ↔ AreRequestsOf ram_len is_packed queue.now shape.now requests.now }
-{
-    requests.len() <= REQUESTS_MAX
-        && requests.are_sound(ram_len, is_packed, queue.size, shape)
-        && (queue.is_ready || requests.is_empty())
 }
 
 fn is_packed(common: &Common) -> bool

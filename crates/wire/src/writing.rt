@@ -1,7 +1,7 @@
 //! Writes records to a sink, and their bytes to a tally.
 
 ghost use Rattle.std.specs.Prelude.{◌≡◌, ◌∷◌, ◌++◌, take, ◌≤◌, ◌<◌, ◌^◌, ◌/◌, ◌%◌, ℕ, List, IsTrue, OnOk, length};
-ghost use Rattle.wire.specs.DeviceBody.{body, held_text, own_text, queues_text};
+ghost use Rattle.wire.specs.DeviceBody.{body, held_text, kind_text, queues_text};
 ghost use Rattle.wire.specs.Numbers.{digits};
 ghost use Rattle.wire.specs.Header.{front, header, opening_of, spelled_shape, spelled_shapes};
 ghost use Rattle.wire.specs.Records.{page, page_record, round_end, device, zero_page, spelled_record};
@@ -23,7 +23,7 @@ use byteorder::{ByteOrder, LittleEndian};
 use chains::Positions;
 use console::HostBytes;
 use guestmem::is_zero;
-use machine::{DeviceState, Own, Shape};
+use machine::{DeviceState, Kind, Shape};
 use mmio::Queue;
 
 /// One past the greatest count of devices that the header's field can hold.
@@ -208,20 +208,20 @@ pub(crate) fn body_len(state: &DeviceState) -> u32
     ensures { result ≡ length (body state.now) % 2 ^ 32 }
 {
     let queues = state.positions().len() as u64;
-    let own = own_len(state.own()) as u64;
-    ((COMMON_LEN as u64 + QUEUE_LEN as u64 * queues + own) % LEN_END) as u32
+    let kind = kind_len(state.kind()) as u64;
+    ((COMMON_LEN as u64 + QUEUE_LEN as u64 * queues + kind) % LEN_END) as u32
 }
 
-/// The encoded length of the kind-specific state of a device, modulo 2^32.
+/// The encoded length of what only its kind of a device has, modulo 2^32.
 #[tactic(auto, unfolding(crate::specs::DeviceBody::size_text))]
-fn own_len(own: &Own) -> u32
-    ensures { result ≡ length (own_text own.now) % 2 ^ 32 }
+fn kind_len(kind: &Kind) -> u32
+    ensures { result ≡ length (kind_text kind.now) % 2 ^ 32 }
 {
-    match own {
-        Own::Network(inbox) => frames_len(inbox),
-        Own::Block(requests) => requests_len(requests),
-        Own::Console { held, .. } => (SIZE_LEN + COUNT_LEN + held.len()) as u32,
-        Own::Entropy(pool) => (COUNT_LEN + pool.len()) as u32,
+    match kind {
+        Kind::Network { inbox, .. } => frames_len(inbox),
+        Kind::Block { requests, .. } => requests_len(requests),
+        Kind::Console { held, .. } => (SIZE_LEN + COUNT_LEN + held.len()) as u32,
+        Kind::Entropy(pool) => (COUNT_LEN + pool.len()) as u32,
     }
 }
 
@@ -236,7 +236,7 @@ fn write_body<S: Sink, T: Tally>(
     let registers = state.registers();
     put(&common_bytes(&registers.common()), out, tally)?;
     write_queues(registers.queues(), state.positions(), out, tally)?;
-    write_own(state.own(), out, tally)
+    write_kind(state.kind(), out, tally)
 }
 
 fn write_queues<S: Sink, T: Tally>(
@@ -260,19 +260,19 @@ fn write_queues<S: Sink, T: Tally>(
     }
 }
 
-/// Writes the kind-specific state of a device.
-fn write_own<S: Sink, T: Tally>(own: &Own, out: &mut S, tally: &mut T) -> Result<(), SinkFault>
-    ensures out { Appends (S.state out.old) (own_text own.now) result (S.state out.new) }
-    ensures taken { OnOk result (Takes (T.has_taken tally.old) (own_text own.now) (T.has_taken tally.new)) }
+/// Writes what only its kind of a device has.
+fn write_kind<S: Sink, T: Tally>(kind: &Kind, out: &mut S, tally: &mut T) -> Result<(), SinkFault>
+    ensures out { Appends (S.state out.old) (kind_text kind.now) result (S.state out.new) }
+    ensures taken { OnOk result (Takes (T.has_taken tally.old) (kind_text kind.now) (T.has_taken tally.new)) }
 {
-    match own {
-        Own::Network(inbox) => write_frames(inbox, out, tally),
-        Own::Block(requests) => write_requests(requests, out, tally),
-        Own::Console { size, held } => {
+    match kind {
+        Kind::Network { inbox, .. } => write_frames(inbox, out, tally),
+        Kind::Block { requests, .. } => write_requests(requests, out, tally),
+        Kind::Console { size, held } => {
             put(&size_bytes(size), out, tally)?;
             write_held(held, out, tally)
         }
-        Own::Entropy(pool) => write_held(pool, out, tally),
+        Kind::Entropy(pool) => write_held(pool, out, tally),
     }
 }
 

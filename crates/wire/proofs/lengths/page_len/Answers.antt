@@ -1,4 +1,4 @@
-use Rattle.std.proofs.Common.{◌≡◌, ℕ, true, false, length, sym, ap, ◌∙◌}
+use Rattle.std.proofs.Common.{◌≡◌, true, false, length, sym, ap, ◌∙◌}
 use Rattle.wire.specs.Records.{Record, is_zero_page, spelled_record}
 use Rattle.wire.proofs.PageRecords.{as_page, as_zeros}
 use Rattle.wire.proofs.PartLengths.{length_page, length_zero_page}

@@ -1,4 +1,4 @@
-use Rattle.std.proofs.Common.{arith, rules, ◌≡◌, length, take, ℕ, ◌∙◌, ap}
+use Rattle.std.proofs.Common.{arith, rules, ◌≡◌, length, take, ◌∙◌, ap}
 use Rattle.std.proofs.lemmas.List.{take_all}
 use Rattle.guestmem.specs.Zeros.{are_zeros}
 use Rattle.wire.proofs.PageRecords.{page_is_of}
