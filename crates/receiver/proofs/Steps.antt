@@ -17,6 +17,7 @@ use Rattle.receiver.specs.Disks.{AreHonestDisks, all_marks_in, sizes_in}
 use Rattle.receiver.specs.Spots.{disks_before}
 use Rattle.receiver.specs.Taken.{AreTaken}
 use Rattle.receiver.proofs.Sectors.{IsChanged, changed, disk_below, honest_at, marks_kept, marks_length, marks_set, record_here, record_there, sizes_kept}
+use Rattle.machine.specs.Shapes.{made_as}
 use Rattle.machine.specs.First.{AreMarksOf, marks_in}
 use Rattle.machine.specs.Layout.{IsItemIn, Layout, item_at, number_of, size_of}
 use Rattle.machine.proofs.Numbering.{item_there, number_back, number_below}
@@ -218,9 +219,9 @@ all-snoc : (P : DeviceState → Type 0) (ds : List DeviceState) (d : DeviceState
 all-snoc P [] d h k = (k, tt)
 all-snoc P (t ∷ ds) d h k = (h.0, all-snoc P ds d h.1 k)
 
-shapes-snoc : (ds : List DeviceState) (d : DeviceState) → shapes_in (ds ++ d ∷ []) ≡ shapes_in ds ++ d.shape ∷ []
+shapes-snoc : (ds : List DeviceState) (d : DeviceState) → shapes_in (ds ++ d ∷ []) ≡ shapes_in ds ++ made_as d.kind ∷ []
 shapes-snoc [] d = refl
-shapes-snoc (t ∷ ds) d = ap (λ (x : List Shape). t.shape ∷ x) (shapes-snoc ds d)
+shapes-snoc (t ∷ ds) d = ap (λ (x : List Shape). made_as t.kind ∷ x) (shapes-snoc ds d)
 
 -- The shape that is next.
 pub next_shape : (shapes : List Shape) (n : ℕ) (shape : Shape) (others : List Shape) → drop n shapes ≡ shape ∷ others → take (n + 1) shapes ≡ take n shapes ++ shape ∷ []
@@ -244,7 +245,7 @@ more_device ds front opening others shape before i j n raw d h named spells next
     ∙ ap (λ (x : Record). h.entries ++ (device_records 0 i.devices.items ++ x ∷ [])) (sym last) ∙ ap (λ (x : List Record). h.entries ++ x) (sym (records-snoc 0 i.devices.items d)) in
     let size : length (i.devices.items ++ d ∷ []) ≡ n + 1 = omega (arith, length-append i.devices.items (d ∷ []), count) in
     let shown : shapes_in (i.devices.items ++ d ∷ []) ≡ take (n + 1) opening.shapes =
-    shapes-snoc i.devices.items d ∙ ap (λ (x : List Shape). x ++ d.shape ∷ []) (h.devices_are ∙ ap (λ (k : ℕ). take k opening.shapes) (sym count)) ∙ ap (λ (x : Shape). take n opening.shapes ++ x ∷ []) is.shape_is ∙ sym (next_shape opening.shapes n shape others here) in
+    shapes-snoc i.devices.items d ∙ ap (λ (x : List Shape). x ++ made_as d.kind ∷ []) (h.devices_are ∙ ap (λ (k : ℕ). take k opening.shapes) (sym count)) ∙ ap (λ (x : Shape). take n opening.shapes ++ x ∷ []) is.shape_is ∙ sym (next_shape opening.shapes n shape others here) in
     record {
       head = h.head;
       fits = h.fits;

@@ -17,7 +17,7 @@ use Rattle.receiver.proofs.Takings.{rounds_page, rounds_round, rounds_sector, ro
 use Rattle.wire.proofs.Unique.{body_spells, length_shapes, stream_begins}
 use Rattle.wire.proofs.ItemRecords.{named-snoc}
 use Rattle.receiver.specs.Good.{AreGood, AreNamed, devices_in}
-use Rattle.machine.specs.Shapes.{disk_sizes}
+use Rattle.machine.specs.Shapes.{disk_sizes, made_as}
 use Rattle.receiver.specs.Faults.{IsComplete, IsFront}
 use Rattle.receiver.specs.Fed.{device_records}
 use Rattle.receiver.specs.Receiving.{NoFault, HasRounds}
@@ -86,7 +86,7 @@ devices_good opening k acc (d ∷ ds) named count low here h has =
       record {
         spells = body_spells (4096 * opening.pages) k d (omega (arith, low)) h.0;
         has = tt;
-        may = record { named = named; next = sym count; shape = d.shape; others = shapes_in ds; here = here; state = d; is = record { shape_is = refl; sound = h.0; has = has.0; is = refl } };
+        may = record { named = named; next = sym count; shape = made_as d.kind; others = shapes_in ds; here = here; state = d; is = record { shape_is = refl; sound = h.0; has = has.0; is = refl } };
       },
       devices_good opening (k + 1) (acc ++ device k (body d) ∷ []) ds
           (λ item within. ap is_some (named-snoc item acc (device k (body d))) ∙ named item within)

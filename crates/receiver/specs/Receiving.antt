@@ -111,6 +111,13 @@ pub record HasBeenFed (r : Received) (b : List ℕ) : Type 0 where
   pub bytes : IsBytes b
   pub taken : IsTaken r.disks r.digest b r.held r.stage
 
+-- It takes no more, and has the same disks.
+pub record IsGivenUp (old new : Received) : Type 0 where
+  pub failed : new.failed ≡ true
+  pub disks : new.disks ≡ old.disks
+  pub sizes : new.sizes ≡ old.sizes
+  pub marks : new.marks ≡ old.marks
+
 -- What holds of each receiver. Bytes that wait for the rest of a record are fewer than the longest record has, and there is room
 -- for such a record once the header was read. After a refusal nothing is held. So many bytes as the record at the front is said to
 -- lack are still to come.

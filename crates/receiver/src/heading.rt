@@ -65,7 +65,8 @@ fn may_count(pages: u32, count: u32) -> bool
     1 <= pages && pages <= PAGES_MAX && 1 <= count && count <= DEVICES_MAX as u32
 }
 
-/// The header at the front of the bytes. `None` if it is incomplete, with no fault so far.
+/// The header at the front of the bytes, with at most sixteen shapes: what takes memory is the list of these. `None` if it is
+/// incomplete, with no fault so far: no more than 495 bytes are, so the first 496 of a stream tell what arrives, or its fault.
 pub fn read_heading(alloc: Global, bytes: &[u8]) -> Result<Option<Header>, RecvError>
     ensures read { IfOk result (λ found. MatchOption found (WaitsHead bytes.now)
         (λ h. (h.len ≤ length bytes.now) × Begins bytes.now (said h) (drop h.len bytes.now))) }

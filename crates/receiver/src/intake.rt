@@ -25,7 +25,7 @@ ghost use Rattle.receiver.specs.declared.recv_error.RecvError.TheVariants as err
 use crate::part::Part;
 use crate::recv_error::RecvError;
 use dirtylog::BitSet;
-use guestmem::{NoLog, NoMemory, PAGE_SIZE, Ram};
+use guestmem::{ArrivingRam, NoMemory, PAGE_SIZE};
 use machine::{DeviceState, Disk, SECTOR_SIZE, Shape};
 use sha2::{Digest, Sha256};
 use std::alloc::Global;
@@ -44,7 +44,7 @@ use wire::{
 pub struct Intake {
     pub version: u32,
     pub shapes: Vec<Shape>,
-    pub ram: Ram,
+    pub ram: ArrivingRam,
     pub named: BitSet,
     pub firsts: Vec<u32>,
     pub bad: Vec<BitSet>,
@@ -121,9 +121,8 @@ fn take_page(intake: &mut Intake, number: u32, bytes: &[u8])
     requires spells { HasSpelling (page number bytes.now) }
     ensures { (ds : List DiskState) (front : List ℕ) (opening : Opening) (before : List records.Record) → HasRead ds opening before intake.old front → devices_in before ≡ 0 → IsOf opening.version (page number bytes.now) → HasRead ds opening (before ++ page number bytes.now ∷ []) intake.new (front ++ spelled_record (page number bytes.now)) }
 {
-    intake
-        .ram
-        .put(number as u64 * PAGE_SIZE as u64, bytes, &mut NoLog);
+    intake.ram.recall();
+    intake.ram.put_page(number as u64, bytes);
     intake.named.insert(number as u64);
 }
 
@@ -133,11 +132,8 @@ fn take_zero_page(intake: &mut Intake, number: u32)
     requires marked { number < length intake.old.named }
     ensures { (ds : List DiskState) (front : List ℕ) (opening : Opening) (before : List records.Record) → HasRead ds opening before intake.old front → devices_in before ≡ 0 → opening.version ≡ 2 → HasRead ds opening (before ++ zero_page number ∷ []) intake.new (front ++ spelled_record (zero_page number)) }
 {
-    intake.ram.put(
-        number as u64 * PAGE_SIZE as u64,
-        &[0; PAGE_SIZE],
-        &mut NoLog,
-    );
+    intake.ram.recall();
+    intake.ram.clear_page(number as u64);
     intake.named.insert(number as u64);
 }
 

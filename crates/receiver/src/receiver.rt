@@ -1,8 +1,9 @@
 //! A receiver that is fed a stream in pieces.
 
-ghost use Rattle.std.specs.Prelude.{◌≡◌, All, map};
+ghost use Rattle.std.specs.Prelude.{◌≡◌, All, map, true};
 ghost use Rattle.wire.specs.Header.{Opening};
 ghost use Rattle.blk.specs.Disk.{AreSectors};
+ghost use Rattle.receiver.specs.Disks.{disk_marks_of, sizes_of};
 ghost use Rattle.receiver.specs.Receiving.{has_failed, rounds_in};
 
 use crate::intake::Intake;
@@ -52,13 +53,14 @@ impl<D: Disk + Drop> Receiver<D> {
     ghost use Rattle.wire.specs.Stream.{IsStream, shapes_in};
     ghost use Rattle.receiver.specs.declared.recv_error.RecvError.TheVariants as errors;
     ghost use Rattle.receiver.specs.Disks.{AreHonestDisks, MarksAfter, disk_marks_of, sizes_of};
-    ghost use Rattle.receiver.specs.Receiving.{HasBeenFed, HasDevice, NoFault, IsFinish, HasRounds, IsWholeFor, TellsNow};
+    ghost use Rattle.receiver.specs.Receiving.{HasBeenFed, HasDevice, NoFault, IsFinish, IsGivenUp, HasRounds, IsWholeFor, TellsNow};
 
     /// A receiver that was fed nothing, with these disks. It takes no memory.
     pub fn new(alloc: Global, disks: Vec<D>) -> Receiver<D>
         ensures fed { HasBeenFed result [] }
         ensures sizes { result.sizes ≡ sizes_of D.state disks.items }
         ensures marks { result.marks ≡ disk_marks_of D.state disks.items }
+        ensures disks { result.disks ≡ map D.state disks.items }
     {
         Receiver {
             alloc,
@@ -170,6 +172,24 @@ impl<D: Disk + Drop> Receiver<D> {
         ensures memory { result ≡ Err errors.NoMemory → (b : List ℕ) → HasBeenFed self b → IsWholeFor self.sizes b }
         ensures already { self.failed ≡ true → result ≡ Err errors.AlreadyFailed }
     {
+        match self.finish_or_back() {
+            Ok(machine) => Ok(machine),
+            Err((error, _receiver)) => Err(error),
+        }
+    }
+
+    /// As `finish`, but a refusal gives a receiver back that takes no more, with the disks.
+    pub fn finish_or_back(self) -> Result<Machine<D>, (RecvError, Receiver<D>)>
+        ensures received { IfOk result (λ m. AreHonestDisks self.marks → (b : List ℕ) → HasBeenFed self b → IsStream b (state_of m)) }
+        ensures marks { IfOk result (λ m. all_marks m ≡ dealt_marks (shapes_in (state_of m).devices) self.marks) }
+        ensures fits { IfOk result (λ m. self.sizes ≡ disk_sizes (shapes_in (state_of m).devices)) }
+        ensures refused { IfErr result (λ x. (b : List ℕ) → HasBeenFed self b → IsFinish b x.0) }
+        ensures whole { OnOk result ((b : List ℕ) → HasBeenFed self b → IsWholeFor self.sizes b) }
+        ensures memory { IfErr result (λ x. x.0 ≡ errors.NoMemory → (b : List ℕ) → HasBeenFed self b → IsWholeFor self.sizes b) }
+        ensures already { self.failed ≡ true → IfErr result (λ x. x.0 ≡ errors.AlreadyFailed) }
+        ensures goes_on { OnOk result (self.failed ≡ false) }
+        ensures back { IfErr result (λ x. IsGivenUp self x.1) }
+    {
         let Receiver {
             alloc,
             disks,
@@ -192,15 +212,56 @@ impl<D: Disk + Drop> Receiver<D> {
                     devices,
                 } = intake;
                 ram.recall();
-                match Machine::restore(alloc, ram, shapes, devices, disks, bad) {
+                let ram = ram.into_ram();
+                match Machine::restore_or_back(alloc, ram, shapes, devices, disks, bad) {
                     Ok(machine) => Ok(machine),
-                    Err(_) => Err(RecvError::NoMemory),
+                    Err(disks) => Err((RecvError::NoMemory, given_up(alloc, disks))),
                 }
             }
-            Stage::Failed => Err(RecvError::AlreadyFailed),
-            Stage::Records(_) => Err(RecvError::Truncated),
-            Stage::Head => Err(RecvError::Truncated),
+            Stage::Failed => Err((RecvError::AlreadyFailed, given_up(alloc, disks))),
+            Stage::Records(_) => Err((RecvError::Truncated, given_up(alloc, disks))),
+            Stage::Head => Err((RecvError::Truncated, given_up(alloc, disks))),
         }
+    }
+
+    /// How many disks it has.
+    pub fn disk_count(&self) -> usize
+        ensures { result ≡ length self.now.sizes }
+    {
+        self.disks.len()
+    }
+
+    /// The disks. What they hold of a stream that is not whole is some of its sectors.
+    pub fn into_disks(self) -> Vec<D>
+        ensures disks { map D.state result.items ≡ self.disks }
+        ensures sizes { sizes_of D.state result.items ≡ self.sizes }
+    {
+        let Receiver {
+            alloc: _,
+            disks,
+            held: _,
+            taken: _,
+            stage: _,
+            lacking: _,
+        } = self;
+        disks
+    }
+}
+
+/// A receiver that was refused, with these disks. It takes no memory.
+fn given_up<D: Disk>(alloc: Global, disks: Vec<D>) -> Receiver<D>
+    ensures failed { result.failed ≡ true }
+    ensures disks { result.disks ≡ map D.state disks.items }
+    ensures sizes { result.sizes ≡ sizes_of D.state disks.items }
+    ensures marks { result.marks ≡ disk_marks_of D.state disks.items }
+{
+    Receiver {
+        alloc,
+        disks,
+        held: Vec::new(alloc),
+        taken: Sha256::new(),
+        stage: Stage::Failed,
+        lacking: 0,
     }
 }
 

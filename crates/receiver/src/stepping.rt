@@ -19,7 +19,7 @@ use crate::intake::{Intake, work_off};
 use crate::recv_error::RecvError;
 use crate::stage::Stage;
 use dirtylog::BitSet;
-use guestmem::{NoMemory, Ram};
+use guestmem::{ArrivingRam, NoMemory};
 use machine::{Disk, Shape, are_disks_of};
 use sha2::{Digest, Sha256};
 use std::alloc::Global;
@@ -64,7 +64,7 @@ fn new_intake<D: Disk>(alloc: Global, disks: &[D], heading: Header) -> Result<In
     } = heading;
     let (firsts, count) = number_items(alloc, pages, &shapes)?;
     let bad = new_marks(alloc, disks)?;
-    let ram = Ram::new(alloc, pages)?;
+    let ram = ArrivingRam::new(alloc, pages)?;
     let named = BitSet::new(alloc, count as u64)?;
     let devices = Vec::new(alloc);
     Ok(Intake {

@@ -10,24 +10,24 @@ use Rattle.receiver.specs.declared.stage.Stage.TheVariants as stages
 use Rattle.receiver.proofs.Feeding.{marks_mapped}
 use Rattle.receiver.proofs.Knowing.{come_of, read_sound, whole_for, whole_shapes, whole_stream}
 use Rattle.receiver.proofs.Streams.{no_stream_head, no_stream_reading}
-use Rattle.receiver.proofs.receiver.Receiver.finish.Goals as goal
+use Rattle.receiver.proofs.receiver.Receiver.finish_or_back.Goals as goal
 
-pub restore-requires-clause-sound : goal.restore-requires-clause-sound
-restore-requires-clause-sound g c =
+pub restore_or_back-requires-clause-sound : goal.restore_or_back-requires-clause-sound
+restore_or_back-requires-clause-sound g c =
     let kept : IsReceiver (map g.D.Disk.state c.self.inside.disks.items) c.self.inside.taken c.self.inside.held.items _ _ c.self.inside.stage = c.self.invariant in
     let known = (rw c.in-Ended.is at kept.known) refl in
     let h = known.1.1 in
-    read_sound h.ended.read (h.ended.complete.devices refl) c.recall.ensures.bytes (rw c.deref.ensures.value at c.recall_disks.ensures)
+    rw c.into_ram-ram.ensures (read_sound h.ended.read (h.ended.complete.devices refl) c.recall.ensures.bytes (rw c.deref.ensures.value at c.recall_disks.ensures))
 
-pub restore-requires-clause-shapes : goal.restore-requires-clause-shapes
-restore-requires-clause-shapes g c =
+pub restore_or_back-requires-clause-shapes : goal.restore_or_back-requires-clause-shapes
+restore_or_back-requires-clause-shapes g c =
     let kept : IsReceiver (map g.D.Disk.state c.self.inside.disks.items) c.self.inside.taken c.self.inside.held.items _ _ c.self.inside.stage = c.self.invariant in
     let known = (rw c.in-Ended.is at kept.known) refl in
     let h = known.1.1 in
     h.ended.read.shapes_are ∙ sym (whole_shapes h.ended.read (h.ended.complete.devices refl))
 
-pub restore-requires-clause-bad : goal.restore-requires-clause-bad
-restore-requires-clause-bad g c =
+pub restore_or_back-requires-clause-bad : goal.restore_or_back-requires-clause-bad
+restore_or_back-requires-clause-bad g c =
     let kept : IsReceiver (map g.D.Disk.state c.self.inside.disks.items) c.self.inside.taken c.self.inside.held.items _ _ c.self.inside.stage = c.self.invariant in
     let known = (rw c.in-Ended.is at kept.known) refl in
     known.1.1.ended.read.marks_are
@@ -40,7 +40,7 @@ returns-in-Ok-clause-received g c = λ honest b f.
     let h = come_of _ c.self.inside.taken b c.self.inside.held.items c.in-Ended.intake ended in
     let trusted : AreHonestDisks (disk_marks_of g.D.Disk.state c.self.inside.disks.items) = subst AreHonestDisks (sym (ap (λ (v : Received). v.marks) c.self.view_is)) honest in
     let sound = read_sound h.ended.read (h.ended.complete.devices refl) c.recall.ensures.bytes (rw c.deref.ensures.value at c.recall_disks.ensures) in
-    rw (c.in-Ok.ensures.restored) (whole_stream _ b h.opening c.in-Ended.intake h.ended sound trusted)
+    rw (c.in-Ok.ensures.restored, c.into_ram-ram.ensures) (whole_stream _ b h.opening c.in-Ended.intake h.ended sound trusted)
 
 pub returns-in-Ok-clause-marks : goal.returns-in-Ok-clause-marks
 returns-in-Ok-clause-marks g c =
