@@ -4,7 +4,7 @@ use Rattle.std.proofs.lemmas.List.{length-map}
 use Rattle.std.specs.Prelude.{All}
 use Rattle.guestmem.specs.Item.{sector}
 use Rattle.machine.specs.EffectLaws.{HasItem}
-use Rattle.machine.specs.Shapes.{sector_count}
+use Rattle.machine.specs.Shapes.{sector_count, made_as}
 use Rattle.machine.specs.Sound.{IsSound, IsSoundDevice, IsSoundShape}
 use Rattle.machine.specs.State.{DeviceState, MachineState}
 use Rattle.machine.specs.declared.shape.Shape.{Shape}
@@ -17,9 +17,9 @@ count_at [] dev other below = absurd (omega (arith, below))
 count_at (shape ∷ shapes) zero other below = refl
 count_at (shape ∷ shapes) (suc dev) other below = count_at shapes dev other (omega (arith, below))
 
-pub size_told : (m : MachineState) (shapes : List Shape) (dev : ℕ) (other : Shape) → IsSound m → shapes ≡ map (λ (d : DeviceState). d.shape) m.devices → dev < length m.devices → sector_count (get_or shapes dev other) ≡ size_on m dev
+pub size_told : (m : MachineState) (shapes : List Shape) (dev : ℕ) (other : Shape) → IsSound m → shapes ≡ map (λ (d : DeviceState). made_as d.kind) m.devices → dev < length m.devices → sector_count (get_or shapes dev other) ≡ size_on m dev
 size_told m shapes dev other sound are below =
-    let long : length shapes ≡ length m.devices = ap length are ∙ length-map m.devices (λ (d : DeviceState). d.shape) in
+    let long : length shapes ≡ length m.devices = ap length are ∙ length-map m.devices (λ (d : DeviceState). made_as d.kind) in
     let sizes : map length m.disks ≡ map sector_count shapes = sound.disks ∙ shape_counts m.devices ∙ sym (ap (map sector_count) are) in
     count_at shapes dev other (omega (arith, long, below)) ∙ sym (ap (λ counts. get_or counts dev 0) sizes)
 
@@ -29,12 +29,12 @@ few_in (Block sectors read_only id) sound = omega (arith, sound.few)
 few_in Console sound = omega arith
 few_in Entropy sound = omega arith
 
-few_at : (bytes : ℕ) (ds : List DeviceState) (dev : ℕ) (other : Shape) → All (IsSoundDevice bytes) ds → dev < length ds → sector_count (get_or (map (λ (d : DeviceState). d.shape) ds) dev other) ≤ 4294967295
+few_at : (bytes : ℕ) (ds : List DeviceState) (dev : ℕ) (other : Shape) → All (IsSoundDevice bytes) ds → dev < length ds → sector_count (get_or (map (λ (d : DeviceState). made_as d.kind) ds) dev other) ≤ 4294967295
 few_at bytes [] dev other are below = absurd (omega (arith, below))
-few_at bytes (d ∷ ds) zero other are below = few_in d.shape (are 0 d (omega arith)).shape
+few_at bytes (d ∷ ds) zero other are below = few_in (made_as d.kind) (are 0 d (omega arith)).shape
 few_at bytes (d ∷ ds) (suc dev) other are below = few_at bytes ds dev other (λ k e h. are (suc k) e (omega (arith, h))) (omega (arith, below))
 
-pub few_told : (m : MachineState) (shapes : List Shape) (dev : ℕ) (other : Shape) → IsSound m → shapes ≡ map (λ (d : DeviceState). d.shape) m.devices → dev < length m.devices → sector_count (get_or shapes dev other) ≤ 4294967295
+pub few_told : (m : MachineState) (shapes : List Shape) (dev : ℕ) (other : Shape) → IsSound m → shapes ≡ map (λ (d : DeviceState). made_as d.kind) m.devices → dev < length m.devices → sector_count (get_or shapes dev other) ≤ 4294967295
 few_told m shapes dev other sound are below = subst (λ xs. sector_count (get_or xs dev other) ≤ 4294967295) (sym are) (few_at (length m.ram) m.devices dev other sound.devices below)
 
 pub sector_there : (m now : MachineState) (dev n : ℕ) → IsSound m → now ≡ m → n < size_on m dev → HasItem now (sector dev n)
@@ -42,4 +42,4 @@ sector_there m now dev n sound same below = subst (λ (k : MachineState). HasIte
 
 -- There are as many disks as devices.
 pub disks_long : (m : MachineState) → IsSound m → length m.disks ≡ length m.devices
-disks_long m sound = sym (length-map m.disks length) ∙ ap length sound.disks ∙ length-map m.devices (λ (d : DeviceState). sector_count d.shape)
+disks_long m sound = sym (length-map m.disks length) ∙ ap length sound.disks ∙ length-map m.devices (λ (d : DeviceState). sector_count (made_as d.kind))

@@ -4,6 +4,7 @@ use Rattle.std.proofs.lemmas.Bool.{eqb-true, eq-eqb}
 use Rattle.std.proofs.lemmas.List.{length-map, take_more}
 use Rattle.std.specs.Prelude.{◌↔◌}
 use Rattle.guestmem.specs.Item.{page, sector}
+use Rattle.machine.specs.Shapes.{made_as}
 use Rattle.machine.specs.EffectLaws.{HasItem}
 use Rattle.machine.specs.Layout.{firsts_from, firsts_of, item_at, layout_of, pages_of, sector_from, size_from, size_of}
 use Rattle.machine.specs.Sound.{IsSound}
@@ -22,8 +23,8 @@ length-firsts (size ∷ sizes) first = ap suc (length-firsts sizes (first + size
 pub sizes_long : (m : MachineState) → IsSound m → length (map length m.disks) ≡ length m.devices
 sizes_long m sound = length-map m.disks length ∙ disks_long m sound
 
-pub shapes_long : (m : MachineState) (shapes : List Shape) → shapes ≡ map (λ (d : DeviceState). d.shape) m.devices → length shapes ≡ length m.devices
-shapes_long m shapes are = ap length are ∙ length-map m.devices (λ (d : DeviceState). d.shape)
+pub shapes_long : (m : MachineState) (shapes : List Shape) → shapes ≡ map (λ (d : DeviceState). made_as d.kind) m.devices → length shapes ≡ length m.devices
+shapes_long m shapes are = ap length are ∙ length-map m.devices (λ (d : DeviceState). made_as d.kind)
 
 -- What holds as the disks are gone through: so many are behind, and the next one begins here.
 pub record IsAt (m : MachineState) (dev first : ℕ) : Type 0 where

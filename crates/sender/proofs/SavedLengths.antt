@@ -1,7 +1,7 @@
 -- How long the parts of a saved machine are.
-use Rattle.std.proofs.Common.{◌≡◌, ℕ, zero, suc, ◌+◌, ◌-◌, ◌*◌, ◌<◌, ◌≤◌, Bool, true, false, List, [], ◌∷◌, ◌++◌, length, map, take, drop, get_or, Some, None, refl, ap, sym, subst, ◌∙◌, arith}
-use Rattle.std.specs.Prelude.{All, count_by, slice_get, slice_index}
-use Rattle.std.proofs.lemmas.List.{length-append, length-drop, length-map, length-take-le, take_all}
+use Rattle.std.proofs.Common.{◌≡◌, ℕ, zero, suc, ◌+◌, ◌-◌, ◌*◌, ◌<◌, ◌≤◌, List, [], ◌∷◌, ◌++◌, length, map, take, get_or, Some, None, refl, ap, sym, subst, ◌∙◌, arith}
+use Rattle.std.specs.Prelude.{All, count_by, slice_get}
+use Rattle.std.proofs.lemmas.List.{length-append, length-map, take_all}
 use Rattle.std.proofs.lemmas.List.Elements.{All-map}
 use Rattle.std.proofs.lemmas.Option.{get_or_from_slice_get, slice_get_within}
 use Rattle.std.proofs.lemmas.List.Sums.{count_by-le-length, count_by_more_no, count_by_more_yes}
@@ -10,8 +10,9 @@ use Rattle.sha2.proofs.Facts256.{length-sha256}
 use Rattle.guestmem.specs.Item as item
 use Rattle.guestmem.specs.Page.{page_of}
 use Rattle.blk.specs.Sectors.{AreWhole, IsWhole, Sector, is_bad}
+use Rattle.machine.specs.Shapes.{made_as}
 use Rattle.machine.specs.EffectLaws.{sector_on}
-use Rattle.machine.specs.Layout.{item_at, layout_of, pages_of}
+use Rattle.machine.specs.Layout.{pages_of}
 use Rattle.machine.specs.Sound.{IsSound, IsSoundDevice, IsSoundShape}
 use Rattle.machine.specs.State.{DeviceState, MachineState}
 use Rattle.machine.specs.Step.{disk_of, disk_or_none}
@@ -24,7 +25,7 @@ use Rattle.wire.specs.Stream.{content_of, device_texts, record_of, records_below
 use Rattle.wire.proofs.Digits.{length-digits}
 use Rattle.wire.proofs.Saving.{device_more}
 use Rattle.sender.specs.Items.{disk_text, first_sector, front_text, records_from, sectors_text, size_on}
-use Rattle.sender.proofs.Parts.{none_from, no_records, page_more, saved_in_parts, sector_more}
+use Rattle.sender.proofs.Parts.{none_from, page_more, saved_in_parts, sector_more}
 
 -- Records, one by one.
 length_good : (d n : ℕ) (b : List ℕ) → length b ≡ 512 → length (spelled_record (sector d n (Some b))) ≡ 519
@@ -105,12 +106,12 @@ pub device_is_sound : (m : MachineState) (n : ℕ) (d : DeviceState) → IsSound
 device_is_sound m n d sound is = subst (IsSoundDevice (length m.ram)) (get_or_from_slice_get m.devices n d d is) (sound.devices n d (slice_get_within m.devices n d is))
 
 pub shapes_are_sound : (m : MachineState) → IsSound m → All IsSoundShape (shapes_in m.devices)
-shapes_are_sound m sound = All-map IsSoundShape (λ (d : DeviceState). d.shape) m.devices (λ k d below. (sound.devices k d below).shape)
+shapes_are_sound m sound = All-map IsSoundShape (λ (d : DeviceState). made_as d.kind) m.devices (λ k d below. (sound.devices k d below).shape)
 
 pub one_device : (m : MachineState) (n : ℕ) (d : DeviceState) → slice_get m.devices n ≡ Some d → n < length m.devices
     → length (device_texts 0 (take (n + 1) m.devices)) ≡ length (device_texts 0 (take n m.devices)) + length (spelled_record (device n (body d)))
 one_device m n d is below =
-    let more = device_more [] m.devices (shapes_in m.devices) d n refl (omega (arith, below, length-map m.devices (λ (x : DeviceState). x.shape))) is in
+    let more = device_more [] m.devices (shapes_in m.devices) d n refl (omega (arith, below, length-map m.devices (λ (x : DeviceState). made_as x.kind))) is in
     sym (ap length more) ∙ length-append (device_texts 0 (take n m.devices)) (spelled_record (device n (body d)))
 
 -- All parts.

@@ -5,6 +5,7 @@ use Rattle.sha2.specs.Hashers.{Holds256}
 use Rattle.sha2.specs.Sha256.{sha256}
 use Rattle.sha2.specs.declared.Sha256.{Sha256}
 use Rattle.guestmem.specs.Item as items
+use Rattle.machine.specs.Shapes.{made_as}
 use Rattle.machine.specs.Layout.{item_at, layout_of, pages_of}
 use Rattle.machine.specs.Seen.{Seen}
 use Rattle.machine.specs.State.{DeviceState, MachineState}
@@ -29,7 +30,7 @@ use Rattle.sender.proofs.Living.{seen_same}
 pub wrote_by : {A E : Type 0} (old new : LiveSeen) (x y : List ℕ) (done : A) → x ≡ y → Appends {E = E} old.out x (Ok done) new.out → Takes (λ b. Holds256 old.digest b) x (λ b. Holds256 new.digest b) → Wrote old new y
 wrote_by old new x y done e appends takes = rw (← e) (record { took = record { count = appends.count; holds = λ disks. appends.holds }; taken = λ disks. takes })
 
-pub header_told : (m : MachineState) (pages : ℕ) (shapes : List Shape) → pages ≡ pages_of m → shapes ≡ map (λ (d : DeviceState). d.shape) m.devices → header (opening_of pages shapes) ≡ header_of m
+pub header_told : (m : MachineState) (pages : ℕ) (shapes : List Shape) → pages ≡ pages_of m → shapes ≡ map (λ (d : DeviceState). made_as d.kind) m.devices → header (opening_of pages shapes) ≡ header_of m
 header_told m pages shapes e f = rw (e, f) refl
 
 pub served_begin : (old new : LiveSeen) → refusal_for old.phase events.Begin ≡ None → Begins old new → Serves old events.Begin (r.Begun 1) new

@@ -8,8 +8,10 @@ use Rattle.machine.specs.Effect.{items_of}
 use Rattle.machine.specs.EffectLaws.{sector_on, sectors_on}
 use Rattle.machine.specs.Layout.{firsts_of, item_at, layout_of, number_in, size_of}
 use Rattle.machine.specs.Seen.{AreHonest, all_marks, failed_at, marks_at}
+use Rattle.machine.specs.Stepped.{reply_in}
 use Rattle.machine.specs.declared.event.Event.{Event}
 use Rattle.machine.specs.declared.reply.Reply.{Reply}
+use Rattle.machine.specs.declared.stepped.Stepped.{Stepped}
 use Rattle.wire.specs.Records.{round_end, spelled_record}
 use Rattle.wire.specs.Stream.{texts}
 use Rattle.sender.specs.LiveState.{LiveSeen, chosen, closing, header_of, item_of, now, pages_among, records_of, refusal_for, sectors_among}
@@ -186,6 +188,11 @@ Serves old e reply new = MatchOption (refusal_for old.phase e) (Does old e reply
 abbrev pub guest_reply : Result Reply MigError → LiveReply
 guest_reply (Ok reply) = r.Guest reply
 guest_reply (Err e) = r.Mig e
+
+-- The result of a step whose message is in a buffer that holds these bytes.
+abbrev pub stepped_result : Result Stepped MigError → List ℕ → Result Reply MigError
+stepped_result (Ok stepped) sent = Ok (reply_in stepped sent)
+stepped_result (Err e) sent = Err e
 
 abbrev pub begun_reply : Result ℕ MigError → LiveReply
 begun_reply (Ok k) = r.Begun k

@@ -6,7 +6,7 @@ ghost use Rattle.sha2.specs.Hashers.{Holds256};
 ghost use Rattle.machine.specs.declared.event.Event.TheVariants as events;
 ghost use Rattle.machine.specs.Layout.{layout_of, size_of};
 ghost use Rattle.sender.specs.LiveState.{now, refusal_for};
-ghost use Rattle.sender.specs.Calls.{Serves, begun_reply, copied_reply, ended_reply, guest_reply, stopped_reply};
+ghost use Rattle.sender.specs.Calls.{Serves, begun_reply, copied_reply, ended_reply, guest_reply, stepped_result, stopped_reply};
 ghost use Rattle.sender.specs.Stopping.{Closes, HasNoneUpTo, HasPlaces, SendsAll, SendsItem, lesser, one_more, phase_after};
 
 use crate::dirty::Dirty;
@@ -16,7 +16,7 @@ use crate::numbering::{item_at, number_items, page_count};
 use crate::phase::Phase;
 use crate::saving::{send_item, write_devices, write_end};
 use dirtylog::BitSet;
-use machine::{Disk, Event, Machine, Reply};
+use machine::{Disk, Event, Machine, Reply, Stepped};
 use sha2::{Digest, Sha256};
 use std::alloc::{AllocError, Global};
 use std::marker::Model;
@@ -181,6 +181,59 @@ impl<D: Disk, W: Sink> Live<D, W> {
             return Err(MigError::AlreadyStopped);
         }
         Ok(self.source.apply_logged(event, &mut self.changed))
+    }
+
+    /// The driver reads a register. As `apply` of that event.
+    pub fn read_register(&mut self, dev: u8, offset: u32, width: u8) -> Result<Reply, MigError>
+        ensures { Serves self.old (LiveEvent.Guest (events.RegRead dev offset width)) (guest_reply result) self.new }
+    {
+        if let Phase::Stopped = self.stage {
+            return Err(MigError::AlreadyStopped);
+        }
+        let answer = self.source.read_register(dev, offset, width);
+        Ok(Reply::from_value(answer))
+    }
+
+    /// The driver writes a register. As `apply` of that event.
+    pub fn write_register(
+        &mut self,
+        dev: u8,
+        offset: u32,
+        width: u8,
+        value: u32,
+    ) -> Result<Reply, MigError>
+        ensures { Serves self.old (LiveEvent.Guest (events.RegWrite dev offset width value)) (guest_reply result) self.new }
+    {
+        if let Phase::Stopped = self.stage {
+            return Err(MigError::AlreadyStopped);
+        }
+        let answer = self.source.write_register(dev, offset, width, value);
+        Ok(Reply::from_written(answer))
+    }
+
+    /// The host sets the size of a console, in characters. As `apply` of that event.
+    pub fn resize(&mut self, dev: u8, cols: u16, rows: u16) -> Result<Reply, MigError>
+        ensures { Serves self.old (LiveEvent.Guest (events.Resize dev cols rows)) (guest_reply result) self.new }
+    {
+        if let Phase::Stopped = self.stage {
+            return Err(MigError::AlreadyStopped);
+        }
+        let answer = self.source.resize(dev, cols, rows);
+        Ok(Reply::from_done(answer))
+    }
+
+    /// A device does one piece of its work, which the pick names. As `apply` of that event; the bytes of a message go into the buffer,
+    /// which is cut or grows to them, and where none is sent it may hold anything.
+    pub fn step_into(&mut self, dev: u8, pick: u8, sent: &mut Vec<u8>) -> Result<Stepped, MigError>
+        ensures { Serves self.old (LiveEvent.Guest (events.Step dev pick)) (guest_reply (stepped_result result sent.new.items)) self.new }
+    {
+        if let Phase::Stopped = self.stage {
+            return Err(MigError::AlreadyStopped);
+        }
+        Ok(
+            self.source
+                .step_into_logged(dev, pick, sent, &mut self.changed),
+        )
     }
 
     /// The guest writes bytes into RAM from address `addr` on. As `apply` of that event, whose bytes need not be

@@ -4,9 +4,10 @@ use Rattle.std.specs.Prelude.{◌==◌, nat_lt}
 use Rattle.std.specs.List.{AllByRecursion}
 use Rattle.std.proofs.lemmas.List.Elements.{All-from_recursion}
 use Rattle.guestmem.specs.declared.limits.TheConstants.{PAGES_MAX}
+use Rattle.machine.proofs.MadeAs.{first_as}
 use Rattle.machine.specs.First.{are_beyond, are_same, dealt_marks, first_machine, marks_in, new_refusal}
 use Rattle.machine.specs.Seen.{Marks, Seen, all_marks, state_of}
-use Rattle.machine.specs.Shapes.{disk_sizes, first_device}
+use Rattle.machine.specs.Shapes.{disk_sizes, first_device, made_as}
 use Rattle.machine.specs.State.{DeviceState}
 use Rattle.machine.specs.declared.machine.TheConstants.{DEVICES_MAX}
 use Rattle.machine.specs.declared.new_error.NewError.{NewError}
@@ -145,9 +146,10 @@ pub tells_memory : (c : Contents) (shapes : List Shape) (fault : Fault) → shap
 tells_memory c shapes fault of none is = tells c shapes fault of (memory_by (new_refusal c.pages shapes (disk_sizes shapes)) fault none is)
 
 -- Its disks fit, whatever it then answers.
-pub first_shapes : (ram_len : ℕ) (shapes : List Shape) → map (λ (d : DeviceState). d.shape) (map (first_device ram_len) shapes) ≡ shapes
+pub first_shapes : (ram_len : ℕ) (shapes : List Shape) → map (λ (d : DeviceState). made_as d.kind) (map (first_device ram_len) shapes) ≡ shapes
 first_shapes ram_len [] = refl
-first_shapes ram_len (shape ∷ shapes) = ap (λ xs. shape ∷ xs) (first_shapes ram_len shapes)
+first_shapes ram_len (shape ∷ shapes) =
+    ap (λ first. first ∷ map (λ (d : DeviceState). made_as d.kind) (map (first_device ram_len) shapes)) (first_as shape) ∙ ap (λ xs. shape ∷ xs) (first_shapes ram_len shapes)
 
 -- A rehearsal of it over such disks.
 pub is_rehearsed : {D E : Type 0} (c : Contents) (machine : Seen) (shapes : List Shape) (events : List LiveEvent) (disks : List (List (List ℕ))) (rehearsal : Rehearsal D E) → IsFresh c machine → shapes ≡ c.shapes → events ≡ c.events → disks ≡ zero_disks shapes

@@ -44,11 +44,11 @@ pub use dirtylog::BitSet;
 pub use fault_writer::FaultWriter;
 pub use guestmem::{ACCESS_MAX, NoMemory, PAGE_SIZE, PAGES_MAX, Ram, RamError, Touched, is_zero};
 pub use machine::{
-    Bytes, DEVICES_MAX, DeviceState, Disk, DiskFault, Event, FaultDisk, FileDisk, Machine, MemDisk,
-    NewError, Own, Refusal, Reply, SECTOR_SIZE, SECTORS_MAX, Shape, Work,
+    Bytes, DEVICES_MAX, DeviceState, Disk, DiskFault, Event, FaultDisk, FileDisk, Kind, Machine,
+    MemDisk, NewError, Refusal, Reply, SECTOR_SIZE, SECTORS_MAX, Shape, Stepped, Work,
 };
 pub use program::execute;
-pub use receiver::{Receiver, RecvError, receive};
+pub use receiver::{Receiver, RecvError, read_heading, receive};
 pub use rehearsal::{Rehearsal, rehearse};
 pub use sender::{
     CopyAnswer, End, Item, Live, LiveEvent, LiveReply, MigError, Phase, Remaining, Replay, Stopped,

@@ -1,16 +1,16 @@
-use Rattle.std.proofs.Common.{◌≡◌, ◌≤◌, ◌<◌, ◌+◌, ◌*◌, ℕ, [], length, take, refl, ap, sym, ◌∙◌, arith}
-use Rattle.std.proofs.lemmas.List.{length-append, length-map}
+use Rattle.std.proofs.Common.{[], length, ap, sym, ◌∙◌, arith}
+use Rattle.std.proofs.lemmas.List.{length-map}
+use Rattle.machine.specs.Shapes.{made_as}
 use Rattle.machine.specs.Seen.{state_of}
 use Rattle.machine.specs.State.{DeviceState}
-use Rattle.wire.specs.Stream.{device_texts}
-use Rattle.wire.proofs.Saving.{device_more, no_devices}
+use Rattle.wire.proofs.Saving.{no_devices}
 use Rattle.sender.proofs.SavedLengths.{device_is_sound, one_device}
 use Rattle.sender.proofs.measuring.devices_len.Goals as goal
 
 pub loop-number-init : goal.loop-number-init
 loop-number-init g c =
     let m = state_of c.args.machine.now in
-    let end = ap length c.shapes.ensures.shapes ∙ length-map m.devices (λ (d : DeviceState). d.shape) in
+    let end = ap length c.shapes.ensures.shapes ∙ length-map m.devices (λ (d : DeviceState). made_as d.kind) in
     record {
       sound = c.shapes.ensures.sound;
       end = end;

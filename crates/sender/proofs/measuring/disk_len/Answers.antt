@@ -1,6 +1,6 @@
-use Rattle.std.proofs.Common.{◌≡◌, ◌≤◌, ◌<◌, ◌+◌, ◌-◌, ◌*◌, Fits, w64, arith}
+use Rattle.std.proofs.Common.{arith}
 use Rattle.machine.specs.Seen.{state_of}
-use Rattle.sender.proofs.SavedLengths.{IsCounted, disk_told, few_bad}
+use Rattle.sender.proofs.SavedLengths.{disk_told, few_bad}
 use Rattle.sender.proofs.measuring.disk_len.Goals as goal
 
 pub overflow_sub-good : goal.overflow_sub-good

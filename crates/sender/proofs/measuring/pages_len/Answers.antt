@@ -1,8 +1,7 @@
-use Rattle.std.proofs.Common.{rules, ◌≡◌, ◌≤◌, ◌<◌, ◌+◌, ◌*◌, [], length, ap, sym, arith}
+use Rattle.std.proofs.Common.{rules, ◌≡◌, ◌<◌, [], length, ap, sym, arith}
 use Rattle.guestmem.specs.Page.{page_of}
 use Rattle.machine.specs.Layout.{pages_of}
 use Rattle.machine.specs.Seen.{state_of}
-use Rattle.wire.specs.Stream.{records_below, texts}
 use Rattle.sender.proofs.Parts.{no_records}
 use Rattle.sender.proofs.SavedLengths.{one_page_long}
 use Rattle.sender.proofs.measuring.pages_len.Goals as goal

@@ -1,5 +1,4 @@
 use Rattle.std.proofs.Common.{◌≡◌, ◌≤◌, ◌*◌, length}
-use Rattle.machine.specs.Layout.{pages_of}
 use Rattle.machine.specs.Seen.{state_of}
 use Rattle.machine.specs.Sound.{IsSound}
 use Rattle.wire.specs.Stream.{records_below, texts}

@@ -1,8 +1,7 @@
-use Rattle.std.proofs.Common.{◌≡◌, ◌+◌, ◌*◌, length, map, subst, sym, ap, arith}
+use Rattle.std.proofs.Common.{subst, sym, arith}
 use Rattle.std.specs.Prelude.{All}
 use Rattle.machine.specs.Seen.{state_of}
 use Rattle.machine.specs.Sound.{IsSoundShape}
-use Rattle.machine.specs.declared.shape.Shape.{Shape}
 use Rattle.machine.specs.Layout.{pages_of}
 use Rattle.wire.specs.Header.{opening_of}
 use Rattle.wire.specs.Stream.{shapes_in}

@@ -1,5 +1,6 @@
-use Rattle.std.proofs.Common.{◌≡◌, ◌≤◌, ◌<◌, ◌+◌, ◌*◌, ℕ, length, map, ap, sym, ◌∙◌, arith}
+use Rattle.std.proofs.Common.{◌≡◌, length, map, ap, sym, ◌∙◌, arith}
 use Rattle.std.proofs.lemmas.List.{length-append, length-map}
+use Rattle.machine.specs.Shapes.{made_as}
 use Rattle.machine.specs.Layout.{pages_of}
 use Rattle.machine.specs.Seen.{state_of}
 use Rattle.machine.specs.State.{DeviceState}
@@ -12,7 +13,7 @@ use Rattle.sender.proofs.measuring.sectors_len.Goals as goal
 pub loop-dev-init : goal.loop-dev-init
 loop-dev-init g c =
     let m = state_of c.args.machine.now in
-    let end = ap length c.shapes.ensures.shapes ∙ length-map m.devices (λ (d : DeviceState). d.shape) in
+    let end = ap length c.shapes.ensures.shapes ∙ length-map m.devices (λ (d : DeviceState). made_as d.kind) in
     record {
       sound = c.shapes.ensures.sound;
       end = end;

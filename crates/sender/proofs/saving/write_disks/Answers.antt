@@ -1,5 +1,6 @@
 use Rattle.std.proofs.Common.{◌≡◌, ◌+◌, ◌++◌, Ok, length, map, ap, sym, ◌∙◌, arith}
 use Rattle.std.proofs.lemmas.List.{length-map}
+use Rattle.machine.specs.Shapes.{made_as}
 use Rattle.machine.specs.Layout.{pages_of}
 use Rattle.machine.specs.Seen.{state_of}
 use Rattle.machine.specs.State.{DeviceState}
@@ -15,7 +16,7 @@ loop-dev-init g c =
     let m = state_of c.args.machine.now in
     record {
       sound = c.shapes.ensures.sound;
-      end = ap length c.shapes.ensures.shapes ∙ length-map m.devices (λ (d : DeviceState). d.shape);
+      end = ap length c.shapes.ensures.shapes ∙ length-map m.devices (λ (d : DeviceState). made_as d.kind);
       sent = sends_nothing c.args.machine.now (g.S.Sink.state c.args.out.now) (texts (records_from m (pages_of m) 0)) (tt {0}) (none_from m (pages_of m));
       taken = takes_nothing {A = Unit {0}} c.args.machine.now (g.T.Tally.has_taken c.args.tally.now) (texts (records_from m (pages_of m) 0)) (tt {0}) (none_from m (pages_of m));
     }
