@@ -3,13 +3,32 @@
  * A machine is guest RAM and 1 to 16 virtio MMIO devices (VIRTIO 1.2, 4.2): network devices, block devices, consoles and
  * entropy devices. Your hypervisor hands it what the guest and the host do, one call for each, and nothing happens between
  * calls: no thread, no clock, no file. What each call does is proved by the definitions of the library, at the exports of
- * crates/vmig_c/src/lib.rt. Link libvmig_c.a and after it the toolchain's liblibc_c.a, which calls malloc, realloc and free,
- * and nothing else of the C library.
+ * crates/vmig_c/src/lib.rt. Link -lvmig as `install` leaves it, or libvmig_c.a and after it the toolchain's liblibc_c.a: of the C
+ * library they call malloc, realloc, free, memcpy, memmove and memset, and nothing else.
+ *
+ * A FIRST PROGRAM, examples/c/first.c:
+ *
+ *   #include <stdio.h>
+ *   #include "vmig.h"
+ *
+ *   int main(void)
+ *   {
+ *       vmig_machine machine = VMIG_NONE;
+ *       vmig_shape shape = {.kind = VMIG_ENTROPY};
+ *       uint32_t value = 0, kept = 0;
+ *
+ *       if (vmig_make(16, &shape, 1, &machine) != VMIG_OK) return 1;
+ *       if (vmig_reg_read(&machine, 0, 0x000, 4, &value) != VMIG_OK) return 1;
+ *       printf("0x%08x\n", (unsigned)value);
+ *       if (vmig_input(&machine, 0, (const uint8_t *)"random", 6, &kept) != VMIG_OK) return 1;
+ *       vmig_free(&machine);
+ *       return value == 0x74726976 && kept == 6 ? 0 : 1;
+ *   }
  *
  * WHAT YOU OWE, and nothing checks:
  * - A vmig_machine is all zeros before its first use (VMIG_NONE), and only these calls write it. It may be moved, as by
  *   memcpy, but a copy must not be used beside it.
- * - No pointer is null, also where its count is 0. Each is aligned as its type is. A pointer and a count n name n items,
+ * - A pointer whose count is 0 may be null, and no other. Each is aligned as its type is. A pointer and a count n name n items,
  *   which the call may read, and may also write unless the pointer is to const. What a call may write overlaps with nothing
  *   else that the call is given, and no pointer points into a vmig_machine.
  * - A machine is used by one call at a time. Calls from several threads are ordered by a lock, or by a thread's start or
@@ -21,7 +40,7 @@
  *
  * WHO OWNS WHAT: a machine is made by vmig_make, vmig_make_with, vmig_make_mapped or vmig_receive, or arrives by vmig_feed,
  * and lives until vmig_free or vmig_unmap; a handle that is dropped without one of these leaks. What you pass is copied, and
- * the library keeps no pointer of yours after a call, but for the images of vmig_make_mapped.
+ * the library keeps no pointer of yours after a call, but for the images of vmig_make_mapped and vmig_arrive_mapped.
  *
  * THE LOOP: hand in what the guest does (vmig_reg_read, vmig_reg_write, vmig_ram_read, vmig_ram_write). After each register
  * write, and after each vmig_input, make the steps that vmig_next_work names, as its comment shows, and read vmig_lines after
@@ -30,14 +49,17 @@
  * guest runs again: a guest can give its devices work without end.
  *
  * DISKS IN YOUR MEMORY, as in a file that you mapped: a vmig_image says where the sectors of a disk are, and vmig_make_mapped
- * makes a machine whose disks are such images. What the guest writes is there at once. From that call until vmig_unmap or
- * vmig_free the bytes are the machine's: nothing else reads or writes them, and they stay mapped, at their address. A guest's
- * flush does not reach the file: it calls no msync, which is yours to do, after the steps that completed a request and before
- * the guest runs again.
+ * makes a machine whose disks are such images, vmig_arrive_mapped one that arrives over them. What the guest writes is there at
+ * once. From that call until vmig_unmap or vmig_free the bytes are the machine's: nothing else reads or writes them, and they
+ * stay mapped, at their address. A guest's flush does not reach the file: it calls no msync, which is yours to do, before each step
+ * of which vmig_must_sync says so; and of a machine that arrived before its guest first runs, since that guest may have been told
+ * of a flush long ago.
  *
  * WHAT TAKES MEMORY from malloc: vmig_make, vmig_make_with and vmig_receive (RAM, disks, devices), vmig_make_mapped (RAM,
- * devices, and a bit for each sector), vmig_save (the whole stream, for the time of the call), and vmig_step for a chain of
- * many descriptors or a message of the guest; vmig_begin for two bits for each page and sector, and vmig_begin, vmig_copy,
+ * devices, and a bit for each sector), vmig_arrive_mapped (a list of the images), vmig_save (the whole stream, for the time of the
+ * call), and vmig_step for a chain of
+ * many descriptors or a message longer than those before it; vmig_stream_size and vmig_stream_device, for a list of sixteen shapes,
+ * for the time of the call; vmig_begin for two bits for each page and sector, and vmig_begin, vmig_copy,
  * vmig_end_round and vmig_stop for what they write, which waits until it is taken: a stop of a machine of which nothing was
  * copied before writes the whole machine; vmig_feed, for a buffer of 128 KiB, in which the front of a record waits for the
  * rest, for RAM and disks as soon as the header is whole, and for devices; and vmig_finish. No other call does.
@@ -50,9 +72,9 @@
  * continues as one that was never sent.
  *
  * A MACHINE ARRIVES: vmig_feed on a handle of no machine, with the bytes of the stream in any pieces, as they come over the
- * wire, and vmig_finish after the last; or vmig_receive with all of them at once. Until vmig_finish the handle has no machine
- * for any other call but vmig_rounds and vmig_free, and is in use for vmig_make, vmig_make_with, vmig_make_mapped and
- * vmig_receive. Before its guest runs read the lines and make the steps that vmig_next_work names: a kick and an interrupt
+ * wire, and vmig_finish after the last; or vmig_receive with all of them at once. Its disks are made in memory; where they are
+ * to be images of yours, vmig_arrive_mapped comes before the first piece. Until vmig_finish the handle has no machine for any
+ * other call but vmig_rounds, vmig_free and, over images, vmig_unmap, and is in use for the calls that make or receive one. Before its guest runs read the lines and make the steps that vmig_next_work names: a kick and an interrupt
  * that were not served come with the machine. The digest is computed as the bytes come, by some 4 ms a MiB.
  *
  * A GUEST WHOSE RAM IS YOURS, as under hardware virtualization, runs on memory of your own. The machine has RAM beside it,
@@ -64,6 +86,28 @@
  * read the lines; and let vmig_pull bring what the devices wrote. Then ram is the machine's RAM, byte for byte. A page that
  * the guest wrote and you did not hand in is not seen by the devices, is lost once one writes into it, and is not sent: hand
  * in all of them also before vmig_end_round and before vmig_stop. Only vmig_push and vmig_pull write seen.
+ *
+ * WHAT EACH CALL ANSWERS IN EACH STATE. "done" stands for the statuses that the call's own comment names; each name is a status,
+ * without VMIG_. A machine is idle until vmig_begin, being sent from then on, and stopped after vmig_stop; vmig_abort makes it
+ * idle again. vmig_lines has no status: it is 0 where ram_read is NO_MACHINE.
+ *
+ *   of a handle with              no machine   one that arrives   an idle one   one being sent   a stopped one
+ *   make, make_with, make_mapped,
+ *     arrive_mapped, receive      done         IN_USE             IN_USE        IN_USE           IN_USE
+ *   feed                          done         done               IN_USE        IN_USE           IN_USE
+ *   finish, rounds                NO_MACHINE   done               IN_USE        IN_USE           IN_USE
+ *   reg_read, reg_write, step,
+ *     next_work, ram_write, push,
+ *     input, resize               NO_MACHINE   NO_MACHINE         done          done             STOPPED
+ *   ram_read, pull, size, device,
+ *     must_sync                   NO_MACHINE   NO_MACHINE         done          done             done
+ *   sector_read, saved_len, save  NO_MACHINE   NO_MACHINE         done          MOVING           MOVING
+ *   begin                         NO_MACHINE   NO_MACHINE         done          BEGUN_ALREADY    STOPPED
+ *   copy, end_round, stop         NO_MACHINE   NO_MACHINE         NOT_BEGUN     done             STOPPED
+ *   remaining, take, abort        NO_MACHINE   NO_MACHINE         NOT_BEGUN     done             done
+ *   unmap, over images            NO_MACHINE   done               done          done             done
+ *   unmap, else                   NO_MACHINE   NO_MACHINE         NOT_MAPPED    NOT_MAPPED       NOT_MAPPED
+ *   free                          done         done               done          done             done
  *
  * WHAT A GUEST CAN DO: whatever it writes into RAM and registers, each call stays defined and ends.
  */
@@ -82,6 +126,10 @@ extern "C" {
 #define VMIG_VERSION_MAJOR 0
 #define VMIG_VERSION_MINOR 9
 #define VMIG_VERSION_PATCH 0
+
+/* The same as one number: the major number from bit 16 on, the minor one from bit 8 on, and the patch. vmig_version tells it of the
+ * library that was linked. */
+#define VMIG_VERSION_NUMBER (VMIG_VERSION_MAJOR << 16 | VMIG_VERSION_MINOR << 8 | VMIG_VERSION_PATCH)
 
 /* A machine, or none. */
 typedef struct vmig_machine {
@@ -106,8 +154,9 @@ enum {
     /* The call is refused. */
     VMIG_NO_SECTOR = 7,    /* vmig_sector_read: the disk has no such sector */
     VMIG_NO_MACHINE = 8,   /* the handle has no machine, or one that still arrives */
-    VMIG_IN_USE = 9,       /* vmig_make, vmig_make_with, vmig_make_mapped, vmig_receive: the handle has a machine already, or
-                            * one arrives; vmig_feed, vmig_finish, vmig_rounds: it has a machine that does not arrive */
+    VMIG_IN_USE = 9,       /* vmig_make, vmig_make_with, vmig_make_mapped, vmig_arrive_mapped, vmig_receive: the handle has a
+                            * machine already, or one arrives; vmig_feed, vmig_finish, vmig_rounds: it has a machine that does
+                            * not arrive */
     VMIG_NO_MEMORY = 10,   /* out of memory: malloc or realloc failed */
     VMIG_TOO_SMALL = 11,   /* vmig_step, vmig_save, vmig_push, vmig_pull, vmig_sector_read: your buffer;
                             * vmig_unmap: your slots */
@@ -132,6 +181,8 @@ enum {
     VMIG_STREAM_BAD_MAGIC = 33,      /* it does not begin with "VMIG" */
     VMIG_STREAM_BAD_VERSION = 34,    /* a stream whose version is neither 1 nor 2 */
     VMIG_STREAM_BAD_SHAPE = 35,      /* the machine that it encodes is beyond the limits */
+    VMIG_STREAM_SHAPE_MISMATCH = 36, /* vmig_feed, after vmig_arrive_mapped: its disks are not as many, or as large, as the
+                                      * images; no sector was written */
     VMIG_STREAM_BAD_TAG = 37,        /* a tag that may not come there */
     VMIG_STREAM_BAD_PAGE = 38,       /* there is no such page */
     VMIG_STREAM_BAD_SECTOR = 39,     /* there is no such sector */
@@ -165,7 +216,13 @@ enum {
     VMIG_ROUND_OPEN = 77,  /* something is still due: the round does not end */
 
     /* vmig_next_work, which also answers VMIG_IDLE. */
-    VMIG_WORK = 78         /* the step *pick of device *dev has something to do */
+    VMIG_WORK = 78,        /* the step *pick of device *dev has something to do */
+
+    /* vmig_stream_size and vmig_stream_device: the header is not whole, and has no fault so far. */
+    VMIG_MORE = 79,        /* hand in more of the stream's first bytes */
+
+    /* vmig_must_sync, which also answers VMIG_OK. */
+    VMIG_SYNC = 80         /* before this step bring the disk to its file */
 };
 
 /* The name of a status as it stands above, such as "VMIG_NO_DEVICE", for logs and messages; "unknown status" for any other number. */
@@ -179,13 +236,15 @@ static inline const char *vmig_status_name(uint32_t status)
     VMIG_NAMED(VMIG_MOVING) VMIG_NAMED(VMIG_NOT_MAPPED) VMIG_NAMED(VMIG_BAD_IMAGES) VMIG_NAMED(VMIG_NOT_BEGUN)
     VMIG_NAMED(VMIG_BEGUN_ALREADY) VMIG_NAMED(VMIG_READ_FAILED) VMIG_NAMED(VMIG_WRITER_FAILED) VMIG_NAMED(VMIG_STOPPED)
     VMIG_NAMED(VMIG_NO_ROUND_LEFT) VMIG_NAMED(VMIG_STREAM_BAD_MAGIC) VMIG_NAMED(VMIG_STREAM_BAD_VERSION)
-    VMIG_NAMED(VMIG_STREAM_BAD_SHAPE) VMIG_NAMED(VMIG_STREAM_BAD_TAG) VMIG_NAMED(VMIG_STREAM_BAD_PAGE)
+    VMIG_NAMED(VMIG_STREAM_BAD_SHAPE) VMIG_NAMED(VMIG_STREAM_SHAPE_MISMATCH) VMIG_NAMED(VMIG_STREAM_BAD_TAG)
+    VMIG_NAMED(VMIG_STREAM_BAD_PAGE)
     VMIG_NAMED(VMIG_STREAM_BAD_SECTOR) VMIG_NAMED(VMIG_STREAM_BAD_ROUND) VMIG_NAMED(VMIG_STREAM_BAD_DEVICE)
     VMIG_NAMED(VMIG_STREAM_BAD_DIGEST) VMIG_NAMED(VMIG_STREAM_MISSING) VMIG_NAMED(VMIG_STREAM_TRAILING)
     VMIG_NAMED(VMIG_STREAM_TRUNCATED) VMIG_NAMED(VMIG_STREAM_NO_MEMORY) VMIG_NAMED(VMIG_STREAM_FAILED) VMIG_NAMED(VMIG_OUT_BYTE)
     VMIG_NAMED(VMIG_IDLE) VMIG_NAMED(VMIG_TAKEN) VMIG_NAMED(VMIG_MOVED) VMIG_NAMED(VMIG_BAD_SECTOR) VMIG_NAMED(VMIG_DISK_FAILED)
     VMIG_NAMED(VMIG_COMPLETED) VMIG_NAMED(VMIG_SENT) VMIG_NAMED(VMIG_DROPPED) VMIG_NAMED(VMIG_NEEDS_RESET) VMIG_NAMED(VMIG_PAGE)
     VMIG_NAMED(VMIG_SECTOR) VMIG_NAMED(VMIG_ROUND_DONE) VMIG_NAMED(VMIG_ROUND_OPEN) VMIG_NAMED(VMIG_WORK)
+    VMIG_NAMED(VMIG_MORE) VMIG_NAMED(VMIG_SYNC)
     default: return "unknown status";
     }
 #undef VMIG_NAMED
@@ -205,7 +264,7 @@ enum {
 /* The entry of seen for a page that you have not seen. */
 #define VMIG_UNSEEN UINT64_MAX
 
-/* A device. Fields that its kind does not need are not read. */
+/* A device. Fields that its kind does not need are not read, and are zeros where the library tells them. */
 typedef struct vmig_shape {
     uint8_t kind;
     uint8_t read_only;  /* of a block device: whether the driver may only read it; 0 is no, any other value is yes */
@@ -222,6 +281,9 @@ typedef struct vmig_image {
 } vmig_image;
 
 #define VMIG_NO_IMAGE {0, 0}
+
+/* The version of the library that was linked, to compare with VMIG_VERSION_NUMBER. */
+uint32_t vmig_version(void);
 
 /* Makes a machine of 1 to 16,384 pages of 4,096 bytes of RAM, all zeros, and of 1 to 16 devices. They have the numbers 0, 1
  * and so on, in this order. Block devices get disks of zeros in memory.
@@ -243,11 +305,12 @@ uint32_t vmig_make_with(uint32_t pages, const vmig_shape *shapes, size_t count, 
 uint32_t vmig_make_mapped(uint32_t pages, const vmig_shape *shapes, size_t count, vmig_image *images, size_t count_images,
                           vmig_machine *machine);
 
-/* Frees a machine of vmig_make_mapped, as vmig_free does, and gives its images back: the first of the count slots get those
- * of its disks, in the order of the devices, with what the guest left there. A sector that VMIG_BAD_SECTOR reports may hold
- * anything. The other slots stay VMIG_NO_IMAGE. Each slot is VMIG_NO_IMAGE before the call, else VMIG_BAD_IMAGES, and they
- * are at least as many as block devices, else VMIG_TOO_SMALL. The machine may be one that is being sent. Where it is refused,
- * nothing changed.
+/* Frees a machine over images, as vmig_free does, and gives its images back: the first of the count slots get those of its
+ * disks, in the order of the devices, with what the guest left there. A sector that VMIG_BAD_SECTOR reports may hold anything.
+ * The other slots stay VMIG_NO_IMAGE. Each slot is VMIG_NO_IMAGE before the call, else VMIG_BAD_IMAGES, and they are at least
+ * as many as images, else VMIG_TOO_SMALL. The machine may be one that is being sent. It may also be one that arrives, or whose
+ * stream was refused: the images hold what they held, and in part the sectors of that stream. Where it is refused, nothing
+ * changed.
  * VMIG_NO_MACHINE, then VMIG_NOT_MAPPED, then VMIG_BAD_IMAGES, then VMIG_TOO_SMALL, and no others. */
 uint32_t vmig_unmap(vmig_machine *machine, vmig_image *images, size_t count);
 
@@ -336,6 +399,34 @@ uint16_t vmig_lines(vmig_machine *machine);
  * VMIG_NO_MACHINE, VMIG_MOVING, VMIG_NO_DEVICE, VMIG_WRONG_KIND (it has no disk), VMIG_NO_SECTOR, VMIG_TOO_SMALL. */
 uint32_t vmig_sector_read(vmig_machine *machine, uint8_t dev, uint64_t sector, uint8_t *buf, size_t size);
 
+/* Whether the step of this pick ends a request after which the guest takes what it wrote to the disk for durable: a flush; or a
+ * write, where its driver did not accept the feature FLUSH (VIRTIO 1.2, 5.2.6.2). VMIG_SYNC: before that step bring the image of
+ * the device to its file, by msync. Where that fails do not make the step, and stop the guest: its request stays as it is, and you
+ * can try again. VMIG_OK: nothing is owed. A disk in memory of the library has no file, but the same answer. The machine is as it
+ * was.
+ * VMIG_NO_MACHINE, VMIG_NO_DEVICE. */
+uint32_t vmig_must_sync(vmig_machine *machine, uint8_t dev, uint8_t pick);
+
+/* How many pages of RAM and how many devices the machine has, also one that is being sent or was stopped. The machine is as it was.
+ * VMIG_NO_MACHINE. */
+uint32_t vmig_size(vmig_machine *machine, uint32_t *pages, uint32_t *devices);
+
+/* What the device of a number was made as. *shape is as it was if it is refused. The machine is as it was.
+ * VMIG_NO_MACHINE, VMIG_NO_DEVICE. */
+uint32_t vmig_device(vmig_machine *machine, uint8_t dev, vmig_shape *shape);
+
+/* How many pages and devices the machine has whose stream begins with these bytes: before it arrives, and before any memory is taken
+ * for it. A host that accepts streams from a network asks, compares with what it expects, and refuses another. VMIG_OK says that the
+ * header is whole and within the limits, and nothing of what follows it. The first 496 bytes of a stream always tell, often 17 do.
+ * *pages and *devices are as they were if it is refused.
+ * VMIG_MORE, VMIG_STREAM_BAD_MAGIC, VMIG_STREAM_BAD_VERSION, VMIG_STREAM_BAD_SHAPE, VMIG_STREAM_NO_MEMORY. */
+uint32_t vmig_stream_size(const uint8_t *bytes, size_t len, uint32_t *pages, uint32_t *devices);
+
+/* What the device of a number will be made as, of the machine whose stream begins with these bytes. *shape is as it was if it is
+ * refused.
+ * VMIG_NO_DEVICE, and all of vmig_stream_size. */
+uint32_t vmig_stream_device(const uint8_t *bytes, size_t len, uint8_t dev, vmig_shape *shape);
+
 /* *len is the length in bytes of the stream that vmig_save makes of the machine as it is: the size of the buffer that it needs.
  * It looks at each page of RAM once, since a page of zeros takes 5 bytes of a stream and another 4,101. No stream is made, and no
  * memory is taken. The machine is as it was.
@@ -388,6 +479,13 @@ uint32_t vmig_remaining(vmig_machine *machine, uint64_t *due, uint64_t *dirty);
  * VMIG_NO_MACHINE, VMIG_NOT_BEGUN. */
 uint32_t vmig_take(vmig_machine *machine, uint8_t *buf, size_t size, size_t *got);
 
+/* A machine will arrive over images in your memory: feed its stream by vmig_feed from here on. There is one image for each of its
+ * block devices, in their order, of as many sectors, else a piece is VMIG_STREAM_SHAPE_MISMATCH before a sector is written;
+ * vmig_stream_device tells the sizes before. VMIG_OK takes the images: each of the slots is VMIG_NO_IMAGE then, and vmig_unmap
+ * gives them back, also of a stream that was refused or is not whole. At every other status nothing changed.
+ * VMIG_IN_USE, then VMIG_NO_MEMORY, and no others. */
+uint32_t vmig_arrive_mapped(vmig_image *images, size_t count_images, vmig_machine *machine);
+
 /* The next bytes of a stream arrive, in pieces of any size. On a handle of no machine one begins to arrive. VMIG_OK says that
  * the bytes so far have no fault; a piece that brings one is refused, and the stream with it: each later vmig_feed and
  * vmig_finish is VMIG_STREAM_FAILED, until vmig_free. A stream can ask for as much memory as with vmig_receive.
@@ -395,8 +493,8 @@ uint32_t vmig_take(vmig_machine *machine, uint8_t *buf, size_t size, size_t *got
  * VMIG_IN_USE, VMIG_NO_MEMORY, or a VMIG_STREAM status. */
 uint32_t vmig_feed(vmig_machine *machine, const uint8_t *bytes, size_t len);
 
-/* All bytes have arrived: the handle has the machine, which is not being sent, with its disks in memory. An incomplete stream
- * is refused, as by vmig_feed.
+/* All bytes have arrived: the handle has the machine, which is not being sent, with its disks in memory of the library, or in the
+ * images of vmig_arrive_mapped. An incomplete stream is refused, as by vmig_feed.
  * VMIG_NO_MACHINE, VMIG_IN_USE, VMIG_STREAM_TRUNCATED, VMIG_STREAM_NO_MEMORY, VMIG_STREAM_FAILED. */
 uint32_t vmig_finish(vmig_machine *machine);
 

@@ -84,12 +84,15 @@ static inline void offer(vmig_machine *m, uint32_t queue, uint32_t count, uint32
     write_reg(m, 0x050, queue);
 }
 
-/* The driver takes the device over, with the feature VERSION_1 alone, and makes its queues ready (VIRTIO 1.2, 3.1.1). */
-static inline void set_up(vmig_machine *m, uint32_t queues)
+/* The driver takes the device over, with the feature VERSION_1 and those of `low`, which are below bit 32, and makes its queues ready
+ * (VIRTIO 1.2, 3.1.1). */
+static inline void set_up_with(vmig_machine *m, uint32_t queues, uint32_t low)
 {
     write_reg(m, 0x070, 0);
     write_reg(m, 0x070, 1);
     write_reg(m, 0x070, 3);
+    write_reg(m, 0x024, 0);
+    write_reg(m, 0x020, low);
     write_reg(m, 0x024, 1);
     write_reg(m, 0x020, 1);
     write_reg(m, 0x070, 0xb);
@@ -104,6 +107,11 @@ static inline void set_up(vmig_machine *m, uint32_t queues)
         expect("queue ready", read_reg(m, 0x044), 1);
     }
     write_reg(m, 0x070, 0xf);
+}
+
+static inline void set_up(vmig_machine *m, uint32_t queues)
+{
+    set_up_with(m, queues, 0);
 }
 
 /* Makes each step that has something to do, until none has. Returns the number of steps. */

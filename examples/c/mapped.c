@@ -1,4 +1,5 @@
-/* A disk in a file that is mapped: a machine is made over it, a driver writes a sector, and the file has it. */
+/* A disk in a file that is mapped: a machine is made over it, a driver writes a sector, and the file has it, before the driver is told
+ * that it is there for good. */
 #define _POSIX_C_SOURCE 200809L
 #include <stdlib.h>
 #include <string.h>
@@ -6,14 +7,35 @@
 #include <unistd.h>
 #include "driver.h"
 
-enum { HEADER = 0x7000, OUTCOME = 0x7100, WRITE = 1, SECTORS = 3, SECTOR = 512, LENGTH = SECTORS * SECTOR };
+enum { HEADER = 0x7000, OUTCOME = 0x7100, WRITE = 1, FLUSH = 4, FLUSH_FEATURE = 1 << 9, SECTORS = 3, SECTOR = 512, LENGTH = SECTORS * SECTOR };
 
-/* One write of one sector, as a driver makes it. Returns the status that the device wrote. */
-static uint64_t write_sector(vmig_machine *m, uint64_t sector, const uint8_t *bytes)
+/* The disk's bytes are brought to the file: the msync of this program, counted. */
+static int brought;
+
+static void bring(uint8_t *at)
+{
+    expect("msync", (uint64_t)msync(at, LENGTH, MS_SYNC), 0);
+    brought++;
+}
+
+/* The steps of one request. Before a step after which the driver takes what it wrote for durable, the file has it. */
+static void do_request(vmig_machine *m, uint8_t *at)
 {
     uint32_t len = 77;
     uint8_t none[1];
 
+    expect("nothing is owed to take it", vmig_must_sync(m, 0, 0), VMIG_OK);
+    expect("taken", vmig_step(m, 0, 0, none, 0, &len), VMIG_TAKEN);
+    expect("nothing is owed before it is done", vmig_must_sync(m, 0, 1), VMIG_OK);
+    expect("moved", vmig_step(m, 0, 1, none, 0, &len), VMIG_MOVED);
+    if (vmig_must_sync(m, 0, 1) == VMIG_SYNC) bring(at);
+    expect("completed", vmig_step(m, 0, 1, none, 0, &len), VMIG_COMPLETED);
+    expect("no request is left", vmig_must_sync(m, 0, 1), VMIG_OK);
+}
+
+/* One write of one sector, as a driver makes it, as its `count`-th request. Returns the status that the device wrote. */
+static uint64_t write_sector(vmig_machine *m, uint32_t count, uint64_t sector, const uint8_t *bytes, uint8_t *at)
+{
     expect("put", vmig_ram_write(m, DATA, bytes, SECTOR), VMIG_OK);
     put(m, HEADER, WRITE, 4);
     put(m, HEADER + 4, 0, 4);
@@ -22,11 +44,39 @@ static uint64_t write_sector(vmig_machine *m, uint64_t sector, const uint8_t *by
     describe(m, 0, 0, HEADER, 16, HAS_NEXT, 1);
     describe(m, 0, 1, DATA, SECTOR, HAS_NEXT, 2);
     describe(m, 0, 2, OUTCOME, 1, WRITABLE, 0);
-    offer(m, 0, 1, 0);
-    expect("taken", vmig_step(m, 0, 0, none, 0, &len), VMIG_TAKEN);
-    expect("moved", vmig_step(m, 0, 1, none, 0, &len), VMIG_MOVED);
-    expect("completed", vmig_step(m, 0, 1, none, 0, &len), VMIG_COMPLETED);
+    offer(m, 0, count, 0);
+    do_request(m, at);
     return get(m, OUTCOME, 1);
+}
+
+/* A flush, as the `count`-th request. */
+static uint64_t flush(vmig_machine *m, uint32_t count, uint8_t *at)
+{
+    put(m, HEADER, FLUSH, 4);
+    put(m, OUTCOME, 0xff, 1);
+    describe(m, 0, 0, HEADER, 16, HAS_NEXT, 1);
+    describe(m, 0, 1, OUTCOME, 1, WRITABLE, 0);
+    offer(m, 0, count, 0);
+    do_request(m, at);
+    return get(m, OUTCOME, 1);
+}
+
+/* A driver without the feature FLUSH takes each write for durable when it ends; one with it takes what it wrote for durable when a
+ * flush ends. */
+static void is_durable(vmig_machine *m, const uint8_t *bytes, uint8_t *at)
+{
+    set_up(m, 1);
+    brought = 0;
+    expect("write", write_sector(m, 1, 2, bytes, at), 0);
+    expect("it was brought to the file", (uint64_t)brought, 1);
+    set_up_with(m, 1, FLUSH_FEATURE);
+    put(m, AVAIL + 2, 0, 2);
+    expect("write", write_sector(m, 1, 2, bytes, at), 0);
+    expect("it may wait", (uint64_t)brought, 1);
+    expect("flush", flush(m, 2, at), 0);
+    expect("it was brought to the file", (uint64_t)brought, 2);
+    expect("no such device", vmig_must_sync(m, 2, 1), VMIG_NO_DEVICE);
+    expect("a device without a disk", vmig_must_sync(m, 1, 1), VMIG_OK);
 }
 
 static void refuses(const vmig_shape *shapes, uint8_t *at)
@@ -68,8 +118,7 @@ static void runs(const vmig_shape *shapes, uint8_t *at, const uint8_t *written)
     expect("made already", vmig_make_mapped(16, shapes, 2, &image, 1, &m), VMIG_IN_USE);
     expect("sector", vmig_sector_read(&m, 0, 1, got, sizeof got), VMIG_OK);
     expect("of the file", got[0], 41);
-    set_up(&m, 1);
-    expect("write", write_sector(&m, 2, written), 0);
+    is_durable(&m, written, at);
     expect("sector", vmig_sector_read(&m, 0, 2, got, sizeof got), VMIG_OK);
     expect("as it was written", (uint64_t)memcmp(got, written, SECTOR), 0);
     gives_back(&m, at);

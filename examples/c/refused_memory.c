@@ -248,6 +248,21 @@ static void arrive(vmig_machine *m, const uint8_t *stream, size_t len)
     expect("fed anew", (uint64_t)feed(m, stream, len), 0);
 }
 
+/* As above, over an image: a stream that was refused gives it back. */
+static void arrive_over(vmig_machine *m, uint8_t *at, const uint8_t *stream, size_t len)
+{
+    vmig_image image = {at, 8};
+
+    CALL_AGAIN("arrive over an image", vmig_arrive_mapped(&image, 1, m), VMIG_OK);
+    if (feed(m, stream, len) == 0) return;
+    told++;
+    expect("feed after it", CALL(vmig_feed(m, stream, 1)), VMIG_STREAM_FAILED);
+    expect("its image", CALL(vmig_unmap(m, &image, 1)), VMIG_OK);
+    expect("is back", image.at == at && image.sectors == 8, 1);
+    expect("arrive anew", CALL(vmig_arrive_mapped(&image, 1, m)), VMIG_OK);
+    expect("fed anew", (uint64_t)feed(m, stream, len), 0);
+}
+
 /* Both machines are saved alike. */
 static void alike(const char *what, vmig_machine *one, vmig_machine *other)
 {
@@ -263,9 +278,9 @@ static void alike(const char *what, vmig_machine *one, vmig_machine *other)
 /* The whole script, with one request refused. Returns how many requests there were. */
 static uint64_t play(uint64_t refused)
 {
-    static uint8_t stream[STREAM_MAX], images[8 * 512], mapped[8 * 512];
-    vmig_image slots[] = {{mapped, 8}};
-    vmig_machine m = VMIG_NONE, copy = VMIG_NONE, twin = VMIG_NONE, on_images = VMIG_NONE;
+    static uint8_t stream[STREAM_MAX], images[8 * 512], mapped[8 * 512], target[8 * 512];
+    vmig_image slots[] = {{mapped, 8}}, landed[] = {VMIG_NO_IMAGE};
+    vmig_machine m = VMIG_NONE, copy = VMIG_NONE, twin = VMIG_NONE, on_images = VMIG_NONE, over = VMIG_NONE;
     uint32_t rounds;
 
     requests = 0, refused_one = refused, told = 0, given = 0;
@@ -278,12 +293,16 @@ static uint64_t play(uint64_t refused)
     }
     size_t len = take_all(&m, stream);
     arrive(&copy, stream, len);
+    arrive_over(&over, target, stream, len);
     if (CALL(vmig_receive(stream, len, &twin, &rounds)) == VMIG_NO_MEMORY) { told++; CALL(vmig_receive(stream, len, &twin, &rounds)); }
     expect("receive", answer, VMIG_OK);
     expect("rounds", rounds, 1);
     expect("abort", CALL(vmig_abort(&m)), VMIG_OK);
     alike("what arrived", &m, &copy);
+    alike("what arrived over an image", &m, &over);
     alike("what was received", &m, &twin);
+    expect("unmap", CALL(vmig_unmap(&over, landed, 1)), VMIG_OK);
+    expect("the image is back", landed[0].at == target && landed[0].sectors == 8, 1);
     expect("the guest's last write", get(&copy, 0x9000, 1), 0x77);
     CALL((vmig_free(&m), vmig_free(&copy), vmig_free(&twin), 0));
     CALL_AGAIN("images", vmig_make_with(PAGES, shapes, DEVICES, images, sizeof images, &m), VMIG_OK);

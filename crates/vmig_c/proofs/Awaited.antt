@@ -20,8 +20,8 @@ use Rattle.receiver.specs.declared.recv_error.RecvError.TheVariants.{BadMagic, B
 use Rattle.receiver.proofs.Heads.{no_header_fault}
 use Rattle.receiver.proofs.Prefixes.{header_stays, stays}
 use Rattle.receiver.specs.Faults.{Fault, IsHeaderFault}
-use Rattle.vmig_c.specs.ArrivalSeen.{ArrivalSeen, AtHead, AtBody}
-use Rattle.vmig_c.specs.Awaited.{AreSteady, CountsRounds, GoesOnWith, HasArrived, HasCome, IsFaulty, IsFed, IsFedTo, TellsEnd, TellsOf, TellsWhy, awaited_by}
+use Rattle.vmig_c.specs.ArrivalSeen.{ArrivalSeen, AtHead, AtBody, Refused}
+use Rattle.vmig_c.specs.Awaited.{AreSteady, CountsRounds, GoesOnWith, IsClosed, HasArrived, HasCome, IsFaulty, IsFed, IsFedTo, TellsEnd, TellsOf, TellsWhy, awaited_by}
 use Rattle.vmig_c.specs.declared.arrival.Progress.{Progress}
 use Rattle.vmig_c.specs.Headed.{AreFitting, HasHeader, HasNoHeader}
 use Rattle.vmig_c.specs.Plain.{mem_state}
@@ -52,7 +52,7 @@ steady_at sizes k = rw (slice_get-map (λ (n : ℕ). no_marks) sizes k) (of_foun
 no_failure : (r : Received) (new : List Marks) → AreSteady r → ¬ (HasFailed r.marks new)
 no_failure r new steady h = true≢false (sym (rw steady (steady_at r.sizes h.disk)) ∙ h.unsteady)
 
-never_failed : (r : Received) (new : List Marks) (e : RecvError) → AreSteady r → MarksRefused r.marks e new → ¬ (e ≡ DiskFailed)
+pub never_failed : (r : Received) (new : List Marks) (e : RecvError) → AreSteady r → MarksRefused r.marks e new → ¬ (e ≡ DiskFailed)
 never_failed r new e steady h is = no_failure r new steady (subst (λ (x : RecvError). MarksRefused r.marks x new) is h)
 
 -- What a refusal of a receiver tells.
@@ -84,7 +84,7 @@ more_come r next piece b sizes fed quiet h =
     record { come = (fed b h.0, header); fit = inl header; quiet = rw sizes (quiet b h.0) }
 
 pub more_fed : (r next : Received) (piece : List ℕ) → next.sizes ≡ r.sizes → ((b : List ℕ) → HasBeenFed r b → HasBeenFed next (b ++ piece)) → ((b : List ℕ) → HasBeenFed r b → NoFault r.sizes (b ++ piece)) → IsFed (AtBody r) piece (AtBody next)
-more_fed r next piece sizes fed quiet = record { went_on = λ e. cc; goes_on = λ b h. more_come r next piece b sizes fed quiet h }
+more_fed r next piece sizes fed quiet = record { went_on = tt; goes_on = λ b h. more_come r next piece b sizes fed quiet h }
 
 pub more_refused : (r : Received) (new : List Marks) (piece : List ℕ) (e : RecvError) → AreSteady r → MarksRefused r.marks e new → ((b : List ℕ) → HasBeenFed r b → TellsNow r.sizes b piece e) → TellsOf (AtBody r) piece e
 more_refused r new piece e steady marks tells = λ b h. told r.sizes b piece e (inl (longer b piece r.sizes h.1)) (tells b h.0) (never_failed r new e steady marks)
@@ -135,15 +135,15 @@ pub head_ends : (held : List ℕ) → HasNoHeader held → TellsEnd (AtHead held
 head_ends held none = λ b is m. headless b (subst HasNoHeader (sym is) none) m
 
 -- The end of a stream whose header was read.
-honest_marks : (sizes : List ℕ) → AreHonestDisks (map (λ (n : ℕ). no_marks) sizes)
+pub honest_marks : (sizes : List ℕ) → AreHonestDisks (map (λ (n : ℕ). no_marks) sizes)
 honest_marks sizes = All-map (λ (k : Marks). IsTrue k.honest) (λ (n : ℕ). no_marks) sizes (λ k n below. refl)
 
-arrived : (r : Received) (m : Seen) → AreSteady r → (AreHonestDisks r.marks → (b : List ℕ) → HasBeenFed r b → IsStream b (state_of m)) → all_marks m ≡ dealt_marks (shapes_in (state_of m).devices) r.marks → HasArrived (AtBody r) m
+pub arrived : (r : Received) (m : Seen) → AreSteady r → (AreHonestDisks r.marks → (b : List ℕ) → HasBeenFed r b → IsStream b (state_of m)) → all_marks m ≡ dealt_marks (shapes_in (state_of m).devices) r.marks → HasArrived (AtBody r) m
 arrived r m steady received marks =
     let shapes = shapes_in (state_of m).devices in
     let over : all_marks m ≡ dealt_marks shapes (map (λ (n : ℕ). no_marks) r.sizes) = marks ∙ ap (λ (l : List Marks). dealt_marks shapes l) steady in
     record {
-      went_on = λ e. cc;
+      went_on = tt;
       stream = λ b h. received (rw steady (honest_marks r.sizes)) b h.0;
       plain = as_many no_marks (λ (d : DeviceSeen). d.marks) m.devices shapes (over ∙ alike shapes r.sizes);
     }
@@ -153,9 +153,9 @@ pub arrived_if : (r : Received) (result : Result Seen RecvError) → AreSteady r
 arrived_if r (Ok m) steady received marks = arrived r m steady received marks
 arrived_if r (Err e) steady received marks = tt
 
-pub not_arrived_if : (r : Received) (result : Result Seen RecvError) → IfErr result (λ e. (b : List ℕ) → HasBeenFed r b → IsFinish b e) → IfErr result (λ e. TellsEnd (AtBody r) e)
+pub not_arrived_if : (r : Received) (result : Result Seen RecvError) → IfErr result (λ e. (b : List ℕ) → HasBeenFed r b → IsFinish b e) → IfErr result (λ e. TellsEnd (AtBody r) e × IsClosed (AtBody r) Refused)
 not_arrived_if r (Ok m) why = tt
-not_arrived_if r (Err e) why = λ b h. why b h.0
+not_arrived_if r (Err e) why = (λ b h. why b h.0, refl)
 
 -- Rounds.
 pub body_counts : (r : Received) (n : ℕ) → ((b : List ℕ) → HasBeenFed r b → HasRounds r.sizes b n) → CountsRounds (AtBody r) n
@@ -169,7 +169,7 @@ pub head_goes_on : (held : List ℕ) (r : Received) → HasNoHeader held → IsF
 head_goes_on held r none h = record { come = refl; fit = inr none; quiet = h.quiet }
 
 pub head_fed : (held piece : List ℕ) (next : ArrivalSeen) → GoesOnWith (held ++ piece) next → IsFed (AtHead held) piece next
-head_fed held piece next h = record { went_on = λ e. cc; goes_on = λ b is. subst (λ (x : List ℕ). GoesOnWith (x ++ piece) next) (sym is) h }
+head_fed held piece next h = record { went_on = tt; goes_on = λ b is. subst (λ (x : List ℕ). GoesOnWith (x ++ piece) next) (sym is) h }
 
 pub head_refused : (held piece : List ℕ) (e : RecvError) → TellsWhy (held ++ piece) e → TellsOf (AtHead held) piece e
 head_refused held piece e h = λ b is. subst (λ (x : List ℕ). TellsWhy (x ++ piece) e) (sym is) h

@@ -12,8 +12,8 @@ use Rattle.machine.specs.State.{DeviceState}
 use Rattle.machine.specs.Step.{input_of, out_reply, put_by, put_in, read_ram, read_register, set_size, size_by, write_ram, write_register, written_out}
 use Rattle.machine.specs.declared.event.Event.{Event}
 use Rattle.machine.specs.declared.event.Event.TheVariants.{RegRead, RegWrite, MemRead, MemWrite, Step, Input, Resize}
-use Rattle.machine.specs.declared.own.Own.{Own}
-use Rattle.machine.specs.declared.own.Own.TheVariants.{Network, Block, Console, Entropy}
+use Rattle.machine.specs.declared.kind.Kind.{Kind}
+use Rattle.machine.specs.declared.kind.Kind.TheVariants.{Network, Block, Console, Entropy}
 use Rattle.machine.specs.declared.reply.Refusal.{Refusal}
 use Rattle.machine.specs.declared.reply.Reply.{Reply}
 use Rattle.sender.specs.Calls.{Does, Serves, guest_reply}
@@ -41,7 +41,7 @@ of_out (Some byte) = omega arith
 
 of_written : (dev : ℕ) (d : Option DeviceState) (off width value : ℕ) → length (sent_in (write_register dev d off width value).reply) ≤ 65536
 of_written dev None off width value = omega arith
-of_written dev (Some d) off width value = of_out (written_out d.own off width value)
+of_written dev (Some d) off width value = of_out (written_out d.kind off width value)
 
 of_ram_read : (ram : List ℕ) (addr len : ℕ) (e : Option RamError) (o : Outcome) → length (sent_in (read_ram ram addr len e o).reply) ≤ 65536
 of_ram_read ram addr len (Some error) o = omega arith
@@ -59,17 +59,17 @@ of_put dev d bytes (Err refusal) = omega arith
 
 of_input : (dev : ℕ) (d : Option DeviceState) (bytes : List ℕ) → length (sent_in (put_in dev d bytes).reply) ≤ 65536
 of_input dev None bytes = omega arith
-of_input dev (Some d) bytes = of_put dev d bytes (input_of d.own bytes)
+of_input dev (Some d) bytes = of_put dev d bytes (input_of d.kind bytes)
 
-of_own : (dev : ℕ) (d : DeviceState) (own : Own) (size : ConsoleSize) → length (sent_in (size_by dev d own size).reply) ≤ 65536
-of_own dev d (Console old held) size = omega arith
-of_own dev d (Network frames) size = omega arith
-of_own dev d (Block requests) size = omega arith
-of_own dev d (Entropy pool) size = omega arith
+of_kind : (dev : ℕ) (d : DeviceState) (kind : Kind) (size : ConsoleSize) → length (sent_in (size_by dev d kind size).reply) ≤ 65536
+of_kind dev d (Console old held) size = omega arith
+of_kind dev d (Network mac frames) size = omega arith
+of_kind dev d (Block sectors read_only id requests) size = omega arith
+of_kind dev d (Entropy pool) size = omega arith
 
 of_size : (dev : ℕ) (d : Option DeviceState) (size : ConsoleSize) → length (sent_in (set_size dev d size).reply) ≤ 65536
 of_size dev None size = omega arith
-of_size dev (Some d) size = of_own dev d d.own size
+of_size dev (Some d) size = of_kind dev d d.kind size
 
 few_by : (m after : Seen) (e : Event) (reply : Reply) → IsApplied m e reply after → length (sent_in reply) ≤ 65536
 few_by m after (RegRead dev off width) reply applied = rw (applied.has.reply_is) (of_read (slice_get (state_of m).devices dev) off width)
@@ -126,15 +126,15 @@ ram_number : (addr : ℕ) (bytes : List ℕ) (e : Option RamError) → 0 ≡ num
 ram_number addr bytes (Some error) = refl
 ram_number addr bytes None = refl
 
-own_number : (dev : ℕ) (d : DeviceState) (own : Own) (size : ConsoleSize) → 0 ≡ number_of (size_by dev d own size).reply 0
-own_number dev d (Console old held) size = refl
-own_number dev d (Network frames) size = refl
-own_number dev d (Block requests) size = refl
-own_number dev d (Entropy pool) size = refl
+kind_number : (dev : ℕ) (d : DeviceState) (kind : Kind) (size : ConsoleSize) → 0 ≡ number_of (size_by dev d kind size).reply 0
+kind_number dev d (Console old held) size = refl
+kind_number dev d (Network mac frames) size = refl
+kind_number dev d (Block sectors read_only id requests) size = refl
+kind_number dev d (Entropy pool) size = refl
 
 size_number : (dev : ℕ) (d : Option DeviceState) (size : ConsoleSize) → 0 ≡ number_of (set_size dev d size).reply 0
 size_number dev None size = refl
-size_number dev (Some d) size = own_number dev d d.own size
+size_number dev (Some d) size = kind_number dev d d.kind size
 
 without : (o : Option MigError) (l next : LiveSeen) (e : Event) (reply : LiveReply) → ((r : Reply) → IsApplied l.machine e r next.machine → 0 ≡ number_of r 0)
     → MatchOption o (Does l (Guest e) reply next) (λ x. (reply ≡ live.Mig x) × (next ≡ l)) → 0 ≡ live_number reply 0
@@ -159,15 +159,16 @@ written l next addr bytes answer status places serves told = record {
       (λ r applied. rw (applied.has.reply_is) (ram_number addr bytes (refusal_of (length (state_of l.machine).ram) addr (length bytes)))) serves;
 }
 
-pub resized : (l next : LiveSeen) (dev cols rows status number : ℕ) → IsServed l (Guest (Resize dev cols rows)) status number 0 next → IsServed l (Guest (Resize dev cols rows)) status 0 0 next
-resized l next dev cols rows status number was = record {
-  reply = was.reply;
-  places = was.places;
-  serves = was.serves;
-  status_is = was.status_is;
+pub resized : (l next : LiveSeen) (dev cols rows : ℕ) (answer : Result Reply MigError) (status : ℕ) → HasPlaces l → Serves l (Guest (Resize dev cols rows)) (guest_reply answer) next → status ≡ live_status (guest_reply answer)
+    → IsServed l (Guest (Resize dev cols rows)) status 0 0 next
+resized l next dev cols rows answer status places serves told = record {
+  reply = guest_reply answer;
+  places = places;
+  serves = serves;
+  status_is = told;
   number_is =
-      without (refusal_for l.phase (Guest (Resize dev cols rows))) l next (Resize dev cols rows) was.reply
-      (λ r applied. rw (applied.has.reply_is) (size_number dev (slice_get (state_of l.machine).devices dev) (record { columns = cols; rows = rows }))) was.serves;
+      without (refusal_for l.phase (Guest (Resize dev cols rows))) l next (Resize dev cols rows) (guest_reply answer)
+      (λ r applied. rw (applied.has.reply_is) (size_number dev (slice_get (state_of l.machine).devices dev) (record { columns = cols; rows = rows }))) serves;
 }
 
 -- Steps.

@@ -12,7 +12,7 @@ use Rattle.machine.specs.Applied.{ReadsSector}
 use Rattle.machine.specs.EffectLaws.{HasItem, sector_on, sectors_on}
 use Rattle.machine.specs.First.{dealt_marks, first_machine}
 use Rattle.machine.specs.Seen.{DeviceSeen, Marks, Seen, all_marks, marks_at, no_marks, state_of}
-use Rattle.machine.specs.Shapes.{disk_size_of, disk_sizes, or_zero, sector_count}
+use Rattle.machine.specs.Shapes.{disk_size_of, disk_sizes, or_zero, sector_count, made_as}
 use Rattle.machine.specs.Sound.{IsSound}
 use Rattle.machine.specs.State.{DeviceState, MachineState}
 use Rattle.machine.specs.declared.shape.Shape.{Shape}
@@ -147,16 +147,16 @@ on_disk (Some sectors) n room none =
     let are = two_tests (nat_lt n sectors) (nat_lt room 512) none in
     (tested_below n sectors are.0, tested_from room 512 are.1)
 
-count_at : (ds : List DeviceState) (dev : ℕ) (d : DeviceState) → slice_get ds dev ≡ Some d → get_or (map (λ (x : DeviceState). sector_count x.shape) ds) dev 0 ≡ sector_count d.shape
+count_at : (ds : List DeviceState) (dev : ℕ) (d : DeviceState) → slice_get ds dev ≡ Some d → get_or (map (λ (x : DeviceState). sector_count (made_as x.kind)) ds) dev 0 ≡ sector_count (made_as d.kind)
 count_at [] dev d is = absurd cc
-count_at (x ∷ ds) zero d is = let same : x ≡ d = cc in ap (λ (y : DeviceState). sector_count y.shape) same
+count_at (x ∷ ds) zero d is = let same : x ≡ d = cc in ap (λ (y : DeviceState). sector_count (made_as y.kind)) same
 count_at (x ∷ ds) (suc dev) d is = count_at ds dev d is
 
 readable_by : (o : Option DeviceState) (m : MachineState) (dev n room : ℕ) → IsSound m → slice_get m.devices dev ≡ o → sector_refusal_of o n room ≡ None → IsReadable m dev n room
 readable_by None m dev n room sound is none = absurd cc
 readable_by (Some d) m dev n room sound is none =
-    let are = on_disk (disk_size_of d.shape) n room none in
-    let size : get_or (map length m.disks) dev 0 ≡ sector_count d.shape = ap (λ (l : List ℕ). get_or l dev 0) sound.disks ∙ count_at m.devices dev d is in
+    let are = on_disk (disk_size_of (made_as d.kind)) n room none in
+    let size : get_or (map length m.disks) dev 0 ≡ sector_count (made_as d.kind) = ap (λ (l : List ℕ). get_or l dev 0) sound.disks ∙ count_at m.devices dev d is in
     record { there = has_item m (sector dev n) sound.whole_pages (omega (arith, size, are.0)); fits = are.1 }
 
 pub readable : (m : Seen) (dev n room : ℕ) → IsSound (state_of m) → sector_refusal (Still m) dev n room ≡ None → IsReadable (state_of m) dev n room

@@ -1,11 +1,14 @@
+pub mod Announcements
 pub mod ArrivalCalls
 pub mod Arrivals
 pub mod AsBox
 pub mod Awaited
 pub mod ByHandle
 pub mod ByKept
+pub mod Descriptions
 pub mod Handing
 pub mod Imaging
+pub mod Landings
 pub mod Lengths
 pub mod MappingImages
 pub mod Migration

@@ -12,14 +12,14 @@ use Rattle.console.specs.Transmit.{text_form}
 use Rattle.net.specs.Receive as receiving
 use Rattle.net.specs.Transmit.{frame_form}
 use Rattle.machine.specs.Outcome.{disk_does}
-use Rattle.machine.specs.Shapes.{block_of}
+use Rattle.machine.specs.Shapes.{block_of, made_as}
 use Rattle.machine.specs.DeviceStep.{requests_of, served_message}
 use Rattle.blk.specs.Sectors.{Sector}
 use Rattle.blk.specs.declared.advancing.Advanced.{Advanced}
 use Rattle.blk.specs.declared.advancing.Advanced.TheVariants as advanced
 use Rattle.blk.specs.declared.taking.Taken.{Taken}
 use Rattle.blk.specs.declared.taking.Taken.TheVariants as taken
-use Rattle.blk.specs.declared.shape.BlockShape.{BlockShape}
+use Rattle.blk.specs.Shape.{with_features}
 use Rattle.chains.specs.Places.{places, read_places}
 use Rattle.chains.specs.State.{RingState}
 use Rattle.chains.specs.Look.{Sees}
@@ -41,8 +41,8 @@ use Rattle.machine.specs.Seen.{Seen, state_of}
 use Rattle.machine.specs.State.{DeviceState}
 use Rattle.machine.specs.Step.{step_device, disk_of, MaySeeAt}
 use Rattle.machine.specs.declared.event.Event.TheVariants.{Step}
-use Rattle.machine.specs.declared.own.Own.{Own}
-use Rattle.machine.specs.declared.own.Own.TheVariants.{Network, Block, Console, Entropy}
+use Rattle.machine.specs.declared.kind.Kind.{Kind}
+use Rattle.machine.specs.declared.kind.Kind.TheVariants.{Network, Block, Console, Entropy}
 use Rattle.machine.specs.declared.reply.Reply.{Reply}
 use Rattle.vmig_c.specs.Stepped.{most_of, most_sent, most_sent_by, sent_in, Steps}
 use Rattle.vmig_c.specs.Status.{status_of}
@@ -101,29 +101,29 @@ of_advance advanced.BadSector most = nothing_sent most
 of_advance advanced.DiskFailed most = nothing_sent most
 of_advance (advanced.Completed len due) most = nothing_sent most
 
-of_service : (shape : BlockShape) (own : Own) (pick : ℕ) (ram : List ℕ) (q : RingState) (seen : Next) → Sees (wanted_of own pick) ram q seen
-    → Within (reply_of (serve shape own pick ram q seen).served) (most_of (wanted_of own pick))
-of_service shape (Network frames) zero ram q seen sees = of_frame (receiving.receive_step ram q frames seen).answer 0
-of_service shape (Network frames) (suc n) ram q seen sees = of_transmission ram q frame_form seen sees
-of_service shape (Console size held) zero ram q seen sees = of_bytes (receive_step ram q held seen).answer 0
-of_service shape (Console size held) (suc n) ram q seen sees = of_transmission ram q text_form seen sees
-of_service shape (Block requests) n ram q seen sees = of_taking (take_step ram q shape requests seen).answer 0
-of_service shape (Entropy pool) n ram q seen sees = of_bytes (receive_step ram q pool seen).answer 0
+of_service : (features : ℕ) (kind : Kind) (pick : ℕ) (ram : List ℕ) (q : RingState) (seen : Next) → Sees (wanted_of kind pick) ram q seen
+    → Within (reply_of (serve features kind pick ram q seen).served) (most_of (wanted_of kind pick))
+of_service features (Network mac frames) zero ram q seen sees = of_frame (receiving.receive_step ram q frames seen).answer 0
+of_service features (Network mac frames) (suc n) ram q seen sees = of_transmission ram q frame_form seen sees
+of_service features (Console size held) zero ram q seen sees = of_bytes (receive_step ram q held seen).answer 0
+of_service features (Console size held) (suc n) ram q seen sees = of_transmission ram q text_form seen sees
+of_service features (Block sectors read_only id requests) n ram q seen sees = of_taking (take_step ram q (with_features sectors read_only id features) requests seen).answer 0
+of_service features (Entropy pool) n ram q seen sees = of_bytes (receive_step ram q pool seen).answer 0
 
-of_look : (d : DeviceState) (ram : List ℕ) (pick : ℕ) (q : RingState) (o : Outcome) (seen : Next) → MayLookAt (wanted_of d.own pick) q ram o seen
-    → Within (looked_step d ram pick q o seen).reply (most_of (wanted_of d.own pick))
-of_look d ram pick q no_memory seen may = nothing_sent (most_of (wanted_of d.own pick))
-of_look d ram pick q disk_failed seen may = nothing_sent (most_of (wanted_of d.own pick))
-of_look d ram pick q fine seen may = of_service (block_of d.shape d.registers.common.features) d.own pick ram q seen may
+of_look : (d : DeviceState) (ram : List ℕ) (pick : ℕ) (q : RingState) (o : Outcome) (seen : Next) → MayLookAt (wanted_of d.kind pick) q ram o seen
+    → Within (looked_step d ram pick q o seen).reply (most_of (wanted_of d.kind pick))
+of_look d ram pick q no_memory seen may = nothing_sent (most_of (wanted_of d.kind pick))
+of_look d ram pick q disk_failed seen may = nothing_sent (most_of (wanted_of d.kind pick))
+of_look d ram pick q fine seen may = of_service d.registers.common.features d.kind pick ram q seen may
 
 of_request : (d : DeviceState) (ram : List ℕ) (content : List Sector) (pick : ℕ) (at : Option RingState) (o : Outcome) (most : ℕ)
     → Within (advance_at d ram content pick at o).reply most
 of_request d ram content pick None o most = nothing_sent most
-of_request d ram content pick (Some q) o most = of_advance (advance_step (block_of d.shape d.registers.common.features) ram q content (requests_of d.own) (pick - 1) (disk_does o)).answer most
+of_request d ram content pick (Some q) o most = of_advance (advance_step (block_of (made_as d.kind) d.registers.common.features) ram q content (requests_of d.kind) (pick - 1) (disk_does o)).answer most
 
-of_step : (d : DeviceState) (ram : List ℕ) (content : List Sector) (pick : ℕ) (at : Option RingState) (o : Outcome) (seen : Next) → MayLook (wanted_of d.own pick) at ram o seen
-    → Within (step_at d ram content pick at o seen).reply (most_of (wanted_of d.own pick))
-of_step d ram content pick None o seen may = of_request d ram content pick (advanced_at d pick) o (most_of (wanted_of d.own pick))
+of_step : (d : DeviceState) (ram : List ℕ) (content : List Sector) (pick : ℕ) (at : Option RingState) (o : Outcome) (seen : Next) → MayLook (wanted_of d.kind pick) at ram o seen
+    → Within (step_at d ram content pick at o seen).reply (most_of (wanted_of d.kind pick))
+of_step d ram content pick None o seen may = of_request d ram content pick (advanced_at d pick) o (most_of (wanted_of d.kind pick))
 of_step d ram content pick (Some q) o seen may = of_look d ram pick q o seen may
 
 of_device : (dev : ℕ) (d : Option DeviceState) (ram : List ℕ) (content : List Sector) (pick : ℕ) (o : Outcome) (seen : Next) → MaySeeAt d ram pick o seen
@@ -139,17 +139,17 @@ sends_within m after dev pick reply applied =
     rw (applied.has.reply_is) (of_device dev (slice_get s.devices dev) s.ram (disk_of s dev) pick o applied.has.seen applied.has.may_see)
 
 -- No step sends more than 65,536 bytes.
-most_of_own : (own : Own) (pick : ℕ) → most_of (wanted_of own pick) ≤ 65536
-most_of_own (Network frames) zero = omega arith
-most_of_own (Network frames) (suc n) = omega arith
-most_of_own (Console size held) zero = omega arith
-most_of_own (Console size held) (suc n) = omega arith
-most_of_own (Block requests) n = omega arith
-most_of_own (Entropy pool) n = omega arith
+most_of_kind : (kind : Kind) (pick : ℕ) → most_of (wanted_of kind pick) ≤ 65536
+most_of_kind (Network mac frames) zero = omega arith
+most_of_kind (Network mac frames) (suc n) = omega arith
+most_of_kind (Console size held) zero = omega arith
+most_of_kind (Console size held) (suc n) = omega arith
+most_of_kind (Block sectors read_only id requests) n = omega arith
+most_of_kind (Entropy pool) n = omega arith
 
 most_of_device : (d : Option DeviceState) (pick : ℕ) → most_sent d pick ≤ 65536
 most_of_device None pick = omega arith
-most_of_device (Some d) pick = most_of_own d.own pick
+most_of_device (Some d) pick = most_of_kind d.kind pick
 
 pub few_sent : (m after : Seen) (dev pick : ℕ) (reply : Reply) → IsApplied m (Step dev pick) reply after → length (sent_in reply) ≤ 65536
 few_sent m after dev pick reply applied =

@@ -3,7 +3,7 @@ use Rattle.std.specs.Prelude.{◌≡◌, ◌⊎◌, ℕ, List, Option, Some, Non
 use Rattle.machine.specs.Seen.{Seen}
 use Rattle.receiver.specs.declared.recv_error.RecvError.{RecvError}
 use Rattle.vmig_c.specs.ArrivalSeen.{ArrivalSeen}
-use Rattle.vmig_c.specs.Awaited.{CountsRounds, HasArrived, IsFed, TellsEnd, TellsOf, nothing_fed, refused_for_good, stream_status}
+use Rattle.vmig_c.specs.Awaited.{CountsRounds, HasArrived, IsClosed, IsFed, TellsEnd, TellsOf, nothing_fed, stream_status}
 use Rattle.vmig_c.specs.Status.{done, in_use, no_machine, no_memory}
 use Rattle.vmig_c.specs.Kept.{KeptSeen, own, State, Still, Moving, Arriving}
 
@@ -17,7 +17,7 @@ pub record HasNotFed (r : ArrivalSeen) (piece : List ℕ) (status : ℕ) (next :
   pub error : RecvError
   pub why : TellsOf r piece error
   pub status_is : status ≡ stream_status error
-  pub failed : next ≡ refused_for_good
+  pub failed : IsClosed r next
 
 abbrev pub Feeds : ArrivalSeen → List ℕ → ℕ → ArrivalSeen → Type 0
 Feeds r piece status next = HasFed r piece status next ⊎ HasNotFed r piece status next
@@ -52,7 +52,7 @@ pub record HasNotFinished (r : ArrivalSeen) (status : ℕ) (next : ArrivalSeen) 
   pub error : RecvError
   pub why : TellsEnd r error
   pub status_is : status ≡ stream_status error
-  pub failed : next ≡ refused_for_good
+  pub failed : IsClosed r next
 
 abbrev pub FinishesKept : State → ℕ → State → Type 0
 FinishesKept (Arriving r) status (Still m) = HasFinished r status m

@@ -1,13 +1,13 @@
 -- A machine whose stream arrives in pieces.
-use Rattle.std.specs.Prelude.{◌≡◌, ◌≢◌, ℕ, ◌+◌, List, [], ◌++◌, map}
+use Rattle.std.specs.Prelude.{◌≡◌, ◌≢◌, ℕ, ◌+◌, List, [], ◌++◌, map, true, false}
 use Rattle.machine.specs.Seen.{Seen, no_marks, state_of}
 use Rattle.receiver.specs.Codes.{recv_code_of}
 use Rattle.receiver.specs.Faults.{Fault}
-use Rattle.receiver.specs.Receiving.{HasBeenFed, HasRounds, IsFinish, NoFault, Received}
+use Rattle.receiver.specs.Receiving.{HasBeenFed, HasRounds, IsFinish, NoFault, Received, TellsNow}
 use Rattle.receiver.specs.declared.recv_error.RecvError.{RecvError}
-use Rattle.receiver.specs.declared.recv_error.RecvError.TheVariants.{NoMemory, AlreadyFailed}
+use Rattle.receiver.specs.declared.recv_error.RecvError.TheVariants.{NoMemory, DiskFailed, AlreadyFailed}
 use Rattle.wire.specs.Stream.{IsStream}
-use Rattle.vmig_c.specs.ArrivalSeen.{ArrivalSeen, AtHead, AtBody, Refused}
+use Rattle.vmig_c.specs.ArrivalSeen.{ArrivalSeen, AtHead, AtBody, Refused, Over}
 use Rattle.vmig_c.specs.Headed.{AreFitting, HasHeader, HasNoHeader}
 use Rattle.vmig_c.specs.Plain.{ArePlain}
 use Rattle.vmig_c.specs.declared.arrival.Progress.{Progress}
@@ -32,18 +32,21 @@ abbrev pub IsAtHead : ArrivalSeen → Type 0
 IsAtHead (AtHead held) = Unit {0}
 IsAtHead (AtBody r) = ⊥
 IsAtHead Refused = ⊥
+IsAtHead (Over r) = ⊥
 
 -- These are all bytes that were fed, and there was no refusal. Once the header was read, the disks are of the sizes that it says.
 abbrev pub HasCome : ArrivalSeen → List ℕ → Type 0
 HasCome (AtHead held) bytes = bytes ≡ held
 HasCome (AtBody r) bytes = HasBeenFed r bytes × HasHeader bytes r.sizes
 HasCome Refused bytes = ⊥
+HasCome (Over r) bytes = HasBeenFed r bytes
 
--- The sizes of the disks: until the header is whole there is none.
+-- The sizes of the disks: until the header is whole there is none, but for images.
 abbrev pub awaited_sizes : ArrivalSeen → List ℕ
 awaited_sizes (AtHead held) = []
 awaited_sizes (AtBody r) = r.sizes
 awaited_sizes Refused = []
+awaited_sizes (Over r) = r.sizes
 
 -- The disks lie in memory: none ever failed, or will.
 abbrev pub AreSteady : Received → Type 0
@@ -61,15 +64,38 @@ IsComing (Head held) = HasNoHeader held.items
 IsComing (Body r) = AreSteady r
 IsComing Failed = Unit {0}
 
+-- The disks are images of the caller.
+abbrev pub IsOver : ArrivalSeen → Type 0
+IsOver (Over r) = Unit {0}
+IsOver a = ⊥
+
+-- Disks of the library are of the sizes that the header says. That images are of these sizes is known once the header is whole: another
+-- header is a fault.
+abbrev pub AreFittingFor : ArrivalSeen → List ℕ → Type 0
+AreFittingFor (Over r) bytes = Unit {0}
+AreFittingFor a bytes = AreFitting bytes (awaited_sizes a)
+
 -- These are all bytes that were fed, and there is no fault in them.
 pub record GoesOnWith (bytes : List ℕ) (a : ArrivalSeen) : Type 0 where
   pub come : HasCome a bytes
-  pub fit : AreFitting bytes (awaited_sizes a)
+  pub fit : AreFittingFor a bytes
   pub quiet : NoFault (awaited_sizes a) bytes
+
+-- There was no refusal.
+abbrev pub IsOpen : ArrivalSeen → Type 0
+IsOpen Refused = ⊥
+IsOpen (Over r) = r.failed ≡ false
+IsOpen a = Unit {0}
+
+-- After a refusal: no more of the stream is taken, and there will be no machine. Images are still held.
+abbrev pub IsClosed : ArrivalSeen → ArrivalSeen → Type 0
+IsClosed (Over r) (Over next) = (next.failed ≡ true) × (next.sizes ≡ r.sizes)
+IsClosed (Over r) next = ⊥
+IsClosed a next = next ≡ Refused
 
 -- The next piece was taken.
 pub record IsFed (a : ArrivalSeen) (piece : List ℕ) (next : ArrivalSeen) : Type 0 where
-  pub went_on : a ≢ Refused
+  pub went_on : IsOpen a
   pub goes_on : (b : List ℕ) → HasCome a b → GoesOnWith (b ++ piece) next
 
 -- There is a fault in the bytes, for disks of the sizes that the header says.
@@ -84,26 +110,35 @@ abbrev pub TellsWhy : List ℕ → RecvError → Type 0
 TellsWhy bytes NoMemory = Unit {0}
 TellsWhy bytes error = IsFaulty bytes error
 
+-- Why a piece is refused over images: as their receiver tells it, and never because a disk failed.
+pub record IsToldOver (r : Received) (piece : List ℕ) (error : RecvError) : Type 0 where
+  pub already : r.failed ≡ true → error ≡ AlreadyFailed
+  pub why : (b : List ℕ) → HasBeenFed r b → TellsNow r.sizes b piece error
+  pub steady : error ≢ DiskFailed
+
 -- Why a piece is refused: a refusal came before, or all bytes up to the end of the piece are refused.
 abbrev pub TellsOf : ArrivalSeen → List ℕ → RecvError → Type 0
 TellsOf Refused piece error = error ≡ AlreadyFailed
+TellsOf (Over r) piece error = IsToldOver r piece error
 TellsOf a piece error = (b : List ℕ) → HasCome a b → TellsWhy (b ++ piece) error
 
 -- Why no machine is made of all bytes: a refusal came before, or memory was refused, or they are not yet the stream of a
 -- machine.
 abbrev pub TellsEnd : ArrivalSeen → RecvError → Type 0
 TellsEnd Refused error = error ≡ AlreadyFailed
+TellsEnd (Over r) error = (r.failed ≡ true → error ≡ AlreadyFailed) × ((b : List ℕ) → HasBeenFed r b → IsFinish b error)
 TellsEnd a error = (b : List ℕ) → HasCome a b → IsFinish b error
 
 -- The bytes are the stream of this machine. Its disks lie in memory.
 pub record HasArrived (a : ArrivalSeen) (m : Seen) : Type 0 where
-  pub went_on : a ≢ Refused
+  pub went_on : IsOpen a
   pub stream : (b : List ℕ) → HasCome a b → IsStream b (state_of m)
   pub plain : ArePlain m
 
 -- This number of rounds ended in the bytes so far; after a refusal it is 0.
 abbrev pub CountsRounds : ArrivalSeen → ℕ → Type 0
 CountsRounds Refused n = n ≡ 0
+CountsRounds (Over r) n = (r.failed ≡ true → n ≡ 0) × ((b : List ℕ) → HasBeenFed r b → HasRounds r.sizes b n)
 CountsRounds a n = (b : List ℕ) → HasCome a b → HasRounds (awaited_sizes a) b n
 
 -- The status of a piece, or an end, that is refused: it always names the stream's refusal, also if memory was refused, since

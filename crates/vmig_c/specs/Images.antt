@@ -7,7 +7,7 @@ use Rattle.machine.specs.EffectLaws.{sector_on, sectors_on}
 use Rattle.machine.specs.First.{first_machine}
 use Rattle.machine.specs.Refusal.{code_of}
 use Rattle.machine.specs.Seen.{Seen, state_of}
-use Rattle.machine.specs.Shapes.{disk_size_of, disk_sizes, sector_count}
+use Rattle.machine.specs.Shapes.{disk_size_of, disk_sizes, sector_count, made_as}
 use Rattle.machine.specs.Sound.{IsSound}
 use Rattle.machine.specs.State.{DeviceState}
 use Rattle.machine.specs.declared.reply.Refusal.TheVariants.{NoDevice, WrongKind}
@@ -74,7 +74,7 @@ disk_refusal (Some sectors) n room = if not (nat_lt n sectors) then Some no_sect
 
 abbrev pub sector_refusal_of : Option DeviceState → ℕ → ℕ → Option ℕ
 sector_refusal_of None n room = Some (code_of NoDevice)
-sector_refusal_of (Some d) n room = disk_refusal (disk_size_of d.shape) n room
+sector_refusal_of (Some d) n room = disk_refusal (disk_size_of (made_as d.kind)) n room
 
 abbrev pub sector_refusal : State → ℕ → ℕ → ℕ → Option ℕ
 sector_refusal (Moving l) dev n room = Some is_moving

@@ -1,9 +1,13 @@
 pub mod ArrivalSeen
+pub mod Announced
 pub mod Arriving
 pub mod Awaited
+pub mod Described
+pub mod Durable
 pub mod Headed
 pub mod Images
 pub mod Kept
+pub mod Landing
 pub mod Lending
 pub mod Making
 pub mod Mapping
@@ -20,3 +24,4 @@ pub mod Status
 pub mod Stepped
 pub mod Told
 pub mod Unmapping
+pub mod Version

@@ -11,6 +11,8 @@
 --     65 to 73   what a step did
 --     74 to 77   what a call of a migration did
 --     78         a step has something to do; where none has, the answer is 65
+--     79         the header of a stream is not whole: more of its bytes are needed
+--     80         before the step, what the guest wrote to the disk has to be durable
 use Rattle.std.specs.Prelude.{ℕ, ◌+◌}
 use Rattle.machine.specs.Refusal.{code_of}
 use Rattle.sender.specs.Saving.{mig_code_of}
@@ -30,6 +32,18 @@ no_machine = 8
 
 abbrev pub in_use : ℕ
 in_use = 9
+
+-- There is no device of this number.
+abbrev pub no_device : ℕ
+no_device = 1
+
+-- The header of a stream is not whole.
+abbrev pub more : ℕ
+more = 79
+
+-- The step ends a request after which the driver takes what was written for durable.
+abbrev pub sync : ℕ
+sync = 80
 
 abbrev pub no_memory : ℕ
 no_memory = 10

@@ -28,7 +28,7 @@ most_of (wanted.Message form) = form.most - form.header
 -- How many bytes a step of this pick may send: 1,514 of a network device, 65,536 of a console, and none of others.
 abbrev pub most_sent : Option DeviceState → ℕ → ℕ
 most_sent None pick = 0
-most_sent (Some d) pick = most_of (wanted_of d.own pick)
+most_sent (Some d) pick = most_of (wanted_of d.kind pick)
 
 abbrev pub most_sent_by : Seen → ℕ → ℕ → ℕ
 most_sent_by m dev pick = most_sent (slice_get (state_of m).devices dev) pick

@@ -1,10 +1,12 @@
 -- Images that the caller has back.
-use Rattle.std.specs.Prelude.{◌≡◌, ℕ, ◌==◌, ◌&&◌, ◌++◌, not, nat_lt, if◌then◌else◌, Bool, true, List, [], ◌∷◌, All, length, Option, Some, None}
+use Rattle.std.specs.Prelude.{◌≡◌, ℕ, ◌==◌, ◌&&◌, ◌++◌, not, nat_lt, if◌then◌else◌, Bool, true, List, [], ◌∷◌, All, length, map, Option, Some, None}
 use Rattle.std.specs.List.{flat_map}
 use Rattle.blk.specs.Sectors.{Sector, sectors_of}
 use Rattle.machine.specs.Seen.{DeviceSeen, Seen}
-use Rattle.machine.specs.Shapes.{disk_size_of}
+use Rattle.machine.specs.Shapes.{disk_size_of, made_as}
 use Rattle.mapped_disk.specs.declared.image.Image.{Image}
+use Rattle.receiver.specs.Receiving.{Received}
+use Rattle.vmig_c.specs.ArrivalSeen.{ArrivalSeen, Over}
 use Rattle.vmig_c.specs.Kept.{KeptSeen, State, Still, Moving, Arriving}
 use Rattle.vmig_c.specs.Mapping.{contents, counts}
 use Rattle.vmig_c.specs.Status.{bad_images, done, no_machine, not_mapped, too_small}
@@ -15,7 +17,7 @@ disk_if None sectors = []
 disk_if (Some n) sectors = sectors ∷ []
 
 abbrev pub disk_in : DeviceSeen → List (List Sector)
-disk_in d = disk_if (disk_size_of d.state.shape) d.sectors
+disk_in d = disk_if (disk_size_of (made_as d.state.kind)) d.sectors
 
 abbrev pub disks_in : List DeviceSeen → List (List Sector)
 disks_in devices = flat_map disk_in devices
@@ -53,11 +55,16 @@ are_none (n ∷ ns) = n == 0 && are_none ns
 abbrev pub slots_refusal : ℕ → List Image → Option ℕ
 slots_refusal disks images = if not (are_none (counts images)) then Some bad_images else if nat_lt (length images) disks then Some too_small else None
 
--- Why no machine is unmapped. A machine that is arriving is none yet; disks in memory of the library are not given away.
+-- The slots are for all images over which a machine arrives.
+abbrev pub arriving_refusal : ArrivalSeen → List Image → Option ℕ
+arriving_refusal (Over r) images = slots_refusal (length r.sizes) images
+arriving_refusal _ images = Some no_machine
+
+-- Why no machine is unmapped. Disks in memory of the library are not given away, and one that arrives over them is no machine yet.
 abbrev pub mapped_refusal_of : State → List Image → Option ℕ
 mapped_refusal_of (Still m) images = slots_refusal (length (disks_in m.devices)) images
 mapped_refusal_of (Moving l) images = slots_refusal (length (disks_in l.machine.devices)) images
-mapped_refusal_of (Arriving r) images = Some no_machine
+mapped_refusal_of (Arriving r) images = arriving_refusal r images
 
 abbrev pub own_refusal_of : State → Option ℕ
 own_refusal_of (Arriving r) = Some no_machine
@@ -70,10 +77,21 @@ abbrev pub unmap_refusal : Option KeptSeen → List Image → Option ℕ
 unmap_refusal None images = Some no_machine
 unmap_refusal (Some k) images = unmap_refusal_of k images
 
+-- The first slots have what the disks hold over which a machine was to arrive, and the others are of no sectors.
+pub record HasGivenUp (r : Received) (images new_images : List Image) : Type 0 where
+  pub rest : List (List (List ℕ))
+  pub first : contents new_images ≡ map (λ d. d.sectors) r.disks ++ rest
+  pub empty : All (λ c. c ≡ []) rest
+  pub count : length new_images ≡ length images
+
+abbrev pub HasUnmappedArrival : ArrivalSeen → List Image → List Image → Type 0
+HasUnmappedArrival (Over r) images new_images = HasGivenUp r images new_images
+HasUnmappedArrival _ images new_images = ⊥
+
 abbrev pub HasUnmappedState : State → List Image → List Image → Type 0
 HasUnmappedState (Still m) images new_images = HasUnmapped m images new_images
 HasUnmappedState (Moving l) images new_images = HasUnmapped l.machine images new_images
-HasUnmappedState (Arriving r) images new_images = ⊥
+HasUnmappedState (Arriving r) images new_images = HasUnmappedArrival r images new_images
 
 pub record IsUnmapped (k : KeptSeen) (images new_images : List Image) (status : ℕ) (after : Option KeptSeen) : Type 0 where
   pub status_is : status ≡ done

@@ -56,7 +56,7 @@ impl Model for Arrival {
 
 impl Arrival {
     ghost use Rattle.std.specs.Prelude.{◌≡◌, IfErr, IfOk};
-    ghost use Rattle.vmig_c.specs.Awaited.{CountsRounds, HasArrived, IsAtHead, IsFed, TellsEnd, TellsOf, nothing_fed, refused_for_good};
+    ghost use Rattle.vmig_c.specs.Awaited.{CountsRounds, HasArrived, IsAtHead, IsClosed, IsFed, TellsEnd, TellsOf, nothing_fed, refused_for_good};
 
     /// An arrival that was fed nothing yet. It takes no memory.
     #[tactic(auto, using(crate::proofs::Awaited::empty_head))]
@@ -82,7 +82,7 @@ impl Arrival {
     /// Takes the next piece. A receiver takes it where it lies.
     pub(crate) fn feed(&mut self, piece: &[u8]) -> Result<(), RecvError>
         ensures fed { IfOk result (λ x. IsFed self.old piece.now self.new) }
-        ensures refused { IfErr result (λ e. TellsOf self.old piece.now e × (self.new ≡ refused_for_good)) }
+        ensures refused { IfErr result (λ e. TellsOf self.old piece.now e × IsClosed self.old self.new) }
     {
         match &mut self.progress {
             Progress::Body(receiver) => match receiver.feed(piece) {
@@ -102,7 +102,7 @@ impl Arrival {
     fn feed_head(&mut self, piece: &[u8]) -> Result<(), RecvError>
         requires { IsAtHead self.old }
         ensures fed { IfOk result (λ x. IsFed self.old piece.now self.new) }
-        ensures refused { IfErr result (λ e. TellsOf self.old piece.now e × (self.new ≡ refused_for_good)) }
+        ensures refused { IfErr result (λ e. TellsOf self.old piece.now e × IsClosed self.old self.new) }
     {
         let Progress::Head(held) = mem::replace(&mut self.progress, Progress::Failed) else {
             unreachable!()
@@ -130,7 +130,7 @@ impl Arrival {
     /// The machine whose stream was fed.
     pub(crate) fn finish(self) -> Result<Machine<MemDisk>, RecvError>
         ensures arrived { IfOk result (λ m. HasArrived self m) }
-        ensures refused { IfErr result (λ e. TellsEnd self e) }
+        ensures refused { IfErr result (λ e. TellsEnd self e × IsClosed self refused_for_good) }
     {
         let Arrival { alloc: _, progress } = self;
         match progress {

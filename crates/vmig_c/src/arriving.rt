@@ -7,6 +7,7 @@ ghost use Rattle.vmig_c.specs.Awaited.{stream_status};
 use crate::arrival::Arrival;
 use crate::handle::Handle;
 use crate::kept::{Contents, Kept};
+use crate::landing::Landing;
 use crate::migrating::taken_out;
 use crate::status::{DONE, IN_USE, NO_MEMORY};
 use receiver::RecvError;
@@ -20,7 +21,7 @@ pub(crate) fn feed_first(alloc: Global, machine: &mut Handle, piece: &[u8]) -> u
     requires { IsNone machine.old.machine }
     ensures { Fed machine.old.machine piece.now result machine.new.machine }
 {
-    let arriving = Kept::new(Contents::Arriving(Arrival::new(alloc)));
+    let arriving = Kept::new(alloc, Contents::Arriving(Arrival::new(alloc)));
     let Ok(boxed) = Box::new(alloc, arriving) else {
         return NO_MEMORY;
     };
@@ -36,6 +37,7 @@ pub(crate) fn feed(kept: &mut Kept, piece: &[u8]) -> u32
 {
     match &mut kept.contents {
         Contents::Arriving(arrival) => feed_told(arrival, piece),
+        Contents::ArrivingMapped(landing) => feed_landing(landing, piece),
         _ => IN_USE,
     }
 }
@@ -45,6 +47,16 @@ fn feed_told(arrival: &mut Arrival, piece: &[u8]) -> u32
     ensures { Feeds arrival.old piece.now result arrival.new }
 {
     match arrival.feed(piece) {
+        Ok(()) => DONE,
+        Err(error) => stream_told(error),
+    }
+}
+
+#[tactic(auto, using(crate::proofs::Arrivals::was_fed, crate::proofs::Arrivals::was_not_fed))]
+fn feed_landing(landing: &mut Landing, piece: &[u8]) -> u32
+    ensures { Feeds landing.old piece.now result landing.new }
+{
+    match landing.feed(piece) {
         Ok(()) => DONE,
         Err(error) => stream_told(error),
     }
@@ -65,16 +77,22 @@ fn finished(alloc: Global, old: Kept) -> (Kept, u32)
     ensures finishes { FinishesKept old.state result.1 result.0.state }
     ensures kind { result.0 ≡ record old { state = result.0.state } }
 {
-    match old.contents {
+    let Kept { contents, sent } = old;
+    let (contents, status) = match contents {
         Contents::Arriving(arrival) => match arrival.finish() {
-            Ok(machine) => (Kept::new(Contents::Still(machine)), DONE),
+            Ok(machine) => (Contents::Still(machine), DONE),
             Err(error) => {
                 let failed = Contents::Arriving(Arrival::failed(alloc));
-                (Kept::new(failed), stream_told(error))
+                (failed, stream_told(error))
             }
         },
-        contents => (Kept::new(contents), IN_USE),
-    }
+        Contents::ArrivingMapped(landing) => match landing.finish() {
+            Ok(machine) => (Contents::StillMapped(machine), DONE),
+            Err((error, landing)) => (Contents::ArrivingMapped(landing), stream_told(error)),
+        },
+        contents => (contents, IN_USE),
+    };
+    (Kept { contents, sent }, status)
 }
 
 /// The number of rounds that ended in the bytes that arrived.
@@ -86,12 +104,16 @@ pub(crate) fn rounds(kept: &Kept, rounds: &mut u32) -> u32
             *rounds = arrival.rounds();
             DONE
         }
+        Contents::ArrivingMapped(landing) => {
+            *rounds = landing.rounds();
+            DONE
+        }
         _ => IN_USE,
     }
 }
 
 /// The status for a stream that is refused for good.
-fn stream_told(error: RecvError) -> u32
+pub(crate) fn stream_told(error: RecvError) -> u32
     ensures { result ≡ stream_status error }
 {
     32 + error.code() as u32

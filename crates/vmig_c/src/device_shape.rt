@@ -1,6 +1,7 @@
 //! Devices as C names them.
 
 ghost use Rattle.std.specs.Prelude.{◌≡◌};
+ghost use Rattle.vmig_c.specs.Described.{described};
 ghost use Rattle.vmig_c.specs.Making.{shape_of, is_plain, is_known};
 
 use machine::{SECTORS_MAX, Shape};
@@ -26,6 +27,39 @@ pub struct DeviceShape {
 }
 
 impl DeviceShape {
+    /// What a device was made as. What its kind does not need is zeros.
+    pub(crate) fn of(shape: Shape) -> DeviceShape
+        ensures { result ≡ described shape }
+    {
+        let none = DeviceShape {
+            kind: 4,
+            read_only: 0,
+            mac: [0; 6],
+            sectors: 0,
+            id: [0; 20],
+        };
+        match shape {
+            Shape::Net { mac } => DeviceShape {
+                kind: 1,
+                mac,
+                ..none
+            },
+            Shape::Block {
+                sectors,
+                read_only,
+                id,
+            } => DeviceShape {
+                kind: 2,
+                read_only: read_only as u8,
+                sectors,
+                id,
+                ..none
+            },
+            Shape::Console => DeviceShape { kind: 3, ..none },
+            Shape::Entropy => none,
+        }
+    }
+
     /// The shape of the machine's device.
     pub(crate) fn shape(self) -> Shape
         ensures { result ≡ shape_of self }

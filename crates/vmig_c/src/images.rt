@@ -66,7 +66,7 @@ pub(crate) fn machine_with(
     let Ok(machine) = Machine::new(alloc, pages, &shapes, disks) else {
         return Err(NoMemory);
     };
-    let boxed = Box::new(alloc, Kept::new(Contents::Still(machine)))?;
+    let boxed = Box::new(alloc, Kept::new(alloc, Contents::Still(machine)))?;
     Ok(boxed)
 }
 
@@ -128,7 +128,7 @@ pub(crate) fn read_sector(kept: &mut Kept, dev: u8, sector: u64, buf: &mut [u8])
         Contents::Still(machine) => read_out(machine, dev, sector, buf),
         Contents::StillMapped(machine) => read_out(machine, dev, sector, buf),
         Contents::Moving(_) | Contents::MovingMapped(_) => IS_MOVING,
-        Contents::Arriving(_) => NO_MACHINE,
+        Contents::Arriving(_) | Contents::ArrivingMapped(_) => NO_MACHINE,
     }
 }
 
@@ -140,7 +140,7 @@ fn sector_refusal(kept: &Kept, dev: u8, sector: u64, room: usize) -> Option<u32>
         Contents::Still(machine) => device_refusal(machine, dev, sector, room),
         Contents::StillMapped(machine) => device_refusal(machine, dev, sector, room),
         Contents::Moving(_) | Contents::MovingMapped(_) => Some(IS_MOVING),
-        Contents::Arriving(_) => Some(NO_MACHINE),
+        Contents::Arriving(_) | Contents::ArrivingMapped(_) => Some(NO_MACHINE),
     }
 }
 

@@ -3,10 +3,12 @@
 ghost use Rattle.vmig_c.specs.Kept.{kept_of};
 
 use crate::arrival::Arrival;
+use crate::landing::Landing;
 use crate::waiting::Waiting;
 use machine::{Machine, MemDisk};
 use mapped_disk::MappedDisk;
 use sender::Live;
+use std::alloc::Global;
 use std::marker::Model;
 
 /// A machine that is being migrated, and the bytes written for it and not taken yet.
@@ -30,12 +32,17 @@ pub enum Contents {
 
     /// It arrives: it is no machine yet. Its disks will lie in memory of the library.
     Arriving(Arrival),
+
+    /// It arrives, or was refused, over disks in the caller's memory.
+    ArrivingMapped(Landing),
 }
 
 /// The contents of a handle. Contracts see which state they are in, and whether the disks are the caller's memory.
 #[derive(Drop)]
 pub struct Kept {
     pub(crate) contents: Contents,
+    // The bytes of the last message that a step sent: kept, so that the next one takes no memory.
+    pub(crate) sent: Vec<u8>,
 }
 
 impl Model for Kept {
@@ -50,9 +57,12 @@ impl Kept {
     ghost use Rattle.std.specs.Prelude.{◌≡◌};
 
     /// Wraps the contents of a handle.
-    pub(crate) fn new(contents: Contents) -> Kept
+    pub(crate) fn new(alloc: Global, contents: Contents) -> Kept
         ensures { result ≡ kept_of contents }
     {
-        Kept { contents }
+        Kept {
+            contents,
+            sent: Vec::new(alloc),
+        }
     }
 }

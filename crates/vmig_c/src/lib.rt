@@ -9,11 +9,13 @@
 //!   making (`specs/Making`, `specs/Images`) or its stream (`specs/Moving`), by the status that it returns. The statuses are in
 //!   one table (`specs/Status`): from 1 to 63 nothing has changed, but for 20 (the writer failed) and for a stream that is
 //!   refused as it arrives. `vmig_step` is not done where what it sends might not fit.
-//! - `vmig_next_work` names the next step that has something to do (`specs/NextWork`).
+//! - `vmig_next_work` names the next step that has something to do (`specs/NextWork`), and `vmig_must_sync` says of a step whether the
+//!   driver takes what it wrote to the disk for durable once it is made (`specs/Durable`).
 //! - `vmig_saved_len` is the length of the stream that `vmig_save` makes (`specs/Measured`), without that stream.
 //! - Every call has its clause in each state: the calls of a migration those of `Live` (`specs/Migrated`), over a writer into
 //!   memory from which `vmig_take` takes; the calls of an arrival those of `Receiver` (`specs/Awaited`, `specs/Arriving`), over
-//!   disks that are made as soon as the header is whole. What arrives is no machine for the other calls.
+//!   disks that are made as soon as the header is whole, or over images of the caller (`vmig_arrive_mapped`, `specs/Landing`).
+//!   What arrives is no machine for the other calls.
 //! - The bytes that were taken, followed by those that wait, are what a machine that is being migrated has written, from its
 //!   first call to its stop, and the machine that arrives from them is that machine: laws over these clauses (`specs/Sent`).
 //! - A caller whose guest runs on hardware keeps the guest's RAM in memory of its own (`specs/Mirror`). `vmig_push` is one
@@ -25,7 +27,8 @@
 //!   Nothing but the guest writes one.
 //! - `vmig_make_mapped` makes the first machine over disks in images of the caller, which it takes (`specs/Mapping`).
 //!   `vmig_unmap` frees such a machine, and the slots then hold the contents of its disks, in the order of the devices, but for
-//!   bad sectors, which may hold anything (`specs/Unmapping`). Both refuse without a change. That an image comes back to its
+//!   bad sectors, which may hold anything (`specs/Unmapping`). It also ends an arrival over images, refused or not, and gives them
+//!   back. Each refuses without a change. That an image comes back to its
 //!   address is not in the clause, since a machine is not seen with addresses; the disk has no other memory to give.
 //! - The machines of C have their disks in memory (`specs/Plain`): they are honest and steady, and stay so.
 //! - The caller's part is C's: pointers and counts name memory as the header says.
@@ -33,8 +36,12 @@
 
 ghost use Rattle.std.specs.Prelude.{◌≡◌, None};
 ghost use Rattle.machine.specs.declared.event.Event.TheVariants as events;
+ghost use Rattle.vmig_c.specs.Announced.{Announces, AnnouncesDevice};
 ghost use Rattle.vmig_c.specs.Arriving.{Counted, Fed, Finished};
+ghost use Rattle.vmig_c.specs.Described.{Describes, Sizes};
+ghost use Rattle.vmig_c.specs.Durable.{sync_told};
 ghost use Rattle.vmig_c.specs.Images.{MakesWith, SectorRead};
+ghost use Rattle.vmig_c.specs.Landing.{Awaits};
 ghost use Rattle.vmig_c.specs.Making.{Makes};
 ghost use Rattle.vmig_c.specs.Mapping.{Maps};
 ghost use Rattle.vmig_c.specs.Measured.{Measured};
@@ -45,13 +52,17 @@ ghost use Rattle.vmig_c.specs.NextWork.{FoundWork};
 ghost use Rattle.vmig_c.specs.Stepped.{Stepped};
 ghost use Rattle.vmig_c.specs.Unmapping.{Unmaps};
 ghost use Rattle.vmig_c.specs.Told.{Told, ToldSo, Read, lines_told};
+ghost use Rattle.vmig_c.specs.Version.{version};
 
+mod announcing;
 mod arrival;
 mod arriving;
+mod describing;
 mod device_shape;
 mod handle;
 mod images;
 mod kept;
+mod landing;
 pub mod laws;
 mod making;
 mod mapping;
@@ -62,14 +73,18 @@ mod moving;
 mod serving;
 mod status;
 mod stepping;
+mod syncing;
 mod unmapping;
 mod waiting;
 mod working;
 
+use announcing::{announced_device, announced_size};
 use arriving::{feed, feed_first, finish, rounds};
+use describing::{describe_kept, size_kept};
 pub use device_shape::DeviceShape;
 pub use handle::Handle;
 use images::{are_images, machine_with, read_sector};
+use landing::landing_over;
 use making::{are_beyond_limits, machine_of};
 use mapped_disk::Image;
 use mapping::{are_counted, machine_over};
@@ -81,8 +96,20 @@ use serving::{input, lines, read_ram, read_register, resize, write_ram, write_re
 use status::{BAD_IMAGES, BAD_SHAPE, DONE, IN_USE, NO_MACHINE, NO_MEMORY};
 use std::alloc::Global;
 use stepping::step_kept;
+use syncing::sync_kept;
 use unmapping::{unmap, unmap_refusal};
 use working::next_work;
+
+/// Version 0.9.0.
+const VERSION: u32 = 9 << 8;
+
+/// The version of the library: the major number from bit 16 on, the minor one from bit 8 on, and the patch.
+#[unsafe(no_mangle)]
+pub extern "C" fn vmig_version() -> u32
+    ensures { result ≡ version }
+{
+    VERSION
+}
 
 /// Makes a machine of `pages` pages of zeros and of these devices, whose disks are zeros in memory.
 #[unsafe(no_mangle)]
@@ -380,6 +407,72 @@ pub extern "C" fn vmig_sector_read(
     read_sector(machine.get_mut(), dev, sector, buf)
 }
 
+/// Whether a step ends a request after which the driver takes what was written to the disk for durable. It takes no memory.
+#[unsafe(no_mangle)]
+#[tactic(auto, using(crate::proofs::Descriptions::sync_none, crate::proofs::Descriptions::sync_some))]
+pub extern "C" fn vmig_must_sync(machine: &mut Handle, dev: u8, pick: u8) -> u32
+    ensures told { result ≡ sync_told machine.old.machine dev pick }
+    ensures same { machine.new.machine ≡ machine.old.machine }
+{
+    if !machine.is_made() {
+        return NO_MACHINE;
+    }
+    sync_kept(machine.get_mut(), dev, pick)
+}
+
+/// How many pages and devices the machine has. It takes no memory.
+#[unsafe(no_mangle)]
+#[tactic(auto, using(crate::proofs::Descriptions::sized_none, crate::proofs::Descriptions::sized_some))]
+pub extern "C" fn vmig_size(machine: &mut Handle, pages: &mut u32, devices: &mut u32) -> u32
+    ensures sized { Sizes machine.old.machine result pages.new pages.old devices.new devices.old }
+    ensures same { machine.new.machine ≡ machine.old.machine }
+{
+    if !machine.is_made() {
+        return NO_MACHINE;
+    }
+    size_kept(machine.get_mut(), pages, devices)
+}
+
+/// What a device of the machine was made as. It takes no memory.
+#[unsafe(no_mangle)]
+#[tactic(auto, using(crate::proofs::Descriptions::described_none, crate::proofs::Descriptions::described_some))]
+pub extern "C" fn vmig_device(machine: &mut Handle, dev: u8, shape: &mut DeviceShape) -> u32
+    ensures described { Describes machine.old.machine dev result shape.new shape.old }
+    ensures same { machine.new.machine ≡ machine.old.machine }
+{
+    if !machine.is_made() {
+        return NO_MACHINE;
+    }
+    describe_kept(machine.get_mut(), dev, shape)
+}
+
+/// How many pages and devices the machine has whose stream begins with these bytes. It takes memory for sixteen shapes, for the time
+/// of the call.
+#[unsafe(no_mangle)]
+pub extern "C" fn vmig_stream_size(
+    alloc: Global,
+    bytes: &[u8],
+    pages: &mut u32,
+    devices: &mut u32,
+) -> u32
+    ensures { Announces bytes.now result pages.new pages.old devices.new devices.old }
+{
+    announced_size(alloc, bytes, pages, devices)
+}
+
+/// What a device of that machine will be made as. It takes memory as `vmig_stream_size` does.
+#[unsafe(no_mangle)]
+pub extern "C" fn vmig_stream_device(
+    alloc: Global,
+    bytes: &[u8],
+    dev: u8,
+    shape: &mut DeviceShape,
+) -> u32
+    ensures { AnnouncesDevice bytes.now dev result shape.new shape.old }
+{
+    announced_device(alloc, bytes, dev, shape)
+}
+
 /// The length of the machine's stream, in bytes. It looks at each page of RAM once. No stream is made, and no memory taken.
 #[unsafe(no_mangle)]
 #[tactic(auto, using(crate::proofs::Lengths::measured_none, crate::proofs::Lengths::measured_some))]
@@ -522,6 +615,27 @@ pub extern "C" fn vmig_take(
         return NO_MACHINE;
     }
     take(alloc, machine.get_mut(), buf, got)
+}
+
+/// A machine will arrive over the images, whose bytes are the disks of its devices, in their order. The images are taken: what is left
+/// of each is one of no sectors. Where memory is refused the images are as they were.
+#[unsafe(no_mangle)]
+#[tactic(auto, using(crate::proofs::Landings::awaits_used, crate::proofs::Landings::awaits_full, crate::proofs::Landings::awaits_done))]
+pub extern "C" fn vmig_arrive_mapped(
+    alloc: Global,
+    images: &mut [Image],
+    machine: &mut Handle,
+) -> u32
+    ensures { Awaits machine.old.machine images.old images.new result machine.new.machine }
+{
+    if machine.is_made() {
+        return IN_USE;
+    }
+    let Ok(made) = landing_over(alloc, images) else {
+        return NO_MEMORY;
+    };
+    std::mem::replace(machine, Handle::of(made)).gone();
+    DONE
 }
 
 /// Feeds the next piece of a stream. On a handle of no machine, one begins to arrive.

@@ -45,7 +45,7 @@ pub(crate) fn machine_of(
     let Ok(machine) = Machine::new(alloc, pages, &shapes, disks) else {
         return Err(NoMemory);
     };
-    let boxed = Box::new(alloc, Kept::new(Contents::Still(machine)))?;
+    let boxed = Box::new(alloc, Kept::new(alloc, Contents::Still(machine)))?;
     Ok(boxed)
 }
 

@@ -47,11 +47,14 @@ pub(crate) fn machine_over(
     ensures refused { IfErr result (λ e. images.new ≡ images.old) }
 {
     let shapes = shapes_of(alloc, shapes)?;
-    let mut boxed = Box::new(alloc, Kept::new(Contents::Arriving(Arrival::new(alloc))))?;
+    let mut boxed = Box::new(
+        alloc,
+        Kept::new(alloc, Contents::Arriving(Arrival::new(alloc))),
+    )?;
     let disks = mapped_disks(alloc, images)?;
     match Machine::new_or_back(alloc, pages, &shapes, disks) {
         Ok(machine) => {
-            *boxed = Kept::new(Contents::StillMapped(machine));
+            *boxed = Kept::new(alloc, Contents::StillMapped(machine));
             Ok(boxed)
         }
         Err((_, disks)) => {
@@ -62,7 +65,7 @@ pub(crate) fn machine_over(
 }
 
 /// A disk in each image, in their order. The images are taken, if there is memory for the list of disks.
-fn mapped_disks(alloc: Global, images: &mut [Image]) -> Result<Vec<MappedDisk>, NoMemory>
+pub(crate) fn mapped_disks(alloc: Global, images: &mut [Image]) -> Result<Vec<MappedDisk>, NoMemory>
     ensures disks { IfOk result (λ disks. disks.items ≡ images.old) }
     ensures taken { IfOk result (λ disks. AreTaken images.old images.new) }
     ensures refused { IfErr result (λ e. images.new ≡ images.old) }
@@ -76,7 +79,7 @@ fn mapped_disks(alloc: Global, images: &mut [Image]) -> Result<Vec<MappedDisk>, 
 }
 
 /// Puts the images of the disks back into the slots that they were taken from.
-fn give_back(disks: Vec<MappedDisk>, images: &mut [Image])
+pub(crate) fn give_back(disks: Vec<MappedDisk>, images: &mut [Image])
     requires { AreTaken disks.items images.old }
     ensures { images.new ≡ disks.items }
 {

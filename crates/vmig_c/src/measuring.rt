@@ -16,7 +16,7 @@ pub(crate) fn measure_kept(kept: &Kept, len: &mut usize) -> u32
         Contents::Still(machine) => measure(machine, len),
         Contents::StillMapped(machine) => measure(machine, len),
         Contents::Moving(_) | Contents::MovingMapped(_) => IS_MOVING,
-        Contents::Arriving(_) => NO_MACHINE,
+        Contents::Arriving(_) | Contents::ArrivingMapped(_) => NO_MACHINE,
     }
 }
 

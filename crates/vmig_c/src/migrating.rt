@@ -37,14 +37,18 @@ pub(crate) fn begin(alloc: Global, kept: &mut Kept) -> u32
 pub(crate) fn taken_out(alloc: Global, kept: &mut Kept) -> Kept
     ensures { result ≡ kept.old }
 {
-    mem::replace(kept, Kept::new(Contents::Arriving(Arrival::new(alloc))))
+    mem::replace(
+        kept,
+        Kept::new(alloc, Contents::Arriving(Arrival::new(alloc))),
+    )
 }
 
 fn begun(alloc: Global, old: Kept) -> (Kept, u32)
     ensures begins { BeginsKept old.state result.1 result.0.state }
     ensures kind { result.0 ≡ record old { state = result.0.state } }
 {
-    let (contents, status) = match old.contents {
+    let Kept { contents, sent } = old;
+    let (contents, status) = match contents {
         Contents::Still(machine) => match begun_of(alloc, machine) {
             Ok(live) => (Contents::Moving(live), DONE),
             Err(machine) => (Contents::Still(machine), NO_MEMORY),
@@ -62,8 +66,9 @@ fn begun(alloc: Global, old: Kept) -> (Kept, u32)
             (Contents::MovingMapped(live), status)
         }
         Contents::Arriving(arrival) => (Contents::Arriving(arrival), NO_MACHINE),
+        Contents::ArrivingMapped(landing) => (Contents::ArrivingMapped(landing), NO_MACHINE),
     };
-    (Kept::new(contents), status)
+    (Kept { contents, sent }, status)
 }
 
 /// Begins the migration of a machine. If memory is refused, gives the machine back as it was.
@@ -108,7 +113,7 @@ pub(crate) fn copy(kept: &mut Kept, dev: &mut u8, number: &mut u32) -> u32
         Contents::Still(_) | Contents::StillMapped(_) => NOT_BEGUN,
         Contents::Moving(live) => copy_told(live, dev, number),
         Contents::MovingMapped(live) => copy_told(live, dev, number),
-        Contents::Arriving(_) => NO_MACHINE,
+        Contents::Arriving(_) | Contents::ArrivingMapped(_) => NO_MACHINE,
     }
 }
 
@@ -142,7 +147,7 @@ pub(crate) fn end_round(kept: &mut Kept, round: &mut u32) -> u32
         Contents::Still(_) | Contents::StillMapped(_) => NOT_BEGUN,
         Contents::Moving(live) => end_told(live, round),
         Contents::MovingMapped(live) => end_told(live, round),
-        Contents::Arriving(_) => NO_MACHINE,
+        Contents::Arriving(_) | Contents::ArrivingMapped(_) => NO_MACHINE,
     }
 }
 
@@ -171,7 +176,7 @@ pub(crate) fn stop(kept: &mut Kept, pages: &mut u64, sectors: &mut u64) -> u32
         Contents::Still(_) | Contents::StillMapped(_) => NOT_BEGUN,
         Contents::Moving(live) => stop_told(live, pages, sectors),
         Contents::MovingMapped(live) => stop_told(live, pages, sectors),
-        Contents::Arriving(_) => NO_MACHINE,
+        Contents::Arriving(_) | Contents::ArrivingMapped(_) => NO_MACHINE,
     }
 }
 
@@ -209,14 +214,16 @@ fn aborted(old: Kept) -> (Kept, u32)
     ensures aborts { AbortsKept old.state result.1 result.0.state }
     ensures kind { result.0 ≡ record old { state = result.0.state } }
 {
-    let (contents, status) = match old.contents {
+    let Kept { contents, sent } = old;
+    let (contents, status) = match contents {
         Contents::Still(machine) => (Contents::Still(machine), NOT_BEGUN),
         Contents::StillMapped(machine) => (Contents::StillMapped(machine), NOT_BEGUN),
         Contents::Moving(live) => (Contents::Still(live.abort()), DONE),
         Contents::MovingMapped(live) => (Contents::StillMapped(live.abort()), DONE),
         Contents::Arriving(arrival) => (Contents::Arriving(arrival), NO_MACHINE),
+        Contents::ArrivingMapped(landing) => (Contents::ArrivingMapped(landing), NO_MACHINE),
     };
-    (Kept::new(contents), status)
+    (Kept { contents, sent }, status)
 }
 
 /// How many items are due, and how many are dirty.
@@ -227,7 +234,7 @@ pub(crate) fn remaining(kept: &Kept, due: &mut u64, dirty: &mut u64) -> u32
         Contents::Still(_) | Contents::StillMapped(_) => NOT_BEGUN,
         Contents::Moving(live) => remaining_told(live, due, dirty),
         Contents::MovingMapped(live) => remaining_told(live, due, dirty),
-        Contents::Arriving(_) => NO_MACHINE,
+        Contents::Arriving(_) | Contents::ArrivingMapped(_) => NO_MACHINE,
     }
 }
 
@@ -250,7 +257,7 @@ pub(crate) fn take(alloc: Global, kept: &mut Kept, buf: &mut [u8], got: &mut usi
         Contents::Still(_) | Contents::StillMapped(_) => NOT_BEGUN,
         Contents::Moving(live) => take_told(alloc, live, buf, got),
         Contents::MovingMapped(live) => take_told(alloc, live, buf, got),
-        Contents::Arriving(_) => NO_MACHINE,
+        Contents::Arriving(_) | Contents::ArrivingMapped(_) => NO_MACHINE,
     }
 }
 

@@ -27,7 +27,7 @@ pub(crate) fn push(kept: &mut Kept, pages: &[u32], ram: &[u8], seen: &mut [u64])
         Contents::StillMapped(machine) => push_still(machine, pages, ram, seen),
         Contents::Moving(live) => push_moving(live, pages, ram, seen),
         Contents::MovingMapped(live) => push_moving(live, pages, ram, seen),
-        Contents::Arriving(_) => NO_MACHINE,
+        Contents::Arriving(_) | Contents::ArrivingMapped(_) => NO_MACHINE,
     }
 }
 
@@ -56,7 +56,10 @@ fn is_stopped(kept: &Kept) -> bool
     match &kept.contents {
         Contents::Moving(live) => matches!(live.phase(), Phase::Stopped),
         Contents::MovingMapped(live) => matches!(live.phase(), Phase::Stopped),
-        Contents::Still(_) | Contents::StillMapped(_) | Contents::Arriving(_) => false,
+        Contents::Still(_)
+        | Contents::StillMapped(_)
+        | Contents::Arriving(_)
+        | Contents::ArrivingMapped(_) => false,
     }
 }
 
@@ -95,7 +98,7 @@ fn ram_of(kept: &Kept) -> Option<&Ram>
         Contents::StillMapped(machine) => Some(machine.ram()),
         Contents::Moving(live) => Some(live.machine().ram()),
         Contents::MovingMapped(live) => Some(live.machine().ram()),
-        Contents::Arriving(_) => None,
+        Contents::Arriving(_) | Contents::ArrivingMapped(_) => None,
     }
 }
 

@@ -27,7 +27,7 @@ pub(crate) fn save_kept(alloc: Global, kept: &mut Kept, buf: &mut [u8], len: &mu
         Contents::Still(machine) => save_told(alloc, machine, buf, len),
         Contents::StillMapped(machine) => save_told(alloc, machine, buf, len),
         Contents::Moving(_) | Contents::MovingMapped(_) => IS_MOVING,
-        Contents::Arriving(_) => NO_MACHINE,
+        Contents::Arriving(_) | Contents::ArrivingMapped(_) => NO_MACHINE,
     }
 }
 
@@ -83,7 +83,7 @@ pub(crate) fn machine_in(alloc: Global, bytes: &[u8]) -> Result<(Box<Kept>, u32)
         return Err(NO_MEMORY);
     };
     match receive(alloc, bytes, disks) {
-        Ok((machine, rounds)) => match Box::new(alloc, Kept::new(Contents::Still(machine))) {
+        Ok((machine, rounds)) => match Box::new(alloc, Kept::new(alloc, Contents::Still(machine))) {
             Ok(boxed) => Ok((boxed, rounds)),
             Err(_) => Err(NO_MEMORY),
         },

@@ -8,16 +8,7 @@ ghost use Rattle.vmig_c.specs.Told.{IsServed, ReadsKept, Tells, TellsSo, lines_i
 use crate::kept::{Contents, Kept, Moving};
 use crate::status::{NO_MACHINE, answer_told, done_told, written_told};
 use crate::stepping::reply_told;
-use machine::{Disk, Event};
-
-/// Applies an event to a machine that is being migrated.
-#[tactic(auto, using(crate::proofs::ByKept::served, crate::proofs::ByKept::few_told))]
-fn apply_told<D: Disk>(live: &mut Moving<D>, event: &Event, number: &mut u32) -> u32
-    ensures { IsServed live.old (live_events.Guest event.now) result number.new number.old live.new }
-{
-    live.recall();
-    reply_told(live.apply(event), number)
-}
+use machine::Disk;
 
 /// The driver reads a register.
 #[tactic(auto, using(crate::proofs::ByKept::still, crate::proofs::ByKept::moving))]
@@ -25,16 +16,24 @@ pub(crate) fn read_register(kept: &mut Kept, dev: u8, off: u32, width: u8, value
     ensures told { Tells kept.old.state (events.RegRead dev off width) result value.new value.old kept.new.state }
     ensures kind { kept.new ≡ record kept.old { state = kept.new.state } }
 {
-    let event = Event::RegRead { dev, off, width };
     match &mut kept.contents {
         Contents::Still(machine) => answer_told(machine.read_register(dev, off, width), value),
         Contents::StillMapped(machine) => {
             answer_told(machine.read_register(dev, off, width), value)
         }
-        Contents::Moving(live) => apply_told(live, &event, value),
-        Contents::MovingMapped(live) => apply_told(live, &event, value),
-        Contents::Arriving(_) => NO_MACHINE,
+        Contents::Moving(live) => value_told(live, dev, off, width, value),
+        Contents::MovingMapped(live) => value_told(live, dev, off, width, value),
+        Contents::Arriving(_) | Contents::ArrivingMapped(_) => NO_MACHINE,
     }
+}
+
+/// As above, for a machine that is being migrated.
+#[tactic(auto, using(crate::proofs::ByKept::served, crate::proofs::ByKept::few_told))]
+fn value_told<D: Disk>(live: &mut Moving<D>, dev: u8, off: u32, width: u8, value: &mut u32) -> u32
+    ensures { IsServed live.old (live_events.Guest (events.RegRead dev off width)) result value.new value.old live.new }
+{
+    live.recall();
+    reply_told(live.read_register(dev, off, width), value)
 }
 
 /// The driver writes a register.
@@ -50,12 +49,6 @@ pub(crate) fn write_register(
     ensures told { Tells kept.old.state (events.RegWrite dev off width value) result out.new out.old kept.new.state }
     ensures kind { kept.new ≡ record kept.old { state = kept.new.state } }
 {
-    let event = Event::RegWrite {
-        dev,
-        off,
-        width,
-        value,
-    };
     match &mut kept.contents {
         Contents::Still(machine) => {
             written_told(machine.write_register(dev, off, width, value), out)
@@ -63,10 +56,26 @@ pub(crate) fn write_register(
         Contents::StillMapped(machine) => {
             written_told(machine.write_register(dev, off, width, value), out)
         }
-        Contents::Moving(live) => apply_told(live, &event, out),
-        Contents::MovingMapped(live) => apply_told(live, &event, out),
-        Contents::Arriving(_) => NO_MACHINE,
+        Contents::Moving(live) => out_told(live, dev, off, width, value, out),
+        Contents::MovingMapped(live) => out_told(live, dev, off, width, value, out),
+        Contents::Arriving(_) | Contents::ArrivingMapped(_) => NO_MACHINE,
     }
+}
+
+/// As above, for a machine that is being migrated.
+#[tactic(auto, using(crate::proofs::ByKept::served, crate::proofs::ByKept::few_told))]
+fn out_told<D: Disk>(
+    live: &mut Moving<D>,
+    dev: u8,
+    off: u32,
+    width: u8,
+    value: u32,
+    out: &mut u32,
+) -> u32
+    ensures { IsServed live.old (live_events.Guest (events.RegWrite dev off width value)) result out.new out.old live.new }
+{
+    live.recall();
+    reply_told(live.write_register(dev, off, width, value), out)
 }
 
 /// The guest reads RAM. It takes no memory, also for a machine that is being migrated.
@@ -78,7 +87,7 @@ pub(crate) fn read_ram(kept: &Kept, addr: u64, buf: &mut [u8]) -> u32
         Contents::StillMapped(machine) => done_told(machine.read_ram(addr, buf)),
         Contents::Moving(live) => done_told(live.machine().read_ram(addr, buf)),
         Contents::MovingMapped(live) => done_told(live.machine().read_ram(addr, buf)),
-        Contents::Arriving(_) => NO_MACHINE,
+        Contents::Arriving(_) | Contents::ArrivingMapped(_) => NO_MACHINE,
     }
 }
 
@@ -91,7 +100,7 @@ pub(crate) fn lines(kept: &Kept) -> u16
         Contents::StillMapped(machine) => machine.lines(),
         Contents::Moving(live) => live.machine().lines(),
         Contents::MovingMapped(live) => live.machine().lines(),
-        Contents::Arriving(_) => 0,
+        Contents::Arriving(_) | Contents::ArrivingMapped(_) => 0,
     }
 }
 
@@ -106,7 +115,7 @@ pub(crate) fn write_ram(kept: &mut Kept, addr: u64, bytes: &[u8]) -> u32
         Contents::StillMapped(machine) => done_told(machine.write_ram(addr, bytes)),
         Contents::Moving(live) => write_told(live, addr, bytes),
         Contents::MovingMapped(live) => write_told(live, addr, bytes),
-        Contents::Arriving(_) => NO_MACHINE,
+        Contents::Arriving(_) | Contents::ArrivingMapped(_) => NO_MACHINE,
     }
 }
 
@@ -131,7 +140,7 @@ pub(crate) fn input(kept: &mut Kept, dev: u8, bytes: &[u8], accepted: &mut u32) 
         Contents::StillMapped(machine) => answer_told(machine.input(dev, bytes), accepted),
         Contents::Moving(live) => input_told(live, dev, bytes, accepted),
         Contents::MovingMapped(live) => input_told(live, dev, bytes, accepted),
-        Contents::Arriving(_) => NO_MACHINE,
+        Contents::Arriving(_) | Contents::ArrivingMapped(_) => NO_MACHINE,
     }
 }
 
@@ -155,15 +164,16 @@ pub(crate) fn resize(kept: &mut Kept, dev: u8, cols: u16, rows: u16) -> u32
         Contents::StillMapped(machine) => done_told(machine.resize(dev, cols, rows)),
         Contents::Moving(live) => resize_told(live, dev, cols, rows),
         Contents::MovingMapped(live) => resize_told(live, dev, cols, rows),
-        Contents::Arriving(_) => NO_MACHINE,
+        Contents::Arriving(_) | Contents::ArrivingMapped(_) => NO_MACHINE,
     }
 }
 
 /// As above, for a machine that is being migrated.
-#[tactic(auto, using(crate::proofs::ByKept::resized))]
+#[tactic(auto, using(crate::proofs::ByKept::resized, crate::proofs::ByKept::few_told))]
 fn resize_told<D: Disk>(live: &mut Moving<D>, dev: u8, cols: u16, rows: u16) -> u32
     ensures { IsServed live.old (live_events.Guest (events.Resize dev cols rows)) result 0 0 live.new }
 {
     let mut none = 0;
-    apply_told(live, &Event::Resize { dev, cols, rows }, &mut none)
+    live.recall();
+    reply_told(live.resize(dev, cols, rows), &mut none)
 }

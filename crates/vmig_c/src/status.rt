@@ -47,6 +47,8 @@ pub(crate) const BAD_SECTOR: u32 = 68;
 
 pub(crate) const DISK_FAILED: u32 = 69;
 
+pub(crate) const MORE: u32 = 79;
+
 /// The status of an event that was refused.
 pub(crate) fn refused(refusal: Refusal) -> u32
     ensures { result ≡ code_of refusal }

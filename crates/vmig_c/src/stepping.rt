@@ -1,8 +1,9 @@
 //! Steps of devices, and what they send.
 
-ghost use Rattle.std.specs.Prelude.{◌≡◌, ◌≤◌, ◌++◌, IfOk, length, drop};
+ghost use Rattle.std.specs.Prelude.{◌≡◌, ◌≤◌, ◌++◌, ℕ, List, IfOk, length, drop};
 ghost use Rattle.machine.specs.DeviceStep.{wanted_of};
 ghost use Rattle.machine.specs.Seen.{state_of};
+ghost use Rattle.machine.specs.Stepped.{reply_in};
 ghost use Rattle.sender.specs.Calls.{guest_reply};
 ghost use Rattle.vmig_c.specs.Status.{live_status, status_of};
 ghost use Rattle.vmig_c.specs.Stepped.{LiveSteps, Steps, StepsKept, most_of, most_sent_by, sent_in};
@@ -13,7 +14,7 @@ use crate::status::{
     BAD_SECTOR, DISK_FAILED, DONE, IDLE, NO_MACHINE, NO_MEMORY, OUT_BYTE, TOO_SMALL, mig_told,
     refused,
 };
-use machine::{Disk, Event, Machine, Own, Reply};
+use machine::{Disk, Kind, Machine, Reply, Stepped};
 use sender::MigError;
 
 const TAKEN: u32 = 66;
@@ -34,12 +35,13 @@ pub(crate) fn step_kept(kept: &mut Kept, dev: u8, pick: u8, buf: &mut [u8], numb
     ensures steps { StepsKept kept.old.state dev pick result number.new number.old buf.old buf.new kept.new.state }
     ensures kind { kept.new ≡ record kept.old { state = kept.new.state } }
 {
-    match &mut kept.contents {
-        Contents::Still(machine) => step_told(machine, dev, pick, buf, number),
-        Contents::StillMapped(machine) => step_told(machine, dev, pick, buf, number),
-        Contents::Moving(live) => live_step_told(live, dev, pick, buf, number),
-        Contents::MovingMapped(live) => live_step_told(live, dev, pick, buf, number),
-        Contents::Arriving(_) => NO_MACHINE,
+    let Kept { contents, sent } = kept;
+    match contents {
+        Contents::Still(machine) => step_told(machine, dev, pick, sent, buf, number),
+        Contents::StillMapped(machine) => step_told(machine, dev, pick, sent, buf, number),
+        Contents::Moving(live) => live_step_told(live, dev, pick, sent, buf, number),
+        Contents::MovingMapped(live) => live_step_told(live, dev, pick, sent, buf, number),
+        Contents::Arriving(_) | Contents::ArrivingMapped(_) => NO_MACHINE,
     }
 }
 
@@ -49,6 +51,7 @@ fn live_step_told<D: Disk>(
     live: &mut Moving<D>,
     dev: u8,
     pick: u8,
+    sent: &mut Vec<u8>,
     buf: &mut [u8],
     number: &mut u32,
 ) -> u32
@@ -58,11 +61,12 @@ fn live_step_told<D: Disk>(
         return TOO_SMALL;
     }
     live.recall();
-    match live.apply(&Event::Step { dev, pick }) {
-        Ok(reply) => {
-            hand_out(&reply, buf);
-            *number = number_told(&reply, *number);
-            status_told(&reply)
+    match live.step_into(dev, pick, sent) {
+        Ok(stepped) => {
+            let message = sent.as_slice();
+            hand_out(stepped, message, buf);
+            *number = step_number(stepped, message, *number);
+            step_status(stepped)
         }
         Err(error) => mig_told(error),
     }
@@ -74,6 +78,7 @@ fn step_told<D: Disk>(
     machine: &mut Machine<D>,
     dev: u8,
     pick: u8,
+    sent: &mut Vec<u8>,
     buf: &mut [u8],
     number: &mut u32,
 ) -> u32
@@ -82,10 +87,11 @@ fn step_told<D: Disk>(
     if buf.len() < room_for(machine, dev, pick) {
         return TOO_SMALL;
     }
-    let reply = machine.step(dev, pick);
-    hand_out(&reply, buf);
-    *number = number_told(&reply, *number);
-    status_told(&reply)
+    let stepped = machine.step_into(dev, pick, sent);
+    let message = sent.as_slice();
+    hand_out(stepped, message, buf);
+    *number = step_number(stepped, message, *number);
+    step_status(stepped)
 }
 
 /// The most bytes that a step may send.
@@ -95,27 +101,57 @@ fn room_for<D: Disk>(machine: &Machine<D>, dev: u8, pick: u8) -> usize
     if dev as usize >= machine.shapes().len() {
         return 0;
     }
-    most_sent(machine.state(dev).own(), pick)
+    most_sent(machine.state(dev).kind(), pick)
 }
 
-fn most_sent(own: &Own, pick: u8) -> usize
-    ensures { result ≡ most_of (wanted_of own.now pick) }
+fn most_sent(kind: &Kind, pick: u8) -> usize
+    ensures { result ≡ most_of (wanted_of kind.now pick) }
 {
-    match own {
-        Own::Network(_) if pick > 0 => 1_514,
-        Own::Console { .. } if pick > 0 => 65_536,
+    match kind {
+        Kind::Network { .. } if pick > 0 => 1_514,
+        Kind::Console { .. } if pick > 0 => 65_536,
         _ => 0,
     }
 }
 
-/// Copies the bytes that a reply sends to the front of the buffer.
-fn hand_out(reply: &Reply, buf: &mut [u8])
-    requires { length (sent_in reply.now) ≤ length buf.old }
-    ensures { buf.new ≡ sent_in reply.now ++ drop (length (sent_in reply.now)) buf.old }
+/// Copies the message of a step to the front of the buffer, if it sent one.
+fn hand_out(stepped: Stepped, sent: &[u8], buf: &mut [u8])
+    requires { length (sent_in (reply_in stepped sent.now)) ≤ length buf.old }
+    ensures { buf.new ≡ sent_in (reply_in stepped sent.now) ++ drop (length (sent_in (reply_in stepped sent.now))) buf.old }
 {
-    if let Reply::Sent(bytes) = reply {
-        let bytes = bytes.as_slice();
-        buf[..bytes.len()].copy_from_slice(bytes);
+    if let Stepped::Sent = stepped {
+        buf[..sent.len()].copy_from_slice(sent);
+    }
+}
+
+/// The number of an answer to a step that has one, else `before`.
+fn step_number(stepped: Stepped, sent: &[u8], before: u32) -> u32
+    requires { length (sent_in (reply_in stepped sent.now)) ≤ 65536 }
+    ensures { result ≡ number_of (reply_in stepped sent.now) before }
+{
+    match stepped {
+        Stepped::Completed(len) => len,
+        Stepped::Sent => sent.len() as u32,
+        _ => before,
+    }
+}
+
+/// The status of an answer to a step.
+fn step_status(stepped: Stepped) -> u32
+    ensures { (sent : List ℕ) → result ≡ status_of (reply_in stepped sent) }
+{
+    match stepped {
+        Stepped::Idle => IDLE,
+        Stepped::Taken => TAKEN,
+        Stepped::Moved => MOVED,
+        Stepped::BadSector => BAD_SECTOR,
+        Stepped::DiskFailed => DISK_FAILED,
+        Stepped::Completed(_) => COMPLETED,
+        Stepped::Sent => SENT,
+        Stepped::Dropped => DROPPED,
+        Stepped::NeedsReset => NEEDS_RESET,
+        Stepped::NoMemory => NO_MEMORY,
+        Stepped::Refused(refusal) => refused(refusal),
     }
 }
 

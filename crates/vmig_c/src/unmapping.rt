@@ -2,14 +2,17 @@
 
 ghost use Rattle.std.specs.Prelude.{◌≡◌, None, Some, length};
 ghost use Rattle.vmig_c.specs.Mapping.{counts};
-ghost use Rattle.vmig_c.specs.Unmapping.{AreHandedBack, HasUnmapped, HasUnmappedState, are_none, disk_in, disks_in, held_by, slots_refusal, unmap_refusal_of};
+ghost use Rattle.vmig_c.specs.Unmapping.{AreHandedBack, HasUnmapped, HasUnmappedArrival, HasUnmappedState, are_none, arriving_refusal, disk_in, disks_in, held_by, slots_refusal, unmap_refusal_of};
 
 use crate::kept::{Contents, Kept};
+use crate::landing::Landing;
+use crate::mapping::give_back;
 use crate::status::{BAD_IMAGES, NO_MACHINE, NOT_MAPPED, TOO_SMALL};
 use machine::{Device, Machine, Shape};
 use mapped_disk::{Image, MappedDisk};
 
 /// Why `vmig_unmap` is refused, if it is.
+#[tactic(auto, using(crate::proofs::Landings::slots_for))]
 pub(crate) fn unmap_refusal(kept: &Kept, images: &mut [Image]) -> Option<u32>
     ensures same { images.new ≡ images.old }
     ensures refusal { result ≡ unmap_refusal_of kept.now images.old }
@@ -19,6 +22,7 @@ pub(crate) fn unmap_refusal(kept: &Kept, images: &mut [Image]) -> Option<u32>
         Contents::MovingMapped(live) => slots_refusal(disk_count(live.machine()), images),
         Contents::Still(_) | Contents::Moving(_) => Some(NOT_MAPPED),
         Contents::Arriving(_) => Some(NO_MACHINE),
+        Contents::ArrivingMapped(landing) => slots_refusal(landing.disk_count(), images),
     }
 }
 
@@ -67,9 +71,11 @@ pub(crate) fn unmap(kept: Kept, images: &mut [Image])
     requires { unmap_refusal_of kept images.old ≡ None }
     ensures { HasUnmappedState kept.state images.old images.new }
 {
-    match kept.contents {
+    let Kept { contents, sent: _ } = kept;
+    match contents {
         Contents::StillMapped(machine) => hand_back(machine, images),
         Contents::MovingMapped(live) => hand_back(live.abort(), images),
+        Contents::ArrivingMapped(landing) => give_up(landing, images),
         _ => unreachable!(),
     }
 }
@@ -86,6 +92,16 @@ fn hand_back(machine: Machine<MappedDisk>, images: &mut [Image])
         std::mem::replace(&mut images[at], image).gone();
         at += 1;
     }
+}
+
+/// Ends an arrival, and puts its images into the slots.
+fn give_up(landing: Landing, images: &mut [Image])
+    requires { arriving_refusal landing images.old ≡ None }
+    ensures { HasUnmappedArrival landing images.old images.new }
+{
+    let disks = landing.into_disks();
+    let count = disks.len();
+    give_back(disks, &mut images[..count]);
 }
 
 /// The image of a device's disk, if it has one.

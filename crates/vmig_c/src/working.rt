@@ -20,7 +20,7 @@ pub(crate) fn next_work(kept: &Kept, dev: &mut u8, pick: &mut u8) -> u32
         Contents::StillMapped(machine) => work_told(machine, dev, pick),
         Contents::Moving(live) => live_work_told(live, dev, pick),
         Contents::MovingMapped(live) => live_work_told(live, dev, pick),
-        Contents::Arriving(_) => NO_MACHINE,
+        Contents::Arriving(_) | Contents::ArrivingMapped(_) => NO_MACHINE,
     }
 }
 

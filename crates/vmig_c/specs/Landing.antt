@@ -1,0 +1,48 @@
+-- The first call of a machine that arrives over images in memory of the caller.
+use Rattle.std.specs.Prelude.{◌≡◌, ◌⊎◌, ℕ, true, List, [], length, map, Option, Some, None}
+use Rattle.blk.specs.Disk.{DiskState}
+use Rattle.receiver.specs.Receiving.{HasBeenFed, Received}
+use Rattle.mapped_disk.specs.declared.image.Image.{Image}
+use Rattle.vmig_c.specs.ArrivalSeen.{ArrivalSeen, Over}
+use Rattle.vmig_c.specs.Kept.{KeptSeen, State, Arriving}
+use Rattle.vmig_c.specs.Mapping.{AreTaken, IsUnmade, contents}
+use Rattle.vmig_c.specs.Plain.{mem_state}
+use Rattle.vmig_c.specs.Status.{done, in_use, no_memory}
+
+-- What a disk over an image means.
+abbrev pub image_state : Image → DiskState
+image_state i = mem_state i.content
+
+-- Nothing was fed, and the disks hold these sectors.
+pub record IsFreshOver (sectors : List (List (List ℕ))) (r : Received) : Type 0 where
+  pub fed : HasBeenFed r []
+  pub sizes_are : r.sizes ≡ map length sectors
+  pub disks_are : map (λ d. d.sectors) r.disks ≡ sectors
+
+abbrev pub IsAwaitedOver : List (List (List ℕ)) → ArrivalSeen → Type 0
+IsAwaitedOver sectors (Over r) = IsFreshOver sectors r
+IsAwaitedOver sectors _ = ⊥
+
+-- The disks of an arrival hold these sectors.
+abbrev pub AreDisksOf : ArrivalSeen → List (List (List ℕ)) → Type 0
+AreDisksOf (Over r) sectors = map (λ d. d.sectors) r.disks ≡ sectors
+AreDisksOf _ sectors = ⊥
+
+abbrev pub StandsAwaited : List (List (List ℕ)) → State → Type 0
+StandsAwaited sectors (Arriving a) = IsAwaitedOver sectors a
+StandsAwaited sectors _ = ⊥
+
+abbrev pub KeepsAwaited : List (List (List ℕ)) → KeptSeen → Type 0
+KeepsAwaited sectors k = (k.is_mapped ≡ true) × StandsAwaited sectors k.state
+
+pub record HasAwaited (images new_images : List Image) (status : ℕ) (after : Option KeptSeen) : Type 0 where
+  pub kept : KeptSeen
+  pub is_there : after ≡ Some kept
+  pub is_awaited : KeepsAwaited (contents images) kept
+  pub taken : AreTaken images new_images
+  pub status_is : status ≡ done
+
+-- A machine will arrive over the images, which were taken, or the status says why not.
+abbrev pub Awaits : Option KeptSeen → List Image → List Image → ℕ → Option KeptSeen → Type 0
+Awaits (Some old) images new_images status after = IsUnmade in_use (Some old) images new_images status after
+Awaits None images new_images status after = HasAwaited images new_images status after ⊎ IsUnmade no_memory None images new_images status after

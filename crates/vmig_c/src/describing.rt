@@ -1,0 +1,64 @@
+//! What the machine of a handle is.
+
+ghost use Rattle.std.specs.Prelude.{◌≡◌, slice_get};
+ghost use Rattle.machine.specs.Seen.{state_of};
+ghost use Rattle.vmig_c.specs.Described.{DescribesKept, IsSized, SizesKept, Tells, TellsOf};
+
+use crate::device_shape::DeviceShape;
+use crate::kept::{Contents, Kept};
+use crate::status::{DONE, NO_DEVICE, NO_MACHINE};
+use guestmem::PAGE_SIZE;
+use machine::{Disk, Machine, Shape};
+
+/// How many pages and devices the machine of a handle has.
+pub(crate) fn size_kept(kept: &Kept, pages: &mut u32, devices: &mut u32) -> u32
+    ensures { SizesKept kept.now.state result pages.new pages.old devices.new devices.old }
+{
+    match &kept.contents {
+        Contents::Still(machine) => size_told(machine, pages, devices),
+        Contents::StillMapped(machine) => size_told(machine, pages, devices),
+        Contents::Moving(live) => size_told(live.machine(), pages, devices),
+        Contents::MovingMapped(live) => size_told(live.machine(), pages, devices),
+        Contents::Arriving(_) | Contents::ArrivingMapped(_) => NO_MACHINE,
+    }
+}
+
+fn size_told<D: Disk>(machine: &Machine<D>, pages: &mut u32, devices: &mut u32) -> u32
+    ensures { IsSized (state_of machine.now) result pages.new devices.new }
+{
+    let shapes = machine.shapes();
+    *pages = (machine.ram().len() / PAGE_SIZE as u64) as u32;
+    *devices = shapes.len() as u32;
+    DONE
+}
+
+/// What a device of the machine of a handle was made as.
+pub(crate) fn describe_kept(kept: &Kept, dev: u8, shape: &mut DeviceShape) -> u32
+    ensures { DescribesKept kept.now.state dev result shape.new shape.old }
+{
+    match &kept.contents {
+        Contents::Still(machine) => device_told(machine, dev, shape),
+        Contents::StillMapped(machine) => device_told(machine, dev, shape),
+        Contents::Moving(live) => device_told(live.machine(), dev, shape),
+        Contents::MovingMapped(live) => device_told(live.machine(), dev, shape),
+        Contents::Arriving(_) | Contents::ArrivingMapped(_) => NO_MACHINE,
+    }
+}
+
+fn device_told<D: Disk>(machine: &Machine<D>, dev: u8, shape: &mut DeviceShape) -> u32
+    ensures { TellsOf (state_of machine.now) dev result shape.new shape.old }
+{
+    tell(machine.shapes(), dev, shape)
+}
+
+/// What the device of a number is made as, of devices that are made as these.
+pub(crate) fn tell(shapes: &[Shape], dev: u8, shape: &mut DeviceShape) -> u32
+    ensures { Tells (slice_get shapes.now dev) result shape.new shape.old }
+{
+    let number = dev as usize;
+    if number >= shapes.len() {
+        return NO_DEVICE;
+    }
+    *shape = DeviceShape::of(shapes[number]);
+    DONE
+}

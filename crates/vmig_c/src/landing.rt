@@ -1,0 +1,108 @@
+//! A machine that arrives over images of the caller.
+
+ghost use Rattle.std.specs.Prelude.{◌≡◌, IfErr, IfOk};
+ghost use Rattle.vmig_c.specs.Landing.{KeepsAwaited};
+ghost use Rattle.vmig_c.specs.Mapping.{AreTaken, contents};
+
+use crate::arrival::Arrival;
+use crate::kept::{Contents, Kept};
+use crate::mapping::mapped_disks;
+use guestmem::NoMemory;
+use machine::Machine;
+use mapped_disk::{Image, MappedDisk};
+use receiver::{Receiver, RecvError};
+use std::alloc::Global;
+use std::marker::Model;
+
+/// A machine whose stream arrives in pieces, over disks in the caller's memory. It holds them in each stage, also after a refusal.
+#[derive(Drop)]
+pub struct Landing {
+    receiver: Receiver<MappedDisk>,
+}
+
+impl Model for Landing {
+    ghost use Rattle.vmig_c.specs.ArrivalSeen.{ArrivalSeen, Over};
+    ghost use Rattle.vmig_c.specs.Awaited.{AreSteady};
+
+    ghost Value = { ArrivalSeen };
+
+    ghost view = { λ l. Over l.receiver };
+
+    ghost invariant = { λ l. AreSteady l.receiver };
+}
+
+impl Landing {
+    ghost use Rattle.std.specs.Prelude.{◌≡◌, IfErr, IfOk, length};
+    ghost use Rattle.vmig_c.specs.Awaited.{CountsRounds, HasArrived, IsClosed, IsFed, IsOver, TellsEnd, TellsOf, awaited_sizes};
+    ghost use Rattle.vmig_c.specs.Landing.{AreDisksOf, IsAwaitedOver};
+    ghost use Rattle.vmig_c.specs.Mapping.{contents};
+
+    /// An arrival over these disks that was fed nothing yet. It takes no memory.
+    fn new(alloc: Global, disks: Vec<MappedDisk>) -> Landing
+        ensures { IsAwaitedOver (contents disks.items) result }
+    {
+        Landing {
+            receiver: Receiver::new(alloc, disks),
+        }
+    }
+
+    /// Takes the next piece. Good sectors go to the disks as they come.
+    pub(crate) fn feed(&mut self, piece: &[u8]) -> Result<(), RecvError>
+        ensures fed { IfOk result (λ x. IsFed self.old piece.now self.new) }
+        ensures refused { IfErr result (λ e. TellsOf self.old piece.now e × IsClosed self.old self.new) }
+    {
+        self.receiver.feed(piece)
+    }
+
+    /// The number of rounds that ended in the bytes fed so far.
+    pub(crate) fn rounds(&self) -> u32
+        ensures { CountsRounds self.now result }
+    {
+        self.receiver.rounds()
+    }
+
+    /// The machine whose stream was fed. A refusal gives back what holds the disks.
+    pub(crate) fn finish(self) -> Result<Machine<MappedDisk>, (RecvError, Landing)>
+        ensures arrived { IfOk result (λ m. HasArrived self m) }
+        ensures refused { IfErr result (λ x. TellsEnd self x.0 × IsClosed self x.1) }
+    {
+        let Landing { receiver } = self;
+        match receiver.finish_or_back() {
+            Ok(machine) => Ok(machine),
+            Err((error, receiver)) => Err((error, Landing { receiver })),
+        }
+    }
+
+    /// How many disks it holds.
+    pub(crate) fn disk_count(&self) -> usize
+        ensures over { IsOver self.now }
+        ensures count { result ≡ length (awaited_sizes self.now) }
+    {
+        self.receiver.disk_count()
+    }
+
+    /// The disks.
+    pub(crate) fn into_disks(self) -> Vec<MappedDisk>
+        ensures disks { AreDisksOf self (contents result.items) }
+        ensures count { length result.items ≡ length (awaited_sizes self) }
+    {
+        let Landing { receiver } = self;
+        receiver.into_disks()
+    }
+}
+
+/// An arrival in a box, over disks in the images, which are taken. Its only error is out of memory: then the images are as they were.
+/// The box is made before an image is taken.
+pub(crate) fn landing_over(alloc: Global, images: &mut [Image]) -> Result<Box<Kept>, NoMemory>
+    ensures made { IfOk result (λ k. KeepsAwaited (contents images.old) k.value) }
+    ensures taken { IfOk result (λ k. AreTaken images.old images.new) }
+    ensures refused { IfErr result (λ e. images.new ≡ images.old) }
+{
+    let mut boxed = Box::new(
+        alloc,
+        Kept::new(alloc, Contents::Arriving(Arrival::new(alloc))),
+    )?;
+    let disks = mapped_disks(alloc, images)?;
+    *boxed = Kept::new(alloc, Contents::ArrivingMapped(Landing::new(alloc, disks)));
+    Ok(boxed)
+}
