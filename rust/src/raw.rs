@@ -65,6 +65,7 @@ pub const NO_ROUND_LEFT: u32 = 22;
 pub const STREAM_BAD_MAGIC: u32 = 33;
 pub const STREAM_BAD_VERSION: u32 = 34;
 pub const STREAM_BAD_SHAPE: u32 = 35;
+pub const STREAM_SHAPE_MISMATCH: u32 = 36;
 pub const STREAM_BAD_TAG: u32 = 37;
 pub const STREAM_BAD_PAGE: u32 = 38;
 pub const STREAM_BAD_SECTOR: u32 = 39;
@@ -91,8 +92,11 @@ pub const SECTOR: u32 = 75;
 pub const ROUND_DONE: u32 = 76;
 pub const ROUND_OPEN: u32 = 77;
 pub const WORK: u32 = 78;
+pub const MORE: u32 = 79;
+pub const SYNC: u32 = 80;
 
 unsafe extern "C" {
+    pub fn vmig_version() -> u32;
     pub fn vmig_make(pages: u32, shapes: *const Shape, count: usize, machine: *mut Machine) -> u32;
     pub fn vmig_make_with(pages: u32, shapes: *const Shape, count: usize, images: *const u8, len: usize, machine: *mut Machine) -> u32;
     pub fn vmig_make_mapped(pages: u32, shapes: *const Shape, count: usize, images: *mut Image, count_images: usize, machine: *mut Machine) -> u32;
@@ -110,6 +114,11 @@ unsafe extern "C" {
     pub fn vmig_resize(machine: *mut Machine, dev: u8, cols: u16, rows: u16) -> u32;
     pub fn vmig_lines(machine: *mut Machine) -> u16;
     pub fn vmig_sector_read(machine: *mut Machine, dev: u8, sector: u64, buf: *mut u8, size: usize) -> u32;
+    pub fn vmig_must_sync(machine: *mut Machine, dev: u8, pick: u8) -> u32;
+    pub fn vmig_size(machine: *mut Machine, pages: *mut u32, devices: *mut u32) -> u32;
+    pub fn vmig_device(machine: *mut Machine, dev: u8, shape: *mut Shape) -> u32;
+    pub fn vmig_stream_size(bytes: *const u8, len: usize, pages: *mut u32, devices: *mut u32) -> u32;
+    pub fn vmig_stream_device(bytes: *const u8, len: usize, dev: u8, shape: *mut Shape) -> u32;
     pub fn vmig_saved_len(machine: *mut Machine, len: *mut usize) -> u32;
     pub fn vmig_save(machine: *mut Machine, buf: *mut u8, size: usize, len: *mut usize) -> u32;
     pub fn vmig_receive(bytes: *const u8, len: usize, machine: *mut Machine, rounds: *mut u32) -> u32;
@@ -120,6 +129,7 @@ unsafe extern "C" {
     pub fn vmig_abort(machine: *mut Machine) -> u32;
     pub fn vmig_remaining(machine: *mut Machine, due: *mut u64, dirty: *mut u64) -> u32;
     pub fn vmig_take(machine: *mut Machine, buf: *mut u8, size: usize, got: *mut usize) -> u32;
+    pub fn vmig_arrive_mapped(images: *mut Image, count_images: usize, machine: *mut Machine) -> u32;
     pub fn vmig_feed(machine: *mut Machine, bytes: *const u8, len: usize) -> u32;
     pub fn vmig_finish(machine: *mut Machine) -> u32;
     pub fn vmig_rounds(machine: *mut Machine, ended: *mut u32) -> u32;

@@ -1,0 +1,109 @@
+// A machine of a console is saved, arrives as another one, and both print the same text. Handles are moved as values, and what goes out
+// of scope is freed.
+#include <cstdio>
+#include <cstdlib>
+#include <cstring>
+#include <string>
+#include <utility>
+#include <vector>
+#include "vmig.hpp"
+
+using vmig::machine;
+using vmig::status;
+
+namespace {
+
+int failures;
+
+void expect(const char *what, status got, status wanted)
+{
+    if (got == wanted) return;
+    std::printf("%s: got %s, wanted %s\n", what, vmig::name(got), vmig::name(wanted));
+    failures++;
+}
+
+void expect(const char *what, bool holds)
+{
+    if (holds) return;
+    std::printf("%s: it does not hold\n", what);
+    failures++;
+}
+
+void write(machine &m, std::uint32_t off, std::uint32_t value)
+{
+    std::uint32_t out = 0;
+    expect("register write", m.reg_write(0, off, 4, value, &out), status::ok);
+}
+
+template <std::size_t N>
+void store(machine &m, std::uint64_t addr, const std::uint8_t (&bytes)[N])
+{
+    expect("RAM write", m.ram_write(addr, bytes, N), status::ok);
+}
+
+// The driver of the console readies its transmit queue, of one descriptor, and kicks (VIRTIO 1.2, 3.1 and 2.7).
+machine console_that_prints(const char (&text)[6])
+{
+    static const vmig_shape shape = {VMIG_CONSOLE, 0, {}, 0, {}};
+    const std::uint8_t descriptor[16] = {0, 0x40, 0, 0, 0, 0, 0, 0, sizeof text - 1};
+    const std::uint8_t available[6] = {0, 0, 1, 0, 0, 0};
+    const std::uint32_t setup[][2] = {{0x070, 3}, {0x024, 1}, {0x020, 1}, {0x070, 0xb}, {0x030, 1}, {0x038, 1},
+                                      {0x080, 0x1000}, {0x090, 0x2000}, {0x0a0, 0x3000}, {0x044, 1}, {0x070, 0xf}};
+    machine m;
+
+    expect("make", m.make(16, &shape, 1), status::ok);
+    for (const auto &step : setup) write(m, step[0], step[1]);
+    store(m, 0x1000, descriptor);
+    store(m, 0x2000, available);
+    expect("text", m.ram_write(0x4000, reinterpret_cast<const std::uint8_t *>(text), sizeof text - 1), status::ok);
+    write(m, 0x050, 1);
+    return m;
+}
+
+std::string printed(machine &m)
+{
+    static std::uint8_t buf[VMIG_SENT_MAX];
+    std::uint8_t dev = 0, pick = 0;
+    std::uint32_t len = 0;
+
+    expect("work", m.next_work(&dev, &pick), status::work);
+    expect("step", m.step(dev, pick, buf, sizeof buf, &len), status::sent);
+    return std::string(reinterpret_cast<const char *>(buf), len);
+}
+
+std::vector<std::uint8_t> stream_of(machine &m)
+{
+    std::size_t len = 0;
+    expect("length", m.saved_len(&len), status::ok);
+    std::vector<std::uint8_t> stream(len);
+    expect("save", m.save(stream.data(), stream.size(), &len), status::ok);
+    return stream;
+}
+
+}  // namespace
+
+int main()
+{
+    std::uint32_t rounds = 0, pages = 0, devices = 0;
+    machine first = console_that_prints("hello");
+    std::vector<std::uint8_t> stream = stream_of(first);
+    machine second = std::move(first);
+    machine arrived;
+
+    expect("moved away", first.size(&pages, &devices), status::no_machine);
+    expect("announced", vmig::stream_size(stream.data(), stream.size(), &pages, &devices), status::ok);
+    expect("its size", pages == 16 && devices == 1);
+    expect("receive", arrived.receive(stream.data(), stream.size(), &rounds), status::ok);
+    expect("the text", printed(second) == "hello");
+    expect("the text of the one that arrived", printed(arrived) == "hello");
+    expect("the same machine", stream_of(second) == stream_of(arrived));
+    second = std::move(arrived);
+    expect("moved over", second.size(&pages, &devices), status::ok);
+    expect("version", vmig::version() == VMIG_VERSION_NUMBER);
+    stream[stream.size() / 2] ^= 1;
+    expect("damaged", arrived.receive(stream.data(), stream.size(), &rounds), status::stream_bad_digest);
+    expect("a refusal", !vmig::is_done(status::stream_bad_digest) && vmig::is_done(status::sent));
+
+    std::printf(failures == 0 ? "moved: all as expected\n" : "moved: %d not as expected\n", failures);
+    return failures != 0;
+}

@@ -1,0 +1,101 @@
+//! A driver that reads entropy over a split ring. Its machine then moves to another one while it runs, and both are the same.
+
+use vmig::{Arrival, Device, Error, Machine, Step, announced};
+
+/// Where the driver keeps its queue (VIRTIO 1.2, 2.7), and its buffer.
+const DESCRIPTORS: u64 = 0x1000;
+const AVAILABLE: u64 = 0x2000;
+const USED: u64 = 0x3000;
+const BUFFER: u64 = 0x4000;
+
+fn write_registers(machine: &mut Machine, values: &[(u32, u32)]) -> Result<(), Error> {
+    for (offset, value) in values {
+        assert_eq!(machine.write_register(0, *offset, 4, *value)?, None);
+    }
+    Ok(())
+}
+
+/// The driver readies its queue, of one buffer of 16 bytes that the device writes into, and kicks.
+fn set_up(machine: &mut Machine) -> Result<(), Error> {
+    assert_eq!(machine.read_register(0, 0x000, 4)?, 0x7472_6976);
+    write_registers(machine, &[(0x070, 0), (0x070, 3), (0x024, 1), (0x020, 1), (0x070, 0xb), (0x038, 16)])?;
+    write_registers(machine, &[(0x080, DESCRIPTORS as u32), (0x090, AVAILABLE as u32), (0x0a0, USED as u32)])?;
+    write_registers(machine, &[(0x044, 1), (0x070, 0xf)])?;
+    let mut descriptor = [0; 16];
+    descriptor[..8].copy_from_slice(&BUFFER.to_le_bytes());
+    descriptor[8..12].copy_from_slice(&16u32.to_le_bytes());
+    descriptor[12..14].copy_from_slice(&2u16.to_le_bytes());
+    machine.write_ram(DESCRIPTORS, &descriptor)?;
+    machine.write_ram(AVAILABLE + 2, &1u16.to_le_bytes())?;
+    write_registers(machine, &[(0x050, 0)])
+}
+
+fn serve(machine: &mut Machine) -> Result<(), Error> {
+    let mut none = [0; 0];
+    assert_eq!(machine.next_work((0, 0)), None);
+    assert_eq!(machine.step(0, 0, &mut none)?, Step::Idle);
+    assert_eq!(machine.input(0, &[7; 20])?, 20);
+    assert_eq!(machine.next_work((0, 0)), Some((0, 0)));
+    assert_eq!(machine.step(0, 0, &mut none)?, Step::Completed(16));
+
+    // Bytes are left, and the queue is still notified. The next step finds it empty.
+    assert_eq!(machine.next_work((0, 0)), Some((0, 0)));
+    assert_eq!(machine.step(0, 0, &mut none)?, Step::Idle);
+    assert_eq!(machine.next_work((0, 0)), None);
+    let mut bytes = [0; 16];
+    machine.read_ram(BUFFER, &mut bytes)?;
+    assert_eq!(bytes, [7; 16]);
+    assert_eq!(machine.lines(), 1);
+    Ok(())
+}
+
+/// What waits to be sent goes to the other side, piece by piece.
+fn carry(machine: &mut Machine, arrival: &mut Arrival) -> Result<(), Error> {
+    let mut piece = [0; 1000];
+    loop {
+        match machine.take(&mut piece)? {
+            0 => return Ok(()),
+            got => arrival.feed(&piece[..got])?,
+        }
+    }
+}
+
+fn send(mut machine: Machine) -> Result<Machine, Error> {
+    let mut arrival = Arrival::new();
+    machine.begin()?;
+    while machine.copy()?.is_some() {
+        carry(&mut machine, &mut arrival)?;
+    }
+    assert_eq!(machine.end_round()?, Some(2));
+    machine.write_ram(0x5000, &[1, 2, 3])?;
+    assert_eq!(machine.remaining()?, (0, 1));
+    assert_eq!(machine.stop()?, (1, 0));
+    carry(&mut machine, &mut arrival)?;
+    assert_eq!(machine.write_ram(0, &[1]), Err(Error::Stopped));
+    assert_eq!(arrival.rounds(), 1);
+    arrival.finish()
+}
+
+fn main() -> Result<(), Error> {
+    let mut machine = Machine::new(16, &[Device::Entropy])?;
+    assert_eq!(Machine::new(0, &[]).err(), Some(Error::BadShape));
+    set_up(&mut machine)?;
+    serve(&mut machine)?;
+    assert_eq!(machine.read_ram(1 << 40, &mut [0]), Err(Error::OutOfRam));
+    assert_eq!(Error::OutOfRam.to_string(), "the access reaches past the end of RAM");
+
+    machine.write_ram(0x5000, &[1, 2, 3])?;
+    let stream = machine.save()?;
+    let told = announced(&stream)?.expect("a whole header");
+    assert_eq!((told.pages, told.devices.as_slice()), (16, &[Device::Entropy][..]));
+    assert_eq!(announced(&stream[..16])?, None);
+    machine.write_ram(0x5000, &[0; 3])?;
+
+    // It may go to another thread.
+    let mut arrived = std::thread::spawn(|| send(machine)).join().expect("no panic")?;
+    assert_eq!(arrived.size(), (16, 1));
+    assert_eq!(arrived.device(0)?, Device::Entropy);
+    assert!(arrived.save()? == stream);
+    println!("entropy: all as expected");
+    Ok(())
+}

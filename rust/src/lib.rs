@@ -1,0 +1,20 @@
+//! Virtio machines for small hypervisors, with live migration: safe Rust over the library for C.
+//!
+//! A [`Machine`] is guest RAM and 1 to 16 virtio MMIO devices. Hand it what the guest and the host do, one call for each; nothing happens
+//! between calls. After each kick of the guest and each input make the steps that [`Machine::next_work`] names, and read the
+//! [`Machine::lines`]. `vmig.h` and `docs/host-loop.md` say what each call does and what a host owes its guest.
+//!
+//! Disks lie in memory of the library. Disks over memory of the caller are in [`raw`] alone.
+
+mod arrival;
+mod device;
+mod error;
+mod machine;
+mod migration;
+pub mod raw;
+
+pub use arrival::{Announced, Arrival, announced};
+pub use device::Device;
+pub use error::Error;
+pub use machine::{Machine, Step};
+pub use migration::Sent;

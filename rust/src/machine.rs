@@ -1,0 +1,179 @@
+//! A machine and its guest.
+
+use crate::device::Device;
+use crate::error::{Error, done};
+use crate::raw;
+
+/// A machine, which is freed with its owner. It may go to another thread; each call has it for itself.
+pub struct Machine {
+    pub(crate) held: raw::Machine,
+}
+
+// SAFETY: the library keeps nothing of the thread that made a machine, and one call at a time has it.
+unsafe impl Send for Machine {}
+
+/// What a device did in a step.
+#[derive(Clone, Copy, Debug, PartialEq, Eq)]
+pub enum Step<'a> {
+    /// It found nothing to do.
+    Idle,
+    /// A block device took a request.
+    Taken,
+    /// One unit of a request is done: a sector, a flush or the id.
+    Moved,
+    /// The sector is bad; the request will end with an error.
+    BadSector,
+    /// The disk failed.
+    DiskFailed,
+    /// A chain was given back, with this used length.
+    Completed(u32),
+    /// A message of the guest, at the front of the buffer.
+    Sent(&'a [u8]),
+    /// A frame did not fit into the guest's buffer, and is gone.
+    Dropped,
+    /// The guest's chain is malformed; the device asks its driver for a reset.
+    NeedsReset,
+}
+
+impl Drop for Machine {
+    fn drop(&mut self) {
+        // SAFETY: the handle is one of the library, or all zeros.
+        unsafe { raw::vmig_free(&mut self.held) }
+    }
+}
+
+impl Machine {
+    /// A machine of 1 to 16,384 pages of 4,096 bytes of RAM, all zeros, and of these 1 to 16 devices, with disks of zeros.
+    pub fn new(pages: u32, devices: &[Device]) -> Result<Machine, Error> {
+        let shapes: Vec<_> = devices.iter().map(|device| device.shape()).collect();
+        let mut held = raw::NONE;
+        // SAFETY: the slice is valid for the call, and the handle is of no machine.
+        done(unsafe { raw::vmig_make(pages, shapes.as_ptr(), shapes.len(), &mut held) })?;
+        Ok(Machine { held })
+    }
+
+    /// As `new`, but the disks hold the images: their sectors one after another, in the order of the devices.
+    pub fn with_images(pages: u32, devices: &[Device], images: &[u8]) -> Result<Machine, Error> {
+        let shapes: Vec<_> = devices.iter().map(|device| device.shape()).collect();
+        let mut held = raw::NONE;
+        // SAFETY: as in `new`.
+        done(unsafe { raw::vmig_make_with(pages, shapes.as_ptr(), shapes.len(), images.as_ptr(), images.len(), &mut held) })?;
+        Ok(Machine { held })
+    }
+
+    /// The machine of a whole stream, and how many rounds ended in it. Of a stream that is not trusted see [`crate::announced`] first.
+    pub fn receive(stream: &[u8]) -> Result<(Machine, u32), Error> {
+        let (mut held, mut rounds) = (raw::NONE, 0);
+        // SAFETY: the slice is valid for the call, and the handle is of no machine.
+        done(unsafe { raw::vmig_receive(stream.as_ptr(), stream.len(), &mut held, &mut rounds) })?;
+        Ok((Machine { held }, rounds))
+    }
+
+    /// How many pages of RAM and how many devices it has.
+    pub fn size(&mut self) -> (u32, u32) {
+        let (mut pages, mut devices) = (0, 0);
+        // SAFETY: the handle is of this machine, here and in all that follows.
+        unsafe { raw::vmig_size(&mut self.held, &mut pages, &mut devices) };
+        (pages, devices)
+    }
+
+    /// What a device was made as.
+    pub fn device(&mut self, dev: u8) -> Result<Device, Error> {
+        let mut shape = raw::Shape::default();
+        done(unsafe { raw::vmig_device(&mut self.held, dev, &mut shape) })?;
+        Ok(Device::of(&shape))
+    }
+
+    /// The driver reads a register, `width` bytes at an offset of the device's window.
+    pub fn read_register(&mut self, dev: u8, offset: u32, width: u8) -> Result<u32, Error> {
+        let mut value = 0;
+        done(unsafe { raw::vmig_reg_read(&mut self.held, dev, offset, width, &mut value) })?;
+        Ok(value)
+    }
+
+    /// The driver writes a register. The result is a byte where a console gives one out.
+    pub fn write_register(&mut self, dev: u8, offset: u32, width: u8, value: u32) -> Result<Option<u8>, Error> {
+        let mut out = 0;
+        let status = done(unsafe { raw::vmig_reg_write(&mut self.held, dev, offset, width, value, &mut out) })?;
+        Ok((status == raw::OUT_BYTE).then_some(out as u8))
+    }
+
+    /// Reads the guest's RAM from an address on, at most 4,096 bytes.
+    pub fn read_ram(&mut self, addr: u64, buf: &mut [u8]) -> Result<(), Error> {
+        done(unsafe { raw::vmig_ram_read(&mut self.held, addr, buf.as_mut_ptr(), buf.len()) }).map(drop)
+    }
+
+    /// Writes the guest's RAM from an address on, at most 4,096 bytes.
+    pub fn write_ram(&mut self, addr: u64, bytes: &[u8]) -> Result<(), Error> {
+        done(unsafe { raw::vmig_ram_write(&mut self.held, addr, bytes.as_ptr(), bytes.len()) }).map(drop)
+    }
+
+    /// Hands in pages that the guest wrote in a RAM of the caller's own, and notes their versions.
+    pub fn push(&mut self, pages: &[u32], ram: &[u8], seen: &mut [u64]) -> Result<(), Error> {
+        let (at, count) = (pages.as_ptr(), pages.len());
+        done(unsafe { raw::vmig_push(&mut self.held, at, count, ram.as_ptr(), ram.len(), seen.as_mut_ptr(), seen.len()) }).map(drop)
+    }
+
+    /// Copies the pages that the caller has not seen into its RAM, and tells how many these were.
+    pub fn pull(&mut self, ram: &mut [u8], seen: &mut [u64]) -> Result<u32, Error> {
+        let mut count = 0;
+        let (at, len) = (ram.as_mut_ptr(), ram.len());
+        done(unsafe { raw::vmig_pull(&mut self.held, at, len, seen.as_mut_ptr(), seen.len(), &mut count) })?;
+        Ok(count)
+    }
+
+    /// A device does one piece of its work. A message goes to the front of the buffer, which [`raw::SENT_MAX`] bytes always suffice for.
+    pub fn step<'a>(&mut self, dev: u8, pick: u8, buf: &'a mut [u8]) -> Result<Step<'a>, Error> {
+        let mut len = 0;
+        let status = done(unsafe { raw::vmig_step(&mut self.held, dev, pick, buf.as_mut_ptr(), buf.len(), &mut len) })?;
+        Ok(match status {
+            raw::TAKEN => Step::Taken,
+            raw::MOVED => Step::Moved,
+            raw::BAD_SECTOR => Step::BadSector,
+            raw::DISK_FAILED => Step::DiskFailed,
+            raw::COMPLETED => Step::Completed(len),
+            raw::SENT => Step::Sent(&buf[..len as usize]),
+            raw::DROPPED => Step::Dropped,
+            raw::NEEDS_RESET => Step::NeedsReset,
+            _ => Step::Idle,
+        })
+    }
+
+    /// A step that has something to do, as its device and its pick: the first in turn after this one.
+    pub fn next_work(&mut self, (mut dev, mut pick): (u8, u8)) -> Option<(u8, u8)> {
+        let status = unsafe { raw::vmig_next_work(&mut self.held, &mut dev, &mut pick) };
+        (status == raw::WORK).then_some((dev, pick))
+    }
+
+    /// The host puts bytes in: a frame, text or entropy. It tells how many were kept.
+    pub fn input(&mut self, dev: u8, bytes: &[u8]) -> Result<u32, Error> {
+        let mut kept = 0;
+        done(unsafe { raw::vmig_input(&mut self.held, dev, bytes.as_ptr(), bytes.len(), &mut kept) })?;
+        Ok(kept)
+    }
+
+    /// The host sets the size of a console, in characters.
+    pub fn resize(&mut self, dev: u8, columns: u16, rows: u16) -> Result<(), Error> {
+        done(unsafe { raw::vmig_resize(&mut self.held, dev, columns, rows) }).map(drop)
+    }
+
+    /// The interrupt lines: bit d is set while device d has an interrupt that its driver has not acknowledged.
+    pub fn lines(&mut self) -> u16 {
+        unsafe { raw::vmig_lines(&mut self.held) }
+    }
+
+    /// Reads a sector of a disk. It tells whether the sector is good: a bad one has no bytes.
+    pub fn read_sector(&mut self, dev: u8, sector: u64, buf: &mut [u8; 512]) -> Result<bool, Error> {
+        let status = done(unsafe { raw::vmig_sector_read(&mut self.held, dev, sector, buf.as_mut_ptr(), buf.len()) })?;
+        Ok(status != raw::BAD_SECTOR)
+    }
+
+    /// The whole stream of the machine, which continues.
+    pub fn save(&mut self) -> Result<Vec<u8>, Error> {
+        let mut len = 0;
+        done(unsafe { raw::vmig_saved_len(&mut self.held, &mut len) })?;
+        let mut stream = vec![0; len];
+        done(unsafe { raw::vmig_save(&mut self.held, stream.as_mut_ptr(), stream.len(), &mut len) })?;
+        Ok(stream)
+    }
+}
