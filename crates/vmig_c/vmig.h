@@ -488,7 +488,7 @@ uint32_t vmig_arrive_mapped(vmig_image *images, size_t count_images, vmig_machin
 
 /* The next bytes of a stream arrive, in pieces of any size. On a handle of no machine one begins to arrive. VMIG_OK says that
  * the bytes so far have no fault; a piece that brings one is refused, and the stream with it: each later vmig_feed and
- * vmig_finish is VMIG_STREAM_FAILED, until vmig_free. A stream can ask for as much memory as with vmig_receive.
+ * vmig_finish is VMIG_STREAM_FAILED, until vmig_free or, over images, vmig_unmap. A stream can ask for as much memory as with vmig_receive.
  * VMIG_NO_MEMORY comes with the first piece alone, and changes nothing.
  * VMIG_IN_USE, VMIG_NO_MEMORY, or a VMIG_STREAM status. */
 uint32_t vmig_feed(vmig_machine *machine, const uint8_t *bytes, size_t len);

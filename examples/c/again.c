@@ -108,27 +108,34 @@ static size_t stream_of(vmig_machine *m, uint8_t *at)
 static void refuses(size_t len, uint8_t *at)
 {
     vmig_machine m = VMIG_NONE;
-    vmig_image few = {at, SECTORS - 1}, two[] = {{at, SECTORS}, {at, 1}}, right = {at, SECTORS}, back[2] = {VMIG_NO_IMAGE, VMIG_NO_IMAGE};
-    uint8_t first = at[0];
+    vmig_image few = {at, SECTORS - 1}, two[] = {{at, SECTORS - 1}, {at + LENGTH - SECTOR, 1}}, right = {at, SECTORS};
+    vmig_image back[2] = {VMIG_NO_IMAGE, VMIG_NO_IMAGE};
+    uint8_t held[LENGTH];
 
+    memset(at, 0x3c, LENGTH);
+    memcpy(held, at, LENGTH);
     expect("a sector too few", vmig_arrive_mapped(&few, 1, &m), VMIG_OK);
     expect("is told by the header", vmig_feed(&m, stream, len), VMIG_STREAM_SHAPE_MISMATCH);
     expect("and stays so", vmig_feed(&m, stream, len), VMIG_STREAM_FAILED);
     expect("no machine", vmig_finish(&m), VMIG_STREAM_FAILED);
     expect("no slot", vmig_unmap(&m, back, 0), VMIG_TOO_SMALL);
     expect("its image", vmig_unmap(&m, back, 2), VMIG_OK);
-    expect("as it was", back[0].at == at && back[0].sectors == SECTORS - 1 && back[1].sectors == 0 && at[0] == first, 1);
+    expect("is back", back[0].at == at && back[0].sectors == SECTORS - 1 && back[1].sectors == 0, 1);
 
     expect("an image too many", vmig_arrive_mapped(two, 2, &m), VMIG_OK);
     expect("is told by the header", vmig_feed(&m, stream, len), VMIG_STREAM_SHAPE_MISMATCH);
     back[0] = (vmig_image)VMIG_NO_IMAGE;
     expect("both", vmig_unmap(&m, back, 2), VMIG_OK);
-    expect("are back", back[0].sectors == SECTORS && back[1].sectors == 1, 1);
+    expect("are back", back[0].sectors == SECTORS - 1 && back[1].sectors == 1, 1);
+    expect("no sector was written", (uint64_t)memcmp(at, held, LENGTH), 0);
 
     expect("a stream that is cut", vmig_arrive_mapped(&right, 1, &m), VMIG_OK);
     expect("comes in part", vmig_feed(&m, stream, len - 1), VMIG_OK);
     expect("in use", vmig_arrive_mapped(&right, 0, &m), VMIG_IN_USE);
+    expect("whose sectors came", (uint64_t)(memcmp(at, held, LENGTH) != 0), 1);
+    memcpy(held, at, LENGTH);
     expect("and is no machine", vmig_finish(&m), VMIG_STREAM_TRUNCATED);
+    expect("which changes no sector", (uint64_t)memcmp(at, held, LENGTH), 0);
     expect("its image", vmig_unmap(&m, &right, 1), VMIG_OK);
     expect("is back", right.at == at && right.sectors == SECTORS, 1);
     expect("nothing is left", m.at == NULL, 1);

@@ -4,7 +4,7 @@ use Rattle.machine.specs.Seen.{Seen}
 use Rattle.receiver.specs.declared.recv_error.RecvError.{RecvError}
 use Rattle.vmig_c.specs.ArrivalSeen.{ArrivalSeen}
 use Rattle.vmig_c.specs.Arriving.{Feeds, FeedsKept, FinishesKept}
-use Rattle.vmig_c.specs.Awaited.{HasArrived, IsClosed, IsFed, TellsEnd, TellsOf, stream_status}
+use Rattle.vmig_c.specs.Awaited.{HasArrived, HasSameDisks, IsClosed, IsFed, TellsEnd, TellsOf, stream_status}
 use Rattle.vmig_c.specs.Kept.{State, Still, Arriving}
 
 pub fed : (k : State) (r next : ArrivalSeen) (piece : List ℕ) (status : ℕ) → k ≡ Arriving r → Feeds r piece status next → FeedsKept k piece status (Arriving next)
@@ -19,6 +19,6 @@ was_not_fed r next piece error status why is failed = inr (record { error = erro
 pub was_finished : (k : State) (r : ArrivalSeen) (m : Seen) → k ≡ Arriving r → HasArrived r m → FinishesKept k 0 (Still m)
 was_finished k r m is arrived = subst (λ (x : State). FinishesKept x 0 (Still m)) (sym is) (record { status_is = refl; arrived = arrived })
 
-pub was_not_finished : (k : State) (r next : ArrivalSeen) (error : RecvError) (status : ℕ) → k ≡ Arriving r → TellsEnd r error → status ≡ stream_status error → IsClosed r next → FinishesKept k status (Arriving next)
-was_not_finished k r next error status is why told failed =
-    subst (λ (x : State). FinishesKept x status (Arriving next)) (sym is) (record { error = error; why = why; status_is = told; failed = failed })
+pub was_not_finished : (k : State) (r next : ArrivalSeen) (error : RecvError) (status : ℕ) → k ≡ Arriving r → TellsEnd r error → status ≡ stream_status error → IsClosed r next → HasSameDisks r next → FinishesKept k status (Arriving next)
+was_not_finished k r next error status is why told failed same =
+    subst (λ (x : State). FinishesKept x status (Arriving next)) (sym is) (record { error = error; why = why; status_is = told; failed = failed; same_disks = same })

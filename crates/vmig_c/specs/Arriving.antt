@@ -3,7 +3,7 @@ use Rattle.std.specs.Prelude.{◌≡◌, ◌⊎◌, ℕ, List, Option, Some, Non
 use Rattle.machine.specs.Seen.{Seen}
 use Rattle.receiver.specs.declared.recv_error.RecvError.{RecvError}
 use Rattle.vmig_c.specs.ArrivalSeen.{ArrivalSeen}
-use Rattle.vmig_c.specs.Awaited.{CountsRounds, HasArrived, IsClosed, IsFed, TellsEnd, TellsOf, nothing_fed, stream_status}
+use Rattle.vmig_c.specs.Awaited.{CountsRounds, HasArrived, HasSameDisks, IsClosed, IsFed, TellsEnd, TellsOf, nothing_fed, stream_status}
 use Rattle.vmig_c.specs.Status.{done, in_use, no_machine, no_memory}
 use Rattle.vmig_c.specs.Kept.{KeptSeen, own, State, Still, Moving, Arriving}
 
@@ -47,12 +47,13 @@ pub record HasFinished (r : ArrivalSeen) (status : ℕ) (m : Seen) : Type 0 wher
   pub status_is : status ≡ done
   pub arrived : HasArrived r m
 
--- The end was refused, and the stream with it.
+-- The end was refused, and the stream with it. Images are as they were.
 pub record HasNotFinished (r : ArrivalSeen) (status : ℕ) (next : ArrivalSeen) : Type 0 where
   pub error : RecvError
   pub why : TellsEnd r error
   pub status_is : status ≡ stream_status error
   pub failed : IsClosed r next
+  pub same_disks : HasSameDisks r next
 
 abbrev pub FinishesKept : State → ℕ → State → Type 0
 FinishesKept (Arriving r) status (Still m) = HasFinished r status m

@@ -93,6 +93,12 @@ IsClosed (Over r) (Over next) = (next.failed ≡ true) × (next.sizes ≡ r.size
 IsClosed (Over r) next = ⊥
 IsClosed a next = next ≡ Refused
 
+-- Images hold what they held.
+abbrev pub HasSameDisks : ArrivalSeen → ArrivalSeen → Type 0
+HasSameDisks (Over r) (Over next) = next.disks ≡ r.disks
+HasSameDisks (Over r) next = ⊥
+HasSameDisks a next = Unit {0}
+
 -- The next piece was taken.
 pub record IsFed (a : ArrivalSeen) (piece : List ℕ) (next : ArrivalSeen) : Type 0 where
   pub went_on : IsOpen a

@@ -56,7 +56,7 @@ impl Model for Arrival {
 
 impl Arrival {
     ghost use Rattle.std.specs.Prelude.{◌≡◌, IfErr, IfOk};
-    ghost use Rattle.vmig_c.specs.Awaited.{CountsRounds, HasArrived, IsAtHead, IsClosed, IsFed, TellsEnd, TellsOf, nothing_fed, refused_for_good};
+    ghost use Rattle.vmig_c.specs.Awaited.{CountsRounds, HasArrived, HasSameDisks, IsAtHead, IsClosed, IsFed, TellsEnd, TellsOf, nothing_fed, refused_for_good};
 
     /// An arrival that was fed nothing yet. It takes no memory.
     #[tactic(auto, using(crate::proofs::Awaited::empty_head))]
@@ -131,6 +131,7 @@ impl Arrival {
     pub(crate) fn finish(self) -> Result<Machine<MemDisk>, RecvError>
         ensures arrived { IfOk result (λ m. HasArrived self m) }
         ensures refused { IfErr result (λ e. TellsEnd self e × IsClosed self refused_for_good) }
+        ensures none { HasSameDisks self refused_for_good }
     {
         let Arrival { alloc: _, progress } = self;
         match progress {

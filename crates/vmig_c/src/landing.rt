@@ -33,7 +33,7 @@ impl Model for Landing {
 
 impl Landing {
     ghost use Rattle.std.specs.Prelude.{◌≡◌, IfErr, IfOk, length};
-    ghost use Rattle.vmig_c.specs.Awaited.{CountsRounds, HasArrived, IsClosed, IsFed, IsOver, TellsEnd, TellsOf, awaited_sizes};
+    ghost use Rattle.vmig_c.specs.Awaited.{CountsRounds, HasArrived, HasSameDisks, IsClosed, IsFed, IsOver, TellsEnd, TellsOf, awaited_sizes};
     ghost use Rattle.vmig_c.specs.Landing.{AreDisksOf, IsAwaitedOver};
     ghost use Rattle.vmig_c.specs.Mapping.{contents};
 
@@ -61,10 +61,11 @@ impl Landing {
         self.receiver.rounds()
     }
 
-    /// The machine whose stream was fed. A refusal gives back what holds the disks.
+    /// The machine whose stream was fed. A refusal gives back what holds the disks, which are as they were.
     pub(crate) fn finish(self) -> Result<Machine<MappedDisk>, (RecvError, Landing)>
         ensures arrived { IfOk result (λ m. HasArrived self m) }
         ensures refused { IfErr result (λ x. TellsEnd self x.0 × IsClosed self x.1) }
+        ensures same { IfErr result (λ x. HasSameDisks self x.1) }
     {
         let Landing { receiver } = self;
         match receiver.finish_or_back() {

@@ -62,12 +62,7 @@ fn live_step_told<D: Disk>(
     }
     live.recall();
     match live.step_into(dev, pick, sent) {
-        Ok(stepped) => {
-            let message = sent.as_slice();
-            hand_out(stepped, message, buf);
-            *number = step_number(stepped, message, *number);
-            step_status(stepped)
-        }
+        Ok(stepped) => tell_step(stepped, sent.as_slice(), buf, number),
         Err(error) => mig_told(error),
     }
 }
@@ -88,9 +83,19 @@ fn step_told<D: Disk>(
         return TOO_SMALL;
     }
     let stepped = machine.step_into(dev, pick, sent);
-    let message = sent.as_slice();
-    hand_out(stepped, message, buf);
-    *number = step_number(stepped, message, *number);
+    tell_step(stepped, sent.as_slice(), buf, number)
+}
+
+/// What C gets for a step that left these bytes in the buffer of messages.
+fn tell_step(stepped: Stepped, sent: &[u8], buf: &mut [u8], number: &mut u32) -> u32
+    requires room { length (sent_in (reply_in stepped sent.now)) ≤ length buf.old }
+    requires few { length (sent_in (reply_in stepped sent.now)) ≤ 65536 }
+    ensures status { result ≡ status_of (reply_in stepped sent.now) }
+    ensures number { number.new ≡ number_of (reply_in stepped sent.now) number.old }
+    ensures sent { buf.new ≡ sent_in (reply_in stepped sent.now) ++ drop (length (sent_in (reply_in stepped sent.now))) buf.old }
+{
+    hand_out(stepped, sent, buf);
+    *number = step_number(stepped, sent, *number);
     step_status(stepped)
 }
 
