@@ -125,6 +125,7 @@ static void chain(vmig_machine *m, uint32_t base, uint32_t count, uint32_t flags
  * the text of one. */
 static void run_guest(vmig_machine *m)
 {
+    uint64_t before;
     uint32_t len, accepted;
     uint8_t dev = 0, pick = 0;
 
@@ -140,6 +141,13 @@ static void run_guest(vmig_machine *m)
     CALL_AGAIN("a message", vmig_step(m, CONSOLE, 1, sent, sizeof sent, &len), VMIG_SENT);
     expect("its length", len, LONG_CHAIN);
     expect("the guest's text", (uint64_t)memcmp(sent, "e", 1), 0);
+    put_dev(m, 0x2000 + 12, 0, 2);
+    put_dev(m, 0x2406, 0, 2);
+    put_dev(m, 0x2402, 2, 2);
+    write_dev(m, CONSOLE, 0x050, 1);
+    before = requests;
+    expect("a message that is no longer", CALL(vmig_step(m, CONSOLE, 1, sent, sizeof sent, &len)), VMIG_SENT);
+    expect("takes no memory", requests, before);
     while (CALL(vmig_next_work(m, &dev, &pick)) == VMIG_WORK) {
         expect("a queue that is empty", CALL(vmig_step(m, dev, pick, sent, sizeof sent, &len)), VMIG_IDLE);
     }
