@@ -164,8 +164,7 @@ pub extern "C" fn vmig_make_with(
 }
 
 /// Makes such a machine, whose disks lie in the images, in the order of the devices. The images are taken: what is left of each is
-/// one of no sectors. Where memory is refused the images are as they were, or all of no sectors, and their bytes are the
-/// caller's again.
+/// one of no sectors. Where memory is refused the images are as they were.
 #[unsafe(no_mangle)]
 #[tactic(auto, using(crate::proofs::MappingImages::maps_used, crate::proofs::MappingImages::maps_beyond, crate::proofs::MappingImages::maps_others, crate::proofs::MappingImages::maps_full, crate::proofs::MappingImages::maps_done))]
 pub extern "C" fn vmig_make_mapped(
