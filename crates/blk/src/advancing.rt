@@ -89,6 +89,7 @@ impl Requests {
 
 /// Reports the verdict of a request to the driver and publishes its chain.
 #[tactic(auto, unfolding(crate::specs::Advance::end_writes))]
+#[inline(always)]
 fn complete<R: Ring, L: TouchLog>(
     ring: &mut R,
     request: &Request,

@@ -73,6 +73,7 @@ impl Requests {
 }
 
 /// What the request of a chain asks for.
+#[inline(always)]
 fn task_for(ram: &Ram, shape: &BlockShape, chain: &Chain) -> Task
     requires inside { AreSegmentsInside (length ram.now.bytes) chain.now.readable }
     requires header { HEADER_SIZE ≤ length (places chain.now.readable) }

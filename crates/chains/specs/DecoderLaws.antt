@@ -7,7 +7,7 @@ use Rattle.guestmem.specs.Number.{number_at}
 use Rattle.guestmem.specs.Later.{IsLater}
 use Rattle.chains.specs.declared.decoder.Kept.{Kept}
 use Rattle.chains.specs.declared.descriptor.TheConstants.{DESCRIPTOR_SIZE}
-use Rattle.chains.specs.Descriptor.{descriptor_in}
+use Rattle.chains.specs.Words.{words_of}
 use Rattle.chains.specs.Decoder.{DecoderState, IsKnown, FitsPlace, Fits}
 
 little_same : (new old : List ℕ) (at i n : ℕ) → ((k : ℕ) → k < i + n → get_or new (at + k) 0 ≡ get_or old (at + k) 0) → little_from i n (drop at new) ≡ little_from i n (drop at old)
@@ -21,21 +21,13 @@ number_same : (new old : List ℕ) (at n : ℕ) → ((k : ℕ) → k < n → get
 unfolding number_at
 number_same new old at n same = little_same new old at 0 n (λ k below. same k (omega (arith, below)))
 
--- The number at an address inside the descriptor at an aligned address, where the page has the bytes that it had.
-within : (new old : List ℕ) (address : ℕ) → address % DESCRIPTOR_SIZE ≡ 0 → ((a : ℕ) → a / PAGE_SIZE ≡ address / PAGE_SIZE → get_or new a 0 ≡ get_or old a 0)
-    → (off n : ℕ) → off + n ≤ 16 → number_at new (address + off) n ≡ number_at old (address + off) n
-within new old address aligned same off n few = number_same new old (address + off) n (λ k below. same (address + off + k) (omega (arith, aligned, few, below)))
-
--- A descriptor stays where the bytes of its page stay.
-pub descriptor_same : (is_packed : Bool) (new old : List ℕ) (address : ℕ) → address % DESCRIPTOR_SIZE ≡ 0
-    → ((a : ℕ) → a / PAGE_SIZE ≡ address / PAGE_SIZE → get_or new a 0 ≡ get_or old a 0) → descriptor_in is_packed new address ≡ descriptor_in is_packed old address
-unfolding descriptor_in
-descriptor_same is_packed new old address aligned same =
-    let at0 : number_at new address 8 ≡ number_at old address 8 = number_same new old address 8 (λ k below. same (address + k) (omega (arith, aligned, below))) in
-    let at8 = within new old address aligned same 8 4 (omega arith) in
-    let at12 = within new old address aligned same 12 2 (omega arith) in
-    let at14 = within new old address aligned same 14 2 (omega arith) in
-    rw (at0, at8, at12, at14) refl
+-- The bytes of a descriptor stay where those of its page stay.
+pub words_same : (new old : List ℕ) (address : ℕ) → address % DESCRIPTOR_SIZE ≡ 0 → ((a : ℕ) → a / PAGE_SIZE ≡ address / PAGE_SIZE → get_or new a 0 ≡ get_or old a 0)
+    → words_of new address ≡ words_of old address
+words_same new old address aligned same =
+    let first : number_at new address 8 ≡ number_at old address 8 = number_same new old address 8 (λ k below. same (address + k) (omega (arith, aligned, below))) in
+    let second = number_same new old (address + 8) 8 (λ k below. same (address + 8 + k) (omega (arith, aligned, below))) in
+    rw (first, second) refl
 
 known_later : (old new : Memory) (k : Kept) → IsKnown old k → IsLater old new → IsKnown new k
 known_later old new k known later =
@@ -47,7 +39,7 @@ known_later old new k known later =
           let was : k.version ≡ get_or old.versions n 0 = omega (arith, same, known.version, later.rises n) in
           let is : get_or new.versions n 0 ≡ get_or old.versions n 0 = omega (arith, same, was) in
           let few : get_or old.versions n 0 < 2 ^ 64 - 1 = omega (arith, was, small) in
-          known.stays was small ∙ sym (descriptor_same k.is_packed new.bytes old.bytes k.address known.aligned (λ a page. later.stays a (rw page is) (rw page few)));
+          known.stays was small ∙ sym (words_same new.bytes old.bytes k.address known.aligned (λ a page. later.stays a (rw page is) (rw page few)));
     }
 
 place_later : (old new : Memory) (p : Option Kept) → IsLater old new → FitsPlace old p → FitsPlace new p

@@ -4,6 +4,7 @@ pub mod RingCore
 pub mod RingSeen
 pub mod Places
 pub mod Descriptor
+pub mod Words
 pub mod Decoder
 pub mod DecoderLaws
 pub mod Whole

@@ -12,6 +12,7 @@ use crate::walked::Walked;
 /// Adds the buffer of a descriptor to the segments of a chain, in a RAM of `len` bytes. It is not added if it does not lie
 /// inside RAM, or if it is readable and the chain has writable ones. Memory is refused only where the chain has
 /// `SHORT_CHAIN_MAX` segments or more.
+#[inline(always)]
 pub fn add(descriptor: &Descriptor, len: u64, chain: &mut Chain) -> Walked
     requires few { segment_count chain.old < 2 ^ 32 }
     ensures gives { (ds : List Descriptor) → AreHeld len ds chain.old → AddGives len ds descriptor.now chain.new result }

@@ -41,6 +41,7 @@ pub fn copy_out(ram: &Ram, segs: &[Seg], at: u64, buf: &mut [u8])
 /// Writes `bytes` at offset `at` of the concatenated segments. Where segments overlap the later byte wins. The pages of
 /// these bytes are reported to the log. The segments lie inside RAM, and have at least `at + bytes.len()` bytes. It
 /// takes no memory.
+#[inline(always)]
 pub fn copy_in<L: TouchLog>(ram: &mut Ram, segs: &[Seg], at: u64, bytes: &[u8], log: &mut L)
     requires inside { AreSegmentsInside (length ram.old.bytes) segs.now }
     requires room { at + length bytes.now ≤ length (places segs.now) }

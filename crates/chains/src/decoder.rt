@@ -5,28 +5,27 @@ ghost use Rattle.guestmem.specs.Memory.{Memory};
 ghost use Rattle.guestmem.specs.Write.{raised};
 ghost use Rattle.chains.specs.Descriptor.{descriptor_at, descriptor_in};
 ghost use Rattle.chains.specs.Decoder.{Fits, empty_decoder, is_kept};
+ghost use Rattle.chains.specs.Words.{words_of};
 
-use crate::descriptor::{DESCRIPTOR_SIZE, Descriptor, decode};
+use crate::descriptor::{DESCRIPTOR_SIZE, Descriptor, Words, decode, words_at};
 use guestmem::{PAGE_SIZE, Ram};
 use std::marker::Model;
 
 /// The number of places of a decoder.
 pub const PLACES: usize = 16;
 
-/// A descriptor that was decoded, and what tells whether it is still so in RAM.
+/// A descriptor that was read, and what tells whether it is still so in RAM. It is kept as its bytes: a look at them gives what is
+/// asked of it, where nine fields would have to be put away.
 #[derive(Clone, Copy)]
 pub struct Kept {
     /// The address at which it was read.
     pub address: u64,
 
-    /// Whether it was read as one of a packed ring.
-    pub is_packed: bool,
-
     /// The version of its page when it was read.
     pub version: u64,
 
     /// What was read.
-    pub descriptor: Descriptor,
+    pub words: Words,
 }
 
 /// Reads descriptors, counts those that it decodes, and keeps some of the queue's own table: descriptor i in place i mod
@@ -93,7 +92,7 @@ impl Decoder {
         ensures fits { Fits self.new ram.now }
         ensures few { self.new.decoded ≤ self.old.decoded + 1 }
         ensures rises { self.old.decoded ≤ self.new.decoded }
-        ensures count { self.new.decoded ≡ (if is_own && is_kept self.old ram.now is_packed (table + DESCRIPTOR_SIZE * index) (index % PLACES) then self.old.decoded else raised self.old.decoded) }
+        ensures count { self.new.decoded ≡ (if is_own && is_kept self.old ram.now (table + DESCRIPTOR_SIZE * index) (index % PLACES) then self.old.decoded else raised self.old.decoded) }
         ensures apart { is_own ≡ false → self.new.places ≡ self.old.places }
     {
         ram.recall();
@@ -115,30 +114,24 @@ impl Decoder {
         ensures fits { Fits self.new ram.now }
         ensures few { self.new.decoded ≤ self.old.decoded + 1 }
         ensures rises { self.old.decoded ≤ self.new.decoded }
-        ensures count { self.new.decoded ≡ (if is_kept self.old ram.now is_packed address place then self.old.decoded else raised self.old.decoded) }
+        ensures count { self.new.decoded ≡ (if is_kept self.old ram.now address place then self.old.decoded else raised self.old.decoded) }
     {
         ram.recall();
         let version = ram.version(address / PAGE_SIZE as u64);
         if let Some(kept) = self.places[place] {
-            if kept.address == address
-                && kept.is_packed == is_packed
-                && kept.version == version
-                && version < u64::MAX
-            {
-                return kept.descriptor;
+            if kept.address == address && kept.version == version && version < u64::MAX {
+                return decode(is_packed, kept.words);
             }
         }
-        let descriptor = self.read_anew(ram, is_packed, address);
+        let words = self.read_words(ram, address);
         self.places[place] = Some(Kept {
             address,
-            is_packed,
             version,
-            descriptor,
+            words,
         });
-        descriptor
+        decode(is_packed, words)
     }
 
-    /// Decodes a descriptor and counts it: each one that is decoded is decoded here.
     fn read_anew(&mut self, ram: &Ram, is_packed: bool, address: u64) -> Descriptor
         requires inside { address + DESCRIPTOR_SIZE ≤ length ram.now.bytes }
         ensures descriptor { result ≡ descriptor_in is_packed ram.now.bytes address }
@@ -147,7 +140,21 @@ impl Decoder {
         ensures count { self.new.decoded ≡ raised self.old.decoded }
         ensures places { self.new.places ≡ self.old.places }
     {
+        ram.recall();
+        decode(is_packed, self.read_words(ram, address))
+    }
+
+    /// Reads the bytes of a descriptor and counts it: each one that is decoded from RAM is read here.
+    #[inline(always)]
+    fn read_words(&mut self, ram: &Ram, address: u64) -> Words
+        requires inside { address + DESCRIPTOR_SIZE ≤ length ram.now.bytes }
+        ensures words { result ≡ words_of ram.now.bytes address }
+        ensures few { self.new.decoded ≤ self.old.decoded + 1 }
+        ensures rises { self.old.decoded ≤ self.new.decoded }
+        ensures count { self.new.decoded ≡ raised self.old.decoded }
+        ensures places { self.new.places ≡ self.old.places }
+    {
         self.decoded = self.decoded.saturating_add(1);
-        decode(ram, is_packed, address)
+        words_at(ram, address)
     }
 }

@@ -1,7 +1,7 @@
 //! Descriptors of guest memory.
 
 ghost use Rattle.std.specs.Prelude.{◌≡◌, ◌+◌, ◌≤◌, length, IsTrue, ◌↔◌};
-ghost use Rattle.chains.specs.Descriptor.{descriptor_in};
+ghost use Rattle.chains.specs.Words.{decoded, words_of};
 
 use crate::flags::{AVAIL, INDIRECT, NEXT, USED, WRITE};
 use guestmem::Ram;
@@ -40,19 +40,42 @@ pub struct Descriptor {
     pub used_flag: bool,
 }
 
-/// Decodes the descriptor at an address, in a table of the layout. This is the one function that reads descriptors, and only a
-/// `Decoder` calls it, once, where it counts.
-#[tactic(auto, unfolding(crate::specs::Descriptor::descriptor_in))]
-pub(crate) fn decode(ram: &Ram, is_packed: bool, address: u64) -> Descriptor
+/// The bytes of a descriptor, as two little-endian numbers: the address of its buffer, and all else.
+#[derive(Clone, Copy, Debug, PartialEq, Eq)]
+pub struct Words {
+    /// The first eight bytes.
+    pub first: u64,
+
+    /// The last eight bytes: the length in the lowest four, and then two numbers of two bytes, of which the layout says what they
+    /// are.
+    pub second: u64,
+}
+
+/// Reads the bytes of a descriptor. This is the one function that reads descriptors from RAM, and only a `Decoder` calls it, once,
+/// where it counts.
+#[inline(always)]
+pub(crate) fn words_at(ram: &Ram, address: u64) -> Words
     requires inside { address + DESCRIPTOR_SIZE ≤ length ram.now.bytes }
-    ensures { result ≡ descriptor_in is_packed ram.now.bytes address }
+    ensures { result ≡ words_of ram.now.bytes address }
 {
     ram.recall();
-    let (low, high) = (ram.u16_at(address + 12), ram.u16_at(address + 14));
+    Words {
+        first: ram.u64_at(address),
+        second: ram.u64_at(address + 8),
+    }
+}
+
+/// Takes the bytes of a descriptor apart, as one of a table of the layout.
+#[inline(always)]
+pub(crate) fn decode(is_packed: bool, words: Words) -> Descriptor
+    ensures { result ≡ decoded is_packed words }
+{
+    let low = ((words.second >> 32) % (1 << 16)) as u16;
+    let high = (words.second >> 48) as u16;
     let flags = if is_packed { high } else { low };
     Descriptor {
-        addr: ram.u64_at(address),
-        len: ram.u32_at(address + 8),
+        addr: words.first,
+        len: (words.second % (1 << 32)) as u32,
         next: if is_packed { 0 } else { high },
         id: if is_packed { low } else { 0 },
         has_next: flags & NEXT != 0,

@@ -14,11 +14,8 @@ pub struct RingCore {
     /// For the chains that the ring finds.
     pub alloc: Global,
 
-    /// The feature INDIRECT_DESC.
-    pub has_indirect: bool,
-
-    /// The feature EVENT_IDX.
-    pub has_event_index: bool,
+    /// The features that the driver accepted.
+    pub features: u64,
 
     /// The number of slots.
     pub size: u16,
@@ -52,8 +49,7 @@ impl RingCore {
     {
         RingCore {
             alloc,
-            has_indirect: features & INDIRECT_DESC != 0,
-            has_event_index: features & EVENT_IDX != 0,
+            features,
             size: queue.size as u16,
             descriptors: queue.descriptors,
             driver: queue.driver,
@@ -61,6 +57,20 @@ impl RingCore {
             taking: positions.taking,
             used: positions.used,
         }
+    }
+
+    /// Whether the driver accepted indirect descriptors.
+    pub fn has_indirect(&self) -> bool
+        ensures { result ≡ has_bit self.now.features INDIRECT_DESC }
+    {
+        self.features & INDIRECT_DESC != 0
+    }
+
+    /// Whether the driver accepted event indexes.
+    pub fn has_event_index(&self) -> bool
+        ensures { result ≡ has_bit self.now.features EVENT_IDX }
+    {
+        self.features & EVENT_IDX != 0
     }
 
     /// Both positions.

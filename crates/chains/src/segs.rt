@@ -1,6 +1,6 @@
 //! Segments of guest memory.
 
-ghost use Rattle.std.specs.Prelude.{◌≡◌, ◌==◌, ◌<◌, ◌^◌, [], ◌∷◌, ◌++◌, length, OnOk, OnErr, IsOk};
+ghost use Rattle.std.specs.Prelude.{◌≡◌, ◌==◌, ◌<◌, ◌≤◌, ◌^◌, [], ◌∷◌, ◌++◌, length, OnOk, OnErr, IsOk};
 ghost use Rattle.chains.specs.Places.{places};
 
 use crate::limits::SHORT_CHAIN_MAX;
@@ -63,6 +63,7 @@ impl Segs {
 
     /// Adds a segment at the end. Its only error is out of memory, and then nothing has changed. It never fails on a
     /// list of fewer than `SHORT_CHAIN_MAX`.
+    #[inline(always)]
     #[tactic(auto, using(crate::specs::PlaceLaws::length_places_push))]
     pub fn push(&mut self, seg: Seg) -> Result<(), NoMemory>
         requires few { length self.old < 2 ^ 32 }
@@ -70,7 +71,7 @@ impl Segs {
         ensures err { OnErr result (self.new ≡ self.old) }
         ensures short { length self.old < SHORT_CHAIN_MAX → IsOk result }
     {
-        self.list.push(seg)?;
+        push(&mut self.list, seg)?;
         self.total += seg.len as u64;
         Ok(())
     }
@@ -102,4 +103,32 @@ impl Segs {
     {
         self.list.is_empty()
     }
+}
+
+/// Adds a segment at the end of a list that has at least the inline places. These are filled without a look at how the list is kept.
+#[inline(always)]
+fn push(list: &mut SmallVec<Seg, SHORT_CHAIN_MAX>, seg: Seg) -> Result<(), NoMemory>
+    requires { SHORT_CHAIN_MAX ≤ list.old.capacity }
+    ensures ok { OnOk result (list.new.items ≡ list.old.items ++ seg ∷ []) }
+    ensures err { OnErr result (list.new ≡ list.old) }
+    ensures short { length list.old.items < SHORT_CHAIN_MAX → IsOk result }
+    ensures capacity { list.old.capacity ≤ list.new.capacity }
+{
+    if list.len() < SHORT_CHAIN_MAX {
+        list.push_reserved(seg);
+        return Ok(());
+    }
+    push_far(list, seg)
+}
+
+/// Adds a segment at the end of a list that may have to grow.
+#[cold]
+#[inline(never)]
+fn push_far(list: &mut SmallVec<Seg, SHORT_CHAIN_MAX>, seg: Seg) -> Result<(), NoMemory>
+    ensures ok { OnOk result (list.new.items ≡ list.old.items ++ seg ∷ []) }
+    ensures err { OnErr result (list.new ≡ list.old) }
+    ensures capacity { list.old.capacity ≤ list.new.capacity }
+{
+    list.push(seg)?;
+    Ok(())
 }

@@ -80,6 +80,7 @@ pub fn transmit<R: Ring, L: TouchLog>(
 }
 
 /// Reads the bytes after the header, with one copy.
+#[inline(always)]
 fn read_message(
     header: u32,
     chain: &Chain,

@@ -1,6 +1,6 @@
 //! The memory of a guest.
 
-ghost use Rattle.std.specs.Prelude.{◌≡◌, ◌+◌, ◌*◌, ◌<◌, ◌≤◌, ◌^◌, ℕ, length, replicate, take, drop, IfOk, OnOk, OnErr, map, slice_index, false};
+ghost use Rattle.std.specs.Prelude.{◌≡◌, ◌+◌, ◌*◌, ◌%◌, ◌<◌, ◌≤◌, ◌^◌, ℕ, length, replicate, take, drop, IfOk, OnOk, OnErr, map, slice_index, false};
 ghost use Rattle.guestmem.specs.Number.{number_at, IsBytes};
 ghost use Rattle.guestmem.specs.Item.{page as page_item, after_all, pages_between, MayPages};
 ghost use Rattle.guestmem.specs.Writes.{byte_writes, set_all, touched};
@@ -9,6 +9,7 @@ ghost use Rattle.guestmem.specs.Page.{page_of};
 ghost use Rattle.guestmem.specs.Later.{IsLater};
 ghost use Rattle.guestmem.specs.Rises.{Rises};
 ghost use Rattle.guestmem.specs.Write.{written, touched_of, refusal_of, unless_refused, raise, raised};
+ghost use Rattle.guestmem.specs.declared.touched.Touched.TheVariants.{Pages};
 
 use crate::error::RamError;
 use crate::limits::{ACCESS_MAX, PAGE_SIZE, PAGES_MAX};
@@ -205,6 +206,42 @@ impl Ram {
         }
     }
 
+    /// Does what `put` does, for bytes that lie in one page: at least one, and none past the end of the page of the first.
+    #[inline(always)]
+    #[tactic(auto, using(crate::specs::WriteLaws::put_at_set_all))]
+    pub fn put_in_page<L: TouchLog>(&mut self, addr: u64, bytes: &[u8], log: &mut L)
+        requires inside { addr + length bytes.now ≤ length self.old.bytes }
+        requires some { 1 ≤ length bytes.now }
+        requires page { addr % PAGE_SIZE + length bytes.now ≤ PAGE_SIZE }
+        requires may { MayPages L.may log.old (length self.old.bytes) }
+        ensures bytes { self.new.bytes ≡ set_all self.old.bytes (byte_writes addr bytes.now) }
+        ensures versions { self.new ≡ written self.old addr bytes.now }
+        ensures later { IsLater self.old self.new }
+        ensures log { log.new ≡ after_all L.after log.old (touched (byte_writes addr bytes.now)) }
+        ensures rises { Rises (touched (byte_writes addr bytes.now)) self.old self.new }
+        ensures may { MayPages L.may log.new (length self.new.bytes) }
+    {
+        self.recall();
+        let page = self.store_in_page(addr, bytes);
+        tell_pages(log, page, page);
+    }
+
+    #[inline(always)]
+    fn store_in_page(&mut self, addr: u64, bytes: &[u8]) -> u64
+        requires inside { addr + length bytes.now ≤ length self.old.bytes }
+        requires some { 1 ≤ length bytes.now }
+        requires page { addr % PAGE_SIZE + length bytes.now ≤ PAGE_SIZE }
+        ensures touched { Pages result result ≡ touched_of addr (length bytes.now) }
+        ensures written { self.new ≡ written self.old addr bytes.now }
+    {
+        self.recall();
+        let start = addr as usize;
+        self.bytes[start..start + bytes.len()].copy_from_slice(bytes);
+        let page = start / PAGE_SIZE;
+        raise_page(self.versions.as_mut_slice(), page);
+        page as u64
+    }
+
     fn store(&mut self, addr: u64, bytes: &[u8]) -> Touched
         requires { addr + length bytes.now ≤ length self.old.bytes }
         ensures touched { result ≡ touched_of addr (length bytes.now) }
@@ -249,6 +286,15 @@ fn raise_pages(versions: &mut [u64], first: usize, last: usize)
     if first < last {
         raise_all(&mut versions[first + 1..=last]);
     }
+}
+
+/// Raises the version of one page.
+#[inline(always)]
+fn raise_page(versions: &mut [u64], page: usize)
+    requires { page < length versions.old }
+    ensures { versions.new ≡ raise versions.old page page }
+{
+    versions[page] = raised_version(versions[page]);
 }
 
 fn raise_all(versions: &mut [u64])

@@ -47,34 +47,31 @@ impl AnyRing {
         ensures kept { is_packed_in self.old ≡ has_bit features RING_PACKED → decoder_in self.new ≡ decoder_in self.old }
         ensures fits { (ram : Memory) → Fits (decoder_in self.old) ram → Fits (decoder_in self.new) ram }
     {
+        let is_packed = features & RING_PACKED != 0;
+        match self {
+            AnyRing::Split(ring) if !is_packed => {
+                ring.renew(RingCore::new(alloc, queue, features, positions));
+            }
+            AnyRing::Packed(ring) if is_packed => {
+                ring.renew(RingCore::new(alloc, queue, features, positions));
+            }
+            _ => self.turn(alloc, queue, features, positions),
+        }
+    }
+
+    /// Makes it a ring that keeps nothing, of the layout that the features name. That is seldom: a driver chooses its layout once.
+    #[cold]
+    #[inline(never)]
+    fn turn(&mut self, alloc: Global, queue: &Queue, features: u64, positions: Positions)
+        requires { MayRing (state_of queue.now features positions) }
+        ensures ring { ring_in self.new ≡ state_of queue.now features positions }
+        ensures fits { (ram : Memory) → Fits (decoder_in self.new) ram }
+    {
         let core = RingCore::new(alloc, queue, features, positions);
         if features & RING_PACKED != 0 {
-            self.renew_packed(core)
+            *self = AnyRing::Packed(PackedRing::of(core));
         } else {
-            self.renew_split(core)
-        }
-    }
-
-    fn renew_split(&mut self, core: RingCore)
-        ensures ring { ring_in self.new ≡ core_state false core }
-        ensures kept { is_packed_in self.old ≡ false → decoder_in self.new ≡ decoder_in self.old }
-        ensures fits { (ram : Memory) → Fits (decoder_in self.old) ram → Fits (decoder_in self.new) ram }
-    {
-        match self {
-            AnyRing::Split(ring) => ring.renew(core),
-            AnyRing::Packed(_) => *self = AnyRing::Split(SplitRing::of(core)),
-        }
-    }
-
-    fn renew_packed(&mut self, core: RingCore)
-        requires slots { (core.taking.place < core.size) × (core.used.place < core.size) }
-        ensures ring { ring_in self.new ≡ core_state true core }
-        ensures kept { is_packed_in self.old ≡ true → decoder_in self.new ≡ decoder_in self.old }
-        ensures fits { (ram : Memory) → Fits (decoder_in self.old) ram → Fits (decoder_in self.new) ram }
-    {
-        match self {
-            AnyRing::Packed(ring) => ring.renew(core),
-            AnyRing::Split(_) => *self = AnyRing::Packed(PackedRing::of(core)),
+            *self = AnyRing::Split(SplitRing::of(core));
         }
     }
 
@@ -102,6 +99,7 @@ impl Ring for AnyRing {
         }
     }
 
+    #[inline(always)]
     fn next_into(&mut self, ram: &Ram, chain: &mut Chain) -> NextKind {
         match self {
             AnyRing::Split(ring) => ring.next_into(ram, chain),
@@ -116,6 +114,7 @@ impl Ring for AnyRing {
         }
     }
 
+    #[inline(always)]
     fn publish<L: TouchLog>(
         &mut self,
         id: u16,

@@ -100,7 +100,7 @@ impl PackedRing {
         if flags == DISABLE {
             return false;
         }
-        if core.has_event_index && flags == DESC {
+        if core.has_event_index() && flags == DESC {
             return is_covered(ram.u16_at(core.driver), core.used, slots, core.size);
         }
         true
@@ -116,6 +116,7 @@ impl Ring for PackedRing {
         self.core.alloc
     }
 
+    #[inline(always)]
     fn next_into(&mut self, ram: &Ram, chain: &mut Chain) -> NextKind {
         ram.recall();
         let taking = self.core.taking;
@@ -135,6 +136,7 @@ impl Ring for PackedRing {
         self.core.taking = going_on(self.core.taking, chain.slots, self.core.size);
     }
 
+    #[inline(always)]
     fn publish<L: TouchLog>(
         &mut self,
         id: u16,
@@ -148,7 +150,7 @@ impl Ring for PackedRing {
         let used = self.core.used;
         let entry = self.core.descriptors + DESCRIPTOR_SIZE * used.place as u64;
         let bytes = used_bytes(len, id, used_flags(wrote, used.wrap));
-        ram.put(entry + LENGTH, &bytes, log);
+        ram.put_in_page(entry + LENGTH, &bytes, log);
         let is_due = self.is_due(slots, ram);
         self.core.used = going_on(used, slots, self.core.size);
         is_due
@@ -157,7 +159,7 @@ impl Ring for PackedRing {
     #[tactic(auto, unfolding(chains::specs::Publish::packed_note))]
     fn note_empty<L: TouchLog>(&mut self, ram: &mut Ram, log: &mut L) {
         ram.recall();
-        if self.core.has_event_index {
+        if self.core.has_event_index() {
             ram.put(self.core.device, &asking_at(self.core.taking), log);
         }
     }

@@ -13,6 +13,7 @@ use guestmem::Ram;
 
 /// Fills in the chain at the taking position, if there is one. The first descriptor there is `first`; where it names a table, the
 /// entries of the table replace it. There is no chain if a rule is broken, or there are more buffers than slots.
+#[inline(always)]
 pub(crate) fn find(
     core: &RingCore,
     decoder: &mut Decoder,
@@ -35,7 +36,8 @@ pub(crate) fn find(
         return walk(core, decoder, ram, first, chain);
     }
     // INDIRECT with NEXT, or without the feature, or a table that `is_table` refuses.
-    if first.has_next || !core.has_indirect || !is_table(&first, ram) {
+    let has_indirect = core.has_indirect();
+    if first.has_next || !has_indirect || !is_table(&first, ram) {
         return Walked::Missing;
     }
     let count = first.len / DESCRIPTOR_SIZE as u32;

@@ -94,6 +94,7 @@ impl SplitRing {
 
     /// Fills in the chain at the taking position, if there is one. `available` is the driver's index, which is not that
     /// position.
+    #[inline(always)]
     fn fill_chain(&mut self, ram: &Ram, available: u16, chain: &mut Chain) -> Walked
         requires areas { HasAreas (length ram.now.bytes) self.old.state }
         requires available { available ≡ available_index ram.now.bytes self.old.state }
@@ -130,7 +131,7 @@ impl SplitRing {
     {
         ram.recall();
         let core = &self.core;
-        if core.has_event_index {
+        if core.has_event_index() {
             let event = ram.u16_at(core.driver + RING + HEAD_SIZE * core.size as u64);
             return event == core.used.place;
         }
@@ -147,6 +148,7 @@ impl Ring for SplitRing {
         self.core.alloc
     }
 
+    #[inline(always)]
     fn next_into(&mut self, ram: &Ram, chain: &mut Chain) -> NextKind {
         ram.recall();
         let available = ram.u16_at(self.core.driver + INDEX);
@@ -164,6 +166,7 @@ impl Ring for SplitRing {
         self.core.taking.place = self.core.taking.place.wrapping_add(1);
     }
 
+    #[inline(always)]
     fn publish<L: TouchLog>(
         &mut self,
         id: u16,
@@ -178,7 +181,7 @@ impl Ring for SplitRing {
         let element = self.core.device + RING + ELEMENT_SIZE * slot as u64;
         ram.put(element, &element_bytes(id, len), log);
         let next = self.core.used.place.wrapping_add(1);
-        ram.put(self.core.device + INDEX, &index_bytes(next), log);
+        ram.put_in_page(self.core.device + INDEX, &index_bytes(next), log);
         let is_due = self.is_due(ram);
         self.core.used.place = next;
         is_due
@@ -187,7 +190,7 @@ impl Ring for SplitRing {
     #[tactic(auto, unfolding(chains::specs::Publish::split_note))]
     fn note_empty<L: TouchLog>(&mut self, ram: &mut Ram, log: &mut L) {
         ram.recall();
-        if self.core.has_event_index {
+        if self.core.has_event_index() {
             let event = self.core.device + RING + ELEMENT_SIZE * self.core.size as u64;
             ram.put(event, &index_bytes(self.core.taking.place), log);
         }

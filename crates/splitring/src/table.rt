@@ -3,8 +3,9 @@
 ghost use Rattle.std.specs.Prelude.{◌≡◌, ◌+◌, ◌<◌, ◌≤◌, List, length, false};
 ghost use Rattle.chains.specs.declared.descriptor.Descriptor.{Descriptor};
 ghost use Rattle.chains.specs.Decoder.{Fits};
-ghost use Rattle.chains.specs.State.{HasAreas};
+ghost use Rattle.chains.specs.State.{HasAreas, has_bit};
 ghost use Rattle.chains.specs.RingCore.{core_state};
+ghost use Rattle.mmio.specs.declared.constants.TheConstants.{INDIRECT_DESC};
 ghost use Rattle.chains.specs.SplitChain.{head};
 ghost use Rattle.chains.specs.Held.{AreHeld, segment_count};
 ghost use Rattle.splitring.specs.Walk.{FollowGives, FindGives};
@@ -30,6 +31,7 @@ const NO_DESCRIPTOR: Descriptor = Descriptor {
 /// Fills in the segments of a chain: the buffers of the list that begins at the head, and where its last descriptor names a
 /// table, those of the list of the table in its place. There is no chain if a rule is broken, or there are more buffers than
 /// the queue has slots. The indirect descriptor itself is decoded besides, so at most one more than there are slots is.
+#[inline(always)]
 pub(crate) fn find(
     core: &RingCore,
     decoder: &mut Decoder,
@@ -70,13 +72,13 @@ fn follow(
 ) -> Walked
     requires room { segment_count chain.old < core.now.size }
     requires fits { Fits decoder.old ram.now }
-    ensures gives { (front : List Descriptor) → AreHeld (length ram.now.bytes) front chain.old → FollowGives ram.now.bytes core.now.has_indirect core.now.size front last.now chain.new result }
+    ensures gives { (front : List Descriptor) → AreHeld (length ram.now.bytes) front chain.old → FollowGives ram.now.bytes (has_bit core.now.features INDIRECT_DESC) core.now.size front last.now chain.new result }
     ensures fits { Fits decoder.new ram.now }
     ensures few { decoder.new.decoded + segment_count chain.old ≤ decoder.old.decoded + core.now.size }
     ensures rises { decoder.old.decoded ≤ decoder.new.decoded }
 {
     // INDIRECT without the feature, or a table that `is_table` refuses.
-    if !core.has_indirect || !is_table(last, ram) {
+    if !core.has_indirect() || !is_table(last, ram) {
         return Walked::Missing;
     }
     let room = core.size - (chain.readable.len() + chain.writable.len()) as u16;

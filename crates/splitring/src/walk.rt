@@ -13,6 +13,7 @@ use guestmem::Ram;
 /// Adds to a chain the buffers of the list that begins at entry `first` of a table, up to one that names a table, which it
 /// hands out as `last`. It stops at a descriptor that breaks a rule, and after `room` of them. No more are decoded than `room`,
 /// nor, where the last one names a table, than are added and that one. `is_own` says that the table is the queue's own.
+#[inline(always)]
 pub(crate) fn walk(
     ram: &Ram,
     decoder: &mut Decoder,

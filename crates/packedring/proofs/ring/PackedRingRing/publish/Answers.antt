@@ -4,12 +4,12 @@ use Rattle.packedring.proofs.ring.PackedRingRing.publish.Goals as goal
 
 pub returns-clause-bytes : goal.returns-clause-bytes
 unfolding packed_published
-returns-clause-bytes g c = rw (← c.self.view_is) (simp (c.put.ensures.bytes, c.used_bytes-bytes.ensures, c.used_flags.ensures) refl)
+returns-clause-bytes g c = rw (← c.self.view_is) (simp (c.put_in_page.ensures.bytes, c.used_bytes-bytes.ensures, c.used_flags.ensures) refl)
 
 pub returns-clause-log : goal.returns-clause-log
 unfolding packed_published
-returns-clause-log g c = rw (← c.self.view_is) (simp (c.put.ensures.log, c.used_bytes-bytes.ensures) refl)
+returns-clause-log g c = rw (← c.self.view_is) (simp (c.put_in_page.ensures.log, c.used_bytes-bytes.ensures) refl)
 
 pub returns-clause-rises : goal.returns-clause-rises
 unfolding packed_published
-returns-clause-rises g c = rw (← c.self.view_is) (rw c.used_bytes-bytes.ensures at c.put.ensures.rises)
+returns-clause-rises g c = rw (← c.self.view_is) (rw c.used_bytes-bytes.ensures at c.put_in_page.ensures.rises)
