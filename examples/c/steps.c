@@ -4,7 +4,10 @@
 #include "driver.h"
 
 /* A ring of 256 entries, and where it and its buffers lie. */
-enum { RING = 256, DRIVER = 0x3000, DEVICE = 0x4000, TABLE = 0x6000, HEADER = 0x7000, STATUS = 0x7100, LENGTH = 16 };
+enum { RING = 256, DRIVER = 0x3000, DEVICE = 0x4000, TABLE = 0x6000, HEADER = 0x7000, STATUS = 0x7100 };
+
+/* The bytes of a frame. In a buffer 12 bytes of a header come before it (VIRTIO 1.2, 5.1.6). */
+enum { FRAME = 60 };
 
 /* More flags of a descriptor: it names a table; it is made available in the first round of a packed ring (2.7.5, 2.8.1). */
 enum { INDIRECT = 4, AVAILABLE = 1 << 7 };
@@ -12,16 +15,19 @@ enum { INDIRECT = 4, AVAILABLE = 1 << 7 };
 /* Features, by their bits in the low and in the high half. */
 enum { INDIRECT_DESC = 1 << 28, VERSION_1 = 1, RING_PACKED = 4 };
 
-/* A device of this kind has chains of so many descriptors in this queue, or each chain is a table of so many. */
+/* A device of this kind has chains of so many descriptors in this queue, or each chain is a table of so many. A descriptor has so
+ * many bytes. */
 typedef struct {
     const char *name;
-    uint32_t kind, queue, descriptors, entries;
+    uint32_t kind, queue, descriptors, entries, length;
 } Case;
 
 static const Case CASES[] = {
-    {"entropy-1", VMIG_ENTROPY, 0, 1, 0},    {"entropy-3", VMIG_ENTROPY, 0, 3, 0}, {"entropy-8", VMIG_ENTROPY, 0, 8, 0},
-    {"entropy-table-3", VMIG_ENTROPY, 0, 1, 3}, {"console-in", VMIG_CONSOLE, 0, 1, 0}, {"console-out", VMIG_CONSOLE, 1, 1, 0},
-    {"block-read", VMIG_BLOCK, 0, 3, 0},
+    {"entropy-1", VMIG_ENTROPY, 0, 1, 0, 16},       {"entropy-3", VMIG_ENTROPY, 0, 3, 0, 16},
+    {"entropy-8", VMIG_ENTROPY, 0, 8, 0, 16},       {"entropy-table-3", VMIG_ENTROPY, 0, 1, 3, 16},
+    {"console-in", VMIG_CONSOLE, 0, 1, 0, 16},      {"console-out", VMIG_CONSOLE, 1, 1, 0, 16},
+    {"network-in", VMIG_NETWORK, 0, 1, 0, 12 + FRAME}, {"network-out", VMIG_NETWORK, 1, 1, 0, 12 + FRAME},
+    {"block-read", VMIG_BLOCK, 0, 3, 0, 16},
 };
 
 /* One descriptor of a table of either layout. In a packed one the id is where the flags of a split one are. */
@@ -56,7 +62,7 @@ static void describe_next(vmig_machine *m, const Case *c, int packed, uint32_t k
 {
     uint32_t flags = place + 1 < c->descriptors ? HAS_NEXT : 0;
     if (c->entries > 0) describe_in(m, packed, DESC, k, TABLE, 16 * c->entries, flags | INDIRECT);
-    else if (c->kind != VMIG_BLOCK) describe_in(m, packed, DESC, k, DATA + LENGTH * k, LENGTH, flags | (c->queue == 0 ? WRITABLE : 0));
+    else if (c->kind != VMIG_BLOCK) describe_in(m, packed, DESC, k, DATA + c->length * k, c->length, flags | (c->queue == 0 ? WRITABLE : 0));
     else if (place == 0) describe_in(m, packed, DESC, k, HEADER, 16, flags);
     else if (place == 1) describe_in(m, packed, DESC, k, DATA, 512, flags | WRITABLE);
     else describe_in(m, packed, DESC, k, STATUS, 1, flags | WRITABLE);
@@ -65,7 +71,7 @@ static void describe_next(vmig_machine *m, const Case *c, int packed, uint32_t k
 static void offer_all(vmig_machine *m, const Case *c, int packed, uint32_t chains)
 {
     for (uint32_t entry = 0; entry < c->entries; entry++)
-        describe_in(m, packed, TABLE, entry, DATA + LENGTH * entry, LENGTH,
+        describe_in(m, packed, TABLE, entry, DATA + c->length * entry, c->length,
                     WRITABLE | (!packed && entry + 1 < c->entries ? HAS_NEXT : 0));
     for (uint32_t k = 0; k < chains * c->descriptors; k++) describe_next(m, c, packed, k, k % c->descriptors);
     if (packed) return;
@@ -76,7 +82,7 @@ static void offer_all(vmig_machine *m, const Case *c, int packed, uint32_t chain
 /* Returns how many calls of vmig_step there were. */
 static uint32_t run(const Case *c, int packed)
 {
-    static const uint8_t bytes[RING * LENGTH];
+    static const uint8_t bytes[RING * 16];
     static uint8_t buf[65536];
     vmig_shape shape = {.kind = c->kind, .sectors = c->kind == VMIG_BLOCK ? 8 : 0};
     /* An entropy device holds 4,096 bytes: 16 for each descriptor of a ring, and fewer chains where each is a table. */
@@ -86,9 +92,11 @@ static uint32_t run(const Case *c, int packed)
     expect("make", vmig_make(16, &shape, 1, &m), VMIG_OK);
     set_up_ring(&m, c, packed);
     offer_all(&m, c, packed, chains);
-    if (c->kind != VMIG_BLOCK) expect("input", vmig_input(&m, 0, bytes, sizeof bytes, &number), VMIG_OK);
+    if (c->kind == VMIG_ENTROPY || c->kind == VMIG_CONSOLE)
+        expect("input", vmig_input(&m, 0, bytes, sizeof bytes, &number), VMIG_OK);
     write_reg(&m, 0x050, c->queue);
     for (uint32_t chain = 0; chain < chains; chain++) {
+        if (c->kind == VMIG_NETWORK && c->queue == 0) expect("a frame", vmig_input(&m, 0, bytes, FRAME, &number), VMIG_OK);
         uint32_t status = vmig_step(&m, 0, (uint8_t)c->queue, buf, sizeof buf, &number);
         calls++;
         if (c->kind == VMIG_BLOCK) {
