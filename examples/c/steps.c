@@ -15,8 +15,8 @@ enum { INDIRECT = 4, AVAILABLE = 1 << 7 };
 /* Features, by their bits in the low and in the high half. */
 enum { INDIRECT_DESC = 1 << 28, VERSION_1 = 1, RING_PACKED = 4 };
 
-/* A device of this kind has chains of so many descriptors in this queue, or each chain is a table of so many. A descriptor has so
- * many bytes. */
+/* A device of a kind, and the queue whose steps are counted. The fields descriptors and entries are counts: of the descriptors of
+ * a chain, and of the entries of the table that each of them names, 0 where it names none. A buffer has length bytes. */
 typedef struct {
     const char *name;
     uint32_t kind, queue, descriptors, entries, length;

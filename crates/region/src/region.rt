@@ -8,8 +8,8 @@ use std::ptr;
 
 /// Bytes in memory of the caller.
 ///
-/// The caller promises that the address has so many bytes, which may be read and written, and that nothing else reads or writes
-/// them until it has the region back. A region cannot be dropped: it is given back, or consumed by a call of its own.
+/// The caller promises that the bytes lie at the address and may be read and written, and that nothing else reads or writes them
+/// until it has the region back. A region cannot be dropped: it is given back, or consumed by a call of its own.
 pub struct Region {
     pub(crate) at: *mut u8,
     pub(crate) len: usize,
