@@ -82,8 +82,9 @@ impl Requests {
             return moved;
         }
         sectors.recall();
-        let request = self.list.remove(k);
-        complete(ring, &request, ram, log)
+        let completed = complete(ring, &self.list[k], ram, log);
+        self.remove(k);
+        completed
     }
 }
 

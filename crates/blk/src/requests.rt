@@ -1,6 +1,7 @@
 //! The outstanding requests of a device.
 
-ghost use Rattle.std.specs.Prelude.{◌≡◌, ◌==◌, ◌≤◌, ◌<◌, ◌++◌, ◌∷◌, [], length, IfOk};
+ghost use Rattle.std.specs.Prelude.{◌≡◌, ◌==◌, ◌≤◌, ◌<◌, ◌++◌, ◌∷◌, [], length, IfOk, vec_capacity};
+ghost use Rattle.std.specs.List.{remove};
 
 use crate::request::Request;
 use guestmem::NoMemory;
@@ -74,10 +75,34 @@ impl Requests {
         self.list.push_reserved(request);
     }
 
+    /// Drops the k-th, from 0. Its chain is not published.
+    pub(crate) fn remove(&mut self, k: usize)
+        requires { k < length self.old }
+        ensures { self.new ≡ remove self.old k }
+    {
+        // The last one, as most are, is dropped where it lies.
+        if k == self.list.len() - 1 {
+            self.list.truncate(k);
+            return;
+        }
+        remove_amid(&mut self.list, k);
+    }
+
     /// Drops all of them. Their chains are not published. The room for new ones stays.
     pub fn clear(&mut self)
         ensures { self.new ≡ [] }
     {
         self.list.clear();
     }
+}
+
+/// Drops a request that others follow.
+#[cold]
+#[inline(never)]
+fn remove_amid(list: &mut Vec<Request>, k: usize)
+    requires { k < length list.old.items }
+    ensures items { list.new.items ≡ remove list.old.items k }
+    ensures capacity { vec_capacity list.new ≡ vec_capacity list.old }
+{
+    drop(list.remove(k));
 }

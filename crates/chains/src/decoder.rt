@@ -104,6 +104,7 @@ impl Decoder {
         }
     }
 
+    /// The descriptor at an address of the queue's own table: as it is kept in its place, or read, and then kept there.
     #[inline(always)]
     fn read_own(&mut self, ram: &Ram, is_packed: bool, address: u64, place: usize) -> Descriptor
         requires inside { address + DESCRIPTOR_SIZE ≤ length ram.now.bytes }
@@ -132,6 +133,7 @@ impl Decoder {
         decode(is_packed, words)
     }
 
+    /// The descriptor at an address, read without a look at the places.
     fn read_anew(&mut self, ram: &Ram, is_packed: bool, address: u64) -> Descriptor
         requires inside { address + DESCRIPTOR_SIZE ≤ length ram.now.bytes }
         ensures descriptor { result ≡ descriptor_in is_packed ram.now.bytes address }

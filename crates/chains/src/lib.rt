@@ -45,6 +45,7 @@
 //! - `specs/State`: what a ring means (`RingState`) and where its three areas lie (`HasAreas`);
 //! - `specs/RingCore`: what a ring means by what it keeps;
 //! - `specs/Places`: the addresses of the bytes of segments, in order;
+//! - `specs/Words`: the bytes of a descriptor as two numbers, and the descriptor that they spell;
 //! - `specs/Descriptor`: the descriptor at an index of a table;
 //! - `specs/Decoder`: what is kept of descriptors, and when it fits a RAM; `specs/RingSeen`: a ring with that;
 //! - `specs/Whole`: the rules that the descriptors of a chain keep in either layout, and their segments;

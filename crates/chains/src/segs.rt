@@ -25,6 +25,9 @@ pub struct Seg {
 pub struct Segs {
     list: SmallVec<Seg, SHORT_CHAIN_MAX>,
 
+    /// How many they are. The list could tell, but not without a look at how it is kept.
+    count: usize,
+
     /// The bytes of all of them.
     total: u64,
 }
@@ -39,7 +42,7 @@ impl Model for Segs {
 
     ghost view = { λ s. s.list.items };
 
-    ghost invariant = { λ s. (SHORT_CHAIN_MAX ≤ s.list.capacity) × (s.total ≡ length (places s.list.items)) × (s.total ≤ 4294967295 * length s.list.items) };
+    ghost invariant = { λ s. (SHORT_CHAIN_MAX ≤ s.list.capacity) × (s.count ≡ length s.list.items) × (s.total ≡ length (places s.list.items)) × (s.total ≤ 4294967295 * length s.list.items) };
 }
 
 impl Segs {
@@ -49,6 +52,7 @@ impl Segs {
     {
         Segs {
             list: SmallVec::new(alloc),
+            count: 0,
             total: 0,
         }
     }
@@ -57,7 +61,11 @@ impl Segs {
     pub fn clear(&mut self)
         ensures { self.new ≡ [] }
     {
+        if self.count == 0 {
+            return;
+        }
         self.list.clear();
+        self.count = 0;
         self.total = 0;
     }
 
@@ -71,7 +79,8 @@ impl Segs {
         ensures err { OnErr result (self.new ≡ self.old) }
         ensures short { length self.old < SHORT_CHAIN_MAX → IsOk result }
     {
-        push(&mut self.list, seg)?;
+        push(&mut self.list, self.count, seg)?;
+        self.count += 1;
         self.total += seg.len as u64;
         Ok(())
     }
@@ -87,7 +96,7 @@ impl Segs {
     pub fn len(&self) -> usize
         ensures { result ≡ length self.now }
     {
-        self.list.len()
+        self.count
     }
 
     /// The number of bytes of all segments.
@@ -101,20 +110,22 @@ impl Segs {
     pub fn is_empty(&self) -> bool
         ensures { result ≡ (length self.now == 0) }
     {
-        self.list.is_empty()
+        self.count == 0
     }
 }
 
-/// Adds a segment at the end of a list that has at least the inline places. These are filled without a look at how the list is kept.
+/// Adds a segment at the end of a list of `count` that has at least the inline places. These are filled without a look at how the
+/// list is kept.
 #[inline(always)]
-fn push(list: &mut SmallVec<Seg, SHORT_CHAIN_MAX>, seg: Seg) -> Result<(), NoMemory>
-    requires { SHORT_CHAIN_MAX ≤ list.old.capacity }
+fn push(list: &mut SmallVec<Seg, SHORT_CHAIN_MAX>, count: usize, seg: Seg) -> Result<(), NoMemory>
+    requires inline { SHORT_CHAIN_MAX ≤ list.old.capacity }
+    requires count { count ≡ length list.old.items }
     ensures ok { OnOk result (list.new.items ≡ list.old.items ++ seg ∷ []) }
     ensures err { OnErr result (list.new ≡ list.old) }
     ensures short { length list.old.items < SHORT_CHAIN_MAX → IsOk result }
     ensures capacity { list.old.capacity ≤ list.new.capacity }
 {
-    if list.len() < SHORT_CHAIN_MAX {
+    if count < SHORT_CHAIN_MAX {
         list.push_reserved(seg);
         return Ok(());
     }

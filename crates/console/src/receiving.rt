@@ -33,6 +33,7 @@ pub enum Received {
 
 /// Gives the first of the bytes held to the next chain, as many as it takes, and publishes it. Its only error is out of
 /// memory for the chain, and then nothing has changed.
+#[inline(always)]
 pub fn receive<R: Ring, L: TouchLog>(
     alloc: Global,
     ring: &mut R,

@@ -4,6 +4,8 @@ use Rattle.std.specs.Prelude.{Option, Some, None, slice_get}
 use Rattle.std.specs.Prelude.{slice_index}
 use Rattle.std.proofs.lemmas.List.{length-drop, length-map}
 use Rattle.std.proofs.Math.Dec.{nltb→le, T}
+use Rattle.std.proofs.lemmas.Bool.{le-ltb}
+use borrow.Author.Tests.{ltb-false}
 use Rattle.machine.proofs.Looking.{right_of_and}
 use Rattle.blk.specs.Advance.{advance_step}
 use Rattle.blk.specs.Take.{take_step}
@@ -155,6 +157,15 @@ pub few_sent : (m after : Seen) (dev pick : ℕ) (reply : Reply) → IsApplied m
 few_sent m after dev pick reply applied =
     let most = most_of_device (slice_get (state_of m).devices dev) pick in
     omega (arith, sends_within m after dev pick reply applied, most)
+
+pub not_below : (len most : ℕ) → nat_lt len most ≡ false → most ≤ len
+not_below len most is = ltb-false len most is
+
+-- A buffer of as many is too small for no step.
+pub never_small : (m : Seen) (dev pick len : ℕ) → 65536 ≤ len → nat_lt len (most_sent_by m dev pick) ≡ false
+never_small m dev pick len large =
+    let most = most_of_device (slice_get (state_of m).devices dev) pick in
+    le-ltb _ _ (omega (arith, most, large))
 
 -- What is told of a step, by whether the buffer is too small.
 pub not_stepped : (m : Seen) (dev pick n : ℕ) (buf : List ℕ) → nat_lt (length buf) (most_sent_by m dev pick) ≡ true → Steps m dev pick 11 n n buf buf m

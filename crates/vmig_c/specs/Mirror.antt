@@ -29,7 +29,7 @@ is_coming (Arriving r) = true
 abbrev pub machine_in : State → Seen
 machine_in (Still m) = m
 machine_in (Moving l) = l.machine
-machine_in (Arriving r) = record { memory = record { bytes = []; versions = [] }; devices = [] }
+machine_in (Arriving r) = record { memory = record { bytes = []; versions = []; place = None }; devices = [] }
 
 abbrev pub memory_in : State → Memory
 memory_in k = (machine_in k).memory

@@ -1,6 +1,6 @@
 //! Steps of devices, and what they send.
 
-ghost use Rattle.std.specs.Prelude.{◌≡◌, ◌≤◌, ◌++◌, ℕ, List, IfOk, length, drop};
+ghost use Rattle.std.specs.Prelude.{◌≡◌, ◌≤◌, ◌++◌, ℕ, List, IfOk, length, drop, nat_lt};
 ghost use Rattle.machine.specs.DeviceStep.{wanted_of};
 ghost use Rattle.machine.specs.Seen.{state_of};
 ghost use Rattle.machine.specs.Stepped.{reply_in};
@@ -16,6 +16,9 @@ use crate::status::{
 };
 use machine::{Disk, Kind, Machine, Reply, Stepped};
 use sender::MigError;
+
+/// The most bytes that a step of any device may send.
+const SENT_MAX: usize = 65_536;
 
 const TAKEN: u32 = 66;
 
@@ -57,7 +60,7 @@ fn live_step_told<D: Disk>(
 ) -> u32
     ensures { LiveSteps live.old dev pick result number.new number.old buf.old buf.new live.new }
 {
-    if buf.len() < room_for(live.machine(), dev, pick) {
+    if is_too_small(buf, live.machine(), dev, pick) {
         return TOO_SMALL;
     }
     live.recall();
@@ -79,7 +82,7 @@ fn step_told<D: Disk>(
 ) -> u32
     ensures { Steps machine.old dev pick result number.new number.old buf.old buf.new machine.new }
 {
-    if buf.len() < room_for(machine, dev, pick) {
+    if is_too_small(buf, machine, dev, pick) {
         return TOO_SMALL;
     }
     let stepped = machine.step_into(dev, pick, sent);
@@ -99,6 +102,15 @@ fn tell_step(stepped: Stepped, sent: &[u8], buf: &mut [u8], number: &mut u32) ->
     step_status(stepped)
 }
 
+/// Whether a step may send more than the buffer holds. Most hosts hand in a buffer that holds what any device may send, and then
+/// nothing of the machine is looked at.
+#[tactic(auto, using(crate::proofs::Sending::never_small))]
+fn is_too_small<D: Disk>(buf: &[u8], machine: &Machine<D>, dev: u8, pick: u8) -> bool
+    ensures { result ≡ nat_lt (length buf.now) (most_sent_by machine.now dev pick) }
+{
+    buf.len() < SENT_MAX && buf.len() < room_for(machine, dev, pick)
+}
+
 /// The most bytes that a step may send.
 fn room_for<D: Disk>(machine: &Machine<D>, dev: u8, pick: u8) -> usize
     ensures { result ≡ most_sent_by machine.now dev pick }
@@ -114,7 +126,7 @@ fn most_sent(kind: &Kind, pick: u8) -> usize
 {
     match kind {
         Kind::Network { .. } if pick > 0 => 1_514,
-        Kind::Console { .. } if pick > 0 => 65_536,
+        Kind::Console { .. } if pick > 0 => SENT_MAX,
         _ => 0,
     }
 }

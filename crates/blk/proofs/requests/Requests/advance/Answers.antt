@@ -1,5 +1,4 @@
 use Rattle.std.proofs.Common.{◌≡◌, ◌<◌, ◌≤◌, ◌∙◌, sym, true, false, Some, None, slice_get, length, arith, refl}
-use Rattle.std.specs.List.{remove}
 use Rattle.std.proofs.lemmas.Option.{slice_get_read, slice_get_past, get_or_from_slice_get}
 use Rattle.guestmem.specs.RisesLaws.{touches_none}
 use Rattle.blk.specs.Request.{is_open}
@@ -30,16 +29,15 @@ returns-then-is_open-clause-changes g c =
 
 pub returns-clause-changes : goal.returns-clause-changes
 returns-clause-changes g c =
-    let r = c.remove-request.result in
+    let r = c.index-2.result.now in
     let items = c.self.inside.list.items in
     let below : c.args.k < length items = omega (arith, c.if-k-len.false, c.len.ensures) in
-    let at : slice_get items c.args.k ≡ Some r = slice_get_read items (length items) c.args.k r refl below c.remove-request.ensures.value in
+    let at : slice_get items c.args.k ≡ Some r = slice_get_read items (length items) c.args.k r refl below c.index-2.ensures in
     let same : c.index.result.now ≡ r = c.index.ensures ∙ get_or_from_slice_get items c.args.k r c.index.result.now at in
     let found : slice_get c.args.self.now c.args.k ≡ Some r = rw (← c.self.view_is) at in
     let shut : is_open r ≡ false = rw (← same) (sym c.is_open.ensures ∙ c.if-is_open.false) in
-    let left : c.remove-request.new.self.items ≡ remove c.args.self.now c.args.k = rw (← c.self.view_is) c.remove-request.ensures.items in
-    ended _ c.args.sectors.now.honest c.args.device c.args.shape.now c.args.ram.now.bytes c.complete.new.ram.bytes c.args.sectors.now.content (g.R.Ring.state c.args.ring.now) (g.R.Ring.state c.complete.new.ring) c.args.self.now c.remove-request.new.self.items c.args.k _ r c.complete.result found shut c.recall-2.ensures.whole
-    c.complete.ensures.answer c.complete.ensures.bytes c.complete.ensures.ring left (record { log_is = c.complete.ensures.log; rises = c.complete.ensures.rises })
+    ended _ c.args.sectors.now.honest c.args.device c.args.shape.now c.args.ram.now.bytes c.complete-completed.new.ram.bytes c.args.sectors.now.content (g.R.Ring.state c.args.ring.now) (g.R.Ring.state c.complete-completed.new.ring) c.args.self.now c.remove.new.self c.args.k _ r c.complete-completed.result found shut c.recall-2.ensures.whole
+    c.complete-completed.ensures.answer c.complete-completed.ensures.bytes c.complete-completed.ensures.ring c.remove.ensures (record { log_is = c.complete-completed.ensures.log; rises = c.complete-completed.ensures.rises })
 
 pub returns-then-is_open-clause-sound : goal.returns-then-is_open-clause-sound
 returns-then-is_open-clause-sound g c =
@@ -52,4 +50,4 @@ pub returns-clause-sound : goal.returns-clause-sound
 returns-clause-sound g c =
     let q = g.R.Ring.state c.args.ring.now in
     let P = IsSoundRequest (length c.args.ram.now.bytes) q.is_packed q.size c.args.shape.now in
-    rw (c.complete.ensures.after.later.bytes, c.complete.ensures.ring, c.remove-request.ensures.items) (all_left P c.self.inside.list.items c.args.k (rw (← c.self.view_is) at c.requires.sound))
+    rw (c.complete-completed.ensures.after.later.bytes, c.complete-completed.ensures.ring, c.remove.ensures) (all_left P c.args.self.now c.args.k c.requires.sound)

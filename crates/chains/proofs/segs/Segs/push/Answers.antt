@@ -7,6 +7,7 @@ pub invariant_of-self-2 : goal.invariant_of-self-2
 invariant_of-self-2 c =
     let i = c.self.invariant in (
       omega (arith, c.push.ensures.capacity, i.0),
-      rw (c.in_ok-push.ensures.ok, length_places_push c.self.inside.list.items c.args.seg) (omega (arith, i.1)),
-      rw (c.in_ok-push.ensures.ok, length_push c.self.inside.list.items c.args.seg) (omega (arith, i.2)),
+      rw (c.in_ok-push.ensures.ok, length_push c.self.inside.list.items c.args.seg) (omega (arith, i.1)),
+      rw (c.in_ok-push.ensures.ok, length_places_push c.self.inside.list.items c.args.seg) (omega (arith, i.2)),
+      rw (c.in_ok-push.ensures.ok, length_push c.self.inside.list.items c.args.seg) (omega (arith, i.3)),
     )
