@@ -1,7 +1,7 @@
 -- Bytes that come behind others, with zeros between and after them.
 use Rattle.std.proofs.Common.{◌≡◌, ℕ, ◌+◌, ◌-◌, ◌≤◌, List, ◌++◌, length, take, drop, replicate, ap, sym, ◌∙◌, arith, append_assoc, length-append}
 use Rattle.std.proofs.lemmas.List.{length-replicate, replicate-append-replicate, take_at, drop_at}
-use Rattle.guestmem.specs.Arriving.{filled_up}
+use Rattle.guestmem.specs.Fresh.{filled_up}
 use Rattle.guestmem.specs.Write.{put_at}
 
 length-filled : (n : ℕ) (x : List ℕ) → length x ≤ n → length (filled_up n x) ≡ n

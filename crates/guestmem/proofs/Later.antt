@@ -14,10 +14,10 @@ use Rattle.guestmem.specs.Write.{put_at, raise, raised, written, refusal_of}
 pub inside_of : (len at count : ℕ) → refusal_of len at count ≡ None → at + count ≤ len
 inside_of len at count none = grind (arith, nat_tests)
 
-put_at_below : (old bytes : List ℕ) (at a : ℕ) → at + length bytes ≤ length old → a < at → get_or (put_at old at bytes) a 0 ≡ get_or old a 0
+pub put_at_below : (old bytes : List ℕ) (at a : ℕ) → at + length bytes ≤ length old → a < at → get_or (put_at old at bytes) a 0 ≡ get_or old a 0
 put_at_below old bytes at a inside below = grind (arith, places)
 
-put_at_above : (old bytes : List ℕ) (at a : ℕ) → at + length bytes ≤ length old → at + length bytes ≤ a → get_or (put_at old at bytes) a 0 ≡ get_or old a 0
+pub put_at_above : (old bytes : List ℕ) (at a : ℕ) → at + length bytes ≤ length old → at + length bytes ≤ a → get_or (put_at old at bytes) a 0 ≡ get_or old a 0
 put_at_above old bytes at a inside above = grind (arith, places)
 
 pub raise_below : (versions : List ℕ) (first last n : ℕ) → first ≤ last → last < length versions → n < first → get_or (raise versions first last) n 0 ≡ get_or versions n 0
@@ -67,14 +67,14 @@ outside versions first last n order there same small =
       ]
     ]
 
-length-put_at : (old bytes : List ℕ) (at : ℕ) → at + length bytes ≤ length old → length (put_at old at bytes) ≡ length old
+pub length-put_at : (old bytes : List ℕ) (at : ℕ) → at + length bytes ≤ length old → length (put_at old at bytes) ≡ length old
 length-put_at old bytes at inside = simp (length-append, length-take, length-drop) (omega (arith, inside))
 
 length-raise : (versions : List ℕ) (first last : ℕ) → first ≤ last → last < length versions → length (raise versions first last) ≡ length versions
 length-raise versions first last order there = simp (length-append, length-map, length-take, length-drop) (omega (arith, order, there))
 
 later_some : (m : Memory) (at : ℕ) (bytes : List ℕ) → 0 < length bytes → length m.bytes ≡ PAGE_SIZE * length m.versions → at + length bytes ≤ length m.bytes
-    → IsLater m (record { bytes = put_at m.bytes at bytes; versions = raise m.versions (at / PAGE_SIZE) ((at + length bytes - 1) / PAGE_SIZE) })
+    → IsLater m (record m { bytes = put_at m.bytes at bytes; versions = raise m.versions (at / PAGE_SIZE) ((at + length bytes - 1) / PAGE_SIZE) })
 later_some m at bytes some pages inside =
     let first = at / PAGE_SIZE in
     let last = (at + length bytes - 1) / PAGE_SIZE in
@@ -83,6 +83,7 @@ later_some m at bytes some pages inside =
     record {
       bytes = length-put_at m.bytes bytes at inside;
       versions = length-raise m.versions first last order there;
+      place = refl;
       rises = λ n. raise_rises m.versions first last n order there;
       stays = λ a same small.
           elim (outside m.versions first last (a / PAGE_SIZE) order there same small) as (λ _. get_or (put_at m.bytes at bytes) a 0 ≡ get_or m.bytes a 0) [

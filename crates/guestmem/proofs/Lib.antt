@@ -1,3 +1,4 @@
+pub mod GivenBack
 pub mod Told
 pub mod Later
 pub mod Raising

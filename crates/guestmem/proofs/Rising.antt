@@ -20,7 +20,7 @@ touched_within at bytes n some low high =
     subst (Among (touched (byte_writes at bytes))) (sym r.is) (among_touched at bytes r.a r.low r.high)
 
 rises_some : (m : Memory) (at : ℕ) (bytes : List ℕ) → 0 < length bytes → length m.bytes ≡ PAGE_SIZE * length m.versions → at + length bytes ≤ length m.bytes
-    → Rises (touched (byte_writes at bytes)) m (record { bytes = put_at m.bytes at bytes; versions = raise m.versions (at / PAGE_SIZE) ((at + length bytes - 1) / PAGE_SIZE) })
+    → Rises (touched (byte_writes at bytes)) m (record m { bytes = put_at m.bytes at bytes; versions = raise m.versions (at / PAGE_SIZE) ((at + length bytes - 1) / PAGE_SIZE) })
 rises_some m at bytes some pages inside =
     let first = at / PAGE_SIZE in
     let last = (at + length bytes - 1) / PAGE_SIZE in

@@ -5,13 +5,14 @@ use Rattle.guestmem.specs.Later.{IsLater}
 
 -- IsLater is reflexive.
 pub later_same : (m : Memory) → IsLater m m
-later_same m = record { bytes = refl; versions = refl; rises = λ n. omega arith; stays = λ a same small. refl }
+later_same m = record { bytes = refl; versions = refl; place = refl; rises = λ n. omega arith; stays = λ a same small. refl }
 
 -- IsLater is transitive.
 pub later_trans : (old mid new : Memory) → IsLater old mid → IsLater mid new → IsLater old new
 later_trans old mid new p q = record {
   bytes = q.bytes ∙ p.bytes;
   versions = q.versions ∙ p.versions;
+  place = q.place ∙ p.place;
   rises = λ n. omega (arith, p.rises n, q.rises n);
   stays = λ a same small.
       let n = a / PAGE_SIZE in

@@ -1,6 +1,7 @@
 pub mod Arriving
 pub mod ByteLaws
 pub mod Failures
+pub mod Fresh
 pub mod Item
 pub mod Laws
 pub mod Memory
@@ -8,9 +9,11 @@ pub mod Page
 pub mod PageLaws
 pub mod Later
 pub mod LaterLaws
+pub mod Lent
 pub mod Number
 pub mod Rises
 pub mod RisesLaws
+pub mod Storage
 pub mod Write
 pub mod Writes
 pub mod WriteLaws

@@ -35,9 +35,9 @@ abbrev pub raise_touched : List ℕ → Touched → List ℕ
 raise_touched versions NoPage = versions
 raise_touched versions (Pages first last) = raise versions first last
 
--- RAM after a write.
+-- RAM after a write. Its bytes lie where they lay.
 abbrev pub written : Memory → ℕ → List ℕ → Memory
-written m at bytes = record {
+written m at bytes = record m {
   bytes = put_at m.bytes at bytes;
   versions = raise_touched m.versions (touched_of at (length bytes));
 }

@@ -1,36 +1,43 @@
 //! The memory of a guest while its pages come.
 
-ghost use Rattle.std.specs.Prelude.{◌≡◌, ◌*◌, ◌<◌, ◌≤◌, length, replicate, IfOk};
+ghost use Rattle.std.specs.Prelude.{◌≡◌, ◌*◌, ◌<◌, ◌≤◌, length, replicate, IfOk, None};
 ghost use Rattle.guestmem.specs.Number.{IsBytes};
 ghost use Rattle.guestmem.specs.Memory.{Memory, IsMemory};
 ghost use Rattle.guestmem.specs.Write.{put_at};
 
+use crate::fresh::FreshRam;
 use crate::limits::{PAGE_SIZE, PAGES_MAX};
-use crate::ram::{Ram, recall_bytes};
+use crate::ram::Ram;
 use std::alloc::{AllocError, Global};
 use std::marker::Model;
 
-/// A RAM whose pages come one by one. It reads as zeros where none came.
+/// Where the pages go.
+#[derive(Drop)]
+pub enum Room {
+    /// Memory that was taken for them.
+    Fresh(FreshRam),
+
+    /// A RAM that was there before.
+    Given(Ram),
+}
+
+/// A RAM whose pages come one by one, into new memory of the library or into a RAM that is given. Where none came it reads as zeros, or
+/// as that RAM was. No version rises.
 ///
-/// Its memory is taken when it is made, and a page is first written when it comes or a later one does. So pages that come in
-/// their order are written once. No version rises.
+/// New memory is taken when it is made, and a page is first written when it comes or a later one does. So pages that come in
+/// their order are written once.
 #[derive(Drop)]
 pub struct ArrivingRam {
-    /// The pages up to the last one that came. Those after it are zeros.
-    bytes: Vec<u8>,
-    versions: Vec<u64>,
+    room: Room,
 }
 
 impl Model for ArrivingRam {
-    ghost use Rattle.std.specs.Vec.{vec_capacity};
-    ghost use Rattle.guestmem.specs.Arriving.{IsArriving, ram_so_far};
+    ghost use Rattle.guestmem.specs.Arriving.{ram_in};
     ghost use Rattle.guestmem.specs.Memory.{Memory};
 
     ghost Value = { Memory };
 
-    ghost view = { λ r. ram_so_far r.bytes.items r.versions.items };
-
-    ghost invariant = { λ r. IsArriving r.bytes.items r.versions.items (vec_capacity r.bytes) };
+    ghost view = { λ r. ram_in r.room };
 }
 
 impl ArrivingRam {
@@ -38,11 +45,21 @@ impl ArrivingRam {
     pub fn new(alloc: Global, pages: u32) -> Result<ArrivingRam, AllocError>
         requires some { 1 ≤ pages }
         requires few { pages ≤ PAGES_MAX }
-        ensures { IfOk result (λ ram. ram ≡ record { bytes = replicate (PAGE_SIZE * pages) 0; versions = replicate pages 0 }) }
+        ensures { IfOk result (λ ram. ram ≡ record { bytes = replicate (PAGE_SIZE * pages) 0; versions = replicate pages 0; place = None }) }
     {
-        let bytes = Vec::with_capacity(alloc, pages as usize * PAGE_SIZE)?;
-        let versions = vec![in alloc; 0u64; pages as usize]?;
-        Ok(ArrivingRam { bytes, versions })
+        let ram = FreshRam::new(alloc, pages)?;
+        Ok(ArrivingRam {
+            room: Room::Fresh(ram),
+        })
+    }
+
+    /// The pages of a RAM, as they are, none of which came yet. It takes no memory.
+    pub fn over(ram: Ram) -> ArrivingRam
+        ensures { result ≡ ram }
+    {
+        ArrivingRam {
+            room: Room::Given(ram),
+        }
     }
 
     /// States for proofs what holds of every such RAM.
@@ -50,41 +67,46 @@ impl ArrivingRam {
         ensures sound { IsMemory self.now }
         ensures bytes { IsBytes self.now.bytes }
     {
-        recall_bytes(self.bytes.as_slice());
+        match &self.room {
+            Room::Fresh(ram) => ram.recall(),
+            Room::Given(ram) => ram.recall(),
+        }
     }
 
     /// The number of bytes, a multiple of 4,096.
     pub fn len(&self) -> u64
         ensures { result ≡ length self.now.bytes }
     {
-        self.versions.len() as u64 * PAGE_SIZE as u64
+        match &self.room {
+            Room::Fresh(ram) => ram.len(),
+            Room::Given(ram) => ram.len(),
+        }
     }
 
-    /// Sets a page. Where a page before it did not come, it is written with zeros first.
+    /// Sets a page. In new memory, where a page before it did not come, that page is written with zeros first.
     pub fn put_page(&mut self, page: u64, bytes: &[u8])
         requires inside { page < length self.old.versions }
         requires whole { length bytes.now ≡ PAGE_SIZE }
         ensures bytes { self.new.bytes ≡ put_at self.old.bytes (PAGE_SIZE * page) bytes.now }
         ensures versions { self.new.versions ≡ self.old.versions }
+        ensures place { self.new.place ≡ self.old.place }
     {
-        self.recall();
-        let start = page as usize * PAGE_SIZE;
-        if start < self.bytes.len() {
-            self.bytes[start..start + PAGE_SIZE].copy_from_slice(bytes);
-            return;
+        match &mut self.room {
+            Room::Fresh(ram) => ram.put_page(page, bytes),
+            Room::Given(ram) => ram.set_page(page, bytes),
         }
-        self.bytes.resize(start, 0).unwrap();
-        self.bytes.extend_from_slice(bytes).unwrap();
     }
 
-    /// Sets a page to zeros. One that is after all that came is zeros, and is not written.
+    /// Sets a page to zeros. In new memory, one that is after all that came is zeros, and is not written.
     pub fn clear_page(&mut self, page: u64)
         requires { page < length self.old.versions }
         ensures bytes { self.new.bytes ≡ put_at self.old.bytes (PAGE_SIZE * page) (replicate PAGE_SIZE 0) }
         ensures versions { self.new.versions ≡ self.old.versions }
+        ensures place { self.new.place ≡ self.old.place }
     {
-        if (page as usize) < self.bytes.len() / PAGE_SIZE {
-            self.put_page(page, &[0; PAGE_SIZE]);
+        match &mut self.room {
+            Room::Fresh(ram) => ram.clear_page(page),
+            Room::Given(ram) => ram.clear_page(page),
         }
     }
 
@@ -92,9 +114,10 @@ impl ArrivingRam {
     pub fn into_ram(self) -> Ram
         ensures { result ≡ self }
     {
-        let ArrivingRam { bytes, versions } = self;
-        let mut bytes = bytes;
-        bytes.resize(versions.len() * PAGE_SIZE, 0).unwrap();
-        Ram::from_parts(bytes, versions)
+        let ArrivingRam { room } = self;
+        match room {
+            Room::Fresh(ram) => ram.into_ram(),
+            Room::Given(ram) => ram,
+        }
     }
 }

@@ -3,6 +3,7 @@
 
 ghost use Rattle.guestmem.specs.Memory.{Memory};
 ghost use Rattle.guestmem.specs.Later.{IsLater};
+ghost use Rattle.guestmem.specs.Lent.{GivenBackIsWritten};
 ghost use Rattle.guestmem.specs.Item.{Item};
 ghost use Rattle.guestmem.specs.Rises.{Rises};
 ghost use Rattle.std.specs.Prelude.{List, [], ◌++◌};
@@ -19,4 +20,10 @@ pub fn later_in_turn()
 pub fn rises_in_turn()
     ensures none { (m : Memory) → Rises [] m m }
     ensures further { (is js : List Item) (old mid new : Memory) → Rises is old mid → Rises js mid new → Rises (is ++ js) old new }
+{}
+
+/// A RAM that is given back with bytes that differ from those that were lent in no page but the named ones is the RAM that was lent
+/// after each of these pages was written whole, one after another.
+pub fn given_back_is_written()
+    ensures { GivenBackIsWritten }
 {}

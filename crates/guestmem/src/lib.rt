@@ -21,16 +21,30 @@
 //!   `rises_in_turn` this holds through any list of writes, and every call above says it of the items that it touched.
 //! - The caller's part: page numbers below the number of pages; for `get` and `put`, bytes inside RAM.
 //!
-//! The contracts speak of the record `Memory` (`specs/Memory`: the bytes in order of their addresses, and the versions) and of the
-//! bytes of a page (`specs/Page`), of the little-endian number at an address (`specs/Number`), of writes and lists of writes
-//! (`specs/Write`, `specs/Writes`), of one RAM that is another one later (`specs/Later`, and the module `laws`), of versions that rise
-//! (`specs/Rises`) and of the items that a log takes in (`specs/Item`, `specs/Laws`). Nothing is trusted here beside the toolchain and `byteorder`.
+//! The contracts speak of the record `Memory` (`specs/Memory`: the bytes in order of their addresses, the versions, and where the
+//! bytes lie) and of the bytes of a page (`specs/Page`), of the little-endian number at an address (`specs/Number`), of writes and
+//! lists of writes (`specs/Write`, `specs/Writes`), of one RAM that is another one later (`specs/Later`, and the module `laws`), of
+//! versions that rise (`specs/Rises`) and of the items that a log takes in (`specs/Item`, `specs/Laws`). Nothing is trusted here
+//! beside the toolchain, `byteorder` and, where RAM is in memory of a caller, what the caller promised of its region.
+//!
+//! # RAM in memory of a caller
+//! The bytes of a RAM lie in memory of the library (`Ram::new`), or are those of a `region::Region` (`Ram::over`), which are read and
+//! written in place. Every call is the same over both, and none moves the bytes: `place` in `Memory` says where they lie, and a
+//! later RAM has them where the earlier one had. A RAM that is dropped drops the region that it keeps, whose bytes are then as they
+//! were and the caller's again (`KeptRegion::drop`).
+//!
+//! `Ram::lend` hands the region out, with all that was written so far, and keeps the versions as a `ParkedRam` (`specs/Lent`).
+//! `ParkedRam::give_back` makes a RAM of them and of a region of the same length, whatever the caller wrote. The caller names the
+//! pages that it wrote: their versions rise, and the log takes them in. If it wrote into no others and gives the same memory back, the
+//! RAM is what the guest would have made of it by writing each of these pages whole (`given_back_is_written`). A page that was written
+//! and not named keeps its version, so a cache or a migration may miss what was written. Neither call reads a byte of RAM or writes
+//! one; giving back takes time for the named pages alone.
 //!
 //! `is_zero` tells whether a page has zeros alone (`specs/Zeros`).
 //!
-//! An `ArrivingRam` is a RAM whose pages come one by one, as from a stream (`specs/Arriving`). It takes its memory when it is made, and
-//! writes a page only when that page comes or a later one does. It reads as zeros where none came, and `into_ram` makes it a `Ram`.
-//! Its versions stay 0: nobody can have read of it before.
+//! An `ArrivingRam` is a RAM whose pages come one by one, as from a stream (`specs/Arriving`). `new` takes memory for it, and then a
+//! page is written only when that page comes or a later one does (`specs/Fresh`), and where none came it reads as zeros. `over` puts
+//! the pages into a RAM that is given. `into_ram` makes it a `Ram`. Its versions stay as they are: nobody can have read of it before.
 //!
 //! `Bytes` are bytes of any number that are handed on as one value: what was read, or what is to be written.
 //!
@@ -42,10 +56,14 @@
 mod arriving;
 mod bytes;
 mod error;
+mod fresh;
+mod kept_region;
 pub mod laws;
 mod limits;
 mod log;
+mod parked;
 mod ram;
+mod storage;
 mod touched;
 mod zero_page;
 
@@ -54,6 +72,7 @@ pub use bytes::Bytes;
 pub use error::RamError;
 pub use limits::{ACCESS_MAX, PAGE_SIZE, PAGES_MAX};
 pub use log::{NoLog, TouchLog};
+pub use parked::ParkedRam;
 pub use ram::{Ram, recall_bytes};
 pub use std::alloc::AllocError as NoMemory;
 pub use touched::Touched;

@@ -1,37 +1,43 @@
 //! The memory of a guest.
 
-ghost use Rattle.std.specs.Prelude.{◌≡◌, ◌+◌, ◌*◌, ◌%◌, ◌<◌, ◌≤◌, ◌^◌, ℕ, length, replicate, take, drop, IfOk, OnOk, OnErr, map, slice_index, false};
+ghost use Rattle.std.specs.Prelude.{◌≡◌, ◌+◌, ◌*◌, ◌/◌, ◌%◌, ◌<◌, ◌≤◌, ◌^◌, ℕ, length, replicate, take, drop, IfOk, IfErr, OnOk, OnErr, map, slice_index, false, None, Some};
 ghost use Rattle.guestmem.specs.Number.{number_at, IsBytes};
 ghost use Rattle.guestmem.specs.Item.{page as page_item, after_all, pages_between, MayPages};
 ghost use Rattle.guestmem.specs.Writes.{byte_writes, set_all, touched};
 ghost use Rattle.guestmem.specs.Memory.{Memory, IsMemory};
 ghost use Rattle.guestmem.specs.Page.{page_of};
 ghost use Rattle.guestmem.specs.Later.{IsLater};
+ghost use Rattle.guestmem.specs.Lent.{IsLent};
 ghost use Rattle.guestmem.specs.Rises.{Rises};
-ghost use Rattle.guestmem.specs.Write.{written, touched_of, refusal_of, unless_refused, raise, raised};
+ghost use Rattle.guestmem.specs.Write.{put_at, written, touched_of, refusal_of, unless_refused, raise, raised};
 ghost use Rattle.guestmem.specs.declared.touched.Touched.TheVariants.{Pages};
+ghost use Rattle.region.specs.Address.{address};
 
 use crate::error::RamError;
 use crate::limits::{ACCESS_MAX, PAGE_SIZE, PAGES_MAX};
 use crate::log::TouchLog;
+use crate::parked::ParkedRam;
+use crate::storage::Storage;
 use crate::touched::Touched;
 use byteorder::{ByteOrder, LittleEndian};
+use region::Region;
 use std::alloc::{AllocError, Global};
 use std::marker::Model;
 
-/// The memory of a guest: whole pages at the addresses from 0 up, each with a version.
+/// The memory of a guest: whole pages at the addresses from 0 up, each with a version. Its bytes lie in memory of the library or in a
+/// region of the caller's memory.
 #[derive(Drop)]
 pub struct Ram {
-    bytes: Vec<u8>,
+    bytes: Storage,
     versions: Vec<u64>,
 }
 
 impl Model for Ram {
     ghost Value = { Memory };
 
-    ghost view = { λ r. record { bytes = r.bytes.items; versions = r.versions.items } };
+    ghost view = { λ r. record { bytes = r.bytes.bytes; versions = r.versions.items; place = r.bytes.place } };
 
-    ghost invariant = { λ r. IsMemory (record { bytes = r.bytes.items; versions = r.versions.items }) };
+    ghost invariant = { λ r. IsMemory (record { bytes = r.bytes.bytes; versions = r.versions.items; place = r.bytes.place }) };
 }
 
 impl Ram {
@@ -39,7 +45,7 @@ impl Ram {
     pub fn new(alloc: Global, pages: u32) -> Result<Ram, AllocError>
         requires some { 1 ≤ pages }
         requires few { pages ≤ PAGES_MAX }
-        ensures { IfOk result (λ ram. ram ≡ record { bytes = replicate (PAGE_SIZE * pages) 0; versions = replicate pages 0 }) }
+        ensures { IfOk result (λ ram. ram ≡ record { bytes = replicate (PAGE_SIZE * pages) 0; versions = replicate pages 0; place = None }) }
     {
         Ram::with_version(alloc, pages, 0)
     }
@@ -49,19 +55,55 @@ impl Ram {
     pub fn with_version(alloc: Global, pages: u32, start: u64) -> Result<Ram, AllocError>
         requires some { 1 ≤ pages }
         requires few { pages ≤ PAGES_MAX }
-        ensures { IfOk result (λ ram. ram ≡ record { bytes = replicate (PAGE_SIZE * pages) 0; versions = replicate pages start }) }
+        ensures { IfOk result (λ ram. ram ≡ record { bytes = replicate (PAGE_SIZE * pages) 0; versions = replicate pages start; place = None }) }
     {
         let bytes = vec![in alloc; 0u8; pages as usize * PAGE_SIZE]?;
         let versions = vec![in alloc; start; pages as usize]?;
-        Ok(Ram { bytes, versions })
+        Ok(Ram {
+            bytes: Storage::own(bytes),
+            versions,
+        })
+    }
+
+    /// The RAM whose bytes are those of a region, as they are now, each page at version 0. Memory is taken for the versions alone; the
+    /// only error is out of memory, and hands the region back as it was.
+    pub fn over(alloc: Global, region: Region) -> Result<Ram, (AllocError, Region)>
+        requires whole { length region.content % PAGE_SIZE ≡ 0 }
+        requires some { PAGE_SIZE ≤ length region.content }
+        requires few { length region.content ≤ PAGE_SIZE * PAGES_MAX }
+        ensures made { IfOk result (λ ram. ram ≡ record { bytes = region.content; versions = replicate (length region.content / PAGE_SIZE) 0; place = Some (address region) }) }
+        ensures back { IfErr result (λ error. error.1 ≡ region) }
+    {
+        let Ok(versions) = vec![in alloc; 0u64; region.len() / PAGE_SIZE] else {
+            return Err((AllocError, region));
+        };
+        Ok(Ram {
+            bytes: Storage::callers(region),
+            versions,
+        })
     }
 
     /// The RAM with these bytes and these versions of its pages.
-    pub(crate) fn from_parts(bytes: Vec<u8>, versions: Vec<u64>) -> Ram
-        requires { IsMemory (record { bytes = bytes.items; versions = versions.items }) }
-        ensures { result ≡ record { bytes = bytes.items; versions = versions.items } }
+    pub(crate) fn from_parts(bytes: Storage, versions: Vec<u64>) -> Ram
+        requires { IsMemory (record { bytes = bytes.bytes; versions = versions.items; place = bytes.place }) }
+        ensures { result ≡ record { bytes = bytes.bytes; versions = versions.items; place = bytes.place } }
     {
         Ram { bytes, versions }
+    }
+
+    /// Lends the bytes to the caller, if they lie in the caller's memory: the region goes out, and the versions are kept meanwhile. A
+    /// RAM in memory of the library stays as it is. It takes constant time.
+    pub fn lend(self) -> Result<(Region, ParkedRam), Ram>
+        ensures lent { IfOk result (λ lent. IsLent self lent.0 lent.1) }
+        ensures own { IfErr result (λ _. self.place ≡ None) }
+        ensures same { IfErr result (λ ram. ram ≡ self) }
+    {
+        self.recall();
+        let Ram { bytes, versions } = self;
+        match bytes.into_region() {
+            Ok(region) => Ok((region, ParkedRam::of(versions))),
+            Err(bytes) => Err(Ram { bytes, versions }),
+        }
     }
 
     /// States for proofs what holds of every RAM.
@@ -83,7 +125,7 @@ impl Ram {
     pub fn is_empty(&self) -> bool
         ensures { result ≡ false }
     {
-        self.bytes.is_empty()
+        self.bytes.len() == 0
     }
 
     /// The version of a page.
@@ -114,7 +156,7 @@ impl Ram {
         requires { addr + 2 ≤ length self.now.bytes }
         ensures { result ≡ number_at self.now.bytes addr 2 }
     {
-        LittleEndian::read_u16(&self.bytes[addr as usize..])
+        LittleEndian::read_u16(&self.bytes.as_slice()[addr as usize..])
     }
 
     /// The number in the four bytes at an address.
@@ -123,7 +165,7 @@ impl Ram {
         requires { addr + 4 ≤ length self.now.bytes }
         ensures { result ≡ number_at self.now.bytes addr 4 }
     {
-        LittleEndian::read_u32(&self.bytes[addr as usize..])
+        LittleEndian::read_u32(&self.bytes.as_slice()[addr as usize..])
     }
 
     /// The number in the eight bytes at an address.
@@ -132,7 +174,7 @@ impl Ram {
         requires { addr + 8 ≤ length self.now.bytes }
         ensures { result ≡ number_at self.now.bytes addr 8 }
     {
-        LittleEndian::read_u64(&self.bytes[addr as usize..])
+        LittleEndian::read_u64(&self.bytes.as_slice()[addr as usize..])
     }
 
     /// Why an access of `count` bytes at `addr` would be refused, if it would be.
@@ -168,7 +210,7 @@ impl Ram {
         ensures { buf.new ≡ take (length buf.old) (drop addr self.now.bytes) }
     {
         let start = addr as usize;
-        buf.copy_from_slice(&self.bytes[start..start + buf.len()]);
+        buf.copy_from_slice(&self.bytes.as_slice()[start..start + buf.len()]);
     }
 
     /// Writes bytes from an address on, and returns the pages that they went into. A refusal changes nothing.
@@ -226,6 +268,24 @@ impl Ram {
         tell_pages(log, page, page);
     }
 
+    /// Sets the bytes of a page, for a RAM of which nobody has read yet: its version stays.
+    pub(crate) fn set_page(&mut self, page: u64, bytes: &[u8])
+        requires inside { page < length self.old.versions }
+        requires whole { length bytes.now ≡ PAGE_SIZE }
+        ensures { self.new ≡ record self.old { bytes = put_at self.old.bytes (PAGE_SIZE * page) bytes.now } }
+    {
+        self.recall();
+        self.bytes.put(PAGE_SIZE * page as usize, bytes);
+    }
+
+    /// Sets the bytes of a page to zeros, as `set_page` does.
+    pub(crate) fn clear_page(&mut self, page: u64)
+        requires { page < length self.old.versions }
+        ensures { self.new ≡ record self.old { bytes = put_at self.old.bytes (PAGE_SIZE * page) (replicate PAGE_SIZE 0) } }
+    {
+        self.set_page(page, &[0; PAGE_SIZE]);
+    }
+
     #[inline(always)]
     fn store_in_page(&mut self, addr: u64, bytes: &[u8]) -> u64
         requires inside { addr + length bytes.now ≤ length self.old.bytes }
@@ -236,7 +296,7 @@ impl Ram {
     {
         self.recall();
         let start = addr as usize;
-        self.bytes[start..start + bytes.len()].copy_from_slice(bytes);
+        self.bytes.put(start, bytes);
         let page = start / PAGE_SIZE;
         raise_page(self.versions.as_mut_slice(), page);
         page as u64
@@ -253,7 +313,7 @@ impl Ram {
         }
         let start = addr as usize;
         let end = start + bytes.len();
-        self.bytes[start..end].copy_from_slice(bytes);
+        self.bytes.put(start, bytes);
         let (first, last) = (start / PAGE_SIZE, (end - 1) / PAGE_SIZE);
         raise_pages(self.versions.as_mut_slice(), first, last);
         Touched::Pages(first as u64, last as u64)
@@ -305,7 +365,8 @@ fn raise_all(versions: &mut [u64])
     }
 }
 
-fn raised_version(version: u64) -> u64
+/// The version of a page after a write into it.
+pub(crate) fn raised_version(version: u64) -> u64
     ensures { result ≡ raised version }
 {
     version.saturating_add(1)

@@ -1,4 +1,4 @@
-//! Versions near the greatest one, and pages that come.
+//! Versions near the greatest one, and pages that come, into new memory and into a RAM that is given.
 
 use crate::{ArrivingRam, Ram, Touched};
 use std::process::Abort;
@@ -80,5 +80,28 @@ fn pages_arrive(rt: &impl Abort, arriving: ArrivingRam) {
 fn pages_out_of_order(rt: HostRuntime) -> Result<(), Fail> {
     let arriving = ArrivingRam::new(rt.alloc(), 5)?;
     pages_arrive(&rt, arriving);
+    Ok(())
+}
+
+/// Pages come into a RAM that is given. One that does not come is as it was, and so are the versions.
+fn pages_come_into(rt: &impl Abort, ram: Ram) {
+    let mut arriving = ArrivingRam::over(ram);
+    clear_page_of(&mut arriving, 0);
+    put_page_of(&mut arriving, 1, 6);
+    let ram = arriving.into_ram();
+    assert_eq!(rt; ram.len(), 3 * 4096);
+    assert_eq!(rt; first_byte(&ram, 0), Some(0));
+    assert_eq!(rt; first_byte(&ram, 1), Some(6));
+    assert_eq!(rt; first_byte(&ram, 2), Some(9));
+    assert_eq!(rt; version_of(&ram, 1), Some(0));
+    assert_eq!(rt; version_of(&ram, 2), Some(1));
+}
+
+#[test]
+fn pages_into_a_given_ram(rt: HostRuntime) -> Result<(), Fail> {
+    let mut ram = Ram::new(rt.alloc(), 3)?;
+    assert_eq!(rt; ram.write(0, &[7]), Ok(Touched::Pages(0, 0)));
+    assert_eq!(rt; ram.write(8192, &[9]), Ok(Touched::Pages(2, 2)));
+    pages_come_into(&rt, ram);
     Ok(())
 }

@@ -1,11 +1,11 @@
 use Rattle.std.proofs.Common.{rules, arith, ap, ◌∙◌, ◌≡◌, ◌*◌, ◌+◌, ◌-◌, ◌≤◌, ◌++◌, length, take, replicate}
 use Rattle.std.proofs.lemmas.List.{take_all}
-use Rattle.guestmem.specs.Arriving.{filled_up}
+use Rattle.guestmem.specs.Fresh.{filled_up}
 use Rattle.guestmem.specs.Memory.{Memory}
 use Rattle.guestmem.specs.Write.{put_at}
 use Rattle.guestmem.specs.declared.limits.TheConstants.{PAGE_SIZE}
 use Rattle.guestmem.proofs.Filling.{put_behind}
-use Rattle.guestmem.proofs.arriving.ArrivingRam.put_page.Goals as goal
+use Rattle.guestmem.proofs.fresh.FreshRam.put_page.Goals as goal
 
 pub returns-clause-bytes : goal.returns-clause-bytes
 returns-clause-bytes c =

@@ -1,10 +1,10 @@
 use Rattle.std.proofs.Common.{arith, sym, ap, ◌∙◌, ◌≡◌, ◌*◌, ◌+◌, ◌≤◌, length, replicate}
-use Rattle.guestmem.specs.Arriving.{filled_up}
+use Rattle.guestmem.specs.Fresh.{filled_up}
 use Rattle.guestmem.specs.Memory.{Memory}
 use Rattle.guestmem.specs.Write.{put_at}
 use Rattle.guestmem.specs.declared.limits.TheConstants.{PAGE_SIZE}
 use Rattle.guestmem.proofs.Filling.{zeros_behind}
-use Rattle.guestmem.proofs.arriving.ArrivingRam.clear_page.Goals as goal
+use Rattle.guestmem.proofs.fresh.FreshRam.clear_page.Goals as goal
 
 pub returns-else-page-len-clause-bytes : goal.returns-else-page-len-clause-bytes
 returns-else-page-len-clause-bytes c =
