@@ -30,7 +30,7 @@ use Rattle.machine.specs.Effect as effects
 use Rattle.machine.specs.Effect.{Effect, applied, items_of, no_effect, sets_on}
 use Rattle.machine.specs.EffectLaws.{HasItem, IsSameShape}
 use Rattle.machine.specs.Held.{IsHeld}
-use Rattle.machine.specs.Outcome.{Outcome, is_failure, outcome_of}
+use Rattle.machine.specs.Outcome.{Outcome, fine, is_failure, outcome_of}
 use Rattle.machine.specs.Seen.{DeviceSeen, Marks, Seen, state_of, all_marks, failed_at, failed_if, marks_at}
 use Rattle.machine.specs.Shapes.{made_as}
 use Rattle.machine.specs.Sound.{IsSound, IsSoundDevice}
@@ -311,6 +311,31 @@ pub applied_quiet : (shapes : List Shape) (old new : Seen) (e : Event) (reply : 
 applied_quiet shapes old new e reply quiet held fits h same marks unsteady =
     let none : items_of h.effect ≡ [] = ap items_of h.has.effect_is ∙ no_items (state_of old) e (outcome_of reply) h.has.seen quiet in
     applied_step shapes old new e reply held fits h (rw same (later_same old.memory)) (rw none (rises_none old.memory new.memory same)) marks unsteady
+
+-- An event that names a device which is not there changes nothing.
+missing_answer : (shapes : List Shape) (m : Memory) (ds : List DeviceSeen) (e : Event) → IsQuiet e → IsHeld shapes (record { memory = m; devices = ds }) → Fits e → IsStep (state_of (record { memory = m; devices = ds })) e fine (Refused NoDevice) (state_of (record { memory = m; devices = ds }))
+    → all_marks (record { memory = m; devices = ds }) ≡ marks_after (all_marks (record { memory = m; devices = ds })) e (Refused NoDevice) → FailsOnlyUnsteady (all_marks (record { memory = m; devices = ds })) e (Refused NoDevice)
+    → IsApplied (record { memory = m; devices = ds }) e (Refused NoDevice) (record { memory = m; devices = ds })
+missing_answer shapes m ds e quiet held fits step marks unsteady =
+    applied_quiet shapes (record { memory = m; devices = ds }) (record { memory = m; devices = ds }) e (Refused NoDevice) quiet held fits step refl marks unsteady
+
+pub missing_write : (shapes : List Shape) (m : Memory) (ds : List DeviceSeen) (dev offset width value : ℕ) → IsHeld shapes (record { memory = m; devices = ds }) → Fits (RegWrite dev offset width value) → length ds ≤ dev
+    → IsApplied (record { memory = m; devices = ds }) (RegWrite dev offset width value) (Refused NoDevice) (record { memory = m; devices = ds })
+missing_write shapes m ds dev offset width value held fits h =
+    let none = past ds dev h in
+    missing_answer shapes m ds (RegWrite dev offset width value) tt held fits (record { effect = no_effect; has = record { seen = Empty; may_see = tt; reply_is = rw none refl; effect_is = rw none refl; outcome_is = refl }; changed = refl }) refl tt
+
+pub missing_input : (shapes : List Shape) (m : Memory) (ds : List DeviceSeen) (dev : ℕ) (bytes : List ℕ) → IsHeld shapes (record { memory = m; devices = ds }) → Fits (Input dev bytes) → length ds ≤ dev
+    → IsApplied (record { memory = m; devices = ds }) (Input dev bytes) (Refused NoDevice) (record { memory = m; devices = ds })
+missing_input shapes m ds dev bytes held fits h =
+    let none = past ds dev h in
+    missing_answer shapes m ds (Input dev bytes) tt held fits (record { effect = no_effect; has = record { seen = Empty; may_see = tt; reply_is = rw none refl; effect_is = rw none refl; outcome_is = refl }; changed = refl }) refl tt
+
+pub missing_size : (shapes : List Shape) (m : Memory) (ds : List DeviceSeen) (dev cols rows : ℕ) → IsHeld shapes (record { memory = m; devices = ds }) → Fits (Resize dev cols rows) → length ds ≤ dev
+    → IsApplied (record { memory = m; devices = ds }) (Resize dev cols rows) (Refused NoDevice) (record { memory = m; devices = ds })
+missing_size shapes m ds dev cols rows held fits h =
+    let none = past ds dev h in
+    missing_answer shapes m ds (Resize dev cols rows) tt held fits (record { effect = no_effect; has = record { seen = Empty; may_see = tt; reply_is = rw none refl; effect_is = rw none refl; outcome_is = refl }; changed = refl }) refl tt
 
 pub applied_logged : {L : Type 0} (taking : L → Item → L) (shapes : List Shape) (old new : Seen) (log new_log : L) (e : Event) (reply : Reply) → IsHeld shapes old → Fits e → IsTouchingStep (Touches taking log new_log old.memory new.memory) (state_of old) e reply (state_of new) → IsLater old.memory new.memory → all_marks new ≡ marks_after (all_marks old) e reply → FailsOnlyUnsteady (all_marks old) e reply
     → IsAppliedLogged taking old log e reply new new_log

@@ -1,17 +1,18 @@
 -- A machine as it begins is sound.
-use Rattle.std.proofs.Common.{◌≡◌, ℕ, zero, suc, ◌*◌, ◌^◌, ◌<◌, ◌≤◌, List, [], ◌∷◌, length, map, replicate, get_or, Bool, true, false, cond, Some, None, refl, ap, sym, ◌∙◌, arith, eqb, ltb}
+use Rattle.std.proofs.Common.{◌≡◌, ℕ, zero, suc, ◌*◌, ◌/◌, ◌%◌, ◌^◌, ◌<◌, ◌≤◌, List, [], ◌∷◌, length, map, replicate, get_or, Bool, true, false, cond, Some, None, refl, ap, sym, ◌∙◌, arith, eqb, ltb}
 use Rattle.std.specs.Prelude.{◌||◌, not}
 use Rattle.std.specs.List.{All}
 use Rattle.std.proofs.lemmas.List.{length-map, length-replicate}
 use Rattle.std.proofs.lemmas.List.Elements.{All-map, All-nil}
-use Rattle.std.proofs.lemmas.Bool.{eqb-false}
+use Rattle.std.proofs.lemmas.Bool.{eqb-false, eqb-true}
 use borrow.Author.Tests.{ltb-false}
+use Rattle.guestmem.specs.Number.{IsBytes}
 use Rattle.blk.proofs.Zeros.{zero_bytes}
 use Rattle.blk.specs.Disk.{AreSectors, DiskState}
 use Rattle.blk.specs.Sectors.{Sector, AreWhole, IsWhole}
 use Rattle.mmio.proofs.StayingSound.{first_sound}
 use Rattle.mmio.specs.State.{first_common, first_queue}
-use Rattle.machine.specs.First.{HasBytes, are_beyond, are_same, dealt_sectors, first_machine, good_marks, marked_sectors, new_refusal, saved_machine}
+use Rattle.machine.specs.First.{HasBytes, are_beyond, are_same, dealt_sectors, first_machine, good_marks, machine_over, marked_sectors, new_refusal, over_refusal, saved_machine}
 use Rattle.machine.specs.Parts.{ArePartsFor, PartsSeen, machine_of}
 use Rattle.machine.specs.QueuePositions.{HavePositions, first_positions, is_packed_by}
 use Rattle.machine.specs.Shapes.{device_id_of, disk_sizes, first_device, first_kind, is_beyond, made_as, offered_of, queues_of, sector_count}
@@ -151,34 +152,35 @@ first_counts : (bytes : ℕ) (shapes : List Shape) → map (λ (d : DeviceState)
 first_counts bytes shapes = shape_counts (map (first_device bytes) shapes) ∙ ap (map sector_count) (first_shapes bytes shapes)
 
 -- A new machine is sound.
-pub first_machine_sound : (pages : ℕ) (shapes : List Shape) (sizes : List ℕ) (disks : List (List Sector)) → new_refusal pages shapes sizes ≡ None → All HasBytes shapes
-    → map length disks ≡ sizes → All AreWhole disks → IsSound (first_machine pages shapes disks)
-first_machine_sound pages shapes sizes disks none ids sizes_are whole =
+machine_over_sound : (pages : ℕ) (bytes : List ℕ) (shapes : List Shape) (sizes : List ℕ) (disks : List (List Sector)) → new_refusal pages shapes sizes ≡ None → length bytes ≡ 4096 * pages → IsBytes bytes
+    → All HasBytes shapes → map length disks ≡ sizes → All AreWhole disks → IsSound (machine_over bytes shapes disks)
+machine_over_sound pages bytes shapes sizes disks none long are ids sizes_are whole =
     let within = limits pages shapes sizes none in
-    let zeros : List ℕ = replicate (4096 * pages) 0 in
-    let long : length zeros ≡ 4096 * pages = length-replicate (4096 * pages) 0 in
-    let many : length (map (first_device (4096 * pages)) shapes) ≡ length shapes = rw length-map refl in
+    let many : length (map (first_device (length bytes)) shapes) ≡ length shapes = rw length-map refl in
     let counts : disk_sizes shapes ≡ map length disks = same_sizes (disk_sizes shapes) sizes within.same ∙ sym sizes_are in
-    let fits : 4096 * pages < 2 ^ 64 = omega (arith, within.few_pages) in
+    let fits : length bytes < 2 ^ 64 = omega (arith, long, within.few_pages) in
     let each = each_within shapes within.none_beyond in
     record {
-      whole_pages = rw long (omega arith);
-      some_pages = rw long (omega (arith, within.some_pages));
-      few_pages = rw long (omega (arith, within.few_pages));
+      whole_pages = omega (arith, long);
+      some_pages = omega (arith, long, within.some_pages);
+      few_pages = omega (arith, long, within.few_pages);
       some_devices = rw many within.some_devices;
       few_devices = rw many within.few_devices;
-      devices = rw long (All-map (IsSoundDevice (4096 * pages)) (first_device (4096 * pages)) shapes (λ k d below. first_device_sound (4096 * pages) (get_or shapes k d) fits (each k d below) (ids k d below)));
-      bytes = zero_bytes (4096 * pages);
-      disks = dealt_counts shapes disks counts ∙ sym (first_counts (4096 * pages) shapes);
+      devices = All-map (IsSoundDevice (length bytes)) (first_device (length bytes)) shapes (λ k d below. first_device_sound (length bytes) (get_or shapes k d) fits (each k d below) (ids k d below));
+      bytes = are;
+      disks = dealt_counts shapes disks counts ∙ sym (first_counts (length bytes) shapes);
       sectors = dealt_whole shapes disks whole;
     }
 
+-- One of zeros is one over zeros.
+first_is_over : (pages : ℕ) (shapes : List Shape) (disks : List (List Sector)) → first_machine pages shapes disks ≡ machine_over (replicate (4096 * pages) 0) shapes disks
+first_is_over pages shapes disks =
+    let long : length (replicate (4096 * pages) 0) ≡ 4096 * pages = length-replicate {A = ℕ} (4096 * pages) 0 in
+    rw long refl
+
 -- The same machine, as it is put together.
-pub first_is_saved : (pages : ℕ) (shapes : List Shape) (disks : List (List Sector)) (bytes : List ℕ) (states : List DeviceState) → bytes ≡ replicate (4096 * pages) 0 → states ≡ map (first_device (length bytes)) shapes
-    → saved_machine bytes states disks ≡ first_machine pages shapes disks
-first_is_saved pages shapes disks bytes states zeros are =
-    let long : length bytes ≡ 4096 * pages = ap length zeros ∙ length-replicate (4096 * pages) 0 in
-    rw (are, first_shapes (length bytes) shapes, long, zeros) refl
+over_is_saved : (shapes : List Shape) (disks : List (List Sector)) (bytes : List ℕ) (states : List DeviceState) → states ≡ map (first_device (length bytes)) shapes → saved_machine bytes states disks ≡ machine_over bytes shapes disks
+over_is_saved shapes disks bytes states are = rw (are, first_shapes (length bytes) shapes) refl
 
 -- The sectors of good disks.
 good_sizes : {A : Type 0} (state : A → DiskState) (xs : List A) → map length (map (λ x. map Some (state x).sectors) xs) ≡ map (λ x. length (state x).sectors) xs
@@ -189,6 +191,26 @@ good_whole : {A : Type 0} (state : A → DiskState) (xs : List A) → All (λ x.
 good_whole state xs whole = All-map AreWhole (λ x. map Some (state x).sectors) xs (λ k d below. All-map IsWhole Some (state (get_or xs k d)).sectors (whole k d below))
 
 -- The parts of a new machine: they are parts for its disks, and make it with them.
+pub record AreOver {A : Type 0} (state : A → DiskState) (bytes : List ℕ) (shapes : List Shape) (xs : List A) (p : PartsSeen) : Type 0 where
+  pub parts : ArePartsFor (map state xs) p
+  pub made : machine_of p (map state xs) ≡ machine_over bytes shapes (map (λ x. map Some (state x).sectors) xs)
+
+pub are_over : {A : Type 0} (state : A → DiskState) (pages : ℕ) (bytes : List ℕ) (shapes : List Shape) (xs : List A) (p : PartsSeen) → new_refusal pages shapes (map (λ x. length (state x).sectors) xs) ≡ None → length bytes ≡ 4096 * pages
+    → IsBytes bytes → All HasBytes shapes → All (λ x. AreSectors (state x).sectors) xs → p.ram ≡ bytes → p.shapes ≡ shapes → p.states ≡ map (first_device (length bytes)) shapes → p.bad ≡ good_marks (map state xs)
+    → AreOver state bytes shapes xs p
+are_over state pages bytes shapes xs p none long are ids whole ram_is same states_are bad_are =
+    let disks : List (List Sector) = map (λ x. map Some (state x).sectors) xs in
+    let content : marked_sectors (map state xs) p.bad ≡ disks = ap (marked_sectors (map state xs)) bad_are ∙ good_content state xs in
+    let made : machine_of p (map state xs) ≡ machine_over bytes shapes disks = ap (saved_machine p.ram p.states) content ∙ ap (λ (b : List ℕ). saved_machine b p.states disks) ram_is ∙ over_is_saved shapes disks bytes p.states states_are in
+    record {
+      parts = record {
+        sound = rw made (machine_over_sound pages bytes shapes (map (λ x. length (state x).sectors) xs) disks none long are ids (good_sizes state xs) (good_whole state xs whole));
+        shapes = same ∙ sym (ap (map (λ (d : DeviceState). made_as d.kind)) states_are ∙ first_shapes (length bytes) shapes);
+        marks = rw bad_are (good_are_marks (map state xs));
+      };
+      made = made;
+    }
+
 pub record AreFirst {A : Type 0} (state : A → DiskState) (pages : ℕ) (shapes : List Shape) (xs : List A) (p : PartsSeen) : Type 0 where
   pub parts : ArePartsFor (map state xs) p
   pub made : machine_of p (map state xs) ≡ first_machine pages shapes (map (λ x. map Some (state x).sectors) xs)
@@ -196,14 +218,31 @@ pub record AreFirst {A : Type 0} (state : A → DiskState) (pages : ℕ) (shapes
 pub are_first : {A : Type 0} (state : A → DiskState) (pages : ℕ) (shapes : List Shape) (xs : List A) (p : PartsSeen) → new_refusal pages shapes (map (λ x. length (state x).sectors) xs) ≡ None → All HasBytes shapes
     → All (λ x. AreSectors (state x).sectors) xs → p.ram ≡ replicate (4096 * pages) 0 → p.shapes ≡ shapes → p.states ≡ map (first_device (length p.ram)) shapes → p.bad ≡ good_marks (map state xs) → AreFirst state pages shapes xs p
 are_first state pages shapes xs p none ids whole zeros same states_are bad_are =
-    let disks : List (List Sector) = map (λ x. map Some (state x).sectors) xs in
-    let content : marked_sectors (map state xs) p.bad ≡ disks = ap (marked_sectors (map state xs)) bad_are ∙ good_content state xs in
-    let made : machine_of p (map state xs) ≡ first_machine pages shapes disks = ap (saved_machine p.ram p.states) content ∙ first_is_saved pages shapes disks p.ram p.states zeros states_are in
+    let bytes : List ℕ = replicate (4096 * pages) 0 in
+    let over : AreOver state bytes shapes xs p =
+    are_over state pages bytes shapes xs p none (length-replicate (4096 * pages) 0) (zero_bytes (4096 * pages)) ids whole zeros same (states_are ∙ ap (λ (b : List ℕ). map (first_device (length b)) shapes) zeros) bad_are in
     record {
-      parts = record {
-        sound = rw made (first_machine_sound pages shapes (map (λ x. length (state x).sectors) xs) disks none ids (good_sizes state xs) (good_whole state xs whole));
-        shapes = same ∙ sym (ap (map (λ (d : DeviceState). made_as d.kind)) states_are ∙ first_shapes (length p.ram) shapes);
-        marks = rw bad_are (good_are_marks (map state xs));
-      };
-      made = made;
+      parts = over.parts;
+      made = over.made ∙ sym (first_is_over pages shapes (map (λ x. map Some (state x).sectors) xs));
     }
+
+-- A region that is not refused has whole pages, as many as there may be.
+pub record HasPages (bytes : ℕ) (shapes : List Shape) (sizes : List ℕ) : Type 0 where
+  pub none : new_refusal (bytes / 4096) shapes sizes ≡ None
+  pub whole : bytes ≡ 4096 * (bytes / 4096)
+  pub some : 1 ≤ bytes / 4096
+  pub few : bytes / 4096 ≤ 16384
+
+has_pages_by : (bytes : ℕ) (shapes : List Shape) (sizes : List ℕ) (b : Bool) → eqb (bytes % 4096) 0 ≡ b → cond (not b) (Some BadShape) (new_refusal (bytes / 4096) shapes sizes) ≡ None → HasPages bytes shapes sizes
+has_pages_by bytes shapes sizes false is none = cc
+has_pages_by bytes shapes sizes true is none =
+    let within = limits (bytes / 4096) shapes sizes none in
+    record {
+      none = none;
+      whole = omega (arith, eqb-true (bytes % 4096) 0 is);
+      some = within.some_pages;
+      few = within.few_pages;
+    }
+
+pub has_pages : (bytes : ℕ) (shapes : List Shape) (sizes : List ℕ) → over_refusal bytes shapes sizes ≡ None → HasPages bytes shapes sizes
+has_pages bytes shapes sizes none = has_pages_by bytes shapes sizes (eqb (bytes % 4096) 0) refl none

@@ -1,7 +1,7 @@
 -- What the rings of a machine keep of descriptors, as RAM and the devices change.
-use Rattle.std.proofs.Common.{◌≡◌, ℕ, ◌*◌, List, length, set, get_or, ap, sym, ◌∙◌}
-use Rattle.std.proofs.lemmas.List.{length-set}
-use Rattle.std.proofs.lemmas.List.Elements.{All-set}
+use Rattle.std.proofs.Common.{◌≡◌, ℕ, ◌+◌, ◌*◌, ◌<◌, List, [], ◌∷◌, ◌++◌, length, take, set, get_or, ap, sym, ◌∙◌}
+use Rattle.std.proofs.lemmas.List.{length-set, get_or-set_same, take-set, take_more}
+use Rattle.std.proofs.lemmas.List.Elements.{All-set, All-push}
 use Rattle.guestmem.specs.Memory.{Memory}
 use Rattle.guestmem.specs.Later.{IsLater}
 use Rattle.chains.specs.Decoder.{Fits}
@@ -35,6 +35,13 @@ rings_stepped rings old new ds n d place r are later fits =
 pub rings_written : (rings all : List AnyRing) (m : Memory) (ds : List DeviceSeen) (n : ℕ) (d : DeviceSeen) → AreRings rings m (length ds) → length all ≡ length rings → (FitAll rings m → FitAll all m)
     → AreRings all m (length (set ds n d))
 rings_written rings all m ds n d are long fit = rw length-set (record { each = long ∙ are.each; fit = fit are.fit })
+
+-- Where one more of those from the first on keeps nothing.
+pub one_more_fits : (rings : List AnyRing) (m : Memory) (n : ℕ) (new : AnyRing) → n < length rings → Fits (decoder_in new) m → FitAll (take n rings) m → FitAll (take (n + 1) (set rings n new)) m
+one_more_fits rings m n new below fits all =
+    let more : take (n + 1) (set rings n new) ≡ take n (set rings n new) ++ get_or (set rings n new) n new ∷ [] = take_more (set rings n new) n new (rw length-set below) in
+    let here : get_or (set rings n new) n new ≡ new = get_or-set_same rings n new new below in
+    rw (more, take-set rings n new, here) (All-push (λ (r : AnyRing). Fits (decoder_in r) m) (take n rings) new all fits)
 
 -- New ones.
 pub rings_made : (rings : List AnyRing) (m : Memory) (ds : List DeviceSeen) (count : ℕ) → AreNewRings rings count → length ds ≡ count → AreRings rings m (length ds)

@@ -26,6 +26,8 @@ pub mod Reading
 pub mod Numbering
 pub mod Outstanding
 pub mod Fresh
+pub mod GivenBack
+pub mod Parking
 pub mod Quiet
 pub mod Honest
 pub mod Keeping

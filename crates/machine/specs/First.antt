@@ -1,5 +1,5 @@
 -- New machines, and machines as they were saved.
-use Rattle.std.specs.Prelude.{◌≡◌, ℕ, ◌*◌, ◌||◌, ◌&&◌, ◌==◌, not, nat_lt, if◌then◌else◌, Bool, true, false, List, [], ◌∷◌, length, map, replicate, Option, Some, None}
+use Rattle.std.specs.Prelude.{◌≡◌, ℕ, ◌*◌, ◌/◌, ◌%◌, ◌||◌, ◌&&◌, ◌==◌, not, nat_lt, if◌then◌else◌, Bool, true, false, List, [], ◌∷◌, length, map, replicate, Option, Some, None}
 use Rattle.guestmem.specs.declared.limits.TheConstants.{PAGE_SIZE, PAGES_MAX}
 use Rattle.guestmem.specs.Number.{IsBytes}
 use Rattle.blk.specs.Disk.{DiskState}
@@ -44,6 +44,14 @@ first_machine pages shapes disks = record {
   disks = dealt_sectors shapes disks;
 }
 
+-- A new machine whose RAM has these bytes.
+abbrev pub machine_over : List ℕ → List Shape → List (List Sector) → MachineState
+machine_over bytes shapes disks = record {
+  ram = bytes;
+  devices = map (first_device (length bytes)) shapes;
+  disks = dealt_sectors shapes disks;
+}
+
 -- Some device is beyond its limits.
 abbrev pub are_beyond : List Shape → Bool
 are_beyond [] = false
@@ -61,6 +69,12 @@ new_refusal pages shapes sizes =
     if (pages == 0 || nat_lt PAGES_MAX pages || length shapes == 0 || nat_lt DEVICES_MAX (length shapes) || are_beyond shapes) then Some BadShape
     else if not (are_same (disk_sizes shapes) sizes) then Some DiskMismatch
     else None
+
+-- Why none is made whose RAM is so many bytes, if so: they have to be whole pages, and as many as a machine may have.
+abbrev pub over_refusal : ℕ → List Shape → List ℕ → Option NewError
+over_refusal bytes shapes sizes =
+    if not (bytes % PAGE_SIZE == 0) then Some BadShape
+    else new_refusal (bytes / PAGE_SIZE) shapes sizes
 
 -- The MAC of a network device is 6 bytes, and the id of a block device 20.
 pub record AreBytes (count : ℕ) (list : List ℕ) : Type 0 where

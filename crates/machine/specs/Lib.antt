@@ -15,6 +15,7 @@ pub mod NextWork
 pub mod Looked
 pub mod NextBad
 pub mod Outcome
+pub mod Parked
 pub mod Parts
 pub mod QueuePositions
 pub mod Refusal

@@ -1,5 +1,6 @@
 -- What a machine is made of besides its disks.
-use Rattle.std.specs.Prelude.{◌≡◌, ◌≤◌, ℕ, List, [], map, Bool}
+use Rattle.std.specs.Prelude.{◌≡◌, ◌≤◌, ℕ, List, [], map, Bool, Option}
+use denote.RawPtr.{Ptr}
 use Rattle.blk.specs.Disk.{DiskState}
 use Rattle.machine.specs.First.{AreMarksOf, marked_sectors, saved_machine}
 use Rattle.machine.specs.Sound.{IsSound}
@@ -7,9 +8,11 @@ use Rattle.machine.specs.State.{DeviceState, MachineState}
 use Rattle.machine.specs.declared.shape.Shape.{Shape}
 use Rattle.machine.specs.Shapes.{made_as}
 
--- The bytes of RAM, the shapes and the states of the devices, and the marks of the bad sectors of each disk.
+-- The bytes of RAM, and where they lie if that is memory of the caller; the shapes and the states of the devices, and the marks of
+-- the bad sectors of each disk.
 pub record PartsSeen : Type 0 where
   pub ram : List ℕ
+  pub place : Option Ptr
   pub shapes : List Shape
   pub states : List DeviceState
   pub bad : List (List Bool)

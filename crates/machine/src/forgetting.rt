@@ -21,6 +21,16 @@ pub(crate) fn forget(rings: &mut Vec<AnyRing>, device: u8, effect: Effect)
     forget_at(rings, first + 1, empties(effect, 1));
 }
 
+/// Empties the places of all rings: what they keep then fits every RAM.
+pub(crate) fn forget_all(rings: &mut Vec<AnyRing>)
+    ensures fit { (ram : Memory) → FitAll rings.new.items ram }
+    ensures each { length rings.new.items ≡ length rings.old.items }
+{
+    for n in 0..rings.len() {
+        rings[n].forget();
+    }
+}
+
 /// Empties the places of one ring, if that is to be done.
 fn forget_at(rings: &mut Vec<AnyRing>, place: usize, does: bool)
     requires { place < length rings.old.items }

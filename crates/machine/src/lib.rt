@@ -34,6 +34,12 @@
 //! - `Machine::new` gives zeros and first values, or the first of its refusals; `new_or_back` also gives the disks back.
 //!   `restore` gives the machine of what was saved. Every machine is sound (`specs/Sound`), and stays so. `lines` is the
 //!   interrupt lines.
+//! - `Machine::new_over` is `new` over a `region::Region`: RAM is the bytes that lie there, which stay where they are. A refusal gives
+//!   the region and the disks back.
+//! - `lend` gives the region to the caller, whose guest may write there, and keeps all else as a `Parked` machine (`specs/Parked`), to
+//!   which no event is applied. `Parked::give_back` takes the region back with the pages that were written: their versions rise, and
+//!   the log takes them in. Where no other page was written, that is what writes of these whole pages by the guest are
+//!   (`laws::back_is_written`). The rings forget what they keep, so a page that was written and not named is never read as it was.
 //! - `are_disks_of` says whether disks are those of some devices, in their order.
 //! - `laws`: what an effect does not touch stays, what it touches exists, the shape stays. Equal outcomes give equal effects,
 //!   replies and machines, whatever a guest wrote into its rings. A step of a sound machine stays within it, keeps its shape
@@ -66,7 +72,7 @@ pub use event::Event;
 pub use fitting::are_disks_of;
 pub use guestmem::Bytes;
 pub use kind::Kind;
-pub use machine::{DEVICES_MAX, Machine};
+pub use machine::{DEVICES_MAX, Machine, Parked};
 pub use new_error::NewError;
 pub use reply::{Refusal, Reply};
 pub use shape::Shape;

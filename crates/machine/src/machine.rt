@@ -4,6 +4,7 @@ mod apply;
 mod bad_sectors;
 mod direct;
 mod getters;
+mod lending;
 mod making;
 mod next_work;
 mod parts;
@@ -13,6 +14,7 @@ use crate::device::Device;
 use crate::shape::Shape;
 use blk::Disk;
 use guestmem::Ram;
+pub use lending::Parked;
 use std::alloc::Global;
 use std::marker::Model;
 

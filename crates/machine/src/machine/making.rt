@@ -2,10 +2,11 @@
 
 ghost use Rattle.std.specs.Prelude.{◌≡◌, ◌≤◌, length, map, All, Err, None, Some, IfOk, IfErr, IfSome};
 ghost use Rattle.blk.specs.Disk.{AreSectors};
+ghost use Rattle.region.specs.Address.{address};
 ghost use Rattle.machine.specs.Parts.{ArePartsFor, machine_of};
 ghost use Rattle.machine.specs.Seen.{state_of, all_marks};
 ghost use Rattle.machine.specs.Shapes.{first_device, is_beyond, made_as};
-ghost use Rattle.machine.specs.First.{AreMarksOf, HasBytes, are_beyond, dealt_marks, first_machine, good_marks, marked_sectors, marks_in, saved_machine, new_refusal};
+ghost use Rattle.machine.specs.First.{AreMarksOf, HasBytes, are_beyond, dealt_marks, first_machine, good_marks, machine_over, marked_sectors, marks_in, saved_machine, new_refusal, over_refusal};
 ghost use Rattle.machine.specs.Sound.{IsSound};
 ghost use Rattle.machine.specs.declared.new_error.NewError.TheVariants as new_error;
 
@@ -17,7 +18,8 @@ use crate::shape::Shape;
 use crate::state::DeviceState;
 use blk::{Disk, SECTORS_MAX};
 use dirtylog::BitSet;
-use guestmem::{NoMemory, PAGES_MAX, Ram, recall_bytes};
+use guestmem::{NoMemory, PAGE_SIZE, PAGES_MAX, Ram, recall_bytes};
+use region::Region;
 use std::alloc::Global;
 
 impl<D: Disk + Drop> Machine<D> {
@@ -57,13 +59,39 @@ impl<D: Disk + Drop> Machine<D> {
         ensures refused { IfSome (new_refusal ram_pages shapes.now (map (λ d. length (D.state d).sectors) disks.items)) (λ error. result ≡ Err (error, disks)) }
         ensures memory { new_refusal ram_pages shapes.now (map (λ d. length (D.state d).sectors) disks.items) ≡ None → IfErr result (λ x. x.0 ≡ new_error.NoMemory) }
     {
-        if let Some(error) = refusal(ram_pages, shapes, disks.as_slice()) {
+        if let Some(error) = refusal(ram_pages as usize, shapes, disks.as_slice()) {
             return Err((error, disks));
         }
         // All memory is got before the first disk is moved out of its list.
         match first_parts(alloc, ram_pages, shapes, disks.as_slice()) {
             Ok(parts) => Ok(parts.with_disks(disks)),
             Err(NoMemory) => Err((NewError::NoMemory, disks)),
+        }
+    }
+
+    /// A new machine, as `new` makes, whose RAM is the bytes of a region, as they are. `BadShape` is told also of a region that
+    /// does not have 1 to 16,384 times 4,096 bytes. A refusal gives the disks and the region back, as they were.
+    pub fn new_over(
+        alloc: Global,
+        region: Region,
+        shapes: &[Shape],
+        disks: Vec<D>,
+    ) -> Result<Machine<D>, (NewError, Vec<D>, Region)>
+        ensures made { IfOk result (λ m. state_of m ≡ machine_over region.content shapes.now (map (λ d. map Some (D.state d).sectors) disks.items)) }
+        ensures place { IfOk result (λ m. m.memory.place ≡ Some (address region)) }
+        ensures marks { IfOk result (λ m. all_marks m ≡ dealt_marks shapes.now (map (λ d. marks_in (D.state d)) disks.items)) }
+        ensures sound { IfOk result (λ m. IsSound (state_of m)) }
+        ensures disks { IfErr result (λ x. x.1.items ≡ disks.items) }
+        ensures region { IfErr result (λ x. x.2 ≡ region) }
+        ensures refused { IfSome (over_refusal (length region.content) shapes.now (map (λ d. length (D.state d).sectors) disks.items)) (λ error. result ≡ Err (error, disks, region)) }
+        ensures memory { over_refusal (length region.content) shapes.now (map (λ d. length (D.state d).sectors) disks.items) ≡ None → IfErr result (λ x. x.0 ≡ new_error.NoMemory) }
+    {
+        if let Some(error) = refusal_over(region.len(), shapes, disks.as_slice()) {
+            return Err((error, disks, region));
+        }
+        match parts_over(alloc, region, shapes, disks.as_slice()) {
+            Ok(parts) => Ok(parts.with_disks(disks)),
+            Err(region) => Err((NewError::NoMemory, disks, region)),
         }
     }
 
@@ -83,6 +111,7 @@ impl<D: Disk + Drop> Machine<D> {
         ensures restored { IfOk result (λ m. state_of m ≡ saved_machine ram.bytes states.items (marked_sectors (map D.state disks.items) bad.items)) }
         ensures marks { IfOk result (λ m. all_marks m ≡ dealt_marks shapes.items (map (λ d. marks_in (D.state d)) disks.items)) }
         ensures sound { IfOk result (λ m. IsSound (state_of m)) }
+        ensures place { IfOk result (λ m. m.memory.place ≡ ram.place) }
     {
         match Machine::restore_or_back(alloc, ram, shapes, states, disks, bad) {
             Ok(machine) => Ok(machine),
@@ -105,6 +134,7 @@ impl<D: Disk + Drop> Machine<D> {
         ensures restored { IfOk result (λ m. state_of m ≡ saved_machine ram.bytes states.items (marked_sectors (map D.state disks.items) bad.items)) }
         ensures marks { IfOk result (λ m. all_marks m ≡ dealt_marks shapes.items (map (λ d. marks_in (D.state d)) disks.items)) }
         ensures sound { IfOk result (λ m. IsSound (state_of m)) }
+        ensures place { IfOk result (λ m. m.memory.place ≡ ram.place) }
         ensures back { IfErr result (λ back. back.items ≡ disks.items) }
     {
         match Parts::new(alloc, ram, shapes, states, bad) {
@@ -115,10 +145,10 @@ impl<D: Disk + Drop> Machine<D> {
 }
 
 /// Why no machine is made of `pages` pages, these devices and these disks, if there is a reason.
-fn refusal<D: Disk>(pages: u32, shapes: &[Shape], disks: &[D]) -> Option<NewError>
+fn refusal<D: Disk>(pages: usize, shapes: &[Shape], disks: &[D]) -> Option<NewError>
     ensures { result ≡ new_refusal pages shapes.now (map (λ d. length (D.state d).sectors) disks.now) }
 {
-    if pages == 0 || pages > PAGES_MAX || shapes.is_empty() || shapes.len() > DEVICES_MAX {
+    if pages == 0 || pages > PAGES_MAX as usize || shapes.is_empty() || shapes.len() > DEVICES_MAX {
         return Some(NewError::BadShape);
     }
     if are_beyond(shapes) {
@@ -128,6 +158,45 @@ fn refusal<D: Disk>(pages: u32, shapes: &[Shape], disks: &[D]) -> Option<NewErro
         return Some(NewError::DiskMismatch);
     }
     None
+}
+
+/// Why none is made whose RAM is so many bytes, if there is a reason.
+fn refusal_over<D: Disk>(bytes: usize, shapes: &[Shape], disks: &[D]) -> Option<NewError>
+    ensures { result ≡ over_refusal bytes shapes.now (map (λ d. length (D.state d).sectors) disks.now) }
+{
+    if bytes % PAGE_SIZE != 0 {
+        return Some(NewError::BadShape);
+    }
+    refusal(bytes / PAGE_SIZE, shapes, disks)
+}
+
+/// The parts of a new machine for these disks, whose RAM is over a region. Its only error is out of memory, and gives the region
+/// back.
+fn parts_over<D: Disk + Drop>(
+    alloc: Global,
+    region: Region,
+    shapes: &[Shape],
+    disks: &[D],
+) -> Result<Parts<D>, Region>
+    requires { over_refusal (length region.content) shapes.now (map (λ d. length (D.state d).sectors) disks.now) ≡ None }
+    ensures parts { IfOk result (λ parts. ArePartsFor (map D.state disks.now) parts) }
+    ensures made { IfOk result (λ parts. machine_of parts (map D.state disks.now) ≡ machine_over region.content shapes.now (map (λ d. map Some (D.state d).sectors) disks.now)) }
+    ensures shapes { IfOk result (λ parts. parts.shapes ≡ shapes.now) }
+    ensures place { IfOk result (λ parts. parts.place ≡ Some (address region)) }
+    ensures back { IfErr result (λ r. r ≡ region) }
+{
+    recall_all(shapes);
+    recall_bytes(region.as_slice());
+    let Ok(states) = new_states(alloc, shapes, region.len() as u64) else {
+        return Err(region);
+    };
+    let Ok(bad) = good_marks(alloc, disks) else {
+        return Err(region);
+    };
+    let Ok(shapes) = Vec::from_slice(alloc, shapes) else {
+        return Err(region);
+    };
+    Parts::over(alloc, region, shapes, states, bad)
 }
 
 /// The parts of a new machine for these disks. Its only error is out of memory.

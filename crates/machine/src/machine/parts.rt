@@ -1,6 +1,8 @@
 //! What a machine is made of beside its disks.
 
-ghost use Rattle.std.specs.Prelude.{◌≡◌, ◌≤◌, [], IfOk, length, map, vec_capacity};
+ghost use Rattle.std.specs.Prelude.{◌≡◌, ◌*◌, ◌%◌, ◌≤◌, [], IfErr, IfOk, Some, length, map, vec_capacity};
+ghost use Rattle.region.specs.Address.{address};
+ghost use Rattle.guestmem.specs.declared.limits.TheConstants.{PAGE_SIZE, PAGES_MAX};
 ghost use Rattle.machine.specs.First.{AreMarksOf, dealt_marks, marked, marks_in, seen_devices};
 ghost use Rattle.machine.specs.Parts.{ArePartsFor, machine_of};
 ghost use Rattle.machine.specs.Rings.{AreNewRings};
@@ -16,6 +18,7 @@ use crate::state::DeviceState;
 use blk::{Disk, Sectors};
 use dirtylog::BitSet;
 use guestmem::{NoMemory, Ram};
+use region::Region;
 use std::alloc::Global;
 use std::marker::Model;
 
@@ -41,7 +44,7 @@ impl<D: Disk> Model for Parts<D> {
 
     ghost Value = { PartsSeen };
 
-    ghost view = { λ p. record { ram = p.ram.bytes; shapes = p.shapes.items; states = p.states.items; bad = p.bad.items } };
+    ghost view = { λ p. record { ram = p.ram.bytes; place = p.ram.place; shapes = p.shapes.items; states = p.states.items; bad = p.bad.items } };
 
     ghost invariant = { λ p. HasRoom (length p.bad.items) p.sectors.items (vec_capacity p.sectors) × HasRoom (length p.states.items) p.devices.items (vec_capacity p.devices) × AreNewRings p.rings.items (length p.states.items) };
 }
@@ -55,7 +58,7 @@ impl<D: Disk + Drop> Parts<D> {
         states: Vec<DeviceState>,
         bad: Vec<BitSet>,
     ) -> Result<Parts<D>, NoMemory>
-        ensures { IfOk result (λ p. p ≡ record { ram = ram.bytes; shapes = shapes.items; states = states.items; bad = bad.items }) }
+        ensures { IfOk result (λ p. p ≡ record { ram = ram.bytes; place = ram.place; shapes = shapes.items; states = states.items; bad = bad.items }) }
     {
         let sectors = Vec::with_capacity(alloc, bad.len())?;
         let devices = Vec::with_capacity(alloc, states.len())?;
@@ -72,12 +75,51 @@ impl<D: Disk + Drop> Parts<D> {
         })
     }
 
+    /// These parts, with a RAM over a region. Its only error is out of memory, and gives the region back.
+    pub fn over(
+        alloc: Global,
+        region: Region,
+        shapes: Vec<Shape>,
+        states: Vec<DeviceState>,
+        bad: Vec<BitSet>,
+    ) -> Result<Parts<D>, Region>
+        requires whole { length region.content % PAGE_SIZE ≡ 0 }
+        requires some { PAGE_SIZE ≤ length region.content }
+        requires few { length region.content ≤ PAGE_SIZE * PAGES_MAX }
+        ensures made { IfOk result (λ p. p ≡ record { ram = region.content; place = Some (address region); shapes = shapes.items; states = states.items; bad = bad.items }) }
+        ensures back { IfErr result (λ r. r ≡ region) }
+    {
+        let Ok(sectors) = Vec::with_capacity(alloc, bad.len()) else {
+            return Err(region);
+        };
+        let Ok(devices) = Vec::with_capacity(alloc, states.len()) else {
+            return Err(region);
+        };
+        let Ok(rings) = new_rings(alloc, states.len()) else {
+            return Err(region);
+        };
+        match Ram::over(alloc, region) {
+            Ok(ram) => Ok(Parts {
+                alloc,
+                ram,
+                shapes,
+                states,
+                bad,
+                sectors,
+                devices,
+                rings,
+            }),
+            Err((_, region)) => Err(region),
+        }
+    }
+
     /// The machine that they make with these disks.
     pub fn with_disks(self, disks: Vec<D>) -> Machine<D>
         requires { ArePartsFor (map D.state disks.items) self }
         ensures made { state_of result ≡ machine_of self (map D.state disks.items) }
         ensures marks { all_marks result ≡ dealt_marks self.shapes (map (λ d. marks_in (D.state d)) disks.items) }
         ensures sound { IsSound (state_of result) }
+        ensures place { result.memory.place ≡ self.place }
     {
         let Parts {
             alloc,

@@ -5,7 +5,7 @@ use Rattle.machine.specs.Seen.{DeviceSeen}
 use Rattle.machine.specs.Step.{input_of}
 use Rattle.machine.specs.declared.event.Event.TheVariants as events
 use Rattle.machine.proofs.Keeping.{rings_stay}
-use Rattle.machine.proofs.At.{IsAt, map-set_same, input_step, held_step, applied_quiet}
+use Rattle.machine.proofs.At.{missing_input, IsAt, map-set_same, input_step, held_step, applied_quiet}
 use Rattle.machine.proofs.machine.Machine.input.Goals as goal
 
 pub invariant_of-self : goal.invariant_of-self
@@ -26,3 +26,8 @@ returns g c =
     (input_step i.ram i.devices.items c.args.dev c.args.bytes.now c.index_mut.result.now c.input.new.self (input_of c.index_mut.result.now.state.kind c.args.bytes.now) refl at c.input.ensures.device)
     refl
     (map-set_same (λ (d : DeviceSeen). d.marks) i.devices.items c.args.dev c.index_mut.result.now c.input.new.self at (ap (λ (d : DeviceSeen). d.marks) c.input.ensures.device)) tt)
+
+pub returns-then-dev-len : goal.returns-then-dev-len
+returns-then-dev-len g c =
+    let i = c.self.inside in
+    rw (← c.self.view_is) (missing_input i.shapes.items i.ram i.devices.items c.args.dev c.args.bytes.now c.self.invariant.0 (c.ranges.dev.fits, λ k. omega (arith, c.type_inv.bytes k)) (omega arith))

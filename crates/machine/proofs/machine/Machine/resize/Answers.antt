@@ -4,7 +4,7 @@ use Rattle.machine.specs.Outcome.{outcome_of}
 use Rattle.machine.specs.Seen.{DeviceSeen}
 use Rattle.machine.specs.declared.event.Event.TheVariants as events
 use Rattle.machine.proofs.Keeping.{rings_stay}
-use Rattle.machine.proofs.At.{IsAt, map-set_same, size_step, held_step, applied_quiet}
+use Rattle.machine.proofs.At.{missing_size, IsAt, map-set_same, size_step, held_step, applied_quiet}
 use Rattle.machine.proofs.machine.Machine.resize.Goals as goal
 
 pub invariant_of-self : goal.invariant_of-self
@@ -25,3 +25,8 @@ returns g c =
     (size_step i.ram i.devices.items c.args.dev c.args.cols c.args.rows c.index_mut.result.now c.resize.new.self c.resize.result at c.resize.ensures.disk c.resize.ensures.state)
     refl
     (map-set_same (λ (d : DeviceSeen). d.marks) i.devices.items c.args.dev c.index_mut.result.now c.resize.new.self at (ap (λ (d : DeviceSeen). d.marks) c.resize.ensures.disk)) tt)
+
+pub returns-then-dev-len : goal.returns-then-dev-len
+returns-then-dev-len g c =
+    let i = c.self.inside in
+    rw (← c.self.view_is) (missing_size i.shapes.items i.ram i.devices.items c.args.dev c.args.cols c.args.rows c.self.invariant.0 (c.ranges.dev.fits, c.ranges.cols.fits, c.ranges.rows.fits) (omega arith))

@@ -4,7 +4,7 @@ use Rattle.machine.specs.Step.{out_reply, written_out}
 use Rattle.machine.specs.Seen.{DeviceSeen}
 use Rattle.machine.specs.declared.event.Event.TheVariants as events
 use Rattle.machine.proofs.Keeping.{rings_written}
-use Rattle.machine.proofs.At.{IsAt, map-set_same, register_step, held_step, applied_quiet}
+use Rattle.machine.proofs.At.{missing_write, IsAt, map-set_same, register_step, held_step, applied_quiet}
 use Rattle.machine.proofs.machine.Machine.write_register.Goals as goal
 
 pub invariant_of-self : goal.invariant_of-self
@@ -25,3 +25,8 @@ returns g c =
     (register_step i.ram i.devices.items c.args.dev c.args.offset c.args.width c.args.value c.index_mut-device.result.now c.write_one.new.device at c.write_one.ensures.device)
     refl
     (map-set_same (λ (d : DeviceSeen). d.marks) i.devices.items c.args.dev c.index_mut-device.result.now c.write_one.new.device at (ap (λ (d : DeviceSeen). d.marks) c.write_one.ensures.device)) tt)
+
+pub returns-then-number-len : goal.returns-then-number-len
+returns-then-number-len g c =
+    let i = c.self.inside in
+    rw (← c.self.view_is) (missing_write i.shapes.items i.ram i.devices.items c.args.dev c.args.offset c.args.width c.args.value c.self.invariant.0 (c.ranges.dev.fits, c.ranges.offset.fits, c.ranges.width.fits, c.ranges.value.fits) (omega arith))

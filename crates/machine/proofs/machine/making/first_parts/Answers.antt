@@ -7,7 +7,7 @@ use Rattle.machine.proofs.machine.making.first_parts.Goals as goal
 
 pub returns : goal.returns
 returns g c =
-    let p : PartsSeen = record { ram = c.in_ok-ram.ram.bytes; shapes = c.in_ok-shapes.shapes.items; states = c.in_ok-states.states.items; bad = c.in_ok-bad.bad.items } in
+    let p : PartsSeen = record { ram = c.in_ok-ram.ram.bytes; place = c.in_ok-ram.ram.place; shapes = c.in_ok-shapes.shapes.items; states = c.in_ok-states.states.items; bad = c.in_ok-bad.bad.items } in
     let zeros : p.ram ≡ replicate (4096 * c.args.ram_pages) 0 = search rules in
     let first : p.states ≡ map (first_device (length p.ram)) c.args.shapes.now = rw c.len.ensures at c.in_ok-states.ensures in
     let are : AreFirst g.D.Disk.state c.args.ram_pages c.args.shapes.now c.args.disks.now p =

@@ -1,0 +1,121 @@
+//! Machines whose RAM is lent to the caller, in whose memory it lies.
+
+ghost use Rattle.std.specs.Prelude.{◌≡◌, ◌*◌, ◌≤◌, length, None, IfOk, IfErr};
+ghost use Rattle.region.specs.Address.{address};
+ghost use Rattle.guestmem.specs.Item.{MayPages, after_all};
+ghost use Rattle.guestmem.specs.Lent.{AreBelow, given_back, page_items};
+ghost use Rattle.guestmem.specs.declared.limits.TheConstants.{PAGE_SIZE, PAGES_MAX};
+ghost use Rattle.machine.specs.Parked.{IsParked, back_with};
+
+use crate::any_ring::AnyRing;
+use crate::device::Device;
+use crate::forgetting::forget_all;
+use crate::machine::Machine;
+use crate::shape::Shape;
+use blk::Disk;
+use guestmem::{ParkedRam, TouchLog};
+use region::Region;
+use std::alloc::Global;
+use std::marker::Model;
+
+/// A machine whose RAM is lent: all of it but the bytes of its RAM. No event is applied to it.
+#[derive(Drop)]
+pub struct Parked<D: Disk> {
+    alloc: Global,
+    ram: ParkedRam,
+    shapes: Vec<Shape>,
+    devices: Vec<Device<D>>,
+    // They keep nothing, since no version tells what the guest writes meanwhile.
+    rings: Vec<AnyRing>,
+}
+
+impl<D: Disk> Model for Parked<D> {
+    ghost use Rattle.std.specs.Prelude.{length};
+    ghost use Rattle.machine.specs.Parked.{ParkedSeen, WasHeld};
+    ghost use Rattle.machine.specs.Rings.{AreNewRings};
+
+    ghost Value = { ParkedSeen };
+
+    ghost view = { λ p. record { versions = p.ram; devices = p.devices.items } };
+
+    ghost invariant = { λ p. WasHeld p.shapes.items (record { versions = p.ram; devices = p.devices.items }) × AreNewRings p.rings.items (length p.devices.items) };
+}
+
+impl<D: Disk> Machine<D> {
+    /// Lends the RAM, if it lies in memory of the caller. It takes no memory, and no longer for a larger RAM.
+    #[tactic(auto, using(crate::proofs::Parking::was_held))]
+    pub fn lend(self) -> Result<(Region, Parked<D>), Machine<D>>
+        ensures lent { IfOk result (λ r. IsParked self r.0 r.1) }
+        ensures own { IfErr result (λ _. self.memory.place ≡ None) }
+        ensures same { IfErr result (λ m. m ≡ self) }
+    {
+        self.ram.recall();
+        let Machine {
+            alloc,
+            ram,
+            shapes,
+            devices,
+            mut rings,
+        } = self;
+        match ram.lend() {
+            Ok((region, ram)) => {
+                forget_all(&mut rings);
+                Ok((
+                    region,
+                    Parked {
+                        alloc,
+                        ram,
+                        shapes,
+                        devices,
+                        rings,
+                    },
+                ))
+            }
+            Err(ram) => Err(Machine {
+                alloc,
+                ram,
+                shapes,
+                devices,
+                rings,
+            }),
+        }
+    }
+}
+
+impl<D: Disk> Parked<D> {
+    /// How many pages its RAM has, from 1 to 16,384.
+    pub fn pages(&self) -> usize
+        ensures count { result ≡ length self.now.versions }
+        ensures few { result ≤ PAGES_MAX }
+    {
+        self.ram.pages()
+    }
+
+    /// The machine whose RAM is given back: its bytes are those that lie there now, and these pages were written meanwhile, of
+    /// which the log is told. It takes time for these pages alone, and no memory.
+    pub fn give_back<L: TouchLog>(self, region: Region, pages: &[u32], log: &mut L) -> Machine<D>
+        requires size { length region.content ≡ PAGE_SIZE * length self.versions }
+        requires below { AreBelow (length self.versions) pages.now }
+        requires may { MayPages L.may log.old (length region.content) }
+        ensures machine { result ≡ back_with self (given_back region.content (address region) self.versions pages.now) }
+        ensures log { log.new ≡ after_all L.after log.old (page_items pages.now) }
+        ensures may { MayPages L.may log.new (length region.content) }
+    {
+        let Parked {
+            alloc,
+            ram,
+            shapes,
+            devices,
+            rings,
+        } = self;
+        let ram = ram.give_back(region, pages, log);
+        ram.recall();
+        Machine {
+            alloc,
+            ram,
+            shapes,
+            devices,
+            rings,
+        }
+    }
+}
