@@ -1,6 +1,7 @@
 -- A piece more, and the end.
 use Rattle.std.proofs.Common.{◌≡◌, ℕ, ◌<◌, ◌≤◌, ◌⊎◌, inl, inr, Bool, true, false, suc, List, [], ◌∷◌, ◌++◌, length, map, take, drop, refl, sym, ap, subst, ◌∙◌, append_assoc, append-nil}
-use Rattle.std.specs.Prelude.{Ok, Err}
+use Rattle.std.specs.Prelude.{Ok, Err, Option}
+use denote.RawPtr.{Ptr}
 use Rattle.std.proofs.lemmas.Bool.{cases_lt}
 use Rattle.std.proofs.lemmas.List.{take_at}
 use Rattle.sha2.specs.declared.Sha256.{Sha256}
@@ -62,11 +63,11 @@ taken_on old ds digest front held piece b rest next is t =
     let P : List ℕ → Type 0 = λ x. IsTaken ds digest x rest next in
     subst P (sym (all_bytes front held piece b is)) t.1
 
-pub goes_on : (ds new : List DiskState) (stage next : Stage) (d e : Sha256) (held rest piece : List ℕ) → IsBytes piece → (front : List ℕ) × IsKnown ds d front held stage
-    → ((front : List ℕ) → IsKnown ds d front held stage → Took ds new e (front ++ (held ++ piece)) rest (Ok next)) → GoesOn (received_by ds stage d held) piece (received_by new next e rest)
-goes_on ds new stage next d e held rest piece are some took =
+pub goes_on : (place placed : Option Ptr) (ds new : List DiskState) (stage next : Stage) (d e : Sha256) (held rest piece : List ℕ) → IsBytes piece → (front : List ℕ) × IsKnown ds d front held stage
+    → ((front : List ℕ) → IsKnown ds d front held stage → Took ds new e (front ++ (held ++ piece)) rest (Ok next)) → GoesOn (received_by place ds stage d held) piece (received_by placed new next e rest)
+goes_on place placed ds new stage next d e held rest piece are some took =
     let first = took some.0 some.1 in
-    let more : (b : List ℕ) → HasBeenFed (received_by ds stage d held) b → IsTaken new e (b ++ piece) rest next =
+    let more : (b : List ℕ) → HasBeenFed (received_by place ds stage d held) b → IsTaken new e (b ++ piece) rest next =
     λ b h. taken_on ds new e h.taken.front held piece b rest next h.taken.whole (took h.taken.front h.taken.known) in
     record {
       sizes = first.0.sizes;
@@ -75,9 +76,9 @@ goes_on ds new stage next d e held rest piece are some took =
       quiet = λ b h. rw (← first.0.sizes) (no_fault_known new e (b ++ piece) rest next (more b h));
     }
 
-pub is_refused : (ds new : List DiskState) (stage : Stage) (d f : Sha256) (held rest piece : List ℕ) (e : RecvError) → (front : List ℕ) × IsKnown ds d front held stage
-    → ((front : List ℕ) → IsKnown ds d front held stage → Took ds new f (front ++ (held ++ piece)) rest (Err e)) → IsRefused (received_by ds stage d held) piece new e
-is_refused ds new stage d f held rest piece e some took =
+pub is_refused : (place : Option Ptr) (ds new : List DiskState) (stage : Stage) (d f : Sha256) (held rest piece : List ℕ) (e : RecvError) → (front : List ℕ) × IsKnown ds d front held stage
+    → ((front : List ℕ) → IsKnown ds d front held stage → Took ds new f (front ++ (held ++ piece)) rest (Err e)) → IsRefused (received_by place ds stage d held) piece new e
+is_refused place ds new stage d f held rest piece e some took =
     let first = took some.0 some.1 in
     record {
       sizes = first.0.sizes;
@@ -103,8 +104,8 @@ nothing_more r piece b none h =
     let same : b ++ piece ≡ b = ap (λ (x : List ℕ). b ++ x) (empty piece none) ∙ append-nil b in
     rw same h
 
-pub quiet_still : (ds : List DiskState) (stage : Stage) (d : Sha256) (held piece b : List ℕ) → length piece ≡ 0 → HasBeenFed (received_by ds stage d held) b → NoFault (sizes_in ds) (b ++ piece)
-quiet_still ds stage d held piece b none h =
+pub quiet_still : (place : Option Ptr) (ds : List DiskState) (stage : Stage) (d : Sha256) (held piece b : List ℕ) → length piece ≡ 0 → HasBeenFed (received_by place ds stage d held) b → NoFault (sizes_in ds) (b ++ piece)
+quiet_still place ds stage d held piece b none h =
     let same : b ++ piece ≡ b = ap (λ (x : List ℕ). b ++ x) (empty piece none) ∙ append-nil b in
     rw same (no_fault_known ds d b held stage h.taken)
 

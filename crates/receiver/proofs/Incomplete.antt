@@ -1,5 +1,6 @@
 -- Bytes that wait for a body wait on, while it is incomplete.
-use Rattle.std.proofs.Common.{◌≡◌, ℕ, ◌+◌, ◌<◌, ◌≤◌, inl, inr, false, List, ◌∷◌, ◌++◌, length, drop, refl, sym, ap, ◌∙◌, append_assoc, arith}
+use Rattle.std.proofs.Common.{◌≡◌, ℕ, ◌+◌, ◌<◌, ◌≤◌, inl, inr, false, List, ◌∷◌, ◌++◌, length, drop, refl, sym, ap, ◌∙◌, append_assoc, arith, Option}
+use denote.RawPtr.{Ptr}
 use Rattle.std.proofs.lemmas.List.{length-append}
 use Rattle.sha2.specs.Sha256.{sha256}
 use Rattle.sha2.specs.declared.Sha256.{Sha256}
@@ -115,9 +116,9 @@ known_on ds digest front held piece (stages.Ended i) w known = absurd w.reads
 known_on ds digest front held piece stages.Failed w known = absurd w.reads
 
 -- The piece is taken, and the receiver is one still.
-pub held_on : (ds : List DiskState) (stage : Stage) (digest : Sha256) (held piece : List ℕ) → IsBytes piece → IsWithinBody stage held piece → GoesOn (received_by ds stage digest held) piece (received_by ds stage digest (held ++ piece))
-held_on ds stage digest held piece are w =
-    let more : (b : List ℕ) → HasBeenFed (received_by ds stage digest held) b → IsTaken ds digest (b ++ piece) (held ++ piece) stage =
+pub held_on : (place : Option Ptr) (ds : List DiskState) (stage : Stage) (digest : Sha256) (held piece : List ℕ) → IsBytes piece → IsWithinBody stage held piece → GoesOn (received_by place ds stage digest held) piece (received_by place ds stage digest (held ++ piece))
+held_on place ds stage digest held piece are w =
+    let more : (b : List ℕ) → HasBeenFed (received_by place ds stage digest held) b → IsTaken ds digest (b ++ piece) (held ++ piece) stage =
     λ b h. record {
       front = h.taken.front;
       whole = ap (λ (x : List ℕ). x ++ piece) h.taken.whole ∙ append_assoc h.taken.front held piece;

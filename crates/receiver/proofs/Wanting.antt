@@ -1,5 +1,6 @@
 -- Memory is wanted for devices alone.
-use Rattle.std.proofs.Common.{◌≡◌, ℕ, ◌+◌, ◌≤◌, List, [], ◌++◌, length, refl, sym, ap, subst, ◌∙◌, append_assoc, append-nil, arith}
+use Rattle.std.proofs.Common.{◌≡◌, ℕ, ◌+◌, ◌≤◌, List, [], ◌++◌, length, refl, sym, ap, subst, ◌∙◌, append_assoc, append-nil, arith, Option}
+use denote.RawPtr.{Ptr}
 use Rattle.std.specs.Prelude.{Result, Ok, Err, OnErr, true}
 use Rattle.std.specs.Result.{is_err}
 use Rattle.std.proofs.lemmas.List.{length-append}
@@ -86,10 +87,10 @@ past_head ds digest b held stages.Failed opening rest t begins = absurd t.known
 abbrev pub WantsAt : Received → List ℕ → Type 0
 WantsAt r piece = (b : List ℕ) → HasBeenFed r b → (opening : Opening) (rest : List ℕ) → Begins b opening rest → (from : ℕ) → from + length r.held ≡ length b → HasDevice r.sizes (b ++ piece) from
 
-pub fed_wants : (ds : List DiskState) (stage : Stage) (digest : Sha256) (held piece b : List ℕ) (opening : Opening) (rest : List ℕ) (from : ℕ)
+pub fed_wants : (place : Option Ptr) (ds : List DiskState) (stage : Stage) (digest : Sha256) (held piece b : List ℕ) (opening : Opening) (rest : List ℕ) (from : ℕ)
     → ((front : List ℕ) → IsKnown ds digest front held stage → IsPastHead stage → HasDevice (sizes_in ds) (front ++ (held ++ piece)) (length front))
-    → HasBeenFed (received_by ds stage digest held) b → Begins b opening rest → from + length held ≡ length b → HasDevice (sizes_in ds) (b ++ piece) from
-fed_wants ds stage digest held piece b opening rest from memory fed begins at =
+    → HasBeenFed (received_by place ds stage digest held) b → Begins b opening rest → from + length held ≡ length b → HasDevice (sizes_in ds) (b ++ piece) from
+fed_wants place ds stage digest held piece b opening rest from memory fed begins at =
     let t = fed.taken in
     let d = memory t.front t.known (past_head ds digest b held stage opening rest t begins) in
     let all : b ++ piece ≡ (t.front ++ (held ++ piece)) ++ [] = ap (λ (x : List ℕ). x ++ piece) t.whole ∙ append_assoc t.front held piece ∙ sym (append-nil (t.front ++ (held ++ piece))) in

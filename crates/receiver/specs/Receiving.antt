@@ -1,8 +1,10 @@
 -- What a receiver knows of the bytes that it was fed.
-use Rattle.std.specs.Prelude.{◌≡◌, ◌<◌, ◌≤◌, ℕ, List, [], ◌++◌, length, take, drop, Result, Ok, Err, Bool, true, false}
+use Rattle.std.specs.Prelude.{◌≡◌, ◌<◌, ◌≤◌, ℕ, List, [], ◌++◌, length, take, drop, Result, Ok, Err, Bool, true, false, Option, Some, None}
+use denote.RawPtr.{Ptr}
 use Rattle.sha2.specs.Hashers.{Holds256}
 use Rattle.sha2.specs.Sha256.{sha256}
 use Rattle.sha2.specs.declared.Sha256.{Sha256}
+use Rattle.guestmem.specs.Memory.{Memory}
 use Rattle.guestmem.specs.Number.{IsBytes}
 use Rattle.wire.specs.Header.{Begins, header, Opening}
 use Rattle.wire.specs.Records.{Record, commit, device, spelled_record}
@@ -89,9 +91,32 @@ has_failed (stages.Records i) = false
 has_failed (stages.Ended i) = false
 has_failed stages.Failed = true
 
+-- Where a RAM lies that stands aside, if that is memory of the caller.
+abbrev pub place_aside : Option Memory → Option Ptr
+place_aside None = None
+place_aside (Some ram) = ram.place
+
+-- The same of the RAM of a receiver: what it was given stands aside until the header is read, and whatever it has does after a
+-- refusal.
+abbrev pub place_in : Option Memory → Stage → Option Ptr
+place_in aside stages.Head = place_aside aside
+place_in aside (stages.Records i) = i.ram.place
+place_in aside (stages.Ended i) = i.ram.place
+place_in aside stages.Failed = place_aside aside
+
+-- After a look at bytes, and after a piece.
+abbrev pub place_after : Option Memory → Result (ℕ × Stage) RecvError → Option Ptr
+place_after aside (Ok next) = place_in aside next.1
+place_after aside (Err e) = place_aside aside
+
+abbrev pub place_took : Option Memory → Result Stage RecvError → Option Ptr
+place_took aside (Ok stage) = place_in aside stage
+place_took aside (Err e) = place_aside aside
+
 -- What contracts see of a receiver: the sizes of its disks and what else is known of them, the number of rounds that ended, and
 -- whether there was a refusal; its disks, how far it has come, the digest of the bytes that were worked off, and the bytes that it
--- holds: those that were fed since the end of the last whole header or record.
+-- holds: those that were fed since the end of the last whole header or record; and where its RAM lies, if that is memory of the
+-- caller.
 pub record Received : Type 0 where
   pub sizes : List ℕ
   pub marks : List Marks
@@ -101,9 +126,10 @@ pub record Received : Type 0 where
   pub stage : Stage
   pub digest : Sha256
   pub held : List ℕ
+  pub place : Option Ptr
 
-abbrev pub received_by : List DiskState → Stage → Sha256 → List ℕ → Received
-received_by disks stage digest held = record { sizes = sizes_in disks; marks = all_marks_in disks; rounds = rounds_in stage; failed = has_failed stage; disks = disks; stage = stage; digest = digest; held = held }
+abbrev pub received_by : Option Ptr → List DiskState → Stage → Sha256 → List ℕ → Received
+received_by place disks stage digest held = record { sizes = sizes_in disks; marks = all_marks_in disks; rounds = rounds_in stage; failed = has_failed stage; disks = disks; stage = stage; digest = digest; held = held; place = place }
 
 -- The receiver was fed these bytes, and there was no refusal.
 pub record HasBeenFed (r : Received) (b : List ℕ) : Type 0 where

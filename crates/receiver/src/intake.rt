@@ -119,7 +119,8 @@ fn take_page(intake: &mut Intake, number: u32, bytes: &[u8])
     requires within { 4096 * number + 4096 ≤ length intake.old.ram.bytes }
     requires marked { number < length intake.old.named }
     requires spells { HasSpelling (page number bytes.now) }
-    ensures { (ds : List DiskState) (front : List ℕ) (opening : Opening) (before : List records.Record) → HasRead ds opening before intake.old front → devices_in before ≡ 0 → IsOf opening.version (page number bytes.now) → HasRead ds opening (before ++ page number bytes.now ∷ []) intake.new (front ++ spelled_record (page number bytes.now)) }
+    ensures taken { (ds : List DiskState) (front : List ℕ) (opening : Opening) (before : List records.Record) → HasRead ds opening before intake.old front → devices_in before ≡ 0 → IsOf opening.version (page number bytes.now) → HasRead ds opening (before ++ page number bytes.now ∷ []) intake.new (front ++ spelled_record (page number bytes.now)) }
+    ensures place { intake.new.ram.place ≡ intake.old.ram.place }
 {
     intake.ram.recall();
     intake.ram.put_page(number as u64, bytes);
@@ -130,7 +131,8 @@ fn take_page(intake: &mut Intake, number: u32, bytes: &[u8])
 fn take_zero_page(intake: &mut Intake, number: u32)
     requires within { 4096 * number + 4096 ≤ length intake.old.ram.bytes }
     requires marked { number < length intake.old.named }
-    ensures { (ds : List DiskState) (front : List ℕ) (opening : Opening) (before : List records.Record) → HasRead ds opening before intake.old front → devices_in before ≡ 0 → opening.version ≡ 2 → HasRead ds opening (before ++ zero_page number ∷ []) intake.new (front ++ spelled_record (zero_page number)) }
+    ensures taken { (ds : List DiskState) (front : List ℕ) (opening : Opening) (before : List records.Record) → HasRead ds opening before intake.old front → devices_in before ≡ 0 → opening.version ≡ 2 → HasRead ds opening (before ++ zero_page number ∷ []) intake.new (front ++ spelled_record (zero_page number)) }
+    ensures place { intake.new.ram.place ≡ intake.old.ram.place }
 {
     intake.ram.recall();
     intake.ram.clear_page(number as u64);
@@ -187,8 +189,9 @@ fn find_sector<D: Disk>(intake: &Intake, disks: &[D], dev: u8, number: u32) -> O
 /// Marks a sector as bad, as its record says.
 fn take_bad(intake: &mut Intake, spot: Spot, dev: u8, number: u32)
     requires { HasMarks intake.old number spot }
-    ensures { (ds : List DiskState) (front : List ℕ) (opening : Opening) (before : List records.Record) → HasRead ds opening before intake.old front → devices_in before ≡ 0 → IsSpotOf opening dev number spot
+    ensures taken { (ds : List DiskState) (front : List ℕ) (opening : Opening) (before : List records.Record) → HasRead ds opening before intake.old front → devices_in before ≡ 0 → IsSpotOf opening dev number spot
         → HasRead ds opening (before ++ sector dev number None ∷ []) intake.new (front ++ spelled_record (sector dev number None)) }
+    ensures place { intake.new.ram.place ≡ intake.old.ram.place }
 {
     intake.bad[spot.disk].insert(number as u64);
     intake.named.insert(spot.item);
@@ -208,6 +211,7 @@ fn take_good<D: Disk>(
     ensures memory { IfErr result (λ e. e ≢ errors.NoMemory) }
     ensures taking { (front : List ℕ) (opening : Opening) (before : List records.Record) → HasRead (map D.state disks.old) opening before intake.old front → devices_in before ≡ 0 → IsSpotOf opening dev number spot
         → Taking (map D.state disks.old) (map D.state disks.new) opening before intake.new front (sector dev number (Some bytes.now)) result }
+    ensures place { intake.new.ram.place ≡ intake.old.ram.place }
 {
     match disks[spot.disk].write(number as u64, bytes) {
         Ok(()) => {}
@@ -231,6 +235,7 @@ fn take_sector<D: Disk>(
     ensures memory { IfErr result (λ e. e ≢ errors.NoMemory) }
     ensures taking { (front : List ℕ) (opening : Opening) (before : List records.Record) → HasRead (map D.state disks.old) opening before intake.old front → devices_in before ≡ 0 → IsItemIn (layout_in opening) (items.sector dev number)
         → Taking (map D.state disks.old) (map D.state disks.new) opening before intake.new front (record_with (heads.Sector dev number is_good) body.now) result }
+    ensures place { intake.new.ram.place ≡ intake.old.ram.place }
 {
     let Some(spot) = find_sector(intake, disks, dev, number) else {
         return Err(RecvError::BadSector);
@@ -252,8 +257,9 @@ fn nth(shapes: &[Shape], i: usize) -> Shape
 /// Takes the record of a device.
 fn take_device(alloc: Global, intake: &mut Intake, number: u8, body: &[u8]) -> Result<(), RecvError>
     requires { number < length intake.old.shapes.items }
-    ensures { (ds : List DiskState) (front : List ℕ) (opening : Opening) (before : List records.Record) → HasRead ds opening before intake.old front → AreNamed (layout_in opening) before → IsNextHead before number (length body.now)
+    ensures taken { (ds : List DiskState) (front : List ℕ) (opening : Opening) (before : List records.Record) → HasRead ds opening before intake.old front → AreNamed (layout_in opening) before → IsNextHead before number (length body.now)
         → TakingDevice ds opening before intake.new front number body.now result }
+    ensures place { intake.new.ram.place ≡ intake.old.ram.place }
 {
     let shape = nth(&intake.shapes, number as usize);
     let ram_len = intake.ram.len();
@@ -344,6 +350,7 @@ fn take_entry<D: Disk>(
     ensures memory { IfErr result (λ e. e ≡ errors.NoMemory → IsDeviceHead head) }
     ensures entered { (front tail more : List ℕ) (opening : Opening) (before : List records.Record) → HasRead (map D.state disks.old) opening before intake.old front
         → OpensHead opening before tail head (body.now ++ more) → MayHead opening before head → Entered (map D.state disks.old) (map D.state disks.new) opening before intake.new front tail head body.now result }
+    ensures place { intake.new.ram.place ≡ intake.old.ram.place }
 {
     match head {
         RecordHead::Page { number } => {
@@ -387,6 +394,7 @@ fn take_record<D: Disk>(
     ensures memory { IfErr result (λ e. e ≡ errors.NoMemory → IsDeviceHead head) }
     ensures after { (front tail more : List ℕ) (opening : Opening) (before : List records.Record) → Holds256 taken.old front → HasRead (map D.state disks.old) opening before intake.old front
         → OpensHead opening before tail head (body.now ++ more) → MayHead opening before head → After (map D.state disks.old) (map D.state disks.new) opening before intake.new front tail result }
+    ensures place { intake.new.ram.place ≡ intake.old.ram.place }
 {
     match head {
         RecordHead::Commit => {
@@ -417,6 +425,7 @@ fn take_part<D: Disk>(
     ensures memory { result ≡ Err errors.NoMemory → BeginsDevice bytes.now }
     ensures after { (front : List ℕ) (opening : Opening) (before : List records.Record) → Holds256 taken.old front → HasRead (map D.state disks.old) opening before intake.old front
         → After (map D.state disks.old) (map D.state disks.new) opening before intake.new front bytes.now result }
+    ensures place { intake.new.ram.place ≡ intake.old.ram.place }
 {
     let Some((tag, _)) = bytes.split_first() else {
         return Ok(Part::Wait);
@@ -456,6 +465,7 @@ pub fn work_off<D: Disk>(
         → result ≡ Err errors.NoMemory → HasDevice (sizes_of D.state disks.old) (front ++ bytes.now) (length front) }
     ensures worked { (front : List ℕ) (opening : Opening) (before : List records.Record) → Holds256 taken.old front → HasRead (map D.state disks.old) opening before intake.old front
         → Worked (map D.state disks.old) (map D.state disks.new) opening intake.new taken.new front bytes.now result }
+    ensures place { intake.new.ram.place ≡ intake.old.ram.place }
 {
     let mut at = 0;
     while at < bytes.len() {

@@ -4,13 +4,15 @@ ghost use Rattle.std.specs.Prelude.{◌≡◌, All, map, true};
 ghost use Rattle.wire.specs.Header.{Opening};
 ghost use Rattle.blk.specs.Disk.{AreSectors};
 ghost use Rattle.receiver.specs.Disks.{disk_marks_of, sizes_of};
-ghost use Rattle.receiver.specs.Receiving.{has_failed, rounds_in};
+ghost use Rattle.receiver.specs.Receiving.{has_failed, place_aside, rounds_in};
 
 use crate::intake::Intake;
 use crate::recv_error::RecvError;
 use crate::stage::Stage;
+use crate::stepping::fail;
 use crate::taking::take_piece;
 use crate::waiting::lacking_of;
+use guestmem::{ArrivingRam, Ram};
 use machine::{Disk, Machine};
 use sha2::{Digest, Sha256};
 use std::alloc::Global;
@@ -29,22 +31,25 @@ pub struct Receiver<D: Disk> {
 
     /// How many bytes the record at the front of `held` still lacks, if its head is held (`lacking_of`).
     lacking: usize,
+
+    /// The RAM that stands aside: that which it was given, until the header is read, and any after a refusal.
+    aside: Option<ArrivingRam>,
 }
 
 impl<D: Disk> Model for Receiver<D> {
     ghost use Rattle.std.specs.Prelude.{map};
     ghost use Rattle.std.specs.Vec.{vec_capacity};
-    ghost use Rattle.receiver.specs.Receiving.{IsReceiver, Received, received_by};
+    ghost use Rattle.receiver.specs.Receiving.{IsReceiver, Received, place_in, received_by};
 
     ghost Value = { Received };
 
-    ghost view = { λ r. received_by (map D.state r.disks.items) r.stage r.taken r.held.items };
+    ghost view = { λ r. received_by (place_in r.aside r.stage) (map D.state r.disks.items) r.stage r.taken r.held.items };
 
     ghost invariant = { λ r. IsReceiver (map D.state r.disks.items) r.taken r.held.items (vec_capacity r.held) r.lacking r.stage };
 }
 
 impl<D: Disk + Drop> Receiver<D> {
-    ghost use Rattle.std.specs.Prelude.{◌≡◌, ◌++◌, ◌+◌, [], ℕ, List, ◌≤◌, IfOk, IfErr, OnOk, OnErr, Err, length, true, false};
+    ghost use Rattle.std.specs.Prelude.{◌≡◌, ◌++◌, ◌+◌, [], ℕ, List, ◌≤◌, ◌≢◌, IfOk, IfErr, IfSome, OnOk, OnErr, Err, None, length, true, false};
     ghost use Rattle.machine.specs.First.{dealt_marks};
     ghost use Rattle.machine.specs.Seen.{all_marks, state_of};
     ghost use Rattle.machine.specs.Shapes.{disk_sizes};
@@ -61,6 +66,7 @@ impl<D: Disk + Drop> Receiver<D> {
         ensures sizes { result.sizes ≡ sizes_of D.state disks.items }
         ensures marks { result.marks ≡ disk_marks_of D.state disks.items }
         ensures disks { result.disks ≡ map D.state disks.items }
+        ensures place { result.place ≡ None }
     {
         Receiver {
             alloc,
@@ -69,6 +75,27 @@ impl<D: Disk + Drop> Receiver<D> {
             taken: Sha256::new(),
             stage: Stage::Head,
             lacking: 0,
+            aside: None,
+        }
+    }
+
+    /// As `new`, with the RAM that the machine is to have: its pages are written straight into it. Its bytes may be anything. The
+    /// stream of a machine of another number of pages is refused with `NoMemory`, before a page is written.
+    pub fn new_in(alloc: Global, disks: Vec<D>, ram: Ram) -> Receiver<D>
+        ensures fed { HasBeenFed result [] }
+        ensures sizes { result.sizes ≡ sizes_of D.state disks.items }
+        ensures marks { result.marks ≡ disk_marks_of D.state disks.items }
+        ensures disks { result.disks ≡ map D.state disks.items }
+        ensures place { result.place ≡ ram.place }
+    {
+        Receiver {
+            alloc,
+            disks,
+            held: Vec::new(alloc),
+            taken: Sha256::new(),
+            stage: Stage::Head,
+            lacking: 0,
+            aside: Some(ArrivingRam::over(ram)),
         }
     }
 
@@ -81,6 +108,7 @@ impl<D: Disk + Drop> Receiver<D> {
         ensures quiet { OnOk result ((b : List ℕ) → HasBeenFed self.old b → NoFault self.old.sizes (b ++ piece.now)) }
         ensures told { IfErr result (λ e. (b : List ℕ) → HasBeenFed self.old b → TellsNow self.old.sizes b piece.now e) }
         ensures failed { OnErr result (self.new.failed ≡ true) }
+        ensures place { self.new.place ≡ self.old.place }
         ensures already { self.old.failed ≡ true → result ≡ Err errors.AlreadyFailed }
         ensures memory { result ≡ Err errors.NoMemory → (b : List ℕ) → HasBeenFed self.old b → (opening : Opening) (rest : List ℕ) → Begins b opening rest
             → (from : ℕ) → from + length self.old.held ≡ length b → HasDevice self.old.sizes (b ++ piece.now) from }
@@ -103,6 +131,7 @@ impl<D: Disk + Drop> Receiver<D> {
         ensures quiet { OnOk result ((b : List ℕ) → HasBeenFed self.old b → NoFault self.old.sizes (b ++ piece.now)) }
         ensures told { IfErr result (λ e. (b : List ℕ) → HasBeenFed self.old b → TellsNow self.old.sizes b piece.now e) }
         ensures failed { OnErr result (self.new.failed ≡ true) }
+        ensures place { self.new.place ≡ self.old.place }
         ensures already { self.old.failed ≡ true → result ≡ Err errors.AlreadyFailed }
         ensures memory { result ≡ Err errors.NoMemory → (b : List ℕ) → HasBeenFed self.old b → (opening : Opening) (rest : List ℕ) → Begins b opening rest
             → (from : ℕ) → from + length self.old.held ≡ length b → HasDevice self.old.sizes (b ++ piece.now) from }
@@ -117,12 +146,13 @@ impl<D: Disk + Drop> Receiver<D> {
         let room = RECORD_MAX - self.held.len();
         if self.held.reserve_exact(room).is_err() {
             self.held.clear();
-            self.stage = Stage::Failed;
+            fail(&mut self.stage, &mut self.aside);
             return Err(RecvError::NoMemory);
         }
         let stage = mem::replace(&mut self.stage, Stage::Failed);
         match take_piece(
             self.alloc,
+            &mut self.aside,
             &mut self.disks,
             &mut self.held,
             &mut self.taken,
@@ -158,7 +188,7 @@ impl<D: Disk + Drop> Receiver<D> {
         rounds_of(&self.stage)
     }
 
-    /// The machine whose stream was fed. A refusal drops the disks.
+    /// The machine whose stream was fed. A refusal drops the disks, and the RAM.
     ///
     /// An `Ok` says of any disks that the bytes are a whole stream for them: a header for these disks, whole good records that
     /// name every item and have every device, the digest of all of them, and nothing more. `NoMemory` is returned for such
@@ -170,6 +200,7 @@ impl<D: Disk + Drop> Receiver<D> {
         ensures refused { IfErr result (λ e. (b : List ℕ) → HasBeenFed self b → IsFinish b e) }
         ensures whole { OnOk result ((b : List ℕ) → HasBeenFed self b → IsWholeFor self.sizes b) }
         ensures memory { result ≡ Err errors.NoMemory → (b : List ℕ) → HasBeenFed self b → IsWholeFor self.sizes b }
+        ensures place { IfOk result (λ m. m.memory.place ≡ self.place) }
         ensures already { self.failed ≡ true → result ≡ Err errors.AlreadyFailed }
     {
         match self.finish_or_back() {
@@ -178,7 +209,7 @@ impl<D: Disk + Drop> Receiver<D> {
         }
     }
 
-    /// As `finish`, but a refusal gives a receiver back that takes no more, with the disks.
+    /// As `finish`, but a refusal gives a receiver back that takes no more, with the disks and, unless it is `NoMemory`, the RAM.
     pub fn finish_or_back(self) -> Result<Machine<D>, (RecvError, Receiver<D>)>
         ensures received { IfOk result (λ m. AreHonestDisks self.marks → (b : List ℕ) → HasBeenFed self b → IsStream b (state_of m)) }
         ensures marks { IfOk result (λ m. all_marks m ≡ dealt_marks (shapes_in (state_of m).devices) self.marks) }
@@ -189,6 +220,8 @@ impl<D: Disk + Drop> Receiver<D> {
         ensures already { self.failed ≡ true → IfErr result (λ x. x.0 ≡ errors.AlreadyFailed) }
         ensures goes_on { OnOk result (self.failed ≡ false) }
         ensures back { IfErr result (λ x. IsGivenUp self x.1) }
+        ensures place { IfOk result (λ m. m.memory.place ≡ self.place) }
+        ensures kept { IfErr result (λ x. x.0 ≢ errors.NoMemory → x.1.place ≡ self.place) }
     {
         let Receiver {
             alloc,
@@ -197,6 +230,7 @@ impl<D: Disk + Drop> Receiver<D> {
             taken: _,
             stage,
             lacking: _,
+            aside,
         } = self;
         recall_disks(&disks);
         match stage {
@@ -215,12 +249,15 @@ impl<D: Disk + Drop> Receiver<D> {
                 let ram = ram.into_ram();
                 match Machine::restore_or_back(alloc, ram, shapes, devices, disks, bad) {
                     Ok(machine) => Ok(machine),
-                    Err(disks) => Err((RecvError::NoMemory, given_up(alloc, disks))),
+                    Err(disks) => Err((RecvError::NoMemory, given_up(alloc, disks, None))),
                 }
             }
-            Stage::Failed => Err((RecvError::AlreadyFailed, given_up(alloc, disks))),
-            Stage::Records(_) => Err((RecvError::Truncated, given_up(alloc, disks))),
-            Stage::Head => Err((RecvError::Truncated, given_up(alloc, disks))),
+            Stage::Failed => Err((RecvError::AlreadyFailed, given_up(alloc, disks, aside))),
+            Stage::Records(intake) => Err((
+                RecvError::Truncated,
+                given_up(alloc, disks, Some(intake.ram)),
+            )),
+            Stage::Head => Err((RecvError::Truncated, given_up(alloc, disks, aside))),
         }
     }
 
@@ -243,17 +280,43 @@ impl<D: Disk + Drop> Receiver<D> {
             taken: _,
             stage: _,
             lacking: _,
+            aside: _,
         } = self;
         disks
     }
+
+    /// The disks, and the RAM that it was given or has taken for itself. What it holds of a stream that is not whole is some of its
+    /// pages.
+    pub fn into_parts(self) -> (Vec<D>, Option<Ram>)
+        ensures disks { map D.state result.0.items ≡ self.disks }
+        ensures sizes { sizes_of D.state result.0.items ≡ self.sizes }
+        ensures ram { IfSome result.1 (λ ram. ram.place ≡ self.place) }
+        ensures none { result.1 ≡ None → self.place ≡ None }
+    {
+        let Receiver {
+            alloc: _,
+            disks,
+            held: _,
+            taken: _,
+            mut stage,
+            lacking: _,
+            mut aside,
+        } = self;
+        fail(&mut stage, &mut aside);
+        match aside {
+            Some(ram) => (disks, Some(ram.into_ram())),
+            None => (disks, None),
+        }
+    }
 }
 
-/// A receiver that was refused, with these disks. It takes no memory.
-fn given_up<D: Disk>(alloc: Global, disks: Vec<D>) -> Receiver<D>
+/// A receiver that was refused, with these disks, and this RAM aside. It takes no memory.
+fn given_up<D: Disk>(alloc: Global, disks: Vec<D>, aside: Option<ArrivingRam>) -> Receiver<D>
     ensures failed { result.failed ≡ true }
     ensures disks { result.disks ≡ map D.state disks.items }
     ensures sizes { result.sizes ≡ sizes_of D.state disks.items }
     ensures marks { result.marks ≡ disk_marks_of D.state disks.items }
+    ensures place { result.place ≡ place_aside aside }
 {
     Receiver {
         alloc,
@@ -262,6 +325,7 @@ fn given_up<D: Disk>(alloc: Global, disks: Vec<D>) -> Receiver<D>
         taken: Sha256::new(),
         stage: Stage::Failed,
         lacking: 0,
+        aside,
     }
 }
 

@@ -1,8 +1,9 @@
 //! From one stage to the next.
 
-ghost use Rattle.std.specs.Prelude.{◌≡◌, ◌≤◌, ◌+◌, ◌++◌, [], ℕ, List, Err, IfOk, false, map, replicate, length};
+ghost use Rattle.std.specs.Prelude.{◌≡◌, ◌≤◌, ◌+◌, ◌++◌, ◌*◌, [], ℕ, List, Err, IfErr, IfOk, true, false, map, replicate, length};
 ghost use Rattle.sha2.specs.Hashers.{Holds256};
 ghost use Rattle.blk.specs.Disk.{DiskState};
+ghost use Rattle.guestmem.specs.declared.limits.TheConstants.{PAGE_SIZE, PAGES_MAX};
 ghost use Rattle.wire.specs.Header.{header, Begins, IsHeader, Opening};
 ghost use Rattle.wire.specs.HeaderReading.{said};
 ghost use Rattle.wire.specs.Records as records;
@@ -12,17 +13,18 @@ ghost use Rattle.machine.specs.Shapes.{disk_sizes};
 ghost use Rattle.receiver.specs.Disks.{sizes_in, sizes_of};
 ghost use Rattle.receiver.specs.Fed.{HasRead};
 ghost use Rattle.receiver.specs.declared.recv_error.RecvError.TheVariants as errors;
-ghost use Rattle.receiver.specs.Receiving.{HasDevice, IsKnown, IsPastHead, Stepped};
+ghost use Rattle.receiver.specs.Receiving.{HasDevice, IsKnown, IsPastHead, Stepped, has_failed, place_after, place_aside, place_in};
 
 use crate::heading::read_heading;
 use crate::intake::{Intake, work_off};
 use crate::recv_error::RecvError;
 use crate::stage::Stage;
 use dirtylog::BitSet;
-use guestmem::{ArrivingRam, NoMemory};
+use guestmem::{ArrivingRam, NoMemory, PAGE_SIZE};
 use machine::{Disk, Shape, are_disks_of};
 use sha2::{Digest, Sha256};
 use std::alloc::Global;
+use std::mem;
 use wire::Header;
 
 /// The item number of the first sector of each device, and the count of items.
@@ -51,10 +53,71 @@ fn new_marks<D: Disk>(alloc: Global, disks: &[D]) -> Result<Vec<BitSet>, NoMemor
     Ok(bad)
 }
 
-/// An intake that has taken a header.
-fn new_intake<D: Disk>(alloc: Global, disks: &[D], heading: Header) -> Result<Intake, NoMemory>
+/// RAM of so many pages: the one that stands aside, if it has so many, and a new one, if there is none. Its only error is out of
+/// memory, also in the RAM that stands aside, which stays there.
+fn ram_of(
+    alloc: Global,
+    aside: &mut Option<ArrivingRam>,
+    pages: u32,
+) -> Result<ArrivingRam, NoMemory>
+    requires some { 1 ≤ pages }
+    requires few { pages ≤ PAGES_MAX }
+    ensures size { IfOk result (λ ram. length ram.bytes ≡ PAGE_SIZE * pages) }
+    ensures place { IfOk result (λ ram. ram.place ≡ place_aside aside.old) }
+    ensures kept { IfErr result (λ e. aside.new ≡ aside.old) }
+{
+    match mem::replace(aside, None) {
+        None => Ok(ArrivingRam::new(alloc, pages)?),
+        Some(ram) => {
+            if ram.len() != pages as u64 * PAGE_SIZE as u64 {
+                *aside = Some(ram);
+                return Err(NoMemory);
+            }
+            Ok(ram)
+        }
+    }
+}
+
+/// Gives up what was taken in: its RAM stands aside.
+fn give_up(intake: Intake, aside: &mut Option<ArrivingRam>)
+    ensures { place_aside aside.new ≡ intake.ram.place }
+{
+    let Intake {
+        version: _,
+        shapes: _,
+        ram,
+        named: _,
+        firsts: _,
+        bad: _,
+        rounds: _,
+        devices: _,
+    } = intake;
+    *aside = Some(ram);
+}
+
+/// Takes no more: the RAM stands aside.
+pub fn fail(stage: &mut Stage, aside: &mut Option<ArrivingRam>)
+    ensures failed { has_failed stage.new ≡ true }
+    ensures place { place_in aside.new stage.new ≡ place_in aside.old stage.old }
+{
+    match mem::replace(stage, Stage::Failed) {
+        Stage::Records(intake) => give_up(intake, aside),
+        Stage::Ended(intake) => give_up(intake, aside),
+        Stage::Head | Stage::Failed => {}
+    }
+}
+
+/// An intake that has taken a header. An error leaves the RAM that stands aside where it is.
+fn new_intake<D: Disk>(
+    alloc: Global,
+    aside: &mut Option<ArrivingRam>,
+    disks: &[D],
+    heading: Header,
+) -> Result<Intake, NoMemory>
     requires { IsHeader (said heading) }
-    ensures { IfOk result (λ i. (bytes rest : List ℕ) → Begins bytes (said heading) rest → sizes_of D.state disks.now ≡ disk_sizes heading.shapes.items → HasRead (map D.state disks.now) (said heading) [] i (header (said heading))) }
+    ensures place { IfOk result (λ i. i.ram.place ≡ place_aside aside.old) }
+    ensures kept { IfErr result (λ e. aside.new ≡ aside.old) }
+    ensures read { IfOk result (λ i. (bytes rest : List ℕ) → Begins bytes (said heading) rest → sizes_of D.state disks.now ≡ disk_sizes heading.shapes.items → HasRead (map D.state disks.now) (said heading) [] i (header (said heading))) }
 {
     let Header {
         version,
@@ -64,9 +127,9 @@ fn new_intake<D: Disk>(alloc: Global, disks: &[D], heading: Header) -> Result<In
     } = heading;
     let (firsts, count) = number_items(alloc, pages, &shapes)?;
     let bad = new_marks(alloc, disks)?;
-    let ram = ArrivingRam::new(alloc, pages)?;
     let named = BitSet::new(alloc, count as u64)?;
     let devices = Vec::new(alloc);
+    let ram = ram_of(alloc, aside, pages)?;
     Ok(Intake {
         version,
         shapes,
@@ -82,6 +145,7 @@ fn new_intake<D: Disk>(alloc: Global, disks: &[D], heading: Header) -> Result<In
 /// Takes the complete records at the front of the bytes; returns how many bytes they have.
 fn advance<D: Disk>(
     alloc: Global,
+    aside: &mut Option<ArrivingRam>,
     intake: Intake,
     disks: &mut [D],
     taken: &mut Sha256,
@@ -90,6 +154,7 @@ fn advance<D: Disk>(
     ensures room { IfOk result (λ x. x.0 ≤ length bytes.now) }
     ensures few { IfOk result (λ x. length bytes.now ≤ 131077 + x.0) }
     ensures past { IfOk result (λ x. IsPastHead x.1) }
+    ensures place { place_after aside.new result ≡ intake.ram.place }
     ensures memory { (front : List ℕ) (opening : Opening) (before : List records.Record) → Holds256 taken.old front → HasRead (map D.state disks.old) opening before intake front
         → result ≡ Err errors.NoMemory → HasDevice (sizes_of D.state disks.old) (front ++ bytes.now) (length front) }
     ensures stepped { (front : List ℕ) (opening : Opening) (before : List records.Record) → Holds256 taken.old front → HasRead (map D.state disks.old) opening before intake front → Stepped (map D.state disks.old) (map D.state disks.new) taken.new front bytes.now result }
@@ -98,19 +163,24 @@ fn advance<D: Disk>(
     match work_off(alloc, &mut intake, disks, taken, bytes) {
         Ok((at, true)) => Ok((at, Stage::Ended(intake))),
         Ok((at, false)) => Ok((at, Stage::Records(intake))),
-        Err(error) => Err(error),
+        Err(error) => {
+            give_up(intake, aside);
+            Err(error)
+        }
     }
 }
 
 /// Reads the header, if it is complete, and the complete records after it; returns how many bytes they have.
 fn begin<D: Disk>(
     alloc: Global,
+    aside: &mut Option<ArrivingRam>,
     disks: &mut [D],
     taken: &mut Sha256,
     bytes: &[u8],
 ) -> Result<(usize, Stage), RecvError>
     ensures room { IfOk result (λ x. x.0 ≤ length bytes.now) }
     ensures few { IfOk result (λ x. length bytes.now ≤ 131077 + x.0) }
+    ensures place { place_after aside.new result ≡ place_aside aside.old }
     ensures stepped { Holds256 taken.old [] → Stepped (map D.state disks.old) (map D.state disks.new) taken.new [] bytes.now result }
 {
     let heading = match read_heading(alloc, bytes) {
@@ -122,12 +192,12 @@ fn begin<D: Disk>(
         return Err(RecvError::ShapeMismatch);
     }
     let len = heading.len;
-    let Ok(intake) = new_intake(alloc, disks, heading) else {
+    let Ok(intake) = new_intake(alloc, aside, disks, heading) else {
         return Err(RecvError::NoMemory);
     };
     let (header, rest) = bytes.split_at(len);
     taken.update(header);
-    match advance(alloc, intake, disks, taken, rest) {
+    match advance(alloc, aside, intake, disks, taken, rest) {
         Ok((at, stage)) => Ok((len + at, stage)),
         Err(error) => Err(error),
     }
@@ -136,6 +206,7 @@ fn begin<D: Disk>(
 /// Takes what is complete at the front of the bytes, which follow those that were worked off; returns how many bytes it has.
 pub fn step<D: Disk>(
     alloc: Global,
+    aside: &mut Option<ArrivingRam>,
     disks: &mut [D],
     taken: &mut Sha256,
     bytes: &[u8],
@@ -144,14 +215,16 @@ pub fn step<D: Disk>(
     ensures room { IfOk result (λ x. x.0 ≤ length bytes.now) }
     ensures few { IfOk result (λ x. length bytes.now ≤ 131077 + x.0) }
     ensures past { IsPastHead stage → IfOk result (λ x. IsPastHead x.1) }
+    ensures place { place_after aside.new result ≡ place_in aside.old stage }
     ensures memory { (front held : List ℕ) → IsKnown (map D.state disks.old) taken.old front held stage → IsPastHead stage → result ≡ Err errors.NoMemory → HasDevice (sizes_of D.state disks.old) (front ++ bytes.now) (length front) }
     ensures stepped { (front held : List ℕ) → IsKnown (map D.state disks.old) taken.old front held stage → Stepped (map D.state disks.old) (map D.state disks.new) taken.new front bytes.now result }
 {
     match stage {
-        Stage::Head => begin(alloc, disks, taken, bytes),
-        Stage::Records(intake) => advance(alloc, intake, disks, taken, bytes),
+        Stage::Head => begin(alloc, aside, disks, taken, bytes),
+        Stage::Records(intake) => advance(alloc, aside, intake, disks, taken, bytes),
         Stage::Ended(intake) => {
             if !bytes.is_empty() {
+                give_up(intake, aside);
                 return Err(RecvError::Trailing);
             }
             Ok((0, Stage::Ended(intake)))

@@ -2,13 +2,14 @@
 
 ghost use Rattle.std.specs.Prelude.{◌≡◌, ◌++◌, ◌+◌, ◌≤◌, ◌<◌, [], ℕ, List, Err, IfOk, OnOk, drop, length, map};
 ghost use Rattle.std.specs.Vec.{vec_capacity};
-ghost use Rattle.receiver.specs.Receiving.{HasDevice, IsKnown, IsPastHead, Took};
+ghost use Rattle.receiver.specs.Receiving.{HasDevice, IsKnown, IsPastHead, Took, place_in, place_took};
 ghost use Rattle.receiver.specs.Disks.{sizes_of};
 ghost use Rattle.receiver.specs.declared.recv_error.RecvError.TheVariants as errors;
 
 use crate::recv_error::RecvError;
 use crate::stage::Stage;
 use crate::stepping::step;
+use guestmem::ArrivingRam;
 use machine::Disk;
 use sha2::Sha256;
 use std::alloc::Global;
@@ -31,6 +32,7 @@ fn drop_front(bytes: &mut Vec<u8>, count: usize)
 /// Takes bytes after which nothing is held. Those of complete records are not copied into the buffer.
 fn take_apart<D: Disk>(
     alloc: Global,
+    aside: &mut Option<ArrivingRam>,
     disks: &mut [D],
     held: &mut Vec<u8>,
     taken: &mut Sha256,
@@ -43,10 +45,11 @@ fn take_apart<D: Disk>(
     ensures capacity { vec_capacity held.old ≤ vec_capacity held.new }
     ensures shorter { OnOk result (length held.new.items ≤ length held.old.items + length bytes.now) }
     ensures past { IsPastHead stage → IfOk result (λ next. IsPastHead next) }
+    ensures place { place_took aside.new result ≡ place_in aside.old stage }
     ensures memory { (front : List ℕ) → IsKnown (map D.state disks.old) taken.old front held.old.items stage → IsPastHead stage → result ≡ Err errors.NoMemory → HasDevice (sizes_of D.state disks.old) (front ++ (held.old.items ++ bytes.now)) (length front) }
     ensures took { (front : List ℕ) → IsKnown (map D.state disks.old) taken.old front held.old.items stage → Took (map D.state disks.old) (map D.state disks.new) taken.new (front ++ (held.old.items ++ bytes.now)) held.new.items result }
 {
-    match step(alloc, disks, taken, bytes, stage) {
+    match step(alloc, aside, disks, taken, bytes, stage) {
         Ok((count, stage)) => {
             let (_, rest) = bytes.split_at(count);
             held.extend_from_slice(rest).unwrap();
@@ -59,6 +62,7 @@ fn take_apart<D: Disk>(
 /// Takes bytes that follow those that are held.
 fn take_behind<D: Disk>(
     alloc: Global,
+    aside: &mut Option<ArrivingRam>,
     disks: &mut [D],
     held: &mut Vec<u8>,
     taken: &mut Sha256,
@@ -70,11 +74,12 @@ fn take_behind<D: Disk>(
     ensures capacity { vec_capacity held.old ≤ vec_capacity held.new }
     ensures shorter { OnOk result (length held.new.items ≤ length held.old.items + length bytes.now) }
     ensures past { IsPastHead stage → IfOk result (λ next. IsPastHead next) }
+    ensures place { place_took aside.new result ≡ place_in aside.old stage }
     ensures memory { (front : List ℕ) → IsKnown (map D.state disks.old) taken.old front held.old.items stage → IsPastHead stage → result ≡ Err errors.NoMemory → HasDevice (sizes_of D.state disks.old) (front ++ (held.old.items ++ bytes.now)) (length front) }
     ensures took { (front : List ℕ) → IsKnown (map D.state disks.old) taken.old front held.old.items stage → Took (map D.state disks.old) (map D.state disks.new) taken.new (front ++ (held.old.items ++ bytes.now)) held.new.items result }
 {
     held.extend_from_slice(bytes).unwrap();
-    match step(alloc, disks, taken, held, stage) {
+    match step(alloc, aside, disks, taken, held, stage) {
         Ok((count, stage)) => {
             drop_front(held, count);
             Ok(stage)
@@ -116,6 +121,7 @@ fn next_len(held: &[u8], len: usize) -> usize
 /// Takes the next piece.
 pub fn take_piece<D: Disk>(
     alloc: Global,
+    aside: &mut Option<ArrivingRam>,
     disks: &mut [D],
     held: &mut Vec<u8>,
     taken: &mut Sha256,
@@ -128,6 +134,7 @@ pub fn take_piece<D: Disk>(
     ensures capacity { vec_capacity held.old ≤ vec_capacity held.new }
     ensures shorter { OnOk result (length held.new.items ≤ length held.old.items + length piece.now) }
     ensures past { IsPastHead stage → IfOk result (λ next. IsPastHead next) }
+    ensures place { place_took aside.new result ≡ place_in aside.old stage }
     ensures memory { (front : List ℕ) → IsKnown (map D.state disks.old) taken.old front held.old.items stage → IsPastHead stage → result ≡ Err errors.NoMemory → HasDevice (sizes_of D.state disks.old) (front ++ (held.old.items ++ piece.now)) (length front) }
     ensures took { (front : List ℕ) → IsKnown (map D.state disks.old) taken.old front held.old.items stage → Took (map D.state disks.old) (map D.state disks.new) taken.new (front ++ (held.old.items ++ piece.now)) held.new.items result }
 {
@@ -135,7 +142,7 @@ pub fn take_piece<D: Disk>(
     let mut rest = piece;
     while !rest.is_empty() {
         let (bytes, after) = rest.split_at(next_len(held, rest.len()));
-        match take_next(alloc, disks, held, taken, stage, bytes) {
+        match take_next(alloc, aside, disks, held, taken, stage, bytes) {
             Ok(next) => stage = next,
             Err(error) => return Err(error),
         }
@@ -147,6 +154,7 @@ pub fn take_piece<D: Disk>(
 /// Takes bytes that fit into the buffer, or any number if nothing is held.
 fn take_next<D: Disk>(
     alloc: Global,
+    aside: &mut Option<ArrivingRam>,
     disks: &mut [D],
     held: &mut Vec<u8>,
     taken: &mut Sha256,
@@ -159,11 +167,12 @@ fn take_next<D: Disk>(
     ensures capacity { vec_capacity held.old ≤ vec_capacity held.new }
     ensures shorter { OnOk result (length held.new.items ≤ length held.old.items + length bytes.now) }
     ensures past { IsPastHead stage → IfOk result (λ next. IsPastHead next) }
+    ensures place { place_took aside.new result ≡ place_in aside.old stage }
     ensures memory { (front : List ℕ) → IsKnown (map D.state disks.old) taken.old front held.old.items stage → IsPastHead stage → result ≡ Err errors.NoMemory → HasDevice (sizes_of D.state disks.old) (front ++ (held.old.items ++ bytes.now)) (length front) }
     ensures took { (front : List ℕ) → IsKnown (map D.state disks.old) taken.old front held.old.items stage → Took (map D.state disks.old) (map D.state disks.new) taken.new (front ++ (held.old.items ++ bytes.now)) held.new.items result }
 {
     if held.is_empty() {
-        return take_apart(alloc, disks, held, taken, stage, bytes);
+        return take_apart(alloc, aside, disks, held, taken, stage, bytes);
     }
-    take_behind(alloc, disks, held, taken, stage, bytes)
+    take_behind(alloc, aside, disks, held, taken, stage, bytes)
 }

@@ -156,7 +156,7 @@ pub length-with_items : (firsts : List ℕ) (s : List Bool) (is : List Item) →
 length-with_items firsts s [] = refl
 length-with_items firsts s (i ∷ is) = length-with_items firsts (set s (number_in firsts i) true) is ∙ length-set s (number_in firsts i) true
 
-guest_free : (p : Phase) (e : Event) → p ≢ phases.Stopped → refusal_for p (Guest e) ≡ None
+pub guest_free : (p : Phase) (e : Event) → p ≢ phases.Stopped → refusal_for p (Guest e) ≡ None
 guest_free phases.Fresh e open_still = refl
 guest_free (phases.Open k) e open_still = refl
 guest_free phases.Stopped e open_still = absurd (open_still refl)

@@ -22,14 +22,14 @@ after_taking d i = record d { set = slice_set d.set (number_in d.firsts.items i)
 pub may_stay : (d : Dirty) (i j : Item) → may_take d i → may_take (after_taking d j) i
 may_stay d i j h = record { first = h.first; place = rw length-set h.place; few = rw length-set h.few }
 
-set_order : (s : List Bool) (i j : ℕ) → set (set s i true) j true ≡ set (set s j true) i true
+pub set_order : (s : List Bool) (i j : ℕ) → set (set s i true) j true ≡ set (set s j true) i true
 set_order [] i j = refl
 set_order (b ∷ s) zero zero = refl
 set_order (b ∷ s) zero (suc j) = refl
 set_order (b ∷ s) (suc i) zero = refl
 set_order (b ∷ s) (suc i) (suc j) = ap (λ t. b ∷ t) (set_order s i j)
 
-set_once : (s : List Bool) (i : ℕ) → set (set s i true) i true ≡ set s i true
+pub set_once : (s : List Bool) (i : ℕ) → set (set s i true) i true ≡ set s i true
 set_once [] i = refl
 set_once (b ∷ s) zero = refl
 set_once (b ∷ s) (suc i) = ap (λ t. b ∷ t) (set_once s i)

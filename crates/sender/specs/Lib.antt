@@ -9,3 +9,4 @@ pub mod HistoryLaws
 pub mod Follows
 pub mod Ran
 pub mod Taking
+pub mod Parked

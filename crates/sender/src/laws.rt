@@ -2,6 +2,7 @@
 
 ghost use Rattle.sender.specs.Follows.{CallsFollow};
 ghost use Rattle.sender.specs.HistoryLaws.{AfterIsRun, FreshIsLast, OneHistory, StaleIsNotFresh, StoppedIsStream};
+ghost use Rattle.sender.specs.Parked.{LiveBackFollows, LiveBackIsServed};
 ghost use Rattle.sender.specs.Taking.{CallsIgnoreTaken, TakenAreWhole, TakenFollow};
 
 /// Whatever happened, an item that is not stale, a page or a sector, is as the last record that names it says.
@@ -48,4 +49,15 @@ pub fn taken_follows_the_history()
 /// Once a stop returned Ok, what was taken, followed by what is left, is a stream of the machine.
 pub fn taken_is_whole()
     ensures { TakenAreWhole }
+{}
+
+/// Where the caller wrote into no page but the named ones, a machine whose RAM is given back is as if the guest had written these
+/// pages by calls of it.
+pub fn live_back_is_served()
+    ensures { LiveBackIsServed }
+{}
+
+/// So its history goes on by these writes, and nothing is written meanwhile.
+pub fn live_back_follows_the_history()
+    ensures { LiveBackFollows }
 {}

@@ -27,6 +27,10 @@
 //!     a set. A bad sector is sent with no call of its disk.
 //! - `remaining` counts both sets in constant time; `machine` lends the machine to be read; `into_parts` and `abort`
 //!   return it.
+//! - `lend` gives the RAM of a machine over memory of the caller to the caller, whose guest may write there, and keeps all else as a
+//!   `LiveParked` (`specs/Parked`), of which no call is made. `LiveParked::give_back` takes the region back with the pages that were
+//!   written: they are dirty. Where the caller wrote into no other page, that is served as the guest's writes of these pages are, and the
+//!   history goes on by them. A page that was written and not named may be missing at the receiver.
 //! - `replay(machine, events, out)` plays a list. By its *history* (`specs/History`, `specs/Ran`), which names no set:
 //!   an item is *stale* if each sending of it, if any, was followed by a touch, and *due* if it was stale as the last
 //!   round began and was not sent since. Every reply may come after those before it, the bytes added are the text of
@@ -46,6 +50,7 @@
 mod dirty;
 mod event;
 pub mod laws;
+mod lending;
 mod live;
 mod measuring;
 mod mig_error;
@@ -56,6 +61,7 @@ mod playing;
 mod saving;
 
 pub use event::{CopyAnswer, End, Item, LiveEvent, LiveReply, Remaining, Stopped};
+pub use lending::LiveParked;
 pub use live::Live;
 pub use measuring::saved_len;
 pub use mig_error::MigError;

@@ -1,22 +1,25 @@
 //! A machine that is migrated while it runs.
 
-ghost use Rattle.std.specs.Prelude.{◌≡◌, ◌≢◌, ◌<◌, ◌^◌, ◌-◌, IfOk, IfErr, Some, [], length};
+ghost use Rattle.std.specs.Prelude.{◌≡◌, ◌≢◌, ◌<◌, ◌^◌, ◌-◌, IfOk, IfErr, None, Some, [], length};
 ghost use Rattle.dirtylog.specs.Members.{HasNone, IsLeastFrom, member_count};
 ghost use Rattle.sha2.specs.Hashers.{Holds256};
 ghost use Rattle.machine.specs.declared.event.Event.TheVariants as events;
 ghost use Rattle.machine.specs.Layout.{layout_of, size_of};
 ghost use Rattle.sender.specs.LiveState.{now, refusal_for};
 ghost use Rattle.sender.specs.Calls.{Serves, begun_reply, copied_reply, ended_reply, guest_reply, stepped_result, stopped_reply};
+ghost use Rattle.sender.specs.Parked.{IsLiveParked};
 ghost use Rattle.sender.specs.Stopping.{Closes, HasNoneUpTo, HasPlaces, SendsAll, SendsItem, lesser, one_more, phase_after};
 
 use crate::dirty::Dirty;
 use crate::event::{CopyAnswer, End, Item, LiveEvent, LiveReply, Remaining, Stopped};
+use crate::lending::LiveParked;
 use crate::mig_error::MigError;
 use crate::numbering::{item_at, number_items, page_count};
 use crate::phase::Phase;
 use crate::saving::{send_item, write_devices, write_end};
 use dirtylog::BitSet;
 use machine::{Disk, Event, Machine, Reply, Stepped};
+use region::Region;
 use sha2::{Digest, Sha256};
 use std::alloc::{AllocError, Global};
 use std::marker::Model;
@@ -26,14 +29,14 @@ use wire::{Sink, write_header, write_round};
 /// A machine, the stream that is written of it, and what is still to be sent.
 #[derive(Drop)]
 pub struct Live<D: Disk, W: Sink> {
-    source: Machine<D>,
-    writer: W,
-    taken: Sha256,
-    stage: Phase,
-    left: BitSet,
+    pub(crate) source: Machine<D>,
+    pub(crate) writer: W,
+    pub(crate) taken: Sha256,
+    pub(crate) stage: Phase,
+    pub(crate) left: BitSet,
     // No item below this number is due. The search for the next one starts here.
-    at: u64,
-    changed: Dirty,
+    pub(crate) at: u64,
+    pub(crate) changed: Dirty,
 }
 
 impl<D: Disk, W: Sink> Model for Live<D, W> {
@@ -149,6 +152,47 @@ impl<D: Disk, W: Sink> Live<D, W> {
         ensures { HasPlaces self.now }
     {
         let _left = &self.left;
+    }
+
+    /// Lends the RAM of the machine, if it lies in memory of the caller. It takes no memory, and no longer for a larger RAM.
+    pub fn lend(self) -> Result<(Region, LiveParked<D, W>), Live<D, W>>
+        ensures lent { IfOk result (λ r. IsLiveParked self r.0 r.1) }
+        ensures own { IfErr result (λ _. self.machine.memory.place ≡ None) }
+        ensures same { IfErr result (λ l. l ≡ self) }
+    {
+        self.source.ram().recall();
+        let Live {
+            source,
+            writer,
+            taken,
+            stage,
+            left,
+            at,
+            changed,
+        } = self;
+        match source.lend() {
+            Ok((region, parked)) => Ok((
+                region,
+                LiveParked {
+                    parked,
+                    writer,
+                    taken,
+                    stage,
+                    left,
+                    at,
+                    changed,
+                },
+            )),
+            Err(source) => Err(Live {
+                source,
+                writer,
+                taken,
+                stage,
+                left,
+                at,
+                changed,
+            }),
+        }
     }
 
     fn refusal(&self, event: &LiveEvent) -> Option<MigError>

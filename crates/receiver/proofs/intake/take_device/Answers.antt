@@ -3,8 +3,8 @@ use Rattle.receiver.proofs.Lists.{later_shapes}
 use Rattle.receiver.proofs.Steps.{devices_are, more_device}
 use Rattle.receiver.proofs.intake.take_device.Goals as goal
 
-pub returns-in-Ok-push : goal.returns-in-Ok-push
-returns-in-Ok-push c = λ ds front opening before h named next.
+pub returns-in-Ok-push-clause-taken : goal.returns-in-Ok-push-clause-taken
+returns-in-Ok-push-clause-taken c = λ ds front opening before h named next.
     let n = c.args.number in
     let shape = c.nth-shape.result in
     let found : shape ≡ get_or c.args.intake.now.shapes.items n shape = rw c.deref.ensures.value at c.nth-shape.ensures in
@@ -16,8 +16,8 @@ returns-in-Ok-push c = λ ds front opening before h named next.
     more_device ds front opening (drop (n + 1) opening.shapes) shape before c.args.intake.now _ n c.args.body.now c.in-Ok.state h
     named (omega (arith, c.ranges.number.fits), few, λ i. omega (arith, c.type_inv.body i)) (omega (arith, next.next, devices_are h)) here is refl refl refl refl refl refl refl more
 
-pub returns-in-Err-BadBody : goal.returns-in-Err-BadBody
-returns-in-Err-BadBody c = λ ds front opening before h named next.
+pub returns-in-Err-BadBody-clause-taken : goal.returns-in-Err-BadBody-clause-taken
+returns-in-Err-BadBody-clause-taken c = λ ds front opening before h named next.
     let n = c.args.number in
     let shape = c.nth-shape.result in
     let found : shape ≡ get_or c.args.intake.now.shapes.items n shape = rw c.deref.ensures.value at c.nth-shape.ensures in

@@ -17,7 +17,7 @@ returns-else-not-has_record-clause-entered g c = λ front tail more opening befo
     let early = (opens_at 1 _ opens.opens opens.whole).may.early (inl (omega arith)) in
     let told : IsOf version (record_with head body) = c.has_record.ensures.0 (search rules) in
     let has : IsOf opening.version (record_with head body) = subst (λ (v : ℕ). IsOf v (record_with head body)) h.version_is told in
-    rw c.in-Page.is (kept ds, c.take_page.ensures ds front opening before h early has)
+    rw c.in-Page.is (kept ds, c.take_page.ensures.taken ds front opening before h early has)
 
 pub returns-then-not-has_record-clause-entered : goal.returns-then-not-has_record-clause-entered
 returns-then-not-has_record-clause-entered g c = λ front tail more opening before h o may.
@@ -38,7 +38,7 @@ returns-in-ZeroPage-clause-entered g c = λ front tail more opening before h o m
     let ds = map g.D.Disk.state c.args.disks.now in
     let opens = rw c.in-ZeroPage.is at o in
     let allowed = (opens_at 6 _ opens.opens opens.whole).may in
-    rw c.in-ZeroPage.is (kept ds, c.take_zero_page.ensures ds front opening before h (allowed.early (inr refl)) (allowed.since refl))
+    rw c.in-ZeroPage.is (kept ds, c.take_zero_page.ensures.taken ds front opening before h (allowed.early (inr refl)) (allowed.since refl))
 
 pub returns-in-Sector-clause-memory : goal.returns-in-Sector-clause-memory
 returns-in-Sector-clause-memory g c = never_memory c.args.head c.take_sector.result c.take_sector.ensures.memory
@@ -71,4 +71,4 @@ returns-in-Device-clause-entered g c = λ front tail more opening before h o may
     let long : length c.args.body.now ≡ c.in-Device.len = rw c.in-Device.is at c.requires.long in
     let next_body = rw (← long) at next in
     let complete = (opens_at 4 _ opens.opens opens.whole).complete (omega arith, omega arith) in
-    rw c.in-Device.is (entered_device ds opening before _ front tail c.args.body.now more n c.in-Device.len c.take_device.result opens next long (c.take_device.ensures ds front opening before h complete.items next_body))
+    rw c.in-Device.is (entered_device ds opening before _ front tail c.args.body.now more n c.in-Device.len c.take_device.result opens next long (c.take_device.ensures.taken ds front opening before h complete.items next_body))

@@ -11,7 +11,7 @@ returns-in_default-first_chunk-clause-taking g c = λ front opening before h non
     let at = c.in-Some.ensures.found front opening before h in
     let short : length c.args.body.now < 512 = c.in_default-first_chunk.ensures.cases in
     let bad : c.args.is_good ≡ false = bad_body_by c.args.dev c.args.number c.args.is_good c.args.body.now c.requires short in
-    rw bad (kept (map g.D.Disk.state c.args.disks.now), c.take_bad.ensures (map g.D.Disk.state c.args.disks.now) front opening before h none at)
+    rw bad (kept (map g.D.Disk.state c.args.disks.now), c.take_bad.ensures.taken (map g.D.Disk.state c.args.disks.now) front opening before h none at)
 
 pub returns-clause-taking : goal.returns-clause-taking
 returns-clause-taking g c = λ front opening before h none has.

@@ -1,4 +1,4 @@
-use Rattle.std.proofs.Common.{ℕ, List, ◌≤◌, ◌++◌, ◌-◌, map, take, length}
+use Rattle.std.proofs.Common.{ℕ, List, ◌≡◌, ◌≤◌, ◌++◌, ◌-◌, map, take, length}
 use Rattle.sha2.specs.Hashers.{Holds256}
 use Rattle.wire.specs.Records.{Record}
 use Rattle.receiver.specs.Fed.{HasRead}
@@ -9,6 +9,7 @@ use Rattle.wire.specs.Header.{Opening}
 abbrev pub invariant-loop-at : goal.invariant-loop-at
 invariant-loop-at g l = record {
   room : l.at ≤ length l.bytes;
+  place : l.intake.ram.place ≡ l.fn.intake.ram.place;
   read : (front : List ℕ) (opening : Opening) (before : List Record) → Holds256 l.fn.taken front → HasRead (map g.D.Disk.state l.fn.disks) opening before l.fn.intake front
       → SoFar (map g.D.Disk.state l.fn.disks) (map g.D.Disk.state l.disks) opening l.intake l.taken (front ++ take l.at l.bytes);
 }

@@ -29,7 +29,7 @@ returns-in-Ok-advance-clause-stepped g c = λ d.
     let len = c.in-Ok-Some.heading.len in
     let front = head_taken c.args.bytes.now (said c.in-Ok-Some.heading) len b.0 b.1 in
     let decided = rw c.deref.ensures.value at c.are_disks_of.ensures.fit in
-    let read = c.in-Ok.ensures c.args.bytes.now (drop len c.args.bytes.now) b.1 (decided.0 (search rules)) in
+    let read = c.in-Ok.ensures.read c.args.bytes.now (drop len c.args.bytes.now) b.1 (decided.0 (search rules)) in
     let digested : Holds256 c.update.new.self (take len c.args.bytes.now) = rw c.split_at.ensures.front at (c.update.ensures [] d) in
     let stepped = c.in-Ok-advance.ensures.stepped (take len c.args.bytes.now) (said c.in-Ok-Some.heading) [] digested (rw front read) in
     behind_header _ _ c.advance.new.taken c.args.bytes.now len c.in-Ok-advance.at c.in-Ok-advance.stage (rw c.split_at.ensures.back at stepped)
@@ -40,7 +40,7 @@ returns-in-Err-advance-clause-stepped g c = λ d.
     let len = c.in-Ok-Some.heading.len in
     let front = head_taken c.args.bytes.now (said c.in-Ok-Some.heading) len b.0 b.1 in
     let decided = rw c.deref.ensures.value at c.are_disks_of.ensures.fit in
-    let read = c.in-Ok.ensures c.args.bytes.now (drop len c.args.bytes.now) b.1 (decided.0 (search rules)) in
+    let read = c.in-Ok.ensures.read c.args.bytes.now (drop len c.args.bytes.now) b.1 (decided.0 (search rules)) in
     let digested : Holds256 c.update.new.self (take len c.args.bytes.now) = rw c.split_at.ensures.front at (c.update.ensures [] d) in
     let stepped = c.in-Err-advance.ensures.stepped (take len c.args.bytes.now) (said c.in-Ok-Some.heading) [] digested (rw front read) in
     refused_behind _ _ c.args.bytes.now len c.in-Err-advance.error (rw c.split_at.ensures.back at stepped)

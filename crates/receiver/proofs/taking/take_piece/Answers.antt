@@ -1,4 +1,4 @@
-use Rattle.std.proofs.Common.{arith, rules, ◌≡◌, ◌++◌, length, map, ap}
+use Rattle.std.proofs.Common.{arith, rules, refl, ◌≡◌, ◌∙◌, ◌++◌, length, map, ap}
 use Rattle.std.proofs.lemmas.List.{length-append}
 use Rattle.receiver.proofs.Pieces.{all_parts, at_first, cut_at, next_part, part_refused}
 use Rattle.receiver.proofs.Wanting.{not_before, part_wants}
@@ -10,6 +10,7 @@ loop-rest-init g c = record {
   room = omega arith;
   shorter = omega arith;
   past = λ past. past;
+  place = refl;
   partly = λ front known. at_first (map g.D.Disk.state c.args.disks.now) c.args.taken.now front c.args.held.now.items c.args.piece.now c.args.stage known;
 }
 
@@ -21,6 +22,7 @@ loop-rest-preserved g c = record {
       let parts : c.loop-rest.rest.now ≡ c.split_at.result.0.now ++ c.split_at.result.1.now = cut_at c.loop-rest.rest.now _ _ c.next_len.result c.split_at.ensures.front c.split_at.ensures.back in
       omega (arith, c.loop-rest.invariant.shorter, c.in-Ok.ensures.shorter, ap length parts, length-append c.split_at.result.0.now c.split_at.result.1.now);
   past = λ past. c.in-Ok.ensures.past (c.loop-rest.invariant.past past);
+  place = c.in-Ok.ensures.place ∙ c.loop-rest.invariant.place;
   partly = λ front known.
       let p = c.loop-rest.invariant.partly front known in
       let parts : c.loop-rest.rest.now ≡ c.split_at.result.0.now ++ c.split_at.result.1.now = cut_at c.loop-rest.rest.now _ _ c.next_len.result c.split_at.ensures.front c.split_at.ensures.back in

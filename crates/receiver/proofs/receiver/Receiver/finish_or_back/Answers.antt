@@ -5,7 +5,7 @@ use Rattle.machine.specs.Shapes.{disk_sizes}
 use Rattle.machine.specs.State.{MachineState}
 use Rattle.wire.specs.Stream.{shapes_in}
 use Rattle.receiver.specs.Disks.{AreHonestDisks, disk_marks_of}
-use Rattle.receiver.specs.Receiving.{HasBeenFed, IsReceiver, IsTaken, IsWholeFor, Received, received_by}
+use Rattle.receiver.specs.Receiving.{HasBeenFed, IsReceiver, IsTaken, IsWholeFor, Received, place_in, received_by}
 use Rattle.receiver.specs.declared.stage.Stage.TheVariants as stages
 use Rattle.receiver.proofs.Feeding.{marks_mapped}
 use Rattle.receiver.proofs.Knowing.{come_of, read_sound, whole_for, whole_shapes, whole_stream}
@@ -34,7 +34,7 @@ restore_or_back-requires-clause-bad g c =
 
 pub returns-in-Ok-clause-received : goal.returns-in-Ok-clause-received
 returns-in-Ok-clause-received g c = λ honest b f.
-    let seen : Received = received_by (map g.D.Disk.state c.self.inside.disks.items) c.self.inside.stage c.self.inside.taken c.self.inside.held.items in
+    let seen : Received = received_by (place_in c.self.inside.aside c.self.inside.stage) (map g.D.Disk.state c.self.inside.disks.items) c.self.inside.stage c.self.inside.taken c.self.inside.held.items in
     let fed : HasBeenFed seen b = subst (λ (v : Received). HasBeenFed v b) (sym c.self.view_is) f in
     let ended : IsTaken (map g.D.Disk.state c.self.inside.disks.items) c.self.inside.taken b c.self.inside.held.items (stages.Ended c.in-Ended.intake) = rw c.in-Ended.is at fed.taken in
     let h = come_of _ c.self.inside.taken b c.self.inside.held.items c.in-Ended.intake ended in
@@ -61,14 +61,14 @@ returns-in-Ok-clause-fits g c =
 
 pub returns-in-Records-clause-refused : goal.returns-in-Records-clause-refused
 returns-in-Records-clause-refused g c = λ b f m s.
-    let seen : Received = received_by (map g.D.Disk.state c.self.inside.disks.items) c.self.inside.stage c.self.inside.taken c.self.inside.held.items in
+    let seen : Received = received_by (place_in c.self.inside.aside c.self.inside.stage) (map g.D.Disk.state c.self.inside.disks.items) c.self.inside.stage c.self.inside.taken c.self.inside.held.items in
     let fed : HasBeenFed seen b = subst (λ (v : Received). HasBeenFed v b) (sym c.self.view_is) f in
-    let t : IsTaken (map g.D.Disk.state c.self.inside.disks.items) c.self.inside.taken b c.self.inside.held.items (stages.Records c.in-Records.field-0) = rw c.in-Records.is at fed.taken in
-    no_stream_reading _ t.front c.self.inside.held.items b c.in-Records.field-0 m fed.bytes t.whole t.known.1 s
+    let t : IsTaken (map g.D.Disk.state c.self.inside.disks.items) c.self.inside.taken b c.self.inside.held.items (stages.Records c.in-Records.intake) = rw c.in-Records.is at fed.taken in
+    no_stream_reading _ t.front c.self.inside.held.items b c.in-Records.intake m fed.bytes t.whole t.known.1 s
 
 pub returns-clause-refused : goal.returns-clause-refused
 returns-clause-refused g c = λ b f m s.
-    let seen : Received = received_by (map g.D.Disk.state c.self.inside.disks.items) c.self.inside.stage c.self.inside.taken c.self.inside.held.items in
+    let seen : Received = received_by (place_in c.self.inside.aside c.self.inside.stage) (map g.D.Disk.state c.self.inside.disks.items) c.self.inside.stage c.self.inside.taken c.self.inside.held.items in
     let fed : HasBeenFed seen b = subst (λ (v : Received). HasBeenFed v b) (sym c.self.view_is) f in
     let t : IsTaken (map g.D.Disk.state c.self.inside.disks.items) c.self.inside.taken b c.self.inside.held.items stages.Head = rw c.in-Head.is at fed.taken in
     let same : b ≡ c.self.inside.held.items = t.whole ∙ ap (λ x. x ++ c.self.inside.held.items) t.known.0 in
@@ -76,7 +76,7 @@ returns-clause-refused g c = λ b f m s.
 
 pub returns-in-Ok-clause-whole : goal.returns-in-Ok-clause-whole
 returns-in-Ok-clause-whole g c = λ b f.
-    let seen : Received = received_by (map g.D.Disk.state c.self.inside.disks.items) c.self.inside.stage c.self.inside.taken c.self.inside.held.items in
+    let seen : Received = received_by (place_in c.self.inside.aside c.self.inside.stage) (map g.D.Disk.state c.self.inside.disks.items) c.self.inside.stage c.self.inside.taken c.self.inside.held.items in
     let fed : HasBeenFed seen b = subst (λ (v : Received). HasBeenFed v b) (sym c.self.view_is) f in
     let ended : IsTaken (map g.D.Disk.state c.self.inside.disks.items) c.self.inside.taken b c.self.inside.held.items (stages.Ended c.in-Ended.intake) = rw c.in-Ended.is at fed.taken in
     let h = come_of _ c.self.inside.taken b c.self.inside.held.items c.in-Ended.intake ended in

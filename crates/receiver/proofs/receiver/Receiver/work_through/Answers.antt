@@ -1,7 +1,7 @@
 use Rattle.std.proofs.Common.{rules, arith, ◌≡◌, ◌≤◌, ◌++◌, ap, map, length, take, drop, sym, subst, ◌∙◌, false, List}
 use Rattle.std.specs.Vec.{vec_capacity}
 use Rattle.blk.specs.Disk.{DiskState}
-use Rattle.receiver.specs.Receiving.{HasBeenFed, IsReceiver, NoFault, Received, has_failed, received_by}
+use Rattle.receiver.specs.Receiving.{HasBeenFed, IsReceiver, NoFault, Received, has_failed, place_in, received_by}
 use Rattle.receiver.proofs.Feeding.{GoesOn, IsRefused, given_back, goes_on, is_receiver, is_refused, quiet_still, same_count, true_false}
 use Rattle.receiver.proofs.Wanting.{WantsAt, err_again, fed_wants, on_err, past_head}
 use Rattle.receiver.proofs.receiver.Receiver.work_through.Goals as goal
@@ -15,10 +15,10 @@ returns-in-Ok g c =
     let some = kept.known on in
     let count : length c.self.inside.disks.items ≡ c.self.inside.disks.len = ap length (sym c.deref_mut.ensures.value) ∙ c.deref_mut.ensures.len in
     let took = rw (c.deref_mut.ensures.value, c.replace-stage.ensures.value, c.reserve_exact.ensures.items) at c.in-Ok.ensures.took in
-    let goes = goes_on old (map state c.take_piece.new.disks) c.self.inside.stage c.in-Ok.stage c.self.inside.taken c.take_piece.new.taken c.self.inside.held.items c.take_piece.new.held.items c.args.piece.now (λ i. omega (arith, c.type_inv.piece i)) some took in
+    let goes = goes_on (place_in c.self.inside.aside c.self.inside.stage) (place_in c.take_piece.new.aside c.in-Ok.stage) old (map state c.take_piece.new.disks) c.self.inside.stage c.in-Ok.stage c.self.inside.taken c.take_piece.new.taken c.self.inside.held.items c.take_piece.new.held.items c.args.piece.now (λ i. omega (arith, c.type_inv.piece i)) some took in
     let back : take c.self.inside.disks.len (c.take_piece.new.disks ++ drop (length c.take_piece.new.disks) c.self.inside.disks.items) ≡ c.take_piece.new.disks =
     given_back c.self.inside.disks.items c.take_piece.new.disks c.self.inside.disks.len (same_count state c.self.inside.disks.items c.take_piece.new.disks goes.sizes) count in
-    let next : List DiskState → Received = λ ds. received_by ds c.in-Ok.stage c.take_piece.new.taken c.take_piece.new.held.items in
+    let next : List DiskState → Received = λ ds. received_by (place_in c.take_piece.new.aside c.in-Ok.stage) ds c.in-Ok.stage c.take_piece.new.taken c.take_piece.new.held.items in
     let here = subst (λ (r : Received). GoesOn r c.args.piece.now (next (map state c.take_piece.new.disks))) c.self.view_is goes in
     let all = subst (λ ds. GoesOn c.args.self.now c.args.piece.now (next (map state ds))) (sym back) here in
     record {
@@ -28,6 +28,7 @@ returns-in-Ok g c =
       quiet = all.quiet;
       told = tt;
       failed = tt;
+      place = c.in-Ok.ensures.place ∙ ap (place_in c.self.inside.aside) c.replace-stage.ensures.value ∙ ap (λ (v : Received). v.place) c.self.view_is;
       already = λ f. absurd (true_false _ f (sym (ap (λ (v : Received). v.failed) c.self.view_is) ∙ on));
       memory = λ e. absurd cc;
     }
@@ -41,7 +42,7 @@ returns-in-Err g c =
     let some = kept.known on in
     let count : length c.self.inside.disks.items ≡ c.self.inside.disks.len = ap length (sym c.deref_mut.ensures.value) ∙ c.deref_mut.ensures.len in
     let took = rw (c.deref_mut.ensures.value, c.replace-stage.ensures.value, c.reserve_exact.ensures.items) at c.in-Err.ensures.took in
-    let told = is_refused old (map state c.take_piece.new.disks) c.self.inside.stage c.self.inside.taken c.take_piece.new.taken c.self.inside.held.items c.take_piece.new.held.items c.args.piece.now c.in-Err.error some took in
+    let told = is_refused (place_in c.self.inside.aside c.self.inside.stage) old (map state c.take_piece.new.disks) c.self.inside.stage c.self.inside.taken c.take_piece.new.taken c.self.inside.held.items c.take_piece.new.held.items c.args.piece.now c.in-Err.error some took in
     let back : take c.self.inside.disks.len (c.take_piece.new.disks ++ drop (length c.take_piece.new.disks) c.self.inside.disks.items) ≡ c.take_piece.new.disks =
     given_back c.self.inside.disks.items c.take_piece.new.disks c.self.inside.disks.len (same_count state c.self.inside.disks.items c.take_piece.new.disks told.sizes) count in
     let memory = rw (c.deref_mut.ensures.value, c.replace-stage.ensures.value, c.reserve_exact.ensures.items) at c.in-Err.ensures.memory in
@@ -54,17 +55,18 @@ returns-in-Err g c =
       quiet = tt;
       told = all.told;
       failed = ap has_failed c.replace-stage.ensures.after;
+      place = ap (place_in c.take_piece.new.aside) c.replace-stage.ensures.after ∙ c.in-Err.ensures.place ∙ ap (place_in c.self.inside.aside) c.replace-stage.ensures.value ∙ ap (λ (v : Received). v.place) c.self.view_is;
       already = λ f. absurd (true_false _ f (sym (ap (λ (v : Received). v.failed) c.self.view_is) ∙ on));
       memory = λ e. subst (λ (r : Received). WantsAt r c.args.piece.now) c.self.view_is
-          (λ b fed opening rest begins from at. fed_wants old c.self.inside.stage c.self.inside.taken c.self.inside.held.items c.args.piece.now b opening rest from (λ front known past. memory front known past (err_again e)) fed begins at);
+          (λ b fed opening rest begins from at. fed_wants (place_in c.self.inside.aside c.self.inside.stage) old c.self.inside.stage c.self.inside.taken c.self.inside.held.items c.args.piece.now b opening rest from (λ front known past. memory front known past (err_again e)) fed begins at);
     }
 
 pub returns-then-is_empty-clause-quiet : goal.returns-then-is_empty-clause-quiet
 returns-then-is_empty-clause-quiet g c = λ b h.
     let none : length c.args.piece.now ≡ 0 = search rules in
-    let old = received_by (map g.D.Disk.state c.self.inside.disks.items) c.self.inside.stage c.self.inside.taken c.self.inside.held.items in
+    let old = received_by (place_in c.self.inside.aside c.self.inside.stage) (map g.D.Disk.state c.self.inside.disks.items) c.self.inside.stage c.self.inside.taken c.self.inside.held.items in
     let seen : HasBeenFed old b = subst (λ (r : Received). HasBeenFed r b) (sym c.self.view_is) h in
-    subst (λ (r : Received). NoFault r.sizes (b ++ c.args.piece.now)) c.self.view_is (quiet_still (map g.D.Disk.state c.self.inside.disks.items) c.self.inside.stage c.self.inside.taken c.self.inside.held.items c.args.piece.now b none seen)
+    subst (λ (r : Received). NoFault r.sizes (b ++ c.args.piece.now)) c.self.view_is (quiet_still (place_in c.self.inside.aside c.self.inside.stage) (map g.D.Disk.state c.self.inside.disks.items) c.self.inside.stage c.self.inside.taken c.self.inside.held.items c.args.piece.now b none seen)
 
 pub invariant_of-self-in-Ok : goal.invariant_of-self-in-Ok
 invariant_of-self-in-Ok g c =
