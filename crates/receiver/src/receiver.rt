@@ -209,7 +209,7 @@ impl<D: Disk + Drop> Receiver<D> {
         }
     }
 
-    /// As `finish`, but a refusal gives a receiver back that takes no more, with the disks and, unless it is `NoMemory`, the RAM.
+    /// As `finish`, but a refusal gives a receiver back that takes no more, with the disks and the RAM.
     pub fn finish_or_back(self) -> Result<Machine<D>, (RecvError, Receiver<D>)>
         ensures received { IfOk result (λ m. AreHonestDisks self.marks → (b : List ℕ) → HasBeenFed self b → IsStream b (state_of m)) }
         ensures marks { IfOk result (λ m. all_marks m ≡ dealt_marks (shapes_in (state_of m).devices) self.marks) }
@@ -221,7 +221,7 @@ impl<D: Disk + Drop> Receiver<D> {
         ensures goes_on { OnOk result (self.failed ≡ false) }
         ensures back { IfErr result (λ x. IsGivenUp self x.1) }
         ensures place { IfOk result (λ m. m.memory.place ≡ self.place) }
-        ensures kept { IfErr result (λ x. x.0 ≢ errors.NoMemory → x.1.place ≡ self.place) }
+        ensures kept { IfErr result (λ x. x.1.place ≡ self.place) }
     {
         let Receiver {
             alloc,
@@ -249,7 +249,10 @@ impl<D: Disk + Drop> Receiver<D> {
                 let ram = ram.into_ram();
                 match Machine::restore_or_back(alloc, ram, shapes, devices, disks, bad) {
                     Ok(machine) => Ok(machine),
-                    Err(disks) => Err((RecvError::NoMemory, given_up(alloc, disks, None))),
+                    Err((disks, ram)) => Err((
+                        RecvError::NoMemory,
+                        given_up(alloc, disks, Some(ArrivingRam::over(ram))),
+                    )),
                 }
             }
             Stage::Failed => Err((RecvError::AlreadyFailed, given_up(alloc, disks, aside))),

@@ -14,6 +14,7 @@ use machine::{Disk, Parked};
 use region::Region;
 use sha2::Sha256;
 use std::marker::Model;
+use std::mem;
 use wire::Sink;
 
 /// A machine that is being migrated, and whose RAM is lent. No call is made of it, and nothing of it is sent.
@@ -44,6 +45,21 @@ impl<D: Disk, W: Sink> LiveParked<D, W> {
         ensures { result ≡ length self.now.parked.versions }
     {
         self.parked.pages()
+    }
+
+    /// The machine, whose RAM is lent.
+    pub fn parked(&self) -> &Parked<D>
+        ensures { result.now ≡ self.now.parked }
+    {
+        &self.parked
+    }
+
+    /// Replaces the writer, and returns the old one, as `Live::replace_writer` does.
+    pub fn replace_writer(&mut self, writer: W) -> W
+        ensures out { W.state result ≡ self.old.out }
+        ensures rest { self.new ≡ record self.old { out = W.state writer } }
+    {
+        mem::replace(&mut self.writer, writer)
     }
 
     /// The machine whose RAM is given back, as `Parked::give_back` does. The pages that were written meanwhile are dirty.

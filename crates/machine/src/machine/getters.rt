@@ -1,6 +1,6 @@
 //! What a machine is.
 
-ghost use Rattle.std.specs.Prelude.{◌≡◌, ◌<◌, ◌==◌, count_by, if◌then◌else◌, length, map, Some, slice_get};
+ghost use Rattle.std.specs.Prelude.{◌≡◌, ◌<◌, ◌≤◌, ◌==◌, count_by, if◌then◌else◌, length, map, Some, slice_get};
 ghost use Rattle.blk.specs.Sectors.{is_bad};
 ghost use Rattle.guestmem.specs.Item.{sector};
 ghost use Rattle.machine.specs.Applied.{ReadsSector};
@@ -10,6 +10,7 @@ ghost use Rattle.machine.specs.Lines.{lines_of};
 ghost use Rattle.machine.specs.Shapes.{made_as};
 ghost use Rattle.machine.specs.Sound.{IsSound};
 ghost use Rattle.machine.specs.Step.{disk_of};
+ghost use Rattle.machine.specs.declared.machine.TheConstants.{DEVICES_MAX};
 
 use crate::device::Device;
 use crate::machine::Machine;
@@ -21,16 +22,11 @@ use guestmem::Ram;
 impl<D: Disk> Machine<D> {
     /// The interrupt lines: bit d is set exactly while device d has an interrupt that its driver has not acknowledged
     /// (VIRTIO 1.2, 4.2.2, InterruptStatus). Bits past the last device are clear.
+    #[tactic(auto, using(crate::proofs::Parking::few_held))]
     pub fn lines(&self) -> u16
         ensures { result ≡ lines_of (state_of self.now).devices }
     {
-        let mut lines = 0u32;
-        let mut line = 1u32;
-        for device in &self.devices {
-            lines += raised(device.state(), line);
-            line *= 2;
-        }
-        lines as u16
+        lines_of(self.devices.as_slice())
     }
 
     /// What the devices were made as, in order.
@@ -95,6 +91,20 @@ impl<D: Disk> Machine<D> {
     {
         &self.ram
     }
+}
+
+/// The interrupt lines of these devices.
+pub(crate) fn lines_of<D: Disk>(devices: &[Device<D>]) -> u16
+    requires { length devices.now ≤ DEVICES_MAX }
+    ensures { result ≡ lines_of (map (λ d. d.state) devices.now) }
+{
+    let mut lines = 0u32;
+    let mut line = 1u32;
+    for device in devices {
+        lines += raised(device.state(), line);
+        line *= 2;
+    }
+    lines as u16
 }
 
 /// The bit of a device, where it has an interrupt.

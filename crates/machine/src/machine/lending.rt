@@ -1,16 +1,20 @@
 //! Machines whose RAM is lent to the caller, in whose memory it lies.
 
-ghost use Rattle.std.specs.Prelude.{◌≡◌, ◌*◌, ◌≤◌, length, None, IfOk, IfErr};
+ghost use Rattle.std.specs.Prelude.{◌≡◌, ◌*◌, ◌≤◌, length, map, None, IfOk, IfErr};
 ghost use Rattle.region.specs.Address.{address};
 ghost use Rattle.guestmem.specs.Item.{MayPages, after_all};
 ghost use Rattle.guestmem.specs.Lent.{AreBelow, given_back, page_items};
 ghost use Rattle.guestmem.specs.declared.limits.TheConstants.{PAGE_SIZE, PAGES_MAX};
+ghost use Rattle.machine.specs.Lines.{lines_of};
 ghost use Rattle.machine.specs.Parked.{IsParked, back_with};
+ghost use Rattle.machine.specs.Shapes.{made_as};
+ghost use Rattle.machine.specs.declared.machine.TheConstants.{DEVICES_MAX};
 
 use crate::any_ring::AnyRing;
 use crate::device::Device;
 use crate::forgetting::forget_all;
 use crate::machine::Machine;
+use crate::machine::getters::lines_of;
 use crate::shape::Shape;
 use blk::Disk;
 use guestmem::{ParkedRam, TouchLog};
@@ -89,6 +93,25 @@ impl<D: Disk> Parked<D> {
         ensures few { result ≤ PAGES_MAX }
     {
         self.ram.pages()
+    }
+
+    /// The interrupt lines, as they were when the RAM was lent (`Machine::lines`).
+    #[tactic(auto, using(crate::proofs::Parking::few_devices))]
+    pub fn lines(&self) -> u16
+        ensures { result ≡ lines_of (map (λ d. d.state) self.now.devices) }
+    {
+        let _pages = self.ram.pages();
+        lines_of(self.devices.as_slice())
+    }
+
+    /// What the devices were made as, in order.
+    #[tactic(auto, using(crate::proofs::Parking::few_devices, crate::proofs::Parking::are_shapes))]
+    pub fn shapes(&self) -> &[Shape]
+        ensures shapes { result.now ≡ map (λ d. made_as d.state.kind) self.now.devices }
+        ensures few { length result.now ≤ DEVICES_MAX }
+    {
+        let _pages = self.ram.pages();
+        self.shapes.as_slice()
     }
 
     /// The machine whose RAM is given back: its bytes are those that lie there now, and these pages were written meanwhile, of

@@ -115,11 +115,11 @@ impl<D: Disk + Drop> Machine<D> {
     {
         match Machine::restore_or_back(alloc, ram, shapes, states, disks, bad) {
             Ok(machine) => Ok(machine),
-            Err(_disks) => Err(NoMemory),
+            Err((_disks, _ram)) => Err(NoMemory),
         }
     }
 
-    /// As `restore`, but where memory is refused it gives the disks back, as they were.
+    /// As `restore`, but where memory is refused it gives the disks and the RAM back, as they were.
     pub fn restore_or_back(
         alloc: Global,
         ram: Ram,
@@ -127,7 +127,7 @@ impl<D: Disk + Drop> Machine<D> {
         states: Vec<DeviceState>,
         disks: Vec<D>,
         bad: Vec<BitSet>,
-    ) -> Result<Machine<D>, Vec<D>>
+    ) -> Result<Machine<D>, (Vec<D>, Ram)>
         requires sound { IsSound (saved_machine ram.bytes states.items (marked_sectors (map D.state disks.items) bad.items)) }
         requires shapes { shapes.items ≡ map (λ d. made_as d.kind) states.items }
         requires bad { AreMarksOf (map D.state disks.items) bad.items }
@@ -135,11 +135,12 @@ impl<D: Disk + Drop> Machine<D> {
         ensures marks { IfOk result (λ m. all_marks m ≡ dealt_marks shapes.items (map (λ d. marks_in (D.state d)) disks.items)) }
         ensures sound { IfOk result (λ m. IsSound (state_of m)) }
         ensures place { IfOk result (λ m. m.memory.place ≡ ram.place) }
-        ensures back { IfErr result (λ back. back.items ≡ disks.items) }
+        ensures disks { IfErr result (λ back. back.0.items ≡ disks.items) }
+        ensures ram { IfErr result (λ back. back.1 ≡ ram) }
     {
         match Parts::new(alloc, ram, shapes, states, bad) {
             Ok(parts) => Ok(parts.with_disks(disks)),
-            Err(NoMemory) => Err(disks),
+            Err(ram) => Err((disks, ram)),
         }
     }
 }
@@ -216,7 +217,10 @@ fn first_parts<D: Disk + Drop>(
     let states = new_states(alloc, shapes, ram.len())?;
     let bad = good_marks(alloc, disks)?;
     let shapes = Vec::from_slice(alloc, shapes)?;
-    Parts::new(alloc, ram, shapes, states, bad)
+    match Parts::new(alloc, ram, shapes, states, bad) {
+        Ok(parts) => Ok(parts),
+        Err(_ram) => Err(NoMemory),
+    }
 }
 
 /// Marks for each disk, by which none of its sectors is bad. It also states for proofs that the sectors are whole.

@@ -50,19 +50,26 @@ impl<D: Disk> Model for Parts<D> {
 }
 
 impl<D: Disk + Drop> Parts<D> {
-    /// These parts. Its only error is out of memory.
+    /// These parts. Its only error is out of memory, and gives the RAM back.
     pub fn new(
         alloc: Global,
         ram: Ram,
         shapes: Vec<Shape>,
         states: Vec<DeviceState>,
         bad: Vec<BitSet>,
-    ) -> Result<Parts<D>, NoMemory>
-        ensures { IfOk result (λ p. p ≡ record { ram = ram.bytes; place = ram.place; shapes = shapes.items; states = states.items; bad = bad.items }) }
+    ) -> Result<Parts<D>, Ram>
+        ensures made { IfOk result (λ p. p ≡ record { ram = ram.bytes; place = ram.place; shapes = shapes.items; states = states.items; bad = bad.items }) }
+        ensures back { IfErr result (λ r. r ≡ ram) }
     {
-        let sectors = Vec::with_capacity(alloc, bad.len())?;
-        let devices = Vec::with_capacity(alloc, states.len())?;
-        let rings = new_rings(alloc, states.len())?;
+        let Ok(sectors) = Vec::with_capacity(alloc, bad.len()) else {
+            return Err(ram);
+        };
+        let Ok(devices) = Vec::with_capacity(alloc, states.len()) else {
+            return Err(ram);
+        };
+        let Ok(rings) = new_rings(alloc, states.len()) else {
+            return Err(ram);
+        };
         Ok(Parts {
             alloc,
             ram,

@@ -1,19 +1,18 @@
 use Rattle.std.proofs.Common.{◌≡◌, ◌*◌, length, map, replicate, rules}
-use Rattle.std.proofs.lemmas.Result.{IfOk-weaker}
 use Rattle.machine.specs.Parts.{PartsSeen}
 use Rattle.machine.specs.Shapes.{first_device}
 use Rattle.machine.proofs.Fresh.{AreFirst, are_first}
 use Rattle.machine.proofs.machine.making.first_parts.Goals as goal
 
-pub returns : goal.returns
-returns g c =
+pub returns-in-Ok : goal.returns-in-Ok
+returns-in-Ok g c =
     let p : PartsSeen = record { ram = c.in_ok-ram.ram.bytes; place = c.in_ok-ram.ram.place; shapes = c.in_ok-shapes.shapes.items; states = c.in_ok-states.states.items; bad = c.in_ok-bad.bad.items } in
     let zeros : p.ram ≡ replicate (4096 * c.args.ram_pages) 0 = search rules in
     let first : p.states ≡ map (first_device (length p.ram)) c.args.shapes.now = rw c.len.ensures at c.in_ok-states.ensures in
     let are : AreFirst g.D.Disk.state c.args.ram_pages c.args.shapes.now c.args.disks.now p =
     are_first g.D.Disk.state c.args.ram_pages c.args.shapes.now c.args.disks.now p c.requires c.recall_all.ensures c.in_ok-bad.ensures.whole zeros c.in_ok-shapes.ensures.items first c.in_ok-bad.ensures.good in
     record {
-      parts = IfOk-weaker c.new-2.result (λ parts. parts ≡ p) _ (λ parts is. rw is are.parts) c.new-2.ensures;
-      made = IfOk-weaker c.new-2.result (λ parts. parts ≡ p) _ (λ parts is. rw is are.made) c.new-2.ensures;
-      shapes = IfOk-weaker c.new-2.result (λ parts. parts ≡ p) _ (λ parts is. rw is c.in_ok-shapes.ensures.items) c.new-2.ensures;
+      parts = rw c.in-Ok.ensures.made are.parts;
+      made = rw c.in-Ok.ensures.made are.made;
+      shapes = rw c.in-Ok.ensures.made c.in_ok-shapes.ensures.items;
     }
