@@ -84,7 +84,7 @@ more_come r next piece b sizes fed quiet h =
     record { come = (fed b h.0, header); fit = inl header; quiet = rw sizes (quiet b h.0) }
 
 pub more_fed : (r next : Received) (piece : List ℕ) → next.sizes ≡ r.sizes → ((b : List ℕ) → HasBeenFed r b → HasBeenFed next (b ++ piece)) → ((b : List ℕ) → HasBeenFed r b → NoFault r.sizes (b ++ piece)) → IsFed (AtBody r) piece (AtBody next)
-more_fed r next piece sizes fed quiet = record { went_on = tt; goes_on = λ b h. more_come r next piece b sizes fed quiet h }
+more_fed r next piece sizes fed quiet = record { went_on = tt; goes_on = λ b h. more_come r next piece b sizes fed quiet h; place = tt }
 
 pub more_refused : (r : Received) (new : List Marks) (piece : List ℕ) (e : RecvError) → AreSteady r → MarksRefused r.marks e new → ((b : List ℕ) → HasBeenFed r b → TellsNow r.sizes b piece e) → TellsOf (AtBody r) piece e
 more_refused r new piece e steady marks tells = λ b h. told r.sizes b piece e (inl (longer b piece r.sizes h.1)) (tells b h.0) (never_failed r new e steady marks)
@@ -145,6 +145,7 @@ arrived r m steady received marks =
     record {
       went_on = tt;
       stream = λ b h. received (rw steady (honest_marks r.sizes)) b h.0;
+      place = tt;
       plain = as_many no_marks (λ (d : DeviceSeen). d.marks) m.devices shapes (over ∙ alike shapes r.sizes);
     }
 
@@ -169,7 +170,7 @@ pub head_goes_on : (held : List ℕ) (r : Received) → HasNoHeader held → IsF
 head_goes_on held r none h = record { come = refl; fit = inr none; quiet = h.quiet }
 
 pub head_fed : (held piece : List ℕ) (next : ArrivalSeen) → GoesOnWith (held ++ piece) next → IsFed (AtHead held) piece next
-head_fed held piece next h = record { went_on = tt; goes_on = λ b is. subst (λ (x : List ℕ). GoesOnWith (x ++ piece) next) (sym is) h }
+head_fed held piece next h = record { went_on = tt; goes_on = λ b is. subst (λ (x : List ℕ). GoesOnWith (x ++ piece) next) (sym is) h; place = tt }
 
 pub head_refused : (held piece : List ℕ) (e : RecvError) → TellsWhy (held ++ piece) e → TellsOf (AtHead held) piece e
 head_refused held piece e h = λ b is. subst (λ (x : List ℕ). TellsWhy (x ++ piece) e) (sym is) h

@@ -1,6 +1,7 @@
 -- Machines that arrive over images.
 use Rattle.std.proofs.Common.{◌≡◌, ◌≤◌, ℕ, Bool, true, false, List, [], ◌∷◌, ◌++◌, ◌-◌, refl, sym, ap, ◌∙◌, arith, map, length, drop, take, inl, inr, true≢false}
 use Prim.Native.Nat.{suc}
+use denote.RawPtr.{Ptr}
 use Rattle.std.specs.Prelude.{Option, Some, None, is_some, Result, Ok, Err, IfErr, IfOk, OnErr, OnOk}
 use Rattle.std.proofs.lemmas.List.{length-append, length-drop, length-take-le, map-append}
 use Rattle.std.proofs.lemmas.List.Elements.{All-drop, All-map, All-take}
@@ -16,7 +17,7 @@ use Rattle.mapped_disk.specs.declared.image.Image.{Image}
 use Rattle.vmig_c.specs.ArrivalSeen.{ArrivalSeen, AtHead, AtBody, Refused, Over}
 use Rattle.vmig_c.specs.Awaited.{AreSteady, HasArrived, IsClosed, IsFed, IsOver, TellsOf, awaited_sizes}
 use Rattle.vmig_c.specs.Kept.{KeptSeen}
-use Rattle.vmig_c.specs.Landing.{AreDisksOf, Awaits, IsAwaitedOver, KeepsAwaited, image_state}
+use Rattle.vmig_c.specs.Landing.{AreDisksOf, Awaits, IsAwaitedAt, KeepsAwaited, image_state}
 use Rattle.vmig_c.specs.Mapping.{AreTaken, contents}
 use Rattle.vmig_c.specs.Unmapping.{HasUnmappedArrival, arriving_refusal, slots_refusal}
 use Rattle.vmig_c.proofs.Awaited.{arrived, honest_marks, more_steady, never_failed, one_error}
@@ -38,18 +39,21 @@ sectors_are (i ∷ disks) = ap (λ (l : List (List (List ℕ))). i.content ∷ l
 pub first_steady : (r : Received) (disks : List Image) → r.sizes ≡ sizes_of image_state disks → r.marks ≡ disk_marks_of image_state disks → AreSteady r
 first_steady r disks sizes marks = rw (sizes, marks) (image_marks disks)
 
-pub first_awaited : (r : Received) (disks : List Image) → HasBeenFed r [] → r.sizes ≡ sizes_of image_state disks → r.disks ≡ map image_state disks → IsAwaitedOver (contents disks) (Over r)
-first_awaited r disks fed sizes are = record { fed = fed; sizes_are = sizes ∙ image_sizes disks; disks_are = ap (map (λ (d : DiskState). d.sectors)) are ∙ sectors_are disks }
+pub first_awaited : (r : Received) (disks : List Image) (place : Option Ptr) → HasBeenFed r [] → r.sizes ≡ sizes_of image_state disks → r.disks ≡ map image_state disks → r.place ≡ place
+    → IsAwaitedAt place (contents disks) (Over r)
+first_awaited r disks place fed sizes are there =
+    record { fed = fed; sizes_are = sizes ∙ image_sizes disks; disks_are = ap (map (λ (d : DiskState). d.sectors)) are ∙ sectors_are disks; place_is = there }
 
 -- A receiver over images is fed a piece.
 not_true : (b : Bool) → ¬ (b ≡ true) → b ≡ false
 not_true true not = absurd (not refl)
 not_true false not = refl
 
-pub fed_over : (r next : Received) (piece : List ℕ) → ¬ (r.failed ≡ true) → next.sizes ≡ r.sizes → ((b : List ℕ) → HasBeenFed r b → HasBeenFed next (b ++ piece)) → ((b : List ℕ) → HasBeenFed r b → NoFault r.sizes (b ++ piece)) → IsFed (Over r) piece (Over next)
-fed_over r next piece fine sizes fed quiet = record {
+pub fed_over : (r next : Received) (piece : List ℕ) → ¬ (r.failed ≡ true) → next.sizes ≡ r.sizes → ((b : List ℕ) → HasBeenFed r b → HasBeenFed next (b ++ piece)) → ((b : List ℕ) → HasBeenFed r b → NoFault r.sizes (b ++ piece)) → next.place ≡ r.place → IsFed (Over r) piece (Over next)
+fed_over r next piece fine sizes fed quiet place = record {
   went_on = not_true r.failed fine;
   goes_on = λ b h. record { come = fed b h; fit = tt; quiet = rw sizes (quiet b h) };
+  place = place;
 }
 
 pub told_over : (r next : Received) (piece : List ℕ) (e : RecvError) → AreSteady r → next.sizes ≡ r.sizes → next.failed ≡ true → MarksRefused r.marks e next.marks → (r.failed ≡ true → e ≡ AlreadyFailed) → ((b : List ℕ) → HasBeenFed r b → TellsNow r.sizes b piece e)
@@ -87,9 +91,9 @@ not_ok : {A : Type 0} (x : A) (e : RecvError) → ¬ (◌≡◌ {A = Result A Re
 not_ok x e is = cc
 
 pub fed_if : {A : Type 0} (r next : Received) (piece : List ℕ) (result : Result A RecvError) → (r.failed ≡ true → result ≡ Err AlreadyFailed) → next.sizes ≡ r.sizes → OnOk result ((b : List ℕ) → HasBeenFed r b → HasBeenFed next (b ++ piece))
-    → OnOk result ((b : List ℕ) → HasBeenFed r b → NoFault r.sizes (b ++ piece)) → IfOk result (λ x. IsFed (Over r) piece (Over next))
-fed_if r next piece (Ok x) already sizes fed quiet = fed_over r next piece (λ failed. not_ok x AlreadyFailed (already failed)) sizes fed quiet
-fed_if r next piece (Err e) already sizes fed quiet = tt
+    → OnOk result ((b : List ℕ) → HasBeenFed r b → NoFault r.sizes (b ++ piece)) → next.place ≡ r.place → IfOk result (λ x. IsFed (Over r) piece (Over next))
+fed_if r next piece (Ok x) already sizes fed quiet place = fed_over r next piece (λ failed. not_ok x AlreadyFailed (already failed)) sizes fed quiet place
+fed_if r next piece (Err e) already sizes fed quiet place = tt
 
 pub told_if : {A : Type 0} (r next : Received) (piece : List ℕ) (result : Result A RecvError) → AreSteady r → next.sizes ≡ r.sizes → OnErr result (next.failed ≡ true) → MarksAfter r.marks result next.marks → (r.failed ≡ true → result ≡ Err AlreadyFailed)
     → IfErr result (λ e. (b : List ℕ) → HasBeenFed r b → TellsNow r.sizes b piece e) → IfErr result (λ e. TellsOf (Over r) piece e × IsClosed (Over r) (Over next))
@@ -131,10 +135,11 @@ gave_up (AtBody r) disks images count of many none is = absurd of
 gave_up Refused disks images count of many none is = absurd of
 
 -- The end.
-pub arrived_over : (r : Received) (m : Seen) → AreSteady r → r.failed ≡ false → (AreHonestDisks r.marks → (b : List ℕ) → HasBeenFed r b → IsStream b (state_of m)) → all_marks m ≡ dealt_marks (shapes_in (state_of m).devices) r.marks → HasArrived (Over r) m
-arrived_over r m steady fine received marks =
+pub arrived_over : (r : Received) (m : Seen) → AreSteady r → r.failed ≡ false → (AreHonestDisks r.marks → (b : List ℕ) → HasBeenFed r b → IsStream b (state_of m)) → all_marks m ≡ dealt_marks (shapes_in (state_of m).devices) r.marks
+    → m.memory.place ≡ r.place → HasArrived (Over r) m
+arrived_over r m steady fine received marks place =
     let a : HasArrived (AtBody r) m = arrived r m steady received marks in
-    record { went_on = fine; stream = λ b h. received (rw steady (honest_marks r.sizes)) b h; plain = a.plain }
+    record { went_on = fine; stream = λ b h. received (rw steady (honest_marks r.sizes)) b h; plain = a.plain; place = place }
 
 pub given_up_steady : (r next : Received) → AreSteady r → IsGivenUp r next → AreSteady next
 given_up_steady r next steady h = more_steady r next steady h.sizes h.marks

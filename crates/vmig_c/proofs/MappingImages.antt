@@ -108,7 +108,7 @@ empty_slot all old images at d taken below size slots =
     rw same (taken.empty at d there)
 
 -- The first machine over disks in images.
-disks_good : (images : List Image) → map (λ (d : Image). map Some d.content) images ≡ map (map Some) (contents images)
+pub disks_good : (images : List Image) → map (λ (d : Image). map Some d.content) images ≡ map (map Some) (contents images)
 disks_good [] = refl
 disks_good (i ∷ images) = ap (λ (l : List (List (Option (List ℕ)))). map Some i.content ∷ l) (disks_good images)
 

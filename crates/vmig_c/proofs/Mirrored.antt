@@ -25,10 +25,10 @@ use Rattle.sender.specs.declared.event.LiveEvent.TheVariants.{Guest}
 use Rattle.sender.specs.declared.event.LiveReply.{LiveReply}
 use Rattle.sender.specs.declared.event.LiveReply.TheVariants as live
 use Rattle.sender.specs.declared.mig_error.MigError.{MigError}
-use Rattle.vmig_c.specs.Mirror.{AppliedMirrors, ArePushed, IsPushed, Mirrors, MirrorsPage, PulledMirrors, PushedMirrors, UnseenMirrors, are_pages, is_among, is_coming, is_noted, is_short, is_stopped, machine_in, memory_in, push_refusal, unseen}
+use Rattle.vmig_c.specs.Mirror.{AppliedMirrors, ArePushed, IsPushed, Mirrors, MirrorsPage, PulledMirrors, PushedMirrors, UnseenMirrors, are_pages, is_among, is_away, away_status, is_noted, is_short, is_stopped, machine_in, memory_in, push_refusal, unseen}
 use Rattle.vmig_c.specs.Status.{live_status, status_of}
 use Rattle.vmig_c.specs.Told.{TellsSo}
-use Rattle.vmig_c.specs.Kept.{State, Still, Moving, Arriving}
+use Rattle.vmig_c.specs.Kept.{State, Still, Moving, Arriving, Lent}
 
 -- What is noted, as tests and as facts.
 tested_same : (a b c : ℕ) → (a == b && nat_lt b c) ≡ true → a ≡ b
@@ -149,6 +149,13 @@ written_in (Moving l) (Still next) addr bytes told = absurd told
 written_in (Moving l) (Arriving next) addr bytes told = absurd told
 written_in (Arriving r) (Still next) addr bytes told = absurd told
 written_in (Arriving r) (Moving next) addr bytes told = absurd told
+written_in (Lent x) (Lent next) addr bytes told = absurd (omega (arith, told.0.0))
+written_in (Still m) (Lent next) addr bytes told = absurd told
+written_in (Moving l) (Lent next) addr bytes told = absurd told
+written_in (Arriving r) (Lent next) addr bytes told = absurd told
+written_in (Lent x) (Still next) addr bytes told = absurd told
+written_in (Lent x) (Moving next) addr bytes told = absurd told
+written_in (Lent x) (Arriving next) addr bytes told = absurd told
 
 set_by : (e : Option RamError) (addr : ℕ) (ram bytes : List ℕ) (reply : Reply) (effect : Effect) → 0 ≡ status_of reply → reply ≡ (write_ram addr bytes e).reply → effect ≡ (write_ram addr bytes e).effect
     → set_all ram effect.writes ≡ set_all ram (byte_writes addr bytes)
@@ -256,12 +263,12 @@ pub record IsReady (k : State) (pages : List ℕ) (bytes entries : ℕ) : Type 0
   pub are : are_pages (length (memory_in k).versions) pages ≡ true
   pub going : is_stopped k ≡ false
 
-ready_by : (o a b c : Bool) → ◌≡◌ {A = Option ℕ} (if o then Some 8 else if a then Some 11 else if not b then Some 2 else if c then Some 21 else None) None → (a ≡ false) × (b ≡ true) × (c ≡ false)
-ready_by true a b c is = absurd cc
-ready_by false true b c is = absurd cc
-ready_by false false false c is = absurd cc
-ready_by false false true true is = absurd cc
-ready_by false false true false is = (refl, refl, refl)
+ready_by : (s : ℕ) (o a b c : Bool) → ◌≡◌ {A = Option ℕ} (if o then Some s else if a then Some 11 else if not b then Some 2 else if c then Some 21 else None) None → (a ≡ false) × (b ≡ true) × (c ≡ false)
+ready_by s true a b c is = absurd cc
+ready_by s false true b c is = absurd cc
+ready_by s false false false c is = absurd cc
+ready_by s false false true true is = absurd cc
+ready_by s false false true false is = (refl, refl, refl)
 
 pub long_left : (a b c d : ℕ) → (nat_lt a b || nat_lt c d) ≡ false → b ≤ a
 long_left a b c d is = grind (arith, nat_tests)
@@ -271,7 +278,7 @@ long_right a b c d is = grind (arith, nat_tests)
 
 pub ready : (k : State) (pages : List ℕ) (bytes entries : ℕ) → push_refusal k pages bytes entries ≡ None → IsReady k pages bytes entries
 ready k pages bytes entries none =
-    let are = ready_by (is_coming k) (is_short (memory_in k) bytes entries) (are_pages (length (memory_in k).versions) pages) (is_stopped k) none in
+    let are = ready_by (away_status k) (is_away k) (is_short (memory_in k) bytes entries) (are_pages (length (memory_in k).versions) pages) (is_stopped k) none in
     record {
       room = long_left bytes (length (memory_in k).bytes) entries (length (memory_in k).versions) are.0;
       places = long_right bytes (length (memory_in k).bytes) entries (length (memory_in k).versions) are.0;

@@ -14,7 +14,7 @@ use Rattle.vmig_c.specs.Plain.{ArePlain}
 use Rattle.vmig_c.specs.Refused.{IsSameSent, RefusedTellsNothing}
 use Rattle.vmig_c.specs.Status.{live_status, status_of}
 use Rattle.vmig_c.specs.Told.{IsServed, live_number, number_of}
-use Rattle.vmig_c.specs.Kept.{Still, Moving, Arriving}
+use Rattle.vmig_c.specs.Kept.{Still, Moving, Arriving, Lent}
 use Rattle.vmig_c.proofs.Plain.{refused_quiet}
 
 no_number : (reply : Reply) (before : ℕ) → 1 ≤ status_of reply → status_of reply < 64 → number_of reply before ≡ before
@@ -66,3 +66,10 @@ refused_tells_nothing (Moving l) (Still next) e status number before plain told 
 refused_tells_nothing (Moving l) (Arriving next) e status number before plain told some few = absurd told
 refused_tells_nothing (Arriving r) (Still next) e status number before plain told some few = absurd told
 refused_tells_nothing (Arriving r) (Moving next) e status number before plain told some few = absurd told
+refused_tells_nothing (Lent x) (Lent next) e status number before plain told some few = (told.0.1, told.1)
+refused_tells_nothing (Still m) (Lent next) e status number before plain told some few = absurd told
+refused_tells_nothing (Moving l) (Lent next) e status number before plain told some few = absurd told
+refused_tells_nothing (Arriving r) (Lent next) e status number before plain told some few = absurd told
+refused_tells_nothing (Lent x) (Still next) e status number before plain told some few = absurd told
+refused_tells_nothing (Lent x) (Moving next) e status number before plain told some few = absurd told
+refused_tells_nothing (Lent x) (Arriving next) e status number before plain told some few = absurd told

@@ -18,10 +18,10 @@ all_good f (suc n) x = ap (λ (l : List _). f x ∷ l) (all_good f n x)
 abbrev pub plain_marks : List Shape → List Marks
 plain_marks shapes = map (λ s. no_marks) shapes
 
-abbrev zeros : ℕ → List (List ℕ)
+abbrev pub zeros : ℕ → List (List ℕ)
 zeros n = replicate n (replicate 512 0)
 
-good_zeros : (sizes : List ℕ) → map (λ (d : List (List ℕ)). map Some d) (map zeros sizes) ≡ map zero_sectors sizes
+pub good_zeros : (sizes : List ℕ) → map (λ (d : List (List ℕ)). map Some d) (map zeros sizes) ≡ map zero_sectors sizes
 good_zeros [] = refl
 good_zeros (n ∷ sizes) = let sector : List ℕ = replicate 512 0 in rw (all_good Some n sector, good_zeros sizes) refl
 

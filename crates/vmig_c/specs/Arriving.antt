@@ -5,7 +5,7 @@ use Rattle.receiver.specs.declared.recv_error.RecvError.{RecvError}
 use Rattle.vmig_c.specs.ArrivalSeen.{ArrivalSeen}
 use Rattle.vmig_c.specs.Awaited.{CountsRounds, HasArrived, HasSameDisks, IsClosed, IsFed, TellsEnd, TellsOf, nothing_fed, stream_status}
 use Rattle.vmig_c.specs.Status.{done, in_use, no_machine, no_memory}
-use Rattle.vmig_c.specs.Kept.{KeptSeen, own, State, Still, Moving, Arriving}
+use Rattle.vmig_c.specs.Kept.{KeptSeen, own, State, Still, Moving, Arriving, Lent}
 
 -- A piece was taken.
 pub record HasFed (r : ArrivalSeen) (piece : List ℕ) (status : ℕ) (next : ArrivalSeen) : Type 0 where
@@ -30,6 +30,7 @@ abbrev pub FeedsKept : State → List ℕ → ℕ → State → Type 0
 FeedsKept (Arriving r) piece status (Arriving next) = Feeds r piece status next
 FeedsKept (Still m) piece status (Still next) = IsThere m status next
 FeedsKept (Moving l) piece status (Moving next) = IsThere l status next
+FeedsKept (Lent x) piece status (Lent next) = IsThere x status next
 FeedsKept _ piece status _ = ⊥
 
 pub record DoesFed (k : KeptSeen) (piece : List ℕ) (status : ℕ) (after : Option KeptSeen) : Type 0 where
@@ -60,6 +61,7 @@ FinishesKept (Arriving r) status (Still m) = HasFinished r status m
 FinishesKept (Arriving r) status (Arriving next) = HasNotFinished r status next
 FinishesKept (Still m) status (Still next) = IsThere m status next
 FinishesKept (Moving l) status (Moving next) = IsThere l status next
+FinishesKept (Lent x) status (Lent next) = IsThere x status next
 FinishesKept _ status _ = ⊥
 
 pub record DoesFinished (k : KeptSeen) (status : ℕ) (after : Option KeptSeen) : Type 0 where

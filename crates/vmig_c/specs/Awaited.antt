@@ -1,5 +1,6 @@
 -- A machine whose stream arrives in pieces.
-use Rattle.std.specs.Prelude.{◌≡◌, ◌≢◌, ℕ, ◌+◌, List, [], ◌++◌, map, true, false}
+use denote.RawPtr.{Ptr}
+use Rattle.std.specs.Prelude.{◌≡◌, ◌≢◌, ℕ, ◌+◌, List, [], ◌++◌, map, Option, true, false}
 use Rattle.machine.specs.Seen.{Seen, no_marks, state_of}
 use Rattle.receiver.specs.Codes.{recv_code_of}
 use Rattle.receiver.specs.Faults.{Fault}
@@ -99,10 +100,25 @@ HasSameDisks (Over r) (Over next) = next.disks ≡ r.disks
 HasSameDisks (Over r) next = ⊥
 HasSameDisks a next = Unit {0}
 
+-- Its RAM will still lie in this place, if one is known.
+abbrev pub IsAt : Option Ptr → ArrivalSeen → Type 0
+IsAt place (Over r) = r.place ≡ place
+IsAt place _ = ⊥
+
+abbrev pub HasSamePlace : ArrivalSeen → ArrivalSeen → Type 0
+HasSamePlace (Over r) next = IsAt r.place next
+HasSamePlace a next = Unit {0}
+
+-- The RAM of the machine lies where that of its arrival was to lie.
+abbrev pub LiesThere : ArrivalSeen → Seen → Type 0
+LiesThere (Over r) m = m.memory.place ≡ r.place
+LiesThere a m = Unit {0}
+
 -- The next piece was taken.
 pub record IsFed (a : ArrivalSeen) (piece : List ℕ) (next : ArrivalSeen) : Type 0 where
   pub went_on : IsOpen a
   pub goes_on : (b : List ℕ) → HasCome a b → GoesOnWith (b ++ piece) next
+  pub place : HasSamePlace a next
 
 -- There is a fault in the bytes, for disks of the sizes that the header says.
 pub record IsFaulty (bytes : List ℕ) (error : RecvError) : Type 0 where
@@ -139,6 +155,7 @@ TellsEnd a error = (b : List ℕ) → HasCome a b → IsFinish b error
 pub record HasArrived (a : ArrivalSeen) (m : Seen) : Type 0 where
   pub went_on : IsOpen a
   pub stream : (b : List ℕ) → HasCome a b → IsStream b (state_of m)
+  pub place : LiesThere a m
   pub plain : ArePlain m
 
 -- This number of rounds ended in the bytes so far; after a refusal it is 0.

@@ -1,12 +1,13 @@
 -- What a machine is, as C is told.
 use Rattle.std.specs.Prelude.{◌≡◌, ℕ, length, map, replicate, if◌then◌else◌, Option, Some, None, slice_get}
 use Rattle.machine.specs.Layout.{pages_of}
+use Rattle.machine.specs.Parked.{ParkedSeen}
 use Rattle.machine.specs.Seen.{state_of}
 use Rattle.machine.specs.Shapes.{made_as}
 use Rattle.machine.specs.State.{MachineState}
 use Rattle.machine.specs.declared.shape.Shape.{Shape}
 use Rattle.machine.specs.declared.shape.Shape.TheVariants.{Net, Block, Console, Entropy}
-use Rattle.vmig_c.specs.Kept.{KeptSeen, State, Still, Moving, Arriving}
+use Rattle.vmig_c.specs.Kept.{KeptSeen, State, Still, Moving, Arriving, Lent, parked_in}
 use Rattle.vmig_c.specs.Status.{done, no_device, no_machine}
 use Rattle.vmig_c.specs.declared.device_shape.DeviceShape.{DeviceShape}
 
@@ -23,6 +24,12 @@ pub record IsSized (m : MachineState) (status pages devices : ℕ) : Type 0 wher
   pub pages_are : pages ≡ pages_of m
   pub devices_are : devices ≡ length m.devices
 
+-- As above, of a machine whose RAM is lent.
+pub record IsSizedLent (p : ParkedSeen) (status pages devices : ℕ) : Type 0 where
+  pub status_is : status ≡ done
+  pub pages_are : pages ≡ length p.versions
+  pub devices_are : devices ≡ length p.devices
+
 -- As above, for what a handle holds. What arrives is no machine yet.
 pub record IsNotSized (status pages old_pages devices old_devices : ℕ) : Type 0 where
   pub status_is : status ≡ no_machine
@@ -33,6 +40,7 @@ abbrev pub SizesKept : State → ℕ → ℕ → ℕ → ℕ → ℕ → Type 0
 SizesKept (Still m) status pages old_pages devices old_devices = IsSized (state_of m) status pages devices
 SizesKept (Moving l) status pages old_pages devices old_devices = IsSized (state_of l.machine) status pages devices
 SizesKept (Arriving r) status pages old_pages devices old_devices = IsNotSized status pages old_pages devices old_devices
+SizesKept (Lent x) status pages old_pages devices old_devices = IsSizedLent (parked_in x) status pages devices
 
 abbrev pub Sizes : Option KeptSeen → ℕ → ℕ → ℕ → ℕ → ℕ → Type 0
 Sizes None status pages old_pages devices old_devices = IsNotSized status pages old_pages devices old_devices
@@ -50,6 +58,7 @@ TellsOf m dev status shape old = Tells (slice_get (map (λ d. made_as d.kind) m.
 abbrev pub DescribesKept : State → ℕ → ℕ → DeviceShape → DeviceShape → Type 0
 DescribesKept (Still m) dev status shape old = TellsOf (state_of m) dev status shape old
 DescribesKept (Moving l) dev status shape old = TellsOf (state_of l.machine) dev status shape old
+DescribesKept (Lent x) dev status shape old = Tells (slice_get (map (λ d. made_as d.state.kind) (parked_in x).devices) dev) status shape old
 DescribesKept (Arriving r) dev status shape old = (status ≡ no_machine) × (shape ≡ old)
 
 abbrev pub Describes : Option KeptSeen → ℕ → ℕ → DeviceShape → DeviceShape → Type 0

@@ -8,8 +8,8 @@ use Rattle.blk.specs.declared.request.Request.{Request}
 use Rattle.machine.specs.DeviceStep.{requests_of}
 use Rattle.machine.specs.Seen.{state_of}
 use Rattle.machine.specs.State.{DeviceState, MachineState}
-use Rattle.vmig_c.specs.Kept.{KeptSeen, State, Still, Moving, Arriving}
-use Rattle.vmig_c.specs.Status.{done, no_device, no_machine, sync}
+use Rattle.vmig_c.specs.Kept.{KeptSeen, State, Still, Moving, Arriving, Lent}
+use Rattle.vmig_c.specs.Status.{done, lent, no_device, no_machine, sync}
 
 -- The end of such a request says that what was written is durable: of a flush always, and of a write where the driver did not
 -- accept FLUSH, bit 9 (VIRTIO 1.2, 5.2.6.2).
@@ -45,6 +45,7 @@ abbrev pub sync_kept : State → ℕ → ℕ → ℕ
 sync_kept (Still m) dev pick = sync_status_of (state_of m) dev pick
 sync_kept (Moving l) dev pick = sync_status_of (state_of l.machine) dev pick
 sync_kept (Arriving r) dev pick = no_machine
+sync_kept (Lent x) dev pick = lent
 
 abbrev pub sync_told : Option KeptSeen → ℕ → ℕ → ℕ
 sync_told None dev pick = no_machine

@@ -15,9 +15,9 @@ use Rattle.machine.specs.declared.shape.Shape.{Shape}
 use Rattle.vmig_c.specs.Making.{HasNoMemory, make_refusal, shapes_of}
 use Rattle.vmig_c.specs.Moving.{IsKept}
 use Rattle.vmig_c.specs.Plain.{ArePlain}
-use Rattle.vmig_c.specs.Status.{bad_images, bad_sector, done, is_moving, no_machine, no_sector, too_small}
+use Rattle.vmig_c.specs.Status.{bad_images, bad_sector, done, is_moving, lent, no_machine, no_sector, too_small}
 use Rattle.vmig_c.specs.declared.device_shape.DeviceShape.{DeviceShape}
-use Rattle.vmig_c.specs.Kept.{KeptSeen, State, Still, Moving, Arriving}
+use Rattle.vmig_c.specs.Kept.{KeptSeen, State, Still, Moving, Arriving, Lent}
 
 -- How many sectors the disks of these devices have, and how many bytes: a sector is 512.
 abbrev pub sectors_in : List Shape → ℕ
@@ -79,6 +79,7 @@ sector_refusal_of (Some d) n room = disk_refusal (disk_size_of (made_as d.kind))
 abbrev pub sector_refusal : State → ℕ → ℕ → ℕ → Option ℕ
 sector_refusal (Moving l) dev n room = Some is_moving
 sector_refusal (Arriving r) dev n room = Some no_machine
+sector_refusal (Lent x) dev n room = Some lent
 sector_refusal (Still m) dev n room = sector_refusal_of (slice_get (state_of m).devices dev) n room
 
 -- A sector was copied to the front of the buffer. A bad one was not, and the buffer is unchanged.

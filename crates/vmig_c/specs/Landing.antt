@@ -1,5 +1,6 @@
 -- The first call of a machine that arrives over images in memory of the caller.
 use Rattle.std.specs.Prelude.{◌≡◌, ◌⊎◌, ℕ, true, List, [], length, map, Option, Some, None}
+use denote.RawPtr.{Ptr}
 use Rattle.blk.specs.Disk.{DiskState}
 use Rattle.receiver.specs.Receiving.{HasBeenFed, Received}
 use Rattle.mapped_disk.specs.declared.image.Image.{Image}
@@ -13,27 +14,32 @@ use Rattle.vmig_c.specs.Status.{done, in_use, no_memory}
 abbrev pub image_state : Image → DiskState
 image_state i = mem_state i.content
 
--- Nothing was fed, and the disks hold these sectors.
-pub record IsFreshOver (sectors : List (List (List ℕ))) (r : Received) : Type 0 where
+-- Nothing was fed, the disks hold these sectors, and RAM will lie in this place, if one is known.
+pub record IsFreshOver (place : Option Ptr) (sectors : List (List (List ℕ))) (r : Received) : Type 0 where
   pub fed : HasBeenFed r []
   pub sizes_are : r.sizes ≡ map length sectors
   pub disks_are : map (λ d. d.sectors) r.disks ≡ sectors
+  pub place_is : r.place ≡ place
 
-abbrev pub IsAwaitedOver : List (List (List ℕ)) → ArrivalSeen → Type 0
-IsAwaitedOver sectors (Over r) = IsFreshOver sectors r
-IsAwaitedOver sectors _ = ⊥
+abbrev pub IsAwaitedAt : Option Ptr → List (List (List ℕ)) → ArrivalSeen → Type 0
+IsAwaitedAt place sectors (Over r) = IsFreshOver place sectors r
+IsAwaitedAt place sectors _ = ⊥
 
 -- The disks of an arrival hold these sectors.
 abbrev pub AreDisksOf : ArrivalSeen → List (List (List ℕ)) → Type 0
 AreDisksOf (Over r) sectors = map (λ d. d.sectors) r.disks ≡ sectors
 AreDisksOf _ sectors = ⊥
 
-abbrev pub StandsAwaited : List (List (List ℕ)) → State → Type 0
-StandsAwaited sectors (Arriving a) = IsAwaitedOver sectors a
-StandsAwaited sectors _ = ⊥
+abbrev pub StandsAwaited : Option Ptr → List (List (List ℕ)) → State → Type 0
+StandsAwaited place sectors (Arriving a) = IsAwaitedAt place sectors a
+StandsAwaited place sectors _ = ⊥
 
+abbrev pub KeepsAwaitedAt : Option Ptr → List (List (List ℕ)) → KeptSeen → Type 0
+KeepsAwaitedAt place sectors k = (k.is_mapped ≡ true) × StandsAwaited place sectors k.state
+
+-- Its RAM will lie in memory of the library.
 abbrev pub KeepsAwaited : List (List (List ℕ)) → KeptSeen → Type 0
-KeepsAwaited sectors k = (k.is_mapped ≡ true) × StandsAwaited sectors k.state
+KeepsAwaited sectors k = KeepsAwaitedAt None sectors k
 
 pub record HasAwaited (images new_images : List Image) (status : ℕ) (after : Option KeptSeen) : Type 0 where
   pub kept : KeptSeen

@@ -9,13 +9,16 @@ pub mod Images
 pub mod Kept
 pub mod Landing
 pub mod Lending
+pub mod Lent
 pub mod Making
 pub mod Mapping
 pub mod Measured
 pub mod Migrated
 pub mod Mirror
 pub mod Moving
+pub mod Named
 pub mod NextWork
+pub mod OverRam
 pub mod Owned
 pub mod Plain
 pub mod Refused

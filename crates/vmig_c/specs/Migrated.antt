@@ -5,6 +5,7 @@ use Rattle.sender.specs.Calls.{Serves}
 use Rattle.sender.specs.Follows.{Relates}
 use Rattle.sender.specs.History.{nothing}
 use Rattle.sender.specs.LiveState.{LiveSeen}
+use Rattle.sender.specs.Parked.{LiveParkedSeen}
 use Rattle.sender.specs.Stopping.{HasPlaces}
 use Rattle.sender.specs.declared.event.Item.TheVariants.{Page, Sector}
 use Rattle.sender.specs.declared.event.LiveEvent.TheVariants as events
@@ -13,9 +14,9 @@ use Rattle.sender.specs.declared.event.LiveReply.TheVariants as live
 use Rattle.sender.specs.declared.mig_error.MigError.TheVariants.{NotBegun}
 use Rattle.sender.specs.declared.phase.Phase.TheVariants as phases
 use Rattle.wire.specs.Sinks.{over_writer}
-use Rattle.vmig_c.specs.Status.{done, live_status, mig_status, no_machine, no_memory}
-use Rattle.vmig_c.specs.Told.{IsNotThere, IsServed}
-use Rattle.vmig_c.specs.Kept.{KeptSeen, State, Still, Moving, Arriving}
+use Rattle.vmig_c.specs.Status.{done, lent, live_status, mig_status, no_machine, no_memory}
+use Rattle.vmig_c.specs.Told.{IsNotThere, IsOut, IsServed}
+use Rattle.vmig_c.specs.Kept.{KeptSeen, LoanSeen, StillLent, MovingLent, State, Still, Moving, Arriving, Lent}
 
 -- What every call of a migration but its begin returns for a machine that is not being migrated: nothing changed.
 abbrev pub IsNotBegun : Seen → ℕ → Seen → Type 0
@@ -53,6 +54,7 @@ BeginsKept (Still m) status (Still next) = IsFull m status next
 BeginsKept (Still m) status (Moving next) = HasBegun m status next
 BeginsKept (Moving l) status (Moving next) = IsAnswered l status next
 BeginsKept (Arriving r) status (Arriving next) = IsNotThere r status next
+BeginsKept (Lent x) status (Lent next) = IsOut x status next
 BeginsKept _ status _ = ⊥
 
 -- The numbers of the item that was sent: a page has no device.
@@ -77,12 +79,14 @@ abbrev pub CopiesKept : State → ℕ → ℕ → ℕ → ℕ → ℕ → State 
 CopiesKept (Still m) status dev old_dev number old_number (Still next) = IsNotBegun m status next × (dev ≡ old_dev) × (number ≡ old_number)
 CopiesKept (Moving l) status dev old_dev number old_number (Moving next) = HasCopied l status dev old_dev number old_number next
 CopiesKept (Arriving r) status dev old_dev number old_number (Arriving next) = IsNotThere r status next × (dev ≡ old_dev) × (number ≡ old_number)
+CopiesKept (Lent x) status dev old_dev number old_number (Lent next) = IsOut x status next × (dev ≡ old_dev) × (number ≡ old_number)
 CopiesKept _ status dev old_dev number old_number _ = ⊥
 
 abbrev pub EndsKept : State → ℕ → ℕ → ℕ → State → Type 0
 EndsKept (Still m) status round before (Still next) = IsNotBegun m status next × (round ≡ before)
 EndsKept (Moving l) status round before (Moving next) = IsServed l events.EndRound status round before next
 EndsKept (Arriving r) status round before (Arriving next) = IsNotThere r status next × (round ≡ before)
+EndsKept (Lent x) status round before (Lent next) = IsOut x status next × (round ≡ before)
 EndsKept _ status round before _ = ⊥
 
 -- How many pages and sectors a stop sent.
@@ -106,6 +110,7 @@ abbrev pub StopsKept : State → ℕ → ℕ → ℕ → ℕ → ℕ → State �
 StopsKept (Still m) status pages old_pages sectors old_sectors (Still next) = IsNotBegun m status next × (pages ≡ old_pages) × (sectors ≡ old_sectors)
 StopsKept (Moving l) status pages old_pages sectors old_sectors (Moving next) = HasStopped l status pages old_pages sectors old_sectors next
 StopsKept (Arriving r) status pages old_pages sectors old_sectors (Arriving next) = IsNotThere r status next × (pages ≡ old_pages) × (sectors ≡ old_sectors)
+StopsKept (Lent x) status pages old_pages sectors old_sectors (Lent next) = IsOut x status next × (pages ≡ old_pages) × (sectors ≡ old_sectors)
 StopsKept _ status pages old_pages sectors old_sectors _ = ⊥
 
 -- The machine is no longer being migrated, and is otherwise as it was. What was written and not taken is gone.
@@ -113,12 +118,14 @@ abbrev pub AbortsKept : State → ℕ → State → Type 0
 AbortsKept (Still m) status (Still next) = IsNotBegun m status next
 AbortsKept (Moving l) status (Still next) = (status ≡ done) × (next ≡ l.machine)
 AbortsKept (Arriving r) status (Arriving next) = IsNotThere r status next
+AbortsKept (Lent x) status (Lent next) = IsOut x status next
 AbortsKept _ status _ = ⊥
 
 -- How many items are due, and how many are dirty.
 abbrev pub RemainsKept : State → ℕ → ℕ → ℕ → ℕ → ℕ → Type 0
 RemainsKept (Still m) status due old_due dirty old_dirty = (status ≡ mig_status NotBegun) × (due ≡ old_due) × (dirty ≡ old_dirty)
 RemainsKept (Arriving r) status due old_due dirty old_dirty = (status ≡ no_machine) × (due ≡ old_due) × (dirty ≡ old_dirty)
+RemainsKept (Lent x) status due old_due dirty old_dirty = (status ≡ lent) × (due ≡ old_due) × (dirty ≡ old_dirty)
 RemainsKept (Moving l) status due old_due dirty old_dirty = (status ≡ done) × (due ≡ count_by (λ b. b) l.due) × (dirty ≡ count_by (λ b. b) l.dirty)
 
 -- The first of the bytes that wait went to the front of the buffer, as many as fit, and no longer wait. All else is unchanged.
@@ -128,10 +135,23 @@ pub record HasTaken (l : LiveSeen) (status got : ℕ) (buf new_buf : List ℕ) (
   pub bytes : new_buf ≡ take got l.out.held ++ drop got buf
   pub rest : next ≡ record l { out = over_writer (Some (drop got l.out.held)) 0 false }
 
+-- As above, while its RAM is lent: what waits is no part of RAM.
+pub record HasTakenLent (l : LiveParkedSeen) (status got : ℕ) (buf new_buf : List ℕ) (next : LiveParkedSeen) : Type 0 where
+  pub status_is : status ≡ done
+  pub count : got ≡ min (length buf) (length l.out.held)
+  pub bytes : new_buf ≡ take got l.out.held ++ drop got buf
+  pub rest : next ≡ record l { out = over_writer (Some (drop got l.out.held)) 0 false }
+
+abbrev pub TakesLent : LoanSeen → ℕ → ℕ → ℕ → List ℕ → List ℕ → LoanSeen → Type 0
+TakesLent (StillLent p) status got old_got buf new_buf (StillLent next) = (status ≡ mig_status NotBegun) × (next ≡ p) × (got ≡ old_got) × (new_buf ≡ buf)
+TakesLent (MovingLent l) status got old_got buf new_buf (MovingLent next) = HasTakenLent l status got buf new_buf next
+TakesLent _ status got old_got buf new_buf _ = ⊥
+
 abbrev pub TakesKept : State → ℕ → ℕ → ℕ → List ℕ → List ℕ → State → Type 0
 TakesKept (Still m) status got old_got buf new_buf (Still next) = IsNotBegun m status next × (got ≡ old_got) × (new_buf ≡ buf)
 TakesKept (Moving l) status got old_got buf new_buf (Moving next) = HasTaken l status got buf new_buf next
 TakesKept (Arriving r) status got old_got buf new_buf (Arriving next) = IsNotThere r status next × (got ≡ old_got) × (new_buf ≡ buf)
+TakesKept (Lent x) status got old_got buf new_buf (Lent next) = TakesLent x status got old_got buf new_buf next
 TakesKept _ status got old_got buf new_buf _ = ⊥
 
 pub record DoesBegun (k : KeptSeen) (status : ℕ) (after : Option KeptSeen) : Type 0 where

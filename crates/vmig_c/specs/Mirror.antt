@@ -15,21 +15,30 @@ use Rattle.sender.specs.LiveState.{how_many}
 use Rattle.sender.specs.declared.mig_error.MigError.TheVariants.{AlreadyStopped}
 use Rattle.sender.specs.declared.phase.Phase.{Phase}
 use Rattle.sender.specs.declared.phase.Phase.TheVariants as phases
-use Rattle.vmig_c.specs.Status.{done, mig_status, no_machine, too_small}
+use Rattle.vmig_c.specs.Status.{done, lent, mig_status, no_machine, too_small}
 use Rattle.vmig_c.specs.Told.{TellsSo}
-use Rattle.vmig_c.specs.Kept.{KeptSeen, State, Still, Moving, Arriving}
+use Rattle.vmig_c.specs.Kept.{KeptSeen, State, Still, Moving, Arriving, Lent}
 
--- A machine that is arriving is none yet.
-abbrev pub is_coming : State → Bool
-is_coming (Still m) = false
-is_coming (Moving l) = false
-is_coming (Arriving r) = true
+-- A machine that is arriving is none yet, and one whose RAM is lent has no bytes of it.
+abbrev pub is_away : State → Bool
+is_away (Still m) = false
+is_away (Moving l) = false
+is_away (Arriving r) = true
+is_away (Lent x) = true
 
--- The machine behind a handle, whether it is being migrated or not; for one that is arriving, an empty one.
+-- The status that says so.
+abbrev pub away_status : State → ℕ
+away_status (Lent x) = lent
+away_status _ = no_machine
+
+abbrev pub no_machine_seen : Seen
+no_machine_seen = record { memory = record { bytes = []; versions = []; place = None }; devices = [] }
+
+-- The machine behind a handle, whether it is being migrated or not; where its RAM is away, an empty one.
 abbrev pub machine_in : State → Seen
 machine_in (Still m) = m
 machine_in (Moving l) = l.machine
-machine_in (Arriving r) = record { memory = record { bytes = []; versions = []; place = None }; devices = [] }
+machine_in _ = no_machine_seen
 
 abbrev pub memory_in : State → Memory
 memory_in k = (machine_in k).memory
@@ -56,12 +65,12 @@ is_closed _ = false
 abbrev pub is_stopped : State → Bool
 is_stopped (Still m) = false
 is_stopped (Moving l) = is_closed l.phase
-is_stopped (Arriving r) = false
+is_stopped _ = false
 
 -- Why pages are not handed in.
 abbrev pub push_refusal : State → List ℕ → ℕ → ℕ → Option ℕ
 push_refusal k pages bytes entries =
-    if is_coming k then Some no_machine
+    if is_away k then Some (away_status k)
     else if is_short (memory_in k) bytes entries then Some too_small
     else if not (are_pages (length (memory_in k).versions) pages) then Some (code_of OutOfRam)
     else if is_stopped k then Some (mig_status AlreadyStopped)
@@ -132,11 +141,11 @@ abbrev pub Pulls : Memory → ℕ → List ℕ → List ℕ → List ℕ → Lis
 Pulls m status ram new_ram seen new_seen count before = PullsIf (is_short m (length ram) (length seen)) m status ram new_ram seen new_seen count before
 
 abbrev pub PullsUnless : Bool → State → ℕ → List ℕ → List ℕ → List ℕ → List ℕ → ℕ → ℕ → Type 0
-PullsUnless true k status ram new_ram seen new_seen count before = IsUnpulled no_machine status ram new_ram seen new_seen count before
+PullsUnless true k status ram new_ram seen new_seen count before = IsUnpulled (away_status k) status ram new_ram seen new_seen count before
 PullsUnless false k status ram new_ram seen new_seen count before = Pulls (memory_in k) status ram new_ram seen new_seen count before
 
 abbrev pub PullsKept : State → ℕ → List ℕ → List ℕ → List ℕ → List ℕ → ℕ → ℕ → Type 0
-PullsKept k status ram new_ram seen new_seen count before = PullsUnless (is_coming k) k status ram new_ram seen new_seen count before
+PullsKept k status ram new_ram seen new_seen count before = PullsUnless (is_away k) k status ram new_ram seen new_seen count before
 
 -- Pages of the machine behind a handle were handed out.
 abbrev pub Pulled : Option KeptSeen → ℕ → List ℕ → List ℕ → List ℕ → List ℕ → ℕ → ℕ → Type 0

@@ -11,8 +11,8 @@ use Rattle.receiver.specs.declared.recv_error.RecvError.TheVariants.{ShapeMismat
 use Rattle.vmig_c.specs.Headed.{AreFitting}
 use Rattle.vmig_c.specs.Plain.{ArePlain, mem_state}
 use Rattle.vmig_c.specs.Status.{done, in_use, is_moving, no_machine, no_memory, too_small}
-use Rattle.vmig_c.specs.Told.{IsNotThere}
-use Rattle.vmig_c.specs.Kept.{KeptSeen, State, Still, Moving, Arriving}
+use Rattle.vmig_c.specs.Told.{IsNotThere, IsOut}
+use Rattle.vmig_c.specs.Kept.{KeptSeen, State, Still, Moving, Arriving, Lent}
 
 -- A machine that was read for its stream is unchanged.
 pub record IsKept (old new : Seen) : Type 0 where
@@ -53,6 +53,7 @@ abbrev pub SavesKept : State → ℕ → ℕ → ℕ → List ℕ → List ℕ �
 SavesKept (Still m) status len old_len buf new_buf (Still next) = Saves m status len old_len buf new_buf next
 SavesKept (Moving l) status len old_len buf new_buf (Moving next) = IsNotSaved l status len old_len buf new_buf next
 SavesKept (Arriving r) status len old_len buf new_buf (Arriving next) = IsNotThere r status next × (len ≡ old_len) × (new_buf ≡ buf)
+SavesKept (Lent x) status len old_len buf new_buf (Lent next) = IsOut x status next × (len ≡ old_len) × (new_buf ≡ buf)
 SavesKept _ status len old_len buf new_buf _ = ⊥
 
 pub record HasSaved (k : KeptSeen) (status len old_len : ℕ) (buf new_buf : List ℕ) (after : Option KeptSeen) : Type 0 where

@@ -4,9 +4,9 @@ use Rattle.machine.specs.NextWork.{next_work}
 use Rattle.machine.specs.Seen.{Seen, state_of}
 use Rattle.machine.specs.declared.work.Work.{Work}
 use Rattle.sender.specs.declared.mig_error.MigError.TheVariants.{AlreadyStopped}
-use Rattle.vmig_c.specs.Kept.{KeptSeen, State, Still, Moving, Arriving}
+use Rattle.vmig_c.specs.Kept.{KeptSeen, State, Still, Moving, Arriving, Lent}
 use Rattle.vmig_c.specs.Mirror.{is_closed}
-use Rattle.vmig_c.specs.Status.{idle, mig_status, no_machine, work}
+use Rattle.vmig_c.specs.Status.{idle, lent, mig_status, no_machine, work}
 
 -- The status and the two numbers of a step that was found. If none was, the numbers are unchanged.
 abbrev pub IsWorkTold : Option Work → ℕ → ℕ → ℕ → ℕ → ℕ → Type 0
@@ -30,6 +30,7 @@ abbrev pub FindsWork : State → ℕ → ℕ → ℕ → ℕ → ℕ → Type 0
 FindsWork (Still m) status dev old_dev pick old_pick = FindsWorkOf m status dev old_dev pick old_pick
 FindsWork (Moving l) status dev old_dev pick old_pick = FindsUnless (is_closed l.phase) l.machine status dev old_dev pick old_pick
 FindsWork (Arriving r) status dev old_dev pick old_pick = IsNoWork no_machine status dev old_dev pick old_pick
+FindsWork (Lent x) status dev old_dev pick old_pick = IsNoWork lent status dev old_dev pick old_pick
 
 abbrev pub FoundWork : Option KeptSeen → ℕ → ℕ → ℕ → ℕ → ℕ → Type 0
 FoundWork None status dev old_dev pick old_pick = IsNoWork no_machine status dev old_dev pick old_pick

@@ -6,13 +6,14 @@ use Rattle.machine.specs.declared.event.Event.{Event}
 use Rattle.sender.specs.LiveState.{LiveSeen, now}
 use Rattle.vmig_c.specs.Plain.{ArePlain}
 use Rattle.vmig_c.specs.Told.{Tells}
-use Rattle.vmig_c.specs.Kept.{State, Still, Moving, Arriving}
+use Rattle.vmig_c.specs.Kept.{State, Still, Moving, Arriving, Lent}
 
 -- The disks of the machine behind a handle lie in memory.
 abbrev pub ArePlainIn : State → Type 0
 ArePlainIn (Still m) = ArePlain m
 ArePlainIn (Moving l) = ArePlain l.machine
 ArePlainIn (Arriving r) = Unit {0}
+ArePlainIn (Lent x) = Unit {0}
 
 pub record IsSameSent (l next : LiveSeen) : Type 0 where
   pub machine : now next ≡ now l
@@ -22,6 +23,7 @@ abbrev pub IsSameKept : State → State → Type 0
 IsSameKept (Still m) (Still next) = state_of next ≡ state_of m
 IsSameKept (Moving l) (Moving next) = IsSameSent l next
 IsSameKept (Arriving r) (Arriving next) = next ≡ r
+IsSameKept (Lent x) (Lent next) = next ≡ x
 IsSameKept _ _ = ⊥
 
 -- A status from 1 to 63 says that the event was refused, or that memory was: nothing changed, and no number is returned.

@@ -1,15 +1,20 @@
 -- The migration of a machine out of a handle, from its first call on: its history, and the bytes that C has taken. What C has
 -- taken, followed by what waits, is all that a machine that is being migrated has written. So after a stop it is the whole
 -- stream of the machine, and what is made of it on the other side is the machine.
-use Rattle.std.specs.Prelude.{◌≡◌, ◌++◌, ℕ, List, [], Some, false, take}
+use Rattle.std.specs.Prelude.{◌≡◌, ◌++◌, ℕ, List, [], Some, false, length, take}
+use Rattle.region.specs.Address.{address}
+use Rattle.region.specs.declared.region.Region.{Region}
+use Rattle.guestmem.specs.Lent.{given_back}
 use Rattle.machine.specs.Effect.{Effect}
 use Rattle.machine.specs.Seen.{AreHonest, Seen, state_of}
 use Rattle.machine.specs.Sound.{IsSound}
 use Rattle.machine.specs.State.{MachineState}
+use Rattle.machine.specs.declared.event.Event.{Event}
 use Rattle.sender.specs.Calls.{Serves}
 use Rattle.sender.specs.Follows.{Relates}
-use Rattle.sender.specs.History.{History, has_fault, nothing, phase_of, then_came}
+use Rattle.sender.specs.History.{History, guest_events, has_fault, nothing, phase_of, text, then_came}
 use Rattle.sender.specs.LiveState.{LiveSeen, now}
+use Rattle.sender.specs.Parked.{KeepsWord, LiveParkedSeen, live_back, page_writes}
 use Rattle.sender.specs.Stopping.{HasPlaces}
 use Rattle.sender.specs.Taking.{untaken}
 use Rattle.sender.specs.declared.event.LiveEvent.{LiveEvent}
@@ -19,7 +24,9 @@ use Rattle.wire.specs.Sinks.{over_writer}
 use Rattle.wire.specs.Stream.{IsStream}
 use Rattle.vmig_c.specs.ArrivalSeen.{ArrivalSeen}
 use Rattle.vmig_c.specs.Awaited.{HasArrived, HasCome}
-use Rattle.vmig_c.specs.Migrated.{HasTaken, IsFresh}
+use Rattle.vmig_c.specs.Lent.{IsLiveLoan}
+use Rattle.vmig_c.specs.Migrated.{HasTaken, HasTakenLent, IsFresh}
+use Rattle.vmig_c.specs.Mirror.{is_closed}
 use Rattle.vmig_c.specs.Moving.{IsReceivedAs}
 
 -- This happened to the machine since its migration began, and these bytes were taken.
@@ -42,6 +49,31 @@ CallsStaySent = (m : MachineState) (h : History) (taken : List ℕ) (e : LiveEve
 abbrev pub TakingsStaySent : Type 0
 TakingsStaySent = (m : MachineState) (h : History) (taken buf new_buf : List ℕ) (status got : ℕ) (l next : LiveSeen) → IsSent m h taken l → has_fault h ≡ false → HasTaken l status got buf new_buf next
     → IsSent m h (taken ++ take got new_buf) next
+
+-- While RAM is lent: all this happened before, and these bytes were taken before or meanwhile.
+pub record IsSentLent (m : MachineState) (h : History) (taken : List ℕ) (before : Region) (p : LiveParkedSeen) : Type 0 where
+  pub lender : LiveSeen
+  pub is_sent : IsSent m h taken lender
+  pub loan : IsLiveLoan lender before p
+  pub goes : is_closed lender.phase ≡ false
+
+-- What is taken while RAM is lent adds to what was taken.
+abbrev pub LentTakingsStaySent : Type 0
+LentTakingsStaySent = (m : MachineState) (h : History) (taken buf new_buf : List ℕ) (status got : ℕ) (before : Region) (p next : LiveParkedSeen) → IsSentLent m h taken before p → has_fault h ≡ false
+    → HasTakenLent p status got buf new_buf next → IsSentLent m h (taken ++ take got new_buf) before next
+
+-- The history goes on by these events of the guest, and nothing is written meanwhile.
+pub record GoesOnSent (m : MachineState) (h : History) (taken : List ℕ) (events : List Event) (next : LiveSeen) : Type 0 where
+  pub history : History
+  pub is_sent : IsSent m history taken next
+  pub came : guest_events history ≡ guest_events h ++ events
+  pub text_is : text m history ≡ text m h
+
+-- RAM that is given back by a caller that keeps its word is as if the guest had written the named pages by calls of the machine: so
+-- the history goes on by these writes.
+abbrev pub LentComesBackSent : Type 0
+LentComesBackSent = (m : MachineState) (h : History) (taken : List ℕ) (before after : Region) (pages : List ℕ) (p : LiveParkedSeen) → IsSentLent m h taken before p → KeepsWord before after (length p.parked.versions) pages
+    → GoesOnSent m h taken (page_writes pages after.content) (live_back p (given_back after.content (address after) p.parked.versions pages) pages)
 
 -- After a stop, what was taken, followed by what waits, is the stream of the machine.
 abbrev pub StoppedIsWhole : Type 0

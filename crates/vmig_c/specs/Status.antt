@@ -6,6 +6,8 @@
 --      7 to 15   a call was refused before the machine was asked, or memory was
 --     17 to 22   a call of a migration was refused: 16 plus the number of its reason. 20 says that memory for what waits to be
 --                taken was refused: the migration has failed then, and the machine is as it was
+--     23         the RAM of the machine is lent
+--     24 to 26   a call was refused that lends RAM, takes it back, or makes a machine over it
 --     33 to 48   a stream was refused: 32 plus the number of its fault. No more of it is taken: 48 is returned from then on
 --     64         a register was written, and a byte came out
 --     65 to 73   what a step did
@@ -71,6 +73,21 @@ not_mapped = 14
 -- The images are not as long as the disks.
 abbrev pub bad_images : ℕ
 bad_images = 15
+
+-- The RAM of the machine is lent; or it is not.
+abbrev pub lent : ℕ
+lent = 23
+
+abbrev pub not_lent : ℕ
+not_lent = 24
+
+-- The RAM does not lie in memory of the caller.
+abbrev pub not_over : ℕ
+not_over = 25
+
+-- The memory that is given is not RAM: its length is not that of whole pages, as many as are asked for.
+abbrev pub bad_ram : ℕ
+bad_ram = 26
 
 -- The sector is bad.
 abbrev pub bad_sector : ℕ

@@ -7,9 +7,9 @@ use Rattle.machine.specs.Shapes.{disk_size_of, made_as}
 use Rattle.mapped_disk.specs.declared.image.Image.{Image}
 use Rattle.receiver.specs.Receiving.{Received}
 use Rattle.vmig_c.specs.ArrivalSeen.{ArrivalSeen, Over}
-use Rattle.vmig_c.specs.Kept.{KeptSeen, State, Still, Moving, Arriving}
+use Rattle.vmig_c.specs.Kept.{KeptSeen, State, Still, Moving, Arriving, Lent}
 use Rattle.vmig_c.specs.Mapping.{contents, counts}
-use Rattle.vmig_c.specs.Status.{bad_images, done, no_machine, not_mapped, too_small}
+use Rattle.vmig_c.specs.Status.{bad_images, done, lent, no_machine, not_mapped, too_small}
 
 -- The sectors of the devices that have a disk, in their order.
 abbrev pub disk_if : Option ℕ → List Sector → List (List Sector)
@@ -65,6 +65,7 @@ abbrev pub mapped_refusal_of : State → List Image → Option ℕ
 mapped_refusal_of (Still m) images = slots_refusal (length (disks_in m.devices)) images
 mapped_refusal_of (Moving l) images = slots_refusal (length (disks_in l.machine.devices)) images
 mapped_refusal_of (Arriving r) images = arriving_refusal r images
+mapped_refusal_of (Lent x) images = Some lent
 
 abbrev pub own_refusal_of : State → Option ℕ
 own_refusal_of (Arriving r) = Some no_machine
@@ -92,6 +93,7 @@ abbrev pub HasUnmappedState : State → List Image → List Image → Type 0
 HasUnmappedState (Still m) images new_images = HasUnmapped m images new_images
 HasUnmappedState (Moving l) images new_images = HasUnmapped l.machine images new_images
 HasUnmappedState (Arriving r) images new_images = HasUnmappedArrival r images new_images
+HasUnmappedState (Lent x) images new_images = ⊥
 
 pub record IsUnmapped (k : KeptSeen) (images new_images : List Image) (status : ℕ) (after : Option KeptSeen) : Type 0 where
   pub status_is : status ≡ done

@@ -77,7 +77,11 @@ fn finished(alloc: Global, old: Kept) -> (Kept, u32)
     ensures finishes { FinishesKept old.state result.1 result.0.state }
     ensures kind { result.0 ≡ record old { state = result.0.state } }
 {
-    let Kept { contents, sent } = old;
+    let Kept {
+        contents,
+        sent,
+        named,
+    } = old;
     let (contents, status) = match contents {
         Contents::Arriving(arrival) => match arrival.finish() {
             Ok(machine) => (Contents::Still(machine), DONE),
@@ -92,7 +96,12 @@ fn finished(alloc: Global, old: Kept) -> (Kept, u32)
         },
         contents => (contents, IN_USE),
     };
-    (Kept { contents, sent }, status)
+    let kept = Kept {
+        contents,
+        sent,
+        named,
+    };
+    (kept, status)
 }
 
 /// The number of rounds that ended in the bytes that arrived.

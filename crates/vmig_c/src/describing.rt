@@ -2,10 +2,12 @@
 
 ghost use Rattle.std.specs.Prelude.{◌≡◌, slice_get};
 ghost use Rattle.machine.specs.Seen.{state_of};
-ghost use Rattle.vmig_c.specs.Described.{DescribesKept, IsSized, SizesKept, Tells, TellsOf};
+ghost use Rattle.vmig_c.specs.Kept.{loan_of, parked_in};
+ghost use Rattle.vmig_c.specs.Described.{DescribesKept, IsSized, IsSizedLent, SizesKept, Tells, TellsOf};
 
 use crate::device_shape::DeviceShape;
 use crate::kept::{Contents, Kept};
+use crate::loan::Loan;
 use crate::status::{DONE, NO_DEVICE, NO_MACHINE};
 use guestmem::PAGE_SIZE;
 use machine::{Disk, Machine, Shape};
@@ -20,6 +22,7 @@ pub(crate) fn size_kept(kept: &Kept, pages: &mut u32, devices: &mut u32) -> u32
         Contents::Moving(live) => size_told(live.machine(), pages, devices),
         Contents::MovingMapped(live) => size_told(live.machine(), pages, devices),
         Contents::Arriving(_) | Contents::ArrivingMapped(_) => NO_MACHINE,
+        Contents::Lent(loan) => lent_size_told(loan, pages, devices),
     }
 }
 
@@ -29,6 +32,15 @@ fn size_told<D: Disk>(machine: &Machine<D>, pages: &mut u32, devices: &mut u32) 
     let shapes = machine.shapes();
     *pages = (machine.ram().len() / PAGE_SIZE as u64) as u32;
     *devices = shapes.len() as u32;
+    DONE
+}
+
+/// As above, while its RAM is lent.
+fn lent_size_told(loan: &Loan, pages: &mut u32, devices: &mut u32) -> u32
+    ensures { IsSizedLent (parked_in (loan_of loan.now)) result pages.new devices.new }
+{
+    *pages = loan.pages() as u32;
+    *devices = loan.shapes().len() as u32;
     DONE
 }
 
@@ -42,6 +54,7 @@ pub(crate) fn describe_kept(kept: &Kept, dev: u8, shape: &mut DeviceShape) -> u3
         Contents::Moving(live) => device_told(live.machine(), dev, shape),
         Contents::MovingMapped(live) => device_told(live.machine(), dev, shape),
         Contents::Arriving(_) | Contents::ArrivingMapped(_) => NO_MACHINE,
+        Contents::Lent(loan) => tell(loan.shapes(), dev, shape),
     }
 }
 

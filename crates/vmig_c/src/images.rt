@@ -14,7 +14,7 @@ use crate::kept::{Contents, Kept};
 use crate::making::shapes_of;
 use crate::moving::put_front;
 use crate::status::{
-    BAD_SECTOR, DISK_FAILED, DONE, IS_MOVING, NO_DEVICE, NO_MACHINE, NO_SECTOR, TOO_SMALL,
+    BAD_SECTOR, DISK_FAILED, DONE, IS_MOVING, LENT, NO_DEVICE, NO_MACHINE, NO_SECTOR, TOO_SMALL,
     WRONG_KIND,
 };
 use guestmem::NoMemory;
@@ -129,6 +129,7 @@ pub(crate) fn read_sector(kept: &mut Kept, dev: u8, sector: u64, buf: &mut [u8])
         Contents::StillMapped(machine) => read_out(machine, dev, sector, buf),
         Contents::Moving(_) | Contents::MovingMapped(_) => IS_MOVING,
         Contents::Arriving(_) | Contents::ArrivingMapped(_) => NO_MACHINE,
+        Contents::Lent(_) => LENT,
     }
 }
 
@@ -141,6 +142,7 @@ fn sector_refusal(kept: &Kept, dev: u8, sector: u64, room: usize) -> Option<u32>
         Contents::StillMapped(machine) => device_refusal(machine, dev, sector, room),
         Contents::Moving(_) | Contents::MovingMapped(_) => Some(IS_MOVING),
         Contents::Arriving(_) | Contents::ArrivingMapped(_) => Some(NO_MACHINE),
+        Contents::Lent(_) => Some(LENT),
     }
 }
 

@@ -4,6 +4,7 @@ ghost use Rattle.vmig_c.specs.Kept.{kept_of};
 
 use crate::arrival::Arrival;
 use crate::landing::Landing;
+use crate::loan::Loan;
 use crate::waiting::Waiting;
 use machine::{Machine, MemDisk};
 use mapped_disk::MappedDisk;
@@ -15,7 +16,7 @@ use std::marker::Model;
 pub(crate) type Moving<D> = Live<D, Waiting>;
 
 /// A machine that is not being migrated, or one that is migrated while it runs, over disks in memory of the library or of the
-/// caller; or one that arrives. The bytes written for a migration wait until C takes them.
+/// caller; one that arrives; or one whose RAM is lent. The bytes written for a migration wait until C takes them.
 #[derive(Drop)]
 pub enum Contents {
     /// It is not being migrated: no stream is written.
@@ -35,6 +36,9 @@ pub enum Contents {
 
     /// It arrives, or was refused, over disks in the caller's memory.
     ArrivingMapped(Landing),
+
+    /// Its RAM is lent to the caller.
+    Lent(Loan),
 }
 
 /// The contents of a handle. Contracts see which state they are in, and whether the disks are the caller's memory.
@@ -43,6 +47,8 @@ pub struct Kept {
     pub(crate) contents: Contents,
     // The bytes of the last message that a step sent: kept, so that the next one takes no memory.
     pub(crate) sent: Vec<u8>,
+    // The numbers of the pages that were given back last by a bitmap: kept for the same reason.
+    pub(crate) named: Vec<u32>,
 }
 
 impl Model for Kept {
@@ -63,6 +69,7 @@ impl Kept {
         Kept {
             contents,
             sent: Vec::new(alloc),
+            named: Vec::new(alloc),
         }
     }
 }

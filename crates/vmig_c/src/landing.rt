@@ -7,7 +7,7 @@ ghost use Rattle.vmig_c.specs.Mapping.{AreTaken, contents};
 use crate::arrival::Arrival;
 use crate::kept::{Contents, Kept};
 use crate::mapping::mapped_disks;
-use guestmem::NoMemory;
+use guestmem::{NoMemory, Ram};
 use machine::Machine;
 use mapped_disk::{Image, MappedDisk};
 use receiver::{Receiver, RecvError};
@@ -32,17 +32,26 @@ impl Model for Landing {
 }
 
 impl Landing {
-    ghost use Rattle.std.specs.Prelude.{◌≡◌, IfErr, IfOk, length};
+    ghost use Rattle.std.specs.Prelude.{◌≡◌, IfErr, IfOk, None, length};
     ghost use Rattle.vmig_c.specs.Awaited.{CountsRounds, HasArrived, HasSameDisks, IsClosed, IsFed, IsOver, TellsEnd, TellsOf, awaited_sizes};
-    ghost use Rattle.vmig_c.specs.Landing.{AreDisksOf, IsAwaitedOver};
+    ghost use Rattle.vmig_c.specs.Landing.{AreDisksOf, IsAwaitedAt};
     ghost use Rattle.vmig_c.specs.Mapping.{contents};
 
     /// An arrival over these disks that was fed nothing yet. It takes no memory.
     fn new(alloc: Global, disks: Vec<MappedDisk>) -> Landing
-        ensures { IsAwaitedOver (contents disks.items) result }
+        ensures { IsAwaitedAt None (contents disks.items) result }
     {
         Landing {
             receiver: Receiver::new(alloc, disks),
+        }
+    }
+
+    /// As `new`, into this RAM.
+    pub(crate) fn new_in(alloc: Global, disks: Vec<MappedDisk>, ram: Ram) -> Landing
+        ensures { IsAwaitedAt ram.place (contents disks.items) result }
+    {
+        Landing {
+            receiver: Receiver::new_in(alloc, disks, ram),
         }
     }
 

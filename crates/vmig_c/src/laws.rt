@@ -3,7 +3,7 @@
 ghost use Rattle.vmig_c.specs.Mirror.{AppliedMirrors, PulledMirrors, PushedMirrors, UnseenMirrors};
 ghost use Rattle.vmig_c.specs.Plain.{PlainStays, RefusedChangesNothing};
 ghost use Rattle.vmig_c.specs.Refused.{RefusedTellsNothing};
-ghost use Rattle.vmig_c.specs.Sent.{ArrivedIsSent, CallsStaySent, FirstIsSent, ReceivedIsSent, StoppedIsWhole, TakingsStaySent};
+ghost use Rattle.vmig_c.specs.Sent.{ArrivedIsSent, CallsStaySent, FirstIsSent, LentComesBackSent, LentTakingsStaySent, ReceivedIsSent, StoppedIsWhole, TakingsStaySent};
 
 /// A machine over disks in memory stays one.
 pub fn plain_stays()
@@ -33,6 +33,16 @@ pub fn calls_stay_sent()
 /// What is taken follows what was taken before, and the history stays.
 pub fn takings_stay_sent()
     ensures { TakingsStaySent }
+{}
+
+/// So does what is taken while RAM is lent.
+pub fn lent_takings_stay_sent()
+    ensures { LentTakingsStaySent }
+{}
+
+/// RAM that is given back with each page that was written adds the writes of these pages to the history.
+pub fn lent_comes_back_sent()
+    ensures { LentComesBackSent }
 {}
 
 /// After a stop that was done, what was taken and what still waits are the stream of the machine.

@@ -1,8 +1,8 @@
 //! A machine as C sees it: `vmig.h` says the same to its reader, and what C owes.
 //!
 //! `Handle` is the one type that C holds: a pointer, null or of a machine in a box. All raw pointers are in one file, `handle`.
-//! It cannot be dropped, so a function that loses one is refused. Its contents are a machine that is idle, is being
-//! migrated or arrives, with disks in memory of the library or of the caller (`kept`). No call moves the disks.
+//! It cannot be dropped, so a function that loses one is refused. Its contents are a machine that is idle, is being migrated, arrives,
+//! or has lent its RAM, with RAM and disks in memory of the library or of the caller (`kept`). No call moves RAM or disks.
 //!
 //! # What the layers above may rely on
 //! - Every export is an ordinary function, and its clause is the step of the machine (`specs/Told`, `specs/Stepped`), its
@@ -30,6 +30,11 @@
 //!   bad sectors, which may hold anything (`specs/Unmapping`). It also ends an arrival over images, refused or not, and gives them
 //!   back. Each refuses without a change. That an image comes back to its
 //!   address is not in the clause, since a machine is not seen with addresses; the disk has no other memory to give.
+//! - `vmig_make_over` makes the first machine over RAM in memory of the caller, with the bytes that are there, and `vmig_arrive_over` lets
+//!   one arrive in it (`specs/OverRam`). `vmig_lend` lends this RAM to the caller; `vmig_give_back`, `vmig_give_back_marked` and
+//!   `vmig_give_back_all` take it back with the pages that were written, which are named by a list, a bitmap (`specs/Named`), or not at
+//!   all (`specs/Lent`). Each refuses without a change. Meanwhile the handle has all of the machine but its RAM (`loan`), and a call
+//!   that needs RAM is refused.
 //! - The machines of C have their disks in memory (`specs/Plain`): they are honest and steady, and stay so.
 //! - The caller's part is C's: pointers and counts name memory as the header says.
 #![tactic(auto)]
@@ -42,6 +47,7 @@ ghost use Rattle.vmig_c.specs.Described.{Describes, Sizes};
 ghost use Rattle.vmig_c.specs.Durable.{sync_told};
 ghost use Rattle.vmig_c.specs.Images.{MakesWith, SectorRead};
 ghost use Rattle.vmig_c.specs.Landing.{Awaits};
+ghost use Rattle.vmig_c.specs.Lent.{GivesBack, GivesBackMarked, GivesBackWhole, Lends};
 ghost use Rattle.vmig_c.specs.Making.{Makes};
 ghost use Rattle.vmig_c.specs.Mapping.{Maps};
 ghost use Rattle.vmig_c.specs.Measured.{Measured};
@@ -49,6 +55,7 @@ ghost use Rattle.vmig_c.specs.Migrated.{Aborted, Begun, Copied, EndedRound, HasB
 ghost use Rattle.vmig_c.specs.Mirror.{Pulled, Pushed};
 ghost use Rattle.vmig_c.specs.Moving.{Received, Saved};
 ghost use Rattle.vmig_c.specs.NextWork.{FoundWork};
+ghost use Rattle.vmig_c.specs.OverRam.{AwaitsIn, MakesOver};
 ghost use Rattle.vmig_c.specs.Stepped.{Stepped};
 ghost use Rattle.vmig_c.specs.Unmapping.{Unmaps};
 ghost use Rattle.vmig_c.specs.Told.{Told, ToldSo, Read, lines_told};
@@ -64,12 +71,16 @@ mod images;
 mod kept;
 mod landing;
 pub mod laws;
+mod lending;
+mod loan;
 mod making;
 mod mapping;
 mod measuring;
 mod migrating;
 mod mirror;
 mod moving;
+mod naming;
+mod over_ram;
 mod serving;
 mod status;
 mod stepping;
@@ -85,6 +96,7 @@ pub use device_shape::DeviceShape;
 pub use handle::Handle;
 use images::{are_images, machine_with, read_sector};
 use landing::landing_over;
+use lending::{give_back, give_back_all, give_back_marked, lend};
 use making::{are_beyond_limits, machine_of};
 use mapped_disk::Image;
 use mapping::{are_counted, machine_over};
@@ -92,8 +104,10 @@ use measuring::measure_kept;
 use migrating::{abort, begin, copy, end_round, remaining, stop, take, taken_out};
 use mirror::{pull, push};
 use moving::{machine_in, save_kept};
+use over_ram::{is_ram, landing_in, machine_in_ram, over_refusal};
+use region::Slot;
 use serving::{input, lines, read_ram, read_register, resize, write_ram, write_register};
-use status::{BAD_IMAGES, BAD_SHAPE, DONE, IN_USE, NO_MACHINE, NO_MEMORY};
+use status::{BAD_IMAGES, BAD_RAM, BAD_SHAPE, DONE, IN_USE, NO_MACHINE, NO_MEMORY};
 use std::alloc::Global;
 use stepping::step_kept;
 use syncing::sync_kept;
@@ -186,6 +200,32 @@ pub extern "C" fn vmig_make_mapped(
         return BAD_IMAGES;
     }
     let Ok(made) = machine_over(alloc, pages, shapes, images) else {
+        return NO_MEMORY;
+    };
+    std::mem::replace(machine, Handle::of(made)).gone();
+    DONE
+}
+
+/// Makes such a machine, whose RAM is the bytes of the memory in the slot, as they are, and whose disks lie in the images; where there
+/// is no image, its disks are zeros in memory. Slot and images are taken; where it is refused they are as they were.
+#[unsafe(no_mangle)]
+#[tactic(auto, using(crate::proofs::OverRam::over_used, crate::proofs::OverRam::over_beyond, crate::proofs::OverRam::over_full, crate::proofs::OverRam::over_done))]
+pub extern "C" fn vmig_make_over(
+    alloc: Global,
+    ram: &mut Slot,
+    shapes: &[DeviceShape],
+    images: &mut [Image],
+    machine: &mut Handle,
+) -> u32
+    ensures { MakesOver machine.old.machine ram.old ram.new shapes.now images.old images.new result machine.new.machine }
+{
+    if machine.is_made() {
+        return IN_USE;
+    }
+    if let Some(status) = over_refusal(ram, shapes, images) {
+        return status;
+    }
+    let Ok(made) = machine_in_ram(alloc, ram, shapes, images) else {
         return NO_MEMORY;
     };
     std::mem::replace(machine, Handle::of(made)).gone();
@@ -318,6 +358,66 @@ pub extern "C" fn vmig_pull(
         return NO_MACHINE;
     }
     pull(machine.get_mut(), ram, seen, count)
+}
+
+/// Lends the RAM of the machine to the caller, in whose memory it lies: it goes into the slot, which has to be free. It takes no memory,
+/// and no longer for a larger RAM.
+#[unsafe(no_mangle)]
+#[tactic(auto, using(crate::proofs::LentCalls::lends_none, crate::proofs::LentCalls::lends_some))]
+pub extern "C" fn vmig_lend(alloc: Global, machine: &mut Handle, ram: &mut Slot) -> u32
+    ensures { Lends machine.old.machine ram.old result ram.new machine.new.machine }
+{
+    if !machine.is_made() {
+        return NO_MACHINE;
+    }
+    lend(alloc, machine.get_mut(), ram)
+}
+
+/// Gives the RAM back that lies in the slot, and in which the pages with these numbers were written. It takes no memory, and time for
+/// these pages alone.
+#[unsafe(no_mangle)]
+#[tactic(auto, using(crate::proofs::LentCalls::backs_none, crate::proofs::LentCalls::backs_some))]
+pub extern "C" fn vmig_give_back(
+    alloc: Global,
+    machine: &mut Handle,
+    ram: &mut Slot,
+    pages: &[u32],
+) -> u32
+    ensures { GivesBack machine.old.machine ram.old pages.now result ram.new machine.new.machine }
+{
+    if !machine.is_made() {
+        return NO_MACHINE;
+    }
+    give_back(alloc, machine.get_mut(), ram, pages)
+}
+
+/// As above, with the pages that are marked in a bitmap: page n by bit n, the lowest bit of the first word first.
+#[unsafe(no_mangle)]
+#[tactic(auto, using(crate::proofs::LentCalls::marks_none, crate::proofs::LentCalls::marks_some))]
+pub extern "C" fn vmig_give_back_marked(
+    alloc: Global,
+    machine: &mut Handle,
+    ram: &mut Slot,
+    words: &[u64],
+) -> u32
+    ensures { GivesBackMarked machine.old.machine ram.old words.now result ram.new machine.new.machine }
+{
+    if !machine.is_made() {
+        return NO_MACHINE;
+    }
+    give_back_marked(alloc, machine.get_mut(), ram, words)
+}
+
+/// As above, with all pages.
+#[unsafe(no_mangle)]
+#[tactic(auto, using(crate::proofs::LentCalls::whole_none, crate::proofs::LentCalls::whole_some))]
+pub extern "C" fn vmig_give_back_all(alloc: Global, machine: &mut Handle, ram: &mut Slot) -> u32
+    ensures { GivesBackWhole machine.old.machine ram.old result ram.new machine.new.machine }
+{
+    if !machine.is_made() {
+        return NO_MACHINE;
+    }
+    give_back_all(alloc, machine.get_mut(), ram)
 }
 
 /// A device does one piece of its work. What it sends goes to the front of the buffer; a step that may send more than the
@@ -631,6 +731,30 @@ pub extern "C" fn vmig_arrive_mapped(
         return IN_USE;
     }
     let Ok(made) = landing_over(alloc, images) else {
+        return NO_MEMORY;
+    };
+    std::mem::replace(machine, Handle::of(made)).gone();
+    DONE
+}
+
+/// As above, and its RAM will be the memory in the slot, which is taken: what arrives is written straight into it.
+#[unsafe(no_mangle)]
+#[tactic(auto, using(crate::proofs::OverRam::into_used, crate::proofs::OverRam::into_no_ram, crate::proofs::OverRam::into_full, crate::proofs::OverRam::into_done))]
+pub extern "C" fn vmig_arrive_over(
+    alloc: Global,
+    ram: &mut Slot,
+    images: &mut [Image],
+    machine: &mut Handle,
+) -> u32
+    ensures { AwaitsIn machine.old.machine ram.old ram.new images.old images.new result machine.new.machine }
+{
+    if machine.is_made() {
+        return IN_USE;
+    }
+    if !is_ram(ram) {
+        return BAD_RAM;
+    }
+    let Ok(made) = landing_in(alloc, ram, images) else {
         return NO_MEMORY;
     };
     std::mem::replace(machine, Handle::of(made)).gone();

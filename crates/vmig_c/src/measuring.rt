@@ -4,7 +4,7 @@ ghost use Rattle.vmig_c.specs.Kept as states;
 ghost use Rattle.vmig_c.specs.Measured.{MeasuresKept};
 
 use crate::kept::{Contents, Kept};
-use crate::status::{DONE, IS_MOVING, NO_MACHINE};
+use crate::status::{DONE, IS_MOVING, LENT, NO_MACHINE};
 use machine::{Disk, Machine};
 use sender::saved_len;
 
@@ -17,6 +17,7 @@ pub(crate) fn measure_kept(kept: &Kept, len: &mut usize) -> u32
         Contents::StillMapped(machine) => measure(machine, len),
         Contents::Moving(_) | Contents::MovingMapped(_) => IS_MOVING,
         Contents::Arriving(_) | Contents::ArrivingMapped(_) => NO_MACHINE,
+        Contents::Lent(_) => LENT,
     }
 }
 

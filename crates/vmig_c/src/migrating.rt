@@ -8,7 +8,7 @@ ghost use Rattle.sender.specs.declared.event.LiveEvent.TheVariants as live_event
 
 use crate::arrival::Arrival;
 use crate::kept::{Contents, Kept, Moving};
-use crate::status::{DONE, NO_MACHINE, NO_MEMORY, NOT_BEGUN, mig_told};
+use crate::status::{DONE, LENT, NO_MACHINE, NO_MEMORY, NOT_BEGUN, mig_told};
 use crate::waiting::Waiting;
 use machine::{Disk, Machine};
 use sender::{CopyAnswer, End, Item, Live, Stopped};
@@ -47,7 +47,11 @@ fn begun(alloc: Global, old: Kept) -> (Kept, u32)
     ensures begins { BeginsKept old.state result.1 result.0.state }
     ensures kind { result.0 ≡ record old { state = result.0.state } }
 {
-    let Kept { contents, sent } = old;
+    let Kept {
+        contents,
+        sent,
+        named,
+    } = old;
     let (contents, status) = match contents {
         Contents::Still(machine) => match begun_of(alloc, machine) {
             Ok(live) => (Contents::Moving(live), DONE),
@@ -67,8 +71,14 @@ fn begun(alloc: Global, old: Kept) -> (Kept, u32)
         }
         Contents::Arriving(arrival) => (Contents::Arriving(arrival), NO_MACHINE),
         Contents::ArrivingMapped(landing) => (Contents::ArrivingMapped(landing), NO_MACHINE),
+        Contents::Lent(loan) => (Contents::Lent(loan), LENT),
     };
-    (Kept { contents, sent }, status)
+    let kept = Kept {
+        contents,
+        sent,
+        named,
+    };
+    (kept, status)
 }
 
 /// Begins the migration of a machine. If memory is refused, gives the machine back as it was.
@@ -114,6 +124,7 @@ pub(crate) fn copy(kept: &mut Kept, dev: &mut u8, number: &mut u32) -> u32
         Contents::Moving(live) => copy_told(live, dev, number),
         Contents::MovingMapped(live) => copy_told(live, dev, number),
         Contents::Arriving(_) | Contents::ArrivingMapped(_) => NO_MACHINE,
+        Contents::Lent(_) => LENT,
     }
 }
 
@@ -148,6 +159,7 @@ pub(crate) fn end_round(kept: &mut Kept, round: &mut u32) -> u32
         Contents::Moving(live) => end_told(live, round),
         Contents::MovingMapped(live) => end_told(live, round),
         Contents::Arriving(_) | Contents::ArrivingMapped(_) => NO_MACHINE,
+        Contents::Lent(_) => LENT,
     }
 }
 
@@ -177,6 +189,7 @@ pub(crate) fn stop(kept: &mut Kept, pages: &mut u64, sectors: &mut u64) -> u32
         Contents::Moving(live) => stop_told(live, pages, sectors),
         Contents::MovingMapped(live) => stop_told(live, pages, sectors),
         Contents::Arriving(_) | Contents::ArrivingMapped(_) => NO_MACHINE,
+        Contents::Lent(_) => LENT,
     }
 }
 
@@ -214,7 +227,11 @@ fn aborted(old: Kept) -> (Kept, u32)
     ensures aborts { AbortsKept old.state result.1 result.0.state }
     ensures kind { result.0 ≡ record old { state = result.0.state } }
 {
-    let Kept { contents, sent } = old;
+    let Kept {
+        contents,
+        sent,
+        named,
+    } = old;
     let (contents, status) = match contents {
         Contents::Still(machine) => (Contents::Still(machine), NOT_BEGUN),
         Contents::StillMapped(machine) => (Contents::StillMapped(machine), NOT_BEGUN),
@@ -222,8 +239,14 @@ fn aborted(old: Kept) -> (Kept, u32)
         Contents::MovingMapped(live) => (Contents::StillMapped(live.abort()), DONE),
         Contents::Arriving(arrival) => (Contents::Arriving(arrival), NO_MACHINE),
         Contents::ArrivingMapped(landing) => (Contents::ArrivingMapped(landing), NO_MACHINE),
+        Contents::Lent(loan) => (Contents::Lent(loan), LENT),
     };
-    (Kept { contents, sent }, status)
+    let kept = Kept {
+        contents,
+        sent,
+        named,
+    };
+    (kept, status)
 }
 
 /// How many items are due, and how many are dirty.
@@ -235,6 +258,7 @@ pub(crate) fn remaining(kept: &Kept, due: &mut u64, dirty: &mut u64) -> u32
         Contents::Moving(live) => remaining_told(live, due, dirty),
         Contents::MovingMapped(live) => remaining_told(live, due, dirty),
         Contents::Arriving(_) | Contents::ArrivingMapped(_) => NO_MACHINE,
+        Contents::Lent(_) => LENT,
     }
 }
 
@@ -258,6 +282,7 @@ pub(crate) fn take(alloc: Global, kept: &mut Kept, buf: &mut [u8], got: &mut usi
         Contents::Moving(live) => take_told(alloc, live, buf, got),
         Contents::MovingMapped(live) => take_told(alloc, live, buf, got),
         Contents::Arriving(_) | Contents::ArrivingMapped(_) => NO_MACHINE,
+        Contents::Lent(loan) => loan.take(alloc, buf, got),
     }
 }
 

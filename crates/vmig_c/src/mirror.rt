@@ -4,12 +4,12 @@ ghost use Rattle.std.specs.Prelude.{◌≡◌, ◌*◌, ◌<◌, ◌≤◌, leng
 ghost use Rattle.guestmem.specs.Memory.{IsMemory};
 ghost use Rattle.guestmem.specs.Page.{page_of};
 ghost use Rattle.guestmem.specs.Write.{put_at};
-ghost use Rattle.vmig_c.specs.Mirror.{ArePushed, HasPulled, IsPushed, PullsKept, PushesKept, are_pages, is_closed, is_coming, is_noted, is_short, is_stopped, memory_in, push_refusal};
+ghost use Rattle.vmig_c.specs.Mirror.{ArePushed, HasPulled, IsPushed, PullsKept, PushesKept, are_pages, away_status, is_closed, is_away, is_noted, is_short, is_stopped, memory_in, push_refusal};
 ghost use Rattle.vmig_c.specs.Status.{done};
 ghost use Rattle.vmig_c.specs.Kept as states;
 
 use crate::kept::{Contents, Kept, Moving};
-use crate::status::{DONE, NO_MACHINE, OUT_OF_RAM, STOPPED, TOO_SMALL};
+use crate::status::{DONE, LENT, NO_MACHINE, OUT_OF_RAM, STOPPED, TOO_SMALL};
 use guestmem::{PAGE_SIZE, Ram};
 use machine::{Disk, Machine};
 use sender::Phase;
@@ -28,6 +28,7 @@ pub(crate) fn push(kept: &mut Kept, pages: &[u32], ram: &[u8], seen: &mut [u64])
         Contents::Moving(live) => push_moving(live, pages, ram, seen),
         Contents::MovingMapped(live) => push_moving(live, pages, ram, seen),
         Contents::Arriving(_) | Contents::ArrivingMapped(_) => NO_MACHINE,
+        Contents::Lent(_) => LENT,
     }
 }
 
@@ -36,7 +37,7 @@ fn push_refusal(kept: &Kept, pages: &[u32], bytes: usize, entries: usize) -> Opt
     ensures { result ≡ push_refusal kept.now.state pages.now bytes entries }
 {
     let Some(memory) = ram_of(kept) else {
-        return Some(NO_MACHINE);
+        return Some(away_status(kept));
     };
     if is_short(memory, bytes, entries) {
         return Some(TOO_SMALL);
@@ -50,16 +51,13 @@ fn push_refusal(kept: &Kept, pages: &[u32], bytes: usize, entries: usize) -> Opt
     None
 }
 
-fn is_stopped(kept: &Kept) -> bool
+pub(crate) fn is_stopped(kept: &Kept) -> bool
     ensures { result ≡ is_stopped kept.now.state }
 {
     match &kept.contents {
         Contents::Moving(live) => matches!(live.phase(), Phase::Stopped),
         Contents::MovingMapped(live) => matches!(live.phase(), Phase::Stopped),
-        Contents::Still(_)
-        | Contents::StillMapped(_)
-        | Contents::Arriving(_)
-        | Contents::ArrivingMapped(_) => false,
+        _ => false,
     }
 }
 
@@ -78,7 +76,7 @@ fn page_count(memory: &Ram) -> u64
     memory.len() / PAGE_SIZE as u64
 }
 
-fn are_pages(count: u64, pages: &[u32]) -> bool
+pub(crate) fn are_pages(count: u64, pages: &[u32]) -> bool
     ensures { result ≡ are_pages count pages.now }
 {
     for n in pages {
@@ -89,16 +87,26 @@ fn are_pages(count: u64, pages: &[u32]) -> bool
     true
 }
 
-/// The RAM of the machine, if there is one.
-fn ram_of(kept: &Kept) -> Option<&Ram>
-    ensures { MatchOption result (is_coming kept.now.state ≡ true) (λ ram. (is_coming kept.now.state ≡ false) × (ram.now ≡ memory_in kept.now.state)) }
+/// The RAM of the machine, if there is one and it is not lent.
+pub(crate) fn ram_of(kept: &Kept) -> Option<&Ram>
+    ensures { MatchOption result (is_away kept.now.state ≡ true) (λ ram. (is_away kept.now.state ≡ false) × (ram.now ≡ memory_in kept.now.state)) }
 {
     match &kept.contents {
         Contents::Still(machine) => Some(machine.ram()),
         Contents::StillMapped(machine) => Some(machine.ram()),
         Contents::Moving(live) => Some(live.machine().ram()),
         Contents::MovingMapped(live) => Some(live.machine().ram()),
-        Contents::Arriving(_) | Contents::ArrivingMapped(_) => None,
+        Contents::Arriving(_) | Contents::ArrivingMapped(_) | Contents::Lent(_) => None,
+    }
+}
+
+/// The status of a machine without RAM.
+pub(crate) fn away_status(kept: &Kept) -> u32
+    ensures { result ≡ away_status kept.now.state }
+{
+    match &kept.contents {
+        Contents::Lent(_) => LENT,
+        _ => NO_MACHINE,
     }
 }
 
@@ -162,7 +170,7 @@ pub(crate) fn pull(kept: &Kept, ram: &mut [u8], seen: &mut [u64], count: &mut u3
     ensures { PullsKept kept.now.state result ram.old ram.new seen.old seen.new count.new count.old }
 {
     let Some(memory) = ram_of(kept) else {
-        return NO_MACHINE;
+        return away_status(kept);
     };
     if is_short(memory, ram.len(), seen.len()) {
         return TOO_SMALL;

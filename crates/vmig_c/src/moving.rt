@@ -10,7 +10,7 @@ ghost use Rattle.vmig_c.specs.Plain.{ArePlain, mem_state};
 
 use crate::kept::{Contents, Kept};
 use crate::making::zero_disks;
-use crate::status::{DONE, IS_MOVING, NO_MACHINE, NO_MEMORY, TOO_SMALL};
+use crate::status::{DONE, IS_MOVING, LENT, NO_MACHINE, NO_MEMORY, TOO_SMALL};
 use guestmem::NoMemory;
 use machine::{Disk, Machine, MemDisk};
 use receiver::{RecvError, receive};
@@ -28,6 +28,7 @@ pub(crate) fn save_kept(alloc: Global, kept: &mut Kept, buf: &mut [u8], len: &mu
         Contents::StillMapped(machine) => save_told(alloc, machine, buf, len),
         Contents::Moving(_) | Contents::MovingMapped(_) => IS_MOVING,
         Contents::Arriving(_) | Contents::ArrivingMapped(_) => NO_MACHINE,
+        Contents::Lent(_) => LENT,
     }
 }
 

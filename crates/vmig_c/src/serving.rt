@@ -6,7 +6,7 @@ ghost use Rattle.sender.specs.declared.event.LiveEvent.TheVariants as live_event
 ghost use Rattle.vmig_c.specs.Told.{IsServed, ReadsKept, Tells, TellsSo, lines_in};
 
 use crate::kept::{Contents, Kept, Moving};
-use crate::status::{NO_MACHINE, answer_told, done_told, written_told};
+use crate::status::{LENT, NO_MACHINE, answer_told, done_told, written_told};
 use crate::stepping::reply_told;
 use machine::Disk;
 
@@ -24,6 +24,7 @@ pub(crate) fn read_register(kept: &mut Kept, dev: u8, off: u32, width: u8, value
         Contents::Moving(live) => value_told(live, dev, off, width, value),
         Contents::MovingMapped(live) => value_told(live, dev, off, width, value),
         Contents::Arriving(_) | Contents::ArrivingMapped(_) => NO_MACHINE,
+        Contents::Lent(_) => LENT,
     }
 }
 
@@ -59,6 +60,7 @@ pub(crate) fn write_register(
         Contents::Moving(live) => out_told(live, dev, off, width, value, out),
         Contents::MovingMapped(live) => out_told(live, dev, off, width, value, out),
         Contents::Arriving(_) | Contents::ArrivingMapped(_) => NO_MACHINE,
+        Contents::Lent(_) => LENT,
     }
 }
 
@@ -88,6 +90,7 @@ pub(crate) fn read_ram(kept: &Kept, addr: u64, buf: &mut [u8]) -> u32
         Contents::Moving(live) => done_told(live.machine().read_ram(addr, buf)),
         Contents::MovingMapped(live) => done_told(live.machine().read_ram(addr, buf)),
         Contents::Arriving(_) | Contents::ArrivingMapped(_) => NO_MACHINE,
+        Contents::Lent(_) => LENT,
     }
 }
 
@@ -101,6 +104,7 @@ pub(crate) fn lines(kept: &Kept) -> u16
         Contents::Moving(live) => live.machine().lines(),
         Contents::MovingMapped(live) => live.machine().lines(),
         Contents::Arriving(_) | Contents::ArrivingMapped(_) => 0,
+        Contents::Lent(loan) => loan.lines(),
     }
 }
 
@@ -116,6 +120,7 @@ pub(crate) fn write_ram(kept: &mut Kept, addr: u64, bytes: &[u8]) -> u32
         Contents::Moving(live) => write_told(live, addr, bytes),
         Contents::MovingMapped(live) => write_told(live, addr, bytes),
         Contents::Arriving(_) | Contents::ArrivingMapped(_) => NO_MACHINE,
+        Contents::Lent(_) => LENT,
     }
 }
 
@@ -141,6 +146,7 @@ pub(crate) fn input(kept: &mut Kept, dev: u8, bytes: &[u8], accepted: &mut u32) 
         Contents::Moving(live) => input_told(live, dev, bytes, accepted),
         Contents::MovingMapped(live) => input_told(live, dev, bytes, accepted),
         Contents::Arriving(_) | Contents::ArrivingMapped(_) => NO_MACHINE,
+        Contents::Lent(_) => LENT,
     }
 }
 
@@ -165,6 +171,7 @@ pub(crate) fn resize(kept: &mut Kept, dev: u8, cols: u16, rows: u16) -> u32
         Contents::Moving(live) => resize_told(live, dev, cols, rows),
         Contents::MovingMapped(live) => resize_told(live, dev, cols, rows),
         Contents::Arriving(_) | Contents::ArrivingMapped(_) => NO_MACHINE,
+        Contents::Lent(_) => LENT,
     }
 }
 

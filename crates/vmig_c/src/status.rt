@@ -39,6 +39,14 @@ pub(crate) const NOT_BEGUN: u32 = 17;
 
 pub(crate) const STOPPED: u32 = 21;
 
+pub(crate) const LENT: u32 = 23;
+
+pub(crate) const NOT_LENT: u32 = 24;
+
+pub(crate) const NOT_OVER: u32 = 25;
+
+pub(crate) const BAD_RAM: u32 = 26;
+
 pub(crate) const OUT_BYTE: u32 = 64;
 
 pub(crate) const IDLE: u32 = 65;

@@ -11,8 +11,8 @@ ghost use Rattle.vmig_c.specs.Told.{live_number, number_of};
 
 use crate::kept::{Contents, Kept, Moving};
 use crate::status::{
-    BAD_SECTOR, DISK_FAILED, DONE, IDLE, NO_MACHINE, NO_MEMORY, OUT_BYTE, TOO_SMALL, mig_told,
-    refused,
+    BAD_SECTOR, DISK_FAILED, DONE, IDLE, LENT, NO_MACHINE, NO_MEMORY, OUT_BYTE, TOO_SMALL,
+    mig_told, refused,
 };
 use machine::{Disk, Kind, Machine, Reply, Stepped};
 use sender::MigError;
@@ -38,13 +38,14 @@ pub(crate) fn step_kept(kept: &mut Kept, dev: u8, pick: u8, buf: &mut [u8], numb
     ensures steps { StepsKept kept.old.state dev pick result number.new number.old buf.old buf.new kept.new.state }
     ensures kind { kept.new ≡ record kept.old { state = kept.new.state } }
 {
-    let Kept { contents, sent } = kept;
+    let Kept { contents, sent, .. } = kept;
     match contents {
         Contents::Still(machine) => step_told(machine, dev, pick, sent, buf, number),
         Contents::StillMapped(machine) => step_told(machine, dev, pick, sent, buf, number),
         Contents::Moving(live) => live_step_told(live, dev, pick, sent, buf, number),
         Contents::MovingMapped(live) => live_step_told(live, dev, pick, sent, buf, number),
         Contents::Arriving(_) | Contents::ArrivingMapped(_) => NO_MACHINE,
+        Contents::Lent(_) => LENT,
     }
 }
 

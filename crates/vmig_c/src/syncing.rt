@@ -5,7 +5,7 @@ ghost use Rattle.machine.specs.Seen.{state_of};
 ghost use Rattle.vmig_c.specs.Durable.{ends_durable, ends_durable_if, is_durable, owes_sync, sync_kept, sync_status_of};
 
 use crate::kept::{Contents, Kept};
-use crate::status::{DONE, NO_DEVICE, NO_MACHINE};
+use crate::status::{DONE, LENT, NO_DEVICE, NO_MACHINE};
 use blk::{FLUSH, Request, Verdict};
 use machine::{DeviceState, Disk, Kind, Machine};
 
@@ -21,6 +21,7 @@ pub(crate) fn sync_kept(kept: &Kept, dev: u8, pick: u8) -> u32
         Contents::Moving(live) => sync_status(live.machine(), dev, pick),
         Contents::MovingMapped(live) => sync_status(live.machine(), dev, pick),
         Contents::Arriving(_) | Contents::ArrivingMapped(_) => NO_MACHINE,
+        Contents::Lent(_) => LENT,
     }
 }
 

@@ -1,13 +1,16 @@
 //! Images that the caller gets back.
 
-ghost use Rattle.std.specs.Prelude.{◌≡◌, None, Some, length};
+ghost use Rattle.std.specs.Prelude.{◌≡◌, None, Some, if◌then◌else◌, length};
+ghost use Rattle.vmig_c.specs.Kept.{is_loan_mapped};
 ghost use Rattle.vmig_c.specs.Mapping.{counts};
+ghost use Rattle.vmig_c.specs.Status.{lent, not_mapped};
 ghost use Rattle.vmig_c.specs.Unmapping.{AreHandedBack, HasUnmapped, HasUnmappedArrival, HasUnmappedState, are_none, arriving_refusal, disk_in, disks_in, held_by, slots_refusal, unmap_refusal_of};
 
 use crate::kept::{Contents, Kept};
 use crate::landing::Landing;
+use crate::loan::Loan;
 use crate::mapping::give_back;
-use crate::status::{BAD_IMAGES, NO_MACHINE, NOT_MAPPED, TOO_SMALL};
+use crate::status::{BAD_IMAGES, LENT, NO_MACHINE, NOT_MAPPED, TOO_SMALL};
 use machine::{Device, Machine, Shape};
 use mapped_disk::{Image, MappedDisk};
 
@@ -23,7 +26,15 @@ pub(crate) fn unmap_refusal(kept: &Kept, images: &mut [Image]) -> Option<u32>
         Contents::Still(_) | Contents::Moving(_) => Some(NOT_MAPPED),
         Contents::Arriving(_) => Some(NO_MACHINE),
         Contents::ArrivingMapped(landing) => slots_refusal(landing.disk_count(), images),
+        Contents::Lent(loan) => Some(lent_refusal(loan)),
     }
+}
+
+/// Why a machine whose RAM is lent is not unmapped.
+fn lent_refusal(loan: &Loan) -> u32
+    ensures { result ≡ (if is_loan_mapped loan.now then lent else not_mapped) }
+{
+    if loan.is_mapped() { LENT } else { NOT_MAPPED }
 }
 
 /// Why these slots cannot take the images of `disks` disks, if they cannot.
@@ -71,7 +82,11 @@ pub(crate) fn unmap(kept: Kept, images: &mut [Image])
     requires { unmap_refusal_of kept images.old ≡ None }
     ensures { HasUnmappedState kept.state images.old images.new }
 {
-    let Kept { contents, sent: _ } = kept;
+    let Kept {
+        contents,
+        sent: _,
+        named: _,
+    } = kept;
     match contents {
         Contents::StillMapped(machine) => hand_back(machine, images),
         Contents::MovingMapped(live) => hand_back(live.abort(), images),

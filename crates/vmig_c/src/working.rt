@@ -5,7 +5,7 @@ ghost use Rattle.vmig_c.specs.Kept as states;
 ghost use Rattle.vmig_c.specs.NextWork.{FindsWork, FindsWorkOf};
 
 use crate::kept::{Contents, Kept, Moving};
-use crate::status::{IDLE, NO_MACHINE, STOPPED};
+use crate::status::{IDLE, LENT, NO_MACHINE, STOPPED};
 use machine::{Disk, Machine, Work};
 use sender::Phase;
 
@@ -21,6 +21,7 @@ pub(crate) fn next_work(kept: &Kept, dev: &mut u8, pick: &mut u8) -> u32
         Contents::Moving(live) => live_work_told(live, dev, pick),
         Contents::MovingMapped(live) => live_work_told(live, dev, pick),
         Contents::Arriving(_) | Contents::ArrivingMapped(_) => NO_MACHINE,
+        Contents::Lent(_) => LENT,
     }
 }
 

@@ -1,0 +1,74 @@
+-- The migration of a machine out of a handle, while its RAM is lent.
+use Rattle.std.proofs.Common.{◌≡◌, ◌≢◌, false, [], ◌++◌, sym, ap, ◌∙◌, subst, take, drop, length, true≢false}
+use Rattle.std.specs.Prelude.{Some, min}
+use Rattle.region.specs.Address.{address}
+use Rattle.region.specs.declared.region.Region.{Region}
+use Rattle.guestmem.specs.Lent.{given_back}
+use Rattle.sender.specs.Follows.{Relates}
+use Rattle.sender.specs.LiveState.{LiveSeen}
+use Rattle.sender.specs.Parked.{IsLiveParked, LiveParkedSeen, live_back}
+use Rattle.sender.specs.Stopping.{HasPlaces}
+use Rattle.sender.specs.declared.phase.Phase.{Phase}
+use Rattle.sender.specs.declared.phase.Phase.TheVariants as phases
+use Rattle.sender.proofs.LiveBack.{live_back_follows}
+use Rattle.wire.specs.Sinks.{SinkState, over_writer}
+use Rattle.vmig_c.specs.Lent.{IsLiveLoan}
+use Rattle.vmig_c.specs.Migrated.{HasTaken}
+use Rattle.vmig_c.specs.Mirror.{is_closed}
+use Rattle.vmig_c.specs.Sent.{LentComesBackSent, LentTakingsStaySent}
+use Rattle.vmig_c.proofs.Sent.{takings_stay_sent}
+
+-- The same with another writer.
+abbrev parked_with : LiveParkedSeen → SinkState → LiveParkedSeen
+parked_with p o = record p { out = o }
+
+abbrev live_with : LiveSeen → SinkState → LiveSeen
+live_with l o = record l { out = o }
+
+places_with : (l : LiveSeen) (o : SinkState) → HasPlaces l → HasPlaces (live_with l o)
+places_with l o h = record { sound = h.sound; few = h.few; due_size = h.due_size; dirty_size = h.dirty_size }
+
+parked_still : (l : LiveSeen) (before : Region) (p : LiveParkedSeen) (o : SinkState) → IsLiveParked l before p → IsLiveParked (live_with l o) before (parked_with p o)
+parked_still l before p o h = record { parked = h.parked; rest = ap (λ (x : LiveParkedSeen). parked_with x o) h.rest }
+
+loan_still : (l : LiveSeen) (before : Region) (p : LiveParkedSeen) (o : SinkState) → IsLiveLoan l before p → IsLiveLoan (live_with l o) before (parked_with p o)
+loan_still l before p o h = record { parked = parked_still l before p o h.parked; places = places_with l o h.places; sound = h.sound }
+
+-- The writer is the lender's.
+writer_is : (l : LiveSeen) (before : Region) (p : LiveParkedSeen) → IsLiveParked l before p → p.out ≡ l.out
+writer_is l before p h = ap (λ (x : LiveParkedSeen). x.out) h.rest
+
+pub lent_takings_stay_sent : LentTakingsStaySent
+lent_takings_stay_sent m h taken buf new_buf status got before p next is quiet took =
+    let l = is.lender in
+    let same : p.out ≡ l.out = writer_is l before p is.loan.parked in
+    let o : SinkState = over_writer (Some (drop got p.out.held)) 0 false in
+    let taking : HasTaken l status got buf new_buf (live_with l o) = record {
+      status_is = took.status_is;
+      count = took.count ∙ ap (λ (w : SinkState). min (length buf) (length w.held)) same;
+      bytes = took.bytes ∙ ap (λ (w : SinkState). take got w.held ++ drop got buf) same;
+      rest = ap (λ (w : SinkState). live_with l (over_writer (Some (drop got w.held)) 0 false)) same;
+    } in
+    record {
+      lender = live_with l o;
+      is_sent = takings_stay_sent m h taken buf new_buf status got l (live_with l o) is.is_sent quiet taking;
+      loan = subst (λ (x : LiveParkedSeen). IsLiveLoan (live_with l o) before x) (sym took.rest) (loan_still l before p o is.loan);
+      goes = is.goes;
+    }
+
+not_stopped : (p : Phase) → is_closed p ≡ false → p ≢ phases.Stopped
+not_stopped p goes is = true≢false (sym (ap is_closed is) ∙ goes)
+
+pub lent_comes_back_sent : LentComesBackSent
+lent_comes_back_sent m h taken before after pages p is word =
+    let l = is.lender in
+    let same : p.out ≡ l.out = writer_is l before p is.loan.parked in
+    let o : SinkState = record l.out { held = taken ++ l.out.held } in
+    let memory = given_back after.content (address after) p.parked.versions pages in
+    let more = live_back_follows m h (over_writer (Some []) 0 false) (live_with l o) (parked_with p o) before after pages is.is_sent (places_with l o is.loan.places) is.loan.sound (not_stopped l.phase is.goes) (parked_still l before p o is.loan.parked) word in
+    record {
+      history = more.history;
+      is_sent = subst (λ (w : SinkState). Relates m more.history (over_writer (Some []) 0 false) (live_back (parked_with p (record w { held = taken ++ w.held })) memory pages)) (sym same) more.relates;
+      came = more.came;
+      text_is = more.text_is;
+    }

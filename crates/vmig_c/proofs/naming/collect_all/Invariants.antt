@@ -1,0 +1,6 @@
+use Rattle.std.proofs.Common.{◌≡◌, ◌≤◌}
+use Rattle.vmig_c.specs.Named.{numbers_below}
+use Rattle.vmig_c.proofs.naming.collect_all.Given as goal
+
+abbrev pub invariant-loop-n : goal.invariant-loop-n
+invariant-loop-n l = record { list : l.numbers.items ≡ numbers_below l.n; within : l.n ≤ l.count }

@@ -1,0 +1,113 @@
+-- Machines whose RAM lies in memory of the caller.
+use Rattle.std.specs.Prelude.{◌≡◌, ◌⊎◌, ℕ, ◌/◌, ◌%◌, ◌==◌, ◌&&◌, not, nat_lt, if◌then◌else◌, Bool, true, false, List, [], map, length, Option, Some, None}
+use Rattle.region.specs.Empty.{empty_slot}
+use Rattle.region.specs.declared.slot.Slot.{Slot}
+use Rattle.guestmem.specs.declared.limits.TheConstants.{PAGE_SIZE, PAGES_MAX}
+use Rattle.blk.specs.Sectors.{Sector}
+use Rattle.machine.specs.First.{are_same, machine_over}
+use Rattle.machine.specs.Seen.{Seen, state_of}
+use Rattle.machine.specs.Shapes.{disk_sizes}
+use Rattle.machine.specs.Sound.{IsSound}
+use Rattle.machine.specs.declared.shape.Shape.{Shape}
+use Rattle.mapped_disk.specs.declared.image.Image.{Image}
+use Rattle.vmig_c.specs.Kept.{KeptSeen, State, Still}
+use Rattle.vmig_c.specs.Landing.{KeepsAwaitedAt}
+use Rattle.vmig_c.specs.Lent.{place_of}
+use Rattle.vmig_c.specs.Making.{are_beyond_limits, shapes_of, zero_sectors}
+use Rattle.vmig_c.specs.Mapping.{AreTaken, contents, counts}
+use Rattle.vmig_c.specs.Plain.{ArePlain}
+use Rattle.vmig_c.specs.Status.{bad_images, bad_ram, bad_shape, done, in_use, no_memory}
+use Rattle.vmig_c.specs.declared.device_shape.DeviceShape.{DeviceShape}
+
+-- So many bytes are whole pages, and as many as a machine may have.
+abbrev pub is_ram : ℕ → Bool
+is_ram bytes = bytes % PAGE_SIZE == 0 && (not (bytes / PAGE_SIZE == 0) && not (nat_lt PAGES_MAX (bytes / PAGE_SIZE)))
+
+-- The sectors of the disks: those of the images; or, where there is no image, zeros in memory of the library.
+abbrev pub first_disks : List Shape → List Image → List (List Sector)
+first_disks shapes [] = map zero_sectors (disk_sizes shapes)
+first_disks shapes images = map (map Some) (contents images)
+
+abbrev pub has_images : List Image → Bool
+has_images [] = false
+has_images images = true
+
+-- The new machine of these devices whose RAM is the bytes in the slot, and lies where they lie.
+pub record IsMadeOver (ram : Slot) (shapes : List Shape) (disks : List (List Sector)) (m : Seen) : Type 0 where
+  pub first : state_of m ≡ machine_over ram.content shapes disks
+  pub place : m.memory.place ≡ Some (place_of ram)
+  pub plain : ArePlain m
+  pub sound : IsSound (state_of m)
+
+abbrev pub StandsOver : Slot → List Shape → List (List Sector) → State → Type 0
+StandsOver ram shapes disks (Still m) = IsMadeOver ram shapes disks m
+StandsOver ram shapes disks _ = ⊥
+
+-- It is not being migrated, and its disks lie in memory of the caller where there are images.
+abbrev pub KeepsOver : Slot → List Shape → List Image → KeptSeen → Type 0
+KeepsOver ram shapes images k = (k.is_mapped ≡ has_images images) × StandsOver ram shapes (first_disks shapes images) k.state
+
+pub record HasMadeOver (ram new_ram : Slot) (shapes : List DeviceShape) (images new_images : List Image) (status : ℕ) (after : Option KeptSeen) : Type 0 where
+  pub kept : KeptSeen
+  pub is_there : after ≡ Some kept
+  pub is_made : KeepsOver ram (shapes_of shapes) images kept
+  pub ram_taken : new_ram ≡ empty_slot
+  pub taken : AreTaken images new_images
+  pub status_is : status ≡ done
+
+-- It was refused, and nothing changed.
+pub record IsUnmadeOver (refusal : ℕ) (old : Option KeptSeen) (ram new_ram : Slot) (images new_images : List Image) (status : ℕ) (after : Option KeptSeen) : Type 0 where
+  pub status_is : status ≡ refusal
+  pub same : after ≡ old
+  pub ram_same : new_ram ≡ ram
+  pub images_same : new_images ≡ images
+
+-- There are images, and not those of the disks.
+abbrev pub are_others : List DeviceShape → List Image → Bool
+are_others shapes [] = false
+are_others shapes images = not (are_same (disk_sizes (shapes_of shapes)) (counts images))
+
+-- Why no machine is made, apart from memory being refused. The memory is checked first, and the images last.
+abbrev pub over_refusal_of : ℕ → List DeviceShape → List Image → Option ℕ
+over_refusal_of bytes shapes images =
+    if not (is_ram bytes) then Some bad_ram
+    else if are_beyond_limits (bytes / PAGE_SIZE) shapes then Some bad_shape
+    else if are_others shapes images then Some bad_images
+    else None
+
+abbrev pub over_refusal : Option KeptSeen → ℕ → List DeviceShape → List Image → Option ℕ
+over_refusal (Some m) bytes shapes images = Some in_use
+over_refusal None bytes shapes images = over_refusal_of bytes shapes images
+
+abbrev pub MakesOverBy : Option ℕ → Option KeptSeen → Slot → Slot → List DeviceShape → List Image → List Image → ℕ → Option KeptSeen → Type 0
+MakesOverBy (Some refusal) old ram new_ram shapes images new_images status after = IsUnmadeOver refusal old ram new_ram images new_images status after
+MakesOverBy None old ram new_ram shapes images new_images status after =
+    HasMadeOver ram new_ram shapes images new_images status after ⊎ IsUnmadeOver no_memory old ram new_ram images new_images status after
+
+-- A machine was made whose RAM lies in the memory of the slot, which was taken, or the status says why not.
+abbrev pub MakesOver : Option KeptSeen → Slot → Slot → List DeviceShape → List Image → List Image → ℕ → Option KeptSeen → Type 0
+MakesOver old ram new_ram shapes images new_images status after =
+    MakesOverBy (over_refusal old (length ram.content) shapes images) old ram new_ram shapes images new_images status after
+
+pub record HasAwaitedIn (ram new_ram : Slot) (images new_images : List Image) (status : ℕ) (after : Option KeptSeen) : Type 0 where
+  pub kept : KeptSeen
+  pub is_there : after ≡ Some kept
+  pub is_awaited : KeepsAwaitedAt (Some (place_of ram)) (contents images) kept
+  pub ram_taken : new_ram ≡ empty_slot
+  pub taken : AreTaken images new_images
+  pub status_is : status ≡ done
+
+-- Why no machine will arrive, apart from memory being refused.
+abbrev pub await_refusal : Option KeptSeen → ℕ → Option ℕ
+await_refusal (Some m) bytes = Some in_use
+await_refusal None bytes = if not (is_ram bytes) then Some bad_ram else None
+
+abbrev pub AwaitsInBy : Option ℕ → Option KeptSeen → Slot → Slot → List Image → List Image → ℕ → Option KeptSeen → Type 0
+AwaitsInBy (Some refusal) old ram new_ram images new_images status after = IsUnmadeOver refusal old ram new_ram images new_images status after
+AwaitsInBy None old ram new_ram images new_images status after =
+    HasAwaitedIn ram new_ram images new_images status after ⊎ IsUnmadeOver no_memory old ram new_ram images new_images status after
+
+-- A machine will arrive into the memory of the slot, over the images, which were taken, or the status says why not.
+abbrev pub AwaitsIn : Option KeptSeen → Slot → Slot → List Image → List Image → ℕ → Option KeptSeen → Type 0
+AwaitsIn old ram new_ram images new_images status after =
+    AwaitsInBy (await_refusal old (length ram.content)) old ram new_ram images new_images status after

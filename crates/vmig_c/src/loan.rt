@@ -1,0 +1,112 @@
+//! What is left of a machine whose RAM is lent to the caller.
+
+ghost use Rattle.vmig_c.specs.Migrated.{HasTakenLent};
+
+use crate::status::{DONE, NOT_BEGUN};
+use crate::waiting::Waiting;
+use machine::{Disk, MemDisk, Parked, Shape};
+use mapped_disk::MappedDisk;
+use sender::LiveParked;
+use std::alloc::Global;
+
+/// A machine that is being migrated, whose RAM is lent.
+pub(crate) type MovingLent<D> = LiveParked<D, Waiting>;
+
+/// All of a machine but its RAM, which is lent: of one that is being migrated or not, over disks in memory of the library or of the
+/// caller.
+#[derive(Drop)]
+pub enum Loan {
+    /// It is not being migrated.
+    Still(Parked<MemDisk>),
+
+    /// It is being migrated.
+    Moving(MovingLent<MemDisk>),
+
+    /// It is not being migrated, and its disks are the caller's memory.
+    StillMapped(Parked<MappedDisk>),
+
+    /// It is being migrated, and its disks are the caller's memory.
+    MovingMapped(MovingLent<MappedDisk>),
+}
+
+impl Loan {
+    ghost use Rattle.std.specs.Prelude.{◌≡◌, ◌≤◌, length, map};
+    ghost use Rattle.guestmem.specs.declared.limits.TheConstants.{PAGES_MAX};
+    ghost use Rattle.machine.specs.Shapes.{made_as};
+    ghost use Rattle.machine.specs.declared.machine.TheConstants.{DEVICES_MAX};
+    ghost use Rattle.vmig_c.specs.Kept.{is_loan_mapped, loan_of, parked_in};
+    ghost use Rattle.vmig_c.specs.Kept as states;
+    ghost use Rattle.vmig_c.specs.Migrated.{TakesLent};
+    ghost use Rattle.vmig_c.specs.Told.{lines_in};
+
+    /// Whether its disks are the caller's memory.
+    pub(crate) fn is_mapped(&self) -> bool
+        ensures { result ≡ is_loan_mapped self.now }
+    {
+        matches!(self, Loan::StillMapped(_) | Loan::MovingMapped(_))
+    }
+
+    /// How many pages its RAM has.
+    pub(crate) fn pages(&self) -> usize
+        ensures count { result ≡ length (parked_in (loan_of self.now)).versions }
+        ensures few { result ≤ PAGES_MAX }
+    {
+        match self {
+            Loan::Still(parked) => parked.pages(),
+            Loan::Moving(live) => live.parked().pages(),
+            Loan::StillMapped(parked) => parked.pages(),
+            Loan::MovingMapped(live) => live.parked().pages(),
+        }
+    }
+
+    /// What its devices were made as, in order.
+    pub(crate) fn shapes(&self) -> &[Shape]
+        ensures shapes { result.now ≡ map (λ d. made_as d.state.kind) (parked_in (loan_of self.now)).devices }
+        ensures few { length result.now ≤ DEVICES_MAX }
+    {
+        match self {
+            Loan::Still(parked) => parked.shapes(),
+            Loan::Moving(live) => live.parked().shapes(),
+            Loan::StillMapped(parked) => parked.shapes(),
+            Loan::MovingMapped(live) => live.parked().shapes(),
+        }
+    }
+
+    /// The interrupt lines, as they were when the RAM was lent.
+    pub(crate) fn lines(&self) -> u16
+        ensures { result ≡ lines_in (states.Lent (loan_of self.now)) }
+    {
+        match self {
+            Loan::Still(parked) => parked.lines(),
+            Loan::Moving(live) => live.parked().lines(),
+            Loan::StillMapped(parked) => parked.lines(),
+            Loan::MovingMapped(live) => live.parked().lines(),
+        }
+    }
+
+    /// Takes the first of the bytes that wait into the front of the buffer, if the machine is being migrated.
+    pub(crate) fn take(&mut self, alloc: Global, buf: &mut [u8], got: &mut usize) -> u32
+        ensures takes { TakesLent (loan_of self.old) result got.new got.old buf.old buf.new (loan_of self.new) }
+        ensures kind { is_loan_mapped self.new ≡ is_loan_mapped self.old }
+    {
+        match self {
+            Loan::Still(_) | Loan::StillMapped(_) => NOT_BEGUN,
+            Loan::Moving(live) => take_lent(alloc, live, buf, got),
+            Loan::MovingMapped(live) => take_lent(alloc, live, buf, got),
+        }
+    }
+}
+
+fn take_lent<D: Disk>(
+    alloc: Global,
+    live: &mut MovingLent<D>,
+    buf: &mut [u8],
+    got: &mut usize,
+) -> u32
+    ensures { HasTakenLent live.old result got.new buf.old buf.new live.new }
+{
+    let mut waiting = live.replace_writer(Waiting::new(alloc));
+    *got = waiting.take(buf);
+    let _empty = live.replace_writer(waiting);
+    DONE
+}

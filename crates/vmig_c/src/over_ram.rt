@@ -1,0 +1,187 @@
+//! Machines whose RAM lies in memory of the caller.
+
+ghost use Rattle.std.specs.Prelude.{◌≡◌, [], true, length, IfErr, IfOk, None, Some};
+ghost use Rattle.region.specs.Empty.{empty_slot};
+ghost use Rattle.region.specs.Slot.{region_of, slot_of};
+ghost use Rattle.vmig_c.specs.Landing.{KeepsAwaitedAt};
+ghost use Rattle.vmig_c.specs.Lent.{place_of};
+ghost use Rattle.vmig_c.specs.Making.{shapes_of};
+ghost use Rattle.vmig_c.specs.Mapping.{AreTaken, contents};
+ghost use Rattle.vmig_c.specs.OverRam.{KeepsOver, has_images, is_ram, over_refusal_of};
+
+use crate::arrival::Arrival;
+use crate::device_shape::DeviceShape;
+use crate::kept::{Contents, Kept};
+use crate::landing::Landing;
+use crate::making::{are_beyond_limits, shapes_of, zero_disks};
+use crate::mapping::{are_counted, give_back, mapped_disks};
+use crate::status::{BAD_IMAGES, BAD_RAM, BAD_SHAPE};
+use guestmem::{NoMemory, PAGE_SIZE, PAGES_MAX, Ram};
+use machine::Machine;
+use mapped_disk::Image;
+use region::{Region, Slot};
+use std::alloc::Global;
+use std::mem;
+
+/// Why no machine is made over such memory, these devices and images, if so.
+pub(crate) fn over_refusal(
+    ram: &mut Slot,
+    shapes: &[DeviceShape],
+    images: &mut [Image],
+) -> Option<u32>
+    ensures same { ram.new ≡ ram.old }
+    ensures images { images.new ≡ images.old }
+    ensures refusal { result ≡ over_refusal_of (length ram.old.content) shapes.now images.old }
+{
+    if !is_ram(ram) {
+        return Some(BAD_RAM);
+    }
+    if are_beyond_limits((ram.len() / PAGE_SIZE) as u32, shapes) {
+        return Some(BAD_SHAPE);
+    }
+    if !images.is_empty() && !are_counted(images, shapes) {
+        return Some(BAD_IMAGES);
+    }
+    None
+}
+
+/// Whether the memory is whole pages, and as many as a machine may have.
+pub(crate) fn is_ram(ram: &mut Slot) -> bool
+    ensures same { ram.new ≡ ram.old }
+    ensures is { result ≡ is_ram (length ram.old.content) }
+{
+    let bytes = ram.len();
+    let pages = bytes / PAGE_SIZE;
+    bytes % PAGE_SIZE == 0 && pages != 0 && pages <= PAGES_MAX as usize
+}
+
+/// A machine in a box, whose RAM lies in the memory of the slot, which is taken, and whose disks are the images, which are taken, or
+/// zeros where there is none. All was tested, so it fails only if it is out of memory: then slot and images are as they were.
+pub(crate) fn machine_in_ram(
+    alloc: Global,
+    ram: &mut Slot,
+    shapes: &[DeviceShape],
+    images: &mut [Image],
+) -> Result<Box<Kept>, NoMemory>
+    ensures made { IfOk result (λ k. KeepsOver ram.old (shapes_of shapes.now) images.old k.value) }
+    ensures ram { IfOk result (λ k. ram.new ≡ empty_slot) }
+    ensures taken { IfOk result (λ k. AreTaken images.old images.new) }
+    ensures same { IfErr result (λ e. ram.new ≡ ram.old) }
+    ensures refused { IfErr result (λ e. images.new ≡ images.old) }
+{
+    if images.is_empty() {
+        return machine_over_zeros(alloc, ram, shapes);
+    }
+    machine_over_images(alloc, ram, shapes, images)
+}
+
+fn machine_over_zeros(
+    alloc: Global,
+    ram: &mut Slot,
+    shapes: &[DeviceShape],
+) -> Result<Box<Kept>, NoMemory>
+    ensures made { IfOk result (λ k. KeepsOver ram.old (shapes_of shapes.now) [] k.value) }
+    ensures ram { IfOk result (λ k. ram.new ≡ empty_slot) }
+    ensures same { IfErr result (λ e. ram.new ≡ ram.old) }
+{
+    let shapes = shapes_of(alloc, shapes)?;
+    let disks = zero_disks(alloc, &shapes)?;
+    let boxed = stand_in(alloc)?;
+    match Machine::new_over(alloc, taken_ram(ram), &shapes, disks) {
+        Ok(machine) => Ok(filled(boxed, Kept::new(alloc, Contents::Still(machine)))),
+        Err((_, _disks, region)) => {
+            put_back(region, ram);
+            Err(NoMemory)
+        }
+    }
+}
+
+fn machine_over_images(
+    alloc: Global,
+    ram: &mut Slot,
+    shapes: &[DeviceShape],
+    images: &mut [Image],
+) -> Result<Box<Kept>, NoMemory>
+    requires { has_images images.old ≡ true }
+    ensures made { IfOk result (λ k. KeepsOver ram.old (shapes_of shapes.now) images.old k.value) }
+    ensures ram { IfOk result (λ k. ram.new ≡ empty_slot) }
+    ensures taken { IfOk result (λ k. AreTaken images.old images.new) }
+    ensures same { IfErr result (λ e. ram.new ≡ ram.old) }
+    ensures refused { IfErr result (λ e. images.new ≡ images.old) }
+{
+    let shapes = shapes_of(alloc, shapes)?;
+    let boxed = stand_in(alloc)?;
+    let disks = mapped_disks(alloc, images)?;
+    match Machine::new_over(alloc, taken_ram(ram), &shapes, disks) {
+        Ok(machine) => Ok(filled(boxed, Kept::new(alloc, Contents::StillMapped(machine)))),
+        Err((_, disks, region)) => {
+            give_back(disks, images);
+            put_back(region, ram);
+            Err(NoMemory)
+        }
+    }
+}
+
+/// An arrival in a box, into the memory of the slot, which is taken, and over disks in the images, which are taken. Its only error is
+/// out of memory: then slot and images are as they were.
+pub(crate) fn landing_in(
+    alloc: Global,
+    ram: &mut Slot,
+    images: &mut [Image],
+) -> Result<Box<Kept>, NoMemory>
+    requires { is_ram (length ram.old.content) ≡ true }
+    ensures made { IfOk result (λ k. KeepsAwaitedAt (Some (place_of ram.old)) (contents images.old) k.value) }
+    ensures ram { IfOk result (λ k. ram.new ≡ empty_slot) }
+    ensures taken { IfOk result (λ k. AreTaken images.old images.new) }
+    ensures same { IfErr result (λ e. ram.new ≡ ram.old) }
+    ensures refused { IfErr result (λ e. images.new ≡ images.old) }
+{
+    let boxed = stand_in(alloc)?;
+    let disks = mapped_disks(alloc, images)?;
+    match Ram::over(alloc, taken_ram(ram)) {
+        Ok(memory) => {
+            let landing = Landing::new_in(alloc, disks, memory);
+            let kept = Kept::new(alloc, Contents::ArrivingMapped(landing));
+            Ok(filled(boxed, kept))
+        }
+        Err((_, region)) => {
+            give_back(disks, images);
+            put_back(region, ram);
+            Err(NoMemory)
+        }
+    }
+}
+
+/// A box in which the contents of a handle will lie.
+fn stand_in(alloc: Global) -> Result<Box<Kept>, NoMemory> {
+    let boxed = Box::new(
+        alloc,
+        Kept::new(alloc, Contents::Arriving(Arrival::new(alloc))),
+    )?;
+    Ok(boxed)
+}
+
+/// The box with these contents.
+fn filled(boxed: Box<Kept>, kept: Kept) -> Box<Kept>
+    ensures { result.value ≡ kept }
+{
+    let mut boxed = boxed;
+    *boxed = kept;
+    boxed
+}
+
+/// What lay in the slot, which is free then.
+pub(crate) fn taken_ram(ram: &mut Slot) -> Region
+    ensures region { result ≡ region_of ram.old }
+    ensures free { ram.new ≡ empty_slot }
+{
+    mem::replace(ram, Slot::none()).into_region()
+}
+
+/// Puts the memory into the slot, which is free.
+pub(crate) fn put_back(region: Region, ram: &mut Slot)
+    requires { ram.old.content ≡ [] }
+    ensures { ram.new ≡ slot_of region }
+{
+    mem::replace(ram, Slot::of(region)).gone();
+}
