@@ -38,9 +38,10 @@
  *   divides its size.
  * - The thread that calls has 16 KiB of stack left: no call needs more (measured).
  *
- * WHO OWNS WHAT: a machine is made by vmig_make, vmig_make_with, vmig_make_mapped or vmig_receive, or arrives by vmig_feed,
- * and lives until vmig_free or vmig_unmap; a handle that is dropped without one of these leaks. What you pass is copied, and
- * the library keeps no pointer of yours after a call, but for the images of vmig_make_mapped and vmig_arrive_mapped.
+ * WHO OWNS WHAT: a machine is made by vmig_make, vmig_make_with, vmig_make_mapped, vmig_make_over or vmig_receive, or arrives
+ * by vmig_feed, and lives until vmig_free or vmig_unmap; a handle that is dropped without one of these leaks. What you pass is
+ * copied, and the library keeps no pointer of yours after a call, but for the images of vmig_make_mapped and
+ * vmig_arrive_mapped, and the RAM and the images of vmig_make_over and vmig_arrive_over.
  *
  * THE LOOP: hand in what the guest does (vmig_reg_read, vmig_reg_write, vmig_ram_read, vmig_ram_write). After each register
  * write, and after each vmig_input, make the steps that vmig_next_work names, as its comment shows, and read vmig_lines after
@@ -51,18 +52,20 @@
  * DISKS IN YOUR MEMORY, as in a file that you mapped: a vmig_image says where the sectors of a disk are, and vmig_make_mapped
  * makes a machine whose disks are such images, vmig_arrive_mapped one that arrives over them. What the guest writes is there at
  * once. From that call until vmig_unmap or vmig_free the bytes are the machine's: nothing else reads or writes them, and they
- * stay mapped, at their address. A guest's flush does not reach the file: it calls no msync, which is yours to do, before each step
- * of which vmig_must_sync says so; and of a machine that arrived before its guest first runs, since that guest may have been told
- * of a flush long ago.
+ * stay mapped, at their address. A guest's flush does not reach the file: it calls no msync, which is yours to do, before each
+ * step of which vmig_must_sync says so; and of a machine that arrived before its guest first runs, since that guest may have
+ * been told of a flush long ago. vmig_make_over and vmig_arrive_over take images too.
  *
  * WHAT TAKES MEMORY from malloc: vmig_make, vmig_make_with and vmig_receive (RAM, disks, devices), vmig_make_mapped (RAM,
- * devices, and a bit for each sector), vmig_arrive_mapped (a list of the images), vmig_save (the whole stream, for the time of the
- * call), and vmig_step for a chain of
- * many descriptors or a message longer than those before it; vmig_stream_size and vmig_stream_device, for a list of sixteen shapes,
- * for the time of the call; vmig_begin for two bits for each page and sector, and vmig_begin, vmig_copy,
- * vmig_end_round and vmig_stop for what they write, which waits until it is taken: a stop of a machine of which nothing was
- * copied before writes the whole machine; vmig_feed, for a buffer of 128 KiB, in which the front of a record waits for the
- * rest, for RAM and disks as soon as the header is whole, and for devices; and vmig_finish. No other call does.
+ * devices, and a bit for each sector), vmig_make_over (devices, 8 bytes for each page, and the disks or a bit for each sector),
+ * vmig_arrive_mapped (a list of the images), vmig_arrive_over (the same, and 8 bytes for each page), vmig_save (the whole
+ * stream, for the time of the call), and vmig_step for a chain of many descriptors or a message longer than those before it;
+ * vmig_stream_size and vmig_stream_device, for a list of sixteen shapes, for the time of the call; vmig_begin for two bits for
+ * each page and sector, and vmig_begin, vmig_copy, vmig_end_round and vmig_stop for what they write, which waits until it is
+ * taken: a stop of a machine of which nothing was copied before writes the whole machine; vmig_give_back_marked and
+ * vmig_give_back_all for a list of 4 bytes for each page that they name, which is kept for the next such call; vmig_feed, for a
+ * buffer of 128 KiB, in which the front of a record waits for the rest, for RAM and disks, where they are not yours, as soon as
+ * the header is whole, and for devices; and vmig_finish. No other call does.
  *
  * A MACHINE IS SENT WHILE IT RUNS: vmig_begin, then vmig_copy until VMIG_ROUND_DONE and vmig_end_round, as often as you like,
  * then vmig_stop. The guest is served as before between these: all other calls are allowed, but for vmig_save,
@@ -73,41 +76,77 @@
  *
  * A MACHINE ARRIVES: vmig_feed on a handle of no machine, with the bytes of the stream in any pieces, as they come over the
  * wire, and vmig_finish after the last; or vmig_receive with all of them at once. Its disks are made in memory; where they are
- * to be images of yours, vmig_arrive_mapped comes before the first piece. Until vmig_finish the handle has no machine for any
- * other call but vmig_rounds, vmig_free and, over images, vmig_unmap, and is in use for the calls that make or receive one. Before its guest runs read the lines and make the steps that vmig_next_work names: a kick and an interrupt
- * that were not served come with the machine. The digest is computed as the bytes come, by some 4 ms a MiB.
+ * to be images of yours, vmig_arrive_mapped comes before the first piece, and vmig_arrive_over where RAM is to be yours too.
+ * Until vmig_finish the handle has no machine for any other call but vmig_rounds, vmig_free and, over images, vmig_unmap, and
+ * is in use for the calls that make or receive one. Before its guest runs read the lines and make the steps that
+ * vmig_next_work names: a kick and an interrupt that were not served come with the machine. The digest is computed as the bytes
+ * come, by some 4 ms a MiB.
  *
- * A GUEST WHOSE RAM IS YOURS, as under hardware virtualization, runs on memory of your own. The machine has RAM beside it,
- * and you mirror the one into the other: uint8_t ram[4096 * pages], and uint64_t seen[pages], which notes for each page the
- * version at which you had it. Begin with VMIG_UNSEEN in each entry of seen: you have seen no page. Where the machine's RAM
- * is the one to begin with, as after vmig_receive, let vmig_pull fill yours; where yours is, hand in every page with
- * vmig_push. From then on, with the guest paused from the first to the last of these: hand in EVERY page that the guest has
- * written since, also one that only a device will write; make its register writes; make the steps that vmig_next_work names;
- * read the lines; and let vmig_pull bring what the devices wrote. Then ram is the machine's RAM, byte for byte. A page that
- * the guest wrote and you did not hand in is not seen by the devices, is lost once one writes into it, and is not sent: hand
- * in all of them also before vmig_end_round and before vmig_stop. Only vmig_push and vmig_pull write seen.
+ * RAM OF YOURS, LENT TO THE GUEST, as under hardware virtualization: the guest runs on memory of yours, and its devices read and
+ * write the same bytes: nothing is copied. vmig_make_over makes a machine over such memory, and vmig_arrive_over lets one arrive
+ * in it. vmig_lend lends RAM to you, and you run the guest; no step is made meanwhile. vmig_give_back takes RAM back, with the
+ * numbers of the pages that were written. This is the loop, which examples/c/lent.c has whole:
+ *
+ *     vmig_ram ram = VMIG_NO_RAM;
+ *     for (;;) {
+ *         vmig_lend(&machine, &ram);
+ *         run_guest(ram.at, ram.len);                    until it touches a device; then all its processors are outside
+ *         count = read_dirty_log(pages);                 each page that the guest, or you, wrote since it was last read
+ *         vmig_give_back(&machine, &ram, pages, count);
+ *         vmig_reg_write(&machine, ..);                  or vmig_reg_read: the access for which the guest came out
+ *         the steps that vmig_next_work names, and vmig_lines after each
+ *     }
+ *
+ * Every processor of the guest is outside while RAM is not lent, for the devices write into it then. A log that is a bitmap goes
+ * to vmig_give_back_marked, and a host that has no log calls vmig_give_back_all. The devices see what was written at once, but a
+ * page is sent anew only once it is named: read the log once more before vmig_end_round and before vmig_stop, and name what is
+ * in it. Who may touch the bytes, to read or to write them, in each state of the machine:
+ *
+ *                         before make   idle   being sent   lent   stopped   arriving, refused   after free or unmap
+ *     you and the guest   yes           no     no           yes    no        no                  yes
+ *     the calls           no            yes    yes          no     yes       yes                 no
+ *
+ * The memory stays mapped until vmig_free or vmig_unmap, in any state. Then it is yours again, where it lay: no vmig_ram comes
+ * back, so keep its address.
+ *
+ * RAM OF YOURS, MIRRORED, where it cannot be lent, as it lies in several places or in another process. The machine has RAM of
+ * its own beside it, and you mirror the one into the other: uint8_t ram[4096 * pages], and uint64_t seen[pages], which notes
+ * for each page the version at which you had it. Begin with VMIG_UNSEEN in each entry of seen: you have seen no page. Where
+ * the machine's RAM is the one to begin with, as after vmig_receive, let vmig_pull fill yours; where yours is, hand in every
+ * page with vmig_push. From then on, with the guest paused from the first to the last of these: hand in EVERY page that the
+ * guest has written since, also one that only a device will write; make its register writes; make the steps that
+ * vmig_next_work names; read the lines; and let vmig_pull bring what the devices wrote. Then ram is the machine's RAM, byte for
+ * byte. A page that the guest wrote and you did not hand in is not seen by the devices, is lost once one writes into it, and is
+ * not sent: hand in all of them also before vmig_end_round and before vmig_stop. Only vmig_push and vmig_pull write seen.
  *
  * WHAT EACH CALL ANSWERS IN EACH STATE. "done" stands for the statuses that the call's own comment names; each name is a status,
  * without VMIG_. A machine is idle until vmig_begin, being sent from then on, and stopped after vmig_stop; vmig_abort makes it
- * idle again. vmig_lines has no status: it is 0 where ram_read is NO_MACHINE.
+ * idle again. A machine that is idle or being sent is lent from vmig_lend until RAM is given back: LENT is then the answer
+ * whatever else could be refused, nothing has changed, and no comment of a call but that of vmig_lend names it. vmig_lines has
+ * no status: it is 0 where ram_read is NO_MACHINE, and of a lent machine what it was before.
  *
- *   of a handle with              no machine   one that arrives   an idle one   one being sent   a stopped one
+ *   of a handle with              no machine   one that arrives   an idle one   one being sent   a stopped one   a lent one
  *   make, make_with, make_mapped,
- *     arrive_mapped, receive      done         IN_USE             IN_USE        IN_USE           IN_USE
- *   feed                          done         done               IN_USE        IN_USE           IN_USE
- *   finish, rounds                NO_MACHINE   done               IN_USE        IN_USE           IN_USE
+ *     make_over, arrive_mapped,
+ *     arrive_over, receive        done         IN_USE             IN_USE        IN_USE           IN_USE          IN_USE
+ *   feed                          done         done               IN_USE        IN_USE           IN_USE          IN_USE
+ *   finish, rounds                NO_MACHINE   done               IN_USE        IN_USE           IN_USE          IN_USE
  *   reg_read, reg_write, step,
  *     next_work, ram_write, push,
- *     input, resize               NO_MACHINE   NO_MACHINE         done          done             STOPPED
- *   ram_read, pull, size, device,
- *     must_sync                   NO_MACHINE   NO_MACHINE         done          done             done
- *   sector_read, saved_len, save  NO_MACHINE   NO_MACHINE         done          MOVING           MOVING
- *   begin                         NO_MACHINE   NO_MACHINE         done          BEGUN_ALREADY    STOPPED
- *   copy, end_round, stop         NO_MACHINE   NO_MACHINE         NOT_BEGUN     done             STOPPED
- *   remaining, take, abort        NO_MACHINE   NO_MACHINE         NOT_BEGUN     done             done
- *   unmap, over images            NO_MACHINE   done               done          done             done
- *   unmap, else                   NO_MACHINE   NO_MACHINE         NOT_MAPPED    NOT_MAPPED       NOT_MAPPED
- *   free                          done         done               done          done             done
+ *     input, resize               NO_MACHINE   NO_MACHINE         done          done             STOPPED         LENT
+ *   ram_read, pull, must_sync     NO_MACHINE   NO_MACHINE         done          done             done            LENT
+ *   size, device                  NO_MACHINE   NO_MACHINE         done          done             done            done
+ *   lend                          NO_MACHINE   NO_MACHINE         done          done             STOPPED         LENT
+ *   give_back, give_back_marked,
+ *     give_back_all               NO_MACHINE   NO_MACHINE         NOT_LENT      NOT_LENT         NOT_LENT        done
+ *   sector_read, saved_len, save  NO_MACHINE   NO_MACHINE         done          MOVING           MOVING          LENT
+ *   begin                         NO_MACHINE   NO_MACHINE         done          BEGUN_ALREADY    STOPPED         LENT
+ *   copy, end_round, stop         NO_MACHINE   NO_MACHINE         NOT_BEGUN     done             STOPPED         LENT
+ *   remaining, abort              NO_MACHINE   NO_MACHINE         NOT_BEGUN     done             done            LENT
+ *   take                          NO_MACHINE   NO_MACHINE         NOT_BEGUN     done             done            as not lent
+ *   unmap, over images            NO_MACHINE   done               done          done             done            LENT
+ *   unmap, else                   NO_MACHINE   NO_MACHINE         NOT_MAPPED    NOT_MAPPED       NOT_MAPPED      NOT_MAPPED
+ *   free                          done         done               done          done             done            done
  *
  * WHAT A GUEST CAN DO: whatever it writes into RAM and registers, each call stays defined and ends.
  */
@@ -146,7 +185,7 @@ enum {
 
     /* The machine refuses the event. */
     VMIG_NO_DEVICE = 1,    /* there is no device of this number */
-    VMIG_OUT_OF_RAM = 2,   /* the access reaches past the end of RAM */
+    VMIG_OUT_OF_RAM = 2,   /* the access reaches past the end of RAM; vmig_push, vmig_give_back: there is no such page */
     VMIG_TOO_LONG = 3,     /* the access is of more than 4,096 bytes; reported before VMIG_OUT_OF_RAM */
     VMIG_WRONG_KIND = 4,   /* a device of this kind has no such event */
     VMIG_BAD_FRAME = 5,    /* a frame of fewer than 14 or more than 1,514 bytes */
@@ -154,18 +193,18 @@ enum {
     /* The call is refused. */
     VMIG_NO_SECTOR = 7,    /* vmig_sector_read: the disk has no such sector */
     VMIG_NO_MACHINE = 8,   /* the handle has no machine, or one that still arrives */
-    VMIG_IN_USE = 9,       /* vmig_make, vmig_make_with, vmig_make_mapped, vmig_arrive_mapped, vmig_receive: the handle has a
-                            * machine already, or one arrives; vmig_feed, vmig_finish, vmig_rounds: it has a machine that does
-                            * not arrive */
+    VMIG_IN_USE = 9,       /* vmig_make, vmig_make_with, vmig_make_mapped, vmig_make_over, vmig_arrive_mapped, vmig_arrive_over,
+                            * vmig_receive: the handle has a machine already, or one arrives; vmig_feed, vmig_finish,
+                            * vmig_rounds: it has a machine that does not arrive */
     VMIG_NO_MEMORY = 10,   /* out of memory: malloc or realloc failed */
     VMIG_TOO_SMALL = 11,   /* vmig_step, vmig_save, vmig_push, vmig_pull, vmig_sector_read: your buffer;
-                            * vmig_unmap: your slots */
-    VMIG_BAD_SHAPE = 12,   /* vmig_make, vmig_make_with, vmig_make_mapped: pages, count of devices, or a device beyond the
-                            * limits or of an unknown kind */
+                            * vmig_unmap: your slots; vmig_give_back_marked: your words */
+    VMIG_BAD_SHAPE = 12,   /* vmig_make, vmig_make_with, vmig_make_mapped, vmig_make_over: pages, count of devices, or a device
+                            * beyond the limits or of an unknown kind */
     VMIG_MOVING = 13,      /* vmig_save, vmig_saved_len, vmig_sector_read: the machine is being sent */
     VMIG_NOT_MAPPED = 14,  /* vmig_unmap: the disks are in memory of the library */
-    VMIG_BAD_IMAGES = 15,  /* vmig_make_with, vmig_make_mapped: the images' length or counts are not those of the disks;
-                            * vmig_unmap: a slot is not VMIG_NO_IMAGE */
+    VMIG_BAD_IMAGES = 15,  /* vmig_make_with, vmig_make_mapped, vmig_make_over: the images' length or counts are not those of
+                            * the disks; vmig_unmap: a slot is not VMIG_NO_IMAGE */
 
     /* A migration refuses the call: 16 and the number of its reason. VMIG_WRITER_FAILED alone changes something: the migration
      * has failed for good, and each of its later calls but vmig_take and vmig_abort gets the same status. The machine is as it
@@ -177,12 +216,19 @@ enum {
     VMIG_STOPPED = 21,         /* the machine was stopped, and its stream is closed */
     VMIG_NO_ROUND_LEFT = 22,   /* vmig_end_round: 4,294,967,294 rounds have ended */
 
+    /* RAM in memory of yours refuses the call. */
+    VMIG_LENT = 23,            /* RAM is lent to you: give it back before */
+    VMIG_NOT_LENT = 24,        /* vmig_give_back and its like: RAM is not lent */
+    VMIG_NOT_OVER = 25,        /* vmig_lend: RAM is in memory of the library */
+    VMIG_BAD_RAM = 26,         /* vmig_make_over, vmig_arrive_over: it is not 1 to 16,384 whole pages; vmig_lend: your vmig_ram is
+                                * not VMIG_NO_RAM; vmig_give_back and its like: it has another length than what was lent */
+
     /* vmig_receive, vmig_feed or vmig_finish refuses the stream: 32 and the number of its first fault. */
     VMIG_STREAM_BAD_MAGIC = 33,      /* it does not begin with "VMIG" */
     VMIG_STREAM_BAD_VERSION = 34,    /* a stream whose version is neither 1 nor 2 */
     VMIG_STREAM_BAD_SHAPE = 35,      /* the machine that it encodes is beyond the limits */
-    VMIG_STREAM_SHAPE_MISMATCH = 36, /* vmig_feed, after vmig_arrive_mapped: its disks are not as many, or as large, as the
-                                      * images; no sector was written */
+    VMIG_STREAM_SHAPE_MISMATCH = 36, /* vmig_feed, after vmig_arrive_mapped or vmig_arrive_over: its disks are not as many, or
+                                      * as large, as the images; no sector was written */
     VMIG_STREAM_BAD_TAG = 37,        /* a tag that may not come there */
     VMIG_STREAM_BAD_PAGE = 38,       /* there is no such page */
     VMIG_STREAM_BAD_SECTOR = 39,     /* there is no such sector */
@@ -192,7 +238,8 @@ enum {
     VMIG_STREAM_MISSING = 43,        /* a page, a sector or a device is missing */
     VMIG_STREAM_TRAILING = 44,       /* bytes after its end */
     VMIG_STREAM_TRUNCATED = 45,      /* vmig_receive, vmig_finish: it is cut off */
-    VMIG_STREAM_NO_MEMORY = 47,      /* vmig_feed, vmig_finish: out of memory for what arrives */
+    VMIG_STREAM_NO_MEMORY = 47,      /* vmig_feed, vmig_finish: out of memory for what arrives; vmig_feed, after
+                                      * vmig_arrive_over: its pages are not as many as those of your RAM */
     VMIG_STREAM_FAILED = 48,         /* vmig_feed, vmig_finish: it was refused before */
 
     /* vmig_reg_write: done, and a console gave out a byte. */
@@ -235,12 +282,13 @@ static inline const char *vmig_status_name(uint32_t status)
     VMIG_NAMED(VMIG_IN_USE) VMIG_NAMED(VMIG_NO_MEMORY) VMIG_NAMED(VMIG_TOO_SMALL) VMIG_NAMED(VMIG_BAD_SHAPE)
     VMIG_NAMED(VMIG_MOVING) VMIG_NAMED(VMIG_NOT_MAPPED) VMIG_NAMED(VMIG_BAD_IMAGES) VMIG_NAMED(VMIG_NOT_BEGUN)
     VMIG_NAMED(VMIG_BEGUN_ALREADY) VMIG_NAMED(VMIG_READ_FAILED) VMIG_NAMED(VMIG_WRITER_FAILED) VMIG_NAMED(VMIG_STOPPED)
-    VMIG_NAMED(VMIG_NO_ROUND_LEFT) VMIG_NAMED(VMIG_STREAM_BAD_MAGIC) VMIG_NAMED(VMIG_STREAM_BAD_VERSION)
+    VMIG_NAMED(VMIG_NO_ROUND_LEFT) VMIG_NAMED(VMIG_LENT) VMIG_NAMED(VMIG_NOT_LENT) VMIG_NAMED(VMIG_NOT_OVER)
+    VMIG_NAMED(VMIG_BAD_RAM) VMIG_NAMED(VMIG_STREAM_BAD_MAGIC) VMIG_NAMED(VMIG_STREAM_BAD_VERSION)
     VMIG_NAMED(VMIG_STREAM_BAD_SHAPE) VMIG_NAMED(VMIG_STREAM_SHAPE_MISMATCH) VMIG_NAMED(VMIG_STREAM_BAD_TAG)
-    VMIG_NAMED(VMIG_STREAM_BAD_PAGE)
-    VMIG_NAMED(VMIG_STREAM_BAD_SECTOR) VMIG_NAMED(VMIG_STREAM_BAD_ROUND) VMIG_NAMED(VMIG_STREAM_BAD_DEVICE)
-    VMIG_NAMED(VMIG_STREAM_BAD_DIGEST) VMIG_NAMED(VMIG_STREAM_MISSING) VMIG_NAMED(VMIG_STREAM_TRAILING)
-    VMIG_NAMED(VMIG_STREAM_TRUNCATED) VMIG_NAMED(VMIG_STREAM_NO_MEMORY) VMIG_NAMED(VMIG_STREAM_FAILED) VMIG_NAMED(VMIG_OUT_BYTE)
+    VMIG_NAMED(VMIG_STREAM_BAD_PAGE) VMIG_NAMED(VMIG_STREAM_BAD_SECTOR) VMIG_NAMED(VMIG_STREAM_BAD_ROUND)
+    VMIG_NAMED(VMIG_STREAM_BAD_DEVICE) VMIG_NAMED(VMIG_STREAM_BAD_DIGEST) VMIG_NAMED(VMIG_STREAM_MISSING)
+    VMIG_NAMED(VMIG_STREAM_TRAILING) VMIG_NAMED(VMIG_STREAM_TRUNCATED) VMIG_NAMED(VMIG_STREAM_NO_MEMORY)
+    VMIG_NAMED(VMIG_STREAM_FAILED) VMIG_NAMED(VMIG_OUT_BYTE)
     VMIG_NAMED(VMIG_IDLE) VMIG_NAMED(VMIG_TAKEN) VMIG_NAMED(VMIG_MOVED) VMIG_NAMED(VMIG_BAD_SECTOR) VMIG_NAMED(VMIG_DISK_FAILED)
     VMIG_NAMED(VMIG_COMPLETED) VMIG_NAMED(VMIG_SENT) VMIG_NAMED(VMIG_DROPPED) VMIG_NAMED(VMIG_NEEDS_RESET) VMIG_NAMED(VMIG_PAGE)
     VMIG_NAMED(VMIG_SECTOR) VMIG_NAMED(VMIG_ROUND_DONE) VMIG_NAMED(VMIG_ROUND_OPEN) VMIG_NAMED(VMIG_WORK)
@@ -282,6 +330,15 @@ typedef struct vmig_image {
 
 #define VMIG_NO_IMAGE {0, 0}
 
+/* Memory of yours that is the RAM of a machine, or is to be: len bytes at at, which may be read and written, and which no image
+ * overlaps. RAM has 1 to 16,384 pages of 4,096 bytes; VMIG_NO_RAM has no bytes. */
+typedef struct vmig_ram {
+    void *at;
+    size_t len;
+} vmig_ram;
+
+#define VMIG_NO_RAM {0, 0}
+
 /* The version of the library that was linked, to compare with VMIG_VERSION_NUMBER. */
 uint32_t vmig_version(void);
 
@@ -305,17 +362,25 @@ uint32_t vmig_make_with(uint32_t pages, const vmig_shape *shapes, size_t count, 
 uint32_t vmig_make_mapped(uint32_t pages, const vmig_shape *shapes, size_t count, vmig_image *images, size_t count_images,
                           vmig_machine *machine);
 
+/* As vmig_make_mapped, but RAM is the memory of *ram, with the bytes that are there now, such as a kernel that you put there. If
+ * count_images is 0 the disks are zeros in memory of the library, as with vmig_make. VMIG_OK takes the memory and the images:
+ * *ram is VMIG_NO_RAM then, and each slot VMIG_NO_IMAGE. At every other status nothing changed.
+ * VMIG_IN_USE, then VMIG_BAD_RAM, then VMIG_BAD_SHAPE, then VMIG_BAD_IMAGES, then VMIG_NO_MEMORY, and no others. */
+uint32_t vmig_make_over(vmig_ram *ram, const vmig_shape *shapes, size_t count, vmig_image *images, size_t count_images,
+                        vmig_machine *machine);
+
 /* Frees a machine over images, as vmig_free does, and gives its images back: the first of the count slots get those of its
  * disks, in the order of the devices, with what the guest left there. A sector that VMIG_BAD_SECTOR reports may hold anything.
  * The other slots stay VMIG_NO_IMAGE. Each slot is VMIG_NO_IMAGE before the call, else VMIG_BAD_IMAGES, and they are at least
  * as many as images, else VMIG_TOO_SMALL. The machine may be one that is being sent. It may also be one that arrives, or whose
- * stream was refused: the images hold what they held, and in part the sectors of that stream. Where it is refused, nothing
- * changed.
+ * stream was refused: the images hold what they held, and in part the sectors of that stream. RAM that is in your memory is
+ * yours again too, where it lay, and likewise holds a part of that stream's pages. Where it is refused, nothing changed.
  * VMIG_NO_MACHINE, then VMIG_NOT_MAPPED, then VMIG_BAD_IMAGES, then VMIG_TOO_SMALL, and no others. */
 uint32_t vmig_unmap(vmig_machine *machine, vmig_image *images, size_t count);
 
-/* Frees the machine, if there is one. The handle is VMIG_NONE again. The bytes of its images stay where they are, and are
- * yours again. What they hold is promised by vmig_unmap, which frees the machine too. */
+/* Frees the machine, if there is one, also one whose RAM is lent. The handle is VMIG_NONE again. The bytes of its images, and of
+ * RAM in your memory, stay where they are, and are yours again. What the images hold is promised by vmig_unmap, which frees the
+ * machine too. */
 void vmig_free(vmig_machine *machine);
 
 /* The driver reads a register: 1, 2 or 4 bytes (width) at an offset in the device's window; its configuration begins at
@@ -348,6 +413,32 @@ uint32_t vmig_push(vmig_machine *machine, const uint32_t *pages, size_t count, c
  * is the number of pages handed out. Sizes are as for vmig_push. The machine is as it was; it may have been stopped.
  * VMIG_NO_MACHINE, VMIG_TOO_SMALL. */
 uint32_t vmig_pull(vmig_machine *machine, uint8_t *ram, size_t len, uint64_t *seen, size_t seen_len, uint32_t *count);
+
+/* Lends RAM to you, if it is in your memory: *ram, which is VMIG_NO_RAM before, becomes its address and its length. Until it is
+ * given back you and your guest may read and write these bytes, and no call does. The machine may be one that is being sent. It
+ * takes no memory, and as long for any size of RAM. At every other status than VMIG_OK nothing changed.
+ * VMIG_NO_MACHINE, then VMIG_LENT, then VMIG_STOPPED, then VMIG_BAD_RAM, then VMIG_NOT_OVER, and no others. */
+uint32_t vmig_lend(vmig_machine *machine, vmig_ram *ram);
+
+/* Gives RAM back, with the numbers of the count pages that were written while it was lent, by the guest or by you: the machine
+ * takes each for written whole, so a machine that is being sent sends it anew. They come in any order, and one may come twice. A
+ * count of 0 says that nothing was written. A page that was written and is named neither here nor by a later call may be sent as
+ * it was before: nothing checks it, and what was written is lost at the receiver. *ram has the length that was lent. Its address
+ * may be another, if the bytes moved there: RAM lies there from then on. It takes no memory, and time for the named pages alone.
+ * VMIG_OK takes the memory: *ram is VMIG_NO_RAM then. At every other status nothing changed, and RAM is still lent.
+ * VMIG_NO_MACHINE, then VMIG_NOT_LENT, then VMIG_BAD_RAM, then VMIG_OUT_OF_RAM, and no others. */
+uint32_t vmig_give_back(vmig_machine *machine, vmig_ram *ram, const uint32_t *pages, size_t count);
+
+/* As vmig_give_back, with a bitmap: bit k of words[n], the lowest being bit 0, is set if page 64 * n + k was written, as
+ * KVM_GET_DIRTY_LOG fills it. There are count words, at least one for each 64 pages, else VMIG_TOO_SMALL. A word of zeros takes
+ * one look. Bits past the last page are not looked at.
+ * VMIG_NO_MACHINE, then VMIG_NOT_LENT, then VMIG_BAD_RAM, then VMIG_TOO_SMALL, then VMIG_NO_MEMORY, and no others. */
+uint32_t vmig_give_back_marked(vmig_machine *machine, vmig_ram *ram, const uint64_t *words, size_t count);
+
+/* As vmig_give_back with each page of RAM, for a host that has no log: a machine that is being sent has all of RAM to send anew.
+ * It takes time for each page.
+ * VMIG_NO_MACHINE, then VMIG_NOT_LENT, then VMIG_BAD_RAM, then VMIG_NO_MEMORY, and no others. */
+uint32_t vmig_give_back_all(vmig_machine *machine, vmig_ram *ram);
 
 /* A device does one piece of its work, which the pick names. A block device: pick 0 takes the next request, and pick k, from
  * 1 to 8, brings the k-th request that it has taken one unit on. An entropy device: pick 0 fills the next buffer. A network
@@ -486,15 +577,23 @@ uint32_t vmig_take(vmig_machine *machine, uint8_t *buf, size_t size, size_t *got
  * VMIG_IN_USE, then VMIG_NO_MEMORY, and no others. */
 uint32_t vmig_arrive_mapped(vmig_image *images, size_t count_images, vmig_machine *machine);
 
+/* As vmig_arrive_mapped, and RAM is to be the memory of *ram: the pages go straight there, and what it held is written over. If
+ * count_images is 0 the machine has no disk. A stream of another number of pages is VMIG_STREAM_NO_MEMORY before a page is
+ * written; vmig_stream_size tells the number before. VMIG_OK takes the memory and the images: *ram is VMIG_NO_RAM then. At every
+ * other status nothing changed.
+ * VMIG_IN_USE, then VMIG_BAD_RAM, then VMIG_NO_MEMORY, and no others. */
+uint32_t vmig_arrive_over(vmig_ram *ram, vmig_image *images, size_t count_images, vmig_machine *machine);
+
 /* The next bytes of a stream arrive, in pieces of any size. On a handle of no machine one begins to arrive. VMIG_OK says that
  * the bytes so far have no fault; a piece that brings one is refused, and the stream with it: each later vmig_feed and
- * vmig_finish is VMIG_STREAM_FAILED, until vmig_free or, over images, vmig_unmap. A stream can ask for as much memory as with vmig_receive.
+ * vmig_finish is VMIG_STREAM_FAILED, until vmig_free or, over images, vmig_unmap. A stream can ask for as much memory as with
+ * vmig_receive.
  * VMIG_NO_MEMORY comes with the first piece alone, and changes nothing.
  * VMIG_IN_USE, VMIG_NO_MEMORY, or a VMIG_STREAM status. */
 uint32_t vmig_feed(vmig_machine *machine, const uint8_t *bytes, size_t len);
 
-/* All bytes have arrived: the handle has the machine, which is not being sent, with its disks in memory of the library, or in the
- * images of vmig_arrive_mapped. An incomplete stream is refused, as by vmig_feed.
+/* All bytes have arrived: the handle has the machine, which is not being sent, with RAM and disks in memory of the library, or in
+ * the memory and the images of vmig_arrive_mapped or vmig_arrive_over. An incomplete stream is refused, as by vmig_feed.
  * VMIG_NO_MACHINE, VMIG_IN_USE, VMIG_STREAM_TRUNCATED, VMIG_STREAM_NO_MEMORY, VMIG_STREAM_FAILED. */
 uint32_t vmig_finish(vmig_machine *machine);
 

@@ -17,9 +17,11 @@ enum class [[nodiscard]] status : std::uint32_t {
     in_use = VMIG_IN_USE, no_memory = VMIG_NO_MEMORY, too_small = VMIG_TOO_SMALL, bad_shape = VMIG_BAD_SHAPE,
     moving = VMIG_MOVING, not_mapped = VMIG_NOT_MAPPED, bad_images = VMIG_BAD_IMAGES, not_begun = VMIG_NOT_BEGUN,
     begun_already = VMIG_BEGUN_ALREADY, read_failed = VMIG_READ_FAILED, writer_failed = VMIG_WRITER_FAILED,
-    stopped = VMIG_STOPPED, no_round_left = VMIG_NO_ROUND_LEFT, stream_bad_magic = VMIG_STREAM_BAD_MAGIC,
+    stopped = VMIG_STOPPED, no_round_left = VMIG_NO_ROUND_LEFT, lent = VMIG_LENT, not_lent = VMIG_NOT_LENT,
+    not_over = VMIG_NOT_OVER, bad_ram = VMIG_BAD_RAM, stream_bad_magic = VMIG_STREAM_BAD_MAGIC,
     stream_bad_version = VMIG_STREAM_BAD_VERSION, stream_bad_shape = VMIG_STREAM_BAD_SHAPE,
-    stream_shape_mismatch = VMIG_STREAM_SHAPE_MISMATCH, stream_bad_tag = VMIG_STREAM_BAD_TAG, stream_bad_page = VMIG_STREAM_BAD_PAGE, stream_bad_sector = VMIG_STREAM_BAD_SECTOR,
+    stream_shape_mismatch = VMIG_STREAM_SHAPE_MISMATCH, stream_bad_tag = VMIG_STREAM_BAD_TAG,
+    stream_bad_page = VMIG_STREAM_BAD_PAGE, stream_bad_sector = VMIG_STREAM_BAD_SECTOR,
     stream_bad_round = VMIG_STREAM_BAD_ROUND, stream_bad_device = VMIG_STREAM_BAD_DEVICE,
     stream_bad_digest = VMIG_STREAM_BAD_DIGEST, stream_missing = VMIG_STREAM_MISSING, stream_trailing = VMIG_STREAM_TRAILING,
     stream_truncated = VMIG_STREAM_TRUNCATED, stream_no_memory = VMIG_STREAM_NO_MEMORY, stream_failed = VMIG_STREAM_FAILED,
@@ -49,8 +51,10 @@ inline status stream_device(const std::uint8_t *bytes, std::size_t len, std::uin
     return status{vmig_stream_device(bytes, len, dev, shape)};
 }
 
-/* A machine, or none. It is freed with its owner and can be moved, and one that was moved away is none. Images that it was made over are
- * given back by unmap alone. */
+class lent;
+
+/* A machine, or none. It is freed with its owner and can be moved, and one that was moved away is none. Images that it was made
+ * over are given back by unmap alone, and RAM that it was made over stays where it lies. */
 class machine {
 public:
     machine() noexcept = default;
@@ -85,6 +89,10 @@ public:
     {
         return status{vmig_make_mapped(pages, shapes, count, images, count_images, &held)};
     }
+    status make_over(vmig_ram *ram, const vmig_shape *shapes, std::size_t count, vmig_image *images, std::size_t count_images)
+    {
+        return status{vmig_make_over(ram, shapes, count, images, count_images, &held)};
+    }
     status unmap(vmig_image *images, std::size_t count) { return status{vmig_unmap(&held, images, count)}; }
     status reg_read(std::uint8_t dev, std::uint32_t off, std::uint8_t width, std::uint32_t *value)
     {
@@ -110,6 +118,10 @@ public:
     {
         return status{vmig_pull(&held, ram, len, seen, seen_len, count)};
     }
+
+    /* Lends RAM: if it is ok the machine is in *loan, in the place of what was there, and this is none until it comes back. */
+    status lend(lent *loan) &&;
+
     status step(std::uint8_t dev, std::uint8_t pick, std::uint8_t *buf, std::size_t size, std::uint32_t *len)
     {
         return status{vmig_step(&held, dev, pick, buf, size, len)};
@@ -145,6 +157,10 @@ public:
     status remaining(std::uint64_t *due, std::uint64_t *dirty) { return status{vmig_remaining(&held, due, dirty)}; }
     status take(std::uint8_t *buf, std::size_t size, std::size_t *got) { return status{vmig_take(&held, buf, size, got)}; }
     status arrive_mapped(vmig_image *images, std::size_t count) { return status{vmig_arrive_mapped(images, count, &held)}; }
+    status arrive_over(vmig_ram *ram, vmig_image *images, std::size_t count)
+    {
+        return status{vmig_arrive_over(ram, images, count, &held)};
+    }
     status feed(const std::uint8_t *bytes, std::size_t len) { return status{vmig_feed(&held, bytes, len)}; }
     status finish() { return status{vmig_finish(&held)}; }
     status rounds(std::uint32_t *ended) { return status{vmig_rounds(&held, ended)}; }
@@ -154,6 +170,65 @@ private:
 
     vmig_machine held = VMIG_NONE;
 };
+
+/* A machine whose RAM is lent, or none: the bytes of RAM, and the calls that such a machine has an answer for. For the others it
+ * comes back. It is freed with its owner, and can be moved. */
+class lent {
+public:
+    lent() noexcept = default;
+    lent(lent &&other) noexcept : held(std::move(other.held)), ram(std::exchange(other.ram, none())) {}
+    lent &operator=(lent &&other) noexcept
+    {
+        held = std::move(other.held);
+        ram = std::exchange(other.ram, none());
+        return *this;
+    }
+
+    /* The bytes of RAM, which the guest and the host may read and write. */
+    std::uint8_t *data() const noexcept { return static_cast<std::uint8_t *>(ram.at); }
+    std::size_t size_bytes() const noexcept { return ram.len; }
+
+    std::uint16_t lines() { return held.lines(); }
+    status size(std::uint32_t *pages, std::uint32_t *devices) { return held.size(pages, devices); }
+    status device(std::uint8_t dev, vmig_shape *shape) { return held.device(dev, shape); }
+    status take(std::uint8_t *buf, std::size_t size, std::size_t *got) { return held.take(buf, size, got); }
+
+    /* Give RAM back: if it is ok the machine is in *back, in the place of what was there, and this is none. */
+    status give_back(const std::uint32_t *pages, std::size_t count, machine *back) &&
+    {
+        return come_back(status{vmig_give_back(held.get(), &ram, pages, count)}, back);
+    }
+    status give_back_marked(const std::uint64_t *words, std::size_t count, machine *back) &&
+    {
+        return come_back(status{vmig_give_back_marked(held.get(), &ram, words, count)}, back);
+    }
+    status give_back_all(machine *back) && { return come_back(status{vmig_give_back_all(held.get(), &ram)}, back); }
+
+private:
+    friend class machine;
+
+    static vmig_ram none() noexcept { return VMIG_NO_RAM; }
+
+    status come_back(status told, machine *back)
+    {
+        if (told == status::ok) *back = std::move(held);
+        return told;
+    }
+
+    machine held;
+    vmig_ram ram = VMIG_NO_RAM;
+};
+
+inline status machine::lend(lent *loan) &&
+{
+    vmig_ram ram = VMIG_NO_RAM;
+    const status told{vmig_lend(&held, &ram)};
+    if (told == status::ok) {
+        loan->held = std::move(*this);
+        loan->ram = ram;
+    }
+    return told;
+}
 
 }  // namespace vmig
 

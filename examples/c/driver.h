@@ -24,17 +24,28 @@ static inline int ended(const char *name)
     return failures != 0;
 }
 
-static inline uint32_t read_reg(vmig_machine *m, uint32_t off)
+static inline uint32_t read_reg_of(vmig_machine *m, uint8_t dev, uint32_t off)
 {
     uint32_t value = 0xdeadbeef;
-    expect("status of a register read", vmig_reg_read(m, 0, off, 4, &value), VMIG_OK);
+    expect("status of a register read", vmig_reg_read(m, dev, off, 4, &value), VMIG_OK);
     return value;
+}
+
+static inline void write_reg_of(vmig_machine *m, uint8_t dev, uint32_t off, uint32_t value)
+{
+    uint32_t out = 0;
+    expect("status of a register write", vmig_reg_write(m, dev, off, 4, value, &out), VMIG_OK);
+}
+
+/* The same of device 0. */
+static inline uint32_t read_reg(vmig_machine *m, uint32_t off)
+{
+    return read_reg_of(m, 0, off);
 }
 
 static inline void write_reg(vmig_machine *m, uint32_t off, uint32_t value)
 {
-    uint32_t out = 0;
-    expect("status of a register write", vmig_reg_write(m, 0, off, 4, value, &out), VMIG_OK);
+    write_reg_of(m, 0, off, value);
 }
 
 /* The guest writes a number of up to 8 bytes into its RAM, the lowest byte first. */
@@ -84,29 +95,34 @@ static inline void offer(vmig_machine *m, uint32_t queue, uint32_t count, uint32
     write_reg(m, 0x050, queue);
 }
 
-/* The driver takes the device over, with the feature VERSION_1 and those of `low`, which are below bit 32, and makes its queues ready
- * (VIRTIO 1.2, 3.1.1). */
+/* The driver takes a device over, with the feature VERSION_1 and those of `low`, which are below bit 32, and makes its queues
+ * ready (VIRTIO 1.2, 3.1.1). The first of them lies where queue `first` of device 0 does. */
+static inline void set_up_device(vmig_machine *m, uint8_t dev, uint32_t first, uint32_t queues, uint32_t low)
+{
+    write_reg_of(m, dev, 0x070, 0);
+    write_reg_of(m, dev, 0x070, 1);
+    write_reg_of(m, dev, 0x070, 3);
+    write_reg_of(m, dev, 0x024, 0);
+    write_reg_of(m, dev, 0x020, low);
+    write_reg_of(m, dev, 0x024, 1);
+    write_reg_of(m, dev, 0x020, 1);
+    write_reg_of(m, dev, 0x070, 0xb);
+    expect("features accepted", read_reg_of(m, dev, 0x070), 0xb);
+    for (uint32_t q = 0; q < queues; q++) {
+        write_reg_of(m, dev, 0x030, q);
+        write_reg_of(m, dev, 0x038, SIZE);
+        write_reg_of(m, dev, 0x080, DESC + (first + q) * NEXT_QUEUE);
+        write_reg_of(m, dev, 0x090, AVAIL + (first + q) * NEXT_QUEUE);
+        write_reg_of(m, dev, 0x0a0, USED + (first + q) * NEXT_QUEUE);
+        write_reg_of(m, dev, 0x044, 1);
+        expect("queue ready", read_reg_of(m, dev, 0x044), 1);
+    }
+    write_reg_of(m, dev, 0x070, 0xf);
+}
+
 static inline void set_up_with(vmig_machine *m, uint32_t queues, uint32_t low)
 {
-    write_reg(m, 0x070, 0);
-    write_reg(m, 0x070, 1);
-    write_reg(m, 0x070, 3);
-    write_reg(m, 0x024, 0);
-    write_reg(m, 0x020, low);
-    write_reg(m, 0x024, 1);
-    write_reg(m, 0x020, 1);
-    write_reg(m, 0x070, 0xb);
-    expect("features accepted", read_reg(m, 0x070), 0xb);
-    for (uint32_t q = 0; q < queues; q++) {
-        write_reg(m, 0x030, q);
-        write_reg(m, 0x038, SIZE);
-        write_reg(m, 0x080, DESC + q * NEXT_QUEUE);
-        write_reg(m, 0x090, AVAIL + q * NEXT_QUEUE);
-        write_reg(m, 0x0a0, USED + q * NEXT_QUEUE);
-        write_reg(m, 0x044, 1);
-        expect("queue ready", read_reg(m, 0x044), 1);
-    }
-    write_reg(m, 0x070, 0xf);
+    set_up_device(m, 0, 0, queues, low);
 }
 
 static inline void set_up(vmig_machine *m, uint32_t queues)

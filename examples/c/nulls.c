@@ -51,6 +51,24 @@ static void running(void)
     vmig_free(&m);
 }
 
+static void lending(void)
+{
+    static uint8_t room[4096];
+    vmig_machine m = VMIG_NONE;
+    vmig_ram ram = {room, sizeof room};
+
+    expect("make over", vmig_make_over(&ram, NULL, 0, NULL, 0, &m), VMIG_BAD_SHAPE);
+    expect("make over with no image", vmig_make_over(&ram, SHAPES, 1, NULL, 0, &m), VMIG_OK);
+    expect("lend", vmig_lend(&m, &ram), VMIG_OK);
+    expect("no word", vmig_give_back_marked(&m, &ram, NULL, 0), VMIG_TOO_SMALL);
+    expect("no page", vmig_give_back(&m, &ram, NULL, 0), VMIG_OK);
+    vmig_free(&m);
+    ram = (vmig_ram){room, sizeof room};
+    expect("arrive over no image", vmig_arrive_over(&ram, NULL, 0, &m), VMIG_OK);
+    expect("feed", vmig_feed(&m, NULL, 0), VMIG_OK);
+    expect("no slot is wanted", vmig_unmap(&m, NULL, 0), VMIG_OK);
+}
+
 static void arriving(void)
 {
     vmig_machine m = VMIG_NONE;
@@ -74,6 +92,7 @@ int main(void)
 {
     making();
     running();
+    lending();
     arriving();
     return ended("nulls");
 }

@@ -5,7 +5,7 @@
 #include <stdlib.h>
 #include "driver.h"
 
-enum { PAGES = 16, PAGE = 4096, STREAM_MAX = 1 << 20, LONG_CHAIN = 6 };
+enum { PAGES = 16, PAGE = 4096, SECTORS = 8, DISK = SECTORS * 512, STREAM_MAX = 1 << 20, LONG_CHAIN = 6 };
 
 /* The C library's own allocator, under the names that it keeps for a program with its own malloc. */
 void *__libc_malloc(size_t size);
@@ -70,7 +70,7 @@ static uint32_t ended_call(void)
     } while (0)
 
 static const vmig_shape shapes[] = {
-    {.kind = VMIG_BLOCK, .sectors = 8},
+    {.kind = VMIG_BLOCK, .sectors = SECTORS},
     {.kind = VMIG_CONSOLE},
     {.kind = VMIG_NETWORK, .mac = {2, 0, 0, 0, 0, 1}},
     {.kind = VMIG_ENTROPY},
@@ -245,29 +245,30 @@ static int feed(vmig_machine *m, const uint8_t *stream, size_t len)
     return 0;
 }
 
-/* A stream that was refused for want of memory stays refused: it is freed, and fed anew. */
-static void arrive(vmig_machine *m, const uint8_t *stream, size_t len)
+/* A machine will arrive: in this RAM and on this disk, on this disk, or, where both are null, in memory of the library. */
+static void await(vmig_machine *m, uint8_t *room, uint8_t *disk)
 {
+    vmig_ram ram = {room, PAGES * PAGE};
+    vmig_image image = {disk, SECTORS};
+
+    if (room != NULL) CALL_AGAIN("arrive over RAM", vmig_arrive_over(&ram, &image, 1, m), VMIG_OK);
+    else if (disk != NULL) CALL_AGAIN("arrive over an image", vmig_arrive_mapped(&image, 1, m), VMIG_OK);
+}
+
+/* A stream that was refused memory stays refused: it is freed, which gives its image back, and fed anew. */
+static void arrive(vmig_machine *m, uint8_t *room, uint8_t *disk, const uint8_t *stream, size_t len)
+{
+    vmig_image image = VMIG_NO_IMAGE;
+
+    await(m, room, disk);
     if (feed(m, stream, len) == 0) return;
     told++;
     expect("feed after it", CALL(vmig_feed(m, stream, 1)), VMIG_STREAM_FAILED);
     expect("finish after it", CALL(vmig_finish(m)), VMIG_STREAM_FAILED);
+    expect("its image", CALL(vmig_unmap(m, &image, 1)), disk != NULL ? VMIG_OK : VMIG_NO_MACHINE);
+    expect("is back", image.at == disk, 1);
     CALL((vmig_free(m), 0));
-    expect("fed anew", (uint64_t)feed(m, stream, len), 0);
-}
-
-/* As above, over an image: a stream that was refused gives it back. */
-static void arrive_over(vmig_machine *m, uint8_t *at, const uint8_t *stream, size_t len)
-{
-    vmig_image image = {at, 8};
-
-    CALL_AGAIN("arrive over an image", vmig_arrive_mapped(&image, 1, m), VMIG_OK);
-    if (feed(m, stream, len) == 0) return;
-    told++;
-    expect("feed after it", CALL(vmig_feed(m, stream, 1)), VMIG_STREAM_FAILED);
-    expect("its image", CALL(vmig_unmap(m, &image, 1)), VMIG_OK);
-    expect("is back", image.at == at && image.sectors == 8, 1);
-    expect("arrive anew", CALL(vmig_arrive_mapped(&image, 1, m)), VMIG_OK);
+    await(m, room, disk);
     expect("fed anew", (uint64_t)feed(m, stream, len), 0);
 }
 
@@ -283,12 +284,54 @@ static void alike(const char *what, vmig_machine *one, vmig_machine *other)
     expect(what, (uint64_t)memcmp(first, second, len), 0);
 }
 
+/* RAM of the host's own is lent, and given back in each way. What names no more pages than a call before takes no memory. */
+static void lend_ram(vmig_machine *m)
+{
+    static const uint64_t words[] = {1 << 3 | 1 << 5};
+    vmig_ram ram = VMIG_NO_RAM;
+    uint64_t before = requests;
+
+    expect("lend", CALL(vmig_lend(m, &ram)), VMIG_OK);
+    expect("a list", CALL(vmig_give_back(m, &ram, &(uint32_t){3}, 1)), VMIG_OK);
+    expect("lend", CALL(vmig_lend(m, &ram)), VMIG_OK);
+    expect("requests for memory", requests, before);
+    CALL_AGAIN("a bitmap", vmig_give_back_marked(m, &ram, words, 1), VMIG_OK);
+    expect("lend", CALL(vmig_lend(m, &ram)), VMIG_OK);
+    CALL_AGAIN("all pages", vmig_give_back_all(m, &ram), VMIG_OK);
+    before = requests;
+    expect("lend", CALL(vmig_lend(m, &ram)), VMIG_OK);
+    expect("a bitmap", CALL(vmig_give_back_marked(m, &ram, words, 1)), VMIG_OK);
+    expect("requests for memory", requests, before);
+}
+
+/* New machines that are made in each way, the last two over RAM of the host's own. */
+static void make_all(void)
+{
+    static uint8_t images[DISK], mapped[DISK], room[PAGES * PAGE];
+    vmig_image slots[] = {{mapped, SECTORS}};
+    vmig_ram ram = {room, sizeof room}, rest = {room, sizeof room};
+    vmig_machine m = VMIG_NONE, on_images = VMIG_NONE, over = VMIG_NONE;
+
+    CALL_AGAIN("images", vmig_make_with(PAGES, shapes, DEVICES, images, sizeof images, &m), VMIG_OK);
+    CALL_AGAIN("mapped", vmig_make_mapped(PAGES, shapes, DEVICES, slots, 1, &on_images), VMIG_OK);
+    alike("both kinds of images", &m, &on_images);
+    expect("unmap", CALL(vmig_unmap(&on_images, slots, 1)), VMIG_OK);
+    expect("the image is back", (uint64_t)(slots[0].at == mapped), 1);
+    CALL_AGAIN("over RAM and an image", vmig_make_over(&ram, shapes, DEVICES, slots, 1, &on_images), VMIG_OK);
+    lend_ram(&on_images);
+    alike("over RAM and an image", &m, &on_images);
+    CALL((vmig_free(&on_images), 0));
+    CALL_AGAIN("over RAM", vmig_make_over(&rest, shapes, DEVICES, NULL, 0, &over), VMIG_OK);
+    alike("over RAM", &m, &over);
+    CALL((vmig_free(&m), vmig_free(&over), 0));
+}
+
 /* The whole script, with one request refused. Returns how many requests there were. */
 static uint64_t play(uint64_t refused)
 {
-    static uint8_t stream[STREAM_MAX], images[8 * 512], mapped[8 * 512], target[8 * 512];
-    vmig_image slots[] = {{mapped, 8}}, landed[] = {VMIG_NO_IMAGE};
-    vmig_machine m = VMIG_NONE, copy = VMIG_NONE, twin = VMIG_NONE, on_images = VMIG_NONE, over = VMIG_NONE;
+    static uint8_t stream[STREAM_MAX], target[DISK], other[DISK], room[PAGES * PAGE];
+    vmig_image landed[] = {VMIG_NO_IMAGE};
+    vmig_machine m = VMIG_NONE, copy = VMIG_NONE, twin = VMIG_NONE, over = VMIG_NONE, in_room = VMIG_NONE;
     uint32_t rounds;
 
     requests = 0, refused_one = refused, told = 0, given = 0;
@@ -300,25 +343,22 @@ static uint64_t play(uint64_t refused)
         expect("a second migration", (uint64_t)migrate(&m), 0);
     }
     size_t len = take_all(&m, stream);
-    arrive(&copy, stream, len);
-    arrive_over(&over, target, stream, len);
+    arrive(&copy, NULL, NULL, stream, len);
+    arrive(&over, NULL, target, stream, len);
+    arrive(&in_room, room, other, stream, len);
     if (CALL(vmig_receive(stream, len, &twin, &rounds)) == VMIG_NO_MEMORY) { told++; CALL(vmig_receive(stream, len, &twin, &rounds)); }
     expect("receive", answer, VMIG_OK);
     expect("rounds", rounds, 1);
     expect("abort", CALL(vmig_abort(&m)), VMIG_OK);
     alike("what arrived", &m, &copy);
     alike("what arrived over an image", &m, &over);
+    alike("what arrived over RAM", &m, &in_room);
     alike("what was received", &m, &twin);
     expect("unmap", CALL(vmig_unmap(&over, landed, 1)), VMIG_OK);
-    expect("the image is back", landed[0].at == target && landed[0].sectors == 8, 1);
+    expect("the image is back", landed[0].at == target && landed[0].sectors == SECTORS, 1);
     expect("the guest's last write", get(&copy, 0x9000, 1), 0x77);
-    CALL((vmig_free(&m), vmig_free(&copy), vmig_free(&twin), 0));
-    CALL_AGAIN("images", vmig_make_with(PAGES, shapes, DEVICES, images, sizeof images, &m), VMIG_OK);
-    CALL_AGAIN("mapped", vmig_make_mapped(PAGES, shapes, DEVICES, slots, 1, &on_images), VMIG_OK);
-    alike("both kinds of images", &m, &on_images);
-    expect("unmap", CALL(vmig_unmap(&on_images, slots, 1)), VMIG_OK);
-    expect("the image is back", (uint64_t)(slots[0].at == mapped), 1);
-    CALL((vmig_free(&m), 0));
+    CALL((vmig_free(&m), vmig_free(&copy), vmig_free(&twin), vmig_free(&in_room), 0));
+    make_all();
     expect("calls that were refused", (uint64_t)told, refused != 0 && refused <= requests);
     expect("requests that are not freed", (uint64_t)given, 0);
     return requests;

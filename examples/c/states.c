@@ -4,15 +4,18 @@
 #include <string.h>
 #include "driver.h"
 
-enum { NONE, ARRIVING, IDLE, SENT, STOPPED, STATES };
+enum { NONE, ARRIVING, IDLE, SENT, STOPPED, LENT, SENT_LENT, STATES };
 
-static const char *const STATE_NAMES[STATES] = {"none", "arriving", "idle", "being sent", "stopped"};
+static const char *const STATE_NAMES[STATES] = {"none", "arriving", "idle", "being sent", "stopped", "lent", "being sent, lent"};
 
 static const vmig_shape SHAPES[] = {{.kind = VMIG_ENTROPY}, {.kind = VMIG_BLOCK, .sectors = 1}};
 
-static uint8_t stream[65536], bytes[65536], ram[4096];
+static uint8_t stream[65536], bytes[65536], ram[4096], room[4096];
 static uint64_t seen[1];
 static size_t stream_len;
+
+/* The RAM of the machine, room, while it is lent. */
+static vmig_ram out;
 
 /* A handle in a state, which the caller frees. */
 static vmig_machine in_state(int state)
@@ -20,10 +23,12 @@ static vmig_machine in_state(int state)
     vmig_machine m = VMIG_NONE;
     uint64_t pages = 0, sectors = 0;
 
+    out = (vmig_ram){room, sizeof room};
     if (state == ARRIVING) expect("a first piece", vmig_feed(&m, stream, 10), VMIG_OK);
-    if (state >= IDLE) expect("make", vmig_make(1, SHAPES, 2, &m), VMIG_OK);
-    if (state >= SENT) expect("begin", vmig_begin(&m), VMIG_OK);
+    if (state >= IDLE) expect("make", vmig_make_over(&out, SHAPES, 2, NULL, 0, &m), VMIG_OK);
+    if (state == SENT || state == STOPPED || state == SENT_LENT) expect("begin", vmig_begin(&m), VMIG_OK);
     if (state == STOPPED) expect("stop", vmig_stop(&m, &pages, &sectors), VMIG_OK);
+    if (state >= LENT) expect("lend", vmig_lend(&m, &out), VMIG_OK);
     return m;
 }
 
@@ -34,6 +39,8 @@ static uint32_t make_mapped(vmig_machine *m)
     vmig_image none = VMIG_NO_IMAGE;
     return vmig_make_mapped(1, SHAPES, 1, &none, 0, m);
 }
+static uint32_t make_over(vmig_machine *m) { return vmig_make_over(&(vmig_ram){ram, sizeof ram}, SHAPES, 1, NULL, 0, m); }
+static uint32_t arrive_over(vmig_machine *m) { return vmig_arrive_over(&(vmig_ram){ram, sizeof ram}, NULL, 0, m); }
 static uint32_t arrive_mapped(vmig_machine *m) { vmig_image none = VMIG_NO_IMAGE; return vmig_arrive_mapped(&none, 0, m); }
 static uint32_t unmap(vmig_machine *m) { vmig_image slot = VMIG_NO_IMAGE; return vmig_unmap(m, &slot, 1); }
 static uint32_t receive(vmig_machine *m) { uint32_t rounds; return vmig_receive(stream, stream_len, m, &rounds); }
@@ -50,6 +57,10 @@ static uint32_t ram_read(vmig_machine *m) { return vmig_ram_read(m, 0, bytes, 1)
 static uint32_t ram_write(vmig_machine *m) { return vmig_ram_write(m, 0, bytes, 1); }
 static uint32_t push(vmig_machine *m) { return vmig_push(m, &(uint32_t){0}, 1, ram, sizeof ram, seen, 1); }
 static uint32_t pull(vmig_machine *m) { uint32_t count; return vmig_pull(m, ram, sizeof ram, seen, 1, &count); }
+static uint32_t lend(vmig_machine *m) { vmig_ram more = VMIG_NO_RAM; return vmig_lend(m, &more); }
+static uint32_t give_back(vmig_machine *m) { return vmig_give_back(m, &out, &(uint32_t){0}, 1); }
+static uint32_t give_back_marked(vmig_machine *m) { return vmig_give_back_marked(m, &out, &(uint64_t){1}, 1); }
+static uint32_t give_back_all(vmig_machine *m) { return vmig_give_back_all(m, &out); }
 static uint32_t step(vmig_machine *m) { uint32_t len; return vmig_step(m, 0, 0, bytes, sizeof bytes, &len); }
 static uint32_t next_work(vmig_machine *m) { uint8_t dev = 0, pick = 0; return vmig_next_work(m, &dev, &pick); }
 static uint32_t input(vmig_machine *m) { uint32_t kept; return vmig_input(m, 0, bytes, 1, &kept); }
@@ -75,38 +86,52 @@ typedef struct {
 } Row;
 
 static const Row ROWS[] = {
-    {"vmig_make", make, {VMIG_OK, VMIG_IN_USE, VMIG_IN_USE, VMIG_IN_USE, VMIG_IN_USE}},
-    {"vmig_make_with", make_with, {VMIG_OK, VMIG_IN_USE, VMIG_IN_USE, VMIG_IN_USE, VMIG_IN_USE}},
-    {"vmig_make_mapped", make_mapped, {VMIG_OK, VMIG_IN_USE, VMIG_IN_USE, VMIG_IN_USE, VMIG_IN_USE}},
-    {"vmig_arrive_mapped", arrive_mapped, {VMIG_OK, VMIG_IN_USE, VMIG_IN_USE, VMIG_IN_USE, VMIG_IN_USE}},
-    {"vmig_receive", receive, {VMIG_OK, VMIG_IN_USE, VMIG_IN_USE, VMIG_IN_USE, VMIG_IN_USE}},
-    {"vmig_feed", feed, {VMIG_OK, VMIG_OK, VMIG_IN_USE, VMIG_IN_USE, VMIG_IN_USE}},
-    {"vmig_finish", finish, {VMIG_NO_MACHINE, VMIG_OK, VMIG_IN_USE, VMIG_IN_USE, VMIG_IN_USE}},
-    {"vmig_rounds", rounds, {VMIG_NO_MACHINE, VMIG_OK, VMIG_IN_USE, VMIG_IN_USE, VMIG_IN_USE}},
-    {"vmig_reg_read", reg_read, {VMIG_NO_MACHINE, VMIG_NO_MACHINE, VMIG_OK, VMIG_OK, VMIG_STOPPED}},
-    {"vmig_reg_write", reg_write, {VMIG_NO_MACHINE, VMIG_NO_MACHINE, VMIG_OK, VMIG_OK, VMIG_STOPPED}},
-    {"vmig_ram_write", ram_write, {VMIG_NO_MACHINE, VMIG_NO_MACHINE, VMIG_OK, VMIG_OK, VMIG_STOPPED}},
-    {"vmig_push", push, {VMIG_NO_MACHINE, VMIG_NO_MACHINE, VMIG_OK, VMIG_OK, VMIG_STOPPED}},
-    {"vmig_step", step, {VMIG_NO_MACHINE, VMIG_NO_MACHINE, VMIG_IDLE, VMIG_IDLE, VMIG_STOPPED}},
-    {"vmig_input", input, {VMIG_NO_MACHINE, VMIG_NO_MACHINE, VMIG_OK, VMIG_OK, VMIG_STOPPED}},
-    {"vmig_resize", resize, {VMIG_NO_MACHINE, VMIG_NO_MACHINE, VMIG_WRONG_KIND, VMIG_WRONG_KIND, VMIG_STOPPED}},
-    {"vmig_next_work", next_work, {VMIG_NO_MACHINE, VMIG_NO_MACHINE, VMIG_IDLE, VMIG_IDLE, VMIG_STOPPED}},
-    {"vmig_ram_read", ram_read, {VMIG_NO_MACHINE, VMIG_NO_MACHINE, VMIG_OK, VMIG_OK, VMIG_OK}},
-    {"vmig_pull", pull, {VMIG_NO_MACHINE, VMIG_NO_MACHINE, VMIG_OK, VMIG_OK, VMIG_OK}},
-    {"vmig_size", size, {VMIG_NO_MACHINE, VMIG_NO_MACHINE, VMIG_OK, VMIG_OK, VMIG_OK}},
-    {"vmig_device", device, {VMIG_NO_MACHINE, VMIG_NO_MACHINE, VMIG_OK, VMIG_OK, VMIG_OK}},
-    {"vmig_must_sync", must_sync, {VMIG_NO_MACHINE, VMIG_NO_MACHINE, VMIG_OK, VMIG_OK, VMIG_OK}},
-    {"vmig_sector_read", sector_read, {VMIG_NO_MACHINE, VMIG_NO_MACHINE, VMIG_OK, VMIG_MOVING, VMIG_MOVING}},
-    {"vmig_saved_len", saved_len, {VMIG_NO_MACHINE, VMIG_NO_MACHINE, VMIG_OK, VMIG_MOVING, VMIG_MOVING}},
-    {"vmig_save", save, {VMIG_NO_MACHINE, VMIG_NO_MACHINE, VMIG_OK, VMIG_MOVING, VMIG_MOVING}},
-    {"vmig_begin", begin, {VMIG_NO_MACHINE, VMIG_NO_MACHINE, VMIG_OK, VMIG_BEGUN_ALREADY, VMIG_STOPPED}},
-    {"vmig_copy", copy, {VMIG_NO_MACHINE, VMIG_NO_MACHINE, VMIG_NOT_BEGUN, VMIG_PAGE, VMIG_STOPPED}},
-    {"vmig_end_round", end_round, {VMIG_NO_MACHINE, VMIG_NO_MACHINE, VMIG_NOT_BEGUN, VMIG_ROUND_OPEN, VMIG_STOPPED}},
-    {"vmig_stop", stop, {VMIG_NO_MACHINE, VMIG_NO_MACHINE, VMIG_NOT_BEGUN, VMIG_OK, VMIG_STOPPED}},
-    {"vmig_remaining", remaining, {VMIG_NO_MACHINE, VMIG_NO_MACHINE, VMIG_NOT_BEGUN, VMIG_OK, VMIG_OK}},
-    {"vmig_take", take, {VMIG_NO_MACHINE, VMIG_NO_MACHINE, VMIG_NOT_BEGUN, VMIG_OK, VMIG_OK}},
-    {"vmig_abort", abort_it, {VMIG_NO_MACHINE, VMIG_NO_MACHINE, VMIG_NOT_BEGUN, VMIG_OK, VMIG_OK}},
-    {"vmig_unmap", unmap, {VMIG_NO_MACHINE, VMIG_NO_MACHINE, VMIG_NOT_MAPPED, VMIG_NOT_MAPPED, VMIG_NOT_MAPPED}},
+    {"vmig_make", make, {VMIG_OK, VMIG_IN_USE, VMIG_IN_USE, VMIG_IN_USE, VMIG_IN_USE, VMIG_IN_USE, VMIG_IN_USE}},
+    {"vmig_make_with", make_with, {VMIG_OK, VMIG_IN_USE, VMIG_IN_USE, VMIG_IN_USE, VMIG_IN_USE, VMIG_IN_USE, VMIG_IN_USE}},
+    {"vmig_make_mapped", make_mapped, {VMIG_OK, VMIG_IN_USE, VMIG_IN_USE, VMIG_IN_USE, VMIG_IN_USE, VMIG_IN_USE, VMIG_IN_USE}},
+    {"vmig_make_over", make_over, {VMIG_OK, VMIG_IN_USE, VMIG_IN_USE, VMIG_IN_USE, VMIG_IN_USE, VMIG_IN_USE, VMIG_IN_USE}},
+    {"vmig_arrive_mapped", arrive_mapped,
+     {VMIG_OK, VMIG_IN_USE, VMIG_IN_USE, VMIG_IN_USE, VMIG_IN_USE, VMIG_IN_USE, VMIG_IN_USE}},
+    {"vmig_arrive_over", arrive_over, {VMIG_OK, VMIG_IN_USE, VMIG_IN_USE, VMIG_IN_USE, VMIG_IN_USE, VMIG_IN_USE, VMIG_IN_USE}},
+    {"vmig_receive", receive, {VMIG_OK, VMIG_IN_USE, VMIG_IN_USE, VMIG_IN_USE, VMIG_IN_USE, VMIG_IN_USE, VMIG_IN_USE}},
+    {"vmig_feed", feed, {VMIG_OK, VMIG_OK, VMIG_IN_USE, VMIG_IN_USE, VMIG_IN_USE, VMIG_IN_USE, VMIG_IN_USE}},
+    {"vmig_finish", finish, {VMIG_NO_MACHINE, VMIG_OK, VMIG_IN_USE, VMIG_IN_USE, VMIG_IN_USE, VMIG_IN_USE, VMIG_IN_USE}},
+    {"vmig_rounds", rounds, {VMIG_NO_MACHINE, VMIG_OK, VMIG_IN_USE, VMIG_IN_USE, VMIG_IN_USE, VMIG_IN_USE, VMIG_IN_USE}},
+    {"vmig_reg_read", reg_read, {VMIG_NO_MACHINE, VMIG_NO_MACHINE, VMIG_OK, VMIG_OK, VMIG_STOPPED, VMIG_LENT, VMIG_LENT}},
+    {"vmig_reg_write", reg_write, {VMIG_NO_MACHINE, VMIG_NO_MACHINE, VMIG_OK, VMIG_OK, VMIG_STOPPED, VMIG_LENT, VMIG_LENT}},
+    {"vmig_ram_write", ram_write, {VMIG_NO_MACHINE, VMIG_NO_MACHINE, VMIG_OK, VMIG_OK, VMIG_STOPPED, VMIG_LENT, VMIG_LENT}},
+    {"vmig_push", push, {VMIG_NO_MACHINE, VMIG_NO_MACHINE, VMIG_OK, VMIG_OK, VMIG_STOPPED, VMIG_LENT, VMIG_LENT}},
+    {"vmig_step", step, {VMIG_NO_MACHINE, VMIG_NO_MACHINE, VMIG_IDLE, VMIG_IDLE, VMIG_STOPPED, VMIG_LENT, VMIG_LENT}},
+    {"vmig_input", input, {VMIG_NO_MACHINE, VMIG_NO_MACHINE, VMIG_OK, VMIG_OK, VMIG_STOPPED, VMIG_LENT, VMIG_LENT}},
+    {"vmig_resize", resize,
+     {VMIG_NO_MACHINE, VMIG_NO_MACHINE, VMIG_WRONG_KIND, VMIG_WRONG_KIND, VMIG_STOPPED, VMIG_LENT, VMIG_LENT}},
+    {"vmig_next_work", next_work, {VMIG_NO_MACHINE, VMIG_NO_MACHINE, VMIG_IDLE, VMIG_IDLE, VMIG_STOPPED, VMIG_LENT, VMIG_LENT}},
+    {"vmig_ram_read", ram_read, {VMIG_NO_MACHINE, VMIG_NO_MACHINE, VMIG_OK, VMIG_OK, VMIG_OK, VMIG_LENT, VMIG_LENT}},
+    {"vmig_pull", pull, {VMIG_NO_MACHINE, VMIG_NO_MACHINE, VMIG_OK, VMIG_OK, VMIG_OK, VMIG_LENT, VMIG_LENT}},
+    {"vmig_lend", lend, {VMIG_NO_MACHINE, VMIG_NO_MACHINE, VMIG_OK, VMIG_OK, VMIG_STOPPED, VMIG_LENT, VMIG_LENT}},
+    {"vmig_give_back", give_back,
+     {VMIG_NO_MACHINE, VMIG_NO_MACHINE, VMIG_NOT_LENT, VMIG_NOT_LENT, VMIG_NOT_LENT, VMIG_OK, VMIG_OK}},
+    {"vmig_give_back_marked", give_back_marked,
+     {VMIG_NO_MACHINE, VMIG_NO_MACHINE, VMIG_NOT_LENT, VMIG_NOT_LENT, VMIG_NOT_LENT, VMIG_OK, VMIG_OK}},
+    {"vmig_give_back_all", give_back_all,
+     {VMIG_NO_MACHINE, VMIG_NO_MACHINE, VMIG_NOT_LENT, VMIG_NOT_LENT, VMIG_NOT_LENT, VMIG_OK, VMIG_OK}},
+    {"vmig_size", size, {VMIG_NO_MACHINE, VMIG_NO_MACHINE, VMIG_OK, VMIG_OK, VMIG_OK, VMIG_OK, VMIG_OK}},
+    {"vmig_device", device, {VMIG_NO_MACHINE, VMIG_NO_MACHINE, VMIG_OK, VMIG_OK, VMIG_OK, VMIG_OK, VMIG_OK}},
+    {"vmig_must_sync", must_sync, {VMIG_NO_MACHINE, VMIG_NO_MACHINE, VMIG_OK, VMIG_OK, VMIG_OK, VMIG_LENT, VMIG_LENT}},
+    {"vmig_sector_read", sector_read,
+     {VMIG_NO_MACHINE, VMIG_NO_MACHINE, VMIG_OK, VMIG_MOVING, VMIG_MOVING, VMIG_LENT, VMIG_LENT}},
+    {"vmig_saved_len", saved_len, {VMIG_NO_MACHINE, VMIG_NO_MACHINE, VMIG_OK, VMIG_MOVING, VMIG_MOVING, VMIG_LENT, VMIG_LENT}},
+    {"vmig_save", save, {VMIG_NO_MACHINE, VMIG_NO_MACHINE, VMIG_OK, VMIG_MOVING, VMIG_MOVING, VMIG_LENT, VMIG_LENT}},
+    {"vmig_begin", begin, {VMIG_NO_MACHINE, VMIG_NO_MACHINE, VMIG_OK, VMIG_BEGUN_ALREADY, VMIG_STOPPED, VMIG_LENT, VMIG_LENT}},
+    {"vmig_copy", copy, {VMIG_NO_MACHINE, VMIG_NO_MACHINE, VMIG_NOT_BEGUN, VMIG_PAGE, VMIG_STOPPED, VMIG_LENT, VMIG_LENT}},
+    {"vmig_end_round", end_round,
+     {VMIG_NO_MACHINE, VMIG_NO_MACHINE, VMIG_NOT_BEGUN, VMIG_ROUND_OPEN, VMIG_STOPPED, VMIG_LENT, VMIG_LENT}},
+    {"vmig_stop", stop, {VMIG_NO_MACHINE, VMIG_NO_MACHINE, VMIG_NOT_BEGUN, VMIG_OK, VMIG_STOPPED, VMIG_LENT, VMIG_LENT}},
+    {"vmig_remaining", remaining, {VMIG_NO_MACHINE, VMIG_NO_MACHINE, VMIG_NOT_BEGUN, VMIG_OK, VMIG_OK, VMIG_LENT, VMIG_LENT}},
+    {"vmig_take", take, {VMIG_NO_MACHINE, VMIG_NO_MACHINE, VMIG_NOT_BEGUN, VMIG_OK, VMIG_OK, VMIG_NOT_BEGUN, VMIG_OK}},
+    {"vmig_abort", abort_it, {VMIG_NO_MACHINE, VMIG_NO_MACHINE, VMIG_NOT_BEGUN, VMIG_OK, VMIG_OK, VMIG_LENT, VMIG_LENT}},
+    {"vmig_unmap", unmap,
+     {VMIG_NO_MACHINE, VMIG_NO_MACHINE, VMIG_NOT_MAPPED, VMIG_NOT_MAPPED, VMIG_NOT_MAPPED, VMIG_NOT_MAPPED, VMIG_NOT_MAPPED}},
 };
 
 int main(void)
@@ -122,6 +147,7 @@ int main(void)
             expect("lines", vmig_lines(&m), 0);
             snprintf(what, sizeof what, "%s of %s", ROWS[row].name, STATE_NAMES[state]);
             expect(what, ROWS[row].call(&m), ROWS[row].wanted[state]);
+            if (state >= LENT && out.at != NULL) expect("it is still lent", vmig_give_back_all(&m, &out), VMIG_OK);
             vmig_free(&m);
             expect("freed", m.at != NULL, 0);
         }

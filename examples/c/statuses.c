@@ -111,15 +111,190 @@ static void names(void)
     expect("name of the last status", (uint64_t)strcmp(vmig_status_name(VMIG_SYNC), "VMIG_SYNC"), 0);
     for (uint32_t status = 0; status < 256; status++)
         if (strncmp(vmig_status_name(status), "VMIG_", 5) == 0) known++;
-    expect("statuses that have a name", known, 53);
+    expect("statuses that have a name", known, 57);
     for (size_t i = 0; i < sizeof unknown / sizeof *unknown; i++)
         expect("no name", (uint64_t)strcmp(vmig_status_name(unknown[i]), "unknown status"), 0);
+}
+
+/* RAM in memory of this program: two pages. */
+static uint8_t room[2 * 4096];
+static const vmig_shape over_shapes[] = {{.kind = VMIG_BLOCK, .sectors = 1}};
+
+/* All that vmig_make_over and vmig_arrive_over refuse, in the order of their tests, with the later faults there too. */
+static void making_over(void)
+{
+    static uint8_t sector[512];
+    vmig_machine m = VMIG_NONE;
+    vmig_ram none = VMIG_NO_RAM, odd = {room, sizeof room - 1}, large = {malloc(16385 * 4096), 16385 * 4096}, right = {room, sizeof room};
+    vmig_image few = {sector, 0}, image = {sector, 1};
+
+    expect("make", vmig_make(1, over_shapes, 1, &m), VMIG_OK);
+    expect("in use", vmig_make_over(&none, NULL, 0, &few, 1, &m), VMIG_IN_USE);
+    expect("in use", vmig_arrive_over(&none, &few, 1, &m), VMIG_IN_USE);
+    vmig_free(&m);
+    expect("no RAM", vmig_make_over(&none, NULL, 0, &few, 1, &m), VMIG_BAD_RAM);
+    expect("no whole page", vmig_make_over(&odd, NULL, 0, &few, 1, &m), VMIG_BAD_RAM);
+    expect("a page too many", vmig_make_over(&large, NULL, 0, &few, 1, &m), VMIG_BAD_RAM);
+    expect("no RAM", vmig_arrive_over(&none, &few, 1, &m), VMIG_BAD_RAM);
+    expect("no whole page", vmig_arrive_over(&odd, &few, 1, &m), VMIG_BAD_RAM);
+    expect("a page too many", vmig_arrive_over(&large, &few, 1, &m), VMIG_BAD_RAM);
+    expect("no device", vmig_make_over(&right, NULL, 0, &few, 1, &m), VMIG_BAD_SHAPE);
+    expect("no sector", vmig_make_over(&right, over_shapes, 1, &few, 1, &m), VMIG_BAD_IMAGES);
+    expect("nothing changed", right.at == room && right.len == sizeof room && odd.at == room && m.at == NULL, 1);
+    expect("over an image", vmig_make_over(&right, over_shapes, 1, &image, 1, &m), VMIG_OK);
+    expect("taken", right.at == NULL && right.len == 0 && image.sectors == 0, 1);
+    expect("lend", vmig_lend(&m, &right), VMIG_OK);
+    expect("is not unmapped", vmig_unmap(&m, &image, 1), VMIG_LENT);
+    expect("give back", vmig_give_back(&m, &right, NULL, 0), VMIG_OK);
+    expect("unmap", vmig_unmap(&m, &image, 1), VMIG_OK);
+    free(large.at);
+}
+
+/* All that vmig_lend refuses. The machine that it is asked of has RAM in memory of this program, and is lent in the end. */
+static void lending(vmig_machine *m)
+{
+    vmig_machine none = VMIG_NONE, own = VMIG_NONE;
+    vmig_ram ram = VMIG_NO_RAM, full = {room, 4096};
+    uint64_t pages = 77, sectors = 77;
+
+    expect("no machine", vmig_lend(&none, &full), VMIG_NO_MACHINE);
+    expect("one that arrives", vmig_feed(&none, stream, 1), VMIG_OK);
+    expect("is none", vmig_lend(&none, &full), VMIG_NO_MACHINE);
+    expect("nor is it given back", vmig_give_back(&none, &ram, NULL, 0), VMIG_NO_MACHINE);
+    vmig_free(&none);
+    expect("make its own", vmig_make(1, over_shapes, 1, &own), VMIG_OK);
+    expect("a vmig_ram that is in use", vmig_lend(&own, &full), VMIG_BAD_RAM);
+    expect("RAM of the library", vmig_lend(&own, &ram), VMIG_NOT_OVER);
+    expect("is not unmapped", vmig_unmap(&own, NULL, 0), VMIG_NOT_MAPPED);
+    vmig_free(&own);
+    expect("begin", vmig_begin(m), VMIG_OK);
+    expect("stop", vmig_stop(m, &pages, &sectors), VMIG_OK);
+    expect("stopped", vmig_lend(m, &full), VMIG_STOPPED);
+    expect("abort", vmig_abort(m), VMIG_OK);
+    expect("a vmig_ram that is in use", vmig_lend(m, &full), VMIG_BAD_RAM);
+    expect("no RAM is out", ram.at == NULL && ram.len == 0 && full.at == room && full.len == 4096, 1);
+    expect("lend", vmig_lend(m, &ram), VMIG_OK);
+    expect("RAM", ram.at == room && ram.len == sizeof room, 1);
+    expect("lent already", vmig_lend(m, &full), VMIG_LENT);
+    expect("a call of a lent machine", vmig_begin(m), VMIG_LENT);
+}
+
+/* All that the calls refuse that give RAM back, which is lent. */
+static void giving_back(vmig_machine *m)
+{
+    static const uint32_t pages[] = {1, 2};
+    static const uint64_t words[] = {~(uint64_t)1};
+    vmig_machine none = VMIG_NONE;
+    vmig_ram ram = {room, sizeof room}, less = {room, 4096};
+    uint8_t byte = 77;
+
+    expect("no machine", vmig_give_back(&none, &less, pages, 2), VMIG_NO_MACHINE);
+    expect("no machine", vmig_give_back_marked(&none, &less, words, 0), VMIG_NO_MACHINE);
+    expect("no machine", vmig_give_back_all(&none, &less), VMIG_NO_MACHINE);
+    expect("a page less", vmig_give_back(m, &less, pages, 2), VMIG_BAD_RAM);
+    expect("a page less", vmig_give_back_marked(m, &less, words, 0), VMIG_BAD_RAM);
+    expect("a page less", vmig_give_back_all(m, &less), VMIG_BAD_RAM);
+    expect("no such page", vmig_give_back(m, &ram, pages, 2), VMIG_OUT_OF_RAM);
+    expect("no word", vmig_give_back_marked(m, &ram, words, 0), VMIG_TOO_SMALL);
+    expect("still lent", vmig_ram_read(m, 0, &byte, 1), VMIG_LENT);
+    expect("and this program's", ram.at == room && ram.len == sizeof room && less.len == 4096 && byte == 77, 1);
+    room[4096] = 5;
+    expect("a bitmap", vmig_give_back_marked(m, &ram, words, 1), VMIG_OK);
+    expect("taken", ram.at == NULL && ram.len == 0, 1);
+    expect("the byte", get(m, 4096, 1), 5);
+    expect("not lent", vmig_give_back(m, &less, pages, 2), VMIG_NOT_LENT);
+    expect("not lent", vmig_give_back_marked(m, &less, words, 0), VMIG_NOT_LENT);
+    expect("not lent", vmig_give_back_all(m, &less), VMIG_NOT_LENT);
+    expect("lend", vmig_lend(m, &ram), VMIG_OK);
+    expect("all", vmig_give_back_all(m, &ram), VMIG_OK);
+}
+
+/* A stream of one page and one sector does not arrive in two pages, nor without a disk. What the pages held is there. */
+static void arriving_over(void)
+{
+    static uint8_t sector[512];
+    vmig_machine m = VMIG_NONE;
+    vmig_ram two = {room, sizeof room}, one = {room, 4096};
+    vmig_image image = {sector, 1};
+
+    memset(room, 0x5a, sizeof room);
+    expect("arrive", vmig_arrive_over(&two, &image, 1, &m), VMIG_OK);
+    expect("a page too few", vmig_feed(&m, stream, stream_len), VMIG_STREAM_NO_MEMORY);
+    expect("refused for good", vmig_feed(&m, stream, stream_len), VMIG_STREAM_FAILED);
+    expect("unmap", vmig_unmap(&m, &image, 1), VMIG_OK);
+    expect("arrive", vmig_arrive_over(&one, NULL, 0, &m), VMIG_OK);
+    expect("a disk too many", vmig_feed(&m, stream, stream_len), VMIG_STREAM_SHAPE_MISMATCH);
+    vmig_free(&m);
+    for (size_t i = 0; i < sizeof room; i++) expect("no page was written", room[i], 0x5a);
+    one = (vmig_ram){room, 4096};
+    expect("arrive", vmig_arrive_over(&one, &image, 1, &m), VMIG_OK);
+    expect("feed", vmig_feed(&m, stream, stream_len), VMIG_OK);
+    expect("finish", vmig_finish(&m), VMIG_OK);
+    expect("its page of zeros", room[0] + room[4095], 0);
+    expect("and no more", room[4096], 0x5a);
+    vmig_free(&m);
+}
+
+static void loans(void)
+{
+    vmig_machine m = VMIG_NONE;
+    vmig_ram ram = {room, sizeof room};
+
+    making_over();
+    expect("make over", vmig_make_over(&ram, over_shapes, 1, NULL, 0, &m), VMIG_OK);
+    lending(&m);
+    giving_back(&m);
+    vmig_free(&m);
+    arriving_over();
 }
 
 /* Under a sanitizer the address space is no measure of memory. */
 #if defined(__SANITIZE_ADDRESS__) || defined(__SANITIZE_THREAD__)
 static void memory(void) {}
 #else
+/* Takes all memory that is left, as a list, and gives it back. */
+static void *take_all(void)
+{
+    void *all = NULL, *block;
+
+    for (size_t size = 1 << 20; size >= sizeof all; size /= 2)
+        while ((block = malloc(size)) != NULL) all = memcpy(block, &all, sizeof all);
+    return all;
+}
+
+static void give_all(void *all)
+{
+    for (void *next; all != NULL; all = next) {
+        memcpy(&next, all, sizeof next);
+        free(all);
+    }
+}
+
+/* The calls of RAM in memory of this program while there is no memory, and again when there is. */
+static void loans_without_memory(void)
+{
+    static const uint64_t words[] = {3};
+    vmig_machine m = VMIG_NONE, other = VMIG_NONE;
+    vmig_ram ram = {room, 4096}, rest = {room + 4096, 4096};
+    void *all;
+
+    expect("make over", vmig_make_over(&ram, over_shapes, 1, NULL, 0, &m), VMIG_OK);
+    all = take_all();
+    expect("another", vmig_make_over(&rest, over_shapes, 1, NULL, 0, &other), VMIG_NO_MEMORY);
+    expect("one that arrives", vmig_arrive_over(&rest, NULL, 0, &other), VMIG_NO_MEMORY);
+    expect("lend takes none", vmig_lend(&m, &ram), VMIG_OK);
+    expect("a bitmap", vmig_give_back_marked(&m, &ram, words, 1), VMIG_NO_MEMORY);
+    expect("all pages", vmig_give_back_all(&m, &ram), VMIG_NO_MEMORY);
+    expect("nothing changed", rest.at == room + 4096 && rest.len == 4096 && ram.at == room && other.at == NULL, 1);
+    expect("a list takes none", vmig_give_back(&m, &ram, &(uint32_t){0}, 1), VMIG_OK);
+    give_all(all);
+    expect("lend", vmig_lend(&m, &ram), VMIG_OK);
+    expect("all pages", vmig_give_back_all(&m, &ram), VMIG_OK);
+    expect("one that arrives", vmig_arrive_over(&rest, NULL, 0, &other), VMIG_OK);
+    vmig_free(&other);
+    vmig_free(&m);
+}
+
 static void memory(void)
 {
     static const vmig_shape shapes[] = {{.kind = VMIG_ENTROPY}};
@@ -131,6 +306,7 @@ static void memory(void)
 
     expect("make", vmig_make(2048, shapes, 1, &small), VMIG_OK);
     expect("limit", (uint64_t)setrlimit(RLIMIT_AS, &limit), 0);
+    loans_without_memory();
     expect("64 MiB", vmig_make(16384, shapes, 1, &large), VMIG_NO_MEMORY);
     expect("64 MiB that arrive", vmig_feed(&arriving, head, sizeof head), VMIG_STREAM_NO_MEMORY);
     expect("refused for good", vmig_feed(&arriving, head, 0), VMIG_STREAM_FAILED);
@@ -157,6 +333,7 @@ int main(void)
     streams();
     network();
     names();
+    loans();
     memory();
     return ended("statuses");
 }

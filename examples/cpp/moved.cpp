@@ -1,5 +1,5 @@
-// A machine of a console is saved, arrives as another one, and both print the same text. Handles are moved as values, and what goes out
-// of scope is freed.
+// A machine of a console is saved, arrives as another one, and both print the same text; a third arrives in memory of this program,
+// which is lent to its guest. Handles are moved as values, and what goes out of scope is freed.
 #include <cstdio>
 #include <cstdlib>
 #include <cstring>
@@ -8,6 +8,7 @@
 #include <vector>
 #include "vmig.hpp"
 
+using vmig::lent;
 using vmig::machine;
 using vmig::status;
 
@@ -80,6 +81,34 @@ std::vector<std::uint8_t> stream_of(machine &m)
     return stream;
 }
 
+// The machine arrives in memory of this program. Its guest, which runs there, changes a byte of the text before it is printed.
+void lends(const std::vector<std::uint8_t> &stream)
+{
+    std::vector<std::uint8_t> memory(16 * 4096);
+    vmig_ram ram = {memory.data(), memory.size()};
+    const std::uint32_t pages[] = {4, 16};
+    const std::uint64_t words[] = {1u << 4};
+    machine m;
+    lent loan;
+
+    expect("arrive", m.arrive_over(&ram, nullptr, 0), status::ok);
+    expect("feed", m.feed(stream.data(), stream.size()), status::ok);
+    expect("finish", m.finish(), status::ok);
+    expect("lend", std::move(m).lend(&loan), status::ok);
+    expect("no machine meanwhile", m.begin(), status::no_machine);
+    expect("its bytes", loan.data() == memory.data() && loan.size_bytes() == memory.size());
+    loan.data()[0x4000] = 'j';
+    expect("no such page", std::move(loan).give_back(pages, 2, &m), status::out_of_ram);
+    expect("its lines", loan.lines() == 0);
+    expect("a list", std::move(loan).give_back(pages, 1, &m), status::ok);
+    expect("the text", printed(m) == "jello");
+    expect("lend", std::move(m).lend(&loan), status::ok);
+    expect("a bitmap", std::move(loan).give_back_marked(words, 1, &m), status::ok);
+    expect("lend", std::move(m).lend(&loan), status::ok);
+    expect("all", std::move(loan).give_back_all(&m), status::ok);
+    expect("not given back again", std::move(loan).give_back_all(&m), status::no_machine);
+}
+
 }  // namespace
 
 int main()
@@ -89,6 +118,7 @@ int main()
     std::vector<std::uint8_t> stream = stream_of(first);
     machine second = std::move(first);
     machine arrived;
+    lent loan;
 
     expect("moved away", first.size(&pages, &devices), status::no_machine);
     expect("announced", vmig::stream_size(stream.data(), stream.size(), &pages, &devices), status::ok);
@@ -97,6 +127,8 @@ int main()
     expect("the text", printed(second) == "hello");
     expect("the text of the one that arrived", printed(arrived) == "hello");
     expect("the same machine", stream_of(second) == stream_of(arrived));
+    expect("RAM of the library", std::move(arrived).lend(&loan), status::not_over);
+    lends(stream);
     second = std::move(arrived);
     expect("moved over", second.size(&pages, &devices), status::ok);
     expect("version", vmig::version() == VMIG_VERSION_NUMBER);

@@ -1,6 +1,6 @@
 //! A driver that reads entropy over a split ring. Its machine then moves to another one while it runs, and both are the same.
 
-use vmig::{Arrival, Device, Error, Machine, Step, announced};
+use vmig::{Arrival, Device, Error, Machine, Memory, Step, announced};
 
 /// Where the driver keeps its queue (VIRTIO 1.2, 2.7), and its buffer.
 const DESCRIPTORS: u64 = 0x1000;
@@ -76,6 +76,33 @@ fn send(mut machine: Machine) -> Result<Machine, Error> {
     arrival.finish()
 }
 
+/// A guest runs on memory of this program. Its machine moves into other memory, while page 6 is lent and written.
+fn lend() -> Result<(), Error> {
+    let mut memory = Memory::zeros(16)?;
+    memory[0x5000] = 9;
+    let refused = Machine::over(memory, &[]).err().expect("no device");
+    let mut machine = Machine::over(refused.value, &[Device::Entropy])?;
+    set_up(&mut machine)?;
+    let mut arrival = Arrival::over(Memory::zeros(16)?)?;
+    machine.begin()?;
+    while machine.copy()?.is_some() {}
+
+    let mut lent = machine.lend()?;
+    lent.ram_mut()[0x6000] = 8;
+    assert_eq!((lent.size(), lent.lines()), ((16, 1), 0));
+    let lent = lent.give_back(&[16]).err().expect("no such page").value;
+    assert_eq!(lent.ram()[0x5000], 9);
+    let mut machine = lent.give_back(&[6])?.lend()?.give_back_marked(&[1 << 6])?;
+    assert_eq!(machine.remaining()?, (0, 1));
+    assert_eq!(machine.stop()?, (1, 0));
+    carry(&mut machine, &mut arrival)?;
+    let mut arrived = arrival.finish()?.lend()?.give_back_all()?;
+    serve(&mut arrived)?;
+    let memory = arrived.into_memory().expect("memory of this program");
+    assert_eq!((memory[0x5000], memory[0x6000], memory[BUFFER as usize]), (9, 8, 7));
+    Ok(())
+}
+
 fn main() -> Result<(), Error> {
     let mut machine = Machine::new(16, &[Device::Entropy])?;
     assert_eq!(Machine::new(0, &[]).err(), Some(Error::BadShape));
@@ -96,6 +123,8 @@ fn main() -> Result<(), Error> {
     assert_eq!(arrived.size(), (16, 1));
     assert_eq!(arrived.device(0)?, Device::Entropy);
     assert!(arrived.save()? == stream);
+    assert_eq!(arrived.lend().err().map(|refused| refused.error), Some(Error::NotOver));
+    lend()?;
     println!("entropy: all as expected");
     Ok(())
 }

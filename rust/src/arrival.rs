@@ -1,9 +1,11 @@
 //! A machine that arrives, and what its stream announces.
 
 use crate::device::Device;
-use crate::error::{Error, done};
+use crate::error::{Error, Refused, done};
 use crate::machine::Machine;
+use crate::memory::Memory;
 use crate::raw;
+use std::ptr;
 
 /// What the first bytes of a stream announce.
 #[derive(Clone, Debug, PartialEq, Eq)]
@@ -38,7 +40,17 @@ pub struct Arrival {
 impl Arrival {
     /// Nothing has arrived yet.
     pub fn new() -> Arrival {
-        Arrival { machine: Machine { held: raw::NONE } }
+        Arrival { machine: Machine { held: raw::NONE, memory: None } }
+    }
+
+    /// As `new`, of a machine without disks, whose RAM will be this memory. Another one is refused by the piece that shows it.
+    pub fn over(mut memory: Memory) -> Result<Arrival, Refused<Memory>> {
+        let (mut held, mut ram) = (raw::NONE, memory.slot());
+        // SAFETY: the handle is of no machine, and the bytes of the memory are the machine's until it is freed.
+        match done(unsafe { raw::vmig_arrive_over(&mut ram, ptr::null_mut(), 0, &mut held) }) {
+            Ok(_) => Ok(Arrival { machine: Machine { held, memory: Some(memory) } }),
+            Err(error) => Err(Refused { error, value: memory }),
+        }
     }
 
     /// The next bytes. A fault is answered by the piece that shows it, and the stream is refused for good.

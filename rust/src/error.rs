@@ -68,6 +68,18 @@ pub enum Error {
     /// 4,294,967,294 rounds have ended.
     NoRoundLeft = raw::NO_ROUND_LEFT,
 
+    /// The RAM is lent.
+    Lent = raw::LENT,
+
+    /// The RAM is not lent.
+    NotLent = raw::NOT_LENT,
+
+    /// The RAM lies in memory of the library.
+    NotOver = raw::NOT_OVER,
+
+    /// The memory is not 1 to 16,384 whole pages, or not as long as what was lent.
+    BadRam = raw::BAD_RAM,
+
     /// The stream does not begin as one.
     StreamBadMagic = raw::STREAM_BAD_MAGIC,
 
@@ -107,7 +119,7 @@ pub enum Error {
     /// The stream is cut off.
     StreamTruncated = raw::STREAM_TRUNCATED,
 
-    /// Memory was refused for what arrives.
+    /// Memory was refused for what arrives, or the memory that it arrives in has another number of pages.
     StreamNoMemory = raw::STREAM_NO_MEMORY,
 
     /// The stream was refused before.
@@ -136,6 +148,10 @@ const TEXTS: &[(Error, &str)] = &[
     (Error::WriterFailed, "memory was refused for bytes that wait to be taken"),
     (Error::Stopped, "the machine was stopped"),
     (Error::NoRoundLeft, "4,294,967,294 rounds have ended"),
+    (Error::Lent, "the RAM is lent"),
+    (Error::NotLent, "the RAM is not lent"),
+    (Error::NotOver, "the RAM lies in memory of the library"),
+    (Error::BadRam, "the memory is not 1 to 16,384 whole pages, or not as long as what was lent"),
     (Error::StreamBadMagic, "the stream does not begin as one"),
     (Error::StreamBadVersion, "the stream has an unknown version"),
     (Error::StreamBadShape, "the machine of the stream is beyond the limits"),
@@ -174,3 +190,21 @@ impl fmt::Display for Error {
 }
 
 impl std::error::Error for Error {}
+
+/// A call that was refused, and the value that it took, as it was.
+pub struct Refused<T> {
+    pub error: Error,
+    pub value: T,
+}
+
+impl<T> From<Refused<T>> for Error {
+    fn from(refused: Refused<T>) -> Error {
+        refused.error
+    }
+}
+
+impl<T> fmt::Debug for Refused<T> {
+    fn fmt(&self, f: &mut fmt::Formatter<'_>) -> fmt::Result {
+        self.error.fmt(f)
+    }
+}

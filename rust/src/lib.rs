@@ -4,17 +4,23 @@
 //! between calls. After each kick of the guest and each input make the steps that [`Machine::next_work`] names, and read the
 //! [`Machine::lines`]. `vmig.h` and `docs/host-loop.md` say what each call does and what a host owes its guest.
 //!
-//! Disks lie in memory of the library. Disks over memory of the caller are in [`raw`] alone.
+//! RAM lies in memory of the library, or in a [`Memory`] of the caller. Then it is lent to a guest that runs on it
+//! ([`Machine::lend`]), and the compiler refuses each call that has to wait until it is given back. Disks lie in memory of the
+//! library. Disks over memory of the caller are in [`raw`] alone.
 
 mod arrival;
 mod device;
 mod error;
+mod lent;
 mod machine;
+mod memory;
 mod migration;
 pub mod raw;
 
 pub use arrival::{Announced, Arrival, announced};
 pub use device::Device;
-pub use error::Error;
+pub use error::{Error, Refused};
+pub use lent::Lent;
 pub use machine::{Machine, Step};
+pub use memory::Memory;
 pub use migration::Sent;

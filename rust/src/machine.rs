@@ -1,12 +1,16 @@
 //! A machine and its guest.
 
 use crate::device::Device;
-use crate::error::{Error, done};
+use crate::error::{Error, Refused, done};
+use crate::memory::Memory;
 use crate::raw;
+use std::ptr;
 
 /// A machine, which is freed with its owner. It may go to another thread; each call has it for itself.
 pub struct Machine {
     pub(crate) held: raw::Machine,
+    // Where its RAM lies, if not in memory of the library. It is dropped after the machine was freed.
+    pub(crate) memory: Option<Memory>,
 }
 
 // SAFETY: the library keeps nothing of the thread that made a machine, and one call at a time has it.
@@ -49,7 +53,25 @@ impl Machine {
         let mut held = raw::NONE;
         // SAFETY: the slice is valid for the call, and the handle is of no machine.
         done(unsafe { raw::vmig_make(pages, shapes.as_ptr(), shapes.len(), &mut held) })?;
-        Ok(Machine { held })
+        Ok(Machine { held, memory: None })
+    }
+
+    /// As `new`, but RAM is this memory, with the bytes that are there.
+    pub fn over(mut memory: Memory, devices: &[Device]) -> Result<Machine, Refused<Memory>> {
+        let shapes: Vec<_> = devices.iter().map(|device| device.shape()).collect();
+        let (mut held, mut ram, images) = (raw::NONE, memory.slot(), ptr::null_mut());
+        // SAFETY: as in `new`, and the bytes of the memory are the machine's until it is freed.
+        match done(unsafe { raw::vmig_make_over(&mut ram, shapes.as_ptr(), shapes.len(), images, 0, &mut held) }) {
+            Ok(_) => Ok(Machine { held, memory: Some(memory) }),
+            Err(error) => Err(Refused { error, value: memory }),
+        }
+    }
+
+    /// Frees the machine. The result is the memory in which its RAM lies, with its bytes, if that is not the library's.
+    pub fn into_memory(mut self) -> Option<Memory> {
+        let memory = self.memory.take();
+        drop(self);
+        memory
     }
 
     /// As `new`, but the disks hold the images: their sectors one after another, in the order of the devices.
@@ -58,7 +80,7 @@ impl Machine {
         let mut held = raw::NONE;
         // SAFETY: as in `new`.
         done(unsafe { raw::vmig_make_with(pages, shapes.as_ptr(), shapes.len(), images.as_ptr(), images.len(), &mut held) })?;
-        Ok(Machine { held })
+        Ok(Machine { held, memory: None })
     }
 
     /// The machine of a whole stream, and how many rounds ended in it. Of a stream that is not trusted see [`crate::announced`] first.
@@ -66,7 +88,7 @@ impl Machine {
         let (mut held, mut rounds) = (raw::NONE, 0);
         // SAFETY: the slice is valid for the call, and the handle is of no machine.
         done(unsafe { raw::vmig_receive(stream.as_ptr(), stream.len(), &mut held, &mut rounds) })?;
-        Ok((Machine { held }, rounds))
+        Ok((Machine { held, memory: None }, rounds))
     }
 
     /// How many pages of RAM and how many devices it has.

@@ -28,6 +28,18 @@ pub struct Image {
     pub sectors: u64,
 }
 
+/// Memory of the caller that is the RAM of a machine, or is to be.
+#[repr(C)]
+pub struct Ram {
+    pub at: *mut core::ffi::c_void,
+    pub len: usize,
+}
+
+pub const NO_RAM: Ram = Ram {
+    at: core::ptr::null_mut(),
+    len: 0,
+};
+
 /// Kinds of devices, by the numbers of the standard.
 pub const NETWORK: u8 = 1;
 pub const BLOCK: u8 = 2;
@@ -62,6 +74,10 @@ pub const READ_FAILED: u32 = 19;
 pub const WRITER_FAILED: u32 = 20;
 pub const STOPPED: u32 = 21;
 pub const NO_ROUND_LEFT: u32 = 22;
+pub const LENT: u32 = 23;
+pub const NOT_LENT: u32 = 24;
+pub const NOT_OVER: u32 = 25;
+pub const BAD_RAM: u32 = 26;
 pub const STREAM_BAD_MAGIC: u32 = 33;
 pub const STREAM_BAD_VERSION: u32 = 34;
 pub const STREAM_BAD_SHAPE: u32 = 35;
@@ -100,6 +116,14 @@ unsafe extern "C" {
     pub fn vmig_make(pages: u32, shapes: *const Shape, count: usize, machine: *mut Machine) -> u32;
     pub fn vmig_make_with(pages: u32, shapes: *const Shape, count: usize, images: *const u8, len: usize, machine: *mut Machine) -> u32;
     pub fn vmig_make_mapped(pages: u32, shapes: *const Shape, count: usize, images: *mut Image, count_images: usize, machine: *mut Machine) -> u32;
+    pub fn vmig_make_over(
+        ram: *mut Ram,
+        shapes: *const Shape,
+        count: usize,
+        images: *mut Image,
+        count_images: usize,
+        machine: *mut Machine,
+    ) -> u32;
     pub fn vmig_unmap(machine: *mut Machine, images: *mut Image, count: usize) -> u32;
     pub fn vmig_free(machine: *mut Machine);
     pub fn vmig_reg_read(machine: *mut Machine, dev: u8, off: u32, width: u8, value: *mut u32) -> u32;
@@ -108,6 +132,10 @@ unsafe extern "C" {
     pub fn vmig_ram_write(machine: *mut Machine, addr: u64, bytes: *const u8, len: usize) -> u32;
     pub fn vmig_push(machine: *mut Machine, pages: *const u32, count: usize, ram: *const u8, len: usize, seen: *mut u64, seen_len: usize) -> u32;
     pub fn vmig_pull(machine: *mut Machine, ram: *mut u8, len: usize, seen: *mut u64, seen_len: usize, count: *mut u32) -> u32;
+    pub fn vmig_lend(machine: *mut Machine, ram: *mut Ram) -> u32;
+    pub fn vmig_give_back(machine: *mut Machine, ram: *mut Ram, pages: *const u32, count: usize) -> u32;
+    pub fn vmig_give_back_marked(machine: *mut Machine, ram: *mut Ram, words: *const u64, count: usize) -> u32;
+    pub fn vmig_give_back_all(machine: *mut Machine, ram: *mut Ram) -> u32;
     pub fn vmig_step(machine: *mut Machine, dev: u8, pick: u8, buf: *mut u8, size: usize, len: *mut u32) -> u32;
     pub fn vmig_next_work(machine: *mut Machine, dev: *mut u8, pick: *mut u8) -> u32;
     pub fn vmig_input(machine: *mut Machine, dev: u8, bytes: *const u8, len: usize, accepted: *mut u32) -> u32;
@@ -130,6 +158,7 @@ unsafe extern "C" {
     pub fn vmig_remaining(machine: *mut Machine, due: *mut u64, dirty: *mut u64) -> u32;
     pub fn vmig_take(machine: *mut Machine, buf: *mut u8, size: usize, got: *mut usize) -> u32;
     pub fn vmig_arrive_mapped(images: *mut Image, count_images: usize, machine: *mut Machine) -> u32;
+    pub fn vmig_arrive_over(ram: *mut Ram, images: *mut Image, count_images: usize, machine: *mut Machine) -> u32;
     pub fn vmig_feed(machine: *mut Machine, bytes: *const u8, len: usize) -> u32;
     pub fn vmig_finish(machine: *mut Machine) -> u32;
     pub fn vmig_rounds(machine: *mut Machine, ended: *mut u32) -> u32;

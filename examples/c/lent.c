@@ -1,0 +1,370 @@
+/* A guest that writes its RAM itself, as under hardware virtualization: RAM is memory of this program, which is lent while the
+ * guest runs, and given back with the pages that it wrote, at the latest before a round ends and before the stop. It moves live a
+ * hundred times, in ways that a seeded generator draws, into other memory of this program. Its twin never moves, has RAM in the
+ * library, and is handed each page that the guest wrote. Both answer alike all the time, and after each move RAM and disk are the
+ * same. In every tenth move one page that the guest wrote is left out of the log, after it was sent: then this page, and no
+ * other, is not the same. */
+#include <string.h>
+#include "driver.h"
+
+enum { PAGES = 32, PAGE = 4096, RAM = PAGES * PAGE, SECTORS = 12, SECTOR = 512, DISK = SECTORS * SECTOR, MOVES = 100 };
+
+/* The devices, and the queues of their drivers, in the order in which they lie. What the chains of a queue name has a page. */
+enum { ENTROPY, CONSOLE, BLOCK, DEVICES };
+enum { POOL, TYPED, PRINTED, REQUESTS, QUEUES };
+enum { BUFFERS = 0xa000, AT_OUTCOME = 0x40, AT_SECTOR = 0x200 };
+
+/* The guest's other pages, from this one on. The last one it writes once in each move, after it was sent. */
+enum { HEAP = 16, LATE = PAGES - 1 };
+
+static const vmig_shape SHAPES[DEVICES] = {
+    {.kind = VMIG_ENTROPY}, {.kind = VMIG_CONSOLE}, {.kind = VMIG_BLOCK, .sectors = SECTORS}};
+static const uint8_t DEVICE_OF[QUEUES] = {ENTROPY, CONSOLE, CONSOLE, BLOCK}, NUMBER_OF[QUEUES] = {0, 0, 1, 0};
+
+/* Memory for RAM and for disks. The machine has one of each, and what arrives another. */
+static uint8_t rooms[3][RAM], disks[2][DISK], twin_disk[DISK];
+
+/* A host, with its guest and its guest's twin. */
+struct host {
+    vmig_machine machine, twin;
+    vmig_ram ram;            /* RAM while it is lent */
+    int room, disk;          /* where RAM and the disk lie */
+    uint8_t written[PAGES];  /* the pages that the guest wrote since it last came out */
+    uint8_t dirty[PAGES];    /* and since the log was last read */
+    uint16_t made[QUEUES];   /* how many chains the guest made available */
+    int kicks[QUEUES];       /* whether it kicks once it is outside */
+    int leaves_out;          /* whether the log lacks the page LATE */
+};
+
+static uint32_t draw(uint32_t below)
+{
+    static uint32_t state = 2463534242;
+    state ^= state << 13;
+    state ^= state >> 17;
+    state ^= state << 5;
+    return state % below;
+}
+
+/* The guest writes a number into its RAM, the lowest byte first. The host's hardware notes the page. */
+static void store(struct host *h, uint32_t addr, uint64_t value, size_t width)
+{
+    for (size_t i = 0; i < width; i++) {
+        ((uint8_t *)h->ram.at)[addr + i] = (uint8_t)(value >> (8 * i));
+        h->dirty[(addr + i) / PAGE] = h->written[(addr + i) / PAGE] = 1;
+    }
+}
+
+static void store_random(struct host *h, uint32_t addr, uint32_t len)
+{
+    for (uint32_t i = 0; i < len; i++) store(h, addr + i, draw(256), 1);
+}
+
+static void describe_in(struct host *h, uint32_t queue, uint32_t number, uint32_t addr, uint32_t len, uint32_t flags)
+{
+    uint32_t at = DESC + queue * NEXT_QUEUE + 16 * number;
+    store(h, at, addr, 8);
+    store(h, at + 8, len, 4);
+    store(h, at + 12, flags, 2);
+    store(h, at + 14, number + 1, 2);
+}
+
+/* A request that reads or writes one sector. */
+static void request(struct host *h, uint32_t buffer)
+{
+    uint32_t type = draw(2);
+
+    store(h, buffer, type, 8);
+    store(h, buffer + 8, draw(SECTORS), 8);
+    store(h, buffer + AT_OUTCOME, 0xff, 1);
+    if (type == 1) store_random(h, buffer + AT_SECTOR, SECTOR);
+    describe_in(h, REQUESTS, 0, buffer, 16, HAS_NEXT);
+    describe_in(h, REQUESTS, 1, buffer + AT_SECTOR, SECTOR, HAS_NEXT | (type == 0 ? WRITABLE : 0));
+    describe_in(h, REQUESTS, 2, buffer + AT_OUTCOME, 1, WRITABLE);
+}
+
+/* The guest makes a chain available, if the devices gave the last one of the queue back: it reads its used ring. */
+static void offer_in(struct host *h, uint32_t queue)
+{
+    uint32_t at = AVAIL + queue * NEXT_QUEUE, buffer = BUFFERS + queue * PAGE, len = 1 + draw(200);
+    const uint8_t *used = (const uint8_t *)h->ram.at + USED + queue * NEXT_QUEUE;
+
+    if ((used[2] | used[3] << 8) != h->made[queue]) return;
+    if (queue == PRINTED) store_random(h, buffer, len);
+    if (queue == REQUESTS) request(h, buffer);
+    else describe_in(h, queue, 0, buffer, len, queue == PRINTED ? 0 : WRITABLE);
+    store(h, at + 4 + 2 * (h->made[queue]++ % SIZE), 0, 2);
+    store(h, at + 2, h->made[queue], 2);
+    h->kicks[queue] = 1;
+}
+
+/* The guest does a piece of its work: a chain, some bytes of a page of its own, or a page of zeros. */
+static void act(struct host *h)
+{
+    uint32_t choice = draw(QUEUES + 4), page = draw(16) == 0 ? 0 : (HEAP + draw(LATE - HEAP)) * PAGE;
+
+    if (choice < QUEUES) offer_in(h, choice);
+    else if (choice > QUEUES) store_random(h, page + draw(PAGE - 200), 1 + draw(200));
+    else for (uint32_t i = 0; i < PAGE; i++) store(h, page + i, 0, 1);
+}
+
+/* RAM is given back with the log: a list, from the last page on, which it names twice; a bitmap, with bits past the last page; or
+ * all pages. */
+static uint32_t give_back_log(struct host *h)
+{
+    uint64_t words[] = {~(uint64_t)0 << PAGES, ~(uint64_t)0};
+    uint32_t pages[PAGES + 1];
+    size_t count = 0;
+
+    for (uint32_t page = PAGES; page-- > 0;) {
+        words[0] |= (uint64_t)h->dirty[page] << page;
+        if (h->dirty[page]) pages[count++] = page;
+    }
+    if (count > 0) pages[count++] = pages[0];
+    if (!h->leaves_out && draw(8) == 0) return vmig_give_back_all(&h->machine, &h->ram);
+    if (draw(2) == 0) return vmig_give_back_marked(&h->machine, &h->ram, words, 1 + draw(2));
+    return vmig_give_back(&h->machine, &h->ram, pages, count);
+}
+
+/* The twin is handed what the guest wrote, and RAM is given back, with the log or before it is read. */
+static void give_back(struct host *h, int reads_log)
+{
+    for (uint32_t page = 0; page < PAGES; page++)
+        if (h->written[page])
+            expect("handed", vmig_ram_write(&h->twin, page * PAGE, rooms[h->room] + page * PAGE, PAGE), VMIG_OK);
+    memset(h->written, 0, sizeof h->written);
+    if (h->leaves_out) h->dirty[LATE] = 0;
+    expect("give back", reads_log ? give_back_log(h) : vmig_give_back(&h->machine, &h->ram, NULL, 0), VMIG_OK);
+    if (reads_log) memset(h->dirty, 0, sizeof h->dirty);
+    expect("no RAM is out", h->ram.at == NULL && h->ram.len == 0, 1);
+}
+
+static void lend(struct host *h)
+{
+    uint16_t lines = vmig_lines(&h->machine);
+
+    expect("lend", vmig_lend(&h->machine, &h->ram), VMIG_OK);
+    expect("RAM", h->ram.at == rooms[h->room] && h->ram.len == RAM, 1);
+    expect("lines while it is lent", vmig_lines(&h->machine), lines);
+}
+
+/* RAM moves while it is lent: it lies in another room from then on. */
+static void move_ram(struct host *h)
+{
+    int from = h->room;
+
+    h->room = (from + 1) % 3;
+    memcpy(rooms[h->room], rooms[from], RAM);
+    memset(rooms[from], 0x99, RAM);
+    h->ram.at = rooms[h->room];
+}
+
+/* A driver writes a register, and reads one, of both. */
+static void write_both(struct host *h, uint8_t dev, uint32_t off, uint32_t value)
+{
+    uint32_t out = 77, read = 77, twin_read = 77, other = 4 * draw(80);
+
+    expect("register write", vmig_reg_write(&h->machine, dev, off, 4, value, &out), VMIG_OK);
+    expect("register write", vmig_reg_write(&h->twin, dev, off, 4, value, &out), VMIG_OK);
+    expect("register read", vmig_reg_read(&h->machine, dev, other, 4, &read), VMIG_OK);
+    expect("register read", vmig_reg_read(&h->twin, dev, other, 4, &twin_read), VMIG_OK);
+    expect("the same value", twin_read, read);
+}
+
+static void input_both(struct host *h, uint8_t dev)
+{
+    uint8_t bytes[100];
+    uint32_t len = draw(sizeof bytes), kept = 77, twin_kept = 77;
+
+    for (uint32_t i = 0; i < len; i++) bytes[i] = (uint8_t)draw(256);
+    expect("input", vmig_input(&h->machine, dev, bytes, len, &kept), VMIG_OK);
+    expect("input", vmig_input(&h->twin, dev, bytes, len, &twin_kept), VMIG_OK);
+    expect("as many kept", twin_kept, kept);
+}
+
+/* The steps that have something to do, of both. */
+static void serve_both(struct host *h)
+{
+    static uint8_t sent[VMIG_SENT_MAX], twin_sent[VMIG_SENT_MAX];
+    uint8_t dev = 0, pick = 0, twin_dev = 0, twin_pick = 0;
+    uint32_t len = 77, twin_len = 77, status;
+
+    while ((status = vmig_next_work(&h->machine, &dev, &pick)) == VMIG_WORK) {
+        expect("work", vmig_next_work(&h->twin, &twin_dev, &twin_pick), VMIG_WORK);
+        expect("the same step", twin_dev == dev && twin_pick == pick, 1);
+        status = vmig_step(&h->machine, dev, pick, sent, sizeof sent, &len);
+        expect("answers alike", vmig_step(&h->twin, dev, pick, twin_sent, sizeof twin_sent, &twin_len), status);
+        expect("a length", twin_len, len);
+        if (status == VMIG_SENT) expect("a message", (uint64_t)memcmp(sent, twin_sent, len), 0);
+        expect("lines", vmig_lines(&h->twin), vmig_lines(&h->machine));
+        if (status < 64 || failures != 0) break;
+    }
+    expect("no work is left", vmig_next_work(&h->twin, &twin_dev, &twin_pick), status);
+}
+
+/* Takes some of what waits, and feeds it to the machine that arrives. Returns whether there was any. */
+static int hand_over(struct host *h, vmig_machine *target)
+{
+    uint8_t piece[9000];
+    size_t got = 0;
+
+    expect("take", vmig_take(&h->machine, piece, 1 + draw(sizeof piece), &got), VMIG_OK);
+    expect("feed", vmig_feed(target, piece, got), VMIG_OK);
+    return got > 0;
+}
+
+/* The guest runs and comes out, and its devices do their work. If the machine is being sent, target is the one that arrives. */
+static void turn(struct host *h, vmig_machine *target, int is_late)
+{
+    lend(h);
+    for (uint32_t acts = draw(6); acts > 0; acts--) act(h);
+    if (is_late) store_random(h, LATE * PAGE, PAGE);
+    if (target != NULL && draw(4) == 0) hand_over(h, target);
+    if (target == NULL && draw(8) == 0) move_ram(h);
+    give_back(h, draw(4) != 0);
+    for (int queue = 0; queue < QUEUES; queue++)
+        if (h->kicks[queue]) write_both(h, DEVICE_OF[queue], 0x050, NUMBER_OF[queue]);
+    memset(h->kicks, 0, sizeof h->kicks);
+    if (draw(3) == 0) input_both(h, ENTROPY);
+    if (draw(3) == 0) input_both(h, CONSOLE);
+    serve_both(h);
+    write_both(h, (uint8_t)draw(DEVICES), 0x064, 3);
+}
+
+/* The log is read once more. */
+static void read_log(struct host *h)
+{
+    lend(h);
+    give_back(h, 1);
+}
+
+/* Sends what is due in this round, some items at a time, while the guest runs. Some of what waits is handed over. */
+static void send_round(struct host *h, vmig_machine *target)
+{
+    uint32_t number = 77, status;
+    uint8_t dev = 77;
+
+    do {
+        turn(h, target, 0);
+        for (uint32_t most = draw(40); (status = vmig_copy(&h->machine, &dev, &number)) != VMIG_ROUND_DONE && most > 0; most--) {
+            expect("copied", status == VMIG_PAGE || status == VMIG_SECTOR, 1);
+            if (draw(3) == 0) hand_over(h, target);
+        }
+    } while (status != VMIG_ROUND_DONE);
+}
+
+/* Which pages are not those of the twin, a bit for each. */
+static uint32_t differing(struct host *h, const uint8_t *bytes)
+{
+    uint8_t page[PAGE];
+    uint32_t found = 0;
+
+    for (uint32_t n = 0; n < PAGES; n++) {
+        expect("page of the twin", vmig_ram_read(&h->twin, n * PAGE, page, PAGE), VMIG_OK);
+        if (memcmp(page, bytes + n * PAGE, PAGE) != 0) found |= (uint32_t)1 << n;
+    }
+    return found;
+}
+
+/* RAM but for these pages, the disk and the lines are those of the twin. */
+static void is_twin(struct host *h, uint32_t but)
+{
+    lend(h);
+    expect("pages that are not the twin's", differing(h, h->ram.at), but);
+    give_back(h, 0);
+    expect("the same disk", (uint64_t)memcmp(disks[h->disk], twin_disk, DISK), 0);
+    expect("the same lines", vmig_lines(&h->twin), vmig_lines(&h->machine));
+}
+
+/* The machine is what arrived, in this room. The memory of what was sent is this program's again, as the guest left it. */
+static void go_on_with(struct host *h, vmig_machine target, int room)
+{
+    vmig_image image = VMIG_NO_IMAGE;
+
+    expect("unmap", vmig_unmap(&h->machine, &image, 1), VMIG_OK);
+    expect("its image", image.at == disks[h->disk] && image.sectors == SECTORS, 1);
+    expect("RAM as it was", differing(h, rooms[h->room]), 0);
+    memset(rooms[h->room], 0x11, RAM);
+    memset(disks[h->disk], 0x22, DISK);
+    h->machine = target;
+    h->room = room;
+    h->disk = 1 - h->disk;
+}
+
+/* Moves the machine while its guest runs, or gives up on the way. Returns whether it moved. */
+static int move(struct host *h)
+{
+    int room = (h->room + 1 + (int)draw(2)) % 3;
+    vmig_machine target = VMIG_NONE;
+    vmig_ram ram = {rooms[room], RAM};
+    vmig_image image = {disks[1 - h->disk], SECTORS};
+    uint64_t pages = 77, sectors = 77;
+    uint32_t round = 77;
+
+    expect("arrive", vmig_arrive_over(&ram, &image, 1, &target), VMIG_OK);
+    expect("all is taken", ram.at == NULL && ram.len == 0 && image.sectors == 0, 1);
+    expect("begin", vmig_begin(&h->machine), VMIG_OK);
+    send_round(h, &target);
+    turn(h, &target, 1);
+    for (uint32_t rounds = draw(4); rounds > 0; rounds--) {
+        read_log(h);
+        expect("end of the round", vmig_end_round(&h->machine, &round), VMIG_OK);
+        send_round(h, &target);
+    }
+    if (!h->leaves_out && draw(8) == 0) {
+        expect("abort", vmig_abort(&h->machine), VMIG_OK);
+        vmig_free(&target);
+        return 0;
+    }
+    turn(h, &target, 0);
+    read_log(h);
+    expect("stop", vmig_stop(&h->machine, &pages, &sectors), VMIG_OK);
+    while (hand_over(h, &target)) continue;
+    expect("finish", vmig_finish(&target), VMIG_OK);
+    go_on_with(h, target, room);
+    return 1;
+}
+
+static void set_up_all(vmig_machine *m)
+{
+    set_up_device(m, ENTROPY, POOL, 1, 0);
+    set_up_device(m, CONSOLE, TYPED, 2, 0);
+    set_up_device(m, BLOCK, REQUESTS, 1, 0);
+}
+
+/* The machine is made over a room that has bytes already, and the twin of the same bytes. */
+static void make(struct host *h)
+{
+    vmig_ram ram = {rooms[0], RAM};
+    vmig_image image = {disks[0], SECTORS}, twin_image = {twin_disk, SECTORS};
+
+    for (size_t i = HEAP * PAGE; i < RAM; i++) rooms[0][i] = (uint8_t)draw(256);
+    for (size_t i = 0; i < DISK; i++) disks[0][i] = twin_disk[i] = (uint8_t)draw(256);
+    expect("make the twin", vmig_make_mapped(PAGES, SHAPES, DEVICES, &twin_image, 1, &h->twin), VMIG_OK);
+    for (uint32_t at = 0; at < RAM; at += PAGE) expect("handed", vmig_ram_write(&h->twin, at, rooms[0] + at, PAGE), VMIG_OK);
+    expect("make", vmig_make_over(&ram, SHAPES, DEVICES, &image, 1, &h->machine), VMIG_OK);
+    expect("all is taken", ram.at == NULL && ram.len == 0 && image.sectors == 0, 1);
+    set_up_all(&h->machine);
+    set_up_all(&h->twin);
+}
+
+int main(void)
+{
+    static struct host h;
+
+    make(&h);
+    for (int moves = 0; moves < MOVES;) {
+        h.leaves_out = moves % 10 == 9;
+        for (uint32_t turns = draw(6); turns > 0; turns--) turn(&h, NULL, 0);
+        if (!move(&h)) continue;
+        is_twin(&h, h.leaves_out ? (uint32_t)1 << LATE : 0);
+        h.leaves_out = 0;
+        turn(&h, NULL, 1);
+        is_twin(&h, 0);
+        moves++;
+    }
+    lend(&h);
+    vmig_free(&h.machine);
+    expect("RAM of a machine that was freed while it was lent", differing(&h, rooms[h.room]), 0);
+    vmig_free(&h.twin);
+    return ended("lent");
+}

@@ -1,0 +1,103 @@
+/* What it costs to lend RAM and to give it back, beside handing pages in and out: `loans CASE COUNT` does this TURNS times, of a
+ * machine of 64 MiB of which COUNT pages were written, and prints TURNS. `count` counts the instructions of the calls. Without
+ * words it goes through all cases, and checks what each did. */
+#include <stdlib.h>
+#include "driver.h"
+
+enum { PAGES = 16384, PAGE = 4096, WORDS = PAGES / 64, TURNS = 16 };
+
+/* A host that lends RAM of its own, and one that mirrors it. What was written are the pages with these numbers. */
+typedef struct {
+    vmig_machine over, mirrored;
+    vmig_ram ram;
+    uint8_t *copy;
+    uint64_t seen[PAGES], words[WORDS];
+    uint32_t pages[PAGES];
+    size_t count;
+} host;
+
+static void list(host *h)
+{
+    expect("lend", vmig_lend(&h->over, &h->ram), VMIG_OK);
+    expect("a list", vmig_give_back(&h->over, &h->ram, h->pages, h->count), VMIG_OK);
+}
+
+static void bitmap(host *h)
+{
+    expect("lend", vmig_lend(&h->over, &h->ram), VMIG_OK);
+    expect("a bitmap", vmig_give_back_marked(&h->over, &h->ram, h->words, WORDS), VMIG_OK);
+}
+
+static void all(host *h)
+{
+    expect("lend", vmig_lend(&h->over, &h->ram), VMIG_OK);
+    expect("all pages", vmig_give_back_all(&h->over, &h->ram), VMIG_OK);
+}
+
+static void hand_in(host *h)
+{
+    expect("push", vmig_push(&h->mirrored, h->pages, h->count, h->copy, (size_t)PAGES * PAGE, h->seen, PAGES), VMIG_OK);
+}
+
+/* The devices wrote into the pages. */
+static void hand_out(host *h)
+{
+    uint32_t count = 77;
+
+    for (size_t i = 0; i < h->count; i++) put(&h->mirrored, (uint64_t)h->pages[i] * PAGE, i, 8);
+    expect("pull", vmig_pull(&h->mirrored, h->copy, (size_t)PAGES * PAGE, h->seen, PAGES, &count), VMIG_OK);
+    expect("pages that came", count, h->count);
+}
+
+static const struct {
+    const char *name;
+    void (*run)(host *);
+} CASES[] = {{"list", list}, {"bitmap", bitmap}, {"all", all}, {"push", hand_in}, {"pull", hand_out}};
+
+static const size_t COUNTS[] = {0, 1, 100};
+
+static void make(host *h)
+{
+    static const vmig_shape shapes[] = {{.kind = VMIG_ENTROPY}};
+
+    h->ram = (vmig_ram){calloc(PAGES, PAGE), (size_t)PAGES * PAGE};
+    h->copy = calloc(PAGES, PAGE);
+    if (h->ram.at == NULL || h->copy == NULL) exit(2);
+    expect("make over", vmig_make_over(&h->ram, shapes, 1, NULL, 0, &h->over), VMIG_OK);
+    expect("make", vmig_make(PAGES, shapes, 1, &h->mirrored), VMIG_OK);
+    expect("versions", vmig_pull(&h->mirrored, h->copy, (size_t)PAGES * PAGE, h->seen, PAGES, &(uint32_t){0}), VMIG_OK);
+}
+
+/* The pages that were written lie all over RAM. */
+static void write(host *h, size_t count)
+{
+    memset(h->words, 0, sizeof h->words);
+    h->count = count;
+    for (uint32_t i = 0; i < count; i++) {
+        h->pages[i] = i * (PAGES / (uint32_t)count);
+        h->words[h->pages[i] / 64] |= (uint64_t)1 << h->pages[i] % 64;
+    }
+}
+
+int main(int argc, char **argv)
+{
+    static host h;
+
+    make(&h);
+    for (size_t i = 0; i < sizeof CASES / sizeof *CASES; i++) {
+        if (argc > 1 && strcmp(argv[1], CASES[i].name) != 0) continue;
+        for (size_t k = 0; k < sizeof COUNTS / sizeof *COUNTS; k++) {
+            if (argc > 2 && strtoul(argv[2], NULL, 10) != COUNTS[k]) continue;
+            write(&h, COUNTS[k]);
+            for (int turn = 0; turn < TURNS; turn++) CASES[i].run(&h);
+        }
+    }
+    if (argc > 1) printf("%d\n", TURNS);
+    expect("lend", vmig_lend(&h.over, &h.ram), VMIG_OK);
+    vmig_free(&h.over);
+    vmig_free(&h.mirrored);
+    free(h.ram.at);
+    free(h.copy);
+    if (argc > 1) return failures != 0;
+    return ended("loans");
+}
