@@ -184,8 +184,9 @@ impl Ram {
         if count > ACCESS_MAX {
             return Some(RamError::TooLong);
         }
-        let len = self.len();
-        if addr > len || count as u64 > len - addr {
+        // A RAM has a page at least, and the access is of no more than a page.
+        self.recall();
+        if addr > self.len() - count as u64 {
             return Some(RamError::OutOfRam);
         }
         None

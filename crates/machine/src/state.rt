@@ -262,9 +262,7 @@ impl DeviceState {
         }
     }
 
-    /// Advances an outstanding request by one unit, or ends it. It is a function of its own, so that a step which looks at a chain
-    /// does not pay for its registers.
-    #[inline(never)]
+    /// Advances an outstanding request by one unit, or ends it.
     fn advance<D: Disk, L: TouchLog>(
         &mut self,
         device: u8,
