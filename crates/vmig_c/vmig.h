@@ -430,8 +430,8 @@ uint32_t vmig_lend(vmig_machine *machine, vmig_ram *ram);
 uint32_t vmig_give_back(vmig_machine *machine, vmig_ram *ram, const uint32_t *pages, size_t count);
 
 /* As vmig_give_back, with a bitmap: bit k of words[n], the lowest being bit 0, is set if page 64 * n + k was written, as
- * KVM_GET_DIRTY_LOG fills it. There are count words, at least one for each 64 pages, else VMIG_TOO_SMALL. A word of zeros takes
- * one look. Bits past the last page are not looked at.
+ * KVM_GET_DIRTY_LOG fills it. There are count words, at least one for each 64 pages, else VMIG_TOO_SMALL. Each word takes
+ * one look, and each page that is marked another. Bits past the last page are not looked at.
  * VMIG_NO_MACHINE, then VMIG_NOT_LENT, then VMIG_BAD_RAM, then VMIG_TOO_SMALL, then VMIG_NO_MEMORY, and no others. */
 uint32_t vmig_give_back_marked(vmig_machine *machine, vmig_ram *ram, const uint64_t *words, size_t count);
 

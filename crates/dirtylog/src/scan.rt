@@ -125,7 +125,7 @@ pub(crate) fn lowest_bit(word: u64) -> u64
 }
 
 /// The index of the lowest bit that is set, of those from `from` on.
-pub(crate) fn bit_from(word: u64, from: u64) -> Option<u64>
+pub fn bit_from(word: u64, from: u64) -> Option<u64>
     requires { from < 64 }
     ensures { MatchOption result ((k : ℕ) → from ≤ k → bit_at word k ≡ 0) (λ n. (from ≤ n) × (n < 64) × (bit_at word n ≡ 1) × ((k : ℕ) → from ≤ k → k < n → bit_at word k ≡ 0)) }
 {

@@ -24,12 +24,16 @@ pub numbers_more : (n : ℕ) → numbers_below (n + 1) ≡ numbers_below n ++ n 
 numbers_more n = sym (map-id (numbers_below (n + 1))) ∙ map-range_with_len_more alike 0 n n (omega arith) ∙ ap (λ (l : List ℕ). l ++ n ∷ []) (map-id (numbers_below n))
 
 -- Where none is marked from one number to another, the list stays.
-none_more : (words : List ℕ) (from k : ℕ) → ((j : ℕ) → from ≤ j → j < from + k → is_marked words j ≡ false) → marked words (from + k) ≡ marked words from
+pub none_more : (words : List ℕ) (from k : ℕ) → ((j : ℕ) → from ≤ j → j < from + k → is_marked words j ≡ false) → marked words (from + k) ≡ marked words from
 none_more words from zero none = ap (marked words) (omega arith)
 none_more words from (suc k) none =
     let last : is_marked words (from + k) ≡ false = none (from + k) (omega arith) (omega arith) in
     subst (λ (n : ℕ). marked words n ≡ marked words from) (omega arith)
     (marked_more words (from + k) ∙ rw (last, none_more words from k (λ j low high. none j low (omega (arith, high)))) (append-nil (marked words from)))
+
+pub none_between : (words : List ℕ) (from until : ℕ) → from ≤ until → ((j : ℕ) → from ≤ j → j < until → is_marked words j ≡ false) → marked words until ≡ marked words from
+none_between words from until order none =
+    subst (λ (n : ℕ). marked words n ≡ marked words from) (omega (arith, order)) (none_more words from (until - from) (λ j low high. none j low (omega (arith, high, order))))
 
 -- A word of zeros has no bit.
 no_bit : (words : List ℕ) (at j : ℕ) → slice_index words at ≡ 0 → j / 64 ≡ at → is_marked words j ≡ false

@@ -1,15 +1,16 @@
 //! The numbers of the pages that a caller names by a bitmap, or of all.
 
-ghost use Rattle.std.specs.Prelude.{◌≡◌, ◌≤◌, ◌*◌, ◌<◌, ◌^◌, IfOk, length};
+ghost use Rattle.std.specs.Prelude.{◌≡◌, ◌≤◌, ◌*◌, ◌<◌, ◌+◌, ◌/◌, ◌%◌, ℕ, IfOk, length, false, true};
 ghost use Rattle.guestmem.specs.declared.limits.TheConstants.{PAGES_MAX};
 ghost use Rattle.vmig_c.specs.Named.{is_marked, marked, numbers_below};
 
+use dirtylog::bit_from;
 use guestmem::NoMemory;
 
 /// The bits of a word of a bitmap.
 pub(crate) const WORD_BITS: usize = 64;
 
-/// Makes the list that of the pages that are marked. A word of zeros costs one look.
+/// Makes the list that of the pages that are marked. It takes one look for each word, and one for each page.
 pub(crate) fn collect_marked(
     words: &[u64],
     count: usize,
@@ -34,7 +35,7 @@ pub(crate) fn collect_marked(
     Ok(())
 }
 
-/// Adds those of the numbers `from..until` that are marked.
+/// Adds those of the numbers `from..until`, which have their bits in one word, that are marked.
 fn collect_from(
     words: &[u64],
     from: usize,
@@ -42,24 +43,39 @@ fn collect_from(
     numbers: &mut Vec<u32>,
 ) -> Result<(), NoMemory>
     requires so_far { numbers.old.items ≡ marked words.now from }
+    requires start { from % 64 ≡ 0 }
     requires order { from ≤ until }
+    requires one_word { until ≤ from + 64 }
     requires few { until ≤ PAGES_MAX }
     requires room { until ≤ 64 * length words.now }
     ensures { IfOk result (λ x. numbers.new.items ≡ marked words.now until) }
 {
-    for n in from..until {
-        if is_marked(words, n) {
-            numbers.push(n as u32)?;
-        }
+    let mut n = next_marked(words, from, until);
+    while n < until {
+        numbers.push(n as u32)?;
+        n = next_marked(words, n + 1, until);
     }
     Ok(())
 }
 
-fn is_marked(words: &[u64], n: usize) -> bool
-    requires { n < 64 * length words.now }
-    ensures { result ≡ is_marked words.now n }
+/// The least number from `from` on that is marked, of those below `until`, which have their bits in one word. `until`, if none is.
+fn next_marked(words: &[u64], from: usize, until: usize) -> usize
+    requires order { from ≤ until }
+    requires one_word { from < until → until ≤ 64 * (from / 64) + 64 }
+    requires room { until ≤ 64 * length words.now }
+    ensures from { from ≤ result }
+    ensures until { result ≤ until }
+    ensures none { (j : ℕ) → from ≤ j → j < result → is_marked words.now j ≡ false }
+    ensures marked { result < until → is_marked words.now result ≡ true }
 {
-    (words[n / WORD_BITS] >> (n % WORD_BITS)) % 2 == 1
+    if from == until {
+        return until;
+    }
+    let bit = from % WORD_BITS;
+    match bit_from(words[from / WORD_BITS], bit as u64) {
+        Some(found) => until.min(from - bit + found as usize),
+        None => until,
+    }
 }
 
 /// Makes the list that of all pages.

@@ -1,19 +1,26 @@
-use Rattle.std.proofs.Common.{◌∙◌, ◌∷◌, ◌++◌, [], ℕ, List, ap, arith, sym}
-use Rattle.vmig_c.proofs.Marking.{marked_no, marked_yes}
+use Rattle.std.proofs.Common.{◌∙◌, ◌+◌, ◌∷◌, ◌++◌, [], ℕ, List, ap, arith, sym}
+use Rattle.vmig_c.proofs.Marking.{marked_yes, none_between}
 use Rattle.vmig_c.proofs.naming.collect_from.Goals as goal
-use Rattle.vmig_c.proofs.naming.collect_from.Goals.{then-is_marked+in_ok-push, else-is_marked}
+
+pub loop-n-init : goal.loop-n-init
+loop-n-init c =
+    let found = c.next_marked-n.ensures in
+    record {
+      list = c.requires.so_far ∙ sym (none_between c.args.words.now c.args.from c.next_marked-n.result found.from found.none);
+      low = found.from;
+      within = found.until;
+      found = found.marked;
+    }
 
 pub loop-n-preserved : goal.loop-n-preserved
 loop-n-preserved c =
     let n = c.loop-n.n in
     let words = c.args.words.now in
-    elim c.if-is_marked.branch [
-      | then-is_marked+in_ok-push w ↦ record {
-        list = ap (λ v. v.items) w.numbers-is ∙ w.in_ok-push.ensures.items ∙ ap (λ (l : List ℕ). l ++ n ∷ []) c.loop-n.invariant.list ∙ sym (marked_yes words n (sym c.is_marked.ensures ∙ w.if-is_marked.true));
-        within = omega (arith, c.loop-n-test.true);
-      }
-      | else-is_marked w ↦ record {
-        list = ap (λ v. v.items) w.numbers-is ∙ c.loop-n.invariant.list ∙ sym (marked_no words n (sym c.is_marked.ensures ∙ w.if-is_marked.false));
-        within = omega (arith, c.loop-n-test.true);
-      }
-    ]
+    let next = c.next_marked-n-in-loop-n in
+    record {
+      list = c.in_ok-push.ensures.items ∙ ap (λ (l : List ℕ). l ++ n ∷ []) c.loop-n.invariant.list ∙ sym (marked_yes words n (c.loop-n.invariant.found c.loop-n-test.true))
+          ∙ sym (none_between words (n + 1) next.result next.ensures.from next.ensures.none);
+      low = omega (arith, c.loop-n.invariant.low, next.ensures.from);
+      within = next.ensures.until;
+      found = next.ensures.marked;
+    }
