@@ -41,7 +41,7 @@ pub(crate) fn are_images(bytes: usize, shapes: &[DeviceShape]) -> bool
 }
 
 /// The number of sectors of a device's disk; 0 for a device without one.
-fn count_in(shape: Shape) -> u64
+pub(crate) fn count_in(shape: Shape) -> u64
     ensures { result ≡ sector_count shape }
 {
     match shape {
@@ -71,7 +71,11 @@ pub(crate) fn machine_with(
 }
 
 /// A disk for each device that has one, in their order, that hold the images one after another.
-fn image_disks(alloc: Global, shapes: &[Shape], images: &[u8]) -> Result<Vec<MemDisk>, NoMemory>
+pub(crate) fn image_disks(
+    alloc: Global,
+    shapes: &[Shape],
+    images: &[u8],
+) -> Result<Vec<MemDisk>, NoMemory>
     requires { length images.now ≡ image_size shapes.now }
     ensures { IfOk result (λ disks. AreImages images.now (disk_sizes shapes.now) disks.items) }
 {

@@ -1,7 +1,8 @@
 //! The contents of a handle.
 
-ghost use Rattle.vmig_c.specs.Kept.{kept_of};
+ghost use Rattle.vmig_c.specs.Kept.{admission_of, kept_of};
 
+use crate::admission::{Admission, Limits};
 use crate::arrival::Arrival;
 use crate::landing::Landing;
 use crate::loan::Loan;
@@ -41,7 +42,8 @@ pub enum Contents {
     Lent(Loan),
 }
 
-/// The contents of a handle. Contracts see which state they are in, and whether the disks are the caller's memory.
+/// The contents of a handle. Contracts see which state they are in, whether the disks are the caller's memory, and the limits on what
+/// arrives.
 #[derive(Drop)]
 pub struct Kept {
     pub(crate) contents: Contents,
@@ -49,27 +51,45 @@ pub struct Kept {
     pub(crate) sent: Vec<u8>,
     // The numbers of the pages that were given back last by a bitmap: kept for the same reason.
     pub(crate) named: Vec<u32>,
+    // Of what arrives: whether its stream is let in.
+    pub(crate) admission: Admission,
 }
 
 impl Model for Kept {
-    ghost use Rattle.vmig_c.specs.Kept.{KeptSeen, kept_of};
+    ghost use Rattle.vmig_c.specs.Kept.{KeptSeen, admission_of, kept_with};
 
     ghost Value = { KeptSeen };
 
-    ghost view = { λ k. kept_of k.contents };
+    ghost view = { λ k. kept_with k.contents (admission_of k.admission) };
 }
 
 impl Kept {
-    ghost use Rattle.std.specs.Prelude.{◌≡◌};
+    ghost use Rattle.std.specs.Prelude.{◌≡◌, []};
+    ghost use Rattle.vmig_c.specs.AdmissionSeen as seen;
+    ghost use Rattle.vmig_c.specs.Kept.{kept_with};
 
     /// Wraps the contents of a handle.
     pub(crate) fn new(alloc: Global, contents: Contents) -> Kept
         ensures { result ≡ kept_of contents }
     {
+        Kept::with(alloc, contents, Admission::Granted)
+    }
+
+    /// Wraps a machine that will arrive, within the limits.
+    pub(crate) fn within(alloc: Global, contents: Contents, limits: Limits) -> Kept
+        ensures { result ≡ kept_with contents (seen.Pending limits []) }
+    {
+        Kept::with(alloc, contents, Admission::Pending(limits, Vec::new(alloc)))
+    }
+
+    fn with(alloc: Global, contents: Contents, admission: Admission) -> Kept
+        ensures { result ≡ kept_with contents (admission_of admission) }
+    {
         Kept {
             contents,
             sent: Vec::new(alloc),
             named: Vec::new(alloc),
+            admission,
         }
     }
 }

@@ -51,6 +51,7 @@ fn begun(alloc: Global, old: Kept) -> (Kept, u32)
         contents,
         sent,
         named,
+        admission,
     } = old;
     let (contents, status) = match contents {
         Contents::Still(machine) => match begun_of(alloc, machine) {
@@ -77,6 +78,7 @@ fn begun(alloc: Global, old: Kept) -> (Kept, u32)
         contents,
         sent,
         named,
+        admission,
     };
     (kept, status)
 }
@@ -231,6 +233,7 @@ fn aborted(old: Kept) -> (Kept, u32)
         contents,
         sent,
         named,
+        admission,
     } = old;
     let (contents, status) = match contents {
         Contents::Still(machine) => (Contents::Still(machine), NOT_BEGUN),
@@ -245,6 +248,7 @@ fn aborted(old: Kept) -> (Kept, u32)
         contents,
         sent,
         named,
+        admission,
     };
     (kept, status)
 }
