@@ -78,16 +78,17 @@
  * wire, and vmig_finish after the last; or vmig_receive with all of them at once. RAM and disks are made in memory, of any size
  * that a machine can have. A host that takes streams from a network calls vmig_arrive before the first piece, with the most
  * pages and sectors that it expects: a stream that announces more is VMIG_STREAM_TOO_LARGE as soon as its header is whole,
- * before memory is taken for RAM or disks. vmig_arrive also names images of yours that the disks are to be, and memory of yours that RAM
- * is to be. Until vmig_finish the handle has no machine for any other call but vmig_rounds, vmig_free and, over images,
+ * before memory is taken for RAM or disks. vmig_arrive also names images of yours that the disks are to be, and memory of yours
+ * that RAM is to be. Until vmig_finish the handle has no machine for any other call but vmig_rounds, vmig_free and, over images,
  * vmig_unmap, and is in use for the calls that make or receive one. Before its guest runs read the lines and make the steps that
  * vmig_next_work names: a kick and an interrupt that were not served come with the machine. The digest is computed as the bytes
  * come, by some 4 ms a MiB.
  *
  * RAM OF YOURS, LENT TO THE GUEST, as under hardware virtualization: the guest runs on memory of yours, and its devices read and
- * write the same bytes: nothing is copied. A vmig_setup names the memory that is the RAM of a new machine, and a vmig_arrival that
- * of a machine that arrives in it. vmig_lend lends RAM to you, and you run the guest; no step is made meanwhile. vmig_give_back takes RAM back, with the
- * numbers of the pages that were written. This is the loop, which examples/c/lent.c has whole:
+ * write the same bytes: nothing is copied. A vmig_setup names the memory that is the RAM of a new machine, and a vmig_arrival
+ * that of a machine that arrives in it. vmig_lend lends RAM to you, and you run the guest; no step is made meanwhile.
+ * vmig_give_back takes RAM back, with the numbers of the pages that were written. This is the loop, which examples/c/lent.c has
+ * whole:
  *
  *     vmig_ram ram = VMIG_NO_RAM;
  *     for (;;) {
@@ -604,19 +605,19 @@ uint32_t vmig_take(vmig_machine *machine, uint8_t *buf, size_t size, size_t *got
 
 /* A machine will arrive within the limits and in the memory that the arrival names: feed its stream by vmig_feed from here on. A
  * stream that announces more pages, or more sectors in all its disks together, is VMIG_STREAM_TOO_LARGE with the piece that
- * completes its header, before memory is taken for RAM or disks; it stays refused then. One whose disks are not as many, or as large, as the images is
- * VMIG_STREAM_SHAPE_MISMATCH before a sector is written, and one of another number of pages than RAM of yours has is
- * VMIG_STREAM_NO_MEMORY before a page is written; vmig_stream_size and vmig_stream_device tell these before. VMIG_OK takes RAM and
- * images that it names: arrival->ram is VMIG_NO_RAM then, and each of the images VMIG_NO_IMAGE, and vmig_unmap gives the images
- * back, also of a stream that was refused or is not whole. At every other status nothing changed. The rest of *arrival is as it was
- * in any case.
+ * completes its header, before memory is taken for RAM or disks; it stays refused then. One whose disks are not as many, or as
+ * large, as the images is VMIG_STREAM_SHAPE_MISMATCH before a sector is written, and one of another number of pages than RAM of
+ * yours has is VMIG_STREAM_NO_MEMORY before a page is written; vmig_stream_size and vmig_stream_device tell these before.
+ * VMIG_OK takes RAM and images that it names: arrival->ram is VMIG_NO_RAM then, and each of the images VMIG_NO_IMAGE, and
+ * vmig_unmap gives the images back, also of a stream that was refused or is not whole. At every other status nothing changed. The
+ * rest of *arrival is as it was in any case.
  * VMIG_IN_USE, then VMIG_NOT_KNOWN, then VMIG_BAD_RAM, then VMIG_NO_MEMORY, and no others. */
 uint32_t vmig_arrive(vmig_arrival *arrival, vmig_machine *machine);
 
-/* The next bytes of a stream arrive, in pieces of any size. On a handle of no machine one begins to arrive, without limits. VMIG_OK says that
- * the bytes so far have no fault; a piece that brings one is refused, and the stream with it: each later vmig_feed and
- * vmig_finish is VMIG_STREAM_FAILED, until vmig_free or, over images, vmig_unmap. A stream can ask for as much memory as with
- * vmig_receive.
+/* The next bytes of a stream arrive, in pieces of any size. On a handle of no machine one begins to arrive, without limits.
+ * VMIG_OK says that the bytes so far have no fault; a piece that brings one is refused, and the stream with it: each later
+ * vmig_feed and vmig_finish is VMIG_STREAM_FAILED, until vmig_free or, over images, vmig_unmap. Without limits a stream can ask
+ * for as much memory as with vmig_receive.
  * VMIG_NO_MEMORY comes with the first piece alone, and changes nothing.
  * VMIG_IN_USE, VMIG_NO_MEMORY, or a VMIG_STREAM status. */
 uint32_t vmig_feed(vmig_machine *machine, const uint8_t *bytes, size_t len);

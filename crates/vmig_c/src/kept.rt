@@ -42,6 +42,36 @@ pub enum Contents {
     Lent(Loan),
 }
 
+/// What a call answers in each state of the contents of a handle: of a machine that is not being migrated, and of one that is, whether its
+/// disks lie in memory of the library or of the caller; of one whose RAM is lent, which is a status if nothing else is said; and where
+/// one arrives, which is none yet.
+macro_rules! by_state {
+    ($contents:expr; still($machine:pat) => $still:expr, moving($live:pat) => $moving:expr $(,)?) => {
+        $crate::kept::by_state!($contents; still($machine) => $still, moving($live) => $moving, lent(_) => $crate::status::LENT)
+    };
+    ($contents:expr; still($machine:pat) => $still:expr, moving($live:pat) => $moving:expr, lent($loan:pat) => $lent:expr $(,)?) => {
+        $crate::kept::by_state!($contents; still($machine) => $still, moving($live) => $moving, lent($loan) => $lent, arriving => $crate::status::NO_MACHINE)
+    };
+    (
+        $contents:expr;
+        still($machine:pat) => $still:expr,
+        moving($live:pat) => $moving:expr,
+        lent($loan:pat) => $lent:expr,
+        arriving => $arriving:expr $(,)?
+    ) => {
+        match $contents {
+            $crate::kept::Contents::Still($machine) => $still,
+            $crate::kept::Contents::StillMapped($machine) => $still,
+            $crate::kept::Contents::Moving($live) => $moving,
+            $crate::kept::Contents::MovingMapped($live) => $moving,
+            $crate::kept::Contents::Arriving(_) | $crate::kept::Contents::ArrivingMapped(_) => $arriving,
+            $crate::kept::Contents::Lent($loan) => $lent,
+        }
+    };
+}
+
+pub(crate) use by_state;
+
 /// The contents of a handle. Contracts see which state they are in, whether the disks are the caller's memory, and the limits on what
 /// arrives.
 #[derive(Drop)]
