@@ -38,10 +38,10 @@
  *   divides its size.
  * - The thread that calls has 16 KiB of stack left: no call needs more (measured).
  *
- * WHO OWNS WHAT: a machine is made by vmig_make, vmig_make_with, vmig_make_mapped, vmig_make_over or vmig_receive, or arrives
- * by vmig_feed, and lives until vmig_free or vmig_unmap; a handle that is dropped without one of these leaks. What you pass is
- * copied, and the library keeps no pointer of yours after a call, but for the images of vmig_make_mapped and
- * vmig_arrive_mapped, and the RAM and the images of vmig_make_over and vmig_arrive_over.
+ * WHO OWNS WHAT: a machine is made by vmig_make, vmig_make_as or vmig_receive, or arrives by vmig_feed, after vmig_arrive or
+ * without, and lives until vmig_free or vmig_unmap; a handle that is dropped without one of these leaks. What you pass is
+ * copied, and the library keeps no pointer of yours after a call, but to the RAM and the images that a vmig_setup or a
+ * vmig_arrival names: VMIG_OK takes these, and any other status of the call leaves them as they are.
  *
  * THE LOOP: hand in what the guest does (vmig_reg_read, vmig_reg_write, vmig_ram_read, vmig_ram_write). After each register
  * write, and after each vmig_input, make the steps that vmig_next_work names, as its comment shows, and read vmig_lines after
@@ -49,23 +49,23 @@
  * register write returns to the guest: Linux waits for them with interrupts off. Make a bounded number of steps before the
  * guest runs again: a guest can give its devices work without end.
  *
- * DISKS IN YOUR MEMORY, as in a file that you mapped: a vmig_image says where the sectors of a disk are, and vmig_make_mapped
- * makes a machine whose disks are such images, vmig_arrive_mapped one that arrives over them. What the guest writes is there at
- * once. From that call until vmig_unmap or vmig_free the bytes are the machine's: nothing else reads or writes them, and they
+ * DISKS IN YOUR MEMORY, as in a file that you mapped: a vmig_image says where the sectors of a disk are. A vmig_setup names the
+ * images that the disks of a new machine are, and a vmig_arrival those of a machine that arrives. What the guest writes is there
+ * at once. From that call until vmig_unmap or vmig_free the bytes are the machine's: nothing else reads or writes them, and they
  * stay mapped, at their address. A guest's flush does not reach the file: it calls no msync, which is yours to do, before each
  * step of which vmig_must_sync says so; and of a machine that arrived before its guest first runs, since that guest may have
- * been told of a flush long ago. vmig_make_over and vmig_arrive_over take images too.
+ * been told of a flush long ago.
  *
- * WHAT TAKES MEMORY from malloc: vmig_make, vmig_make_with and vmig_receive (RAM, disks, devices), vmig_make_mapped (RAM,
- * devices, and a bit for each sector), vmig_make_over (devices, 8 bytes for each page, and the disks or a bit for each sector),
- * vmig_arrive_mapped (a list of the images), vmig_arrive_over (the same, and 8 bytes for each page), vmig_save (the whole
- * stream, for the time of the call), and vmig_step for a chain of many descriptors or a message longer than those before it;
- * vmig_stream_size and vmig_stream_device, for a list of sixteen shapes, for the time of the call; vmig_begin for two bits for
- * each page and sector, and vmig_begin, vmig_copy, vmig_end_round and vmig_stop for what they write, which waits until it is
- * taken: a stop of a machine of which nothing was copied before writes the whole machine; vmig_give_back_marked and
- * vmig_give_back_all for a list of 4 bytes for each page that they name, which is kept for the next such call; vmig_feed, for a
- * buffer of 128 KiB, in which the front of a record waits for the rest, for RAM and disks, where they are not yours, as soon as
- * the header is whole, and for devices; and vmig_finish. No other call does.
+ * WHAT TAKES MEMORY from malloc: vmig_make, vmig_make_as and vmig_receive, for devices, for RAM and disks where they are not
+ * yours, for a bit for each sector of an image, and for 8 bytes for each page; vmig_arrive, for a list of the images, and for 8
+ * bytes for each page of RAM that is yours; vmig_save (the whole stream, for the time of the call), and vmig_step for a chain of
+ * many descriptors or a message longer than those before it; vmig_stream_size and vmig_stream_device, for a list of sixteen
+ * shapes, for the time of the call; vmig_begin for two bits for each page and sector, and vmig_begin, vmig_copy, vmig_end_round
+ * and vmig_stop for what they write, which waits until it is taken: a stop of a machine of which nothing was copied before
+ * writes the whole machine; vmig_give_back_marked and vmig_give_back_all for a list of 4 bytes for each page that they name,
+ * which is kept for the next such call; vmig_feed, for the first bytes until the header is whole, fewer than 1,024, for a buffer
+ * of 128 KiB, in which the front of a record waits for the rest, for RAM and disks, where they are not yours, as soon as the
+ * header is whole and within the limits of vmig_arrive, and for devices; and vmig_finish. No other call does.
  *
  * A MACHINE IS SENT WHILE IT RUNS: vmig_begin, then vmig_copy until VMIG_ROUND_DONE and vmig_end_round, as often as you like,
  * then vmig_stop. The guest is served as before between these: all other calls are allowed, but for vmig_save,
@@ -75,17 +75,20 @@
  * continues as one that was never sent.
  *
  * A MACHINE ARRIVES: vmig_feed on a handle of no machine, with the bytes of the stream in any pieces, as they come over the
- * wire, and vmig_finish after the last; or vmig_receive with all of them at once. Its disks are made in memory; where they are
- * to be images of yours, vmig_arrive_mapped comes before the first piece, and vmig_arrive_over where RAM is to be yours too.
- * Until vmig_finish the handle has no machine for any other call but vmig_rounds, vmig_free and, over images, vmig_unmap, and
- * is in use for the calls that make or receive one. Before its guest runs read the lines and make the steps that
+ * wire, and vmig_finish after the last; or vmig_receive with all of them at once. RAM and disks are made in memory, of any size
+ * that a machine can have. A host that takes streams from a network calls vmig_arrive before the first piece, with the most
+ * pages and sectors that it expects: a stream that announces more is VMIG_STREAM_TOO_LARGE as soon as its header is whole,
+ * before memory is taken for RAM or disks. vmig_arrive also names images of yours that the disks are to be, and memory of yours
+ * that RAM is to be. Until vmig_finish the handle has no machine for any other call but vmig_rounds, vmig_free and, over images,
+ * vmig_unmap, and is in use for the calls that make or receive one. Before its guest runs read the lines and make the steps that
  * vmig_next_work names: a kick and an interrupt that were not served come with the machine. The digest is computed as the bytes
  * come, by some 4 ms a MiB.
  *
  * RAM OF YOURS, LENT TO THE GUEST, as under hardware virtualization: the guest runs on memory of yours, and its devices read and
- * write the same bytes: nothing is copied. vmig_make_over makes a machine over such memory, and vmig_arrive_over lets one arrive
- * in it. vmig_lend lends RAM to you, and you run the guest; no step is made meanwhile. vmig_give_back takes RAM back, with the
- * numbers of the pages that were written. This is the loop, which examples/c/lent.c has whole:
+ * write the same bytes: nothing is copied. A vmig_setup names the memory that is the RAM of a new machine, and a vmig_arrival
+ * that of a machine that arrives in it. vmig_lend lends RAM to you, and you run the guest; no step is made meanwhile.
+ * vmig_give_back takes RAM back, with the numbers of the pages that were written. This is the loop, which examples/c/lent.c has
+ * whole:
  *
  *     vmig_ram ram = VMIG_NO_RAM;
  *     for (;;) {
@@ -126,9 +129,8 @@
  * no status: it is 0 where ram_read is NO_MACHINE, and of a lent machine what it was before.
  *
  *   of a handle with              no machine   one that arrives   an idle one   one being sent   a stopped one   a lent one
- *   make, make_with, make_mapped,
- *     make_over, arrive_mapped,
- *     arrive_over, receive        done         IN_USE             IN_USE        IN_USE           IN_USE          IN_USE
+ *   make, make_as, arrive,
+ *     receive                     done         IN_USE             IN_USE        IN_USE           IN_USE          IN_USE
  *   feed                          done         done               IN_USE        IN_USE           IN_USE          IN_USE
  *   finish, rounds                NO_MACHINE   done               IN_USE        IN_USE           IN_USE          IN_USE
  *   reg_read, reg_write, step,
@@ -193,18 +195,17 @@ enum {
     /* The call is refused. */
     VMIG_NO_SECTOR = 7,    /* vmig_sector_read: the disk has no such sector */
     VMIG_NO_MACHINE = 8,   /* the handle has no machine, or one that still arrives */
-    VMIG_IN_USE = 9,       /* vmig_make, vmig_make_with, vmig_make_mapped, vmig_make_over, vmig_arrive_mapped, vmig_arrive_over,
-                            * vmig_receive: the handle has a machine already, or one arrives; vmig_feed, vmig_finish,
-                            * vmig_rounds: it has a machine that does not arrive */
+    VMIG_IN_USE = 9,       /* vmig_make, vmig_make_as, vmig_arrive, vmig_receive: the handle has a machine already, or one arrives;
+                            * vmig_feed, vmig_finish, vmig_rounds: it has a machine that does not arrive */
     VMIG_NO_MEMORY = 10,   /* out of memory: malloc or realloc failed */
     VMIG_TOO_SMALL = 11,   /* vmig_step, vmig_save, vmig_push, vmig_pull, vmig_sector_read: your buffer;
                             * vmig_unmap: your slots; vmig_give_back_marked: your words */
-    VMIG_BAD_SHAPE = 12,   /* vmig_make, vmig_make_with, vmig_make_mapped, vmig_make_over: pages, count of devices, or a device
-                            * beyond the limits or of an unknown kind */
+    VMIG_BAD_SHAPE = 12,   /* vmig_make, vmig_make_as: pages, count of devices, or a device beyond the limits or of an unknown
+                            * kind */
     VMIG_MOVING = 13,      /* vmig_save, vmig_saved_len, vmig_sector_read: the machine is being sent */
     VMIG_NOT_MAPPED = 14,  /* vmig_unmap: the disks are in memory of the library */
-    VMIG_BAD_IMAGES = 15,  /* vmig_make_with, vmig_make_mapped, vmig_make_over: the images' length or counts are not those of
-                            * the disks; vmig_unmap: a slot is not VMIG_NO_IMAGE */
+    VMIG_BAD_IMAGES = 15,  /* vmig_make_as: there are contents and images, or the length of the contents or the counts of the
+                            * images are not those of the disks; vmig_unmap: a slot is not VMIG_NO_IMAGE */
 
     /* A migration refuses the call: 16 and the number of its reason. VMIG_WRITER_FAILED alone changes something: the migration
      * has failed for good, and each of its later calls but vmig_take and vmig_abort gets the same status. The machine is as it
@@ -220,15 +221,19 @@ enum {
     VMIG_LENT = 23,            /* RAM is lent to you: give it back before */
     VMIG_NOT_LENT = 24,        /* vmig_give_back and its like: RAM is not lent */
     VMIG_NOT_OVER = 25,        /* vmig_lend: RAM is in memory of the library */
-    VMIG_BAD_RAM = 26,         /* vmig_make_over, vmig_arrive_over: it is not 1 to 16,384 whole pages; vmig_lend: your vmig_ram is
-                                * not VMIG_NO_RAM; vmig_give_back and its like: it has another length than what was lent */
+    VMIG_BAD_RAM = 26,         /* vmig_make_as, vmig_arrive: it is not 1 to 16,384 whole pages; vmig_make_as: it has another number
+                                * of pages than is asked for; vmig_lend: your vmig_ram is not VMIG_NO_RAM; vmig_give_back and its
+                                * like: it has another length than what was lent */
+
+    /* A struct asks for what this library does not know. */
+    VMIG_NOT_KNOWN = 27,       /* vmig_make_as, vmig_arrive: its version is not 1, or a reserved word is not 0 */
 
     /* vmig_receive, vmig_feed or vmig_finish refuses the stream: 32 and the number of its first fault. */
     VMIG_STREAM_BAD_MAGIC = 33,      /* it does not begin with "VMIG" */
     VMIG_STREAM_BAD_VERSION = 34,    /* a stream whose version is neither 1 nor 2 */
     VMIG_STREAM_BAD_SHAPE = 35,      /* the machine that it encodes is beyond the limits */
-    VMIG_STREAM_SHAPE_MISMATCH = 36, /* vmig_feed, after vmig_arrive_mapped or vmig_arrive_over: its disks are not as many, or
-                                      * as large, as the images; no sector was written */
+    VMIG_STREAM_SHAPE_MISMATCH = 36, /* vmig_feed, after vmig_arrive over images or RAM: its disks are not as many, or as large,
+                                      * as the images; no sector was written */
     VMIG_STREAM_BAD_TAG = 37,        /* a tag that may not come there */
     VMIG_STREAM_BAD_PAGE = 38,       /* there is no such page */
     VMIG_STREAM_BAD_SECTOR = 39,     /* there is no such sector */
@@ -238,9 +243,10 @@ enum {
     VMIG_STREAM_MISSING = 43,        /* a page, a sector or a device is missing */
     VMIG_STREAM_TRAILING = 44,       /* bytes after its end */
     VMIG_STREAM_TRUNCATED = 45,      /* vmig_receive, vmig_finish: it is cut off */
-    VMIG_STREAM_NO_MEMORY = 47,      /* vmig_feed, vmig_finish: out of memory for what arrives; vmig_feed, after
-                                      * vmig_arrive_over: its pages are not as many as those of your RAM */
+    VMIG_STREAM_NO_MEMORY = 47,      /* vmig_feed, vmig_finish: out of memory for what arrives; vmig_feed, after vmig_arrive over
+                                      * RAM: its pages are not as many as those of your RAM */
     VMIG_STREAM_FAILED = 48,         /* vmig_feed, vmig_finish: it was refused before */
+    VMIG_STREAM_TOO_LARGE = 49,      /* vmig_feed, after vmig_arrive: it announces more pages or sectors than you allow */
 
     /* vmig_reg_write: done, and a console gave out a byte. */
     VMIG_OUT_BYTE = 64,
@@ -283,12 +289,12 @@ static inline const char *vmig_status_name(uint32_t status)
     VMIG_NAMED(VMIG_MOVING) VMIG_NAMED(VMIG_NOT_MAPPED) VMIG_NAMED(VMIG_BAD_IMAGES) VMIG_NAMED(VMIG_NOT_BEGUN)
     VMIG_NAMED(VMIG_BEGUN_ALREADY) VMIG_NAMED(VMIG_READ_FAILED) VMIG_NAMED(VMIG_WRITER_FAILED) VMIG_NAMED(VMIG_STOPPED)
     VMIG_NAMED(VMIG_NO_ROUND_LEFT) VMIG_NAMED(VMIG_LENT) VMIG_NAMED(VMIG_NOT_LENT) VMIG_NAMED(VMIG_NOT_OVER)
-    VMIG_NAMED(VMIG_BAD_RAM) VMIG_NAMED(VMIG_STREAM_BAD_MAGIC) VMIG_NAMED(VMIG_STREAM_BAD_VERSION)
+    VMIG_NAMED(VMIG_BAD_RAM) VMIG_NAMED(VMIG_NOT_KNOWN) VMIG_NAMED(VMIG_STREAM_BAD_MAGIC) VMIG_NAMED(VMIG_STREAM_BAD_VERSION)
     VMIG_NAMED(VMIG_STREAM_BAD_SHAPE) VMIG_NAMED(VMIG_STREAM_SHAPE_MISMATCH) VMIG_NAMED(VMIG_STREAM_BAD_TAG)
     VMIG_NAMED(VMIG_STREAM_BAD_PAGE) VMIG_NAMED(VMIG_STREAM_BAD_SECTOR) VMIG_NAMED(VMIG_STREAM_BAD_ROUND)
     VMIG_NAMED(VMIG_STREAM_BAD_DEVICE) VMIG_NAMED(VMIG_STREAM_BAD_DIGEST) VMIG_NAMED(VMIG_STREAM_MISSING)
     VMIG_NAMED(VMIG_STREAM_TRAILING) VMIG_NAMED(VMIG_STREAM_TRUNCATED) VMIG_NAMED(VMIG_STREAM_NO_MEMORY)
-    VMIG_NAMED(VMIG_STREAM_FAILED) VMIG_NAMED(VMIG_OUT_BYTE)
+    VMIG_NAMED(VMIG_STREAM_FAILED) VMIG_NAMED(VMIG_STREAM_TOO_LARGE) VMIG_NAMED(VMIG_OUT_BYTE)
     VMIG_NAMED(VMIG_IDLE) VMIG_NAMED(VMIG_TAKEN) VMIG_NAMED(VMIG_MOVED) VMIG_NAMED(VMIG_BAD_SECTOR) VMIG_NAMED(VMIG_DISK_FAILED)
     VMIG_NAMED(VMIG_COMPLETED) VMIG_NAMED(VMIG_SENT) VMIG_NAMED(VMIG_DROPPED) VMIG_NAMED(VMIG_NEEDS_RESET) VMIG_NAMED(VMIG_PAGE)
     VMIG_NAMED(VMIG_SECTOR) VMIG_NAMED(VMIG_ROUND_DONE) VMIG_NAMED(VMIG_ROUND_OPEN) VMIG_NAMED(VMIG_WORK)
@@ -339,6 +345,47 @@ typedef struct vmig_ram {
 
 #define VMIG_NO_RAM {0, 0}
 
+/* How a machine is made. Begin with VMIG_SETUP, and set pages or ram, shapes and count, and what else you want:
+ *
+ *     vmig_setup setup = VMIG_SETUP;
+ *     setup.pages = 16384;
+ *     setup.shapes = shapes; setup.count = 3;
+ *     setup.images = images; setup.count_images = 1;
+ *     status = vmig_make_as(&setup, &machine);
+ *
+ * A struct of a later version has another version, or asks by reserved words; its size stays. */
+typedef struct vmig_setup {
+    uint32_t version;          /* of this struct: 1 */
+    uint32_t pages;            /* of RAM, 4,096 bytes each; with ram of yours 0, or as many as it has */
+    const vmig_shape *shapes;  /* the devices, 1 to 16: they have the numbers 0, 1 and so on, in this order */
+    size_t count;
+    const uint8_t *contents;   /* len bytes, the disks' first contents: the sectors of the first block device, from sector 0 on, then
+                                * those of the second, and so on. len is 512 times the sectors of all block devices, or 0 */
+    size_t len;
+    vmig_image *images;        /* the disks, in memory of yours: one for each block device, in their order, of as many sectors; or
+                                * count_images is 0. With neither contents nor images the disks are zeros */
+    size_t count_images;
+    vmig_ram ram;              /* RAM, in memory of yours, with the bytes that are there now, such as a kernel that you put there; or
+                                * VMIG_NO_RAM: zeros, in memory of the library */
+    uint64_t reserved[4];      /* zeros */
+} vmig_setup;
+
+#define VMIG_SETUP {1, 0, 0, 0, 0, 0, 0, 0, {0, 0}, {0, 0, 0, 0}}
+
+/* How a machine arrives. Begin with VMIG_ARRIVAL, which has no limit, and set what you want. */
+typedef struct vmig_arrival {
+    uint32_t version;          /* of this struct: 1 */
+    uint32_t most_pages;       /* of RAM, 4,096 bytes each */
+    uint64_t most_sectors;     /* of all disks together, 512 bytes each */
+    vmig_image *images;        /* the disks, in memory of yours: one for each block device, in their order, of as many sectors; or
+                                * count_images is 0: in memory of the library, but for ram of yours, where there is no disk then */
+    size_t count_images;
+    vmig_ram ram;              /* RAM, in memory of yours, which is written over; or VMIG_NO_RAM: in memory of the library */
+    uint64_t reserved[4];      /* zeros */
+} vmig_arrival;
+
+#define VMIG_ARRIVAL {1, UINT32_MAX, UINT64_MAX, 0, 0, {0, 0}, {0, 0, 0, 0}}
+
 /* The version of the library that was linked, to compare with VMIG_VERSION_NUMBER. */
 uint32_t vmig_version(void);
 
@@ -347,27 +394,13 @@ uint32_t vmig_version(void);
  * VMIG_IN_USE, then VMIG_BAD_SHAPE, then VMIG_NO_MEMORY, and no others. */
 uint32_t vmig_make(uint32_t pages, const vmig_shape *shapes, size_t count, vmig_machine *machine);
 
-/* As vmig_make, but the disks hold the images: the sectors of the first block device, from sector 0 on, then those of the
- * second, and so on, in the order of the devices. len is 512 times the sectors of all block devices, and 0 where there is
- * none.
- * VMIG_IN_USE, then VMIG_BAD_SHAPE, then VMIG_BAD_IMAGES, then VMIG_NO_MEMORY, and no others. */
-uint32_t vmig_make_with(uint32_t pages, const vmig_shape *shapes, size_t count, const uint8_t *images, size_t len,
-                        vmig_machine *machine);
-
-/* As vmig_make, but the disks are the images, which are in your memory: one for each block device, in the order of the
- * devices, of as many sectors; count_images is 0 where there is none. VMIG_OK takes the images: each of the slots is
- * VMIG_NO_IMAGE then, and vmig_unmap gives them back. At every other status nothing changed, and the images are in their
- * slots as they were.
- * VMIG_IN_USE, then VMIG_BAD_SHAPE, then VMIG_BAD_IMAGES, then VMIG_NO_MEMORY, and no others. */
-uint32_t vmig_make_mapped(uint32_t pages, const vmig_shape *shapes, size_t count, vmig_image *images, size_t count_images,
-                          vmig_machine *machine);
-
-/* As vmig_make_mapped, but RAM is the memory of *ram, with the bytes that are there now, such as a kernel that you put there. If
- * count_images is 0 the disks are zeros in memory of the library, as with vmig_make. VMIG_OK takes the memory and the images:
- * *ram is VMIG_NO_RAM then, and each slot VMIG_NO_IMAGE. At every other status nothing changed.
- * VMIG_IN_USE, then VMIG_BAD_RAM, then VMIG_BAD_SHAPE, then VMIG_BAD_IMAGES, then VMIG_NO_MEMORY, and no others. */
-uint32_t vmig_make_over(vmig_ram *ram, const vmig_shape *shapes, size_t count, vmig_image *images, size_t count_images,
-                        vmig_machine *machine);
+/* Makes a machine as the setup says, in any mixture of RAM, of yours or of the library, and of disks: of zeros, of your contents,
+ * or images. VMIG_OK takes RAM and images that it names: setup->ram is VMIG_NO_RAM then, and each of the images VMIG_NO_IMAGE;
+ * vmig_unmap gives the images back. At every other status nothing changed, and they are as they were. The rest of *setup is as it
+ * was in any case.
+ * VMIG_IN_USE, then VMIG_NOT_KNOWN, then VMIG_BAD_IMAGES (both contents and images), then VMIG_BAD_RAM, then VMIG_BAD_SHAPE, then
+ * VMIG_BAD_IMAGES, then VMIG_NO_MEMORY, and no others. */
+uint32_t vmig_make_as(vmig_setup *setup, vmig_machine *machine);
 
 /* Frees a machine over images, as vmig_free does, and gives its images back: the first of the count slots get those of its
  * disks, in the order of the devices, with what the guest left there. A sector that VMIG_BAD_SECTOR reports may hold anything.
@@ -570,30 +603,27 @@ uint32_t vmig_remaining(vmig_machine *machine, uint64_t *due, uint64_t *dirty);
  * VMIG_NO_MACHINE, VMIG_NOT_BEGUN. */
 uint32_t vmig_take(vmig_machine *machine, uint8_t *buf, size_t size, size_t *got);
 
-/* A machine will arrive over images in your memory: feed its stream by vmig_feed from here on. There is one image for each of its
- * block devices, in their order, of as many sectors, else a piece is VMIG_STREAM_SHAPE_MISMATCH before a sector is written;
- * vmig_stream_device tells the sizes before. VMIG_OK takes the images: each of the slots is VMIG_NO_IMAGE then, and vmig_unmap
- * gives them back, also of a stream that was refused or is not whole. At every other status nothing changed.
- * VMIG_IN_USE, then VMIG_NO_MEMORY, and no others. */
-uint32_t vmig_arrive_mapped(vmig_image *images, size_t count_images, vmig_machine *machine);
+/* A machine will arrive within the limits and in the memory that the arrival names: feed its stream by vmig_feed from here on. A
+ * stream that announces more pages, or more sectors in all its disks together, is VMIG_STREAM_TOO_LARGE with the piece that
+ * completes its header, before memory is taken for RAM or disks; it stays refused then. One whose disks are not as many, or as
+ * large, as the images is VMIG_STREAM_SHAPE_MISMATCH before a sector is written, and one of another number of pages than RAM of
+ * yours has is VMIG_STREAM_NO_MEMORY before a page is written; vmig_stream_size and vmig_stream_device tell these before.
+ * VMIG_OK takes RAM and images that it names: arrival->ram is VMIG_NO_RAM then, and each of the images VMIG_NO_IMAGE, and
+ * vmig_unmap gives the images back, also of a stream that was refused or is not whole. At every other status nothing changed. The
+ * rest of *arrival is as it was in any case.
+ * VMIG_IN_USE, then VMIG_NOT_KNOWN, then VMIG_BAD_RAM, then VMIG_NO_MEMORY, and no others. */
+uint32_t vmig_arrive(vmig_arrival *arrival, vmig_machine *machine);
 
-/* As vmig_arrive_mapped, and RAM is to be the memory of *ram: the pages go straight there, and what it held is written over. If
- * count_images is 0 the machine has no disk. A stream of another number of pages is VMIG_STREAM_NO_MEMORY before a page is
- * written; vmig_stream_size tells the number before. VMIG_OK takes the memory and the images: *ram is VMIG_NO_RAM then. At every
- * other status nothing changed.
- * VMIG_IN_USE, then VMIG_BAD_RAM, then VMIG_NO_MEMORY, and no others. */
-uint32_t vmig_arrive_over(vmig_ram *ram, vmig_image *images, size_t count_images, vmig_machine *machine);
-
-/* The next bytes of a stream arrive, in pieces of any size. On a handle of no machine one begins to arrive. VMIG_OK says that
- * the bytes so far have no fault; a piece that brings one is refused, and the stream with it: each later vmig_feed and
- * vmig_finish is VMIG_STREAM_FAILED, until vmig_free or, over images, vmig_unmap. A stream can ask for as much memory as with
- * vmig_receive.
+/* The next bytes of a stream arrive, in pieces of any size. On a handle of no machine one begins to arrive, without limits.
+ * VMIG_OK says that the bytes so far have no fault; a piece that brings one is refused, and the stream with it: each later
+ * vmig_feed and vmig_finish is VMIG_STREAM_FAILED, until vmig_free or, over images, vmig_unmap. Without limits a stream can ask
+ * for as much memory as with vmig_receive.
  * VMIG_NO_MEMORY comes with the first piece alone, and changes nothing.
  * VMIG_IN_USE, VMIG_NO_MEMORY, or a VMIG_STREAM status. */
 uint32_t vmig_feed(vmig_machine *machine, const uint8_t *bytes, size_t len);
 
 /* All bytes have arrived: the handle has the machine, which is not being sent, with RAM and disks in memory of the library, or in
- * the memory and the images of vmig_arrive_mapped or vmig_arrive_over. An incomplete stream is refused, as by vmig_feed.
+ * the memory and the images of vmig_arrive. An incomplete stream is refused, as by vmig_feed.
  * VMIG_NO_MACHINE, VMIG_IN_USE, VMIG_STREAM_TRUNCATED, VMIG_STREAM_NO_MEMORY, VMIG_STREAM_FAILED. */
 uint32_t vmig_finish(vmig_machine *machine);
 

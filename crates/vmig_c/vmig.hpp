@@ -18,13 +18,14 @@ enum class [[nodiscard]] status : std::uint32_t {
     moving = VMIG_MOVING, not_mapped = VMIG_NOT_MAPPED, bad_images = VMIG_BAD_IMAGES, not_begun = VMIG_NOT_BEGUN,
     begun_already = VMIG_BEGUN_ALREADY, read_failed = VMIG_READ_FAILED, writer_failed = VMIG_WRITER_FAILED,
     stopped = VMIG_STOPPED, no_round_left = VMIG_NO_ROUND_LEFT, lent = VMIG_LENT, not_lent = VMIG_NOT_LENT,
-    not_over = VMIG_NOT_OVER, bad_ram = VMIG_BAD_RAM, stream_bad_magic = VMIG_STREAM_BAD_MAGIC,
+    not_over = VMIG_NOT_OVER, bad_ram = VMIG_BAD_RAM, not_known = VMIG_NOT_KNOWN, stream_bad_magic = VMIG_STREAM_BAD_MAGIC,
     stream_bad_version = VMIG_STREAM_BAD_VERSION, stream_bad_shape = VMIG_STREAM_BAD_SHAPE,
     stream_shape_mismatch = VMIG_STREAM_SHAPE_MISMATCH, stream_bad_tag = VMIG_STREAM_BAD_TAG,
     stream_bad_page = VMIG_STREAM_BAD_PAGE, stream_bad_sector = VMIG_STREAM_BAD_SECTOR,
     stream_bad_round = VMIG_STREAM_BAD_ROUND, stream_bad_device = VMIG_STREAM_BAD_DEVICE,
     stream_bad_digest = VMIG_STREAM_BAD_DIGEST, stream_missing = VMIG_STREAM_MISSING, stream_trailing = VMIG_STREAM_TRAILING,
     stream_truncated = VMIG_STREAM_TRUNCATED, stream_no_memory = VMIG_STREAM_NO_MEMORY, stream_failed = VMIG_STREAM_FAILED,
+    stream_too_large = VMIG_STREAM_TOO_LARGE,
     out_byte = VMIG_OUT_BYTE, idle = VMIG_IDLE, taken = VMIG_TAKEN, moved = VMIG_MOVED, bad_sector = VMIG_BAD_SECTOR,
     disk_failed = VMIG_DISK_FAILED, completed = VMIG_COMPLETED, sent = VMIG_SENT, dropped = VMIG_DROPPED,
     needs_reset = VMIG_NEEDS_RESET, page = VMIG_PAGE, sector = VMIG_SECTOR, round_done = VMIG_ROUND_DONE,
@@ -81,18 +82,7 @@ public:
     {
         return status{vmig_make(pages, shapes, count, &held)};
     }
-    status make_with(std::uint32_t pages, const vmig_shape *shapes, std::size_t count, const std::uint8_t *images, std::size_t len)
-    {
-        return status{vmig_make_with(pages, shapes, count, images, len, &held)};
-    }
-    status make_mapped(std::uint32_t pages, const vmig_shape *shapes, std::size_t count, vmig_image *images, std::size_t count_images)
-    {
-        return status{vmig_make_mapped(pages, shapes, count, images, count_images, &held)};
-    }
-    status make_over(vmig_ram *ram, const vmig_shape *shapes, std::size_t count, vmig_image *images, std::size_t count_images)
-    {
-        return status{vmig_make_over(ram, shapes, count, images, count_images, &held)};
-    }
+    status make_as(vmig_setup *setup) { return status{vmig_make_as(setup, &held)}; }
     status unmap(vmig_image *images, std::size_t count) { return status{vmig_unmap(&held, images, count)}; }
     status reg_read(std::uint8_t dev, std::uint32_t off, std::uint8_t width, std::uint32_t *value)
     {
@@ -156,11 +146,7 @@ public:
     status abort() { return status{vmig_abort(&held)}; }
     status remaining(std::uint64_t *due, std::uint64_t *dirty) { return status{vmig_remaining(&held, due, dirty)}; }
     status take(std::uint8_t *buf, std::size_t size, std::size_t *got) { return status{vmig_take(&held, buf, size, got)}; }
-    status arrive_mapped(vmig_image *images, std::size_t count) { return status{vmig_arrive_mapped(images, count, &held)}; }
-    status arrive_over(vmig_ram *ram, vmig_image *images, std::size_t count)
-    {
-        return status{vmig_arrive_over(ram, images, count, &held)};
-    }
+    status arrive(vmig_arrival *arrival) { return status{vmig_arrive(arrival, &held)}; }
     status feed(const std::uint8_t *bytes, std::size_t len) { return status{vmig_feed(&held, bytes, len)}; }
     status finish() { return status{vmig_finish(&held)}; }
     status rounds(std::uint32_t *ended) { return status{vmig_rounds(&held, ended)}; }

@@ -70,7 +70,7 @@ static vmig_machine move(vmig_machine *source, vmig_machine *twin, uint32_t coun
     uint8_t dev = 0;
 
     memset(to, 0xee, LENGTH);
-    expect("arrive", vmig_arrive_mapped(&image, 1, &target), VMIG_OK);
+    expect("arrive", arrive_mapped(&image, 1, &target), VMIG_OK);
     expect("taken", image.sectors, 0);
     expect("begin", vmig_begin(source), VMIG_OK);
     while (vmig_copy(source, &dev, &number) != VMIG_ROUND_DONE) {
@@ -114,7 +114,7 @@ static void refuses(size_t len, uint8_t *at)
 
     memset(at, 0x3c, LENGTH);
     memcpy(held, at, LENGTH);
-    expect("a sector too few", vmig_arrive_mapped(&few, 1, &m), VMIG_OK);
+    expect("a sector too few", arrive_mapped(&few, 1, &m), VMIG_OK);
     expect("is told by the header", vmig_feed(&m, stream, len), VMIG_STREAM_SHAPE_MISMATCH);
     expect("and stays so", vmig_feed(&m, stream, len), VMIG_STREAM_FAILED);
     expect("no machine", vmig_finish(&m), VMIG_STREAM_FAILED);
@@ -122,16 +122,16 @@ static void refuses(size_t len, uint8_t *at)
     expect("its image", vmig_unmap(&m, back, 2), VMIG_OK);
     expect("is back", back[0].at == at && back[0].sectors == SECTORS - 1 && back[1].sectors == 0, 1);
 
-    expect("an image too many", vmig_arrive_mapped(two, 2, &m), VMIG_OK);
+    expect("an image too many", arrive_mapped(two, 2, &m), VMIG_OK);
     expect("is told by the header", vmig_feed(&m, stream, len), VMIG_STREAM_SHAPE_MISMATCH);
     back[0] = (vmig_image)VMIG_NO_IMAGE;
     expect("both", vmig_unmap(&m, back, 2), VMIG_OK);
     expect("are back", back[0].sectors == SECTORS - 1 && back[1].sectors == 1, 1);
     expect("no sector was written", (uint64_t)memcmp(at, held, LENGTH), 0);
 
-    expect("a stream that is cut", vmig_arrive_mapped(&right, 1, &m), VMIG_OK);
+    expect("a stream that is cut", arrive_mapped(&right, 1, &m), VMIG_OK);
     expect("comes in part", vmig_feed(&m, stream, len - 1), VMIG_OK);
-    expect("in use", vmig_arrive_mapped(&right, 0, &m), VMIG_IN_USE);
+    expect("in use", arrive_mapped(&right, 0, &m), VMIG_IN_USE);
     expect("whose sectors came", (uint64_t)(memcmp(at, held, LENGTH) != 0), 1);
     memcpy(held, at, LENGTH);
     expect("and is no machine", vmig_finish(&m), VMIG_STREAM_TRUNCATED);
@@ -139,7 +139,7 @@ static void refuses(size_t len, uint8_t *at)
     expect("its image", vmig_unmap(&m, &right, 1), VMIG_OK);
     expect("is back", right.at == at && right.sectors == SECTORS, 1);
     expect("nothing is left", m.at == NULL, 1);
-    expect("given up on the way", vmig_arrive_mapped(&right, 1, &m), VMIG_OK);
+    expect("given up on the way", arrive_mapped(&right, 1, &m), VMIG_OK);
     expect("after a part", vmig_feed(&m, stream, len / 2), VMIG_OK);
     vmig_free(&m);
 }
@@ -154,8 +154,8 @@ int main(void)
 
     for (int i = 0; i < 3; i++) ats[i] = mapped_file(&files[i]);
     vmig_image first = {ats[0], SECTORS}, other = {ats[2], SECTORS};
-    expect("make", vmig_make_mapped(PAGES, SHAPES, 2, &first, 1, &m), VMIG_OK);
-    expect("make", vmig_make_mapped(PAGES, SHAPES, 2, &other, 1, &twin), VMIG_OK);
+    expect("make", make_mapped(PAGES, SHAPES, 2, &first, 1, &m), VMIG_OK);
+    expect("make", make_mapped(PAGES, SHAPES, 2, &other, 1, &twin), VMIG_OK);
     set_up(&m, 1);
     set_up(&twin, 1);
     write_sector(&m, 1, 7, 1);

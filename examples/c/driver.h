@@ -24,6 +24,46 @@ static inline int ended(const char *name)
     return failures != 0;
 }
 
+/* A machine over disks that hold the contents; over images; and over RAM of the program, with images or none. */
+static inline uint32_t make_with(uint32_t pages, const vmig_shape *shapes, size_t count, const uint8_t *contents, size_t len, vmig_machine *m)
+{
+    vmig_setup setup = VMIG_SETUP;
+    setup.pages = pages, setup.shapes = shapes, setup.count = count, setup.contents = contents, setup.len = len;
+    return vmig_make_as(&setup, m);
+}
+
+static inline uint32_t make_mapped(uint32_t pages, const vmig_shape *shapes, size_t count, vmig_image *images, size_t count_images, vmig_machine *m)
+{
+    vmig_setup setup = VMIG_SETUP;
+    setup.pages = pages, setup.shapes = shapes, setup.count = count, setup.images = images, setup.count_images = count_images;
+    return vmig_make_as(&setup, m);
+}
+
+static inline uint32_t make_over(vmig_ram *ram, const vmig_shape *shapes, size_t count, vmig_image *images, size_t count_images, vmig_machine *m)
+{
+    vmig_setup setup = VMIG_SETUP;
+    setup.shapes = shapes, setup.count = count, setup.images = images, setup.count_images = count_images, setup.ram = *ram;
+    uint32_t status = vmig_make_as(&setup, m);
+    *ram = setup.ram;
+    return status;
+}
+
+/* A machine will arrive over images; and in RAM of the program, with images or none. */
+static inline uint32_t arrive_over(vmig_ram *ram, vmig_image *images, size_t count_images, vmig_machine *m)
+{
+    vmig_arrival arrival = VMIG_ARRIVAL;
+    arrival.images = images, arrival.count_images = count_images, arrival.ram = *ram;
+    uint32_t status = vmig_arrive(&arrival, m);
+    *ram = arrival.ram;
+    return status;
+}
+
+static inline uint32_t arrive_mapped(vmig_image *images, size_t count_images, vmig_machine *m)
+{
+    vmig_ram none = VMIG_NO_RAM;
+    return arrive_over(&none, images, count_images, m);
+}
+
 static inline uint32_t read_reg_of(vmig_machine *m, uint8_t dev, uint32_t off)
 {
     uint32_t value = 0xdeadbeef;

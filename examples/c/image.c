@@ -68,12 +68,12 @@ int main(void)
 
     for (size_t i = 0; i < sizeof images; i++) images[i] = (uint8_t)(i / SECTOR * 40 + i % 37);
     memset(written, 0x5a, sizeof written);
-    expect("a byte too few", vmig_make_with(16, shapes, 3, images, sizeof images - 1, &m), VMIG_BAD_IMAGES);
-    expect("a sector too few", vmig_make_with(16, shapes, 3, images, sizeof images - SECTOR, &m), VMIG_BAD_IMAGES);
-    expect("no pages", vmig_make_with(0, shapes, 3, images, 0, &m), VMIG_BAD_SHAPE);
-    expect("make", vmig_make_with(16, shapes, 3, images, sizeof images, &m), VMIG_OK);
-    expect("made already", vmig_make_with(16, shapes, 3, images, 0, &m), VMIG_IN_USE);
-    expect("no disk, no image", vmig_make_with(1, diskless, 1, images, 0, &other), VMIG_OK);
+    expect("a byte too few", make_with(16, shapes, 3, images, sizeof images - 1, &m), VMIG_BAD_IMAGES);
+    expect("a sector too few", make_with(16, shapes, 3, images, sizeof images - SECTOR, &m), VMIG_BAD_IMAGES);
+    expect("no pages", make_with(0, shapes, 3, images, 1, &m), VMIG_BAD_SHAPE);
+    expect("make", make_with(16, shapes, 3, images, sizeof images, &m), VMIG_OK);
+    expect("made already", make_with(16, shapes, 3, images, 1, &m), VMIG_IN_USE);
+    expect("no disk, no image", make_with(1, diskless, 1, images, 0, &other), VMIG_OK);
     holds_all(&m, 0, FIRST, images);
     holds_all(&m, 2, SECOND, images + FIRST * SECTOR);
     refuses(&m);

@@ -300,7 +300,7 @@ static int move(struct host *h)
     uint64_t pages = 77, sectors = 77;
     uint32_t round = 77;
 
-    expect("arrive", vmig_arrive_over(&ram, &image, 1, &target), VMIG_OK);
+    expect("arrive", arrive_over(&ram, &image, 1, &target), VMIG_OK);
     expect("all is taken", ram.at == NULL && ram.len == 0 && image.sectors == 0, 1);
     expect("begin", vmig_begin(&h->machine), VMIG_OK);
     send_round(h, &target);
@@ -339,9 +339,9 @@ static void make(struct host *h)
 
     for (size_t i = HEAP * PAGE; i < RAM; i++) rooms[0][i] = (uint8_t)draw(256);
     for (size_t i = 0; i < DISK; i++) disks[0][i] = twin_disk[i] = (uint8_t)draw(256);
-    expect("make the twin", vmig_make_mapped(PAGES, SHAPES, DEVICES, &twin_image, 1, &h->twin), VMIG_OK);
+    expect("make the twin", make_mapped(PAGES, SHAPES, DEVICES, &twin_image, 1, &h->twin), VMIG_OK);
     for (uint32_t at = 0; at < RAM; at += PAGE) expect("handed", vmig_ram_write(&h->twin, at, rooms[0] + at, PAGE), VMIG_OK);
-    expect("make", vmig_make_over(&ram, SHAPES, DEVICES, &image, 1, &h->machine), VMIG_OK);
+    expect("make", make_over(&ram, SHAPES, DEVICES, &image, 1, &h->machine), VMIG_OK);
     expect("all is taken", ram.at == NULL && ram.len == 0 && image.sectors == 0, 1);
     set_up_all(&h->machine);
     set_up_all(&h->twin);

@@ -63,7 +63,7 @@ static void make(host *h)
     h->ram = (vmig_ram){calloc(PAGES, PAGE), (size_t)PAGES * PAGE};
     h->copy = calloc(PAGES, PAGE);
     if (h->ram.at == NULL || h->copy == NULL) exit(2);
-    expect("make over", vmig_make_over(&h->ram, shapes, 1, NULL, 0, &h->over), VMIG_OK);
+    expect("make over", make_over(&h->ram, shapes, 1, NULL, 0, &h->over), VMIG_OK);
     expect("make", vmig_make(PAGES, shapes, 1, &h->mirrored), VMIG_OK);
     expect("versions", vmig_pull(&h->mirrored, h->copy, (size_t)PAGES * PAGE, h->seen, PAGES, &(uint32_t){0}), VMIG_OK);
 }

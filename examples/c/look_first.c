@@ -1,10 +1,11 @@
-/* A host that accepts machines from a network looks at the first bytes of a stream before it takes memory for one, and refuses what it
- * does not expect. What arrived then says what it is. */
+/* A host that accepts machines from a network says the most that it expects, or looks at the first bytes of a stream itself, and what it
+ * does not expect is refused before memory is taken for it. What arrived then says what it is. What is taken is counted by a malloc of
+ * this program, before the C library's. */
 #include <stdlib.h>
 #include <string.h>
 #include "driver.h"
 
-enum { PAGES = 4, SECTORS = 2 };
+enum { PAGES = 4, SECTORS = 2, MOST_PAGES = (4 << 20) / 4096, MOST_SECTORS = (1 << 20) / 512 };
 
 static const vmig_shape EXPECTED[] = {
     {.kind = VMIG_NETWORK, .mac = {2, 0, 0, 0, 0, 1}},
@@ -13,6 +14,43 @@ static const vmig_shape EXPECTED[] = {
     {.kind = VMIG_ENTROPY},
 };
 enum { COUNT = sizeof EXPECTED / sizeof EXPECTED[0] };
+
+/* The C library's own allocator, under the names that it keeps for a program with its own malloc. */
+void *__libc_malloc(size_t size);
+void *__libc_calloc(size_t count, size_t size);
+void *__libc_realloc(void *at, size_t size);
+void __libc_free(void *at);
+
+static size_t taken, largest;   /* all bytes that were asked for, and the most at once */
+
+static void count_in(size_t size)
+{
+    taken += size;
+    if (size > largest) largest = size;
+}
+
+void *malloc(size_t size)
+{
+    count_in(size);
+    return __libc_malloc(size);
+}
+
+void *calloc(size_t count, size_t size)
+{
+    count_in(count * size);
+    return __libc_calloc(count, size);
+}
+
+void *realloc(void *old, size_t size)
+{
+    count_in(size);
+    return __libc_realloc(old, size);
+}
+
+void free(void *at)
+{
+    __libc_free(at);
+}
 
 static void expect_shape(const char *what, const vmig_shape *got, const vmig_shape *wanted)
 {
@@ -53,11 +91,45 @@ static void ask_for_more(const uint8_t *stream, size_t header_len)
     expect("the shape then", shape.kind, 77);
 }
 
+/* What this host expects: at most 4 MiB of RAM, and 1 MiB of all disks together. */
+static vmig_arrival expected_at_most(void)
+{
+    vmig_arrival arrival = VMIG_ARRIVAL;
+
+    arrival.most_pages = MOST_PAGES;
+    arrival.most_sectors = MOST_SECTORS;
+    return arrival;
+}
+
+/* It is fed the header of a larger machine, in pieces of this length, and refuses it in each kind of memory. */
+static void is_too_large(const uint8_t *header, size_t len, size_t piece, uint8_t *disk, uint8_t *room)
+{
+    vmig_machine m = VMIG_NONE;
+    vmig_image image = {disk, disk != NULL ? MOST_SECTORS : 0};
+    vmig_arrival arrival = expected_at_most();
+    uint32_t status = VMIG_OK;
+    size_t at = 0;
+
+    arrival.images = &image, arrival.count_images = disk != NULL;
+    arrival.ram = (vmig_ram){room, room != NULL ? 4 << 20 : 0};
+    expect("arrive", vmig_arrive(&arrival, &m), VMIG_OK);
+    taken = largest = 0;
+    for (; status == VMIG_OK && at < len; at += piece) status = vmig_feed(&m, header + at, len - at < piece ? len - at : piece);
+    expect("a large one", status, VMIG_STREAM_TOO_LARGE);
+    expect("is refused at the end of its header", at >= len, 1);
+    if (piece >= len) expect("with little memory", taken < 4096, 1);
+    else expect("with the receiver's buffer at most", largest < 132 << 10, 1);
+    expect("for good", vmig_feed(&m, header, len), VMIG_STREAM_FAILED);
+    if (disk != NULL) expect("the image", vmig_unmap(&m, &image, 1), VMIG_OK);
+    vmig_free(&m);
+}
+
 /* A peer asks for 64 MiB and sixteen disks of 1 GiB: the host sees it in the header, and nothing was taken. */
 static void refuse_a_large_one(void)
 {
     static const uint8_t front[] = {'V', 'M', 'I', 'G', 2, 0, 0, 0, 0, 0x40, 0, 0, 16, 0, 0, 0};
     static const uint8_t disk[30] = {2, 0, 0, 0x20, 0, 0, 0, 0, 0};
+    static uint8_t sectors[1 << 20], room[4 << 20];
     uint8_t header[sizeof front + 16 * sizeof disk];
     uint32_t pages = 0, devices = 0;
     vmig_shape shape;
@@ -70,6 +142,11 @@ static void refuse_a_large_one(void)
     expect("its last disk", vmig_stream_device(header, sizeof header, 15, &shape), VMIG_OK);
     expect("the sectors of it", shape.sectors, 2097152);
     expect("expected", (uint64_t)is_expected(header, sizeof header), 0);
+    for (size_t piece = 1; piece <= 1000; piece += 37) {
+        is_too_large(header, sizeof header, piece, NULL, NULL);
+        is_too_large(header, sizeof header, piece, sectors, NULL);
+        is_too_large(header, sizeof header, piece, sectors, room);
+    }
     header[8] = 1;
     expect("too large", vmig_stream_size(header, sizeof header, &pages, &devices), VMIG_STREAM_BAD_SHAPE);
     header[4] = 3;

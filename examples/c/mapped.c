@@ -84,10 +84,10 @@ static void refuses(const vmig_shape *shapes, uint8_t *at)
     vmig_machine m = VMIG_NONE;
     vmig_image few = {at, SECTORS - 1}, right = {at, SECTORS}, none = VMIG_NO_IMAGE;
 
-    expect("a sector too few", vmig_make_mapped(16, shapes, 2, &few, 1, &m), VMIG_BAD_IMAGES);
-    expect("no image", vmig_make_mapped(16, shapes, 2, &none, 1, &m), VMIG_BAD_IMAGES);
-    expect("no slot", vmig_make_mapped(16, shapes, 2, &right, 0, &m), VMIG_BAD_IMAGES);
-    expect("no pages", vmig_make_mapped(0, shapes, 2, &right, 1, &m), VMIG_BAD_SHAPE);
+    expect("a sector too few", make_mapped(16, shapes, 2, &few, 1, &m), VMIG_BAD_IMAGES);
+    expect("no image", make_mapped(16, shapes, 2, &none, 1, &m), VMIG_BAD_IMAGES);
+    expect("a slot too many", make_mapped(16, shapes, 2, (vmig_image[]){right, VMIG_NO_IMAGE}, 2, &m), VMIG_BAD_IMAGES);
+    expect("no pages", make_mapped(0, shapes, 2, &right, 1, &m), VMIG_BAD_SHAPE);
     expect("nothing taken", right.sectors, SECTORS);
     expect("and where it was", right.at == at, 1);
 }
@@ -113,9 +113,9 @@ static void runs(const vmig_shape *shapes, uint8_t *at, const uint8_t *written)
     vmig_image image = {at, SECTORS};
     uint8_t got[SECTOR];
 
-    expect("make", vmig_make_mapped(16, shapes, 2, &image, 1, &m), VMIG_OK);
+    expect("make", make_mapped(16, shapes, 2, &image, 1, &m), VMIG_OK);
     expect("taken", image.sectors, 0);
-    expect("made already", vmig_make_mapped(16, shapes, 2, &image, 1, &m), VMIG_IN_USE);
+    expect("made already", make_mapped(16, shapes, 2, &image, 1, &m), VMIG_IN_USE);
     expect("sector", vmig_sector_read(&m, 0, 1, got, sizeof got), VMIG_OK);
     expect("of the file", got[0], 41);
     is_durable(&m, written, at);
@@ -139,8 +139,8 @@ static void gives_two_back(uint8_t *at)
     uint8_t dev = 0;
     uint32_t number = 0;
 
-    expect("another order", vmig_make_mapped(1, shapes, 3, turned, 2, &m), VMIG_BAD_IMAGES);
-    expect("make", vmig_make_mapped(1, shapes, 3, images, 2, &m), VMIG_OK);
+    expect("another order", make_mapped(1, shapes, 3, turned, 2, &m), VMIG_BAD_IMAGES);
+    expect("make", make_mapped(1, shapes, 3, images, 2, &m), VMIG_OK);
     expect("begin", vmig_begin(&m), VMIG_OK);
     expect("copy", vmig_copy(&m, &dev, &number), VMIG_PAGE);
     expect("too few slots", vmig_unmap(&m, images, 1), VMIG_TOO_SMALL);

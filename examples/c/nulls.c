@@ -9,13 +9,15 @@ static void making(void)
     uint32_t number = 77;
 
     expect("make", vmig_make(1, NULL, 0, &m), VMIG_BAD_SHAPE);
-    expect("make with", vmig_make_with(1, NULL, 0, NULL, 0, &m), VMIG_BAD_SHAPE);
-    expect("make with no image", vmig_make_with(1, SHAPES, 1, NULL, 0, &m), VMIG_OK);
+    expect("make with", make_with(1, NULL, 0, NULL, 0, &m), VMIG_BAD_SHAPE);
+    expect("make with no image", make_with(1, SHAPES, 1, NULL, 0, &m), VMIG_OK);
     expect("no slot", vmig_unmap(&m, NULL, 0), VMIG_NOT_MAPPED);
     vmig_free(&m);
-    expect("make mapped", vmig_make_mapped(1, NULL, 0, NULL, 0, &m), VMIG_BAD_SHAPE);
-    expect("make mapped with no image", vmig_make_mapped(1, SHAPES, 1, NULL, 0, &m), VMIG_OK);
-    expect("no slot is wanted", vmig_unmap(&m, NULL, 0), VMIG_OK);
+    expect("make mapped", make_mapped(1, NULL, 0, NULL, 0, &m), VMIG_BAD_SHAPE);
+    expect("make mapped with no image", make_mapped(1, SHAPES, 1, NULL, 0, &m), VMIG_OK);
+    expect("no image was given", vmig_unmap(&m, NULL, 0), VMIG_NOT_MAPPED);
+    vmig_free(&m);
+    expect("all null", vmig_make_as(&(vmig_setup)VMIG_SETUP, &m), VMIG_BAD_SHAPE);
     expect("receive", vmig_receive(NULL, 0, &m, &number), VMIG_STREAM_TRUNCATED);
     expect("rounds", number, 77);
 }
@@ -57,14 +59,14 @@ static void lending(void)
     vmig_machine m = VMIG_NONE;
     vmig_ram ram = {room, sizeof room};
 
-    expect("make over", vmig_make_over(&ram, NULL, 0, NULL, 0, &m), VMIG_BAD_SHAPE);
-    expect("make over with no image", vmig_make_over(&ram, SHAPES, 1, NULL, 0, &m), VMIG_OK);
+    expect("make over", make_over(&ram, NULL, 0, NULL, 0, &m), VMIG_BAD_SHAPE);
+    expect("make over with no image", make_over(&ram, SHAPES, 1, NULL, 0, &m), VMIG_OK);
     expect("lend", vmig_lend(&m, &ram), VMIG_OK);
     expect("no word", vmig_give_back_marked(&m, &ram, NULL, 0), VMIG_TOO_SMALL);
     expect("no page", vmig_give_back(&m, &ram, NULL, 0), VMIG_OK);
     vmig_free(&m);
     ram = (vmig_ram){room, sizeof room};
-    expect("arrive over no image", vmig_arrive_over(&ram, NULL, 0, &m), VMIG_OK);
+    expect("arrive over no image", arrive_over(&ram, NULL, 0, &m), VMIG_OK);
     expect("feed", vmig_feed(&m, NULL, 0), VMIG_OK);
     expect("no slot is wanted", vmig_unmap(&m, NULL, 0), VMIG_OK);
 }
@@ -80,12 +82,13 @@ static void arriving(void)
     expect("as they were", pages == 77 && devices == 77, 1);
     expect("feed", vmig_feed(&m, NULL, 0), VMIG_OK);
     expect("feed again", vmig_feed(&m, NULL, 0), VMIG_OK);
-    expect("in use", vmig_arrive_mapped(NULL, 0, &m), VMIG_IN_USE);
+    expect("in use", arrive_mapped(NULL, 0, &m), VMIG_IN_USE);
     vmig_free(&m);
-    expect("arrive over no image", vmig_arrive_mapped(NULL, 0, &m), VMIG_OK);
+    expect("arrive over no image", arrive_mapped(NULL, 0, &m), VMIG_OK);
     expect("feed", vmig_feed(&m, NULL, 0), VMIG_OK);
     expect("finish", vmig_finish(&m), VMIG_STREAM_TRUNCATED);
-    expect("no slot is wanted", vmig_unmap(&m, NULL, 0), VMIG_OK);
+    expect("no image was given", vmig_unmap(&m, NULL, 0), VMIG_NO_MACHINE);
+    vmig_free(&m);
 }
 
 int main(void)

@@ -245,22 +245,27 @@ static int feed(vmig_machine *m, const uint8_t *stream, size_t len)
     return 0;
 }
 
-/* A machine will arrive: in this RAM and on this disk, on this disk, or, where both are null, in memory of the library. */
-static void await(vmig_machine *m, uint8_t *room, uint8_t *disk)
+/* A machine will arrive: in this RAM and on this disk, on this disk, or, where both are null, in memory of the library, within limits or
+ * by its first piece alone. */
+static void await(vmig_machine *m, uint8_t *room, uint8_t *disk, int limited)
 {
     vmig_ram ram = {room, PAGES * PAGE};
     vmig_image image = {disk, SECTORS};
 
-    if (room != NULL) CALL_AGAIN("arrive over RAM", vmig_arrive_over(&ram, &image, 1, m), VMIG_OK);
-    else if (disk != NULL) CALL_AGAIN("arrive over an image", vmig_arrive_mapped(&image, 1, m), VMIG_OK);
+    vmig_arrival within = VMIG_ARRIVAL;
+
+    within.most_pages = PAGES, within.most_sectors = SECTORS;
+    if (room != NULL) CALL_AGAIN("arrive over RAM", arrive_over(&ram, &image, 1, m), VMIG_OK);
+    else if (disk != NULL) CALL_AGAIN("arrive over an image", arrive_mapped(&image, 1, m), VMIG_OK);
+    else if (limited) CALL_AGAIN("arrive within limits", vmig_arrive(&within, m), VMIG_OK);
 }
 
 /* A stream that was refused memory stays refused: it is freed, which gives its image back, and fed anew. */
-static void arrive(vmig_machine *m, uint8_t *room, uint8_t *disk, const uint8_t *stream, size_t len)
+static void arrive(vmig_machine *m, uint8_t *room, uint8_t *disk, int limited, const uint8_t *stream, size_t len)
 {
     vmig_image image = VMIG_NO_IMAGE;
 
-    await(m, room, disk);
+    await(m, room, disk, limited);
     if (feed(m, stream, len) == 0) return;
     told++;
     expect("feed after it", CALL(vmig_feed(m, stream, 1)), VMIG_STREAM_FAILED);
@@ -268,7 +273,7 @@ static void arrive(vmig_machine *m, uint8_t *room, uint8_t *disk, const uint8_t 
     expect("its image", CALL(vmig_unmap(m, &image, 1)), disk != NULL ? VMIG_OK : VMIG_NO_MACHINE);
     expect("is back", image.at == disk, 1);
     CALL((vmig_free(m), 0));
-    await(m, room, disk);
+    await(m, room, disk, limited);
     expect("fed anew", (uint64_t)feed(m, stream, len), 0);
 }
 
@@ -311,18 +316,23 @@ static void make_all(void)
     vmig_image slots[] = {{mapped, SECTORS}};
     vmig_ram ram = {room, sizeof room}, rest = {room, sizeof room};
     vmig_machine m = VMIG_NONE, on_images = VMIG_NONE, over = VMIG_NONE;
+    vmig_setup setup = VMIG_SETUP;
 
-    CALL_AGAIN("images", vmig_make_with(PAGES, shapes, DEVICES, images, sizeof images, &m), VMIG_OK);
-    CALL_AGAIN("mapped", vmig_make_mapped(PAGES, shapes, DEVICES, slots, 1, &on_images), VMIG_OK);
+    CALL_AGAIN("images", make_with(PAGES, shapes, DEVICES, images, sizeof images, &m), VMIG_OK);
+    CALL_AGAIN("mapped", make_mapped(PAGES, shapes, DEVICES, slots, 1, &on_images), VMIG_OK);
     alike("both kinds of images", &m, &on_images);
     expect("unmap", CALL(vmig_unmap(&on_images, slots, 1)), VMIG_OK);
     expect("the image is back", (uint64_t)(slots[0].at == mapped), 1);
-    CALL_AGAIN("over RAM and an image", vmig_make_over(&ram, shapes, DEVICES, slots, 1, &on_images), VMIG_OK);
+    CALL_AGAIN("over RAM and an image", make_over(&ram, shapes, DEVICES, slots, 1, &on_images), VMIG_OK);
     lend_ram(&on_images);
     alike("over RAM and an image", &m, &on_images);
     CALL((vmig_free(&on_images), 0));
-    CALL_AGAIN("over RAM", vmig_make_over(&rest, shapes, DEVICES, NULL, 0, &over), VMIG_OK);
+    CALL_AGAIN("over RAM", make_over(&rest, shapes, DEVICES, NULL, 0, &over), VMIG_OK);
     alike("over RAM", &m, &over);
+    CALL((vmig_free(&over), 0));
+    setup.shapes = shapes, setup.count = DEVICES, setup.contents = images, setup.len = sizeof images, setup.ram = (vmig_ram){room, sizeof room};
+    CALL_AGAIN("over RAM, with contents", vmig_make_as(&setup, &over), VMIG_OK);
+    alike("over RAM, with contents", &m, &over);
     CALL((vmig_free(&m), vmig_free(&over), 0));
 }
 
@@ -331,7 +341,7 @@ static uint64_t play(uint64_t refused)
 {
     static uint8_t stream[STREAM_MAX], target[DISK], other[DISK], room[PAGES * PAGE];
     vmig_image landed[] = {VMIG_NO_IMAGE};
-    vmig_machine m = VMIG_NONE, copy = VMIG_NONE, twin = VMIG_NONE, over = VMIG_NONE, in_room = VMIG_NONE;
+    vmig_machine m = VMIG_NONE, copy = VMIG_NONE, twin = VMIG_NONE, over = VMIG_NONE, in_room = VMIG_NONE, limited = VMIG_NONE;
     uint32_t rounds;
 
     requests = 0, refused_one = refused, told = 0, given = 0;
@@ -343,21 +353,23 @@ static uint64_t play(uint64_t refused)
         expect("a second migration", (uint64_t)migrate(&m), 0);
     }
     size_t len = take_all(&m, stream);
-    arrive(&copy, NULL, NULL, stream, len);
-    arrive(&over, NULL, target, stream, len);
-    arrive(&in_room, room, other, stream, len);
+    arrive(&copy, NULL, NULL, 0, stream, len);
+    arrive(&limited, NULL, NULL, 1, stream, len);
+    arrive(&over, NULL, target, 0, stream, len);
+    arrive(&in_room, room, other, 0, stream, len);
     if (CALL(vmig_receive(stream, len, &twin, &rounds)) == VMIG_NO_MEMORY) { told++; CALL(vmig_receive(stream, len, &twin, &rounds)); }
     expect("receive", answer, VMIG_OK);
     expect("rounds", rounds, 1);
     expect("abort", CALL(vmig_abort(&m)), VMIG_OK);
     alike("what arrived", &m, &copy);
+    alike("what arrived within limits", &m, &limited);
     alike("what arrived over an image", &m, &over);
     alike("what arrived over RAM", &m, &in_room);
     alike("what was received", &m, &twin);
     expect("unmap", CALL(vmig_unmap(&over, landed, 1)), VMIG_OK);
     expect("the image is back", landed[0].at == target && landed[0].sectors == SECTORS, 1);
     expect("the guest's last write", get(&copy, 0x9000, 1), 0x77);
-    CALL((vmig_free(&m), vmig_free(&copy), vmig_free(&twin), vmig_free(&in_room), 0));
+    CALL((vmig_free(&m), vmig_free(&copy), vmig_free(&limited), vmig_free(&twin), vmig_free(&in_room), 0));
     make_all();
     expect("calls that were refused", (uint64_t)told, refused != 0 && refused <= requests);
     expect("requests that are not freed", (uint64_t)given, 0);

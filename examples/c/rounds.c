@@ -280,7 +280,7 @@ int main(int argc, char **argv)
     clock_alone();
     plain_list(pages + disks * sectors);
     plain_copies(pages);
-    expect("make", vmig_make_mapped(pages, shapes, disks > 0 ? disks : 1, images, disks, &m), VMIG_OK);
+    expect("make", make_mapped(pages, shapes, disks > 0 ? disks : 1, images, disks, &m), VMIG_OK);
     fill(&m, pages);
     if (disks == 0 || !is_long) save_whole(&m, pages);
     move(&m, pages, disks, sectors);

@@ -25,7 +25,7 @@ static vmig_machine in_state(int state)
 
     out = (vmig_ram){room, sizeof room};
     if (state == ARRIVING) expect("a first piece", vmig_feed(&m, stream, 10), VMIG_OK);
-    if (state >= IDLE) expect("make", vmig_make_over(&out, SHAPES, 2, NULL, 0, &m), VMIG_OK);
+    if (state >= IDLE) expect("make", make_over(&out, SHAPES, 2, NULL, 0, &m), VMIG_OK);
     if (state == SENT || state == STOPPED || state == SENT_LENT) expect("begin", vmig_begin(&m), VMIG_OK);
     if (state == STOPPED) expect("stop", vmig_stop(&m, &pages, &sectors), VMIG_OK);
     if (state >= LENT) expect("lend", vmig_lend(&m, &out), VMIG_OK);
@@ -33,15 +33,8 @@ static vmig_machine in_state(int state)
 }
 
 static uint32_t make(vmig_machine *m) { return vmig_make(1, SHAPES, 2, m); }
-static uint32_t make_with(vmig_machine *m) { return vmig_make_with(1, SHAPES, 2, bytes, 512, m); }
-static uint32_t make_mapped(vmig_machine *m)
-{
-    vmig_image none = VMIG_NO_IMAGE;
-    return vmig_make_mapped(1, SHAPES, 1, &none, 0, m);
-}
-static uint32_t make_over(vmig_machine *m) { return vmig_make_over(&(vmig_ram){ram, sizeof ram}, SHAPES, 1, NULL, 0, m); }
-static uint32_t arrive_over(vmig_machine *m) { return vmig_arrive_over(&(vmig_ram){ram, sizeof ram}, NULL, 0, m); }
-static uint32_t arrive_mapped(vmig_machine *m) { vmig_image none = VMIG_NO_IMAGE; return vmig_arrive_mapped(&none, 0, m); }
+static uint32_t make_as(vmig_machine *m) { return make_over(&(vmig_ram){ram, sizeof ram}, SHAPES, 1, NULL, 0, m); }
+static uint32_t arrive(vmig_machine *m) { return arrive_over(&(vmig_ram){ram, sizeof ram}, NULL, 0, m); }
 static uint32_t unmap(vmig_machine *m) { vmig_image slot = VMIG_NO_IMAGE; return vmig_unmap(m, &slot, 1); }
 static uint32_t receive(vmig_machine *m) { uint32_t rounds; return vmig_receive(stream, stream_len, m, &rounds); }
 static uint32_t feed(vmig_machine *m) { return vmig_feed(m, stream, 0); }
@@ -87,12 +80,8 @@ typedef struct {
 
 static const Row ROWS[] = {
     {"vmig_make", make, {VMIG_OK, VMIG_IN_USE, VMIG_IN_USE, VMIG_IN_USE, VMIG_IN_USE, VMIG_IN_USE, VMIG_IN_USE}},
-    {"vmig_make_with", make_with, {VMIG_OK, VMIG_IN_USE, VMIG_IN_USE, VMIG_IN_USE, VMIG_IN_USE, VMIG_IN_USE, VMIG_IN_USE}},
-    {"vmig_make_mapped", make_mapped, {VMIG_OK, VMIG_IN_USE, VMIG_IN_USE, VMIG_IN_USE, VMIG_IN_USE, VMIG_IN_USE, VMIG_IN_USE}},
-    {"vmig_make_over", make_over, {VMIG_OK, VMIG_IN_USE, VMIG_IN_USE, VMIG_IN_USE, VMIG_IN_USE, VMIG_IN_USE, VMIG_IN_USE}},
-    {"vmig_arrive_mapped", arrive_mapped,
-     {VMIG_OK, VMIG_IN_USE, VMIG_IN_USE, VMIG_IN_USE, VMIG_IN_USE, VMIG_IN_USE, VMIG_IN_USE}},
-    {"vmig_arrive_over", arrive_over, {VMIG_OK, VMIG_IN_USE, VMIG_IN_USE, VMIG_IN_USE, VMIG_IN_USE, VMIG_IN_USE, VMIG_IN_USE}},
+    {"vmig_make_as", make_as, {VMIG_OK, VMIG_IN_USE, VMIG_IN_USE, VMIG_IN_USE, VMIG_IN_USE, VMIG_IN_USE, VMIG_IN_USE}},
+    {"vmig_arrive", arrive, {VMIG_OK, VMIG_IN_USE, VMIG_IN_USE, VMIG_IN_USE, VMIG_IN_USE, VMIG_IN_USE, VMIG_IN_USE}},
     {"vmig_receive", receive, {VMIG_OK, VMIG_IN_USE, VMIG_IN_USE, VMIG_IN_USE, VMIG_IN_USE, VMIG_IN_USE, VMIG_IN_USE}},
     {"vmig_feed", feed, {VMIG_OK, VMIG_OK, VMIG_IN_USE, VMIG_IN_USE, VMIG_IN_USE, VMIG_IN_USE, VMIG_IN_USE}},
     {"vmig_finish", finish, {VMIG_NO_MACHINE, VMIG_OK, VMIG_IN_USE, VMIG_IN_USE, VMIG_IN_USE, VMIG_IN_USE, VMIG_IN_USE}},

@@ -101,6 +101,182 @@ static void network(void)
     vmig_free(&m);
 }
 
+/* Both contents and images for one disk: which of them would it be? Nothing is taken. */
+static uint32_t make_both(vmig_machine *m, const uint8_t *sector)
+{
+    static const vmig_shape shapes[] = {{.kind = VMIG_BLOCK, .sectors = 1}};
+    static uint8_t image_bytes[512];
+    vmig_image image = {image_bytes, 1};
+    vmig_setup setup = VMIG_SETUP;
+
+    setup.pages = 1, setup.shapes = shapes, setup.count = 1, setup.contents = sector, setup.len = 512, setup.images = &image, setup.count_images = 1;
+    uint32_t status = vmig_make_as(&setup, m);
+    expect("the image is left", image.at == image_bytes && image.sectors == 1, 1);
+    return status;
+}
+
+/* A struct that asks for what this library does not know is refused, before anything else but a handle that is in use. */
+static void asked_for_more(void)
+{
+    static const uint8_t sector[512];
+    vmig_machine m = VMIG_NONE;
+    vmig_setup setup = VMIG_SETUP, later = VMIG_SETUP;
+    vmig_arrival arrival = VMIG_ARRIVAL, later_arrival = VMIG_ARRIVAL;
+
+    expect("no version", vmig_make_as(&(vmig_setup){.pages = 1}, &m), VMIG_NOT_KNOWN);
+    expect("no version", vmig_arrive(&(vmig_arrival){.most_pages = 1}, &m), VMIG_NOT_KNOWN);
+    later.version = later_arrival.version = 2;
+    expect("a later version", vmig_make_as(&later, &m), VMIG_NOT_KNOWN);
+    expect("a later version", vmig_arrive(&later_arrival, &m), VMIG_NOT_KNOWN);
+    for (size_t i = 0; i < 4; i++) {
+        setup.reserved[i] = arrival.reserved[i] = (uint64_t)1 << 63;
+        expect("a reserved word", vmig_make_as(&setup, &m), VMIG_NOT_KNOWN);
+        expect("a reserved word", vmig_arrive(&arrival, &m), VMIG_NOT_KNOWN);
+        setup.reserved[i] = arrival.reserved[i] = 0;
+    }
+    expect("contents and images", make_both(&m, sector), VMIG_BAD_IMAGES);
+    expect("nothing was made", m.at == NULL, 1);
+    expect("arrive", vmig_arrive(&arrival, &m), VMIG_OK);
+    expect("in use", vmig_make_as(&later, &m), VMIG_IN_USE);
+    expect("in use", vmig_arrive(&later_arrival, &m), VMIG_IN_USE);
+    vmig_free(&m);
+}
+
+/* RAM of this program, of two pages, and the pages that are asked for beside it. */
+static uint32_t make_of(uint32_t pages, vmig_ram *ram, vmig_machine *m)
+{
+    static const vmig_shape shapes[] = {{.kind = VMIG_ENTROPY}};
+    vmig_setup setup = VMIG_SETUP;
+
+    setup.pages = pages, setup.shapes = shapes, setup.count = 1, setup.ram = *ram;
+    uint32_t status = vmig_make_as(&setup, m);
+    *ram = setup.ram;
+    return status;
+}
+
+static void pages_and_ram(void)
+{
+    static uint8_t two[2 * 4096];
+    vmig_machine m = VMIG_NONE;
+    vmig_ram ram = {two, sizeof two};
+    uint32_t pages = 77, devices = 77;
+
+    expect("a page too few", make_of(1, &ram, &m), VMIG_BAD_RAM);
+    expect("a page too many", make_of(3, &ram, &m), VMIG_BAD_RAM);
+    expect("very many", make_of(UINT32_MAX, &ram, &m), VMIG_BAD_RAM);
+    expect("nothing was taken", ram.at == two && ram.len == sizeof two && m.at == NULL, 1);
+    for (uint32_t asked = 0; asked <= 2; asked += 2) {
+        ram = (vmig_ram){two, sizeof two};
+        expect("as many", make_of(asked, &ram, &m), VMIG_OK);
+        expect("taken", ram.at == NULL && ram.len == 0, 1);
+        expect("size", vmig_size(&m, &pages, &devices), VMIG_OK);
+        expect("pages", pages, 2);
+        vmig_free(&m);
+    }
+}
+
+/* RAM of this program, and disks of the library that hold what this program gives. */
+static void contents_over_ram(void)
+{
+    static const vmig_shape shapes[] = {{.kind = VMIG_BLOCK, .sectors = 1}, {.kind = VMIG_CONSOLE}, {.kind = VMIG_BLOCK, .sectors = 2}};
+    static uint8_t page[4096], contents[3 * 512], got[512];
+    vmig_machine m = VMIG_NONE;
+    vmig_setup setup = VMIG_SETUP;
+
+    for (size_t i = 0; i < sizeof contents; i++) contents[i] = (uint8_t)(1 + i / 512 + 16 * (i % 7));
+    page[4095] = 9;
+    setup.shapes = shapes, setup.count = 3, setup.contents = contents, setup.len = sizeof contents - 512, setup.ram = (vmig_ram){page, sizeof page};
+    expect("a sector too few", vmig_make_as(&setup, &m), VMIG_BAD_IMAGES);
+    setup.len = sizeof contents;
+    setup.ram.len = 4095;
+    expect("no whole page", vmig_make_as(&setup, &m), VMIG_BAD_RAM);
+    setup.ram.len = 4096;
+    setup.count = 0;
+    expect("no device", vmig_make_as(&setup, &m), VMIG_BAD_SHAPE);
+    expect("nothing was taken", setup.ram.at == page && setup.ram.len == 4096, 1);
+    setup.count = 3;
+    expect("make", vmig_make_as(&setup, &m), VMIG_OK);
+    expect("taken", setup.ram.at == NULL && setup.ram.len == 0 && setup.len == sizeof contents && setup.contents == contents, 1);
+    expect("its RAM", get(&m, 4095, 1), 9);
+    expect("first disk", vmig_sector_read(&m, 0, 0, got, sizeof got), VMIG_OK);
+    expect("its sector", (uint64_t)memcmp(got, contents, 512), 0);
+    expect("second disk", vmig_sector_read(&m, 2, 1, got, sizeof got), VMIG_OK);
+    expect("its sector", (uint64_t)memcmp(got, contents + 1024, 512), 0);
+    expect("disks of the library", vmig_unmap(&m, NULL, 0), VMIG_NOT_MAPPED);
+    expect("a guest writes", vmig_ram_write(&m, 0, got, 1), VMIG_OK);
+    expect("into this program's memory", page[0], got[0]);
+    vmig_free(&m);
+}
+
+/* The stream of one page and one sector arrives within these limits, over the image and in the RAM, if there are any. It comes in pieces of
+ * this length, and is refused by the one that completes its header, if it is. */
+static void arrives_within(uint32_t pages, uint64_t sectors, uint8_t *disk, uint8_t *room, size_t piece)
+{
+    vmig_machine m = VMIG_NONE;
+    vmig_image image = {disk, disk != NULL};
+    vmig_arrival arrival = VMIG_ARRIVAL;
+    uint32_t wanted = pages >= 1 && sectors >= 1 ? VMIG_OK : VMIG_STREAM_TOO_LARGE, ended = 77;
+    size_t at = 0;
+
+    arrival.most_pages = pages, arrival.most_sectors = sectors, arrival.images = &image, arrival.count_images = disk != NULL;
+    arrival.ram = (vmig_ram){room, room != NULL ? 4096 : 0};
+    expect("arrive", vmig_arrive(&arrival, &m), VMIG_OK);
+    expect("taken", arrival.ram.len + image.sectors, 0);
+    for (; at < stream_len; at += piece) {
+        size_t more = stream_len - at < piece ? stream_len - at : piece;
+        uint32_t status = vmig_feed(&m, stream + at, more);
+        expect("a piece", status, at + more < HEADER_LEN ? VMIG_OK : wanted);
+        if (status != VMIG_OK) break;
+    }
+    if (wanted == VMIG_OK) expect("finish", vmig_finish(&m), VMIG_OK);
+    else {
+        expect("refused for good", vmig_feed(&m, stream, stream_len), VMIG_STREAM_FAILED);
+        expect("and its end", vmig_finish(&m), VMIG_STREAM_FAILED);
+        expect("rounds", vmig_rounds(&m, &ended), VMIG_OK);
+        expect("none", ended, 0);
+        expect("no machine", vmig_size(&m, &ended, &ended), VMIG_NO_MACHINE);
+        expect("in use", vmig_make(1, NULL, 0, &m), VMIG_IN_USE);
+    }
+    if (disk != NULL) expect("its image", vmig_unmap(&m, &image, 1), VMIG_OK);
+    expect("is back", image.at == disk && image.sectors == (disk != NULL), 1);
+    vmig_free(&m);
+}
+
+static void too_large(void)
+{
+    static uint8_t disk[512], room[4096];
+    static const size_t pieces[] = {1, 17, HEADER_LEN - 1, HEADER_LEN, 1000, sizeof stream};
+
+    for (size_t i = 0; i < sizeof pieces / sizeof *pieces; i++)
+        for (uint32_t pages = 0; pages <= 2; pages++)
+            for (uint64_t sectors = 0; sectors <= 2; sectors++) {
+                memset(disk, 0x5a, sizeof disk), memset(room, 0x5a, sizeof room);
+                arrives_within(pages, sectors, NULL, NULL, pieces[i]);
+                arrives_within(pages, sectors, disk, NULL, pieces[i]);
+                if (pages == 0 || sectors == 0) expect("no sector was written", disk[0], 0x5a);
+                arrives_within(pages, sectors, disk, room, pieces[i]);
+                expect("a page was written", room[4095], pages == 0 || sectors == 0 ? 0x5a : 0);
+            }
+}
+
+/* A stream that is no stream at all is refused by its first bytes, within limits too. */
+static void no_stream_within(void)
+{
+    vmig_machine m = VMIG_NONE;
+    vmig_arrival arrival = VMIG_ARRIVAL;
+
+    expect("arrive", vmig_arrive(&arrival, &m), VMIG_OK);
+    expect("three bytes", vmig_feed(&m, (const uint8_t *)"vmi", 3), VMIG_OK);
+    expect("and the fourth", vmig_feed(&m, (const uint8_t *)"g", 1), VMIG_STREAM_BAD_MAGIC);
+    expect("refused for good", vmig_feed(&m, stream, stream_len), VMIG_STREAM_FAILED);
+    vmig_free(&m);
+    expect("arrive", vmig_arrive(&arrival, &m), VMIG_OK);
+    expect("cut off", vmig_feed(&m, stream, HEADER_LEN - 1), VMIG_OK);
+    expect("in its header", vmig_finish(&m), VMIG_STREAM_TRUNCATED);
+    expect("refused for good", vmig_finish(&m), VMIG_STREAM_FAILED);
+    vmig_free(&m);
+}
+
 static void names(void)
 {
     static const uint32_t unknown[] = {6, 16, 32, 46, 63, 81, 255, UINT32_MAX};
@@ -111,7 +287,7 @@ static void names(void)
     expect("name of the last status", (uint64_t)strcmp(vmig_status_name(VMIG_SYNC), "VMIG_SYNC"), 0);
     for (uint32_t status = 0; status < 256; status++)
         if (strncmp(vmig_status_name(status), "VMIG_", 5) == 0) known++;
-    expect("statuses that have a name", known, 57);
+    expect("statuses that have a name", known, 59);
     for (size_t i = 0; i < sizeof unknown / sizeof *unknown; i++)
         expect("no name", (uint64_t)strcmp(vmig_status_name(unknown[i]), "unknown status"), 0);
 }
@@ -120,7 +296,7 @@ static void names(void)
 static uint8_t room[2 * 4096];
 static const vmig_shape over_shapes[] = {{.kind = VMIG_BLOCK, .sectors = 1}};
 
-/* All that vmig_make_over and vmig_arrive_over refuse, in the order of their tests, with the later faults there too. */
+/* All that vmig_make_as and vmig_arrive refuse of RAM and images, in the order of their tests, with the later faults there too. */
 static void making_over(void)
 {
     static uint8_t sector[512];
@@ -129,19 +305,18 @@ static void making_over(void)
     vmig_image few = {sector, 0}, image = {sector, 1};
 
     expect("make", vmig_make(1, over_shapes, 1, &m), VMIG_OK);
-    expect("in use", vmig_make_over(&none, NULL, 0, &few, 1, &m), VMIG_IN_USE);
-    expect("in use", vmig_arrive_over(&none, &few, 1, &m), VMIG_IN_USE);
+    expect("in use", make_over(&none, NULL, 0, &few, 1, &m), VMIG_IN_USE);
+    expect("in use", arrive_over(&none, &few, 1, &m), VMIG_IN_USE);
     vmig_free(&m);
-    expect("no RAM", vmig_make_over(&none, NULL, 0, &few, 1, &m), VMIG_BAD_RAM);
-    expect("no whole page", vmig_make_over(&odd, NULL, 0, &few, 1, &m), VMIG_BAD_RAM);
-    expect("a page too many", vmig_make_over(&large, NULL, 0, &few, 1, &m), VMIG_BAD_RAM);
-    expect("no RAM", vmig_arrive_over(&none, &few, 1, &m), VMIG_BAD_RAM);
-    expect("no whole page", vmig_arrive_over(&odd, &few, 1, &m), VMIG_BAD_RAM);
-    expect("a page too many", vmig_arrive_over(&large, &few, 1, &m), VMIG_BAD_RAM);
-    expect("no device", vmig_make_over(&right, NULL, 0, &few, 1, &m), VMIG_BAD_SHAPE);
-    expect("no sector", vmig_make_over(&right, over_shapes, 1, &few, 1, &m), VMIG_BAD_IMAGES);
+    expect("neither RAM nor pages", make_over(&none, over_shapes, 1, &few, 1, &m), VMIG_BAD_SHAPE);
+    expect("no whole page", make_over(&odd, NULL, 0, &few, 1, &m), VMIG_BAD_RAM);
+    expect("a page too many", make_over(&large, NULL, 0, &few, 1, &m), VMIG_BAD_RAM);
+    expect("no whole page", arrive_over(&odd, &few, 1, &m), VMIG_BAD_RAM);
+    expect("a page too many", arrive_over(&large, &few, 1, &m), VMIG_BAD_RAM);
+    expect("no device", make_over(&right, NULL, 0, &few, 1, &m), VMIG_BAD_SHAPE);
+    expect("no sector", make_over(&right, over_shapes, 1, &few, 1, &m), VMIG_BAD_IMAGES);
     expect("nothing changed", right.at == room && right.len == sizeof room && odd.at == room && m.at == NULL, 1);
-    expect("over an image", vmig_make_over(&right, over_shapes, 1, &image, 1, &m), VMIG_OK);
+    expect("over an image", make_over(&right, over_shapes, 1, &image, 1, &m), VMIG_OK);
     expect("taken", right.at == NULL && right.len == 0 && image.sectors == 0, 1);
     expect("lend", vmig_lend(&m, &right), VMIG_OK);
     expect("is not unmapped", vmig_unmap(&m, &image, 1), VMIG_LENT);
@@ -218,16 +393,16 @@ static void arriving_over(void)
     vmig_image image = {sector, 1};
 
     memset(room, 0x5a, sizeof room);
-    expect("arrive", vmig_arrive_over(&two, &image, 1, &m), VMIG_OK);
+    expect("arrive", arrive_over(&two, &image, 1, &m), VMIG_OK);
     expect("a page too few", vmig_feed(&m, stream, stream_len), VMIG_STREAM_NO_MEMORY);
     expect("refused for good", vmig_feed(&m, stream, stream_len), VMIG_STREAM_FAILED);
     expect("unmap", vmig_unmap(&m, &image, 1), VMIG_OK);
-    expect("arrive", vmig_arrive_over(&one, NULL, 0, &m), VMIG_OK);
+    expect("arrive", arrive_over(&one, NULL, 0, &m), VMIG_OK);
     expect("a disk too many", vmig_feed(&m, stream, stream_len), VMIG_STREAM_SHAPE_MISMATCH);
     vmig_free(&m);
     for (size_t i = 0; i < sizeof room; i++) expect("no page was written", room[i], 0x5a);
     one = (vmig_ram){room, 4096};
-    expect("arrive", vmig_arrive_over(&one, &image, 1, &m), VMIG_OK);
+    expect("arrive", arrive_over(&one, &image, 1, &m), VMIG_OK);
     expect("feed", vmig_feed(&m, stream, stream_len), VMIG_OK);
     expect("finish", vmig_finish(&m), VMIG_OK);
     expect("its page of zeros", room[0] + room[4095], 0);
@@ -241,7 +416,7 @@ static void loans(void)
     vmig_ram ram = {room, sizeof room};
 
     making_over();
-    expect("make over", vmig_make_over(&ram, over_shapes, 1, NULL, 0, &m), VMIG_OK);
+    expect("make over", make_over(&ram, over_shapes, 1, NULL, 0, &m), VMIG_OK);
     lending(&m);
     giving_back(&m);
     vmig_free(&m);
@@ -278,10 +453,10 @@ static void loans_without_memory(void)
     vmig_ram ram = {room, 4096}, rest = {room + 4096, 4096};
     void *all;
 
-    expect("make over", vmig_make_over(&ram, over_shapes, 1, NULL, 0, &m), VMIG_OK);
+    expect("make over", make_over(&ram, over_shapes, 1, NULL, 0, &m), VMIG_OK);
     all = take_all();
-    expect("another", vmig_make_over(&rest, over_shapes, 1, NULL, 0, &other), VMIG_NO_MEMORY);
-    expect("one that arrives", vmig_arrive_over(&rest, NULL, 0, &other), VMIG_NO_MEMORY);
+    expect("another", make_over(&rest, over_shapes, 1, NULL, 0, &other), VMIG_NO_MEMORY);
+    expect("one that arrives", arrive_over(&rest, NULL, 0, &other), VMIG_NO_MEMORY);
     expect("lend takes none", vmig_lend(&m, &ram), VMIG_OK);
     expect("a bitmap", vmig_give_back_marked(&m, &ram, words, 1), VMIG_NO_MEMORY);
     expect("all pages", vmig_give_back_all(&m, &ram), VMIG_NO_MEMORY);
@@ -290,7 +465,7 @@ static void loans_without_memory(void)
     give_all(all);
     expect("lend", vmig_lend(&m, &ram), VMIG_OK);
     expect("all pages", vmig_give_back_all(&m, &ram), VMIG_OK);
-    expect("one that arrives", vmig_arrive_over(&rest, NULL, 0, &other), VMIG_OK);
+    expect("one that arrives", arrive_over(&rest, NULL, 0, &other), VMIG_OK);
     vmig_free(&other);
     vmig_free(&m);
 }
@@ -332,6 +507,11 @@ int main(void)
 {
     streams();
     network();
+    asked_for_more();
+    pages_and_ram();
+    contents_over_ram();
+    too_large();
+    no_stream_within();
     names();
     loans();
     memory();

@@ -52,7 +52,11 @@ machine console_that_prints(const char (&text)[6])
                                       {0x080, 0x1000}, {0x090, 0x2000}, {0x0a0, 0x3000}, {0x044, 1}, {0x070, 0xf}};
     machine m;
 
-    expect("make", m.make(16, &shape, 1), status::ok);
+    vmig_setup asked = VMIG_SETUP;
+    asked.version = 2;
+    expect("a setup of another version", m.make_as(&asked), status::not_known);
+    asked.version = 1, asked.pages = 16, asked.shapes = &shape, asked.count = 1;
+    expect("make", m.make_as(&asked), status::ok);
     for (const auto &step : setup) write(m, step[0], step[1]);
     store(m, 0x1000, descriptor);
     store(m, 0x2000, available);
@@ -85,13 +89,19 @@ std::vector<std::uint8_t> stream_of(machine &m)
 void lends(const std::vector<std::uint8_t> &stream)
 {
     std::vector<std::uint8_t> memory(16 * 4096);
-    vmig_ram ram = {memory.data(), memory.size()};
+    vmig_arrival arrival = VMIG_ARRIVAL, small = VMIG_ARRIVAL;
     const std::uint32_t pages[] = {4, 16};
     const std::uint64_t words[] = {1u << 4};
     machine m;
     lent loan;
 
-    expect("arrive", m.arrive_over(&ram, nullptr, 0), status::ok);
+    small.most_pages = 15;
+    expect("a page fewer", m.arrive(&small), status::ok);
+    expect("too large", m.feed(stream.data(), stream.size()), status::stream_too_large);
+    m.free();
+    arrival.ram = {memory.data(), memory.size()};
+    expect("arrive", m.arrive(&arrival), status::ok);
+    expect("taken", arrival.ram.at == nullptr && arrival.ram.len == 0);
     expect("feed", m.feed(stream.data(), stream.size()), status::ok);
     expect("finish", m.finish(), status::ok);
     expect("lend", std::move(m).lend(&loan), status::ok);

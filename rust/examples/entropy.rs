@@ -118,6 +118,13 @@ fn main() -> Result<(), Error> {
     assert_eq!(announced(&stream[..16])?, None);
     machine.write_ram(0x5000, &[0; 3])?;
 
+    let mut small = Arrival::within(15, 0)?;
+    assert_eq!(small.feed(&stream), Err(Error::StreamTooLarge));
+    assert_eq!(small.feed(&stream), Err(Error::StreamFailed));
+    let mut right = Arrival::within(16, 0)?;
+    right.feed(&stream)?;
+    assert_eq!(right.finish()?.size(), (16, 1));
+
     // It may go to another thread.
     let mut arrived = std::thread::spawn(|| send(machine)).join().expect("no panic")?;
     assert_eq!(arrived.size(), (16, 1));

@@ -5,7 +5,6 @@ use crate::error::{Error, Refused, done};
 use crate::machine::Machine;
 use crate::memory::Memory;
 use crate::raw;
-use std::ptr;
 
 /// What the first bytes of a stream announce.
 #[derive(Clone, Debug, PartialEq, Eq)]
@@ -43,11 +42,22 @@ impl Arrival {
         Arrival { machine: Machine { held: raw::NONE, memory: None } }
     }
 
+    /// As `new`, of a machine with at most this number of pages of RAM, and of sectors of all its disks together. A larger one is refused by the piece
+    /// that completes its header, before memory is taken for RAM or disks.
+    pub fn within(most_pages: u32, most_sectors: u64) -> Result<Arrival, Error> {
+        let mut held = raw::NONE;
+        let mut arrival = raw::Arrival { most_pages, most_sectors, ..raw::ARRIVAL };
+        // SAFETY: the handle is of no machine.
+        done(unsafe { raw::vmig_arrive(&mut arrival, &mut held) })?;
+        Ok(Arrival { machine: Machine { held, memory: None } })
+    }
+
     /// As `new`, of a machine without disks, whose RAM will be this memory. Another one is refused by the piece that shows it.
     pub fn over(mut memory: Memory) -> Result<Arrival, Refused<Memory>> {
-        let (mut held, mut ram) = (raw::NONE, memory.slot());
+        let mut held = raw::NONE;
+        let mut arrival = raw::Arrival { ram: memory.slot(), ..raw::ARRIVAL };
         // SAFETY: the handle is of no machine, and the bytes of the memory are the machine's until it is freed.
-        match done(unsafe { raw::vmig_arrive_over(&mut ram, ptr::null_mut(), 0, &mut held) }) {
+        match done(unsafe { raw::vmig_arrive(&mut arrival, &mut held) }) {
             Ok(_) => Ok(Arrival { machine: Machine { held, memory: Some(memory) } }),
             Err(error) => Err(Refused { error, value: memory }),
         }

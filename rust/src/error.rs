@@ -80,6 +80,9 @@ pub enum Error {
     /// The memory is not 1 to 16,384 whole pages, or not as long as what was lent.
     BadRam = raw::BAD_RAM,
 
+    /// The library does not know what is asked for: it is older than this crate.
+    NotKnown = raw::NOT_KNOWN,
+
     /// The stream does not begin as one.
     StreamBadMagic = raw::STREAM_BAD_MAGIC,
 
@@ -124,6 +127,9 @@ pub enum Error {
 
     /// The stream was refused before.
     StreamFailed = raw::STREAM_FAILED,
+
+    /// The machine that the stream announces is larger than was allowed.
+    StreamTooLarge = raw::STREAM_TOO_LARGE,
 }
 
 /// Each error with its text.
@@ -152,6 +158,7 @@ const TEXTS: &[(Error, &str)] = &[
     (Error::NotLent, "the RAM is not lent"),
     (Error::NotOver, "the RAM lies in memory of the library"),
     (Error::BadRam, "the memory is not 1 to 16,384 whole pages, or not as long as what was lent"),
+    (Error::NotKnown, "the library is older than this crate"),
     (Error::StreamBadMagic, "the stream does not begin as one"),
     (Error::StreamBadVersion, "the stream has an unknown version"),
     (Error::StreamBadShape, "the machine of the stream is beyond the limits"),
@@ -167,6 +174,7 @@ const TEXTS: &[(Error, &str)] = &[
     (Error::StreamTruncated, "the stream is cut off"),
     (Error::StreamNoMemory, "memory was refused for what arrives"),
     (Error::StreamFailed, "the stream was refused before"),
+    (Error::StreamTooLarge, "the machine of the stream is larger than was allowed"),
 ];
 
 impl Error {

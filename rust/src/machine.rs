@@ -4,7 +4,6 @@ use crate::device::Device;
 use crate::error::{Error, Refused, done};
 use crate::memory::Memory;
 use crate::raw;
-use std::ptr;
 
 /// A machine, which is freed with its owner. It may go to another thread; each call has it for itself.
 pub struct Machine {
@@ -59,9 +58,10 @@ impl Machine {
     /// As `new`, but RAM is this memory, with the bytes that are there.
     pub fn over(mut memory: Memory, devices: &[Device]) -> Result<Machine, Refused<Memory>> {
         let shapes: Vec<_> = devices.iter().map(|device| device.shape()).collect();
-        let (mut held, mut ram, images) = (raw::NONE, memory.slot(), ptr::null_mut());
+        let mut held = raw::NONE;
+        let mut setup = raw::Setup { shapes: shapes.as_ptr(), count: shapes.len(), ram: memory.slot(), ..raw::SETUP };
         // SAFETY: as in `new`, and the bytes of the memory are the machine's until it is freed.
-        match done(unsafe { raw::vmig_make_over(&mut ram, shapes.as_ptr(), shapes.len(), images, 0, &mut held) }) {
+        match done(unsafe { raw::vmig_make_as(&mut setup, &mut held) }) {
             Ok(_) => Ok(Machine { held, memory: Some(memory) }),
             Err(error) => Err(Refused { error, value: memory }),
         }
@@ -74,12 +74,21 @@ impl Machine {
         memory
     }
 
-    /// As `new`, but the disks hold the images: their sectors one after another, in the order of the devices.
-    pub fn with_images(pages: u32, devices: &[Device], images: &[u8]) -> Result<Machine, Error> {
+    /// As `new`, but the disks hold the contents: their sectors one after another, in the order of the devices. Where there are none they
+    /// are zeros.
+    pub fn with_contents(pages: u32, devices: &[Device], contents: &[u8]) -> Result<Machine, Error> {
         let shapes: Vec<_> = devices.iter().map(|device| device.shape()).collect();
         let mut held = raw::NONE;
+        let mut setup = raw::Setup {
+            pages,
+            shapes: shapes.as_ptr(),
+            count: shapes.len(),
+            contents: contents.as_ptr(),
+            len: contents.len(),
+            ..raw::SETUP
+        };
         // SAFETY: as in `new`.
-        done(unsafe { raw::vmig_make_with(pages, shapes.as_ptr(), shapes.len(), images.as_ptr(), images.len(), &mut held) })?;
+        done(unsafe { raw::vmig_make_as(&mut setup, &mut held) })?;
         Ok(Machine { held, memory: None })
     }
 

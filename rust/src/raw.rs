@@ -40,6 +40,56 @@ pub const NO_RAM: Ram = Ram {
     len: 0,
 };
 
+/// How a machine is made: begin with `SETUP`.
+#[repr(C)]
+pub struct Setup {
+    pub version: u32,
+    pub pages: u32,
+    pub shapes: *const Shape,
+    pub count: usize,
+    pub contents: *const u8,
+    pub len: usize,
+    pub images: *mut Image,
+    pub count_images: usize,
+    pub ram: Ram,
+    pub reserved: [u64; 4],
+}
+
+pub const SETUP: Setup = Setup {
+    version: 1,
+    pages: 0,
+    shapes: core::ptr::null(),
+    count: 0,
+    contents: core::ptr::null(),
+    len: 0,
+    images: core::ptr::null_mut(),
+    count_images: 0,
+    ram: NO_RAM,
+    reserved: [0; 4],
+};
+
+/// How a machine arrives: begin with `ARRIVAL`, which has no limit.
+#[repr(C)]
+pub struct Arrival {
+    pub version: u32,
+    pub most_pages: u32,
+    pub most_sectors: u64,
+    pub images: *mut Image,
+    pub count_images: usize,
+    pub ram: Ram,
+    pub reserved: [u64; 4],
+}
+
+pub const ARRIVAL: Arrival = Arrival {
+    version: 1,
+    most_pages: u32::MAX,
+    most_sectors: u64::MAX,
+    images: core::ptr::null_mut(),
+    count_images: 0,
+    ram: NO_RAM,
+    reserved: [0; 4],
+};
+
 /// Kinds of devices, by the numbers of the standard.
 pub const NETWORK: u8 = 1;
 pub const BLOCK: u8 = 2;
@@ -78,6 +128,7 @@ pub const LENT: u32 = 23;
 pub const NOT_LENT: u32 = 24;
 pub const NOT_OVER: u32 = 25;
 pub const BAD_RAM: u32 = 26;
+pub const NOT_KNOWN: u32 = 27;
 pub const STREAM_BAD_MAGIC: u32 = 33;
 pub const STREAM_BAD_VERSION: u32 = 34;
 pub const STREAM_BAD_SHAPE: u32 = 35;
@@ -93,6 +144,7 @@ pub const STREAM_TRAILING: u32 = 44;
 pub const STREAM_TRUNCATED: u32 = 45;
 pub const STREAM_NO_MEMORY: u32 = 47;
 pub const STREAM_FAILED: u32 = 48;
+pub const STREAM_TOO_LARGE: u32 = 49;
 pub const OUT_BYTE: u32 = 64;
 pub const IDLE: u32 = 65;
 pub const TAKEN: u32 = 66;
@@ -114,16 +166,7 @@ pub const SYNC: u32 = 80;
 unsafe extern "C" {
     pub fn vmig_version() -> u32;
     pub fn vmig_make(pages: u32, shapes: *const Shape, count: usize, machine: *mut Machine) -> u32;
-    pub fn vmig_make_with(pages: u32, shapes: *const Shape, count: usize, images: *const u8, len: usize, machine: *mut Machine) -> u32;
-    pub fn vmig_make_mapped(pages: u32, shapes: *const Shape, count: usize, images: *mut Image, count_images: usize, machine: *mut Machine) -> u32;
-    pub fn vmig_make_over(
-        ram: *mut Ram,
-        shapes: *const Shape,
-        count: usize,
-        images: *mut Image,
-        count_images: usize,
-        machine: *mut Machine,
-    ) -> u32;
+    pub fn vmig_make_as(setup: *mut Setup, machine: *mut Machine) -> u32;
     pub fn vmig_unmap(machine: *mut Machine, images: *mut Image, count: usize) -> u32;
     pub fn vmig_free(machine: *mut Machine);
     pub fn vmig_reg_read(machine: *mut Machine, dev: u8, off: u32, width: u8, value: *mut u32) -> u32;
@@ -157,8 +200,7 @@ unsafe extern "C" {
     pub fn vmig_abort(machine: *mut Machine) -> u32;
     pub fn vmig_remaining(machine: *mut Machine, due: *mut u64, dirty: *mut u64) -> u32;
     pub fn vmig_take(machine: *mut Machine, buf: *mut u8, size: usize, got: *mut usize) -> u32;
-    pub fn vmig_arrive_mapped(images: *mut Image, count_images: usize, machine: *mut Machine) -> u32;
-    pub fn vmig_arrive_over(ram: *mut Ram, images: *mut Image, count_images: usize, machine: *mut Machine) -> u32;
+    pub fn vmig_arrive(arrival: *mut Arrival, machine: *mut Machine) -> u32;
     pub fn vmig_feed(machine: *mut Machine, bytes: *const u8, len: usize) -> u32;
     pub fn vmig_finish(machine: *mut Machine) -> u32;
     pub fn vmig_rounds(machine: *mut Machine, ended: *mut u32) -> u32;

@@ -9,19 +9,22 @@ pub fed_full : (k after : Option KeptSeen) (piece : List ℕ) → is_some k ≡ 
 fed_full None after piece is same = inr (refl, same)
 fed_full (Some m) after piece is same = absurd (true≢false is)
 
-pub fed_first : (k after : Option KeptSeen) (m next : KeptSeen) (piece : List ℕ) (status : ℕ) → is_some k ≡ false → m ≡ own (Arriving nothing_fed) → after ≡ Some next → next ≡ record m { state = next.state } → FeedsKept m.state piece status next.state → Fed k piece status after
+pub fed_first : (k after : Option KeptSeen) (m next : KeptSeen) (piece : List ℕ) (status : ℕ) → is_some k ≡ false → m ≡ own (Arriving nothing_fed) → after ≡ Some next
+    → next ≡ record m { state = next.state; admission = next.admission } → FeedsKept m.admission m.state piece status next.admission next.state → Fed k piece status after
 fed_first None after m next piece status is first becomes kind does =
-    inl (subst (λ (x : KeptSeen). DoesFed x piece status after) first (record { next = next.state; is_next = becomes ∙ ap Some kind; does = does }))
+    inl (subst (λ (x : KeptSeen). DoesFed x piece status after) first (record { next = next.state; admission = next.admission; is_next = becomes ∙ ap Some kind; does = does }))
 fed_first (Some old) after m next piece status is first becomes kind does = absurd (true≢false is)
 
-pub fed_some : (k after : Option KeptSeen) (m next : KeptSeen) (piece : List ℕ) (status : ℕ) → Some m ≡ k → after ≡ Some next → next ≡ record m { state = next.state } → FeedsKept m.state piece status next.state → Fed k piece status after
-fed_some k after m next piece status is becomes kind does = subst (λ (o : Option KeptSeen). Fed o piece status after) is (record { next = next.state; is_next = becomes ∙ ap Some kind; does = does })
+pub fed_some : (k after : Option KeptSeen) (m next : KeptSeen) (piece : List ℕ) (status : ℕ) → Some m ≡ k → after ≡ Some next → next ≡ record m { state = next.state; admission = next.admission }
+    → FeedsKept m.admission m.state piece status next.admission next.state → Fed k piece status after
+fed_some k after m next piece status is becomes kind does =
+    subst (λ (o : Option KeptSeen). Fed o piece status after) is (record { next = next.state; admission = next.admission; is_next = becomes ∙ ap Some kind; does = does })
 
 pub finished_none : (k after : Option KeptSeen) → is_some k ≡ false → after ≡ k → Finished k 8 after
 finished_none None after is same = (refl, same)
 finished_none (Some m) after is same = absurd (true≢false is)
 
-pub finished_some : (k after : Option KeptSeen) (m next : KeptSeen) (status : ℕ) → Some m ≡ k → after ≡ Some next → next ≡ record m { state = next.state } → FinishesKept m.state status next.state → Finished k status after
+pub finished_some : (k after : Option KeptSeen) (m next : KeptSeen) (status : ℕ) → Some m ≡ k → after ≡ Some next → next ≡ record m { state = next.state } → FinishesKept m.admission m.state status next.state → Finished k status after
 finished_some k after m next status is becomes kind does = subst (λ (o : Option KeptSeen). Finished o status after) is (record { next = next.state; is_next = becomes ∙ ap Some kind; does = does })
 
 pub counted_none : (k : Option KeptSeen) (n : ℕ) → is_some k ≡ false → Counted k 8 n n

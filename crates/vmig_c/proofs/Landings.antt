@@ -1,8 +1,8 @@
 -- Machines that arrive over images.
-use Rattle.std.proofs.Common.{◌≡◌, ◌≤◌, ℕ, Bool, true, false, List, [], ◌∷◌, ◌++◌, ◌-◌, refl, sym, ap, ◌∙◌, arith, map, length, drop, take, inl, inr, true≢false}
+use Rattle.std.proofs.Common.{◌≡◌, ◌≤◌, ℕ, Bool, true, false, List, [], ◌∷◌, ◌++◌, ◌-◌, refl, sym, ap, ◌∙◌, arith, map, length, drop, take}
 use Prim.Native.Nat.{suc}
 use denote.RawPtr.{Ptr}
-use Rattle.std.specs.Prelude.{Option, Some, None, is_some, Result, Ok, Err, IfErr, IfOk, OnErr, OnOk}
+use Rattle.std.specs.Prelude.{Option, None, Result, Ok, Err, IfErr, IfOk, OnErr, OnOk}
 use Rattle.std.proofs.lemmas.List.{length-append, length-drop, length-take-le, map-append}
 use Rattle.std.proofs.lemmas.List.Elements.{All-drop, All-map, All-take}
 use Rattle.blk.specs.Disk.{DiskState}
@@ -16,8 +16,7 @@ use Rattle.receiver.specs.declared.recv_error.RecvError.TheVariants.{BadMagic, B
 use Rattle.mapped_disk.specs.declared.image.Image.{Image}
 use Rattle.vmig_c.specs.ArrivalSeen.{ArrivalSeen, AtHead, AtBody, Refused, Over}
 use Rattle.vmig_c.specs.Awaited.{AreSteady, HasArrived, IsClosed, IsFed, IsOver, TellsOf, awaited_sizes}
-use Rattle.vmig_c.specs.Kept.{KeptSeen}
-use Rattle.vmig_c.specs.Landing.{AreDisksOf, Awaits, IsAwaitedAt, KeepsAwaited, image_state}
+use Rattle.vmig_c.specs.Landing.{AreDisksOf, IsAwaitedAt, image_state}
 use Rattle.vmig_c.specs.Mapping.{AreTaken, contents}
 use Rattle.vmig_c.specs.Unmapping.{HasUnmappedArrival, arriving_refusal, slots_refusal}
 use Rattle.vmig_c.proofs.Awaited.{arrived, honest_marks, more_steady, never_failed, one_error}
@@ -156,14 +155,3 @@ pub as_many_images : (r : Received) (disks : List Image) → sizes_of image_stat
 as_many_images r disks are = counted disks ∙ ap length are
 
 -- The calls.
-pub awaits_used : (k after : Option KeptSeen) (images : List Image) → is_some k ≡ true → after ≡ k → Awaits k images images 9 after
-awaits_used None after images is same = absurd (true≢false (sym is))
-awaits_used (Some m) after images is same = record { status_is = refl; same = same; images_same = refl }
-
-pub awaits_full : (k after : Option KeptSeen) (images next : List Image) → is_some k ≡ false → next ≡ images → after ≡ k → Awaits k images next 10 after
-awaits_full None after images next is kept same = inr (record { status_is = refl; same = same; images_same = kept })
-awaits_full (Some m) after images next is kept same = absurd (true≢false is)
-
-pub awaits_done : (k after : Option KeptSeen) (m : KeptSeen) (images next : List Image) → is_some k ≡ false → after ≡ Some m → KeepsAwaited (contents images) m → AreTaken images next → Awaits k images next 0 after
-awaits_done None after m images next is becomes awaited taken = inl (record { kept = m; is_there = becomes; is_awaited = awaited; taken = taken; status_is = refl })
-awaits_done (Some old) after m images next is becomes awaited taken = absurd (true≢false is)

@@ -1,3 +1,4 @@
+pub mod Admissions
 pub mod Announcements
 pub mod ArrivalCalls
 pub mod Arrivals
@@ -21,6 +22,7 @@ pub mod Mirrored
 pub mod Mirroring
 pub mod NextWork
 pub mod Options
+pub mod OverContents
 pub mod OverRam
 pub mod Plain
 pub mod Pulling

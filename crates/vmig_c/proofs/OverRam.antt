@@ -14,11 +14,9 @@ use Rattle.machine.specs.declared.shape.Shape.{Shape}
 use Rattle.mapped_disk.specs.declared.image.Image.{Image}
 use Rattle.blk.specs.Sectors.{Sector}
 use Rattle.vmig_c.specs.Kept.{KeptSeen}
-use Rattle.vmig_c.specs.Landing.{KeepsAwaitedAt}
-use Rattle.vmig_c.specs.Lent.{place_of}
 use Rattle.vmig_c.specs.Making.{shapes_of}
 use Rattle.vmig_c.specs.Mapping.{AreTaken, contents}
-use Rattle.vmig_c.specs.OverRam.{AwaitsIn, IsMadeOver, KeepsOver, MakesOver, first_disks, has_images, is_ram, over_refusal_of}
+use Rattle.vmig_c.specs.OverRam.{IsMadeOver, KeepsOver, MakesOver, first_disks, has_images, over_refusal_of}
 use Rattle.vmig_c.specs.declared.device_shape.DeviceShape.{DeviceShape}
 use Rattle.vmig_c.proofs.MappingImages.{disks_good}
 use Rattle.vmig_c.proofs.Plain.{as_many}
@@ -45,27 +43,8 @@ over_done None after m ram new_ram shapes images next is fine becomes made left 
     rw fine (inl (record { kept = m; is_there = becomes; is_made = made; ram_taken = left; taken = taken; status_is = refl }))
 over_done (Some old) after m ram new_ram shapes images next is fine becomes made left taken = absurd (true≢false is)
 
-pub into_used : (k after : Option KeptSeen) (ram : Slot) (images : List Image) → is_some k ≡ true → after ≡ k → AwaitsIn k ram ram images images 9 after
-into_used None after ram images is same = absurd (true≢false (sym is))
-into_used (Some m) after ram images is same = record { status_is = refl; same = same; ram_same = refl; images_same = refl }
-
-pub into_no_ram : (k after : Option KeptSeen) (ram new_ram : Slot) (images : List Image) → is_some k ≡ false → is_ram (length ram.content) ≡ false → new_ram ≡ ram → after ≡ k → AwaitsIn k ram new_ram images images 26 after
-into_no_ram None after ram new_ram images is other left same = rw other (record { status_is = refl; same = same; ram_same = left; images_same = refl })
-into_no_ram (Some m) after ram new_ram images is other left same = absurd (true≢false is)
-
-pub into_full : (k after : Option KeptSeen) (ram new_ram : Slot) (images next : List Image) → is_some k ≡ false → is_ram (length ram.content) ≡ true → new_ram ≡ ram → next ≡ images → after ≡ k
-    → AwaitsIn k ram new_ram images next 10 after
-into_full None after ram new_ram images next is fine left kept same = rw fine (inr (record { status_is = refl; same = same; ram_same = left; images_same = kept }))
-into_full (Some m) after ram new_ram images next is fine left kept same = absurd (true≢false is)
-
-pub into_done : (k after : Option KeptSeen) (m : KeptSeen) (ram new_ram : Slot) (images next : List Image) → is_some k ≡ false → is_ram (length ram.content) ≡ true → after ≡ Some m
-    → KeepsAwaitedAt (Some (place_of ram)) (contents images) m → new_ram ≡ empty_slot → AreTaken images next → AwaitsIn k ram new_ram images next 0 after
-into_done None after m ram new_ram images next is fine becomes awaited left taken =
-    rw fine (inl (record { kept = m; is_there = becomes; is_awaited = awaited; ram_taken = left; taken = taken; status_is = refl }))
-into_done (Some old) after m ram new_ram images next is fine becomes awaited left taken = absurd (true≢false is)
-
 -- The new machine, whatever its disks are, which never fail.
-made_in : {D : Type 0} (ram : Slot) (region : Region) (shapes : List Shape) (sectors : List (List Sector)) (disks : List D) (m : Seen) → region ≡ region_of ram
+pub made_in : {D : Type 0} (ram : Slot) (region : Region) (shapes : List Shape) (sectors : List (List Sector)) (disks : List D) (m : Seen) → region ≡ region_of ram
     → state_of m ≡ machine_over region.content shapes sectors → m.memory.place ≡ Some (address region)
     → all_marks m ≡ dealt_marks shapes (map (λ (d : D). no_marks) disks) → IsSound (state_of m) → IsMadeOver ram shapes sectors m
 made_in ram region shapes sectors disks m is first place marks sound = record {

@@ -1,7 +1,10 @@
 -- The arrival of a machine behind a handle, call by call.
-use Rattle.std.specs.Prelude.{◌≡◌, ◌⊎◌, ℕ, List, Option, Some, None}
+use Rattle.std.specs.Prelude.{◌≡◌, ◌⊎◌, ℕ, Bool, true, false, List, Option, Some, None}
 use Rattle.machine.specs.Seen.{Seen}
 use Rattle.receiver.specs.declared.recv_error.RecvError.{RecvError}
+use Rattle.receiver.specs.declared.recv_error.RecvError.TheVariants.{AlreadyFailed}
+use Rattle.vmig_c.specs.Admission.{Admits, is_denied}
+use Rattle.vmig_c.specs.AdmissionSeen.{AdmissionSeen}
 use Rattle.vmig_c.specs.ArrivalSeen.{ArrivalSeen}
 use Rattle.vmig_c.specs.Awaited.{CountsRounds, HasArrived, HasSameDisks, IsClosed, IsFed, TellsEnd, TellsOf, nothing_fed, stream_status}
 use Rattle.vmig_c.specs.Status.{done, in_use, no_machine, no_memory}
@@ -26,17 +29,31 @@ Feeds r piece status next = HasFed r piece status next ⊎ HasNotFed r piece sta
 abbrev pub IsThere : {K : Type 0} → K → ℕ → K → Type 0
 IsThere k status next = (status ≡ in_use) × (next ≡ k)
 
-abbrev pub FeedsKept : State → List ℕ → ℕ → State → Type 0
-FeedsKept (Arriving r) piece status (Arriving next) = Feeds r piece status next
-FeedsKept (Still m) piece status (Still next) = IsThere m status next
-FeedsKept (Moving l) piece status (Moving next) = IsThere l status next
-FeedsKept (Lent x) piece status (Lent next) = IsThere x status next
-FeedsKept _ piece status _ = ⊥
+-- The piece was let in by the limits, and then taken or refused.
+pub record HasLetIn (admission : AdmissionSeen) (r : ArrivalSeen) (piece : List ℕ) (status : ℕ) (after : AdmissionSeen) (next : ArrivalSeen) : Type 0 where
+  pub admitted : Admits admission piece None after
+  pub feeds : Feeds r piece status next
+
+-- The limits refused it, and the stream with it: nothing else changed.
+pub record HasDenied (admission : AdmissionSeen) (r : ArrivalSeen) (piece : List ℕ) (status : ℕ) (after : AdmissionSeen) (next : ArrivalSeen) : Type 0 where
+  pub denied : Admits admission piece (Some status) after
+  pub same : next ≡ r
+
+abbrev pub FeedsWithin : AdmissionSeen → ArrivalSeen → List ℕ → ℕ → AdmissionSeen → ArrivalSeen → Type 0
+FeedsWithin admission r piece status after next = HasLetIn admission r piece status after next ⊎ HasDenied admission r piece status after next
+
+abbrev pub FeedsKept : AdmissionSeen → State → List ℕ → ℕ → AdmissionSeen → State → Type 0
+FeedsKept admission (Arriving r) piece status after (Arriving next) = FeedsWithin admission r piece status after next
+FeedsKept admission (Still m) piece status after (Still next) = IsThere m status next × (after ≡ admission)
+FeedsKept admission (Moving l) piece status after (Moving next) = IsThere l status next × (after ≡ admission)
+FeedsKept admission (Lent x) piece status after (Lent next) = IsThere x status next × (after ≡ admission)
+FeedsKept admission _ piece status after _ = ⊥
 
 pub record DoesFed (k : KeptSeen) (piece : List ℕ) (status : ℕ) (after : Option KeptSeen) : Type 0 where
   pub next : State
-  pub is_next : after ≡ Some (record k { state = next })
-  pub does : FeedsKept k.state piece status next
+  pub admission : AdmissionSeen
+  pub is_next : after ≡ Some (record k { state = next; admission = admission })
+  pub does : FeedsKept k.admission k.state piece status admission next
 
 -- A piece was fed to the contents of a handle. If the handle is empty, a machine begins to arrive, unless memory is refused.
 abbrev pub Fed : Option KeptSeen → List ℕ → ℕ → Option KeptSeen → Type 0
@@ -56,18 +73,27 @@ pub record HasNotFinished (r : ArrivalSeen) (status : ℕ) (next : ArrivalSeen) 
   pub failed : IsClosed r next
   pub same_disks : HasSameDisks r next
 
-abbrev pub FinishesKept : State → ℕ → State → Type 0
-FinishesKept (Arriving r) status (Still m) = HasFinished r status m
-FinishesKept (Arriving r) status (Arriving next) = HasNotFinished r status next
-FinishesKept (Still m) status (Still next) = IsThere m status next
-FinishesKept (Moving l) status (Moving next) = IsThere l status next
-FinishesKept (Lent x) status (Lent next) = IsThere x status next
-FinishesKept _ status _ = ⊥
+abbrev pub Ends : ArrivalSeen → ℕ → State → Type 0
+Ends r status (Still m) = HasFinished r status m
+Ends r status (Arriving next) = HasNotFinished r status next
+Ends r status (Moving l) = ⊥
+Ends r status (Lent x) = ⊥
+
+-- A stream that the limits refused is refused still, and nothing changed.
+abbrev pub EndsIf : Bool → ArrivalSeen → ℕ → State → Type 0
+EndsIf false r status next = Ends r status next
+EndsIf true r status next = (status ≡ stream_status AlreadyFailed) × (next ≡ Arriving r)
+
+abbrev pub FinishesKept : AdmissionSeen → State → ℕ → State → Type 0
+FinishesKept admission (Arriving r) status next = EndsIf (is_denied admission) r status next
+FinishesKept admission (Still m) status next = IsThere (Still m) status next
+FinishesKept admission (Moving l) status next = IsThere (Moving l) status next
+FinishesKept admission (Lent x) status next = IsThere (Lent x) status next
 
 pub record DoesFinished (k : KeptSeen) (status : ℕ) (after : Option KeptSeen) : Type 0 where
   pub next : State
   pub is_next : after ≡ Some (record k { state = next })
-  pub does : FinishesKept k.state status next
+  pub does : FinishesKept k.admission k.state status next
 
 -- A call to finish the arrival of the machine behind a handle. If nothing was fed, nothing changed.
 abbrev pub Finished : Option KeptSeen → ℕ → Option KeptSeen → Type 0

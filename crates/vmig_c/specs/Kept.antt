@@ -4,7 +4,10 @@ use Rattle.machine.specs.Parked.{ParkedSeen}
 use Rattle.machine.specs.Seen.{Seen}
 use Rattle.sender.specs.LiveState.{LiveSeen}
 use Rattle.sender.specs.Parked.{LiveParkedSeen}
+use Rattle.vmig_c.specs.AdmissionSeen.{AdmissionSeen, Granted, Pending, Denied}
 use Rattle.vmig_c.specs.ArrivalSeen.{ArrivalSeen}
+use Rattle.vmig_c.specs.declared.admission.Admission.{Admission}
+use Rattle.vmig_c.specs.declared.admission.Admission.TheVariants as admissions
 use Rattle.vmig_c.specs.declared.kept.Contents.{Contents}
 use Rattle.vmig_c.specs.declared.kept.Contents.TheVariants as contents
 use Rattle.vmig_c.specs.declared.loan.Loan.{Loan}
@@ -27,17 +30,23 @@ pub data State : Type 0 where
   Arriving : ArrivalSeen → State
   Lent : LoanSeen → State
 
--- Whether its disks lie in memory of the caller, and in which state it is.
+-- Whether its disks lie in memory of the caller, in which state it is, and what limits there are on what arrives.
 pub record KeptSeen : Type 0 where
   pub is_mapped : Bool
   pub state : State
+  pub admission : AdmissionSeen
 
--- Its disks lie in memory of the library, or of the caller.
+-- Its disks lie in memory of the library, or of the caller, and there is no limit on what arrives.
 abbrev pub own : State → KeptSeen
-own state = record { is_mapped = false; state = state }
+own state = record { is_mapped = false; state = state; admission = Granted }
 
 abbrev pub mapped : State → KeptSeen
-mapped state = record { is_mapped = true; state = state }
+mapped state = record { is_mapped = true; state = state; admission = Granted }
+
+abbrev pub admission_of : Admission → AdmissionSeen
+admission_of admissions.Granted = Granted
+admission_of (admissions.Pending limits held) = Pending limits held.items
+admission_of admissions.Denied = Denied
 
 abbrev pub is_loan_mapped : Loan → Bool
 is_loan_mapped (loans.Still p) = false
@@ -51,11 +60,26 @@ loan_of (loans.Moving l) = MovingLent l
 loan_of (loans.StillMapped p) = StillLent p
 loan_of (loans.MovingMapped l) = MovingLent l
 
+abbrev pub are_mapped : Contents → Bool
+are_mapped (contents.Still m) = false
+are_mapped (contents.Moving l) = false
+are_mapped (contents.StillMapped m) = true
+are_mapped (contents.MovingMapped l) = true
+are_mapped (contents.Arriving r) = false
+are_mapped (contents.ArrivingMapped r) = true
+are_mapped (contents.Lent loan) = is_loan_mapped loan
+
+abbrev pub state_in : Contents → State
+state_in (contents.Still m) = Still m
+state_in (contents.Moving l) = Moving l
+state_in (contents.StillMapped m) = Still m
+state_in (contents.MovingMapped l) = Moving l
+state_in (contents.Arriving r) = Arriving r
+state_in (contents.ArrivingMapped r) = Arriving r
+state_in (contents.Lent loan) = Lent (loan_of loan)
+
+abbrev pub kept_with : Contents → AdmissionSeen → KeptSeen
+kept_with contents admission = record { is_mapped = are_mapped contents; state = state_in contents; admission = admission }
+
 abbrev pub kept_of : Contents → KeptSeen
-kept_of (contents.Still m) = own (Still m)
-kept_of (contents.Moving l) = own (Moving l)
-kept_of (contents.StillMapped m) = mapped (Still m)
-kept_of (contents.MovingMapped l) = mapped (Moving l)
-kept_of (contents.Arriving r) = own (Arriving r)
-kept_of (contents.ArrivingMapped r) = mapped (Arriving r)
-kept_of (contents.Lent loan) = record { is_mapped = is_loan_mapped loan; state = Lent (loan_of loan) }
+kept_of contents = kept_with contents Granted

@@ -1,14 +1,12 @@
--- The first call of a machine that arrives over images in memory of the caller.
-use Rattle.std.specs.Prelude.{◌≡◌, ◌⊎◌, ℕ, true, List, [], length, map, Option, Some, None}
+-- What arrives over images in memory of the caller, before its first piece.
+use Rattle.std.specs.Prelude.{◌≡◌, ℕ, true, List, [], length, map, Option, None}
 use denote.RawPtr.{Ptr}
 use Rattle.blk.specs.Disk.{DiskState}
 use Rattle.receiver.specs.Receiving.{HasBeenFed, Received}
 use Rattle.mapped_disk.specs.declared.image.Image.{Image}
 use Rattle.vmig_c.specs.ArrivalSeen.{ArrivalSeen, Over}
 use Rattle.vmig_c.specs.Kept.{KeptSeen, State, Arriving}
-use Rattle.vmig_c.specs.Mapping.{AreTaken, IsUnmade, contents}
 use Rattle.vmig_c.specs.Plain.{mem_state}
-use Rattle.vmig_c.specs.Status.{done, in_use, no_memory}
 
 -- What a disk over an image means.
 abbrev pub image_state : Image → DiskState
@@ -40,15 +38,3 @@ KeepsAwaitedAt place sectors k = (k.is_mapped ≡ true) × StandsAwaited place s
 -- Its RAM will lie in memory of the library.
 abbrev pub KeepsAwaited : List (List (List ℕ)) → KeptSeen → Type 0
 KeepsAwaited sectors k = KeepsAwaitedAt None sectors k
-
-pub record HasAwaited (images new_images : List Image) (status : ℕ) (after : Option KeptSeen) : Type 0 where
-  pub kept : KeptSeen
-  pub is_there : after ≡ Some kept
-  pub is_awaited : KeepsAwaited (contents images) kept
-  pub taken : AreTaken images new_images
-  pub status_is : status ≡ done
-
--- A machine will arrive over the images, which were taken, or the status says why not.
-abbrev pub Awaits : Option KeptSeen → List Image → List Image → ℕ → Option KeptSeen → Type 0
-Awaits (Some old) images new_images status after = IsUnmade in_use (Some old) images new_images status after
-Awaits None images new_images status after = HasAwaited images new_images status after ⊎ IsUnmade no_memory None images new_images status after

@@ -1,9 +1,12 @@
+pub mod Admission
+pub mod AdmissionSeen
 pub mod ArrivalSeen
 pub mod Announced
 pub mod Arriving
 pub mod Awaited
 pub mod Described
 pub mod Durable
+pub mod Expected
 pub mod Headed
 pub mod Images
 pub mod Kept
@@ -23,6 +26,7 @@ pub mod Owned
 pub mod Plain
 pub mod Refused
 pub mod Sent
+pub mod Setup
 pub mod Status
 pub mod Stepped
 pub mod Told

@@ -11,7 +11,7 @@ use Rattle.machine.specs.Sound.{IsSound}
 use Rattle.machine.specs.declared.shape.Shape.{Shape}
 use Rattle.mapped_disk.specs.declared.image.Image.{Image}
 use Rattle.vmig_c.specs.Kept.{KeptSeen, State, Still}
-use Rattle.vmig_c.specs.Landing.{KeepsAwaitedAt}
+use Rattle.vmig_c.specs.Images.{AreImages, image_size}
 use Rattle.vmig_c.specs.Lent.{place_of}
 use Rattle.vmig_c.specs.Making.{are_beyond_limits, shapes_of, zero_sectors}
 use Rattle.vmig_c.specs.Mapping.{AreTaken, contents, counts}
@@ -89,25 +89,51 @@ abbrev pub MakesOver : Option KeptSeen → Slot → Slot → List DeviceShape �
 MakesOver old ram new_ram shapes images new_images status after =
     MakesOverBy (over_refusal old (length ram.content) shapes images) old ram new_ram shapes images new_images status after
 
-pub record HasAwaitedIn (ram new_ram : Slot) (images new_images : List Image) (status : ℕ) (after : Option KeptSeen) : Type 0 where
+-- As above, over disks that hold the contents: their sectors one after another, in memory of the library.
+pub record IsMadeOverWith (ram : Slot) (shapes : List Shape) (contents : List ℕ) (m : Seen) : Type 0 where
+  pub disks : List (List (List ℕ))
+  pub are : AreImages contents (disk_sizes shapes) disks
+  pub made : IsMadeOver ram shapes (map (λ d. map Some d) disks) m
+
+abbrev pub StandsOverWith : Slot → List Shape → List ℕ → State → Type 0
+StandsOverWith ram shapes contents (Still m) = IsMadeOverWith ram shapes contents m
+StandsOverWith ram shapes contents _ = ⊥
+
+abbrev pub KeepsOverWith : Slot → List Shape → List ℕ → KeptSeen → Type 0
+KeepsOverWith ram shapes contents k = (k.is_mapped ≡ false) × StandsOverWith ram shapes contents k.state
+
+pub record HasMadeOverWith (ram new_ram : Slot) (shapes : List DeviceShape) (contents : List ℕ) (status : ℕ) (after : Option KeptSeen) : Type 0 where
   pub kept : KeptSeen
   pub is_there : after ≡ Some kept
-  pub is_awaited : KeepsAwaitedAt (Some (place_of ram)) (contents images) kept
+  pub is_made : KeepsOverWith ram (shapes_of shapes) contents kept
   pub ram_taken : new_ram ≡ empty_slot
-  pub taken : AreTaken images new_images
   pub status_is : status ≡ done
 
--- Why no machine will arrive, apart from memory being refused.
-abbrev pub await_refusal : Option KeptSeen → ℕ → Option ℕ
-await_refusal (Some m) bytes = Some in_use
-await_refusal None bytes = if not (is_ram bytes) then Some bad_ram else None
+-- It was refused, and nothing changed.
+pub record IsUnmadeIn (refusal : ℕ) (old : Option KeptSeen) (ram new_ram : Slot) (status : ℕ) (after : Option KeptSeen) : Type 0 where
+  pub status_is : status ≡ refusal
+  pub same : after ≡ old
+  pub ram_same : new_ram ≡ ram
 
-abbrev pub AwaitsInBy : Option ℕ → Option KeptSeen → Slot → Slot → List Image → List Image → ℕ → Option KeptSeen → Type 0
-AwaitsInBy (Some refusal) old ram new_ram images new_images status after = IsUnmadeOver refusal old ram new_ram images new_images status after
-AwaitsInBy None old ram new_ram images new_images status after =
-    HasAwaitedIn ram new_ram images new_images status after ⊎ IsUnmadeOver no_memory old ram new_ram images new_images status after
+-- Why no machine is made, apart from memory being refused. The memory is checked first, and the contents last.
+abbrev pub over_with_refusal_of : ℕ → List DeviceShape → ℕ → Option ℕ
+over_with_refusal_of bytes shapes count =
+    if not (is_ram bytes) then Some bad_ram
+    else if are_beyond_limits (bytes / PAGE_SIZE) shapes then Some bad_shape
+    else if not (count == image_size (shapes_of shapes)) then Some bad_images
+    else None
 
--- A machine will arrive into the memory of the slot, over the images, which were taken, or the status says why not.
-abbrev pub AwaitsIn : Option KeptSeen → Slot → Slot → List Image → List Image → ℕ → Option KeptSeen → Type 0
-AwaitsIn old ram new_ram images new_images status after =
-    AwaitsInBy (await_refusal old (length ram.content)) old ram new_ram images new_images status after
+abbrev pub over_with_refusal : Option KeptSeen → ℕ → List DeviceShape → ℕ → Option ℕ
+over_with_refusal (Some m) bytes shapes count = Some in_use
+over_with_refusal None bytes shapes count = over_with_refusal_of bytes shapes count
+
+abbrev pub MakesOverWithBy : Option ℕ → Option KeptSeen → Slot → Slot → List DeviceShape → List ℕ → ℕ → Option KeptSeen → Type 0
+MakesOverWithBy (Some refusal) old ram new_ram shapes contents status after = IsUnmadeIn refusal old ram new_ram status after
+MakesOverWithBy None old ram new_ram shapes contents status after =
+    HasMadeOverWith ram new_ram shapes contents status after ⊎ IsUnmadeIn no_memory old ram new_ram status after
+
+-- A machine was made whose RAM lies in the memory of the slot, which was taken, and whose disks hold the contents, or the status says
+-- why not.
+abbrev pub MakesOverWith : Option KeptSeen → Slot → Slot → List DeviceShape → List ℕ → ℕ → Option KeptSeen → Type 0
+MakesOverWith old ram new_ram shapes contents status after =
+    MakesOverWithBy (over_with_refusal old (length ram.content) shapes (length contents)) old ram new_ram shapes contents status after

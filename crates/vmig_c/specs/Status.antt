@@ -8,7 +8,9 @@
 --                taken was refused: the migration has failed then, and the machine is as it was
 --     23         the RAM of the machine is lent
 --     24 to 26   a call was refused that lends RAM, takes it back, or makes a machine over it
+--     27         a struct of the caller asks for what this library does not know
 --     33 to 48   a stream was refused: 32 plus the number of its fault. No more of it is taken: 48 is returned from then on
+--     49         a stream was refused: its machine is larger than the caller allows. As above, 48 is returned from then on
 --     64         a register was written, and a byte came out
 --     65 to 73   what a step did
 --     74 to 77   what a call of a migration did
@@ -88,6 +90,14 @@ not_over = 25
 -- The memory that is given is not RAM: its length is not that of whole pages, as many as are asked for.
 abbrev pub bad_ram : ℕ
 bad_ram = 26
+
+-- A setup or an arrival asks for what this library does not know: its version is another, or a reserved word is not 0.
+abbrev pub not_known : ℕ
+not_known = 27
+
+-- The machine that a stream announces is larger than the caller allows.
+abbrev pub stream_too_large : ℕ
+stream_too_large = 49
 
 -- The sector is bad.
 abbrev pub bad_sector : ℕ

@@ -1,15 +1,17 @@
 //! The calls of an arrival, applied to the contents of a handle.
 
-ghost use Rattle.std.specs.Prelude.{◌≡◌, IsNone};
-ghost use Rattle.vmig_c.specs.Arriving.{CountsKept, Fed, Feeds, FeedsKept, FinishesKept};
+ghost use Rattle.std.specs.Prelude.{◌≡◌, false, true, IsNone};
+ghost use Rattle.vmig_c.specs.Arriving.{CountsKept, EndsIf, Fed, FeedsKept, FeedsWithin, FinishesKept};
 ghost use Rattle.vmig_c.specs.Awaited.{stream_status};
+ghost use Rattle.vmig_c.specs.Kept.{admission_of, are_mapped, state_in};
 
+use crate::admission::Admission;
 use crate::arrival::Arrival;
 use crate::handle::Handle;
 use crate::kept::{Contents, Kept};
 use crate::landing::Landing;
 use crate::migrating::taken_out;
-use crate::status::{DONE, IN_USE, NO_MEMORY};
+use crate::status::{DONE, IN_USE, NO_MEMORY, STREAM_FAILED};
 use receiver::RecvError;
 use std::alloc::Global;
 use std::mem;
@@ -26,36 +28,52 @@ pub(crate) fn feed_first(alloc: Global, machine: &mut Handle, piece: &[u8]) -> u
         return NO_MEMORY;
     };
     mem::replace(machine, Handle::of(boxed)).gone();
-    feed(machine.get_mut(), piece)
+    feed(alloc, machine.get_mut(), piece)
 }
 
 /// The next piece of a stream arrives.
 #[tactic(auto, using(crate::proofs::Arrivals::fed))]
-pub(crate) fn feed(kept: &mut Kept, piece: &[u8]) -> u32
-    ensures feeds { FeedsKept kept.old.state piece.now result kept.new.state }
-    ensures kind { kept.new ≡ record kept.old { state = kept.new.state } }
+pub(crate) fn feed(alloc: Global, kept: &mut Kept, piece: &[u8]) -> u32
+    ensures feeds { FeedsKept kept.old.admission kept.old.state piece.now result kept.new.admission kept.new.state }
+    ensures kind { kept.new ≡ record kept.old { state = kept.new.state; admission = kept.new.admission } }
 {
     match &mut kept.contents {
-        Contents::Arriving(arrival) => feed_told(arrival, piece),
-        Contents::ArrivingMapped(landing) => feed_landing(landing, piece),
+        Contents::Arriving(arrival) => feed_told(alloc, &mut kept.admission, arrival, piece),
+        Contents::ArrivingMapped(landing) => feed_landing(
+            alloc,
+            &mut kept.admission,
+            landing,
+            piece,
+        ),
         _ => IN_USE,
     }
 }
 
-#[tactic(auto, using(crate::proofs::Arrivals::was_fed, crate::proofs::Arrivals::was_not_fed))]
-fn feed_told(arrival: &mut Arrival, piece: &[u8]) -> u32
-    ensures { Feeds arrival.old piece.now result arrival.new }
+#[tactic(auto, using(crate::proofs::Arrivals::was_denied, crate::proofs::Arrivals::was_fed, crate::proofs::Arrivals::was_not_fed))]
+fn feed_told(alloc: Global, admission: &mut Admission, arrival: &mut Arrival, piece: &[u8]) -> u32
+    ensures { FeedsWithin (admission_of admission.old) arrival.old piece.now result (admission_of admission.new) arrival.new }
 {
+    if let Some(status) = admission.ask(alloc, piece) {
+        return status;
+    }
     match arrival.feed(piece) {
         Ok(()) => DONE,
         Err(error) => stream_told(error),
     }
 }
 
-#[tactic(auto, using(crate::proofs::Arrivals::was_fed, crate::proofs::Arrivals::was_not_fed))]
-fn feed_landing(landing: &mut Landing, piece: &[u8]) -> u32
-    ensures { Feeds landing.old piece.now result landing.new }
+#[tactic(auto, using(crate::proofs::Arrivals::was_denied, crate::proofs::Arrivals::was_fed, crate::proofs::Arrivals::was_not_fed))]
+fn feed_landing(
+    alloc: Global,
+    admission: &mut Admission,
+    landing: &mut Landing,
+    piece: &[u8],
+) -> u32
+    ensures { FeedsWithin (admission_of admission.old) landing.old piece.now result (admission_of admission.new) landing.new }
 {
+    if let Some(status) = admission.ask(alloc, piece) {
+        return status;
+    }
     match landing.feed(piece) {
         Ok(()) => DONE,
         Err(error) => stream_told(error),
@@ -64,7 +82,7 @@ fn feed_landing(landing: &mut Landing, piece: &[u8]) -> u32
 
 /// All pieces have arrived.
 pub(crate) fn finish(alloc: Global, kept: &mut Kept) -> u32
-    ensures finishes { FinishesKept kept.old.state result kept.new.state }
+    ensures finishes { FinishesKept kept.old.admission kept.old.state result kept.new.state }
     ensures kind { kept.new ≡ record kept.old { state = kept.new.state } }
 {
     let (next, status) = finished(alloc, taken_out(alloc, kept));
@@ -72,36 +90,59 @@ pub(crate) fn finish(alloc: Global, kept: &mut Kept) -> u32
     status
 }
 
-#[tactic(auto, using(crate::proofs::Arrivals::was_finished, crate::proofs::Arrivals::was_not_finished))]
 fn finished(alloc: Global, old: Kept) -> (Kept, u32)
-    ensures finishes { FinishesKept old.state result.1 result.0.state }
+    ensures finishes { FinishesKept old.admission old.state result.1 result.0.state }
     ensures kind { result.0 ≡ record old { state = result.0.state } }
 {
     let Kept {
         contents,
         sent,
         named,
+        admission,
     } = old;
     let (contents, status) = match contents {
-        Contents::Arriving(arrival) => match arrival.finish() {
-            Ok(machine) => (Contents::Still(machine), DONE),
-            Err(error) => {
-                let failed = Contents::Arriving(Arrival::failed(alloc));
-                (failed, stream_told(error))
-            }
-        },
-        Contents::ArrivingMapped(landing) => match landing.finish() {
-            Ok(machine) => (Contents::StillMapped(machine), DONE),
-            Err((error, landing)) => (Contents::ArrivingMapped(landing), stream_told(error)),
-        },
+        Contents::Arriving(arrival) => finish_told(alloc, admission.is_denied(), arrival),
+        Contents::ArrivingMapped(landing) => finish_landing(admission.is_denied(), landing),
         contents => (contents, IN_USE),
     };
     let kept = Kept {
         contents,
         sent,
         named,
+        admission,
     };
     (kept, status)
+}
+
+/// The end of an arrival; where its stream was denied it stays as it is.
+fn finish_told(alloc: Global, is_denied: bool, arrival: Arrival) -> (Contents, u32)
+    ensures ends { EndsIf is_denied arrival result.1 (state_in result.0) }
+    ensures own { are_mapped result.0 ≡ false }
+{
+    if is_denied {
+        return (Contents::Arriving(arrival), STREAM_FAILED);
+    }
+    match arrival.finish() {
+        Ok(machine) => (Contents::Still(machine), DONE),
+        Err(error) => {
+            let failed = Contents::Arriving(Arrival::failed(alloc));
+            (failed, stream_told(error))
+        }
+    }
+}
+
+/// As above, over images.
+fn finish_landing(is_denied: bool, landing: Landing) -> (Contents, u32)
+    ensures ends { EndsIf is_denied landing result.1 (state_in result.0) }
+    ensures mapped { are_mapped result.0 ≡ true }
+{
+    if is_denied {
+        return (Contents::ArrivingMapped(landing), STREAM_FAILED);
+    }
+    match landing.finish() {
+        Ok(machine) => (Contents::StillMapped(machine), DONE),
+        Err((error, landing)) => (Contents::ArrivingMapped(landing), stream_told(error)),
+    }
 }
 
 /// The number of rounds that ended in the bytes that arrived.

@@ -6,9 +6,9 @@ ghost use Rattle.vmig_c.specs.Kept.{loan_of, parked_in};
 ghost use Rattle.vmig_c.specs.Described.{DescribesKept, IsSized, IsSizedLent, SizesKept, Tells, TellsOf};
 
 use crate::device_shape::DeviceShape;
-use crate::kept::{Contents, Kept};
+use crate::kept::{Kept, by_state};
 use crate::loan::Loan;
-use crate::status::{DONE, NO_DEVICE, NO_MACHINE};
+use crate::status::{DONE, NO_DEVICE};
 use guestmem::PAGE_SIZE;
 use machine::{Disk, Machine, Shape};
 
@@ -16,14 +16,11 @@ use machine::{Disk, Machine, Shape};
 pub(crate) fn size_kept(kept: &Kept, pages: &mut u32, devices: &mut u32) -> u32
     ensures { SizesKept kept.now.state result pages.new pages.old devices.new devices.old }
 {
-    match &kept.contents {
-        Contents::Still(machine) => size_told(machine, pages, devices),
-        Contents::StillMapped(machine) => size_told(machine, pages, devices),
-        Contents::Moving(live) => size_told(live.machine(), pages, devices),
-        Contents::MovingMapped(live) => size_told(live.machine(), pages, devices),
-        Contents::Arriving(_) | Contents::ArrivingMapped(_) => NO_MACHINE,
-        Contents::Lent(loan) => lent_size_told(loan, pages, devices),
-    }
+    by_state!(&kept.contents;
+        still(machine) => size_told(machine, pages, devices),
+        moving(live) => size_told(live.machine(), pages, devices),
+        lent(loan) => lent_size_told(loan, pages, devices),
+    )
 }
 
 fn size_told<D: Disk>(machine: &Machine<D>, pages: &mut u32, devices: &mut u32) -> u32
@@ -48,14 +45,11 @@ fn lent_size_told(loan: &Loan, pages: &mut u32, devices: &mut u32) -> u32
 pub(crate) fn describe_kept(kept: &Kept, dev: u8, shape: &mut DeviceShape) -> u32
     ensures { DescribesKept kept.now.state dev result shape.new shape.old }
 {
-    match &kept.contents {
-        Contents::Still(machine) => device_told(machine, dev, shape),
-        Contents::StillMapped(machine) => device_told(machine, dev, shape),
-        Contents::Moving(live) => device_told(live.machine(), dev, shape),
-        Contents::MovingMapped(live) => device_told(live.machine(), dev, shape),
-        Contents::Arriving(_) | Contents::ArrivingMapped(_) => NO_MACHINE,
-        Contents::Lent(loan) => tell(loan.shapes(), dev, shape),
-    }
+    by_state!(&kept.contents;
+        still(machine) => device_told(machine, dev, shape),
+        moving(live) => device_told(live.machine(), dev, shape),
+        lent(loan) => tell(loan.shapes(), dev, shape),
+    )
 }
 
 fn device_told<D: Disk>(machine: &Machine<D>, dev: u8, shape: &mut DeviceShape) -> u32

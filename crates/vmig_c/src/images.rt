@@ -10,7 +10,7 @@ ghost use Rattle.vmig_c.specs.Making.{shape_of, shapes_of};
 ghost use Rattle.vmig_c.specs.Kept.{Still};
 
 use crate::device_shape::DeviceShape;
-use crate::kept::{Contents, Kept};
+use crate::kept::{Contents, Kept, by_state};
 use crate::making::shapes_of;
 use crate::moving::put_front;
 use crate::status::{
@@ -41,7 +41,7 @@ pub(crate) fn are_images(bytes: usize, shapes: &[DeviceShape]) -> bool
 }
 
 /// The number of sectors of a device's disk; 0 for a device without one.
-fn count_in(shape: Shape) -> u64
+pub(crate) fn count_in(shape: Shape) -> u64
     ensures { result ≡ sector_count shape }
 {
     match shape {
@@ -71,7 +71,11 @@ pub(crate) fn machine_with(
 }
 
 /// A disk for each device that has one, in their order, that hold the images one after another.
-fn image_disks(alloc: Global, shapes: &[Shape], images: &[u8]) -> Result<Vec<MemDisk>, NoMemory>
+pub(crate) fn image_disks(
+    alloc: Global,
+    shapes: &[Shape],
+    images: &[u8],
+) -> Result<Vec<MemDisk>, NoMemory>
     requires { length images.now ≡ image_size shapes.now }
     ensures { IfOk result (λ disks. AreImages images.now (disk_sizes shapes.now) disks.items) }
 {
@@ -124,26 +128,22 @@ pub(crate) fn read_sector(kept: &mut Kept, dev: u8, sector: u64, buf: &mut [u8])
     if let Some(status) = sector_refusal(kept, dev, sector, buf.len()) {
         return status;
     }
-    match &mut kept.contents {
-        Contents::Still(machine) => read_out(machine, dev, sector, buf),
-        Contents::StillMapped(machine) => read_out(machine, dev, sector, buf),
-        Contents::Moving(_) | Contents::MovingMapped(_) => IS_MOVING,
-        Contents::Arriving(_) | Contents::ArrivingMapped(_) => NO_MACHINE,
-        Contents::Lent(_) => LENT,
-    }
+    by_state!(&mut kept.contents;
+        still(machine) => read_out(machine, dev, sector, buf),
+        moving(_) => IS_MOVING,
+    )
 }
 
 /// Why `vmig_sector_read` is refused, if it is.
 fn sector_refusal(kept: &Kept, dev: u8, sector: u64, room: usize) -> Option<u32>
     ensures { result ≡ sector_refusal kept.now.state dev sector room }
 {
-    match &kept.contents {
-        Contents::Still(machine) => device_refusal(machine, dev, sector, room),
-        Contents::StillMapped(machine) => device_refusal(machine, dev, sector, room),
-        Contents::Moving(_) | Contents::MovingMapped(_) => Some(IS_MOVING),
-        Contents::Arriving(_) | Contents::ArrivingMapped(_) => Some(NO_MACHINE),
-        Contents::Lent(_) => Some(LENT),
-    }
+    by_state!(&kept.contents;
+        still(machine) => device_refusal(machine, dev, sector, room),
+        moving(_) => Some(IS_MOVING),
+        lent(_) => Some(LENT),
+        arriving => Some(NO_MACHINE),
+    )
 }
 
 fn device_refusal<D: Disk>(machine: &Machine<D>, dev: u8, sector: u64, room: usize) -> Option<u32>

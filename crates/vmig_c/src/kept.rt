@@ -1,7 +1,8 @@
 //! The contents of a handle.
 
-ghost use Rattle.vmig_c.specs.Kept.{kept_of};
+ghost use Rattle.vmig_c.specs.Kept.{admission_of, kept_of};
 
+use crate::admission::{Admission, Limits};
 use crate::arrival::Arrival;
 use crate::landing::Landing;
 use crate::loan::Loan;
@@ -41,7 +42,38 @@ pub enum Contents {
     Lent(Loan),
 }
 
-/// The contents of a handle. Contracts see which state they are in, and whether the disks are the caller's memory.
+/// What a call answers in each state of the contents of a handle: of a machine that is not being migrated, and of one that is, whether its
+/// disks lie in memory of the library or of the caller; of one whose RAM is lent, which is a status if nothing else is said; and where
+/// one arrives, which is none yet.
+macro_rules! by_state {
+    ($contents:expr; still($machine:pat) => $still:expr, moving($live:pat) => $moving:expr $(,)?) => {
+        $crate::kept::by_state!($contents; still($machine) => $still, moving($live) => $moving, lent(_) => $crate::status::LENT)
+    };
+    ($contents:expr; still($machine:pat) => $still:expr, moving($live:pat) => $moving:expr, lent($loan:pat) => $lent:expr $(,)?) => {
+        $crate::kept::by_state!($contents; still($machine) => $still, moving($live) => $moving, lent($loan) => $lent, arriving => $crate::status::NO_MACHINE)
+    };
+    (
+        $contents:expr;
+        still($machine:pat) => $still:expr,
+        moving($live:pat) => $moving:expr,
+        lent($loan:pat) => $lent:expr,
+        arriving => $arriving:expr $(,)?
+    ) => {
+        match $contents {
+            $crate::kept::Contents::Still($machine) => $still,
+            $crate::kept::Contents::StillMapped($machine) => $still,
+            $crate::kept::Contents::Moving($live) => $moving,
+            $crate::kept::Contents::MovingMapped($live) => $moving,
+            $crate::kept::Contents::Arriving(_) | $crate::kept::Contents::ArrivingMapped(_) => $arriving,
+            $crate::kept::Contents::Lent($loan) => $lent,
+        }
+    };
+}
+
+pub(crate) use by_state;
+
+/// The contents of a handle. Contracts see which state they are in, whether the disks are the caller's memory, and the limits on what
+/// arrives.
 #[derive(Drop)]
 pub struct Kept {
     pub(crate) contents: Contents,
@@ -49,27 +81,45 @@ pub struct Kept {
     pub(crate) sent: Vec<u8>,
     // The numbers of the pages that were given back last by a bitmap: kept for the same reason.
     pub(crate) named: Vec<u32>,
+    // Of what arrives: whether its stream is let in.
+    pub(crate) admission: Admission,
 }
 
 impl Model for Kept {
-    ghost use Rattle.vmig_c.specs.Kept.{KeptSeen, kept_of};
+    ghost use Rattle.vmig_c.specs.Kept.{KeptSeen, admission_of, kept_with};
 
     ghost Value = { KeptSeen };
 
-    ghost view = { λ k. kept_of k.contents };
+    ghost view = { λ k. kept_with k.contents (admission_of k.admission) };
 }
 
 impl Kept {
-    ghost use Rattle.std.specs.Prelude.{◌≡◌};
+    ghost use Rattle.std.specs.Prelude.{◌≡◌, []};
+    ghost use Rattle.vmig_c.specs.AdmissionSeen as seen;
+    ghost use Rattle.vmig_c.specs.Kept.{kept_with};
 
     /// Wraps the contents of a handle.
     pub(crate) fn new(alloc: Global, contents: Contents) -> Kept
         ensures { result ≡ kept_of contents }
     {
+        Kept::with(alloc, contents, Admission::Granted)
+    }
+
+    /// Wraps a machine that will arrive, within the limits.
+    pub(crate) fn within(alloc: Global, contents: Contents, limits: Limits) -> Kept
+        ensures { result ≡ kept_with contents (seen.Pending limits []) }
+    {
+        Kept::with(alloc, contents, Admission::Pending(limits, Vec::new(alloc)))
+    }
+
+    fn with(alloc: Global, contents: Contents, admission: Admission) -> Kept
+        ensures { result ≡ kept_with contents (admission_of admission) }
+    {
         Kept {
             contents,
             sent: Vec::new(alloc),
             named: Vec::new(alloc),
+            admission,
         }
     }
 }

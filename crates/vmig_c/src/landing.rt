@@ -1,9 +1,11 @@
 //! A machine that arrives over images of the caller.
 
-ghost use Rattle.std.specs.Prelude.{◌≡◌, IfErr, IfOk};
+ghost use Rattle.std.specs.Prelude.{◌≡◌, [], IfErr, IfOk};
+ghost use Rattle.vmig_c.specs.AdmissionSeen as seen;
 ghost use Rattle.vmig_c.specs.Landing.{KeepsAwaited};
 ghost use Rattle.vmig_c.specs.Mapping.{AreTaken, contents};
 
+use crate::admission::Limits;
 use crate::arrival::Arrival;
 use crate::kept::{Contents, Kept};
 use crate::mapping::mapped_disks;
@@ -103,8 +105,13 @@ impl Landing {
 
 /// An arrival in a box, over disks in the images, which are taken. Its only error is out of memory: then the images are as they were.
 /// The box is made before an image is taken.
-pub(crate) fn landing_over(alloc: Global, images: &mut [Image]) -> Result<Box<Kept>, NoMemory>
+pub(crate) fn landing_over(
+    alloc: Global,
+    limits: Limits,
+    images: &mut [Image],
+) -> Result<Box<Kept>, NoMemory>
     ensures made { IfOk result (λ k. KeepsAwaited (contents images.old) k.value) }
+    ensures limits { IfOk result (λ k. k.value.admission ≡ seen.Pending limits []) }
     ensures taken { IfOk result (λ k. AreTaken images.old images.new) }
     ensures refused { IfErr result (λ e. images.new ≡ images.old) }
 {
@@ -113,6 +120,7 @@ pub(crate) fn landing_over(alloc: Global, images: &mut [Image]) -> Result<Box<Ke
         Kept::new(alloc, Contents::Arriving(Arrival::new(alloc))),
     )?;
     let disks = mapped_disks(alloc, images)?;
-    *boxed = Kept::new(alloc, Contents::ArrivingMapped(Landing::new(alloc, disks)));
+    let landing = Contents::ArrivingMapped(Landing::new(alloc, disks));
+    *boxed = Kept::within(alloc, landing, limits);
     Ok(boxed)
 }

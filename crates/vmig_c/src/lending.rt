@@ -65,6 +65,7 @@ fn lent(old: Kept, ram: &mut Slot) -> (Kept, u32)
         contents,
         sent,
         named,
+        admission,
     } = old;
     let (contents, status) = match contents {
         Contents::Still(machine) => match machine.lend() {
@@ -89,6 +90,7 @@ fn lent(old: Kept, ram: &mut Slot) -> (Kept, u32)
         contents,
         sent,
         named,
+        admission,
     };
     (kept, status)
 }
@@ -230,6 +232,7 @@ fn back(old: Kept, ram: &mut Slot, pages: &[u32]) -> Kept
         contents,
         sent,
         named,
+        admission,
     } = old;
     let contents = match contents {
         Contents::Lent(loan) => back_from(loan, taken_ram(ram), pages),
@@ -239,6 +242,7 @@ fn back(old: Kept, ram: &mut Slot, pages: &[u32]) -> Kept
         contents,
         sent,
         named,
+        admission,
     }
 }
 

@@ -6,7 +6,7 @@
 //!
 //! # What the layers above may rely on
 //! - Every export is an ordinary function, and its clause is the step of the machine (`specs/Told`, `specs/Stepped`), its
-//!   making (`specs/Making`, `specs/Images`) or its stream (`specs/Moving`), by the status that it returns. The statuses are in
+//!   making (`specs/Making`, `specs/Setup`) or its stream (`specs/Moving`), by the status that it returns. The statuses are in
 //!   one table (`specs/Status`): from 1 to 63 nothing has changed, but for 20 (the writer failed) and for a stream that is
 //!   refused as it arrives. `vmig_step` is not done where what it sends might not fit.
 //! - `vmig_next_work` names the next step that has something to do (`specs/NextWork`), and `vmig_must_sync` says of a step whether the
@@ -14,8 +14,14 @@
 //! - `vmig_saved_len` is the length of the stream that `vmig_save` makes (`specs/Measured`), without that stream.
 //! - Every call has its clause in each state: the calls of a migration those of `Live` (`specs/Migrated`), over a writer into
 //!   memory from which `vmig_take` takes; the calls of an arrival those of `Receiver` (`specs/Awaited`, `specs/Arriving`), over
-//!   disks that are made as soon as the header is whole, or over images of the caller (`vmig_arrive_mapped`, `specs/Landing`).
-//!   What arrives is no machine for the other calls.
+//!   disks that are made as soon as the header is whole, or over images of the caller (`specs/Landing`). What arrives is no machine
+//!   for the other calls.
+//! - `vmig_make_as` makes the first machine as its struct says (`setup`): over RAM of zeros, or RAM in memory of the caller with the
+//!   bytes that are there; over disks of zeros, disks that hold contents, or disks in images of the caller. By what the struct names
+//!   one of the relations holds that say so (`specs/Making`, `specs/Images`, `specs/Mapping`, `specs/OverRam`); RAM and images are
+//!   taken where it is done, and nothing else is. What does not go together, and what this version does not know, is refused before.
+//! - `vmig_arrive` lets one arrive in such memory, and within limits (`specs/Expected`). `Admission` reads the header of what arrives
+//!   as it comes: no byte that completes it is let in before it was compared with the limits (`specs/Admission`).
 //! - The bytes that were taken, followed by those that wait, are what a machine that is being migrated has written, from its
 //!   first call to its stop, and the machine that arrives from them is that machine: laws over these clauses (`specs/Sent`).
 //! - A caller whose guest runs on hardware keeps the guest's RAM in memory of its own (`specs/Mirror`). `vmig_push` is one
@@ -23,15 +29,12 @@
 //!   that the caller noted, or is the greatest. `Mirrors` says that each page whose noted version is the current one is the
 //!   machine's. Whatever is applied to the machine keeps a mirror; pushed pages are mirrored; and after a pull of a mirror the
 //!   caller's RAM is the machine's, byte for byte (`laws`). The caller's part is to hand in every page that its guest wrote.
-//! - `vmig_make_with` makes the first machine over disks that hold the images, and `vmig_sector_read` gives a sector of a disk.
-//!   Nothing but the guest writes one.
-//! - `vmig_make_mapped` makes the first machine over disks in images of the caller, which it takes (`specs/Mapping`).
-//!   `vmig_unmap` frees such a machine, and the slots then hold the contents of its disks, in the order of the devices, but for
+//! - `vmig_sector_read` gives a sector of a disk. Nothing but the guest writes one.
+//! - `vmig_unmap` frees a machine over images, and the slots then hold the contents of its disks, in the order of the devices, but for
 //!   bad sectors, which may hold anything (`specs/Unmapping`). It also ends an arrival over images, refused or not, and gives them
-//!   back. Each refuses without a change. That an image comes back to its
-//!   address is not in the clause, since a machine is not seen with addresses; the disk has no other memory to give.
-//! - `vmig_make_over` makes the first machine over RAM in memory of the caller, with the bytes that are there, and `vmig_arrive_over` lets
-//!   one arrive in it (`specs/OverRam`). `vmig_lend` lends this RAM to the caller; `vmig_give_back`, `vmig_give_back_marked` and
+//!   back. It refuses without a change. That an image comes back to its address is not in the clause, since a machine is not seen with
+//!   addresses; the disk has no other memory to give.
+//! - `vmig_lend` lends RAM that lies in memory of the caller to it; `vmig_give_back`, `vmig_give_back_marked` and
 //!   `vmig_give_back_all` take it back with the pages that were written, which are named by a list, a bitmap (`specs/Named`), or not at
 //!   all (`specs/Lent`). Each refuses without a change. Meanwhile the handle has all of the machine but its RAM (`loan`), and a call
 //!   that needs RAM is refused.
@@ -45,27 +48,29 @@ ghost use Rattle.vmig_c.specs.Announced.{Announces, AnnouncesDevice};
 ghost use Rattle.vmig_c.specs.Arriving.{Counted, Fed, Finished};
 ghost use Rattle.vmig_c.specs.Described.{Describes, Sizes};
 ghost use Rattle.vmig_c.specs.Durable.{sync_told};
-ghost use Rattle.vmig_c.specs.Images.{MakesWith, SectorRead};
-ghost use Rattle.vmig_c.specs.Landing.{Awaits};
+ghost use Rattle.vmig_c.specs.Expected.{Expects};
+ghost use Rattle.vmig_c.specs.Images.{SectorRead};
 ghost use Rattle.vmig_c.specs.Lent.{GivesBack, GivesBackMarked, GivesBackWhole, Lends};
 ghost use Rattle.vmig_c.specs.Making.{Makes};
-ghost use Rattle.vmig_c.specs.Mapping.{Maps};
 ghost use Rattle.vmig_c.specs.Measured.{Measured};
 ghost use Rattle.vmig_c.specs.Migrated.{Aborted, Begun, Copied, EndedRound, HasBeenStopped, Remaining, Taken};
 ghost use Rattle.vmig_c.specs.Mirror.{Pulled, Pushed};
 ghost use Rattle.vmig_c.specs.Moving.{Received, Saved};
 ghost use Rattle.vmig_c.specs.NextWork.{FoundWork};
-ghost use Rattle.vmig_c.specs.OverRam.{AwaitsIn, MakesOver};
+ghost use Rattle.vmig_c.specs.Setup.{MakesAs};
 ghost use Rattle.vmig_c.specs.Stepped.{Stepped};
 ghost use Rattle.vmig_c.specs.Unmapping.{Unmaps};
 ghost use Rattle.vmig_c.specs.Told.{Told, ToldSo, Read, lines_told};
 ghost use Rattle.vmig_c.specs.Version.{version};
 
+mod admission;
 mod announcing;
 mod arrival;
 mod arriving;
+mod creating;
 mod describing;
 mod device_shape;
+mod expecting;
 mod handle;
 mod images;
 mod kept;
@@ -82,6 +87,7 @@ mod moving;
 mod naming;
 mod over_ram;
 mod serving;
+mod setup;
 mod status;
 mod stepping;
 mod syncing;
@@ -91,23 +97,23 @@ mod working;
 
 use announcing::{announced_device, announced_size};
 use arriving::{feed, feed_first, finish, rounds};
+use creating::{make_from, make_zeros};
 use describing::{describe_kept, size_kept};
 pub use device_shape::DeviceShape;
+use expecting::awaited;
 pub use handle::Handle;
-use images::{are_images, machine_with, read_sector};
-use landing::landing_over;
+use images::read_sector;
 use lending::{give_back, give_back_all, give_back_marked, lend};
-use making::{are_beyond_limits, machine_of};
 use mapped_disk::Image;
-use mapping::{are_counted, machine_over};
 use measuring::measure_kept;
 use migrating::{abort, begin, copy, end_round, remaining, stop, take, taken_out};
 use mirror::{pull, push};
 use moving::{machine_in, save_kept};
-use over_ram::{is_ram, landing_in, machine_in_ram, over_refusal};
 use region::Slot;
 use serving::{input, lines, read_ram, read_register, resize, write_ram, write_register};
-use status::{BAD_IMAGES, BAD_RAM, BAD_SHAPE, DONE, IN_USE, NO_MACHINE, NO_MEMORY};
+pub use setup::{Expected, Setup};
+use setup::{arrival_refusal, setup_refusal};
+use status::{DONE, IN_USE, NO_MACHINE, NO_MEMORY};
 use std::alloc::Global;
 use stepping::step_kept;
 use syncing::sync_kept;
@@ -127,7 +133,6 @@ pub extern "C" fn vmig_version() -> u32
 
 /// Makes a machine of `pages` pages of zeros and of these devices, whose disks are zeros in memory.
 #[unsafe(no_mangle)]
-#[tactic(auto, using(crate::proofs::ByHandle::make_used, crate::proofs::ByHandle::make_beyond, crate::proofs::ByHandle::make_full, crate::proofs::ByHandle::make_done))]
 pub extern "C" fn vmig_make(
     alloc: Global,
     pages: u32,
@@ -136,100 +141,23 @@ pub extern "C" fn vmig_make(
 ) -> u32
     ensures { Makes machine.old.machine pages shapes.now result machine.new.machine }
 {
-    if machine.is_made() {
-        return IN_USE;
-    }
-    if are_beyond_limits(pages, shapes) {
-        return BAD_SHAPE;
-    }
-    let Ok(made) = machine_of(alloc, pages, shapes) else {
-        return NO_MEMORY;
-    };
-    std::mem::replace(machine, Handle::of(made)).gone();
-    DONE
+    make_zeros(alloc, pages, shapes, machine)
 }
 
-/// Makes such a machine, whose disks hold the images: their sectors one after another, in the order of the devices.
+/// Makes a machine as the setup says. RAM and images that it names are taken; where it is refused all is as it was.
 #[unsafe(no_mangle)]
-#[tactic(auto, using(crate::proofs::Imaging::with_used, crate::proofs::Imaging::with_beyond, crate::proofs::Imaging::with_others, crate::proofs::Imaging::with_full, crate::proofs::Imaging::with_done))]
-pub extern "C" fn vmig_make_with(
-    alloc: Global,
-    pages: u32,
-    shapes: &[DeviceShape],
-    images: &[u8],
-    machine: &mut Handle,
-) -> u32
-    ensures { MakesWith machine.old.machine pages shapes.now images.now result machine.new.machine }
+pub extern "C" fn vmig_make_as(alloc: Global, setup: &mut Setup, machine: &mut Handle) -> u32
+    ensures made { MakesAs machine.old.machine setup.old result setup.new machine.new.machine }
+    ensures rest { setup.new ≡ record setup.old { images = setup.new.images; ram = setup.new.ram } }
+    ensures slots { setup.new.images.ghost_name ≡ setup.old.images.ghost_name }
 {
     if machine.is_made() {
         return IN_USE;
     }
-    if are_beyond_limits(pages, shapes) {
-        return BAD_SHAPE;
-    }
-    if !are_images(images.len(), shapes) {
-        return BAD_IMAGES;
-    }
-    let Ok(made) = machine_with(alloc, pages, shapes, images) else {
-        return NO_MEMORY;
-    };
-    std::mem::replace(machine, Handle::of(made)).gone();
-    DONE
-}
-
-/// Makes such a machine, whose disks lie in the images, in the order of the devices. The images are taken: what is left of each is
-/// one of no sectors. Where memory is refused the images are as they were.
-#[unsafe(no_mangle)]
-#[tactic(auto, using(crate::proofs::MappingImages::maps_used, crate::proofs::MappingImages::maps_beyond, crate::proofs::MappingImages::maps_others, crate::proofs::MappingImages::maps_full, crate::proofs::MappingImages::maps_done))]
-pub extern "C" fn vmig_make_mapped(
-    alloc: Global,
-    pages: u32,
-    shapes: &[DeviceShape],
-    images: &mut [Image],
-    machine: &mut Handle,
-) -> u32
-    ensures { Maps machine.old.machine pages shapes.now images.old images.new result machine.new.machine }
-{
-    if machine.is_made() {
-        return IN_USE;
-    }
-    if are_beyond_limits(pages, shapes) {
-        return BAD_SHAPE;
-    }
-    if !are_counted(images, shapes) {
-        return BAD_IMAGES;
-    }
-    let Ok(made) = machine_over(alloc, pages, shapes, images) else {
-        return NO_MEMORY;
-    };
-    std::mem::replace(machine, Handle::of(made)).gone();
-    DONE
-}
-
-/// Makes such a machine, whose RAM is the bytes of the memory in the slot, as they are, and whose disks lie in the images; where there
-/// is no image, its disks are zeros in memory. Slot and images are taken; where it is refused they are as they were.
-#[unsafe(no_mangle)]
-#[tactic(auto, using(crate::proofs::OverRam::over_used, crate::proofs::OverRam::over_beyond, crate::proofs::OverRam::over_full, crate::proofs::OverRam::over_done))]
-pub extern "C" fn vmig_make_over(
-    alloc: Global,
-    ram: &mut Slot,
-    shapes: &[DeviceShape],
-    images: &mut [Image],
-    machine: &mut Handle,
-) -> u32
-    ensures { MakesOver machine.old.machine ram.old ram.new shapes.now images.old images.new result machine.new.machine }
-{
-    if machine.is_made() {
-        return IN_USE;
-    }
-    if let Some(status) = over_refusal(ram, shapes, images) {
+    if let Some(status) = setup_refusal(setup) {
         return status;
     }
-    let Ok(made) = machine_in_ram(alloc, ram, shapes, images) else {
-        return NO_MEMORY;
-    };
-    std::mem::replace(machine, Handle::of(made)).gone();
-    DONE
+    make_from(alloc, setup, machine)
 }
 
 /// Frees the machine, and its images go into the slots, which are of no sectors: those of its disks that lie in memory of the
@@ -716,45 +644,21 @@ pub extern "C" fn vmig_take(
     take(alloc, machine.get_mut(), buf, got)
 }
 
-/// A machine will arrive over the images, whose bytes are the disks of its devices, in their order. The images are taken: what is left
-/// of each is one of no sectors. Where memory is refused the images are as they were.
+/// A machine will arrive, in the memory and within the limits that the struct says. RAM and images that it names are taken; where it is
+/// refused all is as it was.
 #[unsafe(no_mangle)]
-#[tactic(auto, using(crate::proofs::Landings::awaits_used, crate::proofs::Landings::awaits_full, crate::proofs::Landings::awaits_done))]
-pub extern "C" fn vmig_arrive_mapped(
-    alloc: Global,
-    images: &mut [Image],
-    machine: &mut Handle,
-) -> u32
-    ensures { Awaits machine.old.machine images.old images.new result machine.new.machine }
+pub extern "C" fn vmig_arrive(alloc: Global, arrival: &mut Expected, machine: &mut Handle) -> u32
+    ensures expected { Expects machine.old.machine arrival.old result arrival.new machine.new.machine }
+    ensures rest { arrival.new ≡ record arrival.old { images = arrival.new.images; ram = arrival.new.ram } }
+    ensures slots { arrival.new.images.ghost_name ≡ arrival.old.images.ghost_name }
 {
     if machine.is_made() {
         return IN_USE;
     }
-    let Ok(made) = landing_over(alloc, images) else {
-        return NO_MEMORY;
-    };
-    std::mem::replace(machine, Handle::of(made)).gone();
-    DONE
-}
-
-/// As above, and its RAM will be the memory in the slot, which is taken: what arrives is written straight into it.
-#[unsafe(no_mangle)]
-#[tactic(auto, using(crate::proofs::OverRam::into_used, crate::proofs::OverRam::into_no_ram, crate::proofs::OverRam::into_full, crate::proofs::OverRam::into_done))]
-pub extern "C" fn vmig_arrive_over(
-    alloc: Global,
-    ram: &mut Slot,
-    images: &mut [Image],
-    machine: &mut Handle,
-) -> u32
-    ensures { AwaitsIn machine.old.machine ram.old ram.new images.old images.new result machine.new.machine }
-{
-    if machine.is_made() {
-        return IN_USE;
+    if let Some(status) = arrival_refusal(arrival) {
+        return status;
     }
-    if !is_ram(ram) {
-        return BAD_RAM;
-    }
-    let Ok(made) = landing_in(alloc, ram, images) else {
+    let Ok(made) = awaited(alloc, arrival) else {
         return NO_MEMORY;
     };
     std::mem::replace(machine, Handle::of(made)).gone();
@@ -770,7 +674,7 @@ pub extern "C" fn vmig_feed(alloc: Global, machine: &mut Handle, bytes: &[u8]) -
     if !machine.is_made() {
         return feed_first(alloc, machine, bytes);
     }
-    feed(machine.get_mut(), bytes)
+    feed(alloc, machine.get_mut(), bytes)
 }
 
 /// Ends an arrival after its last piece: the handle has the machine, or its stream is refused.

@@ -3,8 +3,8 @@
 ghost use Rattle.vmig_c.specs.Kept as states;
 ghost use Rattle.vmig_c.specs.Measured.{MeasuresKept};
 
-use crate::kept::{Contents, Kept};
-use crate::status::{DONE, IS_MOVING, LENT, NO_MACHINE};
+use crate::kept::{Kept, by_state};
+use crate::status::{DONE, IS_MOVING};
 use machine::{Disk, Machine};
 use sender::saved_len;
 
@@ -12,13 +12,10 @@ use sender::saved_len;
 pub(crate) fn measure_kept(kept: &Kept, len: &mut usize) -> u32
     ensures { MeasuresKept kept.now.state result len.new len.old }
 {
-    match &kept.contents {
-        Contents::Still(machine) => measure(machine, len),
-        Contents::StillMapped(machine) => measure(machine, len),
-        Contents::Moving(_) | Contents::MovingMapped(_) => IS_MOVING,
-        Contents::Arriving(_) | Contents::ArrivingMapped(_) => NO_MACHINE,
-        Contents::Lent(_) => LENT,
-    }
+    by_state!(&kept.contents;
+        still(machine) => measure(machine, len),
+        moving(_) => IS_MOVING,
+    )
 }
 
 fn measure<D: Disk>(machine: &Machine<D>, len: &mut usize) -> u32

@@ -7,7 +7,7 @@ ghost use Rattle.vmig_c.specs.Told.{IsServed};
 ghost use Rattle.sender.specs.declared.event.LiveEvent.TheVariants as live_events;
 
 use crate::arrival::Arrival;
-use crate::kept::{Contents, Kept, Moving};
+use crate::kept::{Contents, Kept, Moving, by_state};
 use crate::status::{DONE, LENT, NO_MACHINE, NO_MEMORY, NOT_BEGUN, mig_told};
 use crate::waiting::Waiting;
 use machine::{Disk, Machine};
@@ -51,6 +51,7 @@ fn begun(alloc: Global, old: Kept) -> (Kept, u32)
         contents,
         sent,
         named,
+        admission,
     } = old;
     let (contents, status) = match contents {
         Contents::Still(machine) => match begun_of(alloc, machine) {
@@ -77,6 +78,7 @@ fn begun(alloc: Global, old: Kept) -> (Kept, u32)
         contents,
         sent,
         named,
+        admission,
     };
     (kept, status)
 }
@@ -119,13 +121,10 @@ pub(crate) fn copy(kept: &mut Kept, dev: &mut u8, number: &mut u32) -> u32
     ensures copies { CopiesKept kept.old.state result dev.new dev.old number.new number.old kept.new.state }
     ensures kind { kept.new ≡ record kept.old { state = kept.new.state } }
 {
-    match &mut kept.contents {
-        Contents::Still(_) | Contents::StillMapped(_) => NOT_BEGUN,
-        Contents::Moving(live) => copy_told(live, dev, number),
-        Contents::MovingMapped(live) => copy_told(live, dev, number),
-        Contents::Arriving(_) | Contents::ArrivingMapped(_) => NO_MACHINE,
-        Contents::Lent(_) => LENT,
-    }
+    by_state!(&mut kept.contents;
+        still(_) => NOT_BEGUN,
+        moving(live) => copy_told(live, dev, number),
+    )
 }
 
 #[tactic(auto, using(crate::proofs::Migration::copied))]
@@ -154,13 +153,10 @@ pub(crate) fn end_round(kept: &mut Kept, round: &mut u32) -> u32
     ensures ends { EndsKept kept.old.state result round.new round.old kept.new.state }
     ensures kind { kept.new ≡ record kept.old { state = kept.new.state } }
 {
-    match &mut kept.contents {
-        Contents::Still(_) | Contents::StillMapped(_) => NOT_BEGUN,
-        Contents::Moving(live) => end_told(live, round),
-        Contents::MovingMapped(live) => end_told(live, round),
-        Contents::Arriving(_) | Contents::ArrivingMapped(_) => NO_MACHINE,
-        Contents::Lent(_) => LENT,
-    }
+    by_state!(&mut kept.contents;
+        still(_) => NOT_BEGUN,
+        moving(live) => end_told(live, round),
+    )
 }
 
 #[tactic(auto, using(crate::proofs::ByKept::served))]
@@ -184,13 +180,10 @@ pub(crate) fn stop(kept: &mut Kept, pages: &mut u64, sectors: &mut u64) -> u32
     ensures stops { StopsKept kept.old.state result pages.new pages.old sectors.new sectors.old kept.new.state }
     ensures kind { kept.new ≡ record kept.old { state = kept.new.state } }
 {
-    match &mut kept.contents {
-        Contents::Still(_) | Contents::StillMapped(_) => NOT_BEGUN,
-        Contents::Moving(live) => stop_told(live, pages, sectors),
-        Contents::MovingMapped(live) => stop_told(live, pages, sectors),
-        Contents::Arriving(_) | Contents::ArrivingMapped(_) => NO_MACHINE,
-        Contents::Lent(_) => LENT,
-    }
+    by_state!(&mut kept.contents;
+        still(_) => NOT_BEGUN,
+        moving(live) => stop_told(live, pages, sectors),
+    )
 }
 
 #[tactic(auto, using(crate::proofs::Migration::stopped))]
@@ -231,6 +224,7 @@ fn aborted(old: Kept) -> (Kept, u32)
         contents,
         sent,
         named,
+        admission,
     } = old;
     let (contents, status) = match contents {
         Contents::Still(machine) => (Contents::Still(machine), NOT_BEGUN),
@@ -245,6 +239,7 @@ fn aborted(old: Kept) -> (Kept, u32)
         contents,
         sent,
         named,
+        admission,
     };
     (kept, status)
 }
@@ -253,13 +248,10 @@ fn aborted(old: Kept) -> (Kept, u32)
 pub(crate) fn remaining(kept: &Kept, due: &mut u64, dirty: &mut u64) -> u32
     ensures { RemainsKept kept.now.state result due.new due.old dirty.new dirty.old }
 {
-    match &kept.contents {
-        Contents::Still(_) | Contents::StillMapped(_) => NOT_BEGUN,
-        Contents::Moving(live) => remaining_told(live, due, dirty),
-        Contents::MovingMapped(live) => remaining_told(live, due, dirty),
-        Contents::Arriving(_) | Contents::ArrivingMapped(_) => NO_MACHINE,
-        Contents::Lent(_) => LENT,
-    }
+    by_state!(&kept.contents;
+        still(_) => NOT_BEGUN,
+        moving(live) => remaining_told(live, due, dirty),
+    )
 }
 
 fn remaining_told<D: Disk>(live: &Moving<D>, due: &mut u64, dirty: &mut u64) -> u32
@@ -277,13 +269,11 @@ pub(crate) fn take(alloc: Global, kept: &mut Kept, buf: &mut [u8], got: &mut usi
     ensures takes { TakesKept kept.old.state result got.new got.old buf.old buf.new kept.new.state }
     ensures kind { kept.new ≡ record kept.old { state = kept.new.state } }
 {
-    match &mut kept.contents {
-        Contents::Still(_) | Contents::StillMapped(_) => NOT_BEGUN,
-        Contents::Moving(live) => take_told(alloc, live, buf, got),
-        Contents::MovingMapped(live) => take_told(alloc, live, buf, got),
-        Contents::Arriving(_) | Contents::ArrivingMapped(_) => NO_MACHINE,
-        Contents::Lent(loan) => loan.take(alloc, buf, got),
-    }
+    by_state!(&mut kept.contents;
+        still(_) => NOT_BEGUN,
+        moving(live) => take_told(alloc, live, buf, got),
+        lent(loan) => loan.take(alloc, buf, got),
+    )
 }
 
 fn take_told<D: Disk>(alloc: Global, live: &mut Moving<D>, buf: &mut [u8], got: &mut usize) -> u32

@@ -8,7 +8,7 @@ ghost use Rattle.vmig_c.specs.Mirror.{ArePushed, HasPulled, IsPushed, PullsKept,
 ghost use Rattle.vmig_c.specs.Status.{done};
 ghost use Rattle.vmig_c.specs.Kept as states;
 
-use crate::kept::{Contents, Kept, Moving};
+use crate::kept::{Contents, Kept, Moving, by_state};
 use crate::status::{DONE, LENT, NO_MACHINE, OUT_OF_RAM, STOPPED, TOO_SMALL};
 use guestmem::{PAGE_SIZE, Ram};
 use machine::{Disk, Machine};
@@ -22,14 +22,10 @@ pub(crate) fn push(kept: &mut Kept, pages: &[u32], ram: &[u8], seen: &mut [u64])
     if let Some(status) = push_refusal(kept, pages, ram.len(), seen.len()) {
         return status;
     }
-    match &mut kept.contents {
-        Contents::Still(machine) => push_still(machine, pages, ram, seen),
-        Contents::StillMapped(machine) => push_still(machine, pages, ram, seen),
-        Contents::Moving(live) => push_moving(live, pages, ram, seen),
-        Contents::MovingMapped(live) => push_moving(live, pages, ram, seen),
-        Contents::Arriving(_) | Contents::ArrivingMapped(_) => NO_MACHINE,
-        Contents::Lent(_) => LENT,
-    }
+    by_state!(&mut kept.contents;
+        still(machine) => push_still(machine, pages, ram, seen),
+        moving(live) => push_moving(live, pages, ram, seen),
+    )
 }
 
 /// Why `vmig_push` is refused, if it is.
@@ -91,13 +87,12 @@ pub(crate) fn are_pages(count: u64, pages: &[u32]) -> bool
 pub(crate) fn ram_of(kept: &Kept) -> Option<&Ram>
     ensures { MatchOption result (is_away kept.now.state ≡ true) (λ ram. (is_away kept.now.state ≡ false) × (ram.now ≡ memory_in kept.now.state)) }
 {
-    match &kept.contents {
-        Contents::Still(machine) => Some(machine.ram()),
-        Contents::StillMapped(machine) => Some(machine.ram()),
-        Contents::Moving(live) => Some(live.machine().ram()),
-        Contents::MovingMapped(live) => Some(live.machine().ram()),
-        Contents::Arriving(_) | Contents::ArrivingMapped(_) | Contents::Lent(_) => None,
-    }
+    by_state!(&kept.contents;
+        still(machine) => Some(machine.ram()),
+        moving(live) => Some(live.machine().ram()),
+        lent(_) => None,
+        arriving => None,
+    )
 }
 
 /// The status of a machine without RAM.

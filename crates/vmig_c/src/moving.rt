@@ -8,9 +8,9 @@ ghost use Rattle.vmig_c.specs.Moving.{IsKept, KeepsReceived, RefusedBy, Saves, S
 ghost use Rattle.vmig_c.specs.Headed.{AreFitting};
 ghost use Rattle.vmig_c.specs.Plain.{ArePlain, mem_state};
 
-use crate::kept::{Contents, Kept};
+use crate::kept::{Contents, Kept, by_state};
 use crate::making::zero_disks;
-use crate::status::{DONE, IS_MOVING, LENT, NO_MACHINE, NO_MEMORY, TOO_SMALL};
+use crate::status::{DONE, IS_MOVING, NO_MEMORY, TOO_SMALL};
 use guestmem::NoMemory;
 use machine::{Disk, Machine, MemDisk};
 use receiver::{RecvError, receive};
@@ -23,13 +23,10 @@ pub(crate) fn save_kept(alloc: Global, kept: &mut Kept, buf: &mut [u8], len: &mu
     ensures saves { SavesKept kept.old.state result len.new len.old buf.old buf.new kept.new.state }
     ensures kind { kept.new ≡ record kept.old { state = kept.new.state } }
 {
-    match &mut kept.contents {
-        Contents::Still(machine) => save_told(alloc, machine, buf, len),
-        Contents::StillMapped(machine) => save_told(alloc, machine, buf, len),
-        Contents::Moving(_) | Contents::MovingMapped(_) => IS_MOVING,
-        Contents::Arriving(_) | Contents::ArrivingMapped(_) => NO_MACHINE,
-        Contents::Lent(_) => LENT,
-    }
+    by_state!(&mut kept.contents;
+        still(machine) => save_told(alloc, machine, buf, len),
+        moving(_) => IS_MOVING,
+    )
 }
 
 /// Saves a machine into a buffer. `len` becomes the length of its stream, also if the buffer is too small.

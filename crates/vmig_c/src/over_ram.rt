@@ -3,14 +3,18 @@
 ghost use Rattle.std.specs.Prelude.{◌≡◌, [], true, length, IfErr, IfOk, None, Some};
 ghost use Rattle.region.specs.Empty.{empty_slot};
 ghost use Rattle.region.specs.Slot.{region_of, slot_of};
+ghost use Rattle.vmig_c.specs.AdmissionSeen as seen;
+ghost use Rattle.vmig_c.specs.Images.{image_size};
 ghost use Rattle.vmig_c.specs.Landing.{KeepsAwaitedAt};
 ghost use Rattle.vmig_c.specs.Lent.{place_of};
 ghost use Rattle.vmig_c.specs.Making.{shapes_of};
 ghost use Rattle.vmig_c.specs.Mapping.{AreTaken, contents};
-ghost use Rattle.vmig_c.specs.OverRam.{KeepsOver, has_images, is_ram, over_refusal_of};
+ghost use Rattle.vmig_c.specs.OverRam.{KeepsOver, KeepsOverWith, has_images, is_ram, over_refusal_of, over_with_refusal_of};
 
+use crate::admission::Limits;
 use crate::arrival::Arrival;
 use crate::device_shape::DeviceShape;
+use crate::images::{are_images, image_disks};
 use crate::kept::{Contents, Kept};
 use crate::landing::Landing;
 use crate::making::{are_beyond_limits, shapes_of, zero_disks};
@@ -40,6 +44,23 @@ pub(crate) fn over_refusal(
         return Some(BAD_SHAPE);
     }
     if !images.is_empty() && !are_counted(images, shapes) {
+        return Some(BAD_IMAGES);
+    }
+    None
+}
+
+/// Why no machine is made over such memory, of these devices and a count of bytes of contents, if so.
+pub(crate) fn over_with_refusal(ram: &mut Slot, shapes: &[DeviceShape], count: usize) -> Option<u32>
+    ensures same { ram.new ≡ ram.old }
+    ensures refusal { result ≡ over_with_refusal_of (length ram.old.content) shapes.now count }
+{
+    if !is_ram(ram) {
+        return Some(BAD_RAM);
+    }
+    if are_beyond_limits((ram.len() / PAGE_SIZE) as u32, shapes) {
+        return Some(BAD_SHAPE);
+    }
+    if !are_images(count, shapes) {
         return Some(BAD_IMAGES);
     }
     None
@@ -96,6 +117,30 @@ fn machine_over_zeros(
     }
 }
 
+/// As above, whose disks hold the contents.
+pub(crate) fn machine_over_contents(
+    alloc: Global,
+    ram: &mut Slot,
+    shapes: &[DeviceShape],
+    contents: &[u8],
+) -> Result<Box<Kept>, NoMemory>
+    requires { length contents.now ≡ image_size (shapes_of shapes.now) }
+    ensures made { IfOk result (λ k. KeepsOverWith ram.old (shapes_of shapes.now) contents.now k.value) }
+    ensures ram { IfOk result (λ k. ram.new ≡ empty_slot) }
+    ensures same { IfErr result (λ e. ram.new ≡ ram.old) }
+{
+    let shapes = shapes_of(alloc, shapes)?;
+    let disks = image_disks(alloc, &shapes, contents)?;
+    let boxed = stand_in(alloc)?;
+    match Machine::new_over(alloc, taken_ram(ram), &shapes, disks) {
+        Ok(machine) => Ok(filled(boxed, Kept::new(alloc, Contents::Still(machine)))),
+        Err((_, _disks, region)) => {
+            put_back(region, ram);
+            Err(NoMemory)
+        }
+    }
+}
+
 fn machine_over_images(
     alloc: Global,
     ram: &mut Slot,
@@ -126,11 +171,13 @@ fn machine_over_images(
 /// out of memory: then slot and images are as they were.
 pub(crate) fn landing_in(
     alloc: Global,
+    limits: Limits,
     ram: &mut Slot,
     images: &mut [Image],
 ) -> Result<Box<Kept>, NoMemory>
     requires { is_ram (length ram.old.content) ≡ true }
     ensures made { IfOk result (λ k. KeepsAwaitedAt (Some (place_of ram.old)) (contents images.old) k.value) }
+    ensures limits { IfOk result (λ k. k.value.admission ≡ seen.Pending limits []) }
     ensures ram { IfOk result (λ k. ram.new ≡ empty_slot) }
     ensures taken { IfOk result (λ k. AreTaken images.old images.new) }
     ensures same { IfErr result (λ e. ram.new ≡ ram.old) }
@@ -141,7 +188,7 @@ pub(crate) fn landing_in(
     match Ram::over(alloc, taken_ram(ram)) {
         Ok(memory) => {
             let landing = Landing::new_in(alloc, disks, memory);
-            let kept = Kept::new(alloc, Contents::ArrivingMapped(landing));
+            let kept = Kept::within(alloc, Contents::ArrivingMapped(landing), limits);
             Ok(filled(boxed, kept))
         }
         Err((_, region)) => {

@@ -5,8 +5,8 @@ ghost use Rattle.machine.specs.declared.event.Event.TheVariants as events;
 ghost use Rattle.sender.specs.declared.event.LiveEvent.TheVariants as live_events;
 ghost use Rattle.vmig_c.specs.Told.{IsServed, ReadsKept, Tells, TellsSo, lines_in};
 
-use crate::kept::{Contents, Kept, Moving};
-use crate::status::{LENT, NO_MACHINE, answer_told, done_told, written_told};
+use crate::kept::{Kept, Moving, by_state};
+use crate::status::{answer_told, done_told, written_told};
 use crate::stepping::reply_told;
 use machine::Disk;
 
@@ -16,16 +16,10 @@ pub(crate) fn read_register(kept: &mut Kept, dev: u8, off: u32, width: u8, value
     ensures told { Tells kept.old.state (events.RegRead dev off width) result value.new value.old kept.new.state }
     ensures kind { kept.new ≡ record kept.old { state = kept.new.state } }
 {
-    match &mut kept.contents {
-        Contents::Still(machine) => answer_told(machine.read_register(dev, off, width), value),
-        Contents::StillMapped(machine) => {
-            answer_told(machine.read_register(dev, off, width), value)
-        }
-        Contents::Moving(live) => value_told(live, dev, off, width, value),
-        Contents::MovingMapped(live) => value_told(live, dev, off, width, value),
-        Contents::Arriving(_) | Contents::ArrivingMapped(_) => NO_MACHINE,
-        Contents::Lent(_) => LENT,
-    }
+    by_state!(&mut kept.contents;
+        still(machine) => answer_told(machine.read_register(dev, off, width), value),
+        moving(live) => value_told(live, dev, off, width, value),
+    )
 }
 
 /// As above, for a machine that is being migrated.
@@ -50,18 +44,10 @@ pub(crate) fn write_register(
     ensures told { Tells kept.old.state (events.RegWrite dev off width value) result out.new out.old kept.new.state }
     ensures kind { kept.new ≡ record kept.old { state = kept.new.state } }
 {
-    match &mut kept.contents {
-        Contents::Still(machine) => {
-            written_told(machine.write_register(dev, off, width, value), out)
-        }
-        Contents::StillMapped(machine) => {
-            written_told(machine.write_register(dev, off, width, value), out)
-        }
-        Contents::Moving(live) => out_told(live, dev, off, width, value, out),
-        Contents::MovingMapped(live) => out_told(live, dev, off, width, value, out),
-        Contents::Arriving(_) | Contents::ArrivingMapped(_) => NO_MACHINE,
-        Contents::Lent(_) => LENT,
-    }
+    by_state!(&mut kept.contents;
+        still(machine) => written_told(machine.write_register(dev, off, width, value), out),
+        moving(live) => out_told(live, dev, off, width, value, out),
+    )
 }
 
 /// As above, for a machine that is being migrated.
@@ -84,28 +70,22 @@ fn out_told<D: Disk>(
 pub(crate) fn read_ram(kept: &Kept, addr: u64, buf: &mut [u8]) -> u32
     ensures { ReadsKept kept.now.state addr result buf.old buf.new }
 {
-    match &kept.contents {
-        Contents::Still(machine) => done_told(machine.read_ram(addr, buf)),
-        Contents::StillMapped(machine) => done_told(machine.read_ram(addr, buf)),
-        Contents::Moving(live) => done_told(live.machine().read_ram(addr, buf)),
-        Contents::MovingMapped(live) => done_told(live.machine().read_ram(addr, buf)),
-        Contents::Arriving(_) | Contents::ArrivingMapped(_) => NO_MACHINE,
-        Contents::Lent(_) => LENT,
-    }
+    by_state!(&kept.contents;
+        still(machine) => done_told(machine.read_ram(addr, buf)),
+        moving(live) => done_told(live.machine().read_ram(addr, buf)),
+    )
 }
 
 /// The interrupt lines.
 pub(crate) fn lines(kept: &Kept) -> u16
     ensures { result ≡ lines_in kept.now.state }
 {
-    match &kept.contents {
-        Contents::Still(machine) => machine.lines(),
-        Contents::StillMapped(machine) => machine.lines(),
-        Contents::Moving(live) => live.machine().lines(),
-        Contents::MovingMapped(live) => live.machine().lines(),
-        Contents::Arriving(_) | Contents::ArrivingMapped(_) => 0,
-        Contents::Lent(loan) => loan.lines(),
-    }
+    by_state!(&kept.contents;
+        still(machine) => machine.lines(),
+        moving(live) => live.machine().lines(),
+        lent(loan) => loan.lines(),
+        arriving => 0,
+    )
 }
 
 /// The guest writes RAM.
@@ -114,14 +94,10 @@ pub(crate) fn write_ram(kept: &mut Kept, addr: u64, bytes: &[u8]) -> u32
     ensures told { TellsSo kept.old.state (events.MemWrite addr bytes.now) result kept.new.state }
     ensures kind { kept.new ≡ record kept.old { state = kept.new.state } }
 {
-    match &mut kept.contents {
-        Contents::Still(machine) => done_told(machine.write_ram(addr, bytes)),
-        Contents::StillMapped(machine) => done_told(machine.write_ram(addr, bytes)),
-        Contents::Moving(live) => write_told(live, addr, bytes),
-        Contents::MovingMapped(live) => write_told(live, addr, bytes),
-        Contents::Arriving(_) | Contents::ArrivingMapped(_) => NO_MACHINE,
-        Contents::Lent(_) => LENT,
-    }
+    by_state!(&mut kept.contents;
+        still(machine) => done_told(machine.write_ram(addr, bytes)),
+        moving(live) => write_told(live, addr, bytes),
+    )
 }
 
 /// As above, for a machine that is being migrated.
@@ -140,14 +116,10 @@ pub(crate) fn input(kept: &mut Kept, dev: u8, bytes: &[u8], accepted: &mut u32) 
     ensures told { Tells kept.old.state (events.Input dev bytes.now) result accepted.new accepted.old kept.new.state }
     ensures kind { kept.new ≡ record kept.old { state = kept.new.state } }
 {
-    match &mut kept.contents {
-        Contents::Still(machine) => answer_told(machine.input(dev, bytes), accepted),
-        Contents::StillMapped(machine) => answer_told(machine.input(dev, bytes), accepted),
-        Contents::Moving(live) => input_told(live, dev, bytes, accepted),
-        Contents::MovingMapped(live) => input_told(live, dev, bytes, accepted),
-        Contents::Arriving(_) | Contents::ArrivingMapped(_) => NO_MACHINE,
-        Contents::Lent(_) => LENT,
-    }
+    by_state!(&mut kept.contents;
+        still(machine) => answer_told(machine.input(dev, bytes), accepted),
+        moving(live) => input_told(live, dev, bytes, accepted),
+    )
 }
 
 /// As above, for a machine that is being migrated.
@@ -165,14 +137,10 @@ pub(crate) fn resize(kept: &mut Kept, dev: u8, cols: u16, rows: u16) -> u32
     ensures told { TellsSo kept.old.state (events.Resize dev cols rows) result kept.new.state }
     ensures kind { kept.new ≡ record kept.old { state = kept.new.state } }
 {
-    match &mut kept.contents {
-        Contents::Still(machine) => done_told(machine.resize(dev, cols, rows)),
-        Contents::StillMapped(machine) => done_told(machine.resize(dev, cols, rows)),
-        Contents::Moving(live) => resize_told(live, dev, cols, rows),
-        Contents::MovingMapped(live) => resize_told(live, dev, cols, rows),
-        Contents::Arriving(_) | Contents::ArrivingMapped(_) => NO_MACHINE,
-        Contents::Lent(_) => LENT,
-    }
+    by_state!(&mut kept.contents;
+        still(machine) => done_told(machine.resize(dev, cols, rows)),
+        moving(live) => resize_told(live, dev, cols, rows),
+    )
 }
 
 /// As above, for a machine that is being migrated.

@@ -47,6 +47,12 @@ pub(crate) const NOT_OVER: u32 = 25;
 
 pub(crate) const BAD_RAM: u32 = 26;
 
+pub(crate) const NOT_KNOWN: u32 = 27;
+
+pub(crate) const STREAM_FAILED: u32 = 48;
+
+pub(crate) const STREAM_TOO_LARGE: u32 = 49;
+
 pub(crate) const OUT_BYTE: u32 = 64;
 
 pub(crate) const IDLE: u32 = 65;

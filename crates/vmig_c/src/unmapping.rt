@@ -86,6 +86,7 @@ pub(crate) fn unmap(kept: Kept, images: &mut [Image])
         contents,
         sent: _,
         named: _,
+        admission: _,
     } = kept;
     match contents {
         Contents::StillMapped(machine) => hand_back(machine, images),

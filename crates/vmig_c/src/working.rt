@@ -4,8 +4,8 @@ ghost use Rattle.std.specs.Prelude.{◌≡◌};
 ghost use Rattle.vmig_c.specs.Kept as states;
 ghost use Rattle.vmig_c.specs.NextWork.{FindsWork, FindsWorkOf};
 
-use crate::kept::{Contents, Kept, Moving};
-use crate::status::{IDLE, LENT, NO_MACHINE, STOPPED};
+use crate::kept::{Kept, Moving, by_state};
+use crate::status::{IDLE, STOPPED};
 use machine::{Disk, Machine, Work};
 use sender::Phase;
 
@@ -15,14 +15,10 @@ const WORK: u32 = 78;
 pub(crate) fn next_work(kept: &Kept, dev: &mut u8, pick: &mut u8) -> u32
     ensures { FindsWork kept.now.state result dev.new dev.old pick.new pick.old }
 {
-    match &kept.contents {
-        Contents::Still(machine) => work_told(machine, dev, pick),
-        Contents::StillMapped(machine) => work_told(machine, dev, pick),
-        Contents::Moving(live) => live_work_told(live, dev, pick),
-        Contents::MovingMapped(live) => live_work_told(live, dev, pick),
-        Contents::Arriving(_) | Contents::ArrivingMapped(_) => NO_MACHINE,
-        Contents::Lent(_) => LENT,
-    }
+    by_state!(&kept.contents;
+        still(machine) => work_told(machine, dev, pick),
+        moving(live) => live_work_told(live, dev, pick),
+    )
 }
 
 /// As above, for a machine that is being migrated. One that was stopped makes no steps.

@@ -1,0 +1,128 @@
+//! How C asks for a machine: for one that is made, and for one that arrives.
+
+ghost use Rattle.std.specs.Prelude.{◌≡◌, ◌==◌, length};
+ghost use Rattle.vmig_c.specs.Setup.{are_known, are_others, setup_refusal_of};
+ghost use Rattle.vmig_c.specs.Expected.{arrival_refusal_of};
+ghost use Rattle.vmig_c.specs.Unmapping.{are_none};
+
+use crate::device_shape::DeviceShape;
+use crate::over_ram::is_ram;
+use crate::status::{BAD_IMAGES, BAD_RAM, NOT_KNOWN};
+use guestmem::PAGE_SIZE;
+use mapped_disk::Image;
+use region::Slot;
+
+/// The version of both structs that this library knows.
+const KNOWN: u32 = 1;
+
+/// How a machine is made.
+#[repr(C)]
+pub struct Setup<'a, 'i> {
+    /// The version of this struct.
+    pub version: u32,
+
+    /// The pages of RAM. Where RAM is memory of the caller, as many as that has, or 0.
+    pub pages: u32,
+
+    /// The devices, in order.
+    pub shapes: &'a [DeviceShape],
+
+    /// The sectors of the disks, one after another, in the order of the devices. Where there are none, and no images, they are zeros.
+    pub contents: &'a [u8],
+
+    /// The images in which the disks lie, in the order of the devices. Where there are none the disks lie in memory of the library.
+    pub images: &'i mut [Image],
+
+    /// The memory that RAM is, with the bytes that are there. Where it has no bytes, RAM is zeros in memory of the library.
+    pub ram: Slot,
+
+    /// Zeros, until a later version asks for more by them.
+    pub reserved: [u64; 4],
+}
+
+/// How a machine arrives.
+#[repr(C)]
+pub struct Expected<'i> {
+    /// The version of this struct.
+    pub version: u32,
+
+    /// The most pages that its RAM may have.
+    pub most_pages: u32,
+
+    /// The most sectors that all its disks together may have.
+    pub most_sectors: u64,
+
+    /// The images that its disks will lie in, in the order of the devices. Where there are none, and no RAM, its disks will lie in memory
+    /// of the library.
+    pub images: &'i mut [Image],
+
+    /// The memory that its RAM will be. Where it has no bytes, RAM will be memory of the library.
+    pub ram: Slot,
+
+    /// Zeros, until a later version asks for more by them.
+    pub reserved: [u64; 4],
+}
+
+/// Why no machine is made, whatever the devices are, if so.
+pub(crate) fn setup_refusal(setup: &mut Setup) -> Option<u32>
+    ensures same { setup.new ≡ setup.old }
+    ensures refusal { result ≡ setup_refusal_of setup.old }
+{
+    if !are_known(setup.version, &setup.reserved) {
+        return Some(NOT_KNOWN);
+    }
+    if !setup.contents.is_empty() && !is_none(setup.images) {
+        return Some(BAD_IMAGES);
+    }
+    if are_others(setup.pages, setup.ram.len()) {
+        return Some(BAD_RAM);
+    }
+    None
+}
+
+/// Why no machine will arrive, if so.
+pub(crate) fn arrival_refusal(expected: &mut Expected) -> Option<u32>
+    ensures same { expected.new ≡ expected.old }
+    ensures refusal { result ≡ arrival_refusal_of expected.old }
+{
+    if !are_known(expected.version, &expected.reserved) {
+        return Some(NOT_KNOWN);
+    }
+    if !expected.ram.is_none() && !is_ram(&mut expected.ram) {
+        return Some(BAD_RAM);
+    }
+    None
+}
+
+/// Whether there is no image.
+pub(crate) fn is_none(images: &mut [Image]) -> bool
+    ensures same { images.new ≡ images.old }
+    ensures none { result ≡ (length images.old == 0) }
+{
+    images.is_empty()
+}
+
+/// Whether this library knows all that a struct of this version asks for.
+fn are_known(version: u32, reserved: &[u64]) -> bool
+    ensures { result ≡ are_known version reserved.now }
+{
+    version == KNOWN && are_none(reserved)
+}
+
+fn are_none(words: &[u64]) -> bool
+    ensures { result ≡ are_none words.now }
+{
+    for word in words {
+        if *word != 0 {
+            return false;
+        }
+    }
+    true
+}
+
+/// Whether RAM of the caller has these bytes, and another number of pages.
+fn are_others(pages: u32, bytes: usize) -> bool
+    ensures { result ≡ are_others pages bytes }
+{
+    bytes != 0 && pages != 0 && PAGE_SIZE * pages as usize != bytes
+}
