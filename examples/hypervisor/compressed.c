@@ -24,9 +24,9 @@ static uint32_t format_r(uint32_t opcode, uint32_t function, uint32_t rd, uint32
 
 static uint32_t branch(uint32_t function, uint32_t rs1, uint32_t half)
 {
-    uint32_t offset = bits(half, 12, 1) << 8 | bits(half, 10, 2) << 3 | bits(half, 5, 2) << 6 | bits(half, 3, 2) << 1 | bits(half, 2, 1) << 5;
+    uint32_t offset = bits(half, 10, 2) << 3 | bits(half, 5, 2) << 6 | bits(half, 3, 2) << 1 | bits(half, 2, 1) << 5 |
+                      bits(half, 12, 1) * 0x1f00;
 
-    offset |= bits(half, 12, 1) * 0x1e00;
     return 0x63 | bits(offset, 11, 1) << 7 | bits(offset, 1, 4) << 8 | function << 12 | rs1 << 15 | bits(offset, 5, 6) << 25 |
            bits(offset, 12, 1) << 31;
 }
@@ -95,7 +95,8 @@ static uint32_t compute(uint32_t half)
 /* C.ADDI16SP and C.LUI */
 static uint32_t upper(uint32_t half, uint32_t rd)
 {
-    uint32_t stack = bits(half, 6, 1) << 4 | bits(half, 5, 1) << 6 | bits(half, 3, 2) << 7 | bits(half, 2, 1) << 5 | bits(half, 12, 1) * 0xe00;
+    uint32_t stack = bits(half, 6, 1) << 4 | bits(half, 5, 1) << 6 | bits(half, 3, 2) << 7 | bits(half, 2, 1) << 5 |
+                     bits(half, 12, 1) * 0xe00;
 
     if (immediate6(half) == 0) return 0;
     if (rd == 2) return format_i(0x13, 0, 2, 2, stack);

@@ -22,7 +22,7 @@ struct move {
 };
 
 struct statistics {
-    uint64_t began, loans, steps, waited, in_library, entered;
+    uint64_t began, count_before, loans, steps, waited, in_library, entered;
 };
 
 struct host {
@@ -87,6 +87,7 @@ void stop_clock(struct host *h);
 void start_clock(struct host *h);
 
 /* statistics.c: the time in the library, and all numbers at the end. */
+void begin_statistics(struct host *h);
 void enter_library(struct host *h);
 void leave_library(struct host *h);
 void print_statistics(const struct host *h);

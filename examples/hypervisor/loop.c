@@ -7,6 +7,21 @@
 /* The steps of one turn: a guest can give its devices work without end. */
 enum { STEPS_A_TURN = 1000 };
 
+/* The guest runs until it comes out, and looks around where its slice is over or it waits. Whether the board answered what it came out
+ * for; else it came out for a register of a virtio device. */
+static int run_guest(struct host *h)
+{
+    struct processor *p = &h->processor;
+    uint64_t before = p->count;
+    int is_answered;
+
+    processor_run(p, h->left);
+    h->left -= p->count - before;
+    is_answered = board_answers(h);
+    if (h->left == 0 || p->exit.kind == EXIT_WAIT) look_around(h);
+    return is_answered;
+}
+
 /* A driver's access to a register of its device. */
 static void access_register(struct host *h)
 {
@@ -53,29 +68,33 @@ static void do_work(struct host *h)
     }
 }
 
-/* One turn. Where nothing is to be done that needs the machine, RAM stays lent, and the guest runs on. */
-static void turn(struct host *h)
+/* RAM is given back, what waits is done, and RAM is lent anew. The guest is outside all this time, so one look at the lines at the end
+ * is enough. The pages that it wrote are named where a round of a move ends, or the guest is to be paused, and not before. */
+static void serve(struct host *h, int is_answered)
 {
-    struct processor *p = &h->processor;
-    uint64_t before = p->count;
+    struct memory *log = &h->processor.memory;
+    size_t named = move_needs_log(h) ? log->count_written : 0;
 
-    processor_run(p, h->left);
-    h->left -= p->count - before;
-    int is_done = board_answers(h);
-    if (h->left == 0 || p->exit.kind == EXIT_WAIT) look_around(h);
-    if (is_done && !h->steps_wait && !h->input_waits && !move_is_due(h)) return;
-
-    enter_library(h);
-    h->statistics.loans++;
-    size_t named = move_needs_log(h) ? p->memory.count_written : 0;
-    must(vmig_give_back(&h->machine, &h->ram, p->memory.written, named), "vmig_give_back");
-    if (named > 0) memory_empty_log(&p->memory);
-    if (!is_done) access_register(h);
+    must(vmig_give_back(&h->machine, &h->ram, log->written, named), "vmig_give_back");
+    if (named > 0) memory_empty_log(log);
+    if (!is_answered) access_register(h);
     take_input(h);
     do_work(h);
     if (!move_further(h)) return;
     set_lines(h);
     must(vmig_lend(&h->machine, &h->ram), "vmig_lend");
+}
+
+/* One turn. The guest runs on RAM that is lent to it until it comes out. Where nothing is to be done that needs the machine, RAM stays
+ * lent, and the turn ends. */
+static void turn(struct host *h)
+{
+    int is_answered = run_guest(h);
+
+    if (is_answered && !h->steps_wait && !h->input_waits && !move_is_due(h)) return;
+    h->statistics.loans++;
+    enter_library(h);
+    serve(h, is_answered);
     leave_library(h);
 }
 

@@ -4,7 +4,6 @@
 #include <stdio.h>
 #include <stdlib.h>
 #include <string.h>
-#include "clock.h"
 #include "host.h"
 #include "memory.h"
 #include "say.h"
@@ -93,7 +92,7 @@ int main(int count, char **words)
     devices_plan(&h.devices, &h.options);
     if (h.options.listen != NULL) host_receive(&h);
     else begin_guest(&h);
-    h.statistics.began = clock_nanoseconds();
+    begin_statistics(&h);
     host_run(&h);
     print_statistics(&h);
     end(&h);

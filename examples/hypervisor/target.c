@@ -32,7 +32,7 @@ static const char *feed(struct host *h, struct arrival *a, const uint8_t *bytes,
 
     if (status != VMIG_OK) return vmig_status_name(status);
     if (vmig_rounds(&h->machine, &rounds) == VMIG_OK && rounds > a->rounds) {
-        say("move: %u rounds are here", rounds);
+        say("move: round %u is here", rounds);
         a->rounds = rounds;
         /* The guest runs elsewhere now: what is brought to the files here needs not be brought in its pause. */
         if (!devices_bring(&h->devices)) return "a disk cannot be written";
