@@ -150,7 +150,7 @@ static void say_line(const char *format, va_list values)
     char line[512];
     int length = vsnprintf(line, sizeof line, format, values);
 
-    if (length >= 0) fprintf(stderr, "hypervisor: %s%s", line, is_raw ? "\r\n" : "\n");
+    if (length >= 0) fprintf(stderr, "hypervisor: %s\n", line);
 }
 
 void say(const char *format, ...)
