@@ -9,12 +9,12 @@
 #include <string.h>
 #include <sys/socket.h>
 #include <unistd.h>
+#include "clock.h"
 #include "line.h"
 #include "say.h"
 #include "terminal.h"
 
-/* A line that is silent for this long is broken. */
-enum { PATIENCE_MS = 20000, NAME_MAX = 256 };
+enum { PATIENCE_MS = 30000, NAME_MAX = 256 };
 
 static uint32_t get_word(const uint8_t *at)
 {
@@ -54,6 +54,7 @@ static void begin_line(struct line *l, int socket)
 
     l->socket = socket;
     l->out_at = l->out_length = 0;
+    l->sent_at = clock_nanoseconds();
     setsockopt(socket, IPPROTO_TCP, TCP_NODELAY, &on, sizeof on);
     fcntl(socket, F_SETFL, O_NONBLOCK);
 }
@@ -145,8 +146,10 @@ int line_push(struct line *l)
         ssize_t sent = send(l->socket, l->out + l->out_at, l->out_length - l->out_at, MSG_NOSIGNAL);
 
         if (sent < 0 && errno == EINTR) continue;
-        if (sent < 0) return errno == EAGAIN || errno == EWOULDBLOCK ? 0 : -1;
+        if (sent < 0 && errno != EAGAIN && errno != EWOULDBLOCK) return -1;
+        if (sent < 0) return clock_nanoseconds() - l->sent_at < PATIENCE_MS * UINT64_C(1000000) ? 0 : -1;
         l->out_at += (size_t)sent;
+        l->sent_at = clock_nanoseconds();
     }
     return 1;
 }

@@ -23,6 +23,7 @@ struct line {
     int socket;
     uint8_t out[FRAME_HEAD + BODY_MAX];  /* a frame that is being sent */
     size_t out_at, out_length;
+    uint64_t sent_at;                    /* when the line took bytes the last time */
     uint8_t body[BODY_MAX];              /* the last frame that came */
     uint32_t type, length;
 };
@@ -38,7 +39,8 @@ void line_close(struct line *l);
 /* Begins to send a frame, while none is being sent. */
 void line_begin(struct line *l, enum frame_type type, const void *bytes, size_t length);
 
-/* Sends what the line takes at once. 1 where the frame is sent, 0 where a part is left, -1 where the line is broken. */
+/* Sends what the line takes at once. 1 where the frame is sent, 0 where a part is left, -1 where the line is broken, or took nothing
+ * for half a minute. */
 int line_push(struct line *l);
 
 /* Sends the rest of the frame that is being sent. False as line_send. */

@@ -49,16 +49,6 @@ void memory_empty_log(struct memory *m)
     memory_forget(m);
 }
 
-int memory_put(struct memory *m, uint64_t address, const void *bytes, uint64_t length)
-{
-    uint64_t offset = address - RAM_BASE;
-
-    if (offset > m->length || length > m->length - offset) return 0;
-    if (length > 0) memcpy(m->ram + offset, bytes, length);
-    for (uint64_t at = offset / PAGE * PAGE; at < offset + length; at += PAGE) note_written(m, at);
-    return 1;
-}
-
 /* Whether the leaf `entry` allows the access, in this mode and with these bits of sstatus. */
 static int allows(const struct processor *p, uint64_t entry, enum access access)
 {

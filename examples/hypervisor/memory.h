@@ -19,9 +19,6 @@ void memory_forget(struct memory *m);
 /* Empties the log. What is written from now on is noted anew. */
 void memory_empty_log(struct memory *m);
 
-/* The host writes into RAM: false where that is not in RAM. The pages are in the log. */
-int memory_put(struct memory *m, uint64_t address, const void *bytes, uint64_t length);
-
 /* The page of a virtual address, and where the address is in it. NULL where that is no RAM of the guest's: it had an exception, or
  * *device is the physical address of an access of `width` bytes to a device. */
 uint8_t *memory_find(struct processor *p, uint64_t address, enum access access, unsigned width, uint64_t *device);

@@ -92,7 +92,7 @@ static const char *take_all(struct host *h, struct arrival *a)
 __attribute__((noreturn)) static void refuse(struct host *h, const char *why)
 {
     line_refuse(&h->move.line, why);
-    fail("move: %s: no guest is here. It continues where it came from", why);
+    fail("move: %s: no guest is here, and the source has it", why);
 }
 
 /* The source did not say that it has let go. Perhaps it did, and perhaps it runs the guest. */
