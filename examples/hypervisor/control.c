@@ -14,7 +14,8 @@ enum { ECALL = 0x00000073, EBREAK = 0x00100073, SRET = 0x10200073, WFI = 0x10500
 
 void set_context(struct processor *p)
 {
-    p->context = p->mode == USER ? 0 : p->sstatus & STATUS_SUM ? 2 : 1;
+    p->memory.here = p->memory.found[p->mode == USER ? 0 : p->sstatus & STATUS_SUM ? 2 : 1];
+    p->memory.code.tag = 0;
 }
 
 /* Enters supervisor mode at the vector. */

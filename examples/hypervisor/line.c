@@ -138,6 +138,7 @@ void line_begin(struct line *l, enum frame_type type, const void *bytes, size_t 
     if (length > 0) memcpy(l->out + FRAME_HEAD, bytes, length);
     l->out_at = 0;
     l->out_length = FRAME_HEAD + length;
+    l->sent_at = clock_nanoseconds();
 }
 
 int line_push(struct line *l)

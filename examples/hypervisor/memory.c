@@ -108,7 +108,7 @@ static int walk(struct processor *p, uint64_t address, enum access access, uint6
 uint8_t *memory_find(struct processor *p, uint64_t address, enum access access, unsigned width, uint64_t *device)
 {
     struct memory *m = &p->memory;
-    struct found_page *page = &m->found[p->context][access][address / PAGE % FOUND_PAGES];
+    struct found_page *page = &m->here[access][address / PAGE % FOUND_PAGES];
     uint64_t physical = address, offset;
     int cause = p->satp == 0 ? 0 : walk(p, address, access, &physical);
 

@@ -30,7 +30,7 @@ int memory_store_slowly(struct processor *p, uint64_t address, unsigned width, u
 /* Where the bytes of an address are, if its page was found and has them all. */
 static inline uint8_t *find_quickly(struct processor *p, uint64_t address, enum access access, unsigned width)
 {
-    struct found_page *page = &p->memory.found[p->context][access][address / PAGE % FOUND_PAGES];
+    struct found_page *page = &p->memory.here[access][address / PAGE % FOUND_PAGES];
 
     if (page->tag != (address / PAGE | p->memory.generation)) return NULL;
     return address % PAGE <= PAGE - width ? page->at + address % PAGE : NULL;

@@ -87,73 +87,77 @@ static inline unsigned function_of_immediate(uint32_t word, unsigned shift_bits)
     return above == 0 || above == 0x100 ? kind | above : UNKNOWN;
 }
 
-static void run_compute(struct processor *p, uint32_t word, uint64_t a, uint64_t b)
+/* The function of an instruction with two registers. */
+static inline unsigned function_of(uint32_t word)
 {
-    uint64_t *to = &p->x[bits(word, 7, 5)];
-    unsigned function = bits(word, 12, 3) | word >> 25 << 3;
-    int is_known;
-
-    switch (bits(word, 0, 7)) {
-    case 0x13: is_known = compute(function_of_immediate(word, 6), a, immediate_i(word), to); break;
-    case 0x1b: is_known = compute_word(function_of_immediate(word, 5), a, immediate_i(word), to); break;
-    case 0x33: is_known = compute(function, a, b, to); break;
-    default: is_known = compute_word(function, a, b, to); break;
-    }
-    if (!is_known) trap(p, ILLEGAL, 0);
+    return bits(word, 12, 3) | word >> 25 << 3;
 }
 
 /* Jumps to an address, and leaves that of the next instruction in a register. */
-static inline void jump(struct processor *p, uint32_t word, uint64_t to)
+static inline void jump(struct processor *p, uint64_t *link, uint64_t to)
 {
-    p->x[bits(word, 7, 5)] = p->next_pc;
+    *link = p->next_pc;
     p->next_pc = to;
 }
 
 static inline void run_instruction(struct processor *p, uint32_t word)
 {
-    uint64_t a = p->x[bits(word, 15, 5)], b = p->x[bits(word, 20, 5)];
+    uint64_t a = p->x[bits(word, 15, 5)], b = p->x[bits(word, 20, 5)], *to = &p->x[bits(word, 7, 5)];
+    int is_known = 0;
 
     switch (bits(word, 0, 7)) {
     case 0x03: run_load(p, word, a + immediate_i(word)); return;
     case 0x0f: return;  /* a fence: there is one processor, and it keeps no instruction */
-    case 0x13: case 0x1b: case 0x33: case 0x3b: run_compute(p, word, a, b); return;
-    case 0x17: p->x[bits(word, 7, 5)] = p->pc + immediate_u(word); return;
+    case 0x13: is_known = compute(function_of_immediate(word, 6), a, immediate_i(word), to); break;
+    case 0x17: *to = p->pc + immediate_u(word); return;
+    case 0x1b: is_known = compute_word(function_of_immediate(word, 5), a, immediate_i(word), to); break;
     case 0x23: run_store(p, word, a + immediate_s(word), b); return;
     case 0x2f: run_atomic(p, word); return;
-    case 0x37: p->x[bits(word, 7, 5)] = immediate_u(word); return;
+    case 0x33: is_known = compute(function_of(word), a, b, to); break;
+    case 0x37: *to = immediate_u(word); return;
+    case 0x3b: is_known = compute_word(function_of(word), a, b, to); break;
     case 0x63: run_branch(p, word, a, b); return;
-    case 0x67: jump(p, word, (a + immediate_i(word)) & ~UINT64_C(1)); return;
-    case 0x6f: jump(p, word, p->pc + immediate_j(word)); return;
+    case 0x67: jump(p, to, (a + immediate_i(word)) & ~UINT64_C(1)); return;
+    case 0x6f: jump(p, to, p->pc + immediate_j(word)); return;
     case 0x73: run_system(p, word); return;
-    default: trap(p, ILLEGAL, 0); return;
+    default: break;
     }
+    if (!is_known) trap(p, ILLEGAL, 0);
 }
 
-/* Two bytes of an instruction. */
-static inline int fetch_half(struct processor *p, uint64_t address, uint32_t *half)
+/* Where the instruction at an address is, of at least two bytes. Most are in the page of the one before. */
+static inline const uint8_t *find_code(struct processor *p, uint64_t address)
 {
-    uint64_t device;
-    const uint8_t *at = find_quickly(p, address, FETCH, 2);
+    struct found_page *page = &p->memory.code;
+    uint64_t device, tag = address / PAGE | p->memory.generation;
 
-    if (at == NULL) at = memory_find(p, address, FETCH, 2, &device);
-    if (at == NULL) return 0;
-    *half = (uint32_t)get_number(at, 2);
-    return 1;
+    if (page->tag != tag) {
+        const uint8_t *at = find_quickly(p, address, FETCH, 2);
+
+        if (at == NULL) at = memory_find(p, address, FETCH, 2, &device);
+        if (at == NULL) return NULL;
+        page->at = (uint8_t *)at - address % PAGE;
+        page->tag = tag;
+    }
+    return page->at + address % PAGE;
 }
 
 /* The next instruction, and where the one after it is. False where the guest had an exception. */
 static inline int fetch(struct processor *p, uint32_t *word)
 {
-    uint32_t low, high;
+    const uint8_t *at = find_code(p, p->pc);
+    uint32_t low;
 
-    if (!fetch_half(p, p->pc, &low)) return 0;
+    if (at == NULL) return 0;
+    low = (uint32_t)get_number(at, 2);
     if ((low & 3) != 3) {
         *word = expansions[low];
         p->next_pc = p->pc + 2;
         return 1;
     }
-    if (!fetch_half(p, p->pc + 2, &high)) return 0;
-    *word = low | high << 16;
+    at = p->pc % PAGE == PAGE - 2 ? find_code(p, p->pc + 2) : at + 2;
+    if (at == NULL) return 0;
+    *word = low | (uint32_t)get_number(at, 2) << 16;
     p->next_pc = p->pc + 4;
     return 1;
 }

@@ -65,6 +65,8 @@ struct memory {
     uint64_t length;
     uint64_t generation;  /* counts in the bits of a tag above the page's number */
     struct found_page found[CONTEXTS][ACCESSES][FOUND_PAGES];
+    struct found_page (*here)[FOUND_PAGES];  /* those of the context that the processor is in */
+    struct found_page code;                  /* the page of the last instruction, in that context */
     uint8_t *is_written;  /* for each page, whether it is in the log */
     uint32_t *written;    /* the log: the pages that the guest wrote since the log was last emptied */
     size_t count_written;
@@ -72,7 +74,7 @@ struct memory {
 
 struct processor {
     uint64_t x[32], pc, next_pc;
-    uint64_t mode, context;
+    uint64_t mode;
     uint64_t sstatus, stvec, scounteren, sscratch, sepc, scause, stval, sie, satp;
     uint64_t software_pending, external_pending;
     uint64_t timer;        /* the time at which the timer's interrupt is due */
