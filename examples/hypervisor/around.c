@@ -10,7 +10,7 @@
 #include "terminal.h"
 
 /* A guest that waits looks around this often, for a signal may have come before the wait. */
-enum { WAIT_MS_MAX = 20, ENTROPY_PIECE = 256, STATUS_REGISTER = 0x070, DRIVER_OK = 4 };
+enum { FRAMES_A_TURN = 64, WAIT_MS_MAX = 20, ENTROPY_PIECE = 256, STATUS_REGISTER = 0x070, DRIVER_OK = 4 };
 
 /* Whether the guest's driver drives a device. What comes before that waits, or is lost. */
 static int is_driven(struct host *h, unsigned device)
@@ -81,7 +81,7 @@ static void take_frames(struct host *h)
 
     if (h->wire < 0) return;
     int hears = is_driven(h, (unsigned)h->devices.network);
-    for (;;) {
+    for (int i = 0; i < FRAMES_A_TURN; i++) {
         if (h->frame_length == 0) h->frame_length = network_receive(h->wire, h->frame);
         if (h->frame_length == 0) return;
         if (hears) vmig_input(&h->machine, (uint8_t)h->devices.network, h->frame, (uint32_t)h->frame_length, &kept);

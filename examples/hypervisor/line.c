@@ -14,7 +14,7 @@
 #include "say.h"
 #include "terminal.h"
 
-enum { PATIENCE_MS = 30000, NAME_MAX = 256 };
+enum { PATIENCE_MS = 30000, CONNECT_MS = 2000, NAME_MAX = 256 };
 
 static uint32_t get_word(const uint8_t *at)
 {
@@ -26,7 +26,7 @@ static void put_word(uint8_t *at, uint32_t word)
     for (int i = 0; i < 4; i++) at[i] = (uint8_t)(word >> (8 * i));
 }
 
-/* The addresses of `[HOST:]PORT`, of this host where none is given. A host with colons stands in brackets. */
+/* The addresses of `[HOST:]PORT`, of this host where none is given. A host with colons has brackets around it. */
 static const char *look_up(const char *where, struct addrinfo **found)
 {
     struct addrinfo hints = {.ai_family = AF_UNSPEC, .ai_socktype = SOCK_STREAM, .ai_flags = AI_NUMERICSERV};
@@ -59,6 +59,25 @@ static void begin_line(struct line *l, int socket)
     fcntl(socket, F_SETFL, O_NONBLOCK);
 }
 
+/* Connects to one address. The guest is outside meanwhile, so it does not wait for long. Returns 0, or the error. */
+static int connect_to(const struct addrinfo *at, int *connected)
+{
+    int socket_of = socket(at->ai_family, SOCK_STREAM, 0), error = 0;
+    struct pollfd poll_of = {.fd = socket_of, .events = POLLOUT};
+    socklen_t length = sizeof error;
+
+    if (socket_of < 0) return errno;
+    fcntl(socket_of, F_SETFL, O_NONBLOCK);
+    if (connect(socket_of, at->ai_addr, at->ai_addrlen) != 0) {
+        error = errno;
+        if (error == EINPROGRESS && poll(&poll_of, 1, CONNECT_MS) == 0) error = ETIMEDOUT;
+        else if (error == EINPROGRESS) getsockopt(socket_of, SOL_SOCKET, SO_ERROR, &error, &length);
+    }
+    if (error != 0) close(socket_of);
+    else *connected = socket_of;
+    return error;
+}
+
 int line_connect(struct line *l, const char *where, const char **why)
 {
     struct addrinfo *found = NULL;
@@ -67,12 +86,10 @@ int line_connect(struct line *l, const char *where, const char **why)
     *why = look_up(where, &found);
     if (*why != NULL) return 0;
     *why = "there is no address";
-    for (struct addrinfo *at = found; at != NULL; at = at->ai_next) {
-        socket_of = socket(at->ai_family, SOCK_STREAM, 0);
-        if (socket_of >= 0 && connect(socket_of, at->ai_addr, at->ai_addrlen) == 0) break;
-        *why = strerror(errno);
-        if (socket_of >= 0) close(socket_of);
-        socket_of = -1;
+    for (struct addrinfo *at = found; at != NULL && socket_of < 0; at = at->ai_next) {
+        int error = connect_to(at, &socket_of);
+
+        if (error != 0) *why = strerror(error);
     }
     freeaddrinfo(found);
     if (socket_of < 0) return 0;

@@ -28,7 +28,7 @@ struct line {
     uint32_t type, length;
 };
 
-/* Connects to HOST:PORT. Returns false, and why, where that fails. */
+/* Connects to HOST:PORT, within two seconds. Returns false, and why, where that fails. */
 int line_connect(struct line *l, const char *where, const char **why);
 
 /* Waits at [HOST:]PORT for one connection. Ends the program where that fails. */

@@ -29,7 +29,7 @@ static const char HELP[] =
 
 __attribute__((noreturn)) static void misused(const char *what, const char *word)
 {
-    fprintf(stderr, "hypervisor: %s%s%s; --help tells more\n", word, *word ? ": " : "", what);
+    fprintf(stderr, "hypervisor: %s%s%s; --help says more\n", word, *word ? ": " : "", what);
     exit(2);
 }
 

@@ -94,7 +94,7 @@ void processor_prepare(void);
 /* The processor as firmware leaves it: in supervisor mode at the begin of the image, with the device tree's address. */
 void processor_reset(struct processor *p, uint64_t tree);
 
-/* Runs the guest for at most so many instructions. p->exit says why it came out. */
+/* Runs the guest for at most `instructions` instructions. p->exit says why it came out. */
 void processor_run(struct processor *p, uint64_t instructions);
 
 /* A read for which the guest came out gives this value. */

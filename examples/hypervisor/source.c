@@ -11,6 +11,8 @@
 /* How many pages and sectors go between two slices of the guest: as long as the slice takes. */
 enum { COPIES_A_TURN = 16 };
 
+static const char BROKEN[] = "the line is broken", OUT_OF_MEMORY[] = "out of memory";
+
 static int is_between_slices(const struct host *h)
 {
     return h->left == SLICE;
@@ -45,42 +47,46 @@ static const char *what_it_says(struct line *l)
     static char reason[REASON_MAX + 40];
     static const char BEGIN[] = "the target refuses: ";
 
-    if (l->type != REFUSED) return "the line is broken";
+    if (l->type != REFUSED) return BROKEN;
     memcpy(reason, BEGIN, sizeof BEGIN);
     for (uint32_t i = 0; i < l->length; i++) reason[sizeof BEGIN - 1 + i] = l->body[i] >= ' ' && l->body[i] < 127 ? (char)l->body[i] : '?';
     reason[sizeof BEGIN - 1 + l->length] = '\0';
     return reason;
 }
 
+/* Why the line takes nothing, or what came while nothing is awaited. */
 static const char *what_came(struct line *l)
 {
-    if (!line_has_come(l) || !line_receive(l)) l->type = 0;
-    return what_it_says(l);
+    return line_has_come(l) && line_receive(l) ? what_it_says(l) : BROKEN;
 }
 
-static int begin_move(struct host *h)
+/* Begins a move. Returns why there is none, or NULL. */
+static const char *begin_move(struct host *h)
 {
     uint8_t hello[HELLO_LENGTH] = "VMIGMOVE";
     const char *why = NULL;
 
     operator_words.moves = 0;
-    if (h->options.connect == NULL) return give_up(h, "there is no --connect to move to");
+    if (h->options.connect == NULL) return "there is no --connect to move to";
     if (!line_connect(&h->move.line, h->options.connect, &why)) {
-        say("move: to %s: %s", h->options.connect, why);
-        return give_up(h, "there is no line");
+        say("move: there is no line to %s", h->options.connect);
+        return why;
     }
-    hello[8] = LINE_VERSION;
-    hello[12] = (uint8_t)h->options.mib;
-    must(vmig_begin(&h->machine), "vmig_begin");
+    if (vmig_begin(&h->machine) != VMIG_OK) {
+        line_close(&h->move.line);
+        return OUT_OF_MEMORY;
+    }
     memory_empty_log(&h->processor.memory);
     h->move.is_on = 1;
-    h->move.round_is_sent = 0;
     h->move.round = 1;
+    h->move.round_is_sent = 0;
     h->move.pages = h->move.sectors = 0;
     h->move.left_before = UINT64_MAX;
     say("move: to %s begins", h->options.connect);
+    hello[8] = LINE_VERSION;
+    hello[12] = (uint8_t)h->options.mib;
     line_begin(&h->move.line, HELLO, hello, sizeof hello);
-    return 1;
+    return NULL;
 }
 
 /* Fills the frame that goes next with what waits in the machine. False where nothing does. */
@@ -94,26 +100,31 @@ static int begin_stream(struct host *h)
     return got > 0;
 }
 
-/* Sends some of what is due, as far as the line takes it. False where the line is broken. */
-static int send_some(struct host *h)
+/* Copies some of what is due. Returns why the move is over, or NULL. */
+static const char *copy_some(struct move *m, vmig_machine *machine)
 {
     uint8_t dev;
-    uint32_t number, status;
+    uint32_t number;
+
+    for (int i = 0; i < COPIES_A_TURN && !m->round_is_sent; i++) {
+        switch (vmig_copy(machine, &dev, &number)) {
+        case VMIG_PAGE: m->pages++; break;
+        case VMIG_SECTOR: m->sectors++; break;
+        case VMIG_ROUND_DONE: m->round_is_sent = 1; break;
+        default: return OUT_OF_MEMORY;
+        }
+    }
+    return NULL;
+}
+
+/* Sends what was copied, and copies more once the line took it all. */
+static const char *send_some(struct host *h)
+{
     int pushed;
 
     while ((pushed = line_push(&h->move.line)) > 0 && begin_stream(h)) continue;
-    if (pushed <= 0) return pushed == 0;
-    for (int i = 0; i < COPIES_A_TURN; i++) {
-        status = vmig_copy(&h->machine, &dev, &number);
-        if (status == VMIG_ROUND_DONE) {
-            h->move.round_is_sent = 1;
-            return 1;
-        }
-        if (status == VMIG_PAGE) h->move.pages++;
-        else if (status == VMIG_SECTOR) h->move.sectors++;
-        else fail("vmig_copy: %s", vmig_status_name(status));
-    }
-    return 1;
+    if (pushed < 0) return BROKEN;
+    return pushed == 0 ? NULL : copy_some(&h->move, &h->machine);
 }
 
 /* Whether the rounds are to end: few items are left, or it was the last round, or rounds shrink no more. */
@@ -122,19 +133,21 @@ static int is_enough(const struct host *h, uint64_t left)
     return left <= h->options.few || h->move.round >= h->options.rounds || left > h->move.left_before / 10 * 9;
 }
 
-/* The machine's stream ends, and its rest goes over the line, with all that is not in it. False where the line is broken. */
-static int send_rest(struct host *h)
+/* The machine's stream ends, and its rest goes over the line, with all that is not in it. */
+static const char *send_rest(struct host *h)
 {
     struct line *l = &h->move.line;
     uint8_t state[STATE_MAX];
     uint64_t pages = 0, sectors = 0;
 
-    must(vmig_stop(&h->machine, &pages, &sectors), "vmig_stop");
+    if (vmig_stop(&h->machine, &pages, &sectors) != VMIG_OK) return OUT_OF_MEMORY;
     say("move: the guest is paused: %llu pages and %llu sectors are left", (unsigned long long)pages, (unsigned long long)sectors);
     do
-        if (!line_finish(l)) return 0;
+        if (!line_finish(l)) return what_came(l);
     while (begin_stream(h));
-    return line_send(l, STATE, state, state_write(h, state)) && line_send(l, END, NULL, 0);
+    if (!line_send(l, STATE, state, state_write(h, state)) || !line_send(l, END, NULL, 0)) return what_came(l);
+    if (!line_receive(l)) return BROKEN;
+    return l->type == READY ? NULL : what_it_says(l);
 }
 
 /* The same of a guest that was paused. */
@@ -154,16 +167,16 @@ static int keep(struct host *h)
     return continue_here(h, "by the word of the operator");
 }
 
-/* The guest is paused, and the rest of it is sent. */
+/* The guest is paused, and the rest of it is sent. Once all is there it is let go. */
 static int finish_move(struct host *h)
 {
     struct line *l = &h->move.line;
     uint64_t paused = clock_nanoseconds();
+    const char *why;
 
     stop_clock(h);
-    if (!send_rest(h)) return continue_here(h, what_came(l));
-    if (!line_receive(l)) l->type = 0;
-    if (l->type != READY) return continue_here(h, what_it_says(l));
+    why = send_rest(h);
+    if (why != NULL) return continue_here(h, why);
     if (!line_send(l, GO, NULL, 0) || !line_receive(l) || l->type != RUNS) return keep(h);
     line_close(l);
     h->is_gone = 1;
@@ -189,9 +202,13 @@ static int end_round(struct host *h)
 
 int move_further(struct host *h)
 {
-    if (!h->move.is_on) return operator_words.moves ? begin_move(h) : 1;
-    if (!is_between_slices(h)) return 1;
-    if (line_has_come(&h->move.line)) return give_up(h, what_came(&h->move.line));
-    if (move_needs_log(h)) return end_round(h);
-    return send_some(h) ? 1 : give_up(h, "the line is broken");
+    const char *why = NULL;
+
+    if (!h->move.is_on && !operator_words.moves) return 1;
+    if (!h->move.is_on) why = begin_move(h);
+    else if (!is_between_slices(h)) return 1;
+    else if (line_has_come(&h->move.line)) why = what_came(&h->move.line);
+    else if (h->move.round_is_sent) return end_round(h);
+    else why = send_some(h);
+    return why == NULL ? 1 : give_up(h, why);
 }

@@ -97,7 +97,7 @@ static void sum_of_file(const char *name)
     if (file >= 0) close(file);
 }
 
-/* Copies so many KiB from one file to another, and says how fast that was. */
+/* Copies `kib` KiB from one file to another, and says how fast that was. */
 static void copy(const char *from, const char *to, unsigned kib)
 {
     int in = open(from, O_RDONLY, 0), out = open(to, O_WRONLY | O_CREAT, 0644);

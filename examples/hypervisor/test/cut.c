@@ -41,7 +41,7 @@ static int accept_one(void)
     return one;
 }
 
-/* All of so many bytes come, or the program ends, and both lines with it. */
+/* Reads `length` bytes, or ends the program, and both lines with it. */
 static void read_all(int from, uint8_t *bytes, size_t length)
 {
     while (length > 0) {
