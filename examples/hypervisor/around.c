@@ -126,14 +126,14 @@ void hand_on(struct host *h, unsigned device, const uint8_t *bytes, size_t lengt
 
 int wait_for_word(void)
 {
-    struct pollfd terminal = {.fd = 0, .events = POLLIN};
+    struct pollfd terminal = {.events = POLLIN};
     uint8_t bytes[TYPED_MAX];
 
     terminal_take();
     operator_words.continues = 0;
     while (!operator_words.continues && !operator_words.ends) {
-        if (terminal_is_taken() && poll(&terminal, 1, WAIT_MS_MAX) > 0) terminal_read(bytes, sizeof bytes);
-        else poll(NULL, 0, WAIT_MS_MAX);
+        terminal.fd = terminal_is_taken() && !terminal_has_ended() ? 0 : -1;
+        if (poll(&terminal, 1, WAIT_MS_MAX) > 0) terminal_read(bytes, sizeof bytes);
     }
     return operator_words.continues;
 }

@@ -249,9 +249,11 @@ void line_refuse(struct line *l, const char *reason)
     size_t length = strlen(reason);
 
     if (line_send(l, REFUSED, reason, length < REASON_MAX ? length : REASON_MAX)) {
-        /* What is on its way is read to its end: to close earlier would take the reason from the line. */
+        uint64_t end = clock_nanoseconds() + CONNECT_MS * UINT64_C(1000000);
+
+        /* What is on its way is read: to close earlier would take the reason from the line. */
         shutdown(l->socket, SHUT_WR);
-        while (receive_bytes(l, l->body, 1)) continue;
+        while (clock_nanoseconds() < end && wait_for(l, POLLIN) && recv(l->socket, l->body, sizeof l->body, 0) > 0) continue;
     }
     line_close(l);
 }

@@ -102,10 +102,12 @@ void host_run(struct host *h)
 {
     terminal_take();
     open_wire(h);
+    enter_library(h);
     fill_pool(h);
     do_work(h);
     set_lines(h);
     must(vmig_lend(&h->machine, &h->ram), "vmig_lend");
+    leave_library(h);
     h->left = SLICE;
     while (!h->has_ended && !h->is_gone && !operator_words.ends) turn(h);
     if (operator_words.ends) say("ended by its operator");

@@ -21,7 +21,7 @@ struct arrival {
 
 static const char *check_hello(const struct host *h, const struct line *l)
 {
-    if (l->type != HELLO || memcmp(l->body, "VMIGMOVE", 8) != 0) return "this is no hypervisor of ours";
+    if (l->type != HELLO || memcmp(l->body, "VMIGMOVE", 8) != 0) return "what connects is no hypervisor of this kind";
     if (l->body[8] != LINE_VERSION || l->body[9] != 0 || l->body[10] != 0 || l->body[11] != 0) return "it is of another version";
     return l->body[12] == h->options.mib ? NULL : "it has another size of RAM than --mem";
 }
@@ -68,7 +68,7 @@ static const char *take_frame(struct host *h, struct arrival *a)
         return a->is_known ? feed(h, a, l->body, l->length) : take_head(h, a, l->body, l->length);
     if (l->type == STATE && a->is_known && !a->has_state) {
         a->has_state = 1;
-        return state_read(h, l->body, l->length) ? NULL : "the processor's registers are none of ours";
+        return state_read(h, l->body, l->length) ? NULL : "the registers of the processor or the board have values that none can have";
     }
     return l->type == END && a->has_state ? NULL : "a frame is out of its place";
 }

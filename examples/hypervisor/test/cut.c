@@ -1,6 +1,6 @@
 /* A line that breaks: `cut PORT WHERE` accepts one connection at a free port of 127.0.0.1, which it prints, connects it to PORT there,
  * and hands on what comes, frame by frame. WHERE is the type of the frame before which it breaks, or `bytes=N`: after N bytes of the
- * source. Both ends are closed then. */
+ * source. Both ends are closed then. Or WHERE is `spoil=TYPE:N`: byte N of each such frame becomes another, and the line stays whole. */
 #define _DEFAULT_SOURCE
 #include <arpa/inet.h>
 #include <poll.h>
@@ -16,7 +16,8 @@
 static const char *const NAMES[] = {"", "hello", "stream", "state", "end", "ready", "go", "runs", "refused"};
 
 static const char *where;
-static unsigned long bytes_left = (unsigned long)-1;
+static unsigned long bytes_left = (unsigned long)-1, spoiled;
+static const char *spoils = "";
 
 static struct sockaddr_in address_of(int port)
 {
@@ -75,6 +76,7 @@ static void hand_on(int from, int to, int is_source)
     if (frame[0] >= sizeof NAMES / sizeof *NAMES || length > BODY_MAX) exit(1);
     if (strcmp(NAMES[frame[0]], where) == 0) exit(0);
     read_all(from, frame + FRAME_HEAD, length);
+    if (strcmp(NAMES[frame[0]], spoils) == 0 && spoiled < length) frame[FRAME_HEAD + spoiled] ^= 0x80;
     length += FRAME_HEAD;
     if (is_source && length > bytes_left) {
         write_all(to, frame, bytes_left);
@@ -91,6 +93,10 @@ int main(int count, char **words)
 
     if (count != 3) return 2;
     where = words[2];
+    if (strncmp(where, "spoil=", 6) == 0 && strtok(words[2], "=") != NULL) {
+        spoils = strtok(NULL, ":");
+        spoiled = strtoul(strtok(NULL, ":"), NULL, 10);
+    }
     if (strncmp(where, "bytes=", 6) == 0) bytes_left = strtoul(where + 6, NULL, 10);
     target = address_of(atoi(words[1]));
     source = accept_one();
