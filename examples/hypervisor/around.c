@@ -1,0 +1,139 @@
+/* What is around the guest: the terminal, the wire of its network, and random bytes. */
+#define _DEFAULT_SOURCE
+#include <poll.h>
+#include <string.h>
+#include <sys/random.h>
+#include <unistd.h>
+#include "clock.h"
+#include "host.h"
+#include "say.h"
+#include "terminal.h"
+
+/* A guest that waits looks around this often, for a signal may have come before the wait. */
+enum { FRAMES_A_TURN = 64, WAIT_MS_MAX = 20, ENTROPY_PIECE = 256, STATUS_REGISTER = 0x070, DRIVER_OK = 4 };
+
+/* Whether the guest's driver drives a device. What comes before that waits, or is lost. */
+static int is_driven(struct host *h, unsigned device)
+{
+    uint32_t status = 0;
+
+    return vmig_reg_read(&h->machine, (uint8_t)device, STATUS_REGISTER, 4, &status) == VMIG_OK && (status & DRIVER_OK);
+}
+
+/* How long the guest may wait: until its timer is due, and not at all where there is something to do. */
+static int milliseconds(const struct host *h)
+{
+    uint64_t left = processor_ticks_left(&h->processor) / (TICKS_A_SECOND / 1000);
+
+    if (h->processor.exit.kind != EXIT_WAIT || due_interrupts(&h->processor) != 0 || h->steps_wait || move_is_due(h)) return 0;
+    return left < WAIT_MS_MAX ? (int)left : WAIT_MS_MAX;
+}
+
+/* On a terminal the keys for the program are read also while the guest takes none; what it does not take is lost. */
+static void read_typed(struct host *h)
+{
+    uint8_t bytes[TYPED_MAX];
+    size_t room = TYPED_MAX - h->typed.count, got = terminal_read(bytes, room > 0 ? room : sizeof bytes);
+
+    if (got > room) got = room;
+    memcpy(h->typed.bytes + h->typed.count, bytes, got);
+    h->typed.count += (uint32_t)got;
+}
+
+void look_around(struct host *h)
+{
+    int hears = !terminal_has_ended() && (h->typed.count < TYPED_MAX || terminal_is_taken());
+    struct pollfd sockets[] = {{.fd = hears ? 0 : -1, .events = POLLIN},
+                               {.fd = h->frame_length == 0 ? h->wire : -1, .events = POLLIN}};
+    uint64_t before = clock_nanoseconds();
+    int count = poll(sockets, 2, milliseconds(h));
+
+    h->statistics.waited += clock_nanoseconds() - before;
+    h->left = SLICE;
+    h->input_waits = count > 0 || operator_words.has_new_size;
+    if (count > 0 && sockets[0].revents != 0) read_typed(h);
+    set_lines(h);
+}
+
+static void take_size(struct host *h)
+{
+    uint16_t columns, rows;
+
+    operator_words.has_new_size = 0;
+    if (terminal_size(&columns, &rows)) vmig_resize(&h->machine, CONSOLE, columns, rows);
+}
+
+/* What was typed goes to the console, once its driver is there. A guest that has none reads it at the UART. */
+static void take_typed(struct host *h)
+{
+    uint32_t kept = 0;
+
+    if (h->typed.count == 0 || !is_driven(h, CONSOLE)) return;
+    vmig_input(&h->machine, CONSOLE, h->typed.bytes, h->typed.count, &kept);
+    h->typed.count -= kept;
+    memmove(h->typed.bytes, h->typed.bytes + kept, h->typed.count);
+}
+
+/* Frames go to the card until it takes no more; then the last one waits. */
+static void take_frames(struct host *h)
+{
+    uint32_t kept = 0;
+
+    if (h->wire < 0) return;
+    int hears = is_driven(h, (unsigned)h->devices.network);
+    for (int i = 0; i < FRAMES_A_TURN; i++) {
+        if (h->frame_length == 0) h->frame_length = network_receive(h->wire, h->frame);
+        if (h->frame_length == 0) return;
+        if (hears) vmig_input(&h->machine, (uint8_t)h->devices.network, h->frame, (uint32_t)h->frame_length, &kept);
+        if (hears && kept == 0) return;
+        h->frame_length = 0;
+    }
+}
+
+void open_wire(struct host *h)
+{
+    if (h->wire >= 0) close(h->wire);
+    if (h->options.net != NULL) h->wire = network_open(h->options.net);
+}
+
+void take_input(struct host *h)
+{
+    if (operator_words.has_new_size) take_size(h);
+    take_typed(h);
+    if (h->input_waits || h->frame_length > 0) take_frames(h);
+    h->input_waits = 0;
+}
+
+void fill_pool(struct host *h)
+{
+    uint8_t bytes[ENTROPY_PIECE];
+    uint32_t kept;
+
+    do {
+        kept = 0;
+        if (getrandom(bytes, sizeof bytes, 0) != (ssize_t)sizeof bytes) fail("the host gives no random bytes");
+        vmig_input(&h->machine, ENTROPY, bytes, sizeof bytes, &kept);
+    } while (kept == sizeof bytes);
+}
+
+void hand_on(struct host *h, unsigned device, const uint8_t *bytes, size_t length)
+{
+    leave_library(h);
+    if (device == CONSOLE) terminal_write(bytes, length);
+    else if (h->wire >= 0) network_send(h->wire, bytes, length);
+    enter_library(h);
+}
+
+int wait_for_word(void)
+{
+    struct pollfd terminal = {.events = POLLIN};
+    uint8_t bytes[TYPED_MAX];
+
+    terminal_take();
+    operator_words.continues = 0;
+    while (!operator_words.continues && !operator_words.ends) {
+        terminal.fd = terminal_is_taken() && !terminal_has_ended() ? 0 : -1;
+        if (poll(&terminal, 1, WAIT_MS_MAX) > 0) terminal_read(bytes, sizeof bytes);
+    }
+    return operator_words.continues;
+}

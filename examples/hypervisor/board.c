@@ -1,0 +1,66 @@
+/* What the guest touches or asks of the board that needs no virtio device. */
+#include "host.h"
+#include "memory.h"
+#include "terminal.h"
+
+static void print(uint64_t byte)
+{
+    uint8_t bytes[] = {(uint8_t)byte};
+
+    terminal_write(bytes, 1);
+}
+
+static uint32_t read_device(struct host *h, uint64_t address, unsigned width)
+{
+    if (lies_in(address, UART_AT, UART_SIZE)) return uart_read(&h->uart, &h->typed, address - UART_AT);
+    if (lies_in(address, PLIC_AT, PLIC_SIZE) && width == 4) return interrupts_read(&h->interrupts, address - PLIC_AT);
+    return 0;
+}
+
+static void power_off(struct host *h, uint64_t outcome)
+{
+    h->has_ended = 1;
+    h->outcome = outcome;
+}
+
+static void write_device(struct host *h, uint64_t address, unsigned width, uint32_t value)
+{
+    if (lies_in(address, UART_AT, UART_SIZE)) {
+        int sent = uart_write(&h->uart, address - UART_AT, value);
+
+        if (sent >= 0) print((uint64_t)sent);
+    } else if (lies_in(address, PLIC_AT, PLIC_SIZE)) {
+        if (width == 4) interrupts_write(&h->interrupts, address - PLIC_AT, value);
+    } else if (address == POWER_AT) {
+        uint32_t word = value & 0xffff;
+
+        if (word == POWER_OFF || word == POWER_RESET) power_off(h, 0);
+        if (word == POWER_FAIL) power_off(h, value >> 16);
+    }
+}
+
+int board_answers(struct host *h)
+{
+    struct guest_exit *exit = &h->processor.exit;
+
+    if (exit->kind == EXIT_READ || exit->kind == EXIT_WRITE)
+        if (lies_in(exit->address, WINDOWS_AT, WINDOWS * WINDOW_SIZE)) return 0;
+    switch (exit->kind) {
+    case EXIT_READ: processor_loads(&h->processor, read_device(h, exit->address, exit->width)); break;
+    case EXIT_WRITE: write_device(h, exit->address, exit->width, (uint32_t)exit->value); break;
+    case EXIT_PRINT: print(exit->value); break;
+    case EXIT_TYPED: processor_loads(&h->processor, (uint64_t)(int64_t)typed_take(&h->typed)); break;
+    case EXIT_OFF: power_off(h, exit->value); break;
+    default: return 1;
+    }
+    set_lines(h);
+    return 1;
+}
+
+void set_lines(struct host *h)
+{
+    uint32_t uart = uart_interrupts(&h->uart, &h->typed) ? UINT32_C(1) << UART_INTERRUPT : 0;
+
+    h->interrupts.lines = (uint32_t)vmig_lines(&h->machine) << FIRST_INTERRUPT | uart;
+    h->processor.external_pending = interrupts_are_due(&h->interrupts) ? EXTERNAL_BIT : 0;
+}

@@ -1,0 +1,95 @@
+/* The hypervisor: a guest's processor and board, its machine, and what is around it. */
+#ifndef HOST_H
+#define HOST_H
+
+#include "devices.h"
+#include "interrupts.h"
+#include "line.h"
+#include "network.h"
+#include "options.h"
+#include "processor.h"
+#include "uart.h"
+
+/* The instructions after which the guest comes out to look around. */
+enum { SLICE = 20000 };
+
+/* A move that is on its way. */
+struct move {
+    struct line line;
+    int is_on, round_is_sent;
+    uint32_t round;
+    uint64_t pages, sectors, left_before;
+};
+
+struct statistics {
+    uint64_t began, count_before, loans, steps, waited, in_library, entered;
+};
+
+struct host {
+    struct options options;
+    struct devices devices;
+    vmig_machine machine;
+    vmig_ram ram;                /* RAM, while it is lent */
+    struct processor processor;
+    struct interrupts interrupts;
+    struct uart uart;
+    struct typed typed;
+    uint64_t left;               /* instructions that are left of the slice */
+    uint64_t stopped_at;         /* the guest's time when it was paused */
+    uint8_t dev, pick;           /* the last step */
+    int steps_wait, input_waits; /* there was more to do than one turn does */
+    int wire;                    /* of the network device, or -1 */
+    uint8_t frame[FRAME_MAX];
+    size_t frame_length;         /* a frame that the device did not take yet */
+    int has_ended, is_gone;      /* the guest powered off; it was moved away */
+    uint64_t outcome;            /* what it said when it powered off: 0 if all is well */
+    struct move move;
+    struct statistics statistics;
+};
+
+/* loop.c: the guest runs, from here on, until it powers off, is moved away, or the operator ends the program. */
+void host_run(struct host *h);
+
+/* around.c: looks at the terminal and the wire, and waits for them if the guest waits. */
+void look_around(struct host *h);
+/* Opens the wire of the network device, if there is one. */
+void open_wire(struct host *h);
+/* Hands in what came, with RAM given back. */
+void take_input(struct host *h);
+/* Keeps the entropy device's pool full. */
+void fill_pool(struct host *h);
+/* A message that a device sent. */
+void hand_on(struct host *h, unsigned device, const uint8_t *bytes, size_t length);
+
+/* board.c: what the board answers without the machine. False where the guest came out for a virtio device. */
+int board_answers(struct host *h);
+/* The lines of the devices reach the processor. */
+void set_lines(struct host *h);
+
+/* source.c: a part of a move, with RAM given back. False where the guest does not run here any more. */
+int move_further(struct host *h);
+/* Whether a move is on or asked for, and whether it needs the log of the pages now. */
+int move_is_due(const struct host *h);
+int move_needs_log(const struct host *h);
+
+/* target.c: waits for a guest that is moved here, and returns when it is to run. */
+void host_receive(struct host *h);
+
+/* around.c: the operator's word: to continue a guest that was kept. False where the program is to end. */
+int wait_for_word(void);
+
+/* state.c: the processor and the board as bytes. The length, or false where the bytes are none of such a state. */
+enum { STATE_MAX = 1024 };
+size_t state_write(struct host *h, uint8_t bytes[STATE_MAX]);
+int state_read(struct host *h, const uint8_t *bytes, size_t length);
+/* The guest's clock stops, and continues from where it stopped. */
+void stop_clock(struct host *h);
+void start_clock(struct host *h);
+
+/* statistics.c: the time in the library, and all numbers at the end. */
+void begin_statistics(struct host *h);
+void enter_library(struct host *h);
+void leave_library(struct host *h);
+void print_statistics(const struct host *h);
+
+#endif

@@ -1,0 +1,102 @@
+#include <stdio.h>
+#include <stdlib.h>
+#include <string.h>
+#include "options.h"
+#include "say.h"
+
+static const char HELP[] =
+    "hypervisor: runs a RISC-V guest, and moves it while it runs\n"
+    "\n"
+    "  hypervisor --kernel IMAGE [--initrd FILE] [--append TEXT] [--connect HOST:PORT] [OPTION..]\n"
+    "  hypervisor --listen [HOST:]PORT [--connect HOST:PORT] [OPTION..]\n"
+    "\n"
+    "  --kernel IMAGE     begins with this image, at RAM + 0x200000\n"
+    "  --initrd FILE      an initial RAM disk for it\n"
+    "  --append TEXT      the arguments of the kernel\n"
+    "  --listen [HOST:]PORT  begins with a guest that is moved here. HOST is 127.0.0.1 unless it is given; port 0 is any free one.\n"
+    "                     --mem, --disk and --net are as where the guest comes from; the disks' files are overwritten\n"
+    "  --connect HOST:PORT  where the guest moves to, at SIGUSR1 or Ctrl-A m. The line is not encrypted\n"
+    "  --disk FILE        a disk, up to five times: the file has whole sectors of 512 bytes, at most 1 GiB\n"
+    "  --net OWN,PEER     a network device between two unix datagram sockets: frames come to OWN, and go out to PEER\n"
+    "  --mem MIB          RAM, 1 to 64 MiB: 32 unless it is given\n"
+    "  --rounds N         a move sends at most N rounds before it pauses the guest: 30 unless it is given\n"
+    "  --few N            and pauses it earlier where at most N pages and sectors are left: 256 unless it is given\n"
+    "  --stats            prints what the guest did, and the time in the library, at the end\n"
+    "  --help             prints this\n"
+    "\n"
+    "On a terminal Ctrl-A m moves the guest, Ctrl-A c continues one that was kept after a broken move, Ctrl-A x ends the program,\n"
+    "and Ctrl-A a types Ctrl-A. The signals SIGUSR1, SIGUSR2 and SIGTERM do the first three.\n";
+
+__attribute__((noreturn)) static void misused(const char *what, const char *word)
+{
+    fprintf(stderr, "hypervisor: %s%s%s; --help says more\n", word, *word ? ": " : "", what);
+    exit(2);
+}
+
+static unsigned number_of(const char *option, const char *word, unsigned least, unsigned most)
+{
+    char *end, range[64];
+    unsigned long number = strtoul(word, &end, 10);
+
+    if (*word >= '0' && *word <= '9' && *end == '\0' && number >= least && number <= most) return (unsigned)number;
+    snprintf(range, sizeof range, "it is not a number from %u to %u", least, most);
+    misused(range, option);
+}
+
+static void add_disk(struct options *o, const char *word)
+{
+    if (o->count_disks == DISKS_MAX) misused("there are more than five", "--disk");
+    o->disks[o->count_disks++] = word;
+}
+
+/* An option that has a word of text. NULL where it is none of them. */
+static const char **text_of(struct options *o, const char *option)
+{
+    if (strcmp(option, "--kernel") == 0) return &o->kernel;
+    if (strcmp(option, "--initrd") == 0) return &o->initrd;
+    if (strcmp(option, "--append") == 0) return &o->append;
+    if (strcmp(option, "--listen") == 0) return &o->listen;
+    if (strcmp(option, "--connect") == 0) return &o->connect;
+    return strcmp(option, "--net") == 0 ? &o->net : NULL;
+}
+
+static void take_word(struct options *o, const char *option, const char *word)
+{
+    const char **text = text_of(o, option);
+
+    if (text != NULL && *text != NULL) misused("it is given twice", option);
+    if (text != NULL) *text = word;
+    else if (strcmp(option, "--disk") == 0) add_disk(o, word);
+    else if (strcmp(option, "--mem") == 0) o->mib = number_of(option, word, 1, RAM_MIB_MAX);
+    else if (strcmp(option, "--rounds") == 0) o->rounds = number_of(option, word, 1, 1000000);
+    else if (strcmp(option, "--few") == 0) o->few = number_of(option, word, 0, 1000000);
+    else misused("there is no such option", option);
+}
+
+static void compare(const struct options *o)
+{
+    if (o->kernel == NULL && o->listen == NULL) misused("either --kernel or --listen is needed", "");
+    if (o->kernel != NULL && o->listen != NULL) misused("a guest that is moved here has its kernel already", "--kernel");
+    if (o->listen != NULL && (o->initrd != NULL || o->append != NULL)) misused("--initrd and --append belong to --kernel", "--listen");
+    if (o->net != NULL && strchr(o->net, ',') == NULL) misused("it is OWN,PEER: two sockets", "--net");
+}
+
+void options_read(struct options *o, int count, char **words)
+{
+    *o = (struct options){.mib = 32, .rounds = 30, .few = 256};
+    for (int i = 1; i < count; i++) {
+        if (strcmp(words[i], "--help") == 0) {
+            fputs(HELP, stdout);
+            exit(0);
+        }
+        if (strcmp(words[i], "--stats") == 0) {
+            o->stats = 1;
+            continue;
+        }
+        if (strncmp(words[i], "--", 2) != 0) misused("this is no option", words[i]);
+        if (i + 1 == count) misused("there is no such option, or it lacks its word", words[i]);
+        take_word(o, words[i], words[i + 1]);
+        i++;
+    }
+    compare(o);
+}

@@ -1,0 +1,214 @@
+/* A guest is moved away while it runs: rounds between its turns, a pause at the end, and the words by which one of the two runs it.
+ * Until GO is sent the guest is kept here, and continues here if the line breaks. From then on it does not run here, unless the
+ * operator says so. */
+#include <string.h>
+#include "clock.h"
+#include "host.h"
+#include "memory.h"
+#include "say.h"
+#include "terminal.h"
+
+/* How many pages and sectors go between two slices of the guest: as long as the slice takes. */
+enum { COPIES_A_TURN = 16 };
+
+static const char BROKEN[] = "the line is broken", OUT_OF_MEMORY[] = "out of memory";
+
+static int is_between_slices(const struct host *h)
+{
+    return h->left == SLICE;
+}
+
+int move_is_due(const struct host *h)
+{
+    return h->move.is_on || operator_words.moves;
+}
+
+/* The log is read before a round ends and before the stop, and not before: each time the guest finds its pages anew. */
+int move_needs_log(const struct host *h)
+{
+    return h->move.is_on && h->move.round_is_sent && is_between_slices(h);
+}
+
+/* The move is over, and the guest continues here. */
+static int give_up(struct host *h, const char *why)
+{
+    if (h->move.is_on) {
+        line_close(&h->move.line);
+        must(vmig_abort(&h->machine), "vmig_abort");
+    }
+    h->move.is_on = 0;
+    say("move: %s: the guest continues here", why);
+    return 1;
+}
+
+/* What the last frame says in place of what was awaited. */
+static const char *what_it_says(struct line *l)
+{
+    static char reason[REASON_MAX + 40];
+    static const char BEGIN[] = "the target refuses: ";
+
+    if (l->type != REFUSED) return BROKEN;
+    memcpy(reason, BEGIN, sizeof BEGIN);
+    for (uint32_t i = 0; i < l->length; i++) reason[sizeof BEGIN - 1 + i] = l->body[i] >= ' ' && l->body[i] < 127 ? (char)l->body[i] : '?';
+    reason[sizeof BEGIN - 1 + l->length] = '\0';
+    return reason;
+}
+
+/* Why the line takes nothing, or what came while nothing is awaited. */
+static const char *what_came(struct line *l)
+{
+    return line_has_come(l) && line_receive(l) ? what_it_says(l) : BROKEN;
+}
+
+/* Begins a move. Returns why there is none, or NULL. */
+static const char *begin_move(struct host *h)
+{
+    uint8_t hello[HELLO_LENGTH] = "VMIGMOVE";
+    const char *why = NULL;
+
+    operator_words.moves = 0;
+    if (h->options.connect == NULL) return "there is no --connect to move to";
+    if (!line_connect(&h->move.line, h->options.connect, &why)) {
+        say("move: there is no line to %s", h->options.connect);
+        return why;
+    }
+    if (vmig_begin(&h->machine) != VMIG_OK) {
+        line_close(&h->move.line);
+        return OUT_OF_MEMORY;
+    }
+    memory_empty_log(&h->processor.memory);
+    h->move.is_on = 1;
+    h->move.round = 1;
+    h->move.round_is_sent = 0;
+    h->move.pages = h->move.sectors = 0;
+    h->move.left_before = UINT64_MAX;
+    say("move: to %s begins", h->options.connect);
+    hello[8] = LINE_VERSION;
+    hello[12] = (uint8_t)h->options.mib;
+    line_begin(&h->move.line, HELLO, hello, sizeof hello);
+    return NULL;
+}
+
+/* Fills the frame that goes next with what waits in the machine. False where nothing does. */
+static int begin_stream(struct host *h)
+{
+    static uint8_t bytes[BODY_MAX];
+    size_t got = 0;
+
+    must(vmig_take(&h->machine, bytes, sizeof bytes, &got), "vmig_take");
+    if (got > 0) line_begin(&h->move.line, STREAM, bytes, got);
+    return got > 0;
+}
+
+/* Copies some of what is due. Returns why the move is over, or NULL. */
+static const char *copy_some(struct move *m, vmig_machine *machine)
+{
+    uint8_t dev;
+    uint32_t number;
+
+    for (int i = 0; i < COPIES_A_TURN && !m->round_is_sent; i++) {
+        switch (vmig_copy(machine, &dev, &number)) {
+        case VMIG_PAGE: m->pages++; break;
+        case VMIG_SECTOR: m->sectors++; break;
+        case VMIG_ROUND_DONE: m->round_is_sent = 1; break;
+        default: return OUT_OF_MEMORY;
+        }
+    }
+    return NULL;
+}
+
+/* Sends what was copied, and copies more once the line took it all. */
+static const char *send_some(struct host *h)
+{
+    int pushed;
+
+    while ((pushed = line_push(&h->move.line)) > 0 && begin_stream(h)) continue;
+    if (pushed < 0) return BROKEN;
+    return pushed == 0 ? NULL : copy_some(&h->move, &h->machine);
+}
+
+/* Whether the rounds are to end: few items are left, or it was the last round, or rounds shrink no more. */
+static int is_enough(const struct host *h, uint64_t left)
+{
+    return left <= h->options.few || h->move.round >= h->options.rounds || left > h->move.left_before / 10 * 9;
+}
+
+/* The machine's stream ends, and its rest goes over the line, with all that is not in it. */
+static const char *send_rest(struct host *h)
+{
+    struct line *l = &h->move.line;
+    uint8_t state[STATE_MAX];
+    uint64_t pages = 0, sectors = 0;
+
+    if (vmig_stop(&h->machine, &pages, &sectors) != VMIG_OK) return OUT_OF_MEMORY;
+    say("move: the guest is paused: %llu pages and %llu sectors are left", (unsigned long long)pages, (unsigned long long)sectors);
+    do
+        if (!line_finish(l)) return what_came(l);
+    while (begin_stream(h));
+    if (!line_send(l, STATE, state, state_write(h, state)) || !line_send(l, END, NULL, 0)) return what_came(l);
+    if (!line_receive(l)) return BROKEN;
+    return l->type == READY ? NULL : what_it_says(l);
+}
+
+/* The same of a guest that was paused. */
+static int continue_here(struct host *h, const char *why)
+{
+    start_clock(h);
+    return give_up(h, why);
+}
+
+/* The last word was sent, and the target did not answer that the guest runs. Only the operator can know. */
+static int keep(struct host *h)
+{
+    say("move: the line broke after the last word was sent: the guest is paused here, and perhaps runs at %s", h->options.connect);
+    say("move: if it does not run there, SIGUSR2 or Ctrl-A c continues it here; else end this program");
+    if (!wait_for_word()) return 0;
+    open_wire(h);
+    return continue_here(h, "by the word of the operator");
+}
+
+/* The guest is paused, and the rest of it is sent. Once all is there it is let go. */
+static int finish_move(struct host *h)
+{
+    struct line *l = &h->move.line;
+    uint64_t paused = clock_nanoseconds();
+    const char *why;
+
+    stop_clock(h);
+    why = send_rest(h);
+    if (why != NULL) return continue_here(h, why);
+    if (!line_send(l, GO, NULL, 0) || !line_receive(l) || l->type != RUNS) return keep(h);
+    line_close(l);
+    h->is_gone = 1;
+    say("move: the guest runs at %s; it was paused for %.1f ms", h->options.connect, (double)(clock_nanoseconds() - paused) / 1e6);
+    return 0;
+}
+
+/* A round was sent, and the log was read: the next one begins, or the last. */
+static int end_round(struct host *h)
+{
+    uint64_t due = 0, left = 0;
+
+    must(vmig_remaining(&h->machine, &due, &left), "vmig_remaining");
+    say("move: round %u sent %llu pages and %llu sectors; %llu are left", h->move.round, (unsigned long long)h->move.pages,
+        (unsigned long long)h->move.sectors, (unsigned long long)left);
+    if (is_enough(h, left)) return finish_move(h);
+    must(vmig_end_round(&h->machine, &h->move.round), "vmig_end_round");
+    h->move.round_is_sent = 0;
+    h->move.pages = h->move.sectors = 0;
+    h->move.left_before = left;
+    return 1;
+}
+
+int move_further(struct host *h)
+{
+    const char *why = NULL;
+
+    if (!h->move.is_on && !operator_words.moves) return 1;
+    if (!h->move.is_on) why = begin_move(h);
+    else if (!is_between_slices(h)) return 1;
+    else if (line_has_come(&h->move.line)) why = what_came(&h->move.line);
+    else if (h->move.round_is_sent) return end_round(h);
+    else why = send_some(h);
+    return why == NULL ? 1 : give_up(h, why);
+}

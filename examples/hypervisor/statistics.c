@@ -1,0 +1,37 @@
+/* With --stats: where the time went. */
+#define _DEFAULT_SOURCE
+#include <time.h>
+#include "clock.h"
+#include "host.h"
+#include "say.h"
+
+void begin_statistics(struct host *h)
+{
+    h->statistics.began = clock_nanoseconds();
+    h->statistics.count_before = h->processor.count;
+}
+
+/* The clock is read only for who asks for it. */
+void enter_library(struct host *h)
+{
+    if (h->options.stats) h->statistics.entered = clock_nanoseconds();
+}
+
+void leave_library(struct host *h)
+{
+    if (h->options.stats) h->statistics.in_library += clock_nanoseconds() - h->statistics.entered;
+}
+
+void print_statistics(const struct host *h)
+{
+    const struct statistics *s = &h->statistics;
+    double all = (double)(clock_nanoseconds() - s->began) / 1e9, waited = (double)s->waited / 1e9;
+    uint64_t count = h->processor.count - s->count_before;
+    double works = all - waited > 0 ? all - waited : 1e-9, library = (double)s->in_library / 1e9;
+
+    if (!h->options.stats) return;
+    say("%.3f s, of which the guest waited %.3f", all, waited);
+    say("%llu instructions, %.1f million a second", (unsigned long long)count, (double)count / works / 1e6);
+    say("%llu loans of RAM, %llu steps of devices", (unsigned long long)s->loans, (unsigned long long)s->steps);
+    say("%.3f s in the library with the bytes that it moves: %.1f percent", library, 100 * library / works);
+}

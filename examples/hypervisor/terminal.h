@@ -1,0 +1,34 @@
+/* The terminal, and the signals of the operator. */
+#ifndef TERMINAL_H
+#define TERMINAL_H
+
+#include <signal.h>
+#include <stddef.h>
+#include <stdint.h>
+
+/* What the operator asked for, by a signal or by Ctrl-A and a letter. The program sets a word back when it has done it. */
+struct operator_words {
+    volatile sig_atomic_t moves, continues, ends, has_new_size;
+};
+
+extern struct operator_words operator_words;
+
+/* Takes the signals. */
+void terminal_begin(void);
+
+/* Takes the terminal over, if standard input is one. At each end of the program it is set back. */
+void terminal_take(void);
+int terminal_is_taken(void);
+
+/* Reads typed bytes, without those that are for the program. Returns how many, and 0 at the end of the input, after which there is
+ * none any more. */
+size_t terminal_read(uint8_t *bytes, size_t size);
+int terminal_has_ended(void);
+
+/* Writes all of the bytes to standard output. */
+void terminal_write(const uint8_t *bytes, size_t length);
+
+/* Its size in characters. False where standard output is no terminal. */
+int terminal_size(uint16_t *columns, uint16_t *rows);
+
+#endif
