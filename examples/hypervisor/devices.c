@@ -54,20 +54,28 @@ static void list_images(const struct devices *d, vmig_image images[DISKS_MAX])
 
 void devices_make(struct devices *d, uint8_t *ram, uint64_t length, vmig_machine *machine)
 {
-    vmig_ram memory = {ram, length};
+    vmig_setup setup = VMIG_SETUP;
     vmig_image images[DISKS_MAX];
 
     list_images(d, images);
-    must(vmig_make_over(&memory, d->shapes, d->count, images, d->count_disks, machine), "vmig_make_over");
+    setup.shapes = d->shapes;
+    setup.count = d->count;
+    setup.images = images;
+    setup.count_images = d->count_disks;
+    setup.ram = (vmig_ram){ram, length};
+    must(vmig_make_as(&setup, machine), "vmig_make_as");
 }
 
 void devices_let_arrive(struct devices *d, uint8_t *ram, uint64_t length, vmig_machine *machine)
 {
-    vmig_ram memory = {ram, length};
+    vmig_arrival arrival = VMIG_ARRIVAL;
     vmig_image images[DISKS_MAX];
 
     list_images(d, images);
-    must(vmig_arrive_over(&memory, images, d->count_disks, machine), "vmig_arrive_over");
+    arrival.images = images;
+    arrival.count_images = d->count_disks;
+    arrival.ram = (vmig_ram){ram, length};
+    must(vmig_arrive(&arrival, machine), "vmig_arrive");
 }
 
 /* Whether a device of the stream is as the options ask. A network card brings its address with it. */
