@@ -46,11 +46,12 @@ static const char *what_it_says(struct line *l)
 {
     static char reason[REASON_MAX + 40];
     static const char BEGIN[] = "the target refuses: ";
+    char *end = reason + sizeof BEGIN - 1;
 
     if (l->type != REFUSED) return BROKEN;
     memcpy(reason, BEGIN, sizeof BEGIN);
-    for (uint32_t i = 0; i < l->length; i++) reason[sizeof BEGIN - 1 + i] = l->body[i] >= ' ' && l->body[i] < 127 ? (char)l->body[i] : '?';
-    reason[sizeof BEGIN - 1 + l->length] = '\0';
+    for (uint32_t i = 0; i < l->length; i++) end[i] = l->body[i] >= ' ' && l->body[i] < 127 ? (char)l->body[i] : '?';
+    end[l->length] = '\0';
     return reason;
 }
 

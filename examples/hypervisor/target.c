@@ -1,6 +1,5 @@
 /* A guest that is moved here. What comes is not trusted: each frame has its place, the machine is compared with the options before
  * memory is taken, and the registers are looked at. Until the source has let go, the guest does not run here. */
-#include <stdio.h>
 #include <string.h>
 #include "clock.h"
 #include "host.h"
@@ -108,12 +107,11 @@ void host_receive(struct host *h)
 {
     struct line *l = &h->move.line;
     struct arrival a = {.length = (uint64_t)h->options.mib * MIB};
-    char notice[64] = "";
     const char *why;
 
     h->processor.memory.length = a.length;
-    if (h->devices.count_disks > 0) snprintf(notice, sizeof notice, "; the files of %u disks will be overwritten", h->devices.count_disks);
-    line_accept(l, h->options.listen, notice);
+    for (unsigned i = 0; i < h->devices.count_disks; i++) say("%s will be overwritten", h->devices.disks[i].name);
+    line_accept(l, h->options.listen);
     why = line_receive(l) ? check_hello(h, l) : "the line is broken";
     if (why == NULL) why = take_all(h, &a);
     if (why != NULL) refuse(h, why);

@@ -1,6 +1,7 @@
 /* A line that breaks: `cut PORT WHERE` accepts one connection at a free port of 127.0.0.1, which it prints, connects it to PORT there,
  * and hands on what comes, frame by frame. WHERE is the type of the frame before which it breaks, or `bytes=N`: after N bytes of the
- * source. Both ends are closed then. Or WHERE is `spoil=TYPE:N`: byte N of each such frame becomes another, and the line stays whole. */
+ * source. Both ends are closed then. Or WHERE is `spoil=TYPE:N`: byte N of each frame of this type is changed, and the line stays
+ * whole. */
 #define _DEFAULT_SOURCE
 #include <arpa/inet.h>
 #include <poll.h>
