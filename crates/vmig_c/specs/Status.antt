@@ -3,7 +3,7 @@
 --
 --      0         done
 --      1 to  5   the machine refused an event, by the numbers of its reply lines
---      7 to 15   a call was refused before the machine was asked, or memory was
+--      7 to 16   a call was refused before the machine was asked, or memory was
 --     17 to 22   a call of a migration was refused: 16 plus the number of its reason. 20 says that memory for what waits to be
 --                taken was refused: the migration has failed then, and the machine is as it was
 --     23         the RAM of the machine is lent
@@ -43,7 +43,7 @@ no_device = 1
 abbrev pub more : ℕ
 more = 79
 
--- The step ends a request after which the driver takes what was written for durable.
+-- The step makes a flush, or ends a write after which the driver takes what was written for durable.
 abbrev pub sync : ℕ
 sync = 80
 
@@ -73,6 +73,10 @@ not_mapped = 14
 -- The images are not as long as the disks.
 abbrev pub bad_images : ℕ
 bad_images = 15
+
+-- The step flushes no disk.
+abbrev pub no_flush : ℕ
+no_flush = 16
 
 -- The RAM of the machine is lent; or it is not.
 abbrev pub lent : ℕ

@@ -35,6 +35,8 @@ pub(crate) const NOT_MAPPED: u32 = 14;
 
 pub(crate) const BAD_IMAGES: u32 = 15;
 
+pub(crate) const NO_FLUSH: u32 = 16;
+
 pub(crate) const NOT_BEGUN: u32 = 17;
 
 pub(crate) const STOPPED: u32 = 21;
