@@ -16,7 +16,7 @@ use Rattle.sender.specs.declared.event.LiveReply.TheVariants as r
 use Rattle.sender.specs.declared.mig_error.MigError.{MigError}
 use Rattle.sender.specs.declared.phase.Phase.TheVariants as phases
 
--- The flush of the machine failed. It wrote no item, so no other became dirty, and nothing else changed.
+-- The flush of the machine failed. It wrote no item, so none became dirty, and nothing else changed.
 pub record FailsLiveFlush (old : LiveSeen) (dev pick : ℕ) (new : LiveSeen) : Type 0 where
   pub failed : FailsFlush old.machine dev pick new.machine
   pub rest : new ≡ record old { machine = new.machine }
@@ -34,7 +34,7 @@ AnswersFlush old dev pick (Err e) new = ⊥
 abbrev pub TriesFlush : LiveSeen → ℕ → ℕ → Result Bool MigError → LiveSeen → Type 0
 TriesFlush old dev pick result new = MatchOption (refusal_for old.phase (Guest (Step dev pick))) (AnswersFlush old dev pick result new) (λ x. (result ≡ Err x) × (new ≡ old))
 
--- The history goes on by that step, with the reply that the disk failed, and nothing is written.
+-- The history continues with that step and the reply that the disk failed, and nothing is written.
 pub record FailureGoesOn (m : MachineState) (h : History) (out : SinkState) (dev pick : ℕ) (new : LiveSeen) : Type 0 where
   pub effect : Effect
   pub relates : Relates m (then_came h (Guest (Step dev pick)) (r.Guest DiskFailed) effect) out new

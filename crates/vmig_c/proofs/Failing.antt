@@ -1,21 +1,21 @@
 -- Flushes that fail in place of their step.
-use Rattle.std.proofs.Common.{◌≡◌, ◌≢◌, ◌≤◌, ◌<◌, ℕ, Bool, true, false, List, [], refl, sym, ap, ◌∙◌, subst, arith, true≢false}
+use Rattle.std.proofs.Common.{◌≡◌, ◌<◌, ℕ, Bool, true, false, [], refl, sym, ap, ◌∙◌, subst, arith, true≢false}
 use Rattle.std.specs.Prelude.{Option, Some, None, MatchOption, Result, Ok, Err, is_some, slice_get, if◌then◌else◌}
 use Rattle.guestmem.specs.Memory.{Memory}
-use Rattle.machine.specs.Seen.{DeviceSeen, Seen, all_marks, no_marks, state_of}
+use Rattle.machine.specs.Seen.{DeviceSeen, Seen, no_marks, state_of}
 use Rattle.machine.specs.State.{DeviceState}
-use Rattle.machine.specs.Unsynced.{FailsFlush, FailsFlushIf, makes_flush}
+use Rattle.machine.specs.Unsynced.{FailsFlushIf, makes_flush}
 use Rattle.machine.specs.declared.event.Event.TheVariants.{Step}
 use Rattle.sender.specs.LiveState.{LiveSeen, now, refusal_for}
 use Rattle.sender.specs.Stopping.{HasPlaces}
-use Rattle.sender.specs.Unsynced.{AnswersFlush, FailsLiveFlush, FailsLiveFlushIf, TriesFlush}
+use Rattle.sender.specs.Unsynced.{AnswersFlush, FailsLiveFlushIf, TriesFlush}
 use Rattle.sender.specs.declared.event.LiveEvent.TheVariants.{Guest}
 use Rattle.sender.specs.declared.mig_error.MigError.{MigError}
 use Rattle.sender.specs.declared.phase.Phase.{Phase}
 use Rattle.sender.specs.declared.phase.Phase.TheVariants as phases
 use Rattle.wire.specs.Sinks.{over_writer}
 use Rattle.sender.proofs.Unsynced.{taken_failure_follows}
-use Rattle.vmig_c.specs.Durable.{Failed, FailsKept, FailsLiveSync, FailsSync, FailsUnless, FailedMirrors, FailedStaysPlain, RefusedFailsNothing, failed_status, no_flush_of}
+use Rattle.vmig_c.specs.Durable.{Failed, FailsKept, FailsSync, FailsUnless, FailedMirrors, FailedStaysPlain, RefusedFailsNothing, no_flush_of}
 use Rattle.vmig_c.specs.Kept.{KeptSeen, State, Still, Moving, Arriving, Lent}
 use Rattle.vmig_c.specs.Mirror.{Mirrors, is_closed}
 use Rattle.vmig_c.specs.Sent.{FailuresStaySent}

@@ -1,4 +1,4 @@
--- When a driver takes what was written to a disk for durable, and how it is told that this failed.
+-- When a driver takes what was written to a disk for durable, and how a flush fails where the disk could not be brought to its file.
 use Rattle.std.specs.Prelude.{◌≡◌, ℕ, ◌==◌, ◌&&◌, ◌||◌, ◌^◌, ◌-◌, ◌≤◌, ◌<◌, not, Bool, true, false, if◌then◌else◌, List, Option, Some, None, slice_get}
 use Rattle.mmio.specs.Bits.{has}
 use Rattle.blk.specs.Flush as blk
@@ -34,7 +34,7 @@ is_write Refused = false
 abbrev pub ends_write : ℕ → Request → Bool
 ends_write features r = is_good r.verdict && (r.done == r.units && (is_write r.kind && not (has features (2 ^ 9))))
 
--- The next step of the request makes a flush, of which the driver will be told, or ends such a write.
+-- The next step of the request makes a flush, or ends such a write.
 abbrev pub owes : ℕ → Request → Bool
 owes features r = blk.flushes r || ends_write features r
 
@@ -42,7 +42,7 @@ abbrev pub owes_if : ℕ → Option Request → Bool
 owes_if features None = false
 owes_if features (Some r) = owes features r
 
--- The step of this pick is one before which the disk has to be brought to its file.
+-- Before the step of this pick the disk has to be brought to its file.
 abbrev pub owes_sync : DeviceState → ℕ → Bool
 owes_sync d pick = advances d pick && owes_if d.registers.common.features (slice_get (requests_of d.kind) (pick - 1))
 

@@ -1,4 +1,4 @@
-//! When what a guest wrote to a disk has to be durable, and how the guest is told that it is not.
+//! When what a guest wrote to a disk has to be durable, and the flush that fails where it is not.
 
 ghost use Rattle.std.specs.Prelude.{◌≡◌, slice_get};
 ghost use Rattle.machine.specs.Seen.{state_of};
