@@ -54,7 +54,8 @@
  * at once. From that call until vmig_unmap or vmig_free the bytes are the machine's: nothing else reads or writes them, and they
  * stay mapped, at their address. A guest's flush does not reach the file: it calls no msync, which is yours to do, before each
  * step of which vmig_must_sync says so; and of a machine that arrived before its guest first runs, since that guest may have
- * been told of a flush long ago.
+ * been told of a flush long ago. Where msync fails, vmig_sync_failed comes in place of the step, and the guest's flush ends with
+ * an error.
  *
  * WHAT TAKES MEMORY from malloc: vmig_make, vmig_make_as and vmig_receive, for devices, for RAM and disks where they are not
  * yours, for a bit for each sector of an image, and for 8 bytes for each page; vmig_arrive, for a list of the images, and for 8
@@ -134,8 +135,9 @@
  *   feed                          done         done               IN_USE        IN_USE           IN_USE          IN_USE
  *   finish, rounds                NO_MACHINE   done               IN_USE        IN_USE           IN_USE          IN_USE
  *   reg_read, reg_write, step,
- *     next_work, ram_write, push,
- *     input, resize               NO_MACHINE   NO_MACHINE         done          done             STOPPED         LENT
+ *     sync_failed, next_work,
+ *     ram_write, push, input,
+ *     resize                      NO_MACHINE   NO_MACHINE         done          done             STOPPED         LENT
  *   ram_read, pull, must_sync     NO_MACHINE   NO_MACHINE         done          done             done            LENT
  *   size, device                  NO_MACHINE   NO_MACHINE         done          done             done            done
  *   lend                          NO_MACHINE   NO_MACHINE         done          done             STOPPED         LENT
@@ -206,6 +208,7 @@ enum {
     VMIG_NOT_MAPPED = 14,  /* vmig_unmap: the disks are in memory of the library */
     VMIG_BAD_IMAGES = 15,  /* vmig_make_as: there are contents and images, or the length of the contents or the counts of the
                             * images are not those of the disks; vmig_unmap: a slot is not VMIG_NO_IMAGE */
+    VMIG_NO_FLUSH = 16,    /* vmig_sync_failed: the step flushes no disk */
 
     /* A migration refuses the call: 16 and the number of its reason. VMIG_WRITER_FAILED alone changes something: the migration
      * has failed for good, and each of its later calls but vmig_take and vmig_abort gets the same status. The machine is as it
@@ -251,12 +254,13 @@ enum {
     /* vmig_reg_write: done, and a console gave out a byte. */
     VMIG_OUT_BYTE = 64,
 
-    /* vmig_step: what the device did. vmig_sector_read returns VMIG_BAD_SECTOR too. */
+    /* vmig_step: what the device did. vmig_sector_read returns VMIG_BAD_SECTOR too, and vmig_sync_failed VMIG_DISK_FAILED. */
     VMIG_IDLE = 65,        /* it found nothing to do; vmig_next_work: no step has something to do */
     VMIG_TAKEN = 66,       /* a block device took a request */
     VMIG_MOVED = 67,       /* one unit of a request is done: a sector, a flush or the id */
     VMIG_BAD_SECTOR = 68,  /* the sector is bad; the request will end with an error */
-    VMIG_DISK_FAILED = 69, /* the disk failed; disks in memory never do */
+    VMIG_DISK_FAILED = 69, /* the disk failed; disks in memory never do, so vmig_step does not answer it; vmig_sync_failed: the
+                            * flush failed, and the request will end with an error */
     VMIG_COMPLETED = 70,   /* a chain was given back; *len is its used length */
     VMIG_SENT = 71,        /* a message of the guest was taken: *len bytes at the front of the buffer */
     VMIG_DROPPED = 72,     /* a frame did not fit into the guest's buffer, and is gone */
@@ -286,7 +290,7 @@ static inline const char *vmig_status_name(uint32_t status)
     VMIG_NAMED(VMIG_OK) VMIG_NAMED(VMIG_NO_DEVICE) VMIG_NAMED(VMIG_OUT_OF_RAM) VMIG_NAMED(VMIG_TOO_LONG)
     VMIG_NAMED(VMIG_WRONG_KIND) VMIG_NAMED(VMIG_BAD_FRAME) VMIG_NAMED(VMIG_NO_SECTOR) VMIG_NAMED(VMIG_NO_MACHINE)
     VMIG_NAMED(VMIG_IN_USE) VMIG_NAMED(VMIG_NO_MEMORY) VMIG_NAMED(VMIG_TOO_SMALL) VMIG_NAMED(VMIG_BAD_SHAPE)
-    VMIG_NAMED(VMIG_MOVING) VMIG_NAMED(VMIG_NOT_MAPPED) VMIG_NAMED(VMIG_BAD_IMAGES) VMIG_NAMED(VMIG_NOT_BEGUN)
+    VMIG_NAMED(VMIG_MOVING) VMIG_NAMED(VMIG_NOT_MAPPED) VMIG_NAMED(VMIG_BAD_IMAGES) VMIG_NAMED(VMIG_NO_FLUSH) VMIG_NAMED(VMIG_NOT_BEGUN)
     VMIG_NAMED(VMIG_BEGUN_ALREADY) VMIG_NAMED(VMIG_READ_FAILED) VMIG_NAMED(VMIG_WRITER_FAILED) VMIG_NAMED(VMIG_STOPPED)
     VMIG_NAMED(VMIG_NO_ROUND_LEFT) VMIG_NAMED(VMIG_LENT) VMIG_NAMED(VMIG_NOT_LENT) VMIG_NAMED(VMIG_NOT_OVER)
     VMIG_NAMED(VMIG_BAD_RAM) VMIG_NAMED(VMIG_NOT_KNOWN) VMIG_NAMED(VMIG_STREAM_BAD_MAGIC) VMIG_NAMED(VMIG_STREAM_BAD_VERSION)
@@ -523,13 +527,20 @@ uint16_t vmig_lines(vmig_machine *machine);
  * VMIG_NO_MACHINE, VMIG_MOVING, VMIG_NO_DEVICE, VMIG_WRONG_KIND (it has no disk), VMIG_NO_SECTOR, VMIG_TOO_SMALL. */
 uint32_t vmig_sector_read(vmig_machine *machine, uint8_t dev, uint64_t sector, uint8_t *buf, size_t size);
 
-/* Whether the step of this pick ends a request after which the guest takes what it wrote to the disk for durable: a flush; or a
- * write, where its driver did not accept the feature FLUSH (VIRTIO 1.2, 5.2.6.2). VMIG_SYNC: before that step bring the image of
- * the device to its file, by msync. Where that fails do not make the step, and stop the guest: its request stays as it is, and you
- * can try again. VMIG_OK: nothing is owed. A disk in memory of the library has no file, but the same answer. The machine is as it
- * was.
+/* Whether the guest takes what it wrote to the disk for durable once the step of this pick is made: the step makes a flush; or it
+ * ends a write, where the driver did not accept the feature FLUSH (VIRTIO 1.2, 5.2.6.2). VMIG_SYNC: before that step bring the
+ * image of the device to its file, by msync. Where that fails call vmig_sync_failed in place of the step. VMIG_OK: nothing is
+ * owed. A disk in memory of the library has no file, but the same answer. The machine is as it was.
  * VMIG_NO_MACHINE, VMIG_NO_DEVICE. */
 uint32_t vmig_must_sync(vmig_machine *machine, uint8_t dev, uint8_t pick);
+
+/* In place of a step of which vmig_must_sync said VMIG_SYNC, where the image could not be brought to its file. A flush is made as one
+ * whose disk failed: VMIG_DISK_FAILED. The next step of the pick ends the request, and the guest reads an error; it may flush
+ * again. A write cannot fail any more once its last sector is written: VMIG_NO_FLUSH, as for any step that makes no flush. Do not
+ * make the step that ends such a write, so that the guest reads no success; try again later, or stop the guest. For a disk in
+ * memory of the library it does the same.
+ * VMIG_NO_MACHINE, VMIG_STOPPED, VMIG_NO_DEVICE, VMIG_NO_FLUSH. */
+uint32_t vmig_sync_failed(vmig_machine *machine, uint8_t dev, uint8_t pick);
 
 /* How many pages of RAM and how many devices the machine has, also one that is being sent or was stopped. The machine is as it was.
  * VMIG_NO_MACHINE. */

@@ -15,7 +15,7 @@ enum class [[nodiscard]] status : std::uint32_t {
     ok = VMIG_OK, no_device = VMIG_NO_DEVICE, out_of_ram = VMIG_OUT_OF_RAM, too_long = VMIG_TOO_LONG,
     wrong_kind = VMIG_WRONG_KIND, bad_frame = VMIG_BAD_FRAME, no_sector = VMIG_NO_SECTOR, no_machine = VMIG_NO_MACHINE,
     in_use = VMIG_IN_USE, no_memory = VMIG_NO_MEMORY, too_small = VMIG_TOO_SMALL, bad_shape = VMIG_BAD_SHAPE,
-    moving = VMIG_MOVING, not_mapped = VMIG_NOT_MAPPED, bad_images = VMIG_BAD_IMAGES, not_begun = VMIG_NOT_BEGUN,
+    moving = VMIG_MOVING, not_mapped = VMIG_NOT_MAPPED, bad_images = VMIG_BAD_IMAGES, no_flush = VMIG_NO_FLUSH, not_begun = VMIG_NOT_BEGUN,
     begun_already = VMIG_BEGUN_ALREADY, read_failed = VMIG_READ_FAILED, writer_failed = VMIG_WRITER_FAILED,
     stopped = VMIG_STOPPED, no_round_left = VMIG_NO_ROUND_LEFT, lent = VMIG_LENT, not_lent = VMIG_NOT_LENT,
     not_over = VMIG_NOT_OVER, bad_ram = VMIG_BAD_RAM, not_known = VMIG_NOT_KNOWN, stream_bad_magic = VMIG_STREAM_BAD_MAGIC,
@@ -131,6 +131,7 @@ public:
         return status{vmig_sector_read(&held, dev, sector, buf, size)};
     }
     status must_sync(std::uint8_t dev, std::uint8_t pick) { return status{vmig_must_sync(&held, dev, pick)}; }
+    status sync_failed(std::uint8_t dev, std::uint8_t pick) { return status{vmig_sync_failed(&held, dev, pick)}; }
     status size(std::uint32_t *pages, std::uint32_t *devices) { return status{vmig_size(&held, pages, devices)}; }
     status device(std::uint8_t dev, vmig_shape *shape) { return status{vmig_device(&held, dev, shape)}; }
     status saved_len(std::size_t *len) { return status{vmig_saved_len(&held, len)}; }

@@ -1,5 +1,5 @@
 /* A disk in a file that is mapped: a machine is made over it, a driver writes a sector, and the file has it, before the driver is told
- * that it is there for good. */
+ * that it is there for good. Where the file cannot be written the driver's flush ends with an error. */
 #define _POSIX_C_SOURCE 200809L
 #include <stdlib.h>
 #include <string.h>
@@ -9,27 +9,40 @@
 
 enum { HEADER = 0x7000, OUTCOME = 0x7100, WRITE = 1, FLUSH = 4, FLUSH_FEATURE = 1 << 9, SECTORS = 3, SECTOR = 512, LENGTH = SECTORS * SECTOR };
 
-/* The disk's bytes are brought to the file: the msync of this program, counted. */
-static int brought;
+/* How often the disk's bytes were brought to the file, by msync; and how often that still fails, as on a disk that is full. */
+static int brought, failing;
 
-static void bring(uint8_t *at)
+static int bring(uint8_t *at)
 {
-    expect("msync", (uint64_t)msync(at, LENGTH, MS_SYNC), 0);
+    if (failing > 0) {
+        failing--;
+        return -1;
+    }
     brought++;
+    return msync(at, LENGTH, MS_SYNC);
 }
 
-/* The steps of one request. Before a step after which the driver takes what it wrote for durable, the file has it. */
-static void do_request(vmig_machine *m, uint8_t *at)
+/* A step of the first request. The file has what the driver takes for durable once the step is made. */
+static uint32_t make_step(vmig_machine *m, uint8_t *at)
 {
     uint32_t len = 77;
     uint8_t none[1];
 
+    if (vmig_must_sync(m, 0, 1) == VMIG_SYNC && bring(at) != 0) return vmig_sync_failed(m, 0, 1);
+    return vmig_step(m, 0, 1, none, 0, &len);
+}
+
+/* The steps of one request, whose first unit is made with this status. */
+static void do_request(vmig_machine *m, uint8_t *at, uint32_t wanted)
+{
+    uint32_t len = 77, status;
+    uint8_t none[1];
+
     expect("nothing is owed to take it", vmig_must_sync(m, 0, 0), VMIG_OK);
     expect("taken", vmig_step(m, 0, 0, none, 0, &len), VMIG_TAKEN);
-    expect("nothing is owed before it is done", vmig_must_sync(m, 0, 1), VMIG_OK);
-    expect("moved", vmig_step(m, 0, 1, none, 0, &len), VMIG_MOVED);
-    if (vmig_must_sync(m, 0, 1) == VMIG_SYNC) bring(at);
-    expect("completed", vmig_step(m, 0, 1, none, 0, &len), VMIG_COMPLETED);
+    expect("its unit", make_step(m, at), wanted);
+    while ((status = make_step(m, at)) == VMIG_NO_FLUSH) expect("the driver knows of no end yet", get(m, OUTCOME, 1), 0xff);
+    expect("completed", status, VMIG_COMPLETED);
     expect("no request is left", vmig_must_sync(m, 0, 1), VMIG_OK);
 }
 
@@ -45,19 +58,21 @@ static uint64_t write_sector(vmig_machine *m, uint32_t count, uint64_t sector, c
     describe(m, 0, 1, DATA, SECTOR, HAS_NEXT, 2);
     describe(m, 0, 2, OUTCOME, 1, WRITABLE, 0);
     offer(m, 0, count, 0);
-    do_request(m, at);
+    do_request(m, at, VMIG_MOVED);
     return get(m, OUTCOME, 1);
 }
 
-/* A flush, as the `count`-th request. */
+/* A flush, as the `count`-th request. Returns the status that the device wrote. */
 static uint64_t flush(vmig_machine *m, uint32_t count, uint8_t *at)
 {
+    uint32_t wanted = failing > 0 ? VMIG_DISK_FAILED : VMIG_MOVED;
+
     put(m, HEADER, FLUSH, 4);
     put(m, OUTCOME, 0xff, 1);
     describe(m, 0, 0, HEADER, 16, HAS_NEXT, 1);
     describe(m, 0, 1, OUTCOME, 1, WRITABLE, 0);
     offer(m, 0, count, 0);
-    do_request(m, at);
+    do_request(m, at, wanted);
     return get(m, OUTCOME, 1);
 }
 
@@ -77,6 +92,37 @@ static void is_durable(vmig_machine *m, const uint8_t *bytes, uint8_t *at)
     expect("it was brought to the file", (uint64_t)brought, 2);
     expect("no such device", vmig_must_sync(m, 2, 1), VMIG_NO_DEVICE);
     expect("a device without a disk", vmig_must_sync(m, 1, 1), VMIG_OK);
+}
+
+/* The file cannot be written: the driver's flush ends with an error, and it flushes again. So it does while the machine is sent. A
+ * write of a driver without the feature FLUSH does not end before the file has it. */
+static void fails(vmig_machine *m, const uint8_t *bytes, uint8_t *at)
+{
+    uint8_t dev = 0;
+    uint32_t number = 0;
+
+    brought = 0;
+    failing = 1;
+    expect("a flush that fails", flush(m, 3, at), 1);
+    expect("nothing was brought", (uint64_t)brought, 0);
+    expect("the driver repeats it", flush(m, 4, at), 0);
+    expect("it was brought to the file", (uint64_t)brought, 1);
+    expect("begin", vmig_begin(m), VMIG_OK);
+    expect("copy", vmig_copy(m, &dev, &number), VMIG_PAGE);
+    failing = 1;
+    expect("a flush that fails", flush(m, 5, at), 1);
+    expect("the driver repeats it", flush(m, 6, at), 0);
+    expect("abort", vmig_abort(m), VMIG_OK);
+    set_up(m, 1);
+    put(m, AVAIL + 2, 0, 2);
+    failing = 2;
+    expect("write", write_sector(m, 1, 2, bytes, at), 0);
+    expect("tried until it was done", (uint64_t)failing, 0);
+    expect("it was brought to the file", (uint64_t)brought, 3);
+    expect("no such device", vmig_sync_failed(m, 2, 1), VMIG_NO_DEVICE);
+    expect("a device without a disk", vmig_sync_failed(m, 1, 1), VMIG_NO_FLUSH);
+    expect("no request", vmig_sync_failed(m, 0, 1), VMIG_NO_FLUSH);
+    expect("no pick", vmig_sync_failed(m, 0, 0), VMIG_NO_FLUSH);
 }
 
 static void refuses(const vmig_shape *shapes, uint8_t *at)
@@ -119,6 +165,7 @@ static void runs(const vmig_shape *shapes, uint8_t *at, const uint8_t *written)
     expect("sector", vmig_sector_read(&m, 0, 1, got, sizeof got), VMIG_OK);
     expect("of the file", got[0], 41);
     is_durable(&m, written, at);
+    fails(&m, written, at);
     expect("sector", vmig_sector_read(&m, 0, 2, got, sizeof got), VMIG_OK);
     expect("as it was written", (uint64_t)memcmp(got, written, SECTOR), 0);
     gives_back(&m, at);

@@ -61,6 +61,7 @@ static uint32_t resize(vmig_machine *m) { return vmig_resize(m, 0, 1, 1); }
 static uint32_t sector_read(vmig_machine *m) { return vmig_sector_read(m, 1, 0, bytes, sizeof bytes); }
 static uint32_t size(vmig_machine *m) { uint32_t pages, devices; return vmig_size(m, &pages, &devices); }
 static uint32_t must_sync(vmig_machine *m) { return vmig_must_sync(m, 1, 1); }
+static uint32_t sync_failed(vmig_machine *m) { return vmig_sync_failed(m, 1, 1); }
 static uint32_t device(vmig_machine *m) { vmig_shape shape; return vmig_device(m, 0, &shape); }
 static uint32_t saved_len(vmig_machine *m) { size_t len; return vmig_saved_len(m, &len); }
 static uint32_t save(vmig_machine *m) { size_t len; return vmig_save(m, bytes, sizeof bytes, &len); }
@@ -107,6 +108,8 @@ static const Row ROWS[] = {
     {"vmig_size", size, {VMIG_NO_MACHINE, VMIG_NO_MACHINE, VMIG_OK, VMIG_OK, VMIG_OK, VMIG_OK, VMIG_OK}},
     {"vmig_device", device, {VMIG_NO_MACHINE, VMIG_NO_MACHINE, VMIG_OK, VMIG_OK, VMIG_OK, VMIG_OK, VMIG_OK}},
     {"vmig_must_sync", must_sync, {VMIG_NO_MACHINE, VMIG_NO_MACHINE, VMIG_OK, VMIG_OK, VMIG_OK, VMIG_LENT, VMIG_LENT}},
+    {"vmig_sync_failed", sync_failed,
+     {VMIG_NO_MACHINE, VMIG_NO_MACHINE, VMIG_NO_FLUSH, VMIG_NO_FLUSH, VMIG_STOPPED, VMIG_LENT, VMIG_LENT}},
     {"vmig_sector_read", sector_read,
      {VMIG_NO_MACHINE, VMIG_NO_MACHINE, VMIG_OK, VMIG_MOVING, VMIG_MOVING, VMIG_LENT, VMIG_LENT}},
     {"vmig_saved_len", saved_len, {VMIG_NO_MACHINE, VMIG_NO_MACHINE, VMIG_OK, VMIG_MOVING, VMIG_MOVING, VMIG_LENT, VMIG_LENT}},

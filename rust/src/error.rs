@@ -50,6 +50,9 @@ pub enum Error {
     /// The images are not as long as the disks.
     BadImages = raw::BAD_IMAGES,
 
+    /// The step flushes no disk.
+    NoFlush = raw::NO_FLUSH,
+
     /// The machine is not being sent.
     NotBegun = raw::NOT_BEGUN,
 
@@ -148,6 +151,7 @@ const TEXTS: &[(Error, &str)] = &[
     (Error::Moving, "the machine is being sent"),
     (Error::NotMapped, "the disks lie in memory of the library"),
     (Error::BadImages, "the images are not as long as the disks"),
+    (Error::NoFlush, "the step flushes no disk"),
     (Error::NotBegun, "the machine is not being sent"),
     (Error::BegunAlready, "the machine is being sent already"),
     (Error::ReadFailed, "a disk failed as a sector was read"),

@@ -199,6 +199,18 @@ impl Machine {
         Ok(status != raw::BAD_SECTOR)
     }
 
+    /// Whether the guest takes what it wrote to the disk for durable once this step is made. A caller that keeps the disk elsewhere too
+    /// brings it there before the step.
+    pub fn must_sync(&mut self, dev: u8, pick: u8) -> Result<bool, Error> {
+        let status = done(unsafe { raw::vmig_must_sync(&mut self.held, dev, pick) })?;
+        Ok(status == raw::SYNC)
+    }
+
+    /// In place of such a step, where that failed: the guest's flush ends with an error. A step that makes no flush is refused.
+    pub fn sync_failed(&mut self, dev: u8, pick: u8) -> Result<(), Error> {
+        done(unsafe { raw::vmig_sync_failed(&mut self.held, dev, pick) }).map(drop)
+    }
+
     /// The whole stream of the machine, which continues.
     pub fn save(&mut self) -> Result<Vec<u8>, Error> {
         let mut len = 0;

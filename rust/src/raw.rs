@@ -118,6 +118,7 @@ pub const BAD_SHAPE: u32 = 12;
 pub const MOVING: u32 = 13;
 pub const NOT_MAPPED: u32 = 14;
 pub const BAD_IMAGES: u32 = 15;
+pub const NO_FLUSH: u32 = 16;
 pub const NOT_BEGUN: u32 = 17;
 pub const BEGUN_ALREADY: u32 = 18;
 pub const READ_FAILED: u32 = 19;
@@ -186,6 +187,7 @@ unsafe extern "C" {
     pub fn vmig_lines(machine: *mut Machine) -> u16;
     pub fn vmig_sector_read(machine: *mut Machine, dev: u8, sector: u64, buf: *mut u8, size: usize) -> u32;
     pub fn vmig_must_sync(machine: *mut Machine, dev: u8, pick: u8) -> u32;
+    pub fn vmig_sync_failed(machine: *mut Machine, dev: u8, pick: u8) -> u32;
     pub fn vmig_size(machine: *mut Machine, pages: *mut u32, devices: *mut u32) -> u32;
     pub fn vmig_device(machine: *mut Machine, dev: u8, shape: *mut Shape) -> u32;
     pub fn vmig_stream_size(bytes: *const u8, len: usize, pages: *mut u32, devices: *mut u32) -> u32;

@@ -22,6 +22,8 @@
 //!   what it holds, is said of honest disks. It takes no memory.
 //! - The count of failures rises by one exactly where the answer is `DiskFailed`, and a steady disk never fails. Requests stay
 //!   sound and sectors whole, whatever the disk does.
+//! - `Requests::fail_flush(k)` makes an outstanding flush as one whose disk failed, and calls no disk (`specs/Flush`): for a host that
+//!   could not bring the bytes of the disk to the file that holds them.
 //! - `Requests::are_sound` tests what every outstanding request keeps, for requests that come from elsewhere.
 //! - `Sectors::next_bad` names the least bad sector from one on, and `Sectors::read_good` reads one that is not bad, with no look
 //!   at the marks.
@@ -36,6 +38,7 @@ mod advancing;
 mod disk;
 mod fault_disk;
 mod file_disk;
+mod flushing;
 mod mem_disk;
 mod moving;
 mod request;

@@ -163,7 +163,7 @@ set_twice [] n x y = refl
 set_twice (z ∷ xs) zero x y = refl
 set_twice (z ∷ xs) (suc n) x y = ap (λ zs. z ∷ zs) (set_twice xs n x y)
 
-set_itself : {A : Type 0} (xs : List A) (n : ℕ) (x : A) → slice_get xs n ≡ Some x → set xs n x ≡ xs
+pub set_itself : {A : Type 0} (xs : List A) (n : ℕ) (x : A) → slice_get xs n ≡ Some x → set xs n x ≡ xs
 set_itself [] n x h = refl
 set_itself (y ∷ ys) zero x h = cc
 set_itself (y ∷ ys) (suc n) x h = ap (λ zs. y ∷ zs) (set_itself ys n x h)

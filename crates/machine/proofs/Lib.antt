@@ -32,3 +32,4 @@ pub mod Quiet
 pub mod Honest
 pub mod Keeping
 pub mod Alike
+pub mod Unsynced

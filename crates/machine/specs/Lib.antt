@@ -28,3 +28,4 @@ pub mod Step
 pub mod StepLaws
 pub mod Served
 pub mod Stepped
+pub mod Unsynced

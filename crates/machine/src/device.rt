@@ -45,6 +45,7 @@ impl<D: Disk> Device<D> {
     ghost use Rattle.machine.specs.Outcome.{is_failure};
     ghost use Rattle.machine.specs.Seen.{failed_if};
     ghost use Rattle.machine.specs.Shapes.{made_as, sector_count};
+    ghost use Rattle.machine.specs.Unsynced.{flushes, with_flush_failed};
 
     /// A device, and the disk that belongs to it.
     pub(crate) fn new(state: DeviceState, disk: Option<Sectors<D>>) -> Device<D>
@@ -100,6 +101,14 @@ impl<D: Disk> Device<D> {
         ensures device { self.new ≡ record self.old { state = with_input self.old.state bytes.now } }
     {
         self.state.input(bytes)
+    }
+
+    /// Fails the flush that a step with this pick makes, if it makes one. The disk is not called.
+    pub(crate) fn fail_flush(&mut self, pick: u8) -> bool
+        ensures was { result ≡ flushes self.old.state pick }
+        ensures device { self.new ≡ record self.old { state = with_flush_failed self.old.state pick } }
+    {
+        self.state.fail_flush(pick)
     }
 
     pub(crate) fn step<L: TouchLog>(

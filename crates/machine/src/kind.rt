@@ -5,6 +5,7 @@ ghost use Rattle.guestmem.specs.Rises.{Touches};
 ghost use Rattle.chains.specs.Transmit.{sending_in};
 ghost use Rattle.chains.specs.Frame.{MayServe, HasServed, MayLook, HasLooked, IsUntouched};
 ghost use Rattle.blk.specs.Advance.{advance_step, IsAfterAdvancing};
+ghost use Rattle.blk.specs.Flush.{flush_failed, flushes_at};
 ghost use Rattle.blk.specs.Move.{MaySectors, is_disk_failed};
 ghost use Rattle.blk.specs.Sectors.{AreWhole, IsKept};
 ghost use Rattle.blk.specs.Sound.{AreSound};
@@ -283,6 +284,27 @@ impl Kind {
                 sectors.recall();
                 Advanced::Idle
             }
+        }
+    }
+
+    /// Whether the k-th outstanding request, from 0, flushes the disk next.
+    pub(crate) fn flushes_at(&self, k: usize) -> bool
+        ensures { result ≡ flushes_at (requests_of self.now) k }
+    {
+        match self {
+            Kind::Block { requests, .. } => requests.flushes_at(k),
+            Kind::Network { .. } | Kind::Console { .. } | Kind::Entropy(_) => false,
+        }
+    }
+
+    /// Fails the k-th outstanding request, from 0, if it flushes the disk next. The result says whether it does.
+    pub(crate) fn fail_flush(&mut self, k: usize) -> bool
+        ensures was { result ≡ flushes_at (requests_of self.old) k }
+        ensures kind { self.new ≡ with_requests self.old (flush_failed (requests_of self.old) k) }
+    {
+        match self {
+            Kind::Block { requests, .. } => requests.fail_flush(k),
+            Kind::Network { .. } | Kind::Console { .. } | Kind::Entropy(_) => false,
         }
     }
 

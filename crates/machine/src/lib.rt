@@ -20,6 +20,9 @@
 //!   the pages and sectors that the step writes into.
 //! - `read_register`, `write_register`, `read_ram`, `write_ram`, `input`, `resize` and `step` are the steps of their events,
 //!   with no event to be made.
+//! - `fail_flush(dev, pick)` makes a step that flushes a disk as a step whose disk failed, and calls no disk (`specs/Unsynced`): for a
+//!   host that could not bring the bytes of the disk to the file that holds them. The marks of the disk stay as they are, so disks
+//!   that are honest and steady are so after it. Any other step it refuses, and then nothing has changed.
 //! - `NoMemory` comes only for a reply that holds bytes and for a step that looks at a long queue or at a message to be sent.
 //!   After it, and after `Refused`, nothing has changed.
 //! - A disk's count of failures rises by one exactly where the reply is `DiskFailed` and it is that device's disk; a steady

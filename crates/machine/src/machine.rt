@@ -8,6 +8,7 @@ mod lending;
 mod making;
 mod next_work;
 mod parts;
+mod unsynced;
 
 use crate::any_ring::AnyRing;
 use crate::device::Device;

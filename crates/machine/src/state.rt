@@ -1,6 +1,7 @@
 //! The state of a device, without its disk.
 
 mod first_pick;
+mod unsynced;
 
 ghost use Rattle.std.specs.Prelude.{◌≡◌, ◌≤◌, ◌<◌, ℕ, List, IfOk, length, take, if◌then◌else◌};
 ghost use Rattle.guestmem.specs.Rises.{Touches};
@@ -312,7 +313,7 @@ impl DeviceState {
     }
 
     /// Whether a step with this pick advances an outstanding request.
-    fn advances(&self, pick: u8) -> bool
+    pub fn advances(&self, pick: u8) -> bool
         ensures { result ≡ advances self.now pick }
     {
         self.registers.is_running() && pick > 0 && (pick as usize - 1) < self.kind.outstanding()

@@ -21,7 +21,7 @@ use Rattle.sender.specs.declared.event.LiveReply.{LiveReply}
 use Rattle.sender.specs.declared.event.LiveReply.TheVariants as r
 use Rattle.sender.specs.declared.mig_error.MigError.{MigError}
 use Rattle.sender.specs.declared.mig_error.MigError.TheVariants as errors
-use Rattle.rehearsal.specs.InMemory.{ApplyingStaysReliable, AreReliable, MachinesAreReliable, MemoryIsReliable, ReliableIsHonest, ServingStaysReliable, memory_state}
+use Rattle.rehearsal.specs.InMemory.{ApplyingStaysReliable, AreReliable, FailingStaysReliable, MachinesAreReliable, MemoryIsReliable, ReliableIsHonest, ServingStaysReliable, memory_state}
 
 abbrev IsReliable : Marks → Type 0
 IsReliable k = k ≡ no_marks
@@ -148,3 +148,7 @@ either_way (Some x) l next e reply all served = same l next served.1 all
 
 pub serving_stays_reliable : ServingStaysReliable
 serving_stays_reliable l next e reply all served = either_way (refusal_for l.phase e) l next e reply all served
+
+-- A flush that fails in place of its step.
+pub failing_stays_reliable : FailingStaysReliable
+failing_stays_reliable m next dev pick are f = subst AreReliable (sym f.marks) are

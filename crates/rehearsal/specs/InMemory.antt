@@ -5,6 +5,7 @@ use Rattle.blk.specs.Disk.{DiskState}
 use Rattle.machine.specs.Applied.{IsApplied}
 use Rattle.machine.specs.First.{dealt_marks, marks_in}
 use Rattle.machine.specs.Seen.{Marks, Seen, all_marks, marks_at, no_marks}
+use Rattle.machine.specs.Unsynced.{FailsFlush}
 use Rattle.machine.specs.declared.event.Event.{Event}
 use Rattle.machine.specs.declared.reply.Reply.{Reply}
 use Rattle.machine.specs.declared.shape.Shape.{Shape}
@@ -37,6 +38,10 @@ MachinesAreReliable = (m : Seen) (shapes : List Shape) (marks : List Marks) → 
 -- They stay so, whatever is applied to the machine,
 abbrev pub ApplyingStaysReliable : Type 0
 ApplyingStaysReliable = (m next : Seen) (e : Event) (reply : Reply) → AreReliable (all_marks m) → IsApplied m e reply next → AreReliable (all_marks next)
+
+-- also where a flush fails in place of its step: its disk has not failed,
+abbrev pub FailingStaysReliable : Type 0
+FailingStaysReliable = (m next : Seen) (dev pick : ℕ) → AreReliable (all_marks m) → FailsFlush m dev pick next → AreReliable (all_marks next)
 
 -- and in each call while it is being migrated.
 abbrev pub ServingStaysReliable : Type 0

@@ -1,10 +1,11 @@
 //! Laws over the definitions alone. These functions do nothing: their contracts are the laws.
 
-ghost use Rattle.rehearsal.specs.InMemory.{ApplyingStaysReliable, MachinesAreReliable, MemoryIsReliable, ReliableIsHonest, ServingStaysReliable};
+ghost use Rattle.rehearsal.specs.InMemory.{ApplyingStaysReliable, FailingStaysReliable, MachinesAreReliable, MemoryIsReliable, ReliableIsHonest, ServingStaysReliable};
 ghost use Rattle.rehearsal.specs.Moves.{ArrivedIsMoved, FirstIsMoving, TakingsStayMoving};
 
 /// A machine of which nothing is sent yet has no history, and nothing of its stream was taken. From here on each call adds to its
-/// history (`sender::laws::taken_follows_the_history`).
+/// history (`sender::laws::taken_follows_the_history`), and so does a flush that fails in place of its step
+/// (`sender::laws::taken_failed_flush_follows_the_history`).
 pub fn first_is_moving()
     ensures { FirstIsMoving }
 {}
@@ -32,6 +33,11 @@ pub fn machines_are_reliable()
 /// They stay so, whatever is applied to the machine.
 pub fn applying_stays_reliable()
     ensures { ApplyingStaysReliable }
+{}
+
+/// They stay so where a flush fails in place of its step (`Machine::fail_flush`).
+pub fn failing_stays_reliable()
+    ensures { FailingStaysReliable }
 {}
 
 /// They stay so in each call while the machine is being migrated.

@@ -10,3 +10,4 @@ pub mod Follows
 pub mod Ran
 pub mod Taking
 pub mod Parked
+pub mod Unsynced

@@ -4,6 +4,7 @@ ghost use Rattle.sender.specs.Follows.{CallsFollow};
 ghost use Rattle.sender.specs.HistoryLaws.{AfterIsRun, FreshIsLast, OneHistory, StaleIsNotFresh, StoppedIsStream};
 ghost use Rattle.sender.specs.Parked.{LiveBackFollows, LiveBackIsServed};
 ghost use Rattle.sender.specs.Taking.{CallsIgnoreTaken, TakenAreWhole, TakenFollow};
+ghost use Rattle.sender.specs.Unsynced.{FailureFollows, TakenFailureFollows};
 
 /// Whatever happened, an item that is not stale, a page or a sector, is as the last record that names it says.
 pub fn fresh_is_last()
@@ -60,4 +61,15 @@ pub fn live_back_is_served()
 /// So its history goes on by these writes, and nothing is written meanwhile.
 pub fn live_back_follows_the_history()
     ensures { LiveBackFollows }
+{}
+
+/// A flush that fails by `Live::fail_flush` adds its step to the history, with the reply that the disk failed, and nothing is
+/// written.
+pub fn failed_flush_follows_the_history()
+    ensures { FailureFollows }
+{}
+
+/// The same if part of the stream was taken out before.
+pub fn taken_failed_flush_follows_the_history()
+    ensures { TakenFailureFollows }
 {}

@@ -25,6 +25,8 @@
 //!     exactly if the writer's count rose, or the phase was failed; `DiskFailed` exactly if the disk's count rose: a
 //!     copy then changes neither set, and a stop has sent the items before the sector that it names, and no other left
 //!     a set. A bad sector is sent with no call of its disk.
+//! - `fail_flush` makes a step that flushes a disk as one whose disk failed, and calls no disk (`specs/Unsynced`). The history
+//!   continues with that step, and nothing becomes dirty: the stop sends the devices whole.
 //! - `remaining` counts both sets in constant time; `machine` lends the machine to be read; `into_parts` and `abort`
 //!   return it.
 //! - `lend` gives the RAM of a machine over memory of the caller to the caller, whose guest may write there, and keeps all else as a

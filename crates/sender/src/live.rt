@@ -8,6 +8,7 @@ ghost use Rattle.machine.specs.Layout.{layout_of, size_of};
 ghost use Rattle.sender.specs.LiveState.{now, refusal_for};
 ghost use Rattle.sender.specs.Calls.{Serves, begun_reply, copied_reply, ended_reply, guest_reply, stepped_result, stopped_reply};
 ghost use Rattle.sender.specs.Parked.{IsLiveParked};
+ghost use Rattle.sender.specs.Unsynced.{TriesFlush};
 ghost use Rattle.sender.specs.Stopping.{Closes, HasNoneUpTo, HasPlaces, SendsAll, SendsItem, lesser, one_more, phase_after};
 
 use crate::dirty::Dirty;
@@ -278,6 +279,17 @@ impl<D: Disk, W: Sink> Live<D, W> {
             self.source
                 .step_into_logged(dev, pick, sent, &mut self.changed),
         )
+    }
+
+    /// In place of a step that flushes a disk: makes it as a step whose disk failed, and calls no disk (`Machine::fail_flush`). The
+    /// result says whether the step with this pick flushes; if not, nothing has changed.
+    pub fn fail_flush(&mut self, dev: u8, pick: u8) -> Result<bool, MigError>
+        ensures { TriesFlush self.old dev pick result self.new }
+    {
+        if let Phase::Stopped = self.stage {
+            return Err(MigError::AlreadyStopped);
+        }
+        Ok(self.source.fail_flush(dev, pick))
     }
 
     /// The guest writes bytes into RAM from address `addr` on. As `apply` of that event, whose bytes need not be

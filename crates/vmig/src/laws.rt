@@ -11,12 +11,14 @@ pub use receiver::laws::{
     saved_is_received,
 };
 pub use rehearsal::laws::{
-    applying_stays_reliable, arrived_is_moved, first_is_moving, machines_are_reliable,
-    memory_is_reliable, reliable_is_honest, serving_stays_reliable, takings_stay_moving,
+    applying_stays_reliable, arrived_is_moved, failing_stays_reliable, first_is_moving,
+    machines_are_reliable, memory_is_reliable, reliable_is_honest, serving_stays_reliable,
+    takings_stay_moving,
 };
 pub use sender::laws::{
-    after_is_run, calls_follow, calls_ignore_what_was_taken, fresh_is_last, replies_settle,
-    stale_is_not_fresh, stopped_is_a_stream, taken_follows_the_history, taken_is_whole,
+    after_is_run, calls_follow, calls_ignore_what_was_taken, failed_flush_follows_the_history,
+    fresh_is_last, replies_settle, stale_is_not_fresh, stopped_is_a_stream,
+    taken_failed_flush_follows_the_history, taken_follows_the_history, taken_is_whole,
 };
 pub use traces::laws::{events_are_read_in_one_way, texts_are_read_in_one_way};
 pub use wire::laws::{

@@ -7,6 +7,7 @@ pub mod Awaited
 pub mod ByHandle
 pub mod ByKept
 pub mod Descriptions
+pub mod Failing
 pub mod Handing
 pub mod Imaging
 pub mod Landings

@@ -1,7 +1,7 @@
 -- The migration of a machine out of a handle, from its first call on: its history, and the bytes that C has taken. What C has
 -- taken, followed by what waits, is all that a machine that is being migrated has written. So after a stop it is the whole
 -- stream of the machine, and what is made of it on the other side is the machine.
-use Rattle.std.specs.Prelude.{◌≡◌, ◌++◌, ℕ, List, [], Some, false, length, take}
+use Rattle.std.specs.Prelude.{◌≡◌, ◌≢◌, ◌++◌, ℕ, List, [], Some, false, length, take}
 use Rattle.region.specs.Address.{address}
 use Rattle.region.specs.declared.region.Region.{Region}
 use Rattle.guestmem.specs.Lent.{given_back}
@@ -10,6 +10,8 @@ use Rattle.machine.specs.Seen.{AreHonest, Seen, state_of}
 use Rattle.machine.specs.Sound.{IsSound}
 use Rattle.machine.specs.State.{MachineState}
 use Rattle.machine.specs.declared.event.Event.{Event}
+use Rattle.machine.specs.declared.event.Event.TheVariants.{Step}
+use Rattle.machine.specs.declared.reply.Reply.TheVariants.{DiskFailed}
 use Rattle.sender.specs.Calls.{Serves}
 use Rattle.sender.specs.Follows.{Relates}
 use Rattle.sender.specs.History.{History, guest_events, has_fault, nothing, phase_of, text, then_came}
@@ -17,8 +19,11 @@ use Rattle.sender.specs.LiveState.{LiveSeen, now}
 use Rattle.sender.specs.Parked.{KeepsWord, LiveParkedSeen, live_back, page_writes}
 use Rattle.sender.specs.Stopping.{HasPlaces}
 use Rattle.sender.specs.Taking.{untaken}
+use Rattle.sender.specs.Unsynced.{FailsLiveFlush}
 use Rattle.sender.specs.declared.event.LiveEvent.{LiveEvent}
+use Rattle.sender.specs.declared.event.LiveEvent.TheVariants.{Guest}
 use Rattle.sender.specs.declared.event.LiveReply.{LiveReply}
+use Rattle.sender.specs.declared.event.LiveReply.TheVariants as r
 use Rattle.sender.specs.declared.phase.Phase.TheVariants as phases
 use Rattle.wire.specs.Sinks.{over_writer}
 use Rattle.wire.specs.Stream.{IsStream}
@@ -44,6 +49,11 @@ pub record StaysSent (m : MachineState) (h : History) (taken : List ℕ) (e : Li
 
 abbrev pub CallsStaySent : Type 0
 CallsStaySent = (m : MachineState) (h : History) (taken : List ℕ) (e : LiveEvent) (reply : LiveReply) (l next : LiveSeen) → IsSent m h taken l → HasPlaces l → Serves l e reply next → StaysSent m h taken e reply next
+
+-- and so does a flush that fails in place of its step, with the reply that the disk failed,
+abbrev pub FailuresStaySent : Type 0
+FailuresStaySent = (m : MachineState) (h : History) (taken : List ℕ) (dev pick : ℕ) (l next : LiveSeen) → IsSent m h taken l → HasPlaces l → l.phase ≢ phases.Stopped → FailsLiveFlush l dev pick next
+    → StaysSent m h taken (Guest (Step dev pick)) (r.Guest DiskFailed) next
 
 -- and each taking, while there was memory for what waits, adds to what was taken.
 abbrev pub TakingsStaySent : Type 0

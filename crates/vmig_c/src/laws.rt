@@ -1,9 +1,10 @@
 //! Laws over the definitions alone. These functions do nothing: their contracts are the laws.
 
+ghost use Rattle.vmig_c.specs.Durable.{FailedMirrors, FailedStaysPlain, RefusedFailsNothing};
 ghost use Rattle.vmig_c.specs.Mirror.{AppliedMirrors, PulledMirrors, PushedMirrors, UnseenMirrors};
 ghost use Rattle.vmig_c.specs.Plain.{PlainStays, RefusedChangesNothing};
 ghost use Rattle.vmig_c.specs.Refused.{RefusedTellsNothing};
-ghost use Rattle.vmig_c.specs.Sent.{ArrivedIsSent, CallsStaySent, FirstIsSent, LentComesBackSent, LentTakingsStaySent, ReceivedIsSent, StoppedIsWhole, TakingsStaySent};
+ghost use Rattle.vmig_c.specs.Sent.{ArrivedIsSent, CallsStaySent, FailuresStaySent, FirstIsSent, LentComesBackSent, LentTakingsStaySent, ReceivedIsSent, StoppedIsWhole, TakingsStaySent};
 
 /// A machine over disks in memory stays one.
 pub fn plain_stays()
@@ -20,6 +21,16 @@ pub fn refused_tells_nothing()
     ensures { RefusedTellsNothing }
 {}
 
+/// A flush that is refused as none, by a status from 1 to 63, changes nothing.
+pub fn refused_fails_nothing()
+    ensures { RefusedFailsNothing }
+{}
+
+/// A machine over disks in memory stays one also if a flush fails in place of its step.
+pub fn failed_stays_plain()
+    ensures { FailedStaysPlain }
+{}
+
 /// A machine whose migration has just begun has no history, and nothing of its stream was taken.
 pub fn first_is_sent()
     ensures { FirstIsSent }
@@ -28,6 +39,11 @@ pub fn first_is_sent()
 /// Each call of a machine that is being migrated adds its answer to the history, whatever was taken before.
 pub fn calls_stay_sent()
     ensures { CallsStaySent }
+{}
+
+/// A flush that fails in place of its step adds that step to the history, as one whose disk failed.
+pub fn failures_stay_sent()
+    ensures { FailuresStaySent }
 {}
 
 /// What is taken follows what was taken before, and the history stays.
@@ -68,6 +84,11 @@ pub fn unseen_mirrors()
 /// A mirror of a machine's RAM stays one, whatever is applied to the machine.
 pub fn applied_mirrors()
     ensures { AppliedMirrors }
+{}
+
+/// So does a flush that fails in place of its step.
+pub fn failed_mirrors()
+    ensures { FailedMirrors }
 {}
 
 /// After a pull into a mirror, its RAM is the machine's.

@@ -9,8 +9,9 @@
 //!   making (`specs/Making`, `specs/Setup`) or its stream (`specs/Moving`), by the status that it returns. The statuses are in
 //!   one table (`specs/Status`): from 1 to 63 nothing has changed, but for 20 (the writer failed) and for a stream that is
 //!   refused as it arrives. `vmig_step` is not done where what it sends might not fit.
-//! - `vmig_next_work` names the next step that has something to do (`specs/NextWork`), and `vmig_must_sync` says of a step whether the
-//!   driver takes what it wrote to the disk for durable once it is made (`specs/Durable`).
+//! - `vmig_next_work` names the next step that has something to do (`specs/NextWork`). `vmig_must_sync` says of a step whether it makes
+//!   a flush, or ends a write that the driver then takes for durable; `vmig_sync_failed` makes such a flush as one whose disk failed
+//!   (`specs/Durable`).
 //! - `vmig_saved_len` is the length of the stream that `vmig_save` makes (`specs/Measured`), without that stream.
 //! - Every call has its clause in each state: the calls of a migration those of `Live` (`specs/Migrated`), over a writer into
 //!   memory from which `vmig_take` takes; the calls of an arrival those of `Receiver` (`specs/Awaited`, `specs/Arriving`), over
@@ -47,7 +48,7 @@ ghost use Rattle.machine.specs.declared.event.Event.TheVariants as events;
 ghost use Rattle.vmig_c.specs.Announced.{Announces, AnnouncesDevice};
 ghost use Rattle.vmig_c.specs.Arriving.{Counted, Fed, Finished};
 ghost use Rattle.vmig_c.specs.Described.{Describes, Sizes};
-ghost use Rattle.vmig_c.specs.Durable.{sync_told};
+ghost use Rattle.vmig_c.specs.Durable.{Failed, sync_told};
 ghost use Rattle.vmig_c.specs.Expected.{Expects};
 ghost use Rattle.vmig_c.specs.Images.{SectorRead};
 ghost use Rattle.vmig_c.specs.Lent.{GivesBack, GivesBackMarked, GivesBackWhole, Lends};
@@ -116,7 +117,7 @@ use setup::{arrival_refusal, setup_refusal};
 use status::{DONE, IN_USE, NO_MACHINE, NO_MEMORY};
 use std::alloc::Global;
 use stepping::step_kept;
-use syncing::sync_kept;
+use syncing::{fail_kept, sync_kept};
 use unmapping::{unmap, unmap_refusal};
 use working::next_work;
 
@@ -434,7 +435,7 @@ pub extern "C" fn vmig_sector_read(
     read_sector(machine.get_mut(), dev, sector, buf)
 }
 
-/// Whether a step ends a request after which the driver takes what was written to the disk for durable. It takes no memory.
+/// Whether a step makes a flush, or ends a write after which the driver takes what was written to the disk for durable. It takes no memory.
 #[unsafe(no_mangle)]
 #[tactic(auto, using(crate::proofs::Descriptions::sync_none, crate::proofs::Descriptions::sync_some))]
 pub extern "C" fn vmig_must_sync(machine: &mut Handle, dev: u8, pick: u8) -> u32
@@ -445,6 +446,19 @@ pub extern "C" fn vmig_must_sync(machine: &mut Handle, dev: u8, pick: u8) -> u32
         return NO_MACHINE;
     }
     sync_kept(machine.get_mut(), dev, pick)
+}
+
+/// In place of a step that makes a flush, where the disk could not be brought to its file: makes it as a step whose disk failed. For any
+/// other step it is refused. It takes no memory.
+#[unsafe(no_mangle)]
+#[tactic(auto, using(crate::proofs::Failing::failed_none, crate::proofs::Failing::failed_some))]
+pub extern "C" fn vmig_sync_failed(machine: &mut Handle, dev: u8, pick: u8) -> u32
+    ensures { Failed machine.old.machine dev pick result machine.new.machine }
+{
+    if !machine.is_made() {
+        return NO_MACHINE;
+    }
+    fail_kept(machine.get_mut(), dev, pick)
 }
 
 /// How many pages and devices the machine has. It takes no memory.

@@ -1,0 +1,35 @@
+-- A flush that fails: the bytes of the disk did not reach the file that holds them.
+use Rattle.std.specs.Prelude.{ℕ, ◌&&◌, Bool, true, false, List, slice_get, slice_set, Option, Some, None, if◌then◌else◌}
+use Rattle.blk.specs.Move.{move_flush}
+use Rattle.blk.specs.Request.{is_open}
+use Rattle.blk.specs.declared.request.Kind.{Kind}
+use Rattle.blk.specs.declared.request.Kind.TheVariants.{Refused, In, Out, Flush, GetId, Zero}
+use Rattle.blk.specs.declared.request.Request.{Request}
+
+abbrev pub is_flush : Kind → Bool
+is_flush Flush = true
+is_flush Refused = false
+is_flush In = false
+is_flush Out = false
+is_flush GetId = false
+is_flush Zero = false
+
+-- The next unit of the request flushes the disk.
+abbrev pub flushes : Request → Bool
+flushes r = is_open r && is_flush r.kind
+
+abbrev pub flushes_in : Option Request → Bool
+flushes_in None = false
+flushes_in (Some r) = flushes r
+
+-- The k-th outstanding request, from 0, flushes the disk next.
+abbrev pub flushes_at : List Request → ℕ → Bool
+flushes_at requests k = flushes_in (slice_get requests k)
+
+-- The requests after the k-th, from 0, made its flush and the disk failed. A request that flushes nothing next stays as it was.
+abbrev pub failed_if_flush : List Request → ℕ → Option Request → List Request
+failed_if_flush requests k None = requests
+failed_if_flush requests k (Some r) = if flushes r then slice_set requests k (move_flush r false).request else requests
+
+abbrev pub flush_failed : List Request → ℕ → List Request
+flush_failed requests k = failed_if_flush requests k (slice_get requests k)
