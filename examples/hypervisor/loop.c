@@ -1,4 +1,6 @@
 /* The loop: the guest runs on RAM that is lent to it, and what it comes out for is done. docs/host-loop.md quotes it. */
+#include <errno.h>
+#include <string.h>
 #include "host.h"
 #include "memory.h"
 #include "say.h"
@@ -39,12 +41,19 @@ static void access_register(struct host *h)
     }
 }
 
-/* Whether the disk of a step has brought to its file what its guest takes for durable after the step. */
-static int is_durable(struct host *h)
+/* The next step of a device. Before one that makes a flush, or ends a write that its driver then takes for durable, the disk is brought to
+ * its file. Where that fails the guest's flush ends with an error. Such a write is done already, so there the guest is stopped. */
+static uint32_t make_step(struct host *h, uint8_t *sent, size_t size, uint32_t *len)
 {
-    struct disk *disk = devices_disk(&h->devices, h->dev);
+    const struct disk *disk = devices_disk(&h->devices, h->dev);
+    uint32_t status;
 
-    return disk == NULL || vmig_must_sync(&h->machine, h->dev, h->pick) != VMIG_SYNC || disk_bring(disk);
+    if (disk == NULL || vmig_must_sync(&h->machine, h->dev, h->pick) != VMIG_SYNC || disk_bring(disk))
+        return vmig_step(&h->machine, h->dev, h->pick, sent, size, len);
+    say("%s: %s", disk->name, strerror(errno));
+    status = vmig_sync_failed(&h->machine, h->dev, h->pick);
+    if (status == VMIG_NO_FLUSH) fail("%s: it cannot be written", disk->name);
+    return status;
 }
 
 /* The devices do their work. What is more than a turn has waits for the next one. */
@@ -59,8 +68,7 @@ static void do_work(struct host *h)
             h->steps_wait = 0;
             return;
         }
-        if (!is_durable(h)) fail("%s: it cannot be written", devices_disk(&h->devices, h->dev)->name);
-        uint32_t status = vmig_step(&h->machine, h->dev, h->pick, sent, sizeof sent, &len);
+        uint32_t status = make_step(h, sent, sizeof sent, &len);
         if (status < 64) fail("vmig_step: %s", vmig_status_name(status));
         if (status == VMIG_SENT) hand_on(h, h->dev, sent, len);
         if (status == VMIG_COMPLETED && h->dev == ENTROPY) fill_pool(h);
