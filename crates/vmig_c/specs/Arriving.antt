@@ -84,11 +84,14 @@ abbrev pub EndsIf : Bool → ArrivalSeen → ℕ → State → Type 0
 EndsIf false r status next = Ends r status next
 EndsIf true r status next = (status ≡ stream_status AlreadyFailed) × (next ≡ Arriving r)
 
+abbrev pub FinishesIf : Bool → State → ℕ → State → Type 0
+FinishesIf denied (Arriving r) status next = EndsIf denied r status next
+FinishesIf denied (Still m) status next = IsThere (Still m) status next
+FinishesIf denied (Moving l) status next = IsThere (Moving l) status next
+FinishesIf denied (Lent x) status next = IsThere (Lent x) status next
+
 abbrev pub FinishesKept : AdmissionSeen → State → ℕ → State → Type 0
-FinishesKept admission (Arriving r) status next = EndsIf (is_denied admission) r status next
-FinishesKept admission (Still m) status next = IsThere (Still m) status next
-FinishesKept admission (Moving l) status next = IsThere (Moving l) status next
-FinishesKept admission (Lent x) status next = IsThere (Lent x) status next
+FinishesKept admission k status next = FinishesIf (is_denied admission) k status next
 
 pub record DoesFinished (k : KeptSeen) (status : ℕ) (after : Option KeptSeen) : Type 0 where
   pub next : State

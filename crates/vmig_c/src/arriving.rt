@@ -1,7 +1,7 @@
 //! The calls of an arrival, applied to the contents of a handle.
 
 ghost use Rattle.std.specs.Prelude.{◌≡◌, false, true, IsNone};
-ghost use Rattle.vmig_c.specs.Arriving.{CountsKept, EndsIf, Fed, FeedsKept, FeedsWithin, FinishesKept};
+ghost use Rattle.vmig_c.specs.Arriving.{CountsKept, EndsIf, Fed, FeedsKept, FeedsWithin, FinishesIf, FinishesKept};
 ghost use Rattle.vmig_c.specs.Awaited.{stream_status};
 ghost use Rattle.vmig_c.specs.Kept.{admission_of, are_mapped, state_in};
 
@@ -85,33 +85,21 @@ pub(crate) fn finish(alloc: Global, kept: &mut Kept) -> u32
     ensures finishes { FinishesKept kept.old.admission kept.old.state result kept.new.state }
     ensures kind { kept.new ≡ record kept.old { state = kept.new.state } }
 {
-    let (next, status) = finished(alloc, taken_out(alloc, kept));
-    drop(mem::replace(kept, next));
+    let is_denied = kept.admission.is_denied();
+    let (next, status) = finished(alloc, is_denied, taken_out(alloc, &mut kept.contents));
+    drop(mem::replace(&mut kept.contents, next));
     status
 }
 
-fn finished(alloc: Global, old: Kept) -> (Kept, u32)
-    ensures finishes { FinishesKept old.admission old.state result.1 result.0.state }
-    ensures kind { result.0 ≡ record old { state = result.0.state } }
+fn finished(alloc: Global, is_denied: bool, old: Contents) -> (Contents, u32)
+    ensures finishes { FinishesIf is_denied (state_in old) result.1 (state_in result.0) }
+    ensures kind { are_mapped result.0 ≡ are_mapped old }
 {
-    let Kept {
-        contents,
-        sent,
-        named,
-        admission,
-    } = old;
-    let (contents, status) = match contents {
-        Contents::Arriving(arrival) => finish_told(alloc, admission.is_denied(), arrival),
-        Contents::ArrivingMapped(landing) => finish_landing(admission.is_denied(), landing),
+    match old {
+        Contents::Arriving(arrival) => finish_told(alloc, is_denied, arrival),
+        Contents::ArrivingMapped(landing) => finish_landing(is_denied, landing),
         contents => (contents, IN_USE),
-    };
-    let kept = Kept {
-        contents,
-        sent,
-        named,
-        admission,
-    };
-    (kept, status)
+    }
 }
 
 /// The end of an arrival; where its stream was denied it stays as it is.

@@ -4,7 +4,7 @@ ghost use Rattle.std.specs.Prelude.{◌≡◌, ◌≤◌, ◌*◌, [], None, IfE
 ghost use Rattle.guestmem.specs.declared.limits.TheConstants.{PAGE_SIZE, PAGES_MAX};
 ghost use Rattle.region.specs.Empty.{empty_slot};
 ghost use Rattle.region.specs.Slot.{region_of};
-ghost use Rattle.vmig_c.specs.Kept.{is_loan_mapped, kept_of, loan_of, parked_in};
+ghost use Rattle.vmig_c.specs.Kept.{are_mapped, is_loan_mapped, loan_of, parked_in, state_in};
 ghost use Rattle.vmig_c.specs.declared.kept.Contents.TheVariants as contents;
 ghost use Rattle.vmig_c.specs.Lent.{ComesBack, ComesBackMarked, ComesBackWhole, HasComeBack, IsBackWith, IsLiveLoan, LendsBy, LendsKept, back_refusal_of, lend_refusal_of, lent_pages, mark_refusal_of, return_refusal_of};
 ghost use Rattle.vmig_c.specs.Mirror.{are_pages};
@@ -32,8 +32,8 @@ pub(crate) fn lend(alloc: Global, kept: &mut Kept, ram: &mut Slot) -> u32
     if let Some(status) = lend_refusal(kept, ram) {
         return status;
     }
-    let (next, status) = lent(taken_out(alloc, kept), ram);
-    drop(mem::replace(kept, next));
+    let (next, status) = lent(taken_out(alloc, &mut kept.contents), ram);
+    drop(mem::replace(&mut kept.contents, next));
     status
 }
 
@@ -56,18 +56,12 @@ fn lend_refusal(kept: &Kept, ram: &mut Slot) -> Option<u32>
     None
 }
 
-fn lent(old: Kept, ram: &mut Slot) -> (Kept, u32)
-    requires { lend_refusal_of old.state (length ram.old.content) ≡ None }
-    ensures lends { LendsBy None old.state ram.old result.1 ram.new result.0.state }
-    ensures kind { result.0 ≡ record old { state = result.0.state } }
+fn lent(old: Contents, ram: &mut Slot) -> (Contents, u32)
+    requires { lend_refusal_of (state_in old) (length ram.old.content) ≡ None }
+    ensures lends { LendsBy None (state_in old) ram.old result.1 ram.new (state_in result.0) }
+    ensures kind { are_mapped result.0 ≡ are_mapped old }
 {
-    let Kept {
-        contents,
-        sent,
-        named,
-        admission,
-    } = old;
-    let (contents, status) = match contents {
+    match old {
         Contents::Still(machine) => match machine.lend() {
             Ok((region, parked)) => (lent_as(Loan::Still(parked), region, ram), DONE),
             Err(machine) => (Contents::Still(machine), NOT_OVER),
@@ -85,14 +79,7 @@ fn lent(old: Kept, ram: &mut Slot) -> (Kept, u32)
             Err(live) => (Contents::MovingMapped(live), NOT_OVER),
         },
         contents => (contents, NO_MACHINE),
-    };
-    let kept = Kept {
-        contents,
-        sent,
-        named,
-        admission,
-    };
-    (kept, status)
+    }
 }
 
 /// Lends the RAM of a machine that is being migrated.
@@ -219,38 +206,26 @@ fn come_back(alloc: Global, kept: &mut Kept, ram: &mut Slot, pages: &[u32])
     ensures back { HasComeBack kept.old.state ram.old pages.now 0 ram.new kept.new.state }
     ensures kind { kept.new ≡ record kept.old { state = kept.new.state } }
 {
-    let next = back(taken_out(alloc, kept), ram, pages);
-    drop(mem::replace(kept, next));
+    let next = back(taken_out(alloc, &mut kept.contents), ram, pages);
+    drop(mem::replace(&mut kept.contents, next));
 }
 
-fn back(old: Kept, ram: &mut Slot, pages: &[u32]) -> Kept
-    requires { back_refusal_of old.state (length ram.old.content) pages.now ≡ None }
-    ensures back { HasComeBack old.state ram.old pages.now 0 ram.new result.state }
-    ensures kind { result ≡ record old { state = result.state } }
+fn back(old: Contents, ram: &mut Slot, pages: &[u32]) -> Contents
+    requires { back_refusal_of (state_in old) (length ram.old.content) pages.now ≡ None }
+    ensures back { HasComeBack (state_in old) ram.old pages.now 0 ram.new (state_in result) }
+    ensures kind { are_mapped result ≡ are_mapped old }
 {
-    let Kept {
-        contents,
-        sent,
-        named,
-        admission,
-    } = old;
-    let contents = match contents {
+    match old {
         Contents::Lent(loan) => back_from(loan, taken_ram(ram), pages),
         _ => unreachable!(),
-    };
-    Kept {
-        contents,
-        sent,
-        named,
-        admission,
     }
 }
 
 fn back_from(loan: Loan, region: Region, pages: &[u32]) -> Contents
     requires size { length region.content ≡ PAGE_SIZE * length (parked_in (loan_of loan)).versions }
     requires below { are_pages (length (parked_in (loan_of loan)).versions) pages.now ≡ true }
-    ensures back { IsBackWith (loan_of loan) region pages.now (kept_of result).state }
-    ensures kind { (kept_of result).is_mapped ≡ is_loan_mapped loan }
+    ensures back { IsBackWith (loan_of loan) region pages.now (state_in result) }
+    ensures kind { are_mapped result ≡ is_loan_mapped loan }
 {
     match loan {
         Loan::Still(parked) => Contents::Still(parked.give_back(region, pages, &mut NoLog)),

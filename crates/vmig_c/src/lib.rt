@@ -107,7 +107,7 @@ use images::read_sector;
 use lending::{give_back, give_back_all, give_back_marked, lend};
 use mapped_disk::Image;
 use measuring::measure_kept;
-use migrating::{abort, begin, copy, end_round, remaining, stop, take, taken_out};
+use migrating::{abort, begin, copy, end_round, remaining, stop, take};
 use mirror::{pull, push};
 use moving::{machine_in, save_kept};
 use region::Slot;
@@ -118,7 +118,7 @@ use status::{DONE, IN_USE, NO_MACHINE, NO_MEMORY};
 use std::alloc::Global;
 use stepping::step_kept;
 use syncing::{fail_kept, sync_kept};
-use unmapping::{unmap, unmap_refusal};
+use unmapping::{contents_of, unmap, unmap_refusal};
 use working::next_work;
 
 /// Version 0.9.0.
@@ -174,9 +174,9 @@ pub extern "C" fn vmig_unmap(alloc: Global, machine: &mut Handle, images: &mut [
     if let Some(status) = unmap_refusal(machine.get_mut(), images) {
         return status;
     }
-    let kept = taken_out(alloc, machine.get_mut());
+    let contents = contents_of(alloc, machine.get_mut());
     drop(std::mem::replace(machine, Handle::none(alloc)).into_box());
-    unmap(kept, images);
+    unmap(contents, images);
     DONE
 }
 

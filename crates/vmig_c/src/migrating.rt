@@ -2,6 +2,7 @@
 
 ghost use Rattle.std.specs.Prelude.{◌≡◌, ◌++◌, IfErr, IfOk, drop, length, min, take};
 ghost use Rattle.vmig_c.specs.Migrated.{AbortsKept, BeginsKept, CopiesKept, EndsKept, HasBegun, HasCopied, HasStopped, IsAnswered, HasTaken, RemainsKept, StopsKept, TakesKept};
+ghost use Rattle.vmig_c.specs.Kept.{are_mapped, state_in};
 ghost use Rattle.vmig_c.specs.Kept as states;
 ghost use Rattle.vmig_c.specs.Told.{IsServed};
 ghost use Rattle.sender.specs.declared.event.LiveEvent.TheVariants as live_events;
@@ -28,32 +29,23 @@ pub(crate) fn begin(alloc: Global, kept: &mut Kept) -> u32
     ensures begins { BeginsKept kept.old.state result kept.new.state }
     ensures kind { kept.new ≡ record kept.old { state = kept.new.state } }
 {
-    let (next, status) = begun(alloc, taken_out(alloc, kept));
-    drop(mem::replace(kept, next));
+    let (next, status) = begun(alloc, taken_out(alloc, &mut kept.contents));
+    drop(mem::replace(&mut kept.contents, next));
     status
 }
 
 /// Takes the contents out while they are turned into others. The stand-in takes no memory.
-pub(crate) fn taken_out(alloc: Global, kept: &mut Kept) -> Kept
-    ensures { result ≡ kept.old }
+pub(crate) fn taken_out(alloc: Global, contents: &mut Contents) -> Contents
+    ensures { result ≡ contents.old }
 {
-    mem::replace(
-        kept,
-        Kept::new(alloc, Contents::Arriving(Arrival::new(alloc))),
-    )
+    mem::replace(contents, Contents::Arriving(Arrival::new(alloc)))
 }
 
-fn begun(alloc: Global, old: Kept) -> (Kept, u32)
-    ensures begins { BeginsKept old.state result.1 result.0.state }
-    ensures kind { result.0 ≡ record old { state = result.0.state } }
+fn begun(alloc: Global, old: Contents) -> (Contents, u32)
+    ensures begins { BeginsKept (state_in old) result.1 (state_in result.0) }
+    ensures kind { are_mapped result.0 ≡ are_mapped old }
 {
-    let Kept {
-        contents,
-        sent,
-        named,
-        admission,
-    } = old;
-    let (contents, status) = match contents {
+    match old {
         Contents::Still(machine) => match begun_of(alloc, machine) {
             Ok(live) => (Contents::Moving(live), DONE),
             Err(machine) => (Contents::Still(machine), NO_MEMORY),
@@ -73,14 +65,7 @@ fn begun(alloc: Global, old: Kept) -> (Kept, u32)
         Contents::Arriving(arrival) => (Contents::Arriving(arrival), NO_MACHINE),
         Contents::ArrivingMapped(landing) => (Contents::ArrivingMapped(landing), NO_MACHINE),
         Contents::Lent(loan) => (Contents::Lent(loan), LENT),
-    };
-    let kept = Kept {
-        contents,
-        sent,
-        named,
-        admission,
-    };
-    (kept, status)
+    }
 }
 
 /// Begins the migration of a machine. If memory is refused, gives the machine back as it was.
@@ -211,22 +196,16 @@ pub(crate) fn abort(alloc: Global, kept: &mut Kept) -> u32
     ensures aborts { AbortsKept kept.old.state result kept.new.state }
     ensures kind { kept.new ≡ record kept.old { state = kept.new.state } }
 {
-    let (next, status) = aborted(taken_out(alloc, kept));
-    drop(mem::replace(kept, next));
+    let (next, status) = aborted(taken_out(alloc, &mut kept.contents));
+    drop(mem::replace(&mut kept.contents, next));
     status
 }
 
-fn aborted(old: Kept) -> (Kept, u32)
-    ensures aborts { AbortsKept old.state result.1 result.0.state }
-    ensures kind { result.0 ≡ record old { state = result.0.state } }
+fn aborted(old: Contents) -> (Contents, u32)
+    ensures aborts { AbortsKept (state_in old) result.1 (state_in result.0) }
+    ensures kind { are_mapped result.0 ≡ are_mapped old }
 {
-    let Kept {
-        contents,
-        sent,
-        named,
-        admission,
-    } = old;
-    let (contents, status) = match contents {
+    match old {
         Contents::Still(machine) => (Contents::Still(machine), NOT_BEGUN),
         Contents::StillMapped(machine) => (Contents::StillMapped(machine), NOT_BEGUN),
         Contents::Moving(live) => (Contents::Still(live.abort()), DONE),
@@ -234,14 +213,7 @@ fn aborted(old: Kept) -> (Kept, u32)
         Contents::Arriving(arrival) => (Contents::Arriving(arrival), NO_MACHINE),
         Contents::ArrivingMapped(landing) => (Contents::ArrivingMapped(landing), NO_MACHINE),
         Contents::Lent(loan) => (Contents::Lent(loan), LENT),
-    };
-    let kept = Kept {
-        contents,
-        sent,
-        named,
-        admission,
-    };
-    (kept, status)
+    }
 }
 
 /// How many items are due, and how many are dirty.

@@ -1,7 +1,7 @@
 //! Images that the caller gets back.
 
 ghost use Rattle.std.specs.Prelude.{◌≡◌, None, Some, if◌then◌else◌, length};
-ghost use Rattle.vmig_c.specs.Kept.{is_loan_mapped};
+ghost use Rattle.vmig_c.specs.Kept.{are_mapped, is_loan_mapped, kept_of, state_in};
 ghost use Rattle.vmig_c.specs.Mapping.{counts};
 ghost use Rattle.vmig_c.specs.Status.{lent, not_mapped};
 ghost use Rattle.vmig_c.specs.Unmapping.{AreHandedBack, HasUnmapped, HasUnmappedArrival, HasUnmappedState, are_none, arriving_refusal, disk_in, disks_in, held_by, slots_refusal, unmap_refusal_of};
@@ -10,9 +10,11 @@ use crate::kept::{Contents, Kept};
 use crate::landing::Landing;
 use crate::loan::Loan;
 use crate::mapping::give_back;
+use crate::migrating::taken_out;
 use crate::status::{BAD_IMAGES, LENT, NO_MACHINE, NOT_MAPPED, TOO_SMALL};
 use machine::{Device, Machine, Shape};
 use mapped_disk::{Image, MappedDisk};
+use std::alloc::Global;
 
 /// Why `vmig_unmap` is refused, if it is.
 #[tactic(auto, using(crate::proofs::Landings::slots_for))]
@@ -77,17 +79,19 @@ fn disk_count(machine: &Machine<MappedDisk>) -> usize
     count
 }
 
-/// Frees the machine, and puts its images into the slots.
-pub(crate) fn unmap(kept: Kept, images: &mut [Image])
-    requires { unmap_refusal_of kept images.old ≡ None }
-    ensures { HasUnmappedState kept.state images.old images.new }
+/// Takes the contents out of a handle that is freed next.
+pub(crate) fn contents_of(alloc: Global, kept: &mut Kept) -> Contents
+    ensures state { state_in result ≡ kept.old.state }
+    ensures kind { are_mapped result ≡ kept.old.is_mapped }
 {
-    let Kept {
-        contents,
-        sent: _,
-        named: _,
-        admission: _,
-    } = kept;
+    taken_out(alloc, &mut kept.contents)
+}
+
+/// Frees the machine, and puts its images into the slots.
+pub(crate) fn unmap(contents: Contents, images: &mut [Image])
+    requires { unmap_refusal_of (kept_of contents) images.old ≡ None }
+    ensures { HasUnmappedState (state_in contents) images.old images.new }
+{
     match contents {
         Contents::StillMapped(machine) => hand_back(machine, images),
         Contents::MovingMapped(live) => hand_back(live.abort(), images),
