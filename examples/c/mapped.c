@@ -62,16 +62,22 @@ static uint64_t write_sector(vmig_machine *m, uint32_t count, uint64_t sector, c
     return get(m, OUTCOME, 1);
 }
 
-/* A flush, as the `count`-th request. Returns the status that the device wrote. */
-static uint64_t flush(vmig_machine *m, uint32_t count, uint8_t *at)
+/* The driver asks for a flush, as its `count`-th request. */
+static void ask_flush(vmig_machine *m, uint32_t count)
 {
-    uint32_t wanted = failing > 0 ? VMIG_DISK_FAILED : VMIG_MOVED;
-
     put(m, HEADER, FLUSH, 4);
     put(m, OUTCOME, 0xff, 1);
     describe(m, 0, 0, HEADER, 16, HAS_NEXT, 1);
     describe(m, 0, 1, OUTCOME, 1, WRITABLE, 0);
     offer(m, 0, count, 0);
+}
+
+/* A flush. Returns the status that the device wrote. */
+static uint64_t flush(vmig_machine *m, uint32_t count, uint8_t *at)
+{
+    uint32_t wanted = failing > 0 ? VMIG_DISK_FAILED : VMIG_MOVED;
+
+    ask_flush(m, count);
     do_request(m, at, wanted);
     return get(m, OUTCOME, 1);
 }
@@ -94,6 +100,32 @@ static void is_durable(vmig_machine *m, const uint8_t *bytes, uint8_t *at)
     expect("a device without a disk", vmig_must_sync(m, 1, 1), VMIG_OK);
 }
 
+/* A flush that failed moves with its machine: it ends with an error there, and here where the machine stays. */
+static void moves_failed(vmig_machine *m, uint32_t count)
+{
+    static uint8_t stream[1 << 17];
+    vmig_machine other = VMIG_NONE;
+    uint64_t pages = 0, sectors = 0;
+    uint32_t len = 77, rounds = 0;
+    size_t got = 0;
+    uint8_t none[1];
+
+    expect("begin", vmig_begin(m), VMIG_OK);
+    ask_flush(m, count);
+    expect("taken", vmig_step(m, 0, 0, none, 0, &len), VMIG_TAKEN);
+    expect("it fails", vmig_sync_failed(m, 0, 1), VMIG_DISK_FAILED);
+    expect("it fails once", vmig_sync_failed(m, 0, 1), VMIG_NO_FLUSH);
+    expect("stop", vmig_stop(m, &pages, &sectors), VMIG_OK);
+    expect("take", vmig_take(m, stream, sizeof stream, &got), VMIG_OK);
+    expect("receive", vmig_receive(stream, got, &other, &rounds), VMIG_OK);
+    expect("completed", vmig_step(&other, 0, 1, none, 0, &len), VMIG_COMPLETED);
+    expect("with an error", get(&other, OUTCOME, 1), 1);
+    vmig_free(&other);
+    expect("abort", vmig_abort(m), VMIG_OK);
+    expect("completed", vmig_step(m, 0, 1, none, 0, &len), VMIG_COMPLETED);
+    expect("with an error", get(m, OUTCOME, 1), 1);
+}
+
 /* The file cannot be written: the driver's flush ends with an error, and it flushes again. So it does while the machine is sent. A
  * write of a driver without the feature FLUSH does not end before the file has it. */
 static void fails(vmig_machine *m, const uint8_t *bytes, uint8_t *at)
@@ -113,6 +145,7 @@ static void fails(vmig_machine *m, const uint8_t *bytes, uint8_t *at)
     expect("a flush that fails", flush(m, 5, at), 1);
     expect("the driver repeats it", flush(m, 6, at), 0);
     expect("abort", vmig_abort(m), VMIG_OK);
+    moves_failed(m, 7);
     set_up(m, 1);
     put(m, AVAIL + 2, 0, 2);
     failing = 2;

@@ -1,9 +1,9 @@
 //! The machine: RAM and 1 to 16 virtio devices, to which one event after another is applied.
 //!
 //! An `Event` is one atomic step: a register access, an access to RAM, a piece of a device's work, bytes that the host puts in.
-//! `Machine::apply` answers it with a `Reply`, and `Machine::play` plays a whole list. There is no other way to change a
-//! machine, and no thread. A machine's state is `MachineState` (`specs/State`): one list of bytes, the devices, and the sectors
-//! of their disks. Versions of pages are no part of it.
+//! `Machine::apply` answers it with a `Reply`, and `Machine::play` plays a whole list. Beside them a machine is changed by a flush that
+//! fails (`fail_flush`) and by RAM that is lent (`lend`) alone, and there is no thread. A machine's state is `MachineState`
+//! (`specs/State`): one list of bytes, the devices, and the sectors of their disks. Versions of pages are no part of it.
 //!
 //! A device finds its work in rings: split ones, or packed ones where the driver accepted them. What a step may see there is
 //! what the definitions of `chains` say of the RAM, so steps with equal outcomes are equal. The disk of a block device is any
