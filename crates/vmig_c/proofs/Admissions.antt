@@ -45,7 +45,7 @@ begins_longer bytes more opening rest begins = record {
   whole = ap (λ (l : List ℕ). l ++ more) begins.whole ∙ append_assoc _ rest more;
 }
 
--- What the first bytes tell is told of all.
+-- What the first bytes show is so of all.
 pub admitted : (limits : Limits) (bytes front more : List ℕ) (opening : Opening) (rest : List ℕ) → front ++ more ≡ bytes → Begins front opening rest → is_within limits opening.pages opening.shapes ≡ true → IsAdmitted limits bytes
 admitted limits bytes front more opening rest all begins within = rw (← all) (record { opening = opening; rest = rest ++ more; begins = begins_longer front more opening rest begins; within = within })
 
