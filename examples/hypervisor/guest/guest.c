@@ -3,6 +3,7 @@
  * wherever it runs. It lies anywhere in RAM, as all its addresses are relative. It runs with paging, and waits for interrupts. */
 #include "paging.h"
 #include "queue.h"
+#include "registers.h"
 
 enum { WINDOWS = 8, WINDOW_SIZE = 0x1000, MAGIC = 0x74726976, NETWORK = 1, BLOCK = 2, CONSOLE = 3, ENTROPY = 4, KINDS = 5 };
 enum { ROUNDS = 6, PIECE = 4096, SECTORS = 8, FRAME = 600, PAYLOAD = 22, RANDOM = 64, PATIENCE = 1000000 };
@@ -53,23 +54,21 @@ static volatile uint32_t *controller(uint32_t offset)
     return (volatile uint32_t *)(CONTROLLER + offset);
 }
 
-/* All devices may interrupt. The interrupt is not taken: it ends a wait. */
+/* All devices may interrupt. An interrupt is not taken: it ends a wait. */
 static void allow_interrupts(void)
 {
     for (uint32_t source = 1; source <= WINDOWS; source++) *controller(4 * source) = 1;
     *controller(ENABLED) = (1 << (WINDOWS + 1)) - 2;
     *controller(THRESHOLD) = 0;
-    __asm__ volatile("csrw sie, %0" : : "r"(1 << 9));
 }
 
-/* Waits for an interrupt, and acknowledges it at its device. */
+/* Waits for an interrupt, and acknowledges it at its device. A wait may end before. */
 static void await_interrupt(void)
 {
     uint32_t source;
 
-    __asm__ volatile("wfi");
-    source = *controller(CLAIM);
-    if (source == 0) return;
+    do __asm__ volatile("wfi");
+    while ((source = *controller(CLAIM)) == 0);
     volatile uint8_t *window = (volatile uint8_t *)(WINDOWS_AT + (source - 1) * WINDOW_SIZE);
     *(volatile uint32_t *)(window + INTERRUPT_ACK) = *(volatile uint32_t *)(window + INTERRUPT_STATUS);
     *controller(CLAIM) = source;
@@ -285,6 +284,7 @@ static uint64_t pass(void)
             do_heap(round);
             do_network(round);
             do_typed();
+            if (!are_registers_as_set()) fail("a register of supervisor mode");
         }
     }
     return sum;
@@ -312,6 +312,7 @@ __attribute__((used, noreturn)) static void run(void)
     begin_paging();
     find_devices();
     allow_interrupts();
+    set_registers();
     first = pass();
     print("guest: works\n");
     while (!is_ended)
