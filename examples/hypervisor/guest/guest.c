@@ -1,18 +1,27 @@
-/* A guest without an operating system. It drives the console, the disk, the network and the entropy device by polling, over split
- * rings and over packed ones, adds up all that it reads, and does so again and again until the byte `e` is typed. Each pass has to
- * give the same sum, wherever it runs. It lies anywhere in RAM, as all its addresses are relative. */
+/* A guest without an operating system. It drives the console, the disk, the network and the entropy device, over split rings and over
+ * packed ones, adds up all that it reads, and does so again and again until the byte `e` is typed. Each pass has to give the same sum,
+ * wherever it runs. It lies anywhere in RAM, as all its addresses are relative. It runs with paging, and waits for interrupts. */
+#include "paging.h"
 #include "queue.h"
+#include "registers.h"
 
 enum { WINDOWS = 8, WINDOW_SIZE = 0x1000, MAGIC = 0x74726976, NETWORK = 1, BLOCK = 2, CONSOLE = 3, ENTROPY = 4, KINDS = 5 };
-enum { ROUNDS = 6, PIECE = 4096, SECTORS = 8, FRAME = 600, PAYLOAD = 22, RANDOM = 64, HEAP = 64, PATIENCE = 1000000 };
+enum { ROUNDS = 6, PIECE = 4096, SECTORS = 8, FRAME = 600, PAYLOAD = 22, RANDOM = 64, PATIENCE = 1000000 };
 
 /* Registers of a device (VIRTIO 1.2, 4.2.2). */
 enum {
     DEVICE_ID = 0x008, FEATURES = 0x020, FEATURES_SELECT = 0x024, QUEUE_SELECT = 0x030, QUEUE_SIZE = 0x038, QUEUE_READY = 0x044,
-    NOTIFY = 0x050, STATUS = 0x070, TABLE = 0x080, DRIVER_AREA = 0x090, DEVICE_AREA = 0x0a0
+    NOTIFY = 0x050, INTERRUPT_STATUS = 0x060, INTERRUPT_ACK = 0x064, STATUS = 0x070, TABLE = 0x080, DRIVER_AREA = 0x090, DEVICE_AREA = 0x0a0
 };
 
 #define WINDOWS_AT UINT64_C(0x10001000)
+
+/* The interrupt controller: its registers for the context of supervisor mode. The device of window n has the source n + 1. */
+#ifndef CONTEXT
+#define CONTEXT 0
+#endif
+#define CONTROLLER UINT64_C(0x0c000000)
+enum { ENABLED = 0x2000 + 0x80 * CONTEXT, THRESHOLD = 0x200000 + 0x1000 * CONTEXT, CLAIM = THRESHOLD + 4 };
 
 /* The devices: where their registers are, and two queues for each. Queue 0 of the first two kinds takes what comes. */
 static uint64_t windows[KINDS];
@@ -20,7 +29,6 @@ static struct queue queues[KINDS][2];
 
 static volatile uint8_t piece[PIECE], came[FRAME + 12], sent[FRAME + 12], typed[16], random_bytes[RANDOM], outcome;
 static volatile struct { uint32_t type, reserved; uint64_t sector; } request;
-static volatile uint64_t heap[HEAP][PIECE / 8];
 static uint64_t sum;
 static uint32_t number_of_frame, is_ended;
 
@@ -39,6 +47,31 @@ static uint32_t read_register(uint32_t kind, uint32_t offset)
 static void write_register(uint32_t kind, uint32_t offset, uint32_t value)
 {
     *(volatile uint32_t *)(windows[kind] + offset) = value;
+}
+
+static volatile uint32_t *controller(uint32_t offset)
+{
+    return (volatile uint32_t *)(CONTROLLER + offset);
+}
+
+/* All devices may interrupt. An interrupt is not taken: it ends a wait. */
+static void allow_interrupts(void)
+{
+    for (uint32_t source = 1; source <= WINDOWS; source++) *controller(4 * source) = 1;
+    *controller(ENABLED) = (1 << (WINDOWS + 1)) - 2;
+    *controller(THRESHOLD) = 0;
+}
+
+/* Waits for an interrupt, and acknowledges it at its device. A wait may end before. */
+static void await_interrupt(void)
+{
+    uint32_t source;
+
+    do __asm__ volatile("wfi");
+    while ((source = *controller(CLAIM)) == 0);
+    volatile uint8_t *window = (volatile uint8_t *)(WINDOWS_AT + (source - 1) * WINDOW_SIZE);
+    *(volatile uint32_t *)(window + INTERRUPT_ACK) = *(volatile uint32_t *)(window + INTERRUPT_STATUS);
+    *controller(CLAIM) = source;
 }
 
 static uint64_t time_now(void)
@@ -62,20 +95,21 @@ static void add(const volatile uint8_t *bytes, uint32_t length)
     for (uint32_t i = 0; i < length; i++) sum = (sum ^ bytes[i]) * UINT64_C(1099511628211);
 }
 
-/* Offers a chain and waits until it came back. Returns how many bytes the device wrote. */
+/* Offers a chain and waits until it came back, with an interrupt at least. Returns how many bytes the device wrote. */
 static uint32_t exchange(uint32_t kind, uint32_t queue, const struct part *parts, uint32_t count)
 {
     uint32_t length = 0;
 
     queue_offer(&queues[kind][queue], parts, count);
     write_register(kind, NOTIFY, queue);
-    while (!queue_take(&queues[kind][queue], &length)) continue;
+    do await_interrupt();
+    while (!queue_take(&queues[kind][queue], &length));
     return length;
 }
 
 static void print(const char *text)
 {
-    struct part part = {text, 0, 0};
+    struct part part = part_of(text, 0, 0);
 
     while (text[part.length] != '\0') part.length++;
     exchange(CONSOLE, 1, &part, 1);
@@ -136,7 +170,8 @@ static void find_devices(void)
 /* Reads or writes eight sectors. */
 static void use_disk(uint32_t type, uint64_t sector)
 {
-    struct part parts[] = {{&request, sizeof request, 0}, {piece, PIECE, type == 0 ? WRITABLE : 0}, {&outcome, 1, WRITABLE}};
+    struct part parts[] = {part_of(&request, sizeof request, 0), part_of(piece, PIECE, type == 0 ? WRITABLE : 0),
+                           part_of(&outcome, 1, WRITABLE)};
 
     request.type = type;
     request.sector = sector;
@@ -159,7 +194,7 @@ static void do_disk(uint32_t round)
 
 static void do_entropy(void)
 {
-    struct part part = {random_bytes, RANDOM, WRITABLE};
+    struct part part = part_of(random_bytes, RANDOM, WRITABLE);
     uint8_t all = 0, length;
 
     for (uint32_t i = 0; i < RANDOM; i++) random_bytes[i] = 0;
@@ -172,7 +207,7 @@ static void do_entropy(void)
 /* A buffer for the next frame, or for typed bytes, waits at the device. */
 static void await(uint32_t kind, volatile uint8_t *at, uint32_t length)
 {
-    struct part part = {at, length, WRITABLE};
+    struct part part = part_of(at, length, WRITABLE);
 
     if (queues[kind][0].is_out) return;
     queue_offer(&queues[kind][0], &part, 1);
@@ -186,7 +221,7 @@ static uint32_t number_in(const volatile uint8_t *frame)
 
 static void send_frame(uint32_t round)
 {
-    struct part part = {sent, FRAME + 12, 0};
+    struct part part = part_of(sent, FRAME + 12, 0);
     volatile uint8_t *frame = sent + 12;
 
     for (uint32_t i = 0; i < FRAME; i++) frame[i] = (uint8_t)(i * 3 + round);
@@ -216,14 +251,15 @@ static void do_network(uint32_t round)
     add(came + 12 + PAYLOAD, FRAME - PAYLOAD);
 }
 
+/* Writes pages by their addresses in the page table, and reads them by those in RAM. */
 static void do_heap(uint32_t round)
 {
     uint64_t all = 0;
 
     for (uint32_t page = 0; page < HEAP; page++)
-        for (uint32_t i = 0; i < PIECE / 8; i += 8) heap[page][i] = (uint64_t)page * i + round;
+        for (uint32_t i = 0; i < PIECE / 8; i += 8) mapped_page(page)[i] = (uint64_t)page * i + round;
     for (uint32_t page = 0; page < HEAP; page++)
-        for (uint32_t i = 0; i < PIECE / 8; i += 8) all += heap[page][i];
+        for (uint32_t i = 0; i < PIECE / 8; i += 8) all += heap_page(page)[i] * (page + 1);
     add((volatile uint8_t *)&all, 8);
 }
 
@@ -248,6 +284,7 @@ static uint64_t pass(void)
             do_heap(round);
             do_network(round);
             do_typed();
+            if (!are_registers_as_set()) fail("a register of supervisor mode");
         }
     }
     return sum;
@@ -272,7 +309,10 @@ __attribute__((used, noreturn)) static void run(void)
 {
     uint64_t first;
 
+    begin_paging();
     find_devices();
+    allow_interrupts();
+    set_registers();
     first = pass();
     print("guest: works\n");
     while (!is_ended)

@@ -2,7 +2,7 @@
 ENTRY(start)
 SECTIONS
 {
-    . = 0x200000;
+    . = START;
     .text : { *(.text.start) *(.text*) }
     .data : { *(.rodata* .srodata* .data* .sdata*) }
     .bss : { *(.bss* .sbss*) }

@@ -12,6 +12,17 @@ struct part {
     uint32_t length, flags;
 };
 
+/* An initializer with an address would have to know where the guest lies. */
+static inline struct part part_of(const volatile void *at, uint32_t length, uint32_t flags)
+{
+    struct part part;
+
+    part.at = at;
+    part.length = length;
+    part.flags = flags;
+    return part;
+}
+
 struct split_descriptor {
     uint64_t at;
     uint32_t length;
