@@ -527,10 +527,10 @@ uint16_t vmig_lines(vmig_machine *machine);
  * VMIG_NO_MACHINE, VMIG_MOVING, VMIG_NO_DEVICE, VMIG_WRONG_KIND (it has no disk), VMIG_NO_SECTOR, VMIG_TOO_SMALL. */
 uint32_t vmig_sector_read(vmig_machine *machine, uint8_t dev, uint64_t sector, uint8_t *buf, size_t size);
 
-/* Whether the guest takes what it wrote to the disk for durable once the step of this pick is made: the step makes a flush; or it
- * ends a write, where the driver did not accept the feature FLUSH (VIRTIO 1.2, 5.2.6.2). VMIG_SYNC: before that step bring the
- * image of the device to its file, by msync. Where that fails call vmig_sync_failed in place of the step. VMIG_OK: nothing is
- * owed. A disk in memory of the library has no file, but the same answer. The machine is as it was.
+/* Whether what the guest wrote to the disk has to be durable before the step of this pick: the step makes a flush; or it ends a
+ * write, where the driver did not accept the feature FLUSH (VIRTIO 1.2, 5.2.6.2). VMIG_SYNC: before that step bring the image of
+ * the device to its file, by msync. Where that fails call vmig_sync_failed in place of the step. VMIG_OK: nothing is owed. A disk
+ * in memory of the library has no file, but the same answer. The machine is as it was.
  * VMIG_NO_MACHINE, VMIG_NO_DEVICE. */
 uint32_t vmig_must_sync(vmig_machine *machine, uint8_t dev, uint8_t pick);
 

@@ -199,8 +199,8 @@ impl Machine {
         Ok(status != raw::BAD_SECTOR)
     }
 
-    /// Whether the guest takes what it wrote to the disk for durable once this step is made. A caller that keeps the disk elsewhere too
-    /// brings it there before the step.
+    /// Whether what the guest wrote to the disk has to be durable before this step. A caller that keeps the disk elsewhere too brings it
+    /// there first.
     pub fn must_sync(&mut self, dev: u8, pick: u8) -> Result<bool, Error> {
         let status = done(unsafe { raw::vmig_must_sync(&mut self.held, dev, pick) })?;
         Ok(status == raw::SYNC)
