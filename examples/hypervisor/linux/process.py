@@ -1,5 +1,6 @@
 """What the scripts share: a hypervisor as a process, with all that it prints."""
 
+import atexit
 import signal
 import socket
 import subprocess
@@ -15,6 +16,7 @@ class Process:
         self.out, self.error = bytearray(), bytearray()
         pipe = subprocess.PIPE
         self.process = subprocess.Popen([str(word) for word in words], stdin=pipe, stdout=pipe, stderr=pipe, bufsize=0)
+        atexit.register(self.process.kill)
         for stream, kept in (self.process.stdout, self.out), (self.process.stderr, self.error):
             threading.Thread(target=self.keep, args=(stream, kept), daemon=True).start()
 
