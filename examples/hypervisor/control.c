@@ -10,7 +10,8 @@ enum csr {
 #define INTERRUPT (UINT64_C(1) << 63)
 
 /* Instructions of the opcode SYSTEM that access no CSR. The operands of SFENCE.VMA are any. */
-enum { ECALL = 0x00000073, EBREAK = 0x00100073, SRET = 0x10200073, WFI = 0x10500073, SFENCE = 0x12000073, SFENCE_MASK = 0xfe007fff };
+enum { ECALL = 0x00000073, EBREAK = 0x00100073, SRET = 0x10200073, WFI = 0x10500073, SFENCE = 0x12000073 };
+#define SFENCE_MASK UINT32_C(0xfe007fff)
 
 void set_context(struct processor *p)
 {

@@ -8,8 +8,8 @@
 #include "say.h"
 #include "terminal.h"
 
-/* How many pages and sectors go between two slices of the guest: as long as the slice takes. */
-enum { COPIES_A_TURN = 16 };
+/* The bytes that are copied between two slices of the guest. It takes about as long as the slice. */
+enum { BYTES_A_TURN = 65536, SECTOR = 512 };
 
 static const char BROKEN[] = "the line is broken", OUT_OF_MEMORY[] = "out of memory";
 
@@ -104,10 +104,11 @@ static int begin_stream(struct host *h)
 /* Copies some of what is due. Returns why the move is over, or NULL. */
 static const char *copy_some(struct move *m, vmig_machine *machine)
 {
+    uint64_t before = m->pages * PAGE + m->sectors * SECTOR;
     uint8_t dev;
     uint32_t number;
 
-    for (int i = 0; i < COPIES_A_TURN && !m->round_is_sent; i++) {
+    while (!m->round_is_sent && m->pages * PAGE + m->sectors * SECTOR - before < BYTES_A_TURN) {
         switch (vmig_copy(machine, &dev, &number)) {
         case VMIG_PAGE: m->pages++; break;
         case VMIG_SECTOR: m->sectors++; break;

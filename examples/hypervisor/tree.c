@@ -5,7 +5,8 @@
 #include "board.h"
 #include "tree.h"
 
-enum { MAGIC = 0xd00dfeed, BEGIN_NODE = 1, END_NODE = 2, PROPERTY = 3, END = 9, HEADER = 40, RESERVATIONS = 16 };
+#define MAGIC UINT32_C(0xd00dfeed)
+enum { BEGIN_NODE = 1, END_NODE = 2, PROPERTY = 3, END = 9, HEADER = 40, RESERVATIONS = 16 };
 enum { NAMES_MAX = 512, STRUCTURE_AT = HEADER + RESERVATIONS };
 
 /* The handles by which nodes name the processor's and the board's interrupt controllers, and the word that powers off. */
