@@ -189,7 +189,7 @@ enum {
 
     /* The machine refuses the event. */
     VMIG_NO_DEVICE = 1,    /* there is no device of this number */
-    VMIG_OUT_OF_RAM = 2,   /* the access reaches past the end of RAM; vmig_push, vmig_give_back: there is no such page */
+    VMIG_OUT_OF_RAM = 2,   /* the access does not lie in RAM; vmig_push, vmig_give_back: there is no such page */
     VMIG_TOO_LONG = 3,     /* the access is of more than 4,096 bytes; reported before VMIG_OUT_OF_RAM */
     VMIG_WRONG_KIND = 4,   /* a device of this kind has no such event */
     VMIG_BAD_FRAME = 5,    /* a frame of fewer than 14 or more than 1,514 bytes */
@@ -203,7 +203,7 @@ enum {
     VMIG_TOO_SMALL = 11,   /* vmig_step, vmig_save, vmig_push, vmig_pull, vmig_sector_read: your buffer;
                             * vmig_unmap: your slots; vmig_give_back_marked: your words */
     VMIG_BAD_SHAPE = 12,   /* vmig_make, vmig_make_as: pages, count of devices, or a device beyond the limits or of an unknown
-                            * kind */
+                            * kind; vmig_make_as, vmig_arrive: RAM may not begin at its base */
     VMIG_MOVING = 13,      /* vmig_save, vmig_saved_len, vmig_sector_read: the machine is being sent */
     VMIG_NOT_MAPPED = 14,  /* vmig_unmap: the disks are in memory of the library */
     VMIG_BAD_IMAGES = 15,  /* vmig_make_as: there are contents and images, or the length of the contents or the counts of the
@@ -371,10 +371,13 @@ typedef struct vmig_setup {
     size_t count_images;
     vmig_ram ram;              /* RAM, in memory of yours, with the bytes that are there now, such as a kernel that you put there; or
                                 * VMIG_NO_RAM: zeros, in memory of the library */
-    uint64_t reserved[4];      /* zeros */
+    uint64_t base;             /* the guest-physical address at which RAM begins: a multiple of 4,096, with no byte of RAM past the
+                                * last address, else VMIG_BAD_SHAPE. All addresses of the guest count from there: those that a driver
+                                * writes into registers and descriptors, and those of vmig_ram_read and vmig_ram_write */
+    uint64_t reserved[3];      /* zeros */
 } vmig_setup;
 
-#define VMIG_SETUP {1, 0, 0, 0, 0, 0, 0, 0, {0, 0}, {0, 0, 0, 0}}
+#define VMIG_SETUP {1, 0, 0, 0, 0, 0, 0, 0, {0, 0}, 0, {0, 0, 0}}
 
 /* How a machine arrives. Begin with VMIG_ARRIVAL, which has no limit, and set what you want. */
 typedef struct vmig_arrival {
@@ -385,10 +388,13 @@ typedef struct vmig_arrival {
                                 * count_images is 0: in memory of the library, but for ram of yours, where there is no disk then */
     size_t count_images;
     vmig_ram ram;              /* RAM, in memory of yours, which is written over; or VMIG_NO_RAM: in memory of the library */
-    uint64_t reserved[4];      /* zeros */
+    uint64_t base;             /* the guest-physical address at which RAM begins: that of the machine that is sent. A stream does not
+                                * say it. With another one the addresses in it can be out of RAM: then it is refused, else the driver
+                                * finds its rings at other bytes */
+    uint64_t reserved[3];      /* zeros */
 } vmig_arrival;
 
-#define VMIG_ARRIVAL {1, UINT32_MAX, UINT64_MAX, 0, 0, {0, 0}, {0, 0, 0, 0}}
+#define VMIG_ARRIVAL {1, UINT32_MAX, UINT64_MAX, 0, 0, {0, 0}, 0, {0, 0, 0}}
 
 /* The version of the library that was linked, to compare with VMIG_VERSION_NUMBER. */
 uint32_t vmig_version(void);
@@ -432,7 +438,8 @@ uint32_t vmig_reg_read(vmig_machine *machine, uint8_t dev, uint32_t off, uint8_t
  * VMIG_NO_MACHINE, VMIG_NO_DEVICE. */
 uint32_t vmig_reg_write(vmig_machine *machine, uint8_t dev, uint32_t off, uint8_t width, uint32_t value, uint32_t *out);
 
-/* The guest reads or writes up to 4,096 bytes of RAM, from an address on. Address 0 is the first byte of RAM.
+/* The guest reads or writes up to 4,096 bytes of RAM, from an address on. RAM begins at the base that vmig_make_as or
+ * vmig_arrive was given, and at address 0 after the other calls.
  * VMIG_NO_MACHINE, VMIG_TOO_LONG, VMIG_OUT_OF_RAM. */
 uint32_t vmig_ram_read(vmig_machine *machine, uint64_t addr, uint8_t *buf, size_t len);
 uint32_t vmig_ram_write(vmig_machine *machine, uint64_t addr, const uint8_t *bytes, size_t len);
@@ -574,7 +581,7 @@ uint32_t vmig_saved_len(vmig_machine *machine, size_t *len);
 uint32_t vmig_save(vmig_machine *machine, uint8_t *buf, size_t size, size_t *len);
 
 /* Makes the machine whose stream the bytes are, also one that was sent in rounds; *rounds is the number of rounds that ended
- * in it. Its disks are in memory. A stream that is refused makes no machine; a stream can ask for up to 64 MiB of RAM and 1
+ * in it. Its disks are in memory, and its RAM begins at address 0. A stream that is refused makes no machine; a stream can ask for up to 64 MiB of RAM and 1
  * GiB for each of 16 disks, before more than its header is read.
  * VMIG_IN_USE, VMIG_NO_MEMORY, or a VMIG_STREAM status. */
 uint32_t vmig_receive(const uint8_t *bytes, size_t len, vmig_machine *machine, uint32_t *rounds);
@@ -622,10 +629,11 @@ uint32_t vmig_take(vmig_machine *machine, uint8_t *buf, size_t size, size_t *got
  * VMIG_OK takes RAM and images that it names: arrival->ram is VMIG_NO_RAM then, and each of the images VMIG_NO_IMAGE, and
  * vmig_unmap gives the images back, also of a stream that was refused or is not whole. At every other status nothing changed. The
  * rest of *arrival is as it was in any case.
- * VMIG_IN_USE, then VMIG_NOT_KNOWN, then VMIG_BAD_RAM, then VMIG_NO_MEMORY, and no others. */
+ * VMIG_IN_USE, then VMIG_NOT_KNOWN, then VMIG_BAD_RAM, then VMIG_BAD_SHAPE, then VMIG_NO_MEMORY, and no others. */
 uint32_t vmig_arrive(vmig_arrival *arrival, vmig_machine *machine);
 
-/* The next bytes of a stream arrive, in pieces of any size. On a handle of no machine one begins to arrive, without limits.
+/* The next bytes of a stream arrive, in pieces of any size. On a handle of no machine one begins to arrive, without limits, whose
+ * RAM begins at address 0.
  * VMIG_OK says that the bytes so far have no fault; a piece that brings one is refused, and the stream with it: each later
  * vmig_feed and vmig_finish is VMIG_STREAM_FAILED, until vmig_free or, over images, vmig_unmap. Without limits a stream can ask
  * for as much memory as with vmig_receive.

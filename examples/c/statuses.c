@@ -128,7 +128,7 @@ static void asked_for_more(void)
     later.version = later_arrival.version = 2;
     expect("a later version", vmig_make_as(&later, &m), VMIG_NOT_KNOWN);
     expect("a later version", vmig_arrive(&later_arrival, &m), VMIG_NOT_KNOWN);
-    for (size_t i = 0; i < 4; i++) {
+    for (size_t i = 0; i < 3; i++) {
         setup.reserved[i] = arrival.reserved[i] = (uint64_t)1 << 63;
         expect("a reserved word", vmig_make_as(&setup, &m), VMIG_NOT_KNOWN);
         expect("a reserved word", vmig_arrive(&arrival, &m), VMIG_NOT_KNOWN);

@@ -5,7 +5,7 @@
 #include <stdint.h>
 
 /* The guest's physical address of the first byte of RAM. */
-#define RAM_BASE UINT64_C(0)
+#define RAM_BASE UINT64_C(0x80000000)
 
 /* An image is loaded this far into RAM, and begins to run there. */
 #define LOAD_OFFSET UINT64_C(0x200000)

@@ -53,9 +53,15 @@ impl Arrival {
     }
 
     /// As `new`, of a machine without disks, whose RAM will be this memory. Another one is refused by the piece that shows it.
-    pub fn over(mut memory: Memory) -> Result<Arrival, Refused<Memory>> {
+    pub fn over(memory: Memory) -> Result<Arrival, Refused<Memory>> {
+        Arrival::over_at(0, memory)
+    }
+
+    /// As `over`, of a machine whose RAM begins at the guest-physical address `base`, as that of the machine that is sent: a stream does not
+    /// say it.
+    pub fn over_at(base: u64, mut memory: Memory) -> Result<Arrival, Refused<Memory>> {
         let mut held = raw::NONE;
-        let mut arrival = raw::Arrival { ram: memory.slot(), ..raw::ARRIVAL };
+        let mut arrival = raw::Arrival { ram: memory.slot(), base, ..raw::ARRIVAL };
         // SAFETY: the handle is of no machine, and the bytes of the memory are the machine's until it is freed.
         match done(unsafe { raw::vmig_arrive(&mut arrival, &mut held) }) {
             Ok(_) => Ok(Arrival { machine: Machine { held, memory: Some(memory) } }),

@@ -56,10 +56,15 @@ impl Machine {
     }
 
     /// As `new`, but RAM is this memory, with the bytes that are there.
-    pub fn over(mut memory: Memory, devices: &[Device]) -> Result<Machine, Refused<Memory>> {
+    pub fn over(memory: Memory, devices: &[Device]) -> Result<Machine, Refused<Memory>> {
+        Machine::over_at(0, memory, devices)
+    }
+
+    /// As `over`, but RAM begins at the guest-physical address `base`: a multiple of 4,096.
+    pub fn over_at(base: u64, mut memory: Memory, devices: &[Device]) -> Result<Machine, Refused<Memory>> {
         let shapes: Vec<_> = devices.iter().map(|device| device.shape()).collect();
         let mut held = raw::NONE;
-        let mut setup = raw::Setup { shapes: shapes.as_ptr(), count: shapes.len(), ram: memory.slot(), ..raw::SETUP };
+        let mut setup = raw::Setup { shapes: shapes.as_ptr(), count: shapes.len(), ram: memory.slot(), base, ..raw::SETUP };
         // SAFETY: as in `new`, and the bytes of the memory are the machine's until it is freed.
         match done(unsafe { raw::vmig_make_as(&mut setup, &mut held) }) {
             Ok(_) => Ok(Machine { held, memory: Some(memory) }),

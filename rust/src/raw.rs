@@ -52,7 +52,8 @@ pub struct Setup {
     pub images: *mut Image,
     pub count_images: usize,
     pub ram: Ram,
-    pub reserved: [u64; 4],
+    pub base: u64,
+    pub reserved: [u64; 3],
 }
 
 pub const SETUP: Setup = Setup {
@@ -65,7 +66,8 @@ pub const SETUP: Setup = Setup {
     images: core::ptr::null_mut(),
     count_images: 0,
     ram: NO_RAM,
-    reserved: [0; 4],
+    base: 0,
+    reserved: [0; 3],
 };
 
 /// How a machine arrives: begin with `ARRIVAL`, which has no limit.
@@ -77,7 +79,8 @@ pub struct Arrival {
     pub images: *mut Image,
     pub count_images: usize,
     pub ram: Ram,
-    pub reserved: [u64; 4],
+    pub base: u64,
+    pub reserved: [u64; 3],
 }
 
 pub const ARRIVAL: Arrival = Arrival {
@@ -87,7 +90,8 @@ pub const ARRIVAL: Arrival = Arrival {
     images: core::ptr::null_mut(),
     count_images: 0,
     ram: NO_RAM,
-    reserved: [0; 4],
+    base: 0,
+    reserved: [0; 3],
 };
 
 /// Kinds of devices, by the numbers of the standard.

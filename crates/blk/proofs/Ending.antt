@@ -33,7 +33,7 @@ ended touches honest device shape ram new_ram content q new_q requests new_reque
 
 -- A request that goes on by one unit.
 pub went_on : (touches : List Item → Type 0) (honest : Bool) (device : ℕ) (shape : BlockShape) (ram new_ram : List ℕ) (content new_content : List Sector) (q new_q : RingState) (requests new_requests : List Request) (k : ℕ) (is_fine : Bool) (r new : Request) (answer : Advanced)
-    → slice_get requests k ≡ Some r → is_open r ≡ true → IsMoved touches honest device ram content (λ given. move_of r.kind shape.id ram given r is_fine) answer new new_ram new_content
+    → slice_get requests k ≡ Some r → is_open r ≡ true → IsMoved touches honest device ram content (λ given. move_of r.kind q.base shape.id ram given r is_fine) answer new new_ram new_content
     → new_q ≡ q → new_requests ≡ set requests k new
     → IsAfterAdvancing touches honest device ram content (λ given. advance_step shape ram q given requests k is_fine) answer new_ram new_q new_content new_requests
 went_on touches honest device shape ram new_ram content new_content q new_q requests new_requests k is_fine r new answer found some h ring_is requests_are = record {

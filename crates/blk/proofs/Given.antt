@@ -44,12 +44,12 @@ pub none_set : (honest : Bool) (content new_content : List Sector) → new_conte
 none_set honest content new_content same = record { bad = ap (map is_bad) same; unwritten = λ _. same; is = λ _. same }
 
 -- A sector that was read goes to the writable places of its unit.
-pub read_in : (touches : List Item → Type 0) (honest : Bool) (device : ℕ) (ram : List ℕ) (content : List Sector) (r : Request) (bytes : List ℕ) (new_ram : List ℕ) (new_content : List Sector)
+pub read_in : (touches : List Item → Type 0) (honest : Bool) (device base : ℕ) (ram : List ℕ) (content : List Sector) (r : Request) (bytes : List ℕ) (new_ram : List ℕ) (new_content : List Sector)
     → next_sector r < length content → AreWhole content → IsSector bytes → is_bad (sector_in content (next_sector r)) ≡ false → (IsTrue honest → bytes ≡ bytes_of (sector_in content (next_sector r)))
-    → new_ram ≡ set_all ram (place_writes (take SECTOR_SIZE (drop (SECTOR_SIZE * r.done) (places r.writable))) bytes) → new_content ≡ content
-    → touches (touched (place_writes (take SECTOR_SIZE (drop (SECTOR_SIZE * r.done) (places r.writable))) bytes))
-    → IsMoved touches honest device ram content (λ given. move_in given r true) Moved (one_done r) new_ram new_content
-read_in touches honest device ram content r bytes new_ram new_content below whole fits good is ram_is same items_are =
+    → new_ram ≡ set_all ram (place_writes base (take SECTOR_SIZE (drop (SECTOR_SIZE * r.done) (places r.writable))) bytes) → new_content ≡ content
+    → touches (touched (place_writes base (take SECTOR_SIZE (drop (SECTOR_SIZE * r.done) (places r.writable))) bytes))
+    → IsMoved touches honest device ram content (λ given. move_in base given r true) Moved (one_done r) new_ram new_content
+read_in touches honest device base ram content r bytes new_ram new_content below whole fits good is ram_is same items_are =
     let there : get_or (set content (next_sector r) (Some bytes)) (next_sector r) None ≡ Some bytes = get_or-set_same content (next_sector r) (Some bytes) None below in
     record {
       given = set content (next_sector r) (Some bytes);
@@ -70,17 +70,17 @@ by_flush touches honest device ram content r true answer new_request new_content
 by_flush touches honest device ram content r false answer new_request new_content whole answer_is request_is same none =
     record { given = content; is_given = given_itself honest content whole; answer_is = answer_is; request_is = request_is; ram_is = refl; content_is = none_set honest content new_content same; items_are = none }
 
-pub flushed : (touches : List Item → Type 0) (honest : Bool) (device : ℕ) (kind : Kind) (id ram : List ℕ) (content : List Sector) (r : Request) (is_fine : Bool) (answer : Advanced) (new_request : Request) (new_content : List Sector)
+pub flushed : (touches : List Item → Type 0) (honest : Bool) (device : ℕ) (kind : Kind) (base : ℕ) (id ram : List ℕ) (content : List Sector) (r : Request) (is_fine : Bool) (answer : Advanced) (new_request : Request) (new_content : List Sector)
     → kind ≡ Flush → AreWhole content → answer ≡ (move_flush r is_fine).answer → new_request ≡ (move_flush r is_fine).request → new_content ≡ content → touches []
-    → IsMoved touches honest device ram content (λ given. move_of kind id ram given r is_fine) answer new_request ram new_content
-flushed touches honest device kind id ram content r is_fine answer new_request new_content is whole answer_is request_is same none =
+    → IsMoved touches honest device ram content (λ given. move_of kind base id ram given r is_fine) answer new_request ram new_content
+flushed touches honest device kind base id ram content r is_fine answer new_request new_content is whole answer_is request_is same none =
     rw is (by_flush touches honest device ram content r is_fine answer new_request new_content whole answer_is request_is same none)
 
 -- The id of the device was read.
-pub id_read : (touches : List Item → Type 0) (honest : Bool) (device : ℕ) (kind : Kind) (id ram : List ℕ) (content : List Sector) (r : Request) (is_fine : Bool) (answer : Advanced) (new_request : Request) (new_ram : List ℕ)
-    → kind ≡ GetId → AreWhole content → answer ≡ Moved → new_request ≡ (move_id id r).request → new_ram ≡ set_all ram (move_id id r).writes → touches (touched (move_id id r).writes)
-    → IsMoved touches honest device ram content (λ given. move_of kind id ram given r is_fine) answer new_request new_ram content
-id_read touches honest device kind id ram content r is_fine answer new_request new_ram is whole answer_is request_is ram_is items_are = rw is (record {
+pub id_read : (touches : List Item → Type 0) (honest : Bool) (device : ℕ) (kind : Kind) (base : ℕ) (id ram : List ℕ) (content : List Sector) (r : Request) (is_fine : Bool) (answer : Advanced) (new_request : Request) (new_ram : List ℕ)
+    → kind ≡ GetId → AreWhole content → answer ≡ Moved → new_request ≡ (move_id base id r).request → new_ram ≡ set_all ram (move_id base id r).writes → touches (touched (move_id base id r).writes)
+    → IsMoved touches honest device ram content (λ given. move_of kind base id ram given r is_fine) answer new_request new_ram content
+id_read touches honest device kind base id ram content r is_fine answer new_request new_ram is whole answer_is request_is ram_is items_are = rw is (record {
   given = content;
   is_given = given_itself honest content whole;
   answer_is = answer_is;

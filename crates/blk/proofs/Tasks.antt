@@ -166,7 +166,7 @@ pub taken_sound : (len : ℕ) (q : RingState) (shape : BlockShape) (requests : L
 taken_sound len q shape requests header segment c below b test sound =
     let enough = enough_bytes (length (places c.readable)) (length (places c.writable)) test in
     let R : Request = request_for c (task_of header segment (length (places c.readable)) (length (places c.writable)) shape) in
-    let one : IsSoundRequest len q.is_packed q.size shape R = record {
+    let one : IsSoundRequest q.base len q.is_packed q.size shape R = record {
       some = b.some;
       slots = b.slots;
       id_fits = below;
@@ -179,4 +179,4 @@ taken_sound len q shape requests header segment c below b test sound =
       status = enough.1;
       work = task_sound header segment (length (places c.readable)) (length (places c.writable)) shape enough.0 enough.1;
     } in
-    All-append (IsSoundRequest len q.is_packed q.size shape) requests (R ∷ []) sound (all_one (IsSoundRequest len q.is_packed q.size shape) R one)
+    All-append (IsSoundRequest q.base len q.is_packed q.size shape) requests (R ∷ []) sound (all_one (IsSoundRequest q.base len q.is_packed q.size shape) R one)

@@ -3,6 +3,7 @@ use Rattle.std.proofs.Common.{◌≡◌, ◌<◌, ℕ, List, [], ◌∷◌, leng
 use Rattle.std.proofs.lemmas.Bool.{true≢false}
 use Rattle.std.proofs.lemmas.List.Elements.{All-set}
 use Rattle.guestmem.specs.declared.limits.TheConstants.{PAGE_SIZE}
+use Rattle.guestmem.specs.Address.{index_of}
 use Rattle.guestmem.specs.Item.{Item, page, after_all}
 use Rattle.guestmem.specs.Writes.{touched}
 use Rattle.chains.specs.State.{RingState}
@@ -16,38 +17,38 @@ use Rattle.blk.specs.declared.advancing.Advanced.{Advanced}
 use Rattle.blk.specs.declared.advancing.Advanced.TheVariants.{Idle, Moved, BadSector, DiskFailed, Completed}
 
 -- Which pages are written depends on the places, and not on the bytes.
-touched_same : (at bs cs : List ℕ) → length bs ≡ length cs → touched (place_writes at bs) ≡ touched (place_writes at cs)
-touched_same [] bs cs e = refl
-touched_same (p ∷ at) [] [] e = refl
-touched_same (p ∷ at) [] (c ∷ cs) e = absurd (omega (arith, e))
-touched_same (p ∷ at) (b ∷ bs) [] e = absurd (omega (arith, e))
-touched_same (p ∷ at) (b ∷ bs) (c ∷ cs) e = ap (λ (is : List Item). page (p / PAGE_SIZE) ∷ is) (touched_same at bs cs (omega (arith, e)))
+touched_same : (base : ℕ) (at bs cs : List ℕ) → length bs ≡ length cs → touched (place_writes base at bs) ≡ touched (place_writes base at cs)
+touched_same base [] bs cs e = refl
+touched_same base (p ∷ at) [] [] e = refl
+touched_same base (p ∷ at) [] (c ∷ cs) e = absurd (omega (arith, e))
+touched_same base (p ∷ at) (b ∷ bs) [] e = absurd (omega (arith, e))
+touched_same base (p ∷ at) (b ∷ bs) (c ∷ cs) e = ap (λ (is : List Item). page (index_of base p / PAGE_SIZE) ∷ is) (touched_same base at bs cs (omega (arith, e)))
 
 -- A log that took in the pages of some bytes took in those of others at the same places.
-pub told_same : {L : Type 0} (after : L → Item → L) (log new_log : L) (at bs cs : List ℕ) → length bs ≡ length cs → new_log ≡ after_all after log (touched (place_writes at bs))
-    → new_log ≡ after_all after log (touched (place_writes at cs) ++ [])
-told_same after log new_log at bs cs e told = rw (append-nil, ← touched_same at bs cs e) told
+pub told_same : {L : Type 0} (after : L → Item → L) (log new_log : L) (base : ℕ) (at bs cs : List ℕ) → length bs ≡ length cs → new_log ≡ after_all after log (touched (place_writes base at bs))
+    → new_log ≡ after_all after log (touched (place_writes base at cs) ++ [])
+told_same after log new_log base at bs cs e told = rw (append-nil, ← touched_same base at bs cs e) told
 
 -- A sector that is not bad has 512 bytes.
 pub whole_length : (s : Sector) → is_bad s ≡ false → IsWhole s → length (bytes_of s) ≡ 512
 whole_length None good whole = absurd (true≢false good)
 whole_length (Some bytes) good whole = whole.size
 
-still_sound : (len : ℕ) (is_packed : Bool) (size : ℕ) (shape : BlockShape) (r : Request) (a : Advanced) → IsSoundRequest len is_packed size shape r
+still_sound : (base len : ℕ) (is_packed : Bool) (size : ℕ) (shape : BlockShape) (r : Request) (a : Advanced) → IsSoundRequest base len is_packed size shape r
     → (let new = after_unit r a in IsSoundWork new.kind (length (places new.readable)) (length (places new.writable)) shape new.verdict new.first new.units new.done)
-    → IsSoundRequest len is_packed size shape (after_unit r a)
-still_sound len is_packed size shape r Idle h work = h
-still_sound len is_packed size shape r Moved h work = record { some = h.some; slots = h.slots; id_fits = h.id_fits; id = h.id; few = h.few; readable = h.readable; writable = h.writable; total = h.total; header = h.header; status = h.status; work = work }
-still_sound len is_packed size shape r BadSector h work = record { some = h.some; slots = h.slots; id_fits = h.id_fits; id = h.id; few = h.few; readable = h.readable; writable = h.writable; total = h.total; header = h.header; status = h.status; work = work }
-still_sound len is_packed size shape r DiskFailed h work = record { some = h.some; slots = h.slots; id_fits = h.id_fits; id = h.id; few = h.few; readable = h.readable; writable = h.writable; total = h.total; header = h.header; status = h.status; work = work }
-still_sound len is_packed size shape r (Completed used due) h work = h
+    → IsSoundRequest base len is_packed size shape (after_unit r a)
+still_sound base len is_packed size shape r Idle h work = h
+still_sound base len is_packed size shape r Moved h work = record { some = h.some; slots = h.slots; id_fits = h.id_fits; id = h.id; few = h.few; readable = h.readable; writable = h.writable; total = h.total; header = h.header; status = h.status; work = work }
+still_sound base len is_packed size shape r BadSector h work = record { some = h.some; slots = h.slots; id_fits = h.id_fits; id = h.id; few = h.few; readable = h.readable; writable = h.writable; total = h.total; header = h.header; status = h.status; work = work }
+still_sound base len is_packed size shape r DiskFailed h work = record { some = h.some; slots = h.slots; id_fits = h.id_fits; id = h.id; few = h.few; readable = h.readable; writable = h.writable; total = h.total; header = h.header; status = h.status; work = work }
+still_sound base len is_packed size shape r (Completed used due) h work = h
 
 -- Requests of which one went on by a unit are sound.
 pub goes_on : (len : ℕ) (q : RingState) (shape : BlockShape) (rs : List Request) (k : ℕ) (r new : Request) (a : Advanced) → AreSound len q shape rs → k < length rs → r ≡ get_or rs k r → new ≡ after_unit r a
     → IsSoundWork new.kind (length (places new.readable)) (length (places new.writable)) shape new.verdict new.first new.units new.done
     → AreSound len q shape (set rs k new)
 goes_on len q shape rs k r new a sound below at is work =
-    let P = IsSoundRequest len q.is_packed q.size shape in
+    let P = IsSoundRequest q.base len q.is_packed q.size shape in
     let old : P r = rw (← at) at (sound k r below) in
-    let next : P new = rw is (still_sound len q.is_packed q.size shape r a old (rw is at work)) in
+    let next : P new = rw is (still_sound q.base len q.is_packed q.size shape r a old (rw is at work)) in
     All-set P rs k new next sound

@@ -33,13 +33,13 @@ abbrev pub used_len : Request → ℕ
 used_len r =
     if data_written r.kind r.done + 1 == length (places r.writable) then length (places r.writable) else data_written r.kind r.done
 
--- The verdict is written to the last writable place.
-abbrev pub verdict_writes : Request → List Write
-verdict_writes r = place_writes (take 1 (drop (length (places r.writable) - 1) (places r.writable))) (verdict_byte r.verdict ∷ [])
+-- The verdict is written to the last writable place, in a RAM with this base.
+abbrev pub verdict_writes : ℕ → Request → List Write
+verdict_writes base r = place_writes base (take 1 (drop (length (places r.writable) - 1) (places r.writable))) (verdict_byte r.verdict ∷ [])
 
 -- The verdict is written, and then the chain is published as one that the device wrote into: it wrote the verdict at least.
 unfoldable pub end_writes : RingState → Request → List Write
-end_writes q r = verdict_writes r ++ published q r.id r.slots (used_len r) true
+end_writes q r = verdict_writes q.base r ++ published q r.id r.slots (used_len r) true
 
 -- What advancing returns and changes: its answer, writes of RAM, sectors that are set, the ring's positions, and the
 -- requests.
@@ -66,7 +66,7 @@ completed ram q requests k r = record {
 abbrev pub advance_one : BlockShape → List ℕ → RingState → List Sector → List Request → ℕ → Bool → Option Request → AdvanceStep
 advance_one shape ram q content requests k is_fine None = record { answer = Idle; writes = []; sets = []; ring = q; requests = requests }
 advance_one shape ram q content requests k is_fine (Some r) =
-    if is_open r then after_move q requests k (move_of r.kind shape.id ram content r is_fine) else completed ram q requests k r
+    if is_open r then after_move q requests k (move_of r.kind q.base shape.id ram content r is_fine) else completed ram q requests k r
 
 -- The k-th outstanding request, from 0, advances by one unit, or ends. `is_fine` says whether a call of the disk, if one is
 -- made, succeeds.

@@ -52,16 +52,16 @@ disk_failed r sets = record { answer = DiskFailed; request = failed r; writes = 
 abbrev pub bad_sector : Request → Move
 bad_sector r = record { answer = BadSector; request = failed r; writes = []; sets = [] }
 
--- The bytes of a sector are written to the writable places of its unit. A bad sector is not read.
-abbrev pub move_in : List Sector → Request → Bool → Move
-move_in content r is_fine =
+-- The bytes of a sector are written to the writable places of its unit, in a RAM with this base. A bad sector is not read.
+abbrev pub move_in : ℕ → List Sector → Request → Bool → Move
+move_in base content r is_fine =
     if is_bad (sector_in content (next_sector r)) then bad_sector r
-    else if is_fine then moved r (place_writes (take SECTOR_SIZE (drop (SECTOR_SIZE * r.done) (places r.writable))) (bytes_of (sector_in content (next_sector r)))) []
+    else if is_fine then moved r (place_writes base (take SECTOR_SIZE (drop (SECTOR_SIZE * r.done) (places r.writable))) (bytes_of (sector_in content (next_sector r)))) []
     else disk_failed r []
 
 -- The bytes at the readable places of a unit, which come after the header.
-abbrev pub unit_bytes : List ℕ → Request → List ℕ
-unit_bytes ram r = take SECTOR_SIZE (drop (HEADER_SIZE + SECTOR_SIZE * r.done) (read_places ram (places r.readable)))
+abbrev pub unit_bytes : ℕ → List ℕ → Request → List ℕ
+unit_bytes base ram r = take SECTOR_SIZE (drop (HEADER_SIZE + SECTOR_SIZE * r.done) (read_places base ram (places r.readable)))
 
 -- These bytes are written to the sector of a unit. If the write fails the sector becomes bad.
 abbrev pub write_unit : List ℕ → Request → Bool → Move
@@ -70,8 +70,8 @@ write_unit bytes r is_fine =
     else disk_failed r (record { number = next_sector r; content = None } ∷ [])
 
 -- The bytes of a unit are written to its sector.
-abbrev pub move_out : List ℕ → Request → Bool → Move
-move_out ram r is_fine = write_unit (unit_bytes ram r) r is_fine
+abbrev pub move_out : ℕ → List ℕ → Request → Bool → Move
+move_out base ram r is_fine = write_unit (unit_bytes base ram r) r is_fine
 
 -- The sector of a unit is cleared: zeros are written to it.
 abbrev pub move_zero : Request → Bool → Move
@@ -81,17 +81,17 @@ abbrev pub move_flush : Request → Bool → Move
 move_flush r is_fine = if is_fine then moved r [] [] else disk_failed r []
 
 -- The id of the device is written to the first writable places.
-abbrev pub move_id : List ℕ → Request → Move
-move_id id r = moved r (place_writes (take ID_SIZE (places r.writable)) id) []
+abbrev pub move_id : ℕ → List ℕ → Request → Move
+move_id base id r = moved r (place_writes base (take ID_SIZE (places r.writable)) id) []
 
--- One unit of a request, by its kind.
-abbrev pub move_of : Kind → List ℕ → List ℕ → List Sector → Request → Bool → Move
-move_of kind.In id ram content r is_fine = move_in content r is_fine
-move_of kind.Out id ram content r is_fine = move_out ram r is_fine
-move_of kind.Flush id ram content r is_fine = move_flush r is_fine
-move_of kind.GetId id ram content r is_fine = move_id id r
-move_of kind.Refused id ram content r is_fine = moved r [] []
-move_of kind.Zero id ram content r is_fine = move_zero r is_fine
+-- One unit of a request, by its kind, in a RAM with this base.
+abbrev pub move_of : Kind → ℕ → List ℕ → List ℕ → List Sector → Request → Bool → Move
+move_of kind.In base id ram content r is_fine = move_in base content r is_fine
+move_of kind.Out base id ram content r is_fine = move_out base ram r is_fine
+move_of kind.Flush base id ram content r is_fine = move_flush r is_fine
+move_of kind.GetId base id ram content r is_fine = move_id base id r
+move_of kind.Refused base id ram content r is_fine = moved r [] []
+move_of kind.Zero base id ram content r is_fine = move_zero r is_fine
 
 -- Whether the disk failed, by the answer.
 abbrev pub is_disk_failed : Advanced → Bool

@@ -32,18 +32,18 @@ IsSoundWork Flush readable writable shape verdict first units done = MayEnd verd
 IsSoundWork GetId readable writable shape verdict first units done = (is_good verdict ≡ true) × (done ≤ units) × (units ≡ 1) × (first ≡ 0) × (ID_SIZE + 1 ≤ writable)
 IsSoundWork Zero readable writable shape verdict first units done = MayEnd verdict done units × (HEADER_SIZE + SEGMENT_SIZE ≡ readable) × (units ≤ ZEROES_MAX) × (first + units ≤ shape.sectors) × (shape.read_only ≡ false) × (shape.write_zeroes ≡ true)
 
--- A request that may be outstanding, in a RAM of `len` bytes, on a ring of this layout with `size` slots. Its chain is one
--- that such a ring can have: its id fits 16 bits; it takes from 1 to `size` slots, in a split ring exactly one, and there
--- its id is the number of a slot; it has no more segments than there are slots, all inside RAM and together of fewer than
--- 2^32 bytes. It has room for the header and the verdict.
-pub record IsSoundRequest (len : ℕ) (is_packed : Bool) (size : ℕ) (shape : BlockShape) (r : Request) : Type 0 where
+-- A request that may be outstanding, in a RAM of `len` bytes with this base, on a ring of this layout with `size` slots. Its chain
+-- is one that such a ring can have: its id fits 16 bits; it takes from 1 to `size` slots, in a split ring exactly one, and there
+-- its id is the number of a slot; it has no more segments than there are slots, all inside RAM by their addresses as the guest
+-- wrote them, and together of fewer than 2^32 bytes. It has room for the header and the verdict.
+pub record IsSoundRequest (base len : ℕ) (is_packed : Bool) (size : ℕ) (shape : BlockShape) (r : Request) : Type 0 where
   pub some : 1 ≤ r.slots
   pub slots : r.slots ≤ size
   pub id_fits : r.id < 2 ^ 16
   pub id : MatchBool is_packed (Unit {0}) ((r.slots ≡ 1) × (r.id < size))
   pub few : length r.readable + length r.writable ≤ size
-  pub readable : AreSegmentsInside len r.readable
-  pub writable : AreSegmentsInside len r.writable
+  pub readable : AreSegmentsInside base len r.readable
+  pub writable : AreSegmentsInside base len r.writable
   pub total : length (places r.readable) + length (places r.writable) < 2 ^ 32
   pub header : HEADER_SIZE ≤ length (places r.readable)
   pub status : 1 ≤ length (places r.writable)
@@ -51,11 +51,11 @@ pub record IsSoundRequest (len : ℕ) (is_packed : Bool) (size : ℕ) (shape : B
 
 -- The requests that may be outstanding.
 abbrev pub AreSound : ℕ → RingState → BlockShape → List Request → Type 0
-AreSound len q shape requests = All (IsSoundRequest len q.is_packed q.size shape) requests
+AreSound len q shape requests = All (IsSoundRequest q.base len q.is_packed q.size shape) requests
 
--- Requests that a device of this shape with this queue can have outstanding: at most 8, each sound, and none unless its queue is
--- ready.
-pub record AreRequestsOf (bytes : ℕ) (is_packed : Bool) (q : Queue) (shape : BlockShape) (requests : List Request) : Type 0 where
+-- Requests that a device of this shape with this queue can have outstanding, in a RAM of `bytes` bytes with this base: at most 8, each
+-- sound, and none unless its queue is ready.
+pub record AreRequestsOf (base bytes : ℕ) (is_packed : Bool) (q : Queue) (shape : BlockShape) (requests : List Request) : Type 0 where
   pub few : length requests ≤ REQUESTS_MAX
-  pub sound : All (IsSoundRequest bytes is_packed q.size shape) requests
+  pub sound : All (IsSoundRequest base bytes is_packed q.size shape) requests
   pub where_ready : MatchBool q.is_ready (Unit {0}) (requests ≡ [])

@@ -25,13 +25,13 @@ pub record TakeStep : Type 0 where
   pub ring : RingState
   pub requests : List Request
 
--- The header: the bytes at the first HEADER_SIZE readable places.
-abbrev pub header_of : List ℕ → Chain → List ℕ
-header_of ram c = take HEADER_SIZE (read_places ram (places c.readable))
+-- The header: the bytes at the first HEADER_SIZE readable places, in a RAM with this base.
+abbrev pub header_of : ℕ → List ℕ → Chain → List ℕ
+header_of base ram c = take HEADER_SIZE (read_places base ram (places c.readable))
 
 -- The segment that names a range to clear: the bytes at the SEGMENT_SIZE places after the header.
-abbrev pub segment_of : List ℕ → Chain → List ℕ
-segment_of ram c = take SEGMENT_SIZE (drop HEADER_SIZE (read_places ram (places c.readable)))
+abbrev pub segment_of : ℕ → List ℕ → Chain → List ℕ
+segment_of base ram c = take SEGMENT_SIZE (drop HEADER_SIZE (read_places base ram (places c.readable)))
 
 -- A request of which nothing is done yet. It keeps the segments of its chain.
 abbrev pub request_for : Chain → Task → Request
@@ -47,8 +47,8 @@ request_for c t = record {
   writable = c.writable;
 }
 
-abbrev pub task_for : List ℕ → BlockShape → Chain → Task
-task_for ram shape c = task_of (header_of ram c) (segment_of ram c) (length (places c.readable)) (length (places c.writable)) shape
+abbrev pub task_for : ℕ → List ℕ → BlockShape → Chain → Task
+task_for base ram shape c = task_of (header_of base ram c) (segment_of base ram c) (length (places c.readable)) (length (places c.writable)) shape
 
 -- The chain is not taken, and nothing is written.
 abbrev pub refuse : RingState → List Request → TakeStep
@@ -59,7 +59,7 @@ take_chain ram q shape requests c = record {
   answer = taken.Taken;
   writes = [];
   ring = after_take q c.slots;
-  requests = requests ++ request_for c (task_for ram shape c) ∷ [];
+  requests = requests ++ request_for c (task_for q.base ram shape c) ∷ [];
 }
 
 -- The step if there is room for a request, by what the device sees in the queue. If the queue is empty the event note is

@@ -77,7 +77,8 @@ impl Requests {
             return Advanced::Idle;
         }
         if self.list[k].is_open() {
-            let moved = move_unit(&mut self.list[k], shape, sectors, device, ram, log);
+            let base = ring.base();
+            let moved = move_unit(&mut self.list[k], shape, sectors, device, base, ram, log);
             sectors.recall();
             return moved;
         }
@@ -99,7 +100,7 @@ fn complete<R: Ring, L: TouchLog>(
 ) -> Advanced
     requires ready { MayServe L.may (length ram.old.bytes) (R.state ring.old) log.old }
     requires slots { request.now.slots ≤ (R.state ring.old).size }
-    requires segments { AreSegmentsInside (length ram.old.bytes) request.now.writable }
+    requires segments { AreSegmentsInside (R.state ring.old).base (length ram.old.bytes) request.now.writable }
     requires status { 1 ≤ length (places request.now.writable) }
     requires total { length (places request.now.writable) < 2 ^ 32 }
     requires data { data_written request.now.kind request.now.done < length (places request.now.writable) }
@@ -113,7 +114,8 @@ fn complete<R: Ring, L: TouchLog>(
 {
     let count = request.writable.total_len();
     let segs = request.writable.as_slice();
-    copy_in(ram, segs, count - 1, &[request.verdict.byte()], log);
+    let base = ring.base();
+    copy_in(ram, base, segs, count - 1, &[request.verdict.byte()], log);
     let len = used_len(request, count);
     let is_due = ring.publish(request.id, request.slots, len, true, ram, log);
     Advanced::Completed { len, is_due }

@@ -1,9 +1,9 @@
 //! The block device (VIRTIO 1.2, 5.2): its disk, its outstanding requests, and the steps that serve them.
 //!
 //! `Requests::take` takes the next chain of a ring of either layout as a `Request`. It reads the header of the request then,
-//! and keeps the segments of the chain: they are never read again, whatever the driver writes later. `Requests::advance`
-//! advances an outstanding request by one unit, with one call of the disk at most, or reports its verdict and publishes its
-//! chain.
+//! and keeps the segments of the chain, with the addresses as the guest wrote them: they are never read again, whatever the driver
+//! writes later. `Requests::advance` advances an outstanding request by one unit, with one call of the disk at most, or reports its
+//! verdict and publishes its chain. What both read and write lies at the index in RAM of such an address, by the base of the ring.
 //!
 //! The disk is any type that keeps the contract of the trait `Disk` (`specs/Disk`): `MemDisk` in memory, `FileDisk` in a file,
 //! and `FaultDisk`, which fails by a plan. `Sectors` is a disk and the marks of those of its sectors that are bad: a write that
@@ -24,7 +24,7 @@
 //!   sound and sectors whole, whatever the disk does.
 //! - `Requests::fail_flush(k)` makes an outstanding flush as one whose disk failed, and calls no disk (`specs/Flush`): for a host that
 //!   could not bring the bytes of the disk to the file that holds them.
-//! - `Requests::are_sound` tests what every outstanding request keeps, for requests that come from elsewhere.
+//! - `Requests::are_sound` tests what every outstanding request keeps in a RAM with this base, for requests that come from elsewhere.
 //! - `Sectors::next_bad` names the least bad sector from one on, and `Sectors::read_good` reads one that is not bad, with no look
 //!   at the marks.
 //!

@@ -27,17 +27,18 @@ fn move_in<D: Disk, L: TouchLog>(
     request: &mut Request,
     sectors: &mut Sectors<D>,
     device: u8,
+    base: u64,
     ram: &mut Ram,
     log: &mut L,
 ) -> Advanced
-    requires inside { AreSegmentsInside (length ram.old.bytes) request.old.writable }
+    requires inside { AreSegmentsInside base (length ram.old.bytes) request.old.writable }
     requires places { SECTOR_SIZE * request.old.done + SECTOR_SIZE ≤ length (places request.old.writable) }
     requires sector { request.old.first + request.old.done < length sectors.old.content }
     requires open { request.old.done < request.old.units }
     requires small { length sectors.old.content < 2 ^ 64 }
     requires whole { AreWhole sectors.old.content }
     requires may { MayPages L.may log.old (length ram.old.bytes) }
-    ensures moved { IsMoved (Touches L.after log.old log.new ram.old ram.new) sectors.old.honest device ram.old.bytes sectors.old.content (λ given. move_in given request.old (not (is_disk_failed result))) result request.new ram.new.bytes sectors.new.content }
+    ensures moved { IsMoved (Touches L.after log.old log.new ram.old ram.new) sectors.old.honest device ram.old.bytes sectors.old.content (λ given. move_in base given request.old (not (is_disk_failed result))) result request.new ram.new.bytes sectors.new.content }
     ensures request { request.new ≡ after_unit request.old result }
     ensures kept { IsKept sectors.old (is_disk_failed result) sectors.new }
     ensures after { HasServed L.may ram.old ram.new log.new }
@@ -57,6 +58,7 @@ fn move_in<D: Disk, L: TouchLog>(
             recall_bytes(&buffer);
             copy_in(
                 ram,
+                base,
                 request.writable.as_slice(),
                 SECTOR_SIZE as u64 * request.done as u64,
                 &buffer,
@@ -73,17 +75,18 @@ fn move_out<D: Disk, L: TouchLog>(
     request: &mut Request,
     sectors: &mut Sectors<D>,
     device: u8,
+    base: u64,
     ram: &mut Ram,
     log: &mut L,
 ) -> Advanced
-    requires inside { AreSegmentsInside (length ram.old.bytes) request.old.readable }
+    requires inside { AreSegmentsInside base (length ram.old.bytes) request.old.readable }
     requires places { HEADER_SIZE + SECTOR_SIZE * request.old.done + SECTOR_SIZE ≤ length (places request.old.readable) }
     requires sector { request.old.first + request.old.done < length sectors.old.content }
     requires open { request.old.done < request.old.units }
     requires small { length sectors.old.content < 2 ^ 64 }
     requires may { MayPages L.may log.old (length ram.old.bytes) }
     requires may_sectors { MaySectors L.may log.old device (length sectors.old.content) }
-    ensures moved { IsMoved (Touches L.after log.old log.new ram.old ram.new) sectors.old.honest device ram.old.bytes sectors.old.content (λ given. move_out ram.old.bytes request.old (not (is_disk_failed result))) result request.new ram.new.bytes sectors.new.content }
+    ensures moved { IsMoved (Touches L.after log.old log.new ram.old ram.new) sectors.old.honest device ram.old.bytes sectors.old.content (λ given. move_out base ram.old.bytes request.old (not (is_disk_failed result))) result request.new ram.new.bytes sectors.new.content }
     ensures request { request.new ≡ after_unit request.old result }
     ensures kept { IsKept sectors.old (is_disk_failed result) sectors.new }
     ensures after { HasServed L.may ram.old ram.new log.new }
@@ -91,6 +94,7 @@ fn move_out<D: Disk, L: TouchLog>(
     let mut buffer = [0; SECTOR_SIZE];
     copy_out(
         ram,
+        base,
         request.readable.as_slice(),
         HEADER_SIZE as u64 + SECTOR_SIZE as u64 * request.done as u64,
         &mut buffer,
@@ -168,21 +172,22 @@ fn move_flush<D: Disk>(request: &mut Request, sectors: &mut Sectors<D>) -> Advan
 fn move_id<L: TouchLog>(
     request: &mut Request,
     id: &[u8; ID_SIZE],
+    base: u64,
     ram: &mut Ram,
     log: &mut L,
 ) -> Advanced
-    requires inside { AreSegmentsInside (length ram.old.bytes) request.old.writable }
+    requires inside { AreSegmentsInside base (length ram.old.bytes) request.old.writable }
     requires places { ID_SIZE ≤ length (places request.old.writable) }
     requires open { request.old.done < request.old.units }
     requires may { MayPages L.may log.old (length ram.old.bytes) }
     ensures answer { result ≡ Moved }
-    ensures request { request.new ≡ (move_id id.now request.old).request }
-    ensures bytes { ram.new.bytes ≡ set_all ram.old.bytes (move_id id.now request.old).writes }
-    ensures log { log.new ≡ after_all L.after log.old (touched (move_id id.now request.old).writes) }
-    ensures rises { Rises (touched (move_id id.now request.old).writes) ram.old ram.new }
+    ensures request { request.new ≡ (move_id base id.now request.old).request }
+    ensures bytes { ram.new.bytes ≡ set_all ram.old.bytes (move_id base id.now request.old).writes }
+    ensures log { log.new ≡ after_all L.after log.old (touched (move_id base id.now request.old).writes) }
+    ensures rises { Rises (touched (move_id base id.now request.old).writes) ram.old ram.new }
     ensures after { HasServed L.may ram.old ram.new log.new }
 {
-    copy_in(ram, request.writable.as_slice(), 0, id, log);
+    copy_in(ram, base, request.writable.as_slice(), 0, id, log);
     request.done += 1;
     Advanced::Moved
 }
@@ -193,17 +198,18 @@ pub(crate) fn move_unit<D: Disk, L: TouchLog>(
     shape: &BlockShape,
     sectors: &mut Sectors<D>,
     device: u8,
+    base: u64,
     ram: &mut Ram,
     log: &mut L,
 ) -> Advanced
     requires open { is_open request.old ≡ true }
     requires capacity { length sectors.old.content ≡ shape.now.sectors }
     requires sound { IsSoundWork request.old.kind (length (places request.old.readable)) (length (places request.old.writable)) shape.now request.old.verdict request.old.first request.old.units request.old.done }
-    requires readable { AreSegmentsInside (length ram.old.bytes) request.old.readable }
-    requires writable { AreSegmentsInside (length ram.old.bytes) request.old.writable }
+    requires readable { AreSegmentsInside base (length ram.old.bytes) request.old.readable }
+    requires writable { AreSegmentsInside base (length ram.old.bytes) request.old.writable }
     requires may { MayPages L.may log.old (length ram.old.bytes) }
     requires may_sectors { MaySectors L.may log.old device (length sectors.old.content) }
-    ensures moved { IsMoved (Touches L.after log.old log.new ram.old ram.new) sectors.old.honest device ram.old.bytes sectors.old.content (λ given. move_of request.old.kind shape.now.id ram.old.bytes given request.old (not (is_disk_failed result))) result request.new ram.new.bytes sectors.new.content }
+    ensures moved { IsMoved (Touches L.after log.old log.new ram.old ram.new) sectors.old.honest device ram.old.bytes sectors.old.content (λ given. move_of request.old.kind base shape.now.id ram.old.bytes given request.old (not (is_disk_failed result))) result request.new ram.new.bytes sectors.new.content }
     ensures request { request.new ≡ after_unit request.old result }
     ensures sound { IsSoundWork request.new.kind (length (places request.new.readable)) (length (places request.new.writable)) shape.now request.new.verdict request.new.first request.new.units request.new.done }
     ensures kept { IsKept sectors.old (is_disk_failed result) sectors.new }
@@ -212,10 +218,10 @@ pub(crate) fn move_unit<D: Disk, L: TouchLog>(
 {
     sectors.recall();
     match request.kind {
-        Kind::In => move_in(request, sectors, device, ram, log),
-        Kind::Out => move_out(request, sectors, device, ram, log),
+        Kind::In => move_in(request, sectors, device, base, ram, log),
+        Kind::Out => move_out(request, sectors, device, base, ram, log),
         Kind::Flush => move_flush(request, sectors),
-        Kind::GetId => move_id(request, &shape.id, ram, log),
+        Kind::GetId => move_id(request, &shape.id, base, ram, log),
         Kind::Zero => move_zero(request, sectors, device, log),
         Kind::Refused => Advanced::Idle,
     }

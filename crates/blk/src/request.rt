@@ -74,7 +74,8 @@ impl Verdict {
     }
 }
 
-/// A request that was taken. Its segments are those of its chain as it was taken, and are never read again.
+/// A request that was taken. Its segments are those of its chain as it was taken, with the addresses as the guest wrote them, and are
+/// never read again.
 #[derive(Drop)]
 pub struct Request {
     /// What names its chain when it is published.

@@ -11,35 +11,57 @@ use crate::request::{HEADER_SIZE, Kind, Request, SEGMENT_SIZE, Verdict};
 use crate::requests::{REQUESTS_MAX, Requests};
 use crate::shape::{BlockShape, ID_SIZE, ZEROES_MAX};
 use chains::Seg;
+use guestmem::is_within;
 use mmio::Queue;
 
 impl Requests {
-    /// Whether a device of this shape with this queue may have them outstanding, in a RAM of `ram_len` bytes: they are not too many,
-    /// each may be outstanding, and there are none unless the queue is ready.
-    pub fn are_of(&self, ram_len: u64, is_packed: bool, queue: &Queue, shape: &BlockShape) -> bool
-        ensures { IsTrue result ↔ AreRequestsOf ram_len is_packed queue.now shape.now self.now }
+    /// Whether a device of this shape with this queue may have them outstanding, in a RAM of `ram_len` bytes with this base: they
+    /// are not too many, each may be outstanding, and there are none unless the queue is ready.
+    pub fn are_of(
+        &self,
+        base: u64,
+        ram_len: u64,
+        is_packed: bool,
+        queue: &Queue,
+        shape: &BlockShape,
+    ) -> bool
+        ensures { IsTrue result ↔ AreRequestsOf base ram_len is_packed queue.now shape.now self.now }
     {
         self.len() <= REQUESTS_MAX
-            && self.are_sound(ram_len, is_packed, queue.size, shape)
+            && self.are_sound(base, ram_len, is_packed, queue.size, shape)
             && (queue.is_ready || self.is_empty())
     }
 
     /// Whether each of them may be outstanding (see `Request::is_sound`).
-    pub fn are_sound(&self, ram_len: u64, is_packed: bool, size: u32, shape: &BlockShape) -> bool
-        ensures { IsTrue result ↔ All (IsSoundRequest ram_len is_packed size shape.now) self.now }
+    pub fn are_sound(
+        &self,
+        base: u64,
+        ram_len: u64,
+        is_packed: bool,
+        size: u32,
+        shape: &BlockShape,
+    ) -> bool
+        ensures { IsTrue result ↔ All (IsSoundRequest base ram_len is_packed size shape.now) self.now }
     {
-        self.list.iter().all(|request| request.is_sound(ram_len, is_packed, size, shape))
+        self.list.iter().all(|request| request.is_sound(base, ram_len, is_packed, size, shape))
     }
 }
 
 impl Request {
-    /// Whether it may be outstanding, in a RAM of `ram_len` bytes, on a ring of this layout with `size` slots, in a device
-    /// of this shape.
-    pub fn is_sound(&self, ram_len: u64, is_packed: bool, size: u32, shape: &BlockShape) -> bool
-        ensures { IsTrue result ↔ IsSoundRequest ram_len is_packed size shape.now self.now }
+    /// Whether it may be outstanding, in a RAM of `ram_len` bytes with this base, on a ring of this layout with `size` slots, in
+    /// a device of this shape.
+    pub fn is_sound(
+        &self,
+        base: u64,
+        ram_len: u64,
+        is_packed: bool,
+        size: u32,
+        shape: &BlockShape,
+    ) -> bool
+        ensures { IsTrue result ↔ IsSoundRequest base ram_len is_packed size shape.now self.now }
     {
         self.is_of_ring(is_packed, size)
-            && self.has_segments(ram_len, size)
+            && self.has_segments(base, ram_len, size)
             && self.has_sound_bytes(shape)
     }
 
@@ -54,16 +76,16 @@ impl Request {
             && (is_packed || (self.slots == 1 && (id as u32) < size))
     }
 
-    /// Whether its segments are not too many, and lie inside RAM.
-    fn has_segments(&self, ram_len: u64, size: u32) -> bool
-        ensures { IsTrue result ↔ ((length self.now.readable + length self.now.writable ≤ size) × AreSegmentsInside ram_len self.now.readable × AreSegmentsInside ram_len self.now.writable) }
+    /// Whether its segments are not too many, and lie inside a RAM of `ram_len` bytes with this base.
+    fn has_segments(&self, base: u64, ram_len: u64, size: u32) -> bool
+        ensures { IsTrue result ↔ ((length self.now.readable + length self.now.writable ≤ size) × AreSegmentsInside base ram_len self.now.readable × AreSegmentsInside base ram_len self.now.writable) }
     {
         let (readable, writable) = (self.readable.as_slice(), self.writable.as_slice());
         let size = size as usize;
         readable.len() <= size
             && writable.len() <= size - readable.len()
-            && are_inside(readable, ram_len)
-            && are_inside(writable, ram_len)
+            && are_inside(readable, base, ram_len)
+            && are_inside(writable, base, ram_len)
     }
 
     /// Whether its bytes are not too many, have room for its header and its verdict, and fit its kind.
@@ -151,8 +173,9 @@ impl Request {
     }
 }
 
-fn are_inside(segs: &[Seg], ram_len: u64) -> bool
-    ensures { IsTrue result ↔ AreSegmentsInside ram_len segs.now }
+fn are_inside(segs: &[Seg], base: u64, ram_len: u64) -> bool
+    ensures { IsTrue result ↔ AreSegmentsInside base ram_len segs.now }
 {
-    segs.iter().all(|seg| seg.addr <= ram_len && seg.len as u64 <= ram_len - seg.addr)
+    segs.iter()
+        .all(|seg| is_within(base, ram_len, seg.addr, seg.len as u64))
 }

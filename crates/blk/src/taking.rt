@@ -62,7 +62,8 @@ impl Requests {
             NextKind::Empty => Ok(Taken::Empty),
             NextKind::Malformed => Ok(Taken::Malformed),
             NextKind::Chain => {
-                let task = task_for(ram, shape, &chain);
+                let base = ring.base();
+                let task = task_for(base, ram, shape, &chain);
                 ring.take(&chain);
                 self.push(request_for(chain, task));
                 Ok(Taken::Taken)
@@ -74,16 +75,16 @@ impl Requests {
 
 /// What the request of a chain asks for.
 #[inline(always)]
-fn task_for(ram: &Ram, shape: &BlockShape, chain: &Chain) -> Task
-    requires inside { AreSegmentsInside (length ram.now.bytes) chain.now.readable }
+fn task_for(base: u64, ram: &Ram, shape: &BlockShape, chain: &Chain) -> Task
+    requires inside { AreSegmentsInside base (length ram.now.bytes) chain.now.readable }
     requires header { HEADER_SIZE ≤ length (places chain.now.readable) }
     requires status { 1 ≤ length (places chain.now.writable) }
     requires total { length (places chain.now.readable) + length (places chain.now.writable) < 2 ^ 32 }
-    ensures { result ≡ task_for ram.now.bytes shape.now chain.now }
+    ensures { result ≡ task_for base ram.now.bytes shape.now chain.now }
 {
     let mut header = [0; HEADER_SIZE];
-    copy_out(ram, chain.readable.as_slice(), 0, &mut header);
-    let segment = segment_for(ram, &header, chain);
+    copy_out(ram, base, chain.readable.as_slice(), 0, &mut header);
+    let segment = segment_for(base, ram, &header, chain);
     task_of(
         &header,
         &segment,
@@ -95,9 +96,14 @@ fn task_for(ram: &Ram, shape: &BlockShape, chain: &Chain) -> Task
 
 /// The segment of a chain that asks for a range to be cleared, if it has one. That of another chain is not read, and nothing
 /// rests on it.
-fn segment_for(ram: &Ram, header: &[u8; HEADER_SIZE], chain: &Chain) -> [u8; SEGMENT_SIZE]
-    requires inside { AreSegmentsInside (length ram.now.bytes) chain.now.readable }
-    ensures { number_at header.now 0 4 ≡ TYPE_WRITE_ZEROES → length (places chain.now.readable) ≡ HEADER_SIZE + SEGMENT_SIZE → result ≡ segment_of ram.now.bytes chain.now }
+fn segment_for(
+    base: u64,
+    ram: &Ram,
+    header: &[u8; HEADER_SIZE],
+    chain: &Chain,
+) -> [u8; SEGMENT_SIZE]
+    requires inside { AreSegmentsInside base (length ram.now.bytes) chain.now.readable }
+    ensures { number_at header.now 0 4 ≡ TYPE_WRITE_ZEROES → length (places chain.now.readable) ≡ HEADER_SIZE + SEGMENT_SIZE → result ≡ segment_of base ram.now.bytes chain.now }
 {
     let mut segment = [0; SEGMENT_SIZE];
     if type_of(header) != TYPE_WRITE_ZEROES
@@ -107,6 +113,7 @@ fn segment_for(ram: &Ram, header: &[u8; HEADER_SIZE], chain: &Chain) -> [u8; SEG
     }
     copy_out(
         ram,
+        base,
         chain.readable.as_slice(),
         HEADER_SIZE as u64,
         &mut segment,

@@ -57,7 +57,12 @@ impl Book {
 
     /// The whole script of a scenario of this book. It fails only if it is out of memory.
     pub fn script(&self, alloc: Global, scenario: &Scenario) -> io::Result<Script> {
-        let mut script = Script::new(alloc);
+        self.script_at(alloc, scenario, 0)
+    }
+
+    /// The same, for RAM that begins at the address `base`.
+    pub fn script_at(&self, alloc: Global, scenario: &Scenario, base: u64) -> io::Result<Script> {
+        let mut script = Script::new_at(alloc, base);
         script.add(self.beginning.as_str())?;
         script.add(scenario.lines.as_str())?;
         script.add(self.end.as_str())?;

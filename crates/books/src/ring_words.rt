@@ -6,10 +6,15 @@ use std::io::{self, ErrorKind, Write};
 const LETTERS: [(char, u16); 5] = [('N', 1), ('W', 2), ('I', 4), ('A', 128), ('U', 32_768)];
 
 /// Writes the digits of the sixteen bytes of a descriptor: `BUFFER LEN FLAGS NAME`. In a split ring the flags come before the
-/// name, which is the index of the next one, in a packed ring after it, and it is the id.
-pub fn write_descriptor(out: &mut Vec<u8>, words: &str, is_packed: bool) -> io::Result<()> {
+/// name, which is the index of the next one, in a packed ring after it, and it is the id. The buffer is that many bytes behind `base`.
+pub fn write_descriptor(
+    out: &mut Vec<u8>,
+    words: &str,
+    is_packed: bool,
+    base: u64,
+) -> io::Result<()> {
     let mut words = words.split(' ');
-    let buffer = value(words.next().unwrap_or(""))?;
+    let buffer = value(words.next().unwrap_or(""))?.wrapping_add(base);
     let len = value(words.next().unwrap_or(""))?;
     let flags = flags_of(words.next().unwrap_or(""))?;
     let name = value(words.next().unwrap_or("0"))?;
@@ -66,7 +71,7 @@ fn flag_of(letter: char) -> io::Result<u16> {
 }
 
 /// The number of decimal digits, or of hexadecimal ones after `0x`.
-fn value(word: &str) -> io::Result<u64> {
+pub fn value(word: &str) -> io::Result<u64> {
     match word.strip_prefix("0x") {
         Some(digits) => u64::from_str_radix(digits, 16).map_err(|_| bad_word()),
         None => word.parse::<u64>().map_err(|_| bad_word()),

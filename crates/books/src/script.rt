@@ -1,7 +1,7 @@
 //! One script, and the trace that it stands for.
 
 use crate::question::Question;
-use crate::ring_words::{write_available, write_descriptor};
+use crate::ring_words::{value, write_available, write_descriptor};
 use std::alloc::Global;
 use std::io::{self, ErrorKind, Write};
 use std::str::FromStr;
@@ -47,6 +47,10 @@ use std::str::FromStr;
 /// - `SECTOR DEV N BYTES`: the sector holds these bytes now. Reading it for this is a call of the disk as well;
 /// - `BAD DEV N`: the sector is bad now.
 ///
+/// A script may stand for RAM that begins at another address than 0 (`new_at`). The addresses in its lines are then those of a RAM
+/// that begins at 0: those of areas, and of buffers and tables in descriptors, are shifted, modulo 2^64. Who plays the events shifts
+/// those of accesses to RAM.
+///
 /// Among the events may be those of a migration: `begin`, `copy`, `round` and `stop`. Five lines are about it:
 ///
 /// - `WRITER N`: its writer takes N bytes and then fails;
@@ -58,6 +62,9 @@ use std::str::FromStr;
 #[derive(Drop)]
 pub struct Script {
     alloc: Global,
+
+    /// Where RAM begins.
+    base: u64,
     trace: Vec<u8>,
     replies: Vec<u8>,
     events: usize,
@@ -71,8 +78,14 @@ pub struct Script {
 impl Script {
     /// A script of no lines. It takes no memory.
     pub fn new(alloc: Global) -> Script {
+        Script::new_at(alloc, 0)
+    }
+
+    /// The same, for RAM that begins at the address `base`.
+    pub fn new_at(alloc: Global, base: u64) -> Script {
         Script {
             alloc,
+            base,
             trace: Vec::new(alloc),
             replies: Vec::new(alloc),
             events: 0,
@@ -82,6 +95,11 @@ impl Script {
             plans_alone: Vec::new(alloc),
             room: None,
         }
+    }
+
+    /// The address at which RAM begins.
+    pub fn base(&self) -> u64 {
+        self.base
     }
 
     /// The trace that it stands for.
@@ -251,18 +269,22 @@ impl Script {
         let (size, rest) = cut(rest);
         let (table, rest) = cut(rest);
         let (driver, used) = cut(rest);
-        let writes = [
-            ("0x030", queue),
-            ("0x038", size),
-            ("0x080", table),
-            ("0x084", "0"),
-            ("0x090", driver),
-            ("0x094", "0"),
-            ("0x0a0", used),
-            ("0x0a4", "0"),
-            ("0x044", "1"),
-        ];
-        self.add_writes(device, &writes)
+        self.add_writes(device, &[("0x030", queue), ("0x038", size)])?;
+        self.add_address(device, ["0x080", "0x084"], table)?;
+        self.add_address(device, ["0x090", "0x094"], driver)?;
+        self.add_address(device, ["0x0a0", "0x0a4"], used)?;
+        self.add_write(device, "0x044", "1")
+    }
+
+    /// Adds the writes of an address into its two registers, first of the lower 32 bits.
+    fn add_address(&mut self, device: &str, registers: [&str; 2], word: &str) -> io::Result<()> {
+        let address = value(word)?.wrapping_add(self.base);
+        for (register, half) in registers.iter().zip([address & 0xffff_ffff, address >> 32]) {
+            self.events = self.events.saturating_add(1);
+            writeln!(self.trace, "w {device} {register} 4 {half}")?;
+            writeln!(self.replies, "done")?;
+        }
+        Ok(())
     }
 
     fn add_kick(&mut self, words: &str) -> io::Result<()> {
@@ -275,7 +297,7 @@ impl Script {
         let (addr, descriptor) = cut(words);
         self.events = self.events.saturating_add(1);
         write!(self.trace, "mw {addr} ")?;
-        write_descriptor(&mut self.trace, descriptor, is_packed)?;
+        write_descriptor(&mut self.trace, descriptor, is_packed, self.base)?;
         writeln!(self.trace)?;
         writeln!(self.replies, "done")
     }

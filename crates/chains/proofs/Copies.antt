@@ -5,6 +5,7 @@ use Rattle.std.specs.List.{drop-map}
 use Rattle.std.proofs.lemmas.Slice.{take-put_mid}
 use Rattle.std.proofs.Math.Seq.{drop-append_seam, drop-append-add, take-append-add}
 use borrow.Rule.Slice.PartMut.{put_mid, same_len_mid}
+use Rattle.guestmem.specs.Address.{IsWithin, index_of}
 use Rattle.guestmem.specs.Writes.{byte_writes}
 use Rattle.chains.specs.declared.segs.Seg.{Seg}
 use Rattle.chains.specs.Places.{addresses, places, read_places, place_writes}
@@ -43,11 +44,13 @@ pub reached : (segs : List Seg) (i skip : ℕ) (d : Seg) → i < length segs →
 reached segs i skip d below within = ap (drop skip) (places_here segs i d below) ∙ drop_within (get_or segs i d).addr (get_or segs i d).len skip (places (drop (i + 1) segs)) within
 
 -- The bytes that go into one segment are one run of writes.
-pub segment_writes : (segs : List Seg) (i skip : ℕ) (d : Seg) (rest front back : List ℕ) → i < length segs → skip ≤ (get_or segs i d).len → rest ≡ front ++ back
+pub segment_writes : (base : ℕ) (segs : List Seg) (i skip : ℕ) (d : Seg) (rest front back : List ℕ) → i < length segs → base ≤ (get_or segs i d).addr → skip ≤ (get_or segs i d).len → rest ≡ front ++ back
     → length front ≤ (get_or segs i d).len - skip → (length front < (get_or segs i d).len - skip → back ≡ [])
-    → place_writes (drop skip (places (drop i segs))) rest ≡ byte_writes ((get_or segs i d).addr + skip) front ++ place_writes (places (drop (i + 1) segs)) back
-segment_writes segs i skip d rest front back below within parts few none =
-    rw (parts, reached segs i skip d below within) (run_writes ((get_or segs i d).addr + skip) ((get_or segs i d).len - skip) (places (drop (i + 1) segs)) front back few none)
+    → place_writes base (drop skip (places (drop i segs))) rest ≡ byte_writes (index_of base (get_or segs i d).addr + skip) front ++ place_writes base (places (drop (i + 1) segs)) back
+segment_writes base segs i skip d rest front back below above within parts few none =
+    let at : index_of base ((get_or segs i d).addr + skip) ≡ index_of base (get_or segs i d).addr + skip = omega arith in
+    let run = run_writes base ((get_or segs i d).addr + skip) ((get_or segs i d).len - skip) (places (drop (i + 1) segs)) front back (omega arith) few none in
+    rw (parts, reached segs i skip d below within) (rw at at run)
 
 -- The first bytes of a run and of what stands behind it.
 first_of : (count m : ℕ) (run more : List ℕ) → count ≤ length run → take m (take count run ++ more) ≡ take (min m count) run ++ take (m - min m count) more
@@ -66,54 +69,63 @@ first_of count m run more fits =
           rw n (ap (λ k. take k (take count run ++ more)) e ∙ take-append-add (take count run) more (m - count))
     ]
 
-pub segment_bytes : (ram : List ℕ) (segs : List Seg) (i skip m : ℕ) (d : Seg) → i < length segs → skip ≤ (get_or segs i d).len → (get_or segs i d).addr + (get_or segs i d).len ≤ length ram
-    → take m (drop skip (read_places ram (places (drop i segs))))
-    ≡ take (min m ((get_or segs i d).len - skip)) (drop ((get_or segs i d).addr + skip) ram) ++ take (m - min m ((get_or segs i d).len - skip)) (read_places ram (places (drop (i + 1) segs)))
-segment_bytes ram segs i skip m d below within inside =
+-- The byte of RAM at a place.
+byte_at : ℕ → List ℕ → ℕ → ℕ
+byte_at base ram place = slice_index ram (index_of base place)
+
+pub segment_bytes : (base : ℕ) (ram : List ℕ) (segs : List Seg) (i skip m : ℕ) (d : Seg) → i < length segs → skip ≤ (get_or segs i d).len → IsWithin base (length ram) (get_or segs i d).addr (get_or segs i d).len
+    → take m (drop skip (read_places base ram (places (drop i segs))))
+    ≡ take (min m ((get_or segs i d).len - skip)) (drop (index_of base (get_or segs i d).addr + skip) ram) ++ take (m - min m ((get_or segs i d).len - skip)) (read_places base ram (places (drop (i + 1) segs)))
+unfolding byte_at
+segment_bytes base ram segs i skip m d below within inside =
     let seg = get_or segs i d in
     let more = places (drop (i + 1) segs) in
-    let run : read_places ram (addresses (seg.addr + skip) (seg.len - skip)) ≡ take (seg.len - skip) (drop (seg.addr + skip) ram) = read_addresses ram (seg.addr + skip) (seg.len - skip) (omega arith) in
-    let all : drop skip (read_places ram (places (drop i segs))) ≡ take (seg.len - skip) (drop (seg.addr + skip) ram) ++ read_places ram more =
-    drop-map (slice_index ram) skip (places (drop i segs)) ∙ ap (read_places ram) (reached segs i skip d below within)
-    ∙ map-append (slice_index ram) (addresses (seg.addr + skip) (seg.len - skip)) more ∙ ap (λ (xs : List ℕ). xs ++ read_places ram more) run in
-    ap (take m) all ∙ first_of (seg.len - skip) m (drop (seg.addr + skip) ram) (read_places ram more) (rw length-drop (omega arith))
+    let above : base ≤ seg.addr = inside.above in
+    let at : index_of base (seg.addr + skip) ≡ index_of base seg.addr + skip = omega arith in
+    let run : read_places base ram (addresses (seg.addr + skip) (seg.len - skip)) ≡ take (seg.len - skip) (drop (index_of base seg.addr + skip) ram) =
+    rw at at (read_addresses base ram (seg.addr + skip) (seg.len - skip) (omega arith) (omega (arith, inside.below))) in
+    let all : drop skip (read_places base ram (places (drop i segs))) ≡ take (seg.len - skip) (drop (index_of base seg.addr + skip) ram) ++ read_places base ram more =
+    drop-map (byte_at base ram) skip (places (drop i segs)) ∙ ap (read_places base ram) (reached segs i skip d below within)
+    ∙ map-append (byte_at base ram) (addresses (seg.addr + skip) (seg.len - skip)) more ∙ ap (λ (xs : List ℕ). xs ++ read_places base ram more) run in
+    ap (take m) all ∙ first_of (seg.len - skip) m (drop (index_of base seg.addr + skip) ram) (read_places base ram more) (rw length-drop (omega (arith, inside.below)))
 
-pub passed_bytes : (ram : List ℕ) (segs : List Seg) (i skip : ℕ) (d : Seg) → i < length segs → (get_or segs i d).len ≤ skip
-    → drop skip (read_places ram (places (drop i segs))) ≡ drop (skip - (get_or segs i d).len) (read_places ram (places (drop (i + 1) segs)))
-passed_bytes ram segs i skip d below past =
-    drop-map (slice_index ram) skip (places (drop i segs)) ∙ ap (read_places ram) (passed segs i skip d below past)
-    ∙ sym (drop-map (slice_index ram) (skip - (get_or segs i d).len) (places (drop (i + 1) segs)))
+pub passed_bytes : (base : ℕ) (ram : List ℕ) (segs : List Seg) (i skip : ℕ) (d : Seg) → i < length segs → (get_or segs i d).len ≤ skip
+    → drop skip (read_places base ram (places (drop i segs))) ≡ drop (skip - (get_or segs i d).len) (read_places base ram (places (drop (i + 1) segs)))
+unfolding byte_at
+passed_bytes base ram segs i skip d below past =
+    drop-map (byte_at base ram) skip (places (drop i segs)) ∙ ap (read_places base ram) (passed segs i skip d below past)
+    ∙ sym (drop-map (byte_at base ram) (skip - (get_or segs i d).len) (places (drop (i + 1) segs)))
 
 -- A part of a buffer that is written keeps the length of the buffer.
 pub length-put_mid : (start count : ℕ) (buf piece : List ℕ) → start + count ≤ length buf → length piece ≡ count → length (put_mid start count buf piece) ≡ length buf
 length-put_mid start count buf piece fits size = same_len_mid start count buf piece (size ∙ sym (length-take-le count (drop start buf) (rw length-drop (omega arith))))
 
 -- A buffer that is filled from one segment on, once that segment gave its bytes.
-pub read_more : (ram buf piece wanted : List ℕ) (segs : List Seg) (i skip filled count : ℕ) (d : Seg) → i < length segs → skip ≤ (get_or segs i d).len
-    → (get_or segs i d).addr + (get_or segs i d).len ≤ length ram → filled ≤ length buf → count ≡ min (length buf - filled) ((get_or segs i d).len - skip)
-    → length piece ≡ count → piece ≡ take count (drop ((get_or segs i d).addr + skip) ram)
-    → take filled buf ++ take (length buf - filled) (drop skip (read_places ram (places (drop i segs)))) ≡ wanted
-    → take (filled + count) (put_mid filled count buf piece) ++ take (length buf - (filled + count)) (read_places ram (places (drop (i + 1) segs))) ≡ wanted
-read_more ram buf piece wanted segs i skip filled count d below within inside fits is size read so_far =
+pub read_more : (base : ℕ) (ram buf piece wanted : List ℕ) (segs : List Seg) (i skip filled count : ℕ) (d : Seg) → i < length segs → skip ≤ (get_or segs i d).len
+    → IsWithin base (length ram) (get_or segs i d).addr (get_or segs i d).len → filled ≤ length buf → count ≡ min (length buf - filled) ((get_or segs i d).len - skip)
+    → length piece ≡ count → piece ≡ take count (drop (index_of base (get_or segs i d).addr + skip) ram)
+    → take filled buf ++ take (length buf - filled) (drop skip (read_places base ram (places (drop i segs)))) ≡ wanted
+    → take (filled + count) (put_mid filled count buf piece) ++ take (length buf - (filled + count)) (read_places base ram (places (drop (i + 1) segs))) ≡ wanted
+read_more base ram buf piece wanted segs i skip filled count d below within inside fits is size read so_far =
     let front : take (filled + count) (put_mid filled count buf piece) ≡ take filled buf ++ piece = take-put_mid filled count buf piece (filled + count) (omega arith) fits in
     let left : length buf - (filled + count) ≡ length buf - filled - count = omega arith in
-    let parts = segment_bytes ram segs i skip (length buf - filled) d below within inside in
+    let parts = segment_bytes base ram segs i skip (length buf - filled) d below within inside in
     rw (front, left, append_assoc, read, is) (ap (λ (xs : List ℕ). take filled buf ++ xs) (sym parts) ∙ so_far)
 
 -- Bytes that the first segment holds are one run of writes.
-pub first_writes : (segs : List Seg) (d : Seg) (bytes : List ℕ) → 0 < length segs → length bytes ≤ (get_or segs 0 d).len
-    → place_writes (take (length bytes) (drop 0 (places segs))) bytes ≡ byte_writes (get_or segs 0 d).addr bytes
-first_writes [] d bytes some few = absurd (omega arith)
-first_writes (seg ∷ segs) d bytes some few =
-    let run = run_writes seg.addr seg.len (places segs) bytes [] few (λ _. refl) in
-    place_writes_take (places (seg ∷ segs)) bytes ∙ (rw (append-nil, no_bytes, append-nil) at run)
+pub first_writes : (base : ℕ) (segs : List Seg) (d : Seg) (bytes : List ℕ) → 0 < length segs → base ≤ (get_or segs 0 d).addr → length bytes ≤ (get_or segs 0 d).len
+    → place_writes base (take (length bytes) (drop 0 (places segs))) bytes ≡ byte_writes (index_of base (get_or segs 0 d).addr) bytes
+first_writes base [] d bytes some above few = absurd (omega arith)
+first_writes base (seg ∷ segs) d bytes some above few =
+    let run = run_writes base seg.addr seg.len (places segs) bytes [] above few (λ _. refl) in
+    place_writes_take base (places (seg ∷ segs)) bytes ∙ (rw (append-nil, no_bytes, append-nil) at run)
 
 -- The first bytes of segments, of which the first has enough, are one run.
-pub first_bytes : (ram : List ℕ) (segs : List Seg) (d : Seg) (m : ℕ) → 0 < length segs → m ≤ (get_or segs 0 d).len → (get_or segs 0 d).addr + (get_or segs 0 d).len ≤ length ram
-    → take m (drop 0 (read_places ram (places segs))) ≡ take m (drop (get_or segs 0 d).addr ram)
-first_bytes ram segs d m some few inside =
-    let parts = segment_bytes ram segs 0 0 m d some (omega arith) inside in
+pub first_bytes : (base : ℕ) (ram : List ℕ) (segs : List Seg) (d : Seg) (m : ℕ) → 0 < length segs → m ≤ (get_or segs 0 d).len → IsWithin base (length ram) (get_or segs 0 d).addr (get_or segs 0 d).len
+    → take m (drop 0 (read_places base ram (places segs))) ≡ take m (drop (index_of base (get_or segs 0 d).addr) ram)
+first_bytes base ram segs d m some few inside =
+    let parts = segment_bytes base ram segs 0 0 m d some (omega arith) inside in
     let all : min m ((get_or segs 0 d).len - 0) ≡ m = omega arith in
     let none : m - m ≡ 0 = omega arith in
-    let start : (get_or segs 0 d).addr + 0 ≡ (get_or segs 0 d).addr = omega arith in
+    let start : index_of base (get_or segs 0 d).addr + 0 ≡ index_of base (get_or segs 0 d).addr = omega arith in
     rw (all, none, start, append-nil) at parts

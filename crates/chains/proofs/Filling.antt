@@ -1,5 +1,6 @@
 -- Bytes that are written in two parts and then published, and what is told of them.
 use Rattle.std.proofs.Common.{◌≡◌, ℕ, ◌≤◌, List, [], ◌∷◌, ◌++◌, length, take, drop, refl, ap, ◌∙◌, arith}
+use Rattle.guestmem.specs.Address.{index_of}
 use Rattle.guestmem.specs.Item.{Item, after_all}
 use Rattle.guestmem.specs.Writes.{Write, set_all, touched}
 use Rattle.guestmem.specs.WriteLaws.{set_all-append}
@@ -11,18 +12,18 @@ use Rattle.chains.specs.PlaceLaws.{place_writes_take}
 use Rattle.chains.specs.Places.{place_writes}
 
 -- Bytes in two parts go to the first places and to those behind.
-in_parts : (at front back : List ℕ) → length front ≤ length at → place_writes at (front ++ back) ≡ place_writes at front ++ place_writes (drop (length front) at) back
-in_parts [] [] back room = refl
-in_parts [] (b ∷ front) back room = absurd (omega arith)
-in_parts (p ∷ at) [] back room = refl
-in_parts (p ∷ at) (b ∷ front) back room =
-    ap (λ (ws : List Write). record { address = p; byte = b } ∷ ws) (in_parts at front back (omega arith))
+in_parts : (base : ℕ) (at front back : List ℕ) → length front ≤ length at → place_writes base at (front ++ back) ≡ place_writes base at front ++ place_writes base (drop (length front) at) back
+in_parts base [] [] back room = refl
+in_parts base [] (b ∷ front) back room = absurd (omega arith)
+in_parts base (p ∷ at) [] back room = refl
+in_parts base (p ∷ at) (b ∷ front) back room =
+    ap (λ (ws : List Write). record { address = index_of base p; byte = b } ∷ ws) (in_parts base at front back (omega arith))
 
 -- The writes of two parts, as each part is written, and then others.
-pub parts_then : (at front back : List ℕ) (last : List Write) → length front ≤ length at
-    → place_writes at (front ++ back) ++ last ≡ (place_writes (take (length front) (drop 0 at)) front ++ place_writes (take (length back) (drop (length front) at)) back) ++ last
-parts_then at front back last room =
-    ap (λ (ws : List Write). ws ++ last) (in_parts at front back room ∙ rw (place_writes_take at front, place_writes_take (drop (length front) at) back) refl)
+pub parts_then : (base : ℕ) (at front back : List ℕ) (last : List Write) → length front ≤ length at
+    → place_writes base at (front ++ back) ++ last ≡ (place_writes base (take (length front) (drop 0 at)) front ++ place_writes base (take (length back) (drop (length front) at)) back) ++ last
+parts_then base at front back last room =
+    ap (λ (ws : List Write). ws ++ last) (in_parts base at front back room ∙ rw (place_writes_take base at front, place_writes_take base (drop (length front) at) back) refl)
 
 -- RAM after three lists of writes in turn.
 pub set_three : (ram : List ℕ) (us vs ws : List Write) → set_all (set_all (set_all ram us) vs) ws ≡ set_all ram ((us ++ vs) ++ ws)
@@ -43,6 +44,6 @@ pub record AreMade {L : Type 0} (after : L → Item → L) (ws : List Write) (ol
   pub rises : Rises (touched ws) old new
 
 -- Where there are no bytes, none is made.
-pub none_made : {L : Type 0} (after : L → Item → L) (at bytes : List ℕ) (m : Memory) (log : L) → length bytes ≡ 0 → AreMade after (place_writes (take (length bytes) at) bytes) m m log log
-none_made after at [] m log none = record { bytes = refl; told = refl; rises = rises_none m m refl }
-none_made after at (b ∷ bytes) m log none = absurd (omega (arith, none))
+pub none_made : {L : Type 0} (after : L → Item → L) (base : ℕ) (at bytes : List ℕ) (m : Memory) (log : L) → length bytes ≡ 0 → AreMade after (place_writes base (take (length bytes) at) bytes) m m log log
+none_made after base at [] m log none = record { bytes = refl; told = refl; rises = rises_none m m refl }
+none_made after base at (b ∷ bytes) m log none = absurd (omega (arith, none))

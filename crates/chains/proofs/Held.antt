@@ -5,6 +5,7 @@ use Rattle.std.proofs.lemmas.Bool.{true_from_ne_false}
 use Rattle.std.proofs.lemmas.List.{map-append, nil_from_length}
 use Rattle.std.proofs.lemmas.List.Elements.{All-push, filter-append}
 use Rattle.std.proofs.lemmas.List.Sums.{sum_by_push, sum-map}
+use Rattle.guestmem.specs.Address.{IsWithin}
 use Rattle.chains.specs.declared.descriptor.Descriptor.{Descriptor}
 use Rattle.chains.specs.declared.chain.Chain.{Chain}
 use Rattle.chains.specs.PlaceLaws.{length_places_push}
@@ -68,19 +69,19 @@ none_before : (ds : List Descriptor) (d : Descriptor) (rest : List Descriptor) �
 none_before [] d rest h r = refl
 none_before (x ∷ xs) d rest h r = none_here x xs d rest x.is_writable refl h r (none_before xs d rest (order_behind x (xs ++ d ∷ rest) h) r)
 
-sound_more : (len : ℕ) (ds : List Descriptor) (d : Descriptor) → AreSound len ds → d.addr + d.len ≤ len → (d.is_writable ≡ false → writable_of ds ≡ []) → AreSound len (ds ++ d ∷ [])
-sound_more len ds d s inside after = record {
-  inside = All-push (λ (x : Descriptor). x.addr + x.len ≤ len) ds d s.inside inside;
+sound_more : (base len : ℕ) (ds : List Descriptor) (d : Descriptor) → AreSound base len ds → IsWithin base len d.addr d.len → (d.is_writable ≡ false → writable_of ds ≡ []) → AreSound base len (ds ++ d ∷ [])
+sound_more base len ds d s inside after = record {
+  inside = All-push (λ (x : Descriptor). IsWithin base len x.addr x.len) ds d s.inside inside;
   in_order = λ k e below w. order_more ds d s.in_order after k e below w;
 }
 
 -- A writable descriptor more.
-pub held_writable : (len : ℕ) (ds : List Descriptor) (d : Descriptor) (old new : Chain) → AreHeld len ds old → d.addr + d.len ≤ len → d.is_writable ≡ true
-    → new.readable ≡ old.readable → new.writable ≡ old.writable ++ segment d ∷ [] → AreHeld len (ds ++ d ∷ []) new
-held_writable len ds d old new h inside is readable writable =
+pub held_writable : (base len : ℕ) (ds : List Descriptor) (d : Descriptor) (old new : Chain) → AreHeld base len ds old → IsWithin base len d.addr d.len → d.is_writable ≡ true
+    → new.readable ≡ old.readable → new.writable ≡ old.writable ++ segment d ∷ [] → AreHeld base len (ds ++ d ∷ []) new
+held_writable base len ds d old new h inside is readable writable =
     let push = length_places_push old.writable (segment d) in
     record {
-      sound = sound_more len ds d h.sound inside (λ r. absurd (cc));
+      sound = sound_more base len ds d h.sound inside (λ r. absurd (cc));
       readable = readable ∙ h.readable ∙ rw (readable_push, is, append-nil) refl;
       writable = writable ∙ rw (writable_push, is, h.writable) refl;
       count = rw (readable, writable) (omega (arith, length-append old.writable (segment d ∷ []), length-append ds (d ∷ []), h.count));
@@ -88,12 +89,12 @@ held_writable len ds d old new h inside is readable writable =
     }
 
 -- A readable one more, where there are none to write.
-pub held_readable : (len : ℕ) (ds : List Descriptor) (d : Descriptor) (old new : Chain) → AreHeld len ds old → d.addr + d.len ≤ len → d.is_writable ≡ false → length old.writable ≡ 0
-    → new.readable ≡ old.readable ++ segment d ∷ [] → new.writable ≡ old.writable → AreHeld len (ds ++ d ∷ []) new
-held_readable len ds d old new h inside is none readable writable =
+pub held_readable : (base len : ℕ) (ds : List Descriptor) (d : Descriptor) (old new : Chain) → AreHeld base len ds old → IsWithin base len d.addr d.len → d.is_writable ≡ false → length old.writable ≡ 0
+    → new.readable ≡ old.readable ++ segment d ∷ [] → new.writable ≡ old.writable → AreHeld base len (ds ++ d ∷ []) new
+held_readable base len ds d old new h inside is none readable writable =
     let push = length_places_push old.readable (segment d) in
     record {
-      sound = sound_more len ds d h.sound inside (λ r. sym h.writable ∙ nil_from_length old.writable none);
+      sound = sound_more base len ds d h.sound inside (λ r. sym h.writable ∙ nil_from_length old.writable none);
       readable = readable ∙ rw (readable_push, is, h.readable) refl;
       writable = writable ∙ h.writable ∙ rw (writable_push, is, append-nil) refl;
       count = rw (readable, writable) (omega (arith, length-append old.readable (segment d ∷ []), length-append ds (d ∷ []), h.count));
@@ -101,6 +102,6 @@ held_readable len ds d old new h inside is none readable writable =
     }
 
 -- What begins with a readable descriptor behind one to write breaks a rule.
-pub out_of_order : (len : ℕ) (ds : List Descriptor) (d : Descriptor) (old : Chain) → AreHeld len ds old → d.is_writable ≡ false → (length old.writable ≡ 0 → ⊥)
-    → (rest : List Descriptor) → AreSound len (ds ++ d ∷ rest) → ⊥
-out_of_order len ds d old h is some rest s = some (ap length (h.writable ∙ none_before ds d rest s.in_order is))
+pub out_of_order : (base len : ℕ) (ds : List Descriptor) (d : Descriptor) (old : Chain) → AreHeld base len ds old → d.is_writable ≡ false → (length old.writable ≡ 0 → ⊥)
+    → (rest : List Descriptor) → AreSound base len (ds ++ d ∷ rest) → ⊥
+out_of_order base len ds d old h is some rest s = some (ap length (h.writable ∙ none_before ds d rest s.in_order is))

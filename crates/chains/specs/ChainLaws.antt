@@ -5,6 +5,7 @@ use Rattle.std.proofs.lemmas.List.Elements.{All-filter, All-map}
 use Rattle.std.proofs.lemmas.List.Filters.{length-filter_both}
 use Rattle.std.proofs.lemmas.List.Sums.{sum_by-cons, sum-map}
 use Rattle.std.proofs.lemmas.List.{length-map}
+use Rattle.guestmem.specs.Address.{IsWithin, index_of}
 use Rattle.chains.specs.declared.descriptor.Descriptor.{Descriptor}
 use Rattle.chains.specs.declared.chain.Chain.{Chain}
 use Rattle.chains.specs.declared.next.Next.{Next}
@@ -68,8 +69,8 @@ pub length_entries : (ram : List ℕ) (table index count : ℕ) → length (entr
 length_entries ram table index zero = refl
 length_entries ram table index (suc count) = ap suc (length_entries ram table (index + 1) count)
 
-inside_of : (len : ℕ) (p : Descriptor → Bool) (ds : List Descriptor) → All (λ d. d.addr + d.len ≤ len) ds → AreSegmentsInside len (map segment (filter p ds))
-inside_of len p ds h = All-map (λ (s : Seg). s.addr + s.len ≤ len) segment (filter p ds) (All-filter p (λ (d : Descriptor). d.addr + d.len ≤ len) ds h)
+inside_of : (base len : ℕ) (p : Descriptor → Bool) (ds : List Descriptor) → All (λ d. IsWithin base len d.addr d.len) ds → AreSegmentsInside base len (map segment (filter p ds))
+inside_of base len p ds h = All-map (λ (s : Seg). IsWithin base len s.addr s.len) segment (filter p ds) (All-filter p (λ (d : Descriptor). IsWithin base len d.addr d.len) ds h)
 
 few_of : (ds : List Descriptor) → length (readable_of ds) + length (writable_of ds) ≡ length ds
 few_of ds =
@@ -79,24 +80,24 @@ few_of ds =
     omega arith
 
 -- The segments of descriptors that keep the rules.
-record AreBounded (ram : List ℕ) (size : ℕ) (ds : List Descriptor) : Type 0 where
+record AreBounded (base : ℕ) (ram : List ℕ) (size : ℕ) (ds : List Descriptor) : Type 0 where
   few : length (readable_of ds) + length (writable_of ds) ≤ size
-  readable : AreSegmentsInside (length ram) (readable_of ds)
-  writable : AreSegmentsInside (length ram) (writable_of ds)
+  readable : AreSegmentsInside base (length ram) (readable_of ds)
+  writable : AreSegmentsInside base (length ram) (writable_of ds)
   total : length (places (readable_of ds)) + length (places (writable_of ds)) < 2 ^ 32
 
-bounded_of : (ram : List ℕ) (size : ℕ) (ds : List Descriptor) → IsWhole ram size ds → AreBounded ram size ds
-bounded_of ram size ds w = record {
+bounded_of : (base : ℕ) (ram : List ℕ) (size : ℕ) (ds : List Descriptor) → IsWhole base ram size ds → AreBounded base ram size ds
+bounded_of base ram size ds w = record {
   few = omega (arith, few_of ds, w.few);
-  readable = inside_of (length ram) (λ d. not d.is_writable) ds w.inside;
-  writable = inside_of (length ram) (λ d. d.is_writable) ds w.inside;
+  readable = inside_of base (length ram) (λ d. not d.is_writable) ds w.inside;
+  writable = inside_of base (length ram) (λ d. d.is_writable) ds w.inside;
   total = let e = sum-map (λ (d : Descriptor). d.len) ds in omega (arith, total_of ds, w.total);
 }
 
 -- Every chain of a split queue keeps the bounds.
 pub split_bounded : (ram : List ℕ) (q : RingState) (c : Chain) → q.is_packed ≡ false → IsSplitChain ram q c → IsBounded (length ram) q c
 split_bounded ram q c layout s =
-    let b = bounded_of ram q.size s.all s.whole in
+    let b = bounded_of q.base ram q.size s.all s.whole in
     let first : head ram q < q.size = head_below ram q.descriptors q.size (head ram q) s.direct s.linked in
     rw s.is (record {
       some = omega arith;
@@ -108,20 +109,20 @@ split_bounded ram q c layout s =
       total = b.total;
     })
 
-slots_by : (ram : List ℕ) (size : ℕ) (has_indirect named : Bool) (front : List Descriptor) (last : Descriptor) (all : List Descriptor)
-    → MatchBool named ((has_indirect ≡ true) × IsPackedTable ram front last all) (all ≡ front ++ last ∷ []) → length all ≤ size → length front + 1 ≤ size
-slots_by ram size has_indirect true front last all (p, t) few =
+slots_by : (base : ℕ) (ram : List ℕ) (size : ℕ) (has_indirect named : Bool) (front : List Descriptor) (last : Descriptor) (all : List Descriptor)
+    → MatchBool named ((has_indirect ≡ true) × IsPackedTable base ram front last all) (all ≡ front ++ last ∷ []) → length all ≤ size → length front + 1 ≤ size
+slots_by base ram size has_indirect true front last all (p, t) few =
     let some : 1 ≤ last.len / 16 = omega (arith, t.table.some, t.table.whole) in
-    let many : length all ≡ last.len / 16 = rw t.entries (length_entries ram last.addr 0 (last.len / 16)) in
+    let many : length all ≡ last.len / 16 = rw t.entries (length_entries ram (index_of base last.addr) 0 (last.len / 16)) in
     let alone : length front ≡ 0 = ap length t.alone in
     omega arith
-slots_by ram size has_indirect false front last all e few = omega (arith, ap length e, length-append front (last ∷ []))
+slots_by base ram size has_indirect false front last all e few = omega (arith, ap length e, length-append front (last ∷ []))
 
 -- Every chain of a packed queue keeps the bounds.
 pub packed_bounded : (ram : List ℕ) (q : RingState) (c : Chain) → q.is_packed ≡ true → IsPackedChain ram q c → IsBounded (length ram) q c
 packed_bounded ram q c layout s =
-    let b = bounded_of ram q.size s.all s.whole in
-    let slots = slots_by ram q.size q.has_indirect s.last.is_indirect s.front s.last s.all s.list.replaced s.whole.few in
+    let b = bounded_of q.base ram q.size s.all s.whole in
+    let slots = slots_by q.base ram q.size q.has_indirect s.last.is_indirect s.front s.last s.all s.list.replaced s.whole.few in
     rw s.is (record {
       some = omega arith;
       slots = slots;

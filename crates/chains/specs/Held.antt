@@ -1,4 +1,5 @@
 use Rattle.std.specs.Prelude.{◌≡◌, ℕ, ◌+◌, ◌<◌, ◌≤◌, ◌^◌, [], ◌∷◌, List, length, ◌++◌, All, map, sum}
+use Rattle.guestmem.specs.Address.{IsWithin}
 use Rattle.chains.specs.declared.descriptor.Descriptor.{Descriptor}
 use Rattle.chains.specs.declared.chain.Chain.{Chain}
 use Rattle.chains.specs.declared.limits.TheConstants.{SHORT_CHAIN_MAX}
@@ -8,9 +9,9 @@ use Rattle.chains.specs.Places.{places}
 use Rattle.chains.specs.Whole.{IsInOrder, readable_of, writable_of}
 
 -- The rules of both layouts that are seen while descriptors are gathered one by one: each buffer lies inside a RAM of `len`
--- bytes, and the readable ones come first. How many they are, and how many bytes they have, is seen at the end.
-pub record AreSound (len : ℕ) (ds : List Descriptor) : Type 0 where
-  pub inside : All (λ d. d.addr + d.len ≤ len) ds
+-- bytes with this base, and the readable ones come first. How many they are, and how many bytes they have, is seen at the end.
+pub record AreSound (base len : ℕ) (ds : List Descriptor) : Type 0 where
+  pub inside : All (λ d. IsWithin base len d.addr d.len) ds
   pub in_order : IsInOrder ds
 
 -- The number of segments of a chain.
@@ -22,8 +23,8 @@ abbrev pub byte_count : Chain → ℕ
 byte_count c = length (places c.readable) + length (places c.writable)
 
 -- The segments of a chain are the buffers of these descriptors, which keep those rules.
-pub record AreHeld (len : ℕ) (ds : List Descriptor) (c : Chain) : Type 0 where
-  pub sound : AreSound len ds
+pub record AreHeld (base len : ℕ) (ds : List Descriptor) (c : Chain) : Type 0 where
+  pub sound : AreSound base len ds
   pub readable : c.readable ≡ readable_of ds
   pub writable : c.writable ≡ writable_of ds
   pub count : segment_count c ≡ length ds
@@ -31,10 +32,10 @@ pub record AreHeld (len : ℕ) (ds : List Descriptor) (c : Chain) : Type 0 where
 
 -- What it gives to add the buffer of `d` to the segments of `ds`, by the chain that it is added to: they are the segments of
 -- both; or whatever begins with both breaks a rule; or memory was refused, and `ds` are as many as are handled without it.
-abbrev pub AddGives : ℕ → List Descriptor → Descriptor → Chain → Walked → Type 0
-AddGives len ds d c Listed = AreHeld len (ds ++ d ∷ []) c
-AddGives len ds d c Missing = (rest : List Descriptor) → AreSound len (ds ++ d ∷ rest) → ⊥
-AddGives len ds d c NoMemory = SHORT_CHAIN_MAX ≤ length ds
+abbrev pub AddGives : ℕ → ℕ → List Descriptor → Descriptor → Chain → Walked → Type 0
+AddGives base len ds d c Listed = AreHeld base len (ds ++ d ∷ []) c
+AddGives base len ds d c Missing = (rest : List Descriptor) → AreSound base len (ds ++ d ∷ rest) → ⊥
+AddGives base len ds d c NoMemory = SHORT_CHAIN_MAX ≤ length ds
 
 -- What the last test of a chain gives, of all its bytes.
 abbrev pub EndGives : Chain → Walked → Type 0

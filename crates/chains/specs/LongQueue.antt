@@ -1,5 +1,6 @@
 use Rattle.std.specs.Prelude.{◌≡◌, ℕ, ◌+◌, ◌/◌, ◌%◌, ◌<◌, ◌≤◌, ◌++◌, [], ◌∷◌, List, length, true, false, ◌⊎◌}
 use Rattle.std.specs.Bool.{MatchBool}
+use Rattle.guestmem.specs.Address.{index_of}
 use Rattle.chains.specs.declared.descriptor.Descriptor.{Descriptor}
 use Rattle.chains.specs.declared.descriptor.TheConstants.{DESCRIPTOR_SIZE}
 use Rattle.chains.specs.declared.limits.TheConstants.{SHORT_CHAIN_MAX}
@@ -28,8 +29,8 @@ pub record IsRowIntoTable (ram : List ℕ) (q : RingState) (row : List Descripto
   pub plain : ArePlain front
   pub feature : q.has_indirect ≡ true
   pub named : last.is_indirect ≡ true
-  pub table : IsTable ram last
-  pub in_row : AreInRow ram last.addr (last.len / DESCRIPTOR_SIZE) 0 inner
+  pub table : IsTable q.base ram last
+  pub in_row : AreInRow ram (index_of q.base last.addr) (last.len / DESCRIPTOR_SIZE) 0 inner
   pub parts : row ≡ front ++ inner
 
 -- A row at the taking position of a split queue.
@@ -49,8 +50,8 @@ pub record IsRowOfTable (ram : List ℕ) (q : RingState) (d : Descriptor) (row :
   pub feature : q.has_indirect ≡ true
   pub named : d.is_indirect ≡ true
   pub alone : d.has_next ≡ false
-  pub table : IsTable ram d
-  pub entries : row ≡ entries_from ram d.addr 0 (d.len / DESCRIPTOR_SIZE)
+  pub table : IsTable q.base ram d
+  pub entries : row ≡ entries_from ram (index_of q.base d.addr) 0 (d.len / DESCRIPTOR_SIZE)
 
 -- A row at the taking position of a packed queue.
 abbrev pub IsPackedRow : List ℕ → RingState → List Descriptor → Type 0

@@ -1,5 +1,6 @@
 use Rattle.std.specs.Prelude.{◌≡◌, ◌≢◌, ℕ, zero, suc, ◌+◌, ◌/◌, ◌%◌, ◌++◌, [], ◌∷◌, List, length, Bool, true, false}
 use Rattle.std.specs.Bool.{MatchBool}
+use Rattle.guestmem.specs.Address.{index_of}
 use Rattle.chains.specs.declared.descriptor.Descriptor.{Descriptor}
 use Rattle.chains.specs.declared.descriptor.TheConstants.{DESCRIPTOR_SIZE}
 use Rattle.chains.specs.declared.chain.Chain.{Chain}
@@ -33,17 +34,17 @@ entries_from ram table index (suc count) = descriptor_at true ram table index �
 -- An indirect descriptor is the only one of its chain in the ring, and is replaced by all entries of its table, in order
 -- (VIRTIO 1.2, 2.8.7). Of their flags only WRITE counts. Whether the indirect descriptor itself is writable makes no
 -- difference.
-pub record IsPackedTable (ram : List ℕ) (front : List Descriptor) (last : Descriptor) (all : List Descriptor) : Type 0 where
+pub record IsPackedTable (base : ℕ) (ram : List ℕ) (front : List Descriptor) (last : Descriptor) (all : List Descriptor) : Type 0 where
   pub alone : front ≡ []
-  pub table : IsTable ram last
-  pub entries : all ≡ entries_from ram last.addr 0 (last.len / DESCRIPTOR_SIZE)
+  pub table : IsTable base ram last
+  pub entries : all ≡ entries_from ram (index_of base last.addr) 0 (last.len / DESCRIPTOR_SIZE)
 
 -- `front` and `last` are the descriptors of the slots at the taking position (VIRTIO 1.2, 2.8.5). `all` is that list; or,
 -- if the last one is indirect, which needs the feature INDIRECT_DESC, the entries of its table.
 pub record IsPackedList (ram : List ℕ) (q : RingState) (front : List Descriptor) (last : Descriptor) (all : List Descriptor) : Type 0 where
   pub consecutive : AreConsecutive ram q.descriptors q.size q.taking.place (front ++ last ∷ [])
   pub plain : ArePlain front
-  pub replaced : MatchBool last.is_indirect ((q.has_indirect ≡ true) × IsPackedTable ram front last all) (all ≡ front ++ last ∷ [])
+  pub replaced : MatchBool last.is_indirect ((q.has_indirect ≡ true) × IsPackedTable q.base ram front last all) (all ≡ front ++ last ∷ [])
 
 -- The chain at the taking position of a packed queue (VIRTIO 1.2, 2.8). The id is that of the last descriptor of its
 -- slots.
@@ -52,5 +53,5 @@ pub record IsPackedChain (ram : List ℕ) (q : RingState) (c : Chain) : Type 0 w
   pub last : Descriptor
   pub all : List Descriptor
   pub list : IsPackedList ram q front last all
-  pub whole : IsWhole ram q.size all
+  pub whole : IsWhole q.base ram q.size all
   pub is : c ≡ record { id = last.id; slots = length front + 1; readable = readable_of all; writable = writable_of all }

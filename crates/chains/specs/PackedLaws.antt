@@ -26,11 +26,11 @@ consecutive_same ram table size slot (d ∷ d' ∷ ds) (e ∷ e' ∷ es) h k =
     let rest : d' ∷ ds ≡ e' ∷ es = consecutive_same ram table size ((slot + 1) % size) (d' ∷ ds) (e' ∷ es) h.2 k.2 in
     rw (x, rest) refl
 
-replaced_by : (ram : List ℕ) (has_indirect named : Bool) (front : List Descriptor) (last : Descriptor) (all more : List Descriptor)
-    → MatchBool named ((has_indirect ≡ true) × IsPackedTable ram front last all) (all ≡ front ++ last ∷ [])
-    → MatchBool named ((has_indirect ≡ true) × IsPackedTable ram front last more) (more ≡ front ++ last ∷ []) → all ≡ more
-replaced_by ram has_indirect true front last all more (p, t) (p', u) = t.entries ∙ sym u.entries
-replaced_by ram has_indirect false front last all more t u = t ∙ sym u
+replaced_by : (base : ℕ) (ram : List ℕ) (has_indirect named : Bool) (front : List Descriptor) (last : Descriptor) (all more : List Descriptor)
+    → MatchBool named ((has_indirect ≡ true) × IsPackedTable base ram front last all) (all ≡ front ++ last ∷ [])
+    → MatchBool named ((has_indirect ≡ true) × IsPackedTable base ram front last more) (more ≡ front ++ last ∷ []) → all ≡ more
+replaced_by base ram has_indirect true front last all more (p, t) (p', u) = t.entries ∙ sym u.entries
+replaced_by base ram has_indirect false front last all more t u = t ∙ sym u
 
 -- At most one list of descriptors is at the taking position.
 pub packed_list_same : (ram : List ℕ) (q : RingState) (front front' : List Descriptor) (last last' : Descriptor) (all all' : List Descriptor)
@@ -39,7 +39,7 @@ packed_list_same ram q front front' last last' all all' l k =
     let joined : front ++ last ∷ [] ≡ front' ++ last' ∷ [] =
     consecutive_same ram q.descriptors q.size q.taking.place (front ++ last ∷ []) (front' ++ last' ∷ []) l.consecutive k.consecutive in
     let (fronts, lasts) = same_from_push front front' last last' joined in
-    (fronts, lasts, replaced_by ram q.has_indirect last'.is_indirect front' last' all all' (rw (lasts, fronts) at l.replaced) k.replaced)
+    (fronts, lasts, replaced_by q.base ram q.has_indirect last'.is_indirect front' last' all all' (rw (lasts, fronts) at l.replaced) k.replaced)
 
 chain_of : List Descriptor → Descriptor → List Descriptor → Chain
 chain_of front last all = record { id = last.id; slots = length front + 1; readable = readable_of all; writable = writable_of all }

@@ -2,6 +2,7 @@ use Rattle.std.specs.Prelude.{◌≡◌, ℕ, zero, suc, ◌+◌, ◌≤◌, ◌
 use Rattle.std.proofs.Common.{ap, sym, arith, length-append, append_assoc, add-zero, zero-add}
 use Rattle.std.proofs.lemmas.List.{drop_more}
 use Rattle.std.proofs.lemmas.List.Sums.{sum_by-cons}
+use Rattle.guestmem.specs.Address.{index_of}
 use Rattle.guestmem.specs.Writes.{Write, byte_writes}
 use Rattle.chains.specs.declared.segs.Seg.{Seg}
 use Rattle.chains.specs.Places.{addresses, places, read_places, place_writes}
@@ -41,32 +42,35 @@ length_places (seg ∷ segs) =
     omega (arith, length_places segs)
 
 -- Reading consecutive addresses, inside RAM, is reading one contiguous run of bytes.
-pub read_addresses : (ram : List ℕ) (address count : ℕ) → address + count ≤ length ram → read_places ram (addresses address count) ≡ take count (drop address ram)
-read_addresses ram address zero inside = refl
-read_addresses ram address (suc count) inside =
-    let here : address < length ram = omega arith in
-    let more = read_addresses ram (address + 1) count (omega arith) in
-    rw (drop_more ram address 0 here, more) refl
+pub read_addresses : (base : ℕ) (ram : List ℕ) (address count : ℕ) → base ≤ address → address + count ≤ base + length ram → read_places base ram (addresses address count) ≡ take count (drop (index_of base address) ram)
+read_addresses base ram address zero above inside = refl
+read_addresses base ram address (suc count) above inside =
+    let here : index_of base address < length ram = omega arith in
+    let next : index_of base (address + 1) ≡ index_of base address + 1 = omega arith in
+    let more = read_addresses base ram (address + 1) count (omega arith) (omega arith) in
+    rw (drop_more ram (index_of base address) 0 here, more, next) refl
 
 -- Writing bytes uses no more places than there are bytes.
-pub place_writes_take : (at bytes : List ℕ) → place_writes (take (length bytes) at) bytes ≡ place_writes at bytes
-place_writes_take [] [] = refl
-place_writes_take [] (byte ∷ bytes) = refl
-place_writes_take (place ∷ at) [] = refl
-place_writes_take (place ∷ at) (byte ∷ bytes) = ap (λ (ws : List Write). record { address = place; byte = byte } ∷ ws) (place_writes_take at bytes)
+pub place_writes_take : (base : ℕ) (at bytes : List ℕ) → place_writes base (take (length bytes) at) bytes ≡ place_writes base at bytes
+place_writes_take base [] [] = refl
+place_writes_take base [] (byte ∷ bytes) = refl
+place_writes_take base (place ∷ at) [] = refl
+place_writes_take base (place ∷ at) (byte ∷ bytes) = ap (λ (ws : List Write). record { address = index_of base place; byte = byte } ∷ ws) (place_writes_take base at bytes)
 
-pub no_bytes : (at : List ℕ) → place_writes at [] ≡ []
-no_bytes [] = refl
-no_bytes (place ∷ at) = refl
+pub no_bytes : (base : ℕ) (at : List ℕ) → place_writes base at [] ≡ []
+no_bytes base [] = refl
+no_bytes base (place ∷ at) = refl
 
 -- Bytes that are written to consecutive addresses are one run of writes; the bytes that are left go to the places that
 -- follow.
-pub run_writes : (address count : ℕ) (at front back : List ℕ) → length front ≤ count → (length front < count → back ≡ [])
-    → place_writes (addresses address count ++ at) (front ++ back) ≡ byte_writes address front ++ place_writes at back
-run_writes address zero at [] back few none = refl
-run_writes address zero at (b ∷ front) back few none = absurd (omega arith)
-run_writes address (suc count) at [] back few none =
+pub run_writes : (base address count : ℕ) (at front back : List ℕ) → base ≤ address → length front ≤ count → (length front < count → back ≡ [])
+    → place_writes base (addresses address count ++ at) (front ++ back) ≡ byte_writes (index_of base address) front ++ place_writes base at back
+run_writes base address zero at [] back above few none = refl
+run_writes base address zero at (b ∷ front) back above few none = absurd (omega arith)
+run_writes base address (suc count) at [] back above few none =
     let e : back ≡ [] = none (omega arith) in
-    rw (e, no_bytes at) refl
-run_writes address (suc count) at (b ∷ front) back few none =
-    ap (λ (ws : List Write). record { address = address; byte = b } ∷ ws) (run_writes (address + 1) count at front back (omega arith) (λ h. none (omega arith)))
+    rw (e, no_bytes base at) refl
+run_writes base address (suc count) at (b ∷ front) back above few none =
+    let next : index_of base (address + 1) ≡ index_of base address + 1 = omega arith in
+    let more = run_writes base (address + 1) count at front back (omega arith) (omega arith) (λ h. none (omega arith)) in
+    ap (λ (ws : List Write). record { address = index_of base address; byte = b } ∷ ws) (rw next at more)

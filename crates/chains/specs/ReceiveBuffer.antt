@@ -11,5 +11,5 @@ use Rattle.chains.specs.declared.chain.Chain.{Chain}
 -- its used length, as written into if there are any.
 abbrev pub filled : RingState → Chain → List ℕ → List Write
 filled q c bytes =
-    place_writes (places c.writable) bytes
+    place_writes q.base (places c.writable) bytes
     ++ published (after_take q c.slots) c.id c.slots (length bytes) (nat_lt 0 (length bytes))

@@ -31,8 +31,8 @@ pub record IsBounded (len : ℕ) (q : RingState) (c : Chain) : Type 0 where
   pub slots : c.slots ≤ q.size
   pub id : MatchBool q.is_packed (Unit {0}) ((c.slots ≡ 1) × (c.id < q.size))
   pub few : length c.readable + length c.writable ≤ q.size
-  pub readable : AreSegmentsInside len c.readable
-  pub writable : AreSegmentsInside len c.writable
+  pub readable : AreSegmentsInside q.base len c.readable
+  pub writable : AreSegmentsInside q.base len c.writable
   pub total : length (places c.readable) + length (places c.writable) < 2 ^ 32
 
 -- If this is a chain, it keeps these bounds.

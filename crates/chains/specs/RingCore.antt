@@ -6,6 +6,7 @@ use Rattle.chains.specs.State.{RingState, has_bit}
 -- The model of a ring of this layout, by the fields of its core.
 abbrev pub core_state : Bool → RingCore → RingState
 core_state is_packed core = record {
+  base = core.base;
   is_packed = is_packed;
   has_indirect = has_bit core.features INDIRECT_DESC;
   has_event_index = has_bit core.features EVENT_IDX;

@@ -1,5 +1,6 @@
 use Rattle.std.specs.Prelude.{◌≡◌, ℕ, ◌+◌, ◌-◌, ◌*◌, ◌/◌, ◌%◌, ◌<◌, ◌≤◌, ◌++◌, [], ◌∷◌, List, Bool, true, false}
 use Rattle.std.specs.Bool.{MatchBool}
+use Rattle.guestmem.specs.Address.{index_of}
 use Rattle.guestmem.specs.Number.{number_at}
 use Rattle.chains.specs.declared.descriptor.Descriptor.{Descriptor}
 use Rattle.chains.specs.declared.descriptor.TheConstants.{DESCRIPTOR_SIZE}
@@ -34,22 +35,22 @@ AreLinked ram table entries index (d ∷ e ∷ ds) =
 
 -- `all` is `front`, followed by the list that begins at entry 0 of the table that `last` names. No entry of that list is
 -- indirect. Whether `last` itself is writable makes no difference.
-pub record IsFromTable (ram : List ℕ) (front : List Descriptor) (last : Descriptor) (all : List Descriptor) : Type 0 where
-  pub table : IsTable ram last
+pub record IsFromTable (base : ℕ) (ram : List ℕ) (front : List Descriptor) (last : Descriptor) (all : List Descriptor) : Type 0 where
+  pub table : IsTable base ram last
   pub inner : List Descriptor
-  pub linked : AreLinked ram last.addr (last.len / DESCRIPTOR_SIZE) 0 inner
+  pub linked : AreLinked ram (index_of base last.addr) (last.len / DESCRIPTOR_SIZE) 0 inner
   pub plain : ArePlain inner
   pub parts : all ≡ front ++ inner
 
 -- `all` is `direct`, except that its last descriptor, if it is indirect, which needs the feature INDIRECT_DESC, is replaced
 -- by the list of its table (VIRTIO 1.2, 2.7.5.3). Only the last one may be indirect: any other would be indirect and have
 -- NEXT.
-pub record IsReplaced (ram : List ℕ) (has_indirect : Bool) (direct all : List Descriptor) : Type 0 where
+pub record IsReplaced (base : ℕ) (ram : List ℕ) (has_indirect : Bool) (direct all : List Descriptor) : Type 0 where
   pub front : List Descriptor
   pub last : Descriptor
   pub parts : direct ≡ front ++ last ∷ []
   pub plain : ArePlain front
-  pub whole : MatchBool last.is_indirect ((has_indirect ≡ true) × IsFromTable ram front last all) (all ≡ direct)
+  pub whole : MatchBool last.is_indirect ((has_indirect ≡ true) × IsFromTable base ram front last all) (all ≡ direct)
 
 -- The chain at the taking position of a split queue (VIRTIO 1.2, 2.7): `direct` is the list of descriptors from the head
 -- on, and `all` is that list with an indirect descriptor replaced by its table.
@@ -58,6 +59,6 @@ pub record IsSplitChain (ram : List ℕ) (q : RingState) (c : Chain) : Type 0 wh
   pub all : List Descriptor
   pub available : waiting ram q ≤ q.size
   pub linked : AreLinked ram q.descriptors q.size (head ram q) direct
-  pub replaced : IsReplaced ram q.has_indirect direct all
-  pub whole : IsWhole ram q.size all
+  pub replaced : IsReplaced q.base ram q.has_indirect direct all
+  pub whole : IsWhole q.base ram q.size all
   pub is : c ≡ record { id = head ram q; slots = 1; readable = readable_of all; writable = writable_of all }

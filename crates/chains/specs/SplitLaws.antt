@@ -2,6 +2,7 @@ use Rattle.std.specs.Prelude.{◌≡◌, ℕ, ◌≤◌, ◌/◌, List, [], ◌�
 use Rattle.std.proofs.Common.{ap, sym, ◌∙◌, arith}
 use Rattle.std.specs.Bool.{MatchBool}
 use Rattle.std.proofs.lemmas.List.{same_from_push}
+use Rattle.guestmem.specs.Address.{index_of}
 use Rattle.chains.specs.declared.descriptor.Descriptor.{Descriptor}
 use Rattle.chains.specs.declared.chain.Chain.{Chain}
 use Rattle.chains.specs.State.{RingState}
@@ -32,24 +33,24 @@ pub linked_some : (ram : List ℕ) (table entries index : ℕ) (ds : List Descri
 linked_some ram table entries index [] h = absurd h
 linked_some ram table entries index (d ∷ ds) h = omega arith
 
-replaced_by : (ram : List ℕ) (has_indirect named : Bool) (direct all more front : List Descriptor) (last : Descriptor)
-    → MatchBool named ((has_indirect ≡ true) × IsFromTable ram front last all) (all ≡ direct)
-    → MatchBool named ((has_indirect ≡ true) × IsFromTable ram front last more) (more ≡ direct) → all ≡ more
-replaced_by ram has_indirect true direct all more front last (p, t) (p', u) =
-    let e : t.inner ≡ u.inner = linked_same ram last.addr (last.len / 16) 0 t.inner u.inner t.linked u.linked in
+replaced_by : (base : ℕ) (ram : List ℕ) (has_indirect named : Bool) (direct all more front : List Descriptor) (last : Descriptor)
+    → MatchBool named ((has_indirect ≡ true) × IsFromTable base ram front last all) (all ≡ direct)
+    → MatchBool named ((has_indirect ≡ true) × IsFromTable base ram front last more) (more ≡ direct) → all ≡ more
+replaced_by base ram has_indirect true direct all more front last (p, t) (p', u) =
+    let e : t.inner ≡ u.inner = linked_same ram (index_of base last.addr) (last.len / 16) 0 t.inner u.inner t.linked u.linked in
     t.parts ∙ ap (λ (xs : List Descriptor). front ++ xs) e ∙ sym u.parts
-replaced_by ram has_indirect false direct all more front last t u = t ∙ sym u
+replaced_by base ram has_indirect false direct all more front last t u = t ∙ sym u
 
 -- A list becomes at most one list when its indirect descriptor is replaced by the table.
-pub replaced_same : (ram : List ℕ) (has_indirect : Bool) (direct all more : List Descriptor) → IsReplaced ram has_indirect direct all → IsReplaced ram has_indirect direct more → all ≡ more
-replaced_same ram has_indirect direct all more r s =
+pub replaced_same : (base : ℕ) (ram : List ℕ) (has_indirect : Bool) (direct all more : List Descriptor) → IsReplaced base ram has_indirect direct all → IsReplaced base ram has_indirect direct more → all ≡ more
+replaced_same base ram has_indirect direct all more r s =
     let joined : s.front ++ s.last ∷ [] ≡ r.front ++ r.last ∷ [] = sym s.parts ∙ r.parts in
     let (front, last) = same_from_push s.front r.front s.last r.last joined in
-    replaced_by ram has_indirect r.last.is_indirect direct all more r.front r.last r.whole (rw (last, front) at s.whole)
+    replaced_by base ram has_indirect r.last.is_indirect direct all more r.front r.last r.whole (rw (last, front) at s.whole)
 
 -- A split queue has at most one chain at its taking position.
 pub split_chain_same : (ram : List ℕ) (q : RingState) (c d : Chain) → IsSplitChain ram q c → IsSplitChain ram q d → c ≡ d
 split_chain_same ram q c d s t =
     let direct : t.direct ≡ s.direct = linked_same ram q.descriptors q.size (head ram q) t.direct s.direct t.linked s.linked in
-    let e : s.all ≡ t.all = replaced_same ram q.has_indirect s.direct s.all t.all s.replaced (rw direct at t.replaced) in
+    let e : s.all ≡ t.all = replaced_same q.base ram q.has_indirect s.direct s.all t.all s.replaced (rw direct at t.replaced) in
     s.is ∙ ap (λ (all : List Descriptor). let c' : Chain = record { id = head ram q; slots = 1; readable = readable_of all; writable = writable_of all } in c') e ∙ sym t.is

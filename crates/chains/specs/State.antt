@@ -1,15 +1,17 @@
-use Rattle.std.specs.Prelude.{ℕ, ◌+◌, ◌*◌, ◌<◌, ◌≤◌, ◌==◌, Bool, not, bit_and, if◌then◌else◌}
+use Rattle.std.specs.Prelude.{◌≡◌, ℕ, ◌+◌, ◌%◌, ◌*◌, ◌<◌, ◌≤◌, ◌==◌, Bool, not, bit_and, if◌then◌else◌}
 use Rattle.std.specs.Bool.{MatchBool}
+use Rattle.guestmem.specs.Address.{index_of}
 use Rattle.mmio.specs.declared.queue.Queue.{Queue}
 use Rattle.mmio.specs.declared.constants.TheConstants.{QUEUE_SIZE_MAX, INDIRECT_DESC, EVENT_IDX, RING_PACKED}
 use Rattle.chains.specs.declared.descriptor.TheConstants.{DESCRIPTOR_SIZE}
-use Rattle.mmio.specs.QueueReady.{IsInside}
 use Rattle.chains.specs.declared.position.Position.{Position}
 use Rattle.chains.specs.declared.position.Positions.{Positions}
 
--- The model of a ring: its layout, the features that affect it, the size and the areas of its queue, the position of the
--- next chain to take (`taking`), and the position of the next chain to publish (`used`).
+-- The model of a ring: the base of the RAM that it lies in, its layout, the features that affect it, the size of its queue, the
+-- indexes in RAM of the queue's areas, the position of the next chain to take (`taking`), and the position of the next chain to
+-- publish (`used`).
 pub record RingState : Type 0 where
+  pub base : ℕ
   pub is_packed : Bool
   pub has_indirect : Bool
   pub has_event_index : Bool
@@ -24,16 +26,18 @@ pub record RingState : Type 0 where
 abbrev pub has_bit : ℕ → ℕ → Bool
 has_bit number bit = not (bit_and number bit == 0)
 
--- The ring of a queue with these feature bits (VIRTIO 1.2, 6), at these positions.
-abbrev pub state_of : Queue → ℕ → Positions → RingState
-state_of queue features positions = record {
+-- The ring of a queue with these feature bits (VIRTIO 1.2, 6), in a RAM with this base, at these positions. The driver gives the
+-- areas by their guest-physical addresses.
+abbrev pub state_of : Queue → ℕ → ℕ → Positions → RingState
+state_of queue features base positions = record {
+  base = base;
   is_packed = has_bit features RING_PACKED;
   has_indirect = has_bit features INDIRECT_DESC;
   has_event_index = has_bit features EVENT_IDX;
   size = queue.size;
-  descriptors = queue.descriptors;
-  driver = queue.driver;
-  device = queue.device;
+  descriptors = index_of base queue.descriptors;
+  driver = index_of base queue.driver;
+  device = index_of base queue.device;
   taking = positions.taking;
   used = positions.used;
 }
@@ -58,8 +62,13 @@ device_bytes q = if q.is_packed then 4 else 6 + 8 * q.size
 abbrev pub driver_alignment : RingState → ℕ
 driver_alignment q = if q.is_packed then 4 else 2
 
+-- An area of `bytes` bytes from this index on is aligned to `align`, and lies wholly inside a RAM of `len` bytes.
+pub record IsArea (len at align bytes : ℕ) : Type 0 where
+  pub aligned : at % align ≡ 0
+  pub inside : at + bytes ≤ len
+
 -- The three areas of a queue are aligned (VIRTIO 1.2, 2.7 and 2.8.10.1), and lie inside a RAM of `len` bytes.
 pub record HasAreas (len : ℕ) (q : RingState) : Type 0 where
-  pub descriptors : IsInside len q.descriptors 16 (DESCRIPTOR_SIZE * q.size)
-  pub driver : IsInside len q.driver (driver_alignment q) (driver_bytes q)
-  pub device : IsInside len q.device 4 (device_bytes q)
+  pub descriptors : IsArea len q.descriptors 16 (DESCRIPTOR_SIZE * q.size)
+  pub driver : IsArea len q.driver (driver_alignment q) (driver_bytes q)
+  pub device : IsArea len q.device 4 (device_bytes q)

@@ -37,8 +37,8 @@ abbrev pub is_message : MessageForm → Chain → Bool
 is_message form c = not (nat_lt (length (places c.readable)) form.least) && not (nat_lt form.most (length (places c.readable)))
 
 -- The message: the readable bytes after the header.
-abbrev pub message_of : List ℕ → ℕ → Chain → List ℕ
-message_of ram header c = drop header (read_places ram (places c.readable))
+abbrev pub message_of : ℕ → List ℕ → ℕ → Chain → List ℕ
+message_of base ram header c = drop header (read_places base ram (places c.readable))
 
 -- The chain is published with no byte written into it.
 abbrev pub handed_back : RingState → Chain → List Write
@@ -46,7 +46,7 @@ handed_back q c = published (after_take q c.slots) c.id c.slots 0 false
 
 abbrev pub send : List ℕ → RingState → ℕ → Chain → Transmission
 send ram q header c = record {
-  answer = Sent (message_of ram header c) (is_interrupt_due (after_take q c.slots) c.slots (set_all ram (handed_back q c)));
+  answer = Sent (message_of q.base ram header c) (is_interrupt_due (after_take q c.slots) c.slots (set_all ram (handed_back q c)));
   writes = handed_back q c;
   ring = after_publish (after_take q c.slots) c.slots;
 }

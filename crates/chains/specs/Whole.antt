@@ -1,13 +1,14 @@
 use Rattle.std.specs.Prelude.{◌≡◌, ℕ, ◌+◌, ◌%◌, ◌<◌, ◌≤◌, ◌^◌, List, length, true, false, not, filter, map, sum, All, slice_index_or}
+use Rattle.guestmem.specs.Address.{IsWithin}
 use Rattle.chains.specs.declared.descriptor.Descriptor.{Descriptor}
 use Rattle.chains.specs.declared.descriptor.TheConstants.{DESCRIPTOR_SIZE}
 use Rattle.chains.specs.declared.segs.Seg.{Seg}
 
 -- A table that an indirect descriptor names (VIRTIO 1.2, 2.7.5.3 and 2.8.7): one or more whole entries, inside RAM.
-pub record IsTable (ram : List ℕ) (d : Descriptor) : Type 0 where
+pub record IsTable (base : ℕ) (ram : List ℕ) (d : Descriptor) : Type 0 where
   pub some : 0 < d.len
   pub whole : d.len % DESCRIPTOR_SIZE ≡ 0
-  pub inside : d.addr + d.len ≤ length ram
+  pub inside : IsWithin base (length ram) d.addr d.len
 
 -- None of the descriptors is indirect.
 abbrev pub ArePlain : List Descriptor → Type 0
@@ -20,9 +21,9 @@ IsInOrder ds = (k : ℕ) (d : Descriptor) → k + 1 < length ds → (slice_index
 -- The rules for the descriptors of a chain in a ring of `size` slots, after an indirect descriptor was replaced by its
 -- table: there are no more than slots, each buffer lies inside RAM (an empty one may lie at its end), the readable ones
 -- come first, and there are fewer than 2^32 bytes in all (VIRTIO 1.2, 2.7.5 allows one more byte).
-pub record IsWhole (ram : List ℕ) (size : ℕ) (ds : List Descriptor) : Type 0 where
+pub record IsWhole (base : ℕ) (ram : List ℕ) (size : ℕ) (ds : List Descriptor) : Type 0 where
   pub few : length ds ≤ size
-  pub inside : All (λ d. d.addr + d.len ≤ length ram) ds
+  pub inside : All (λ d. IsWithin base (length ram) d.addr d.len) ds
   pub in_order : IsInOrder ds
   pub total : sum (map (λ d. d.len) ds) < 2 ^ 32
 

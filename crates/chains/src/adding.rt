@@ -8,18 +8,19 @@ use crate::chain::Chain;
 use crate::descriptor::Descriptor;
 use crate::segs::Seg;
 use crate::walked::Walked;
+use guestmem::is_within;
 
-/// Adds the buffer of a descriptor to the segments of a chain, in a RAM of `len` bytes. It is not added if it does not lie
+/// Adds the buffer of a descriptor to the segments of a chain, in a RAM of `len` bytes with this base. It is not added if it does not lie
 /// inside RAM, or if it is readable and the chain has writable ones. Memory is refused only where the chain has
 /// `SHORT_CHAIN_MAX` segments or more.
 #[inline(always)]
-pub fn add(descriptor: &Descriptor, len: u64, chain: &mut Chain) -> Walked
+pub fn add(descriptor: &Descriptor, base: u64, len: u64, chain: &mut Chain) -> Walked
     requires few { segment_count chain.old < 2 ^ 32 }
-    ensures gives { (ds : List Descriptor) → AreHeld len ds chain.old → AddGives len ds descriptor.now chain.new result }
+    ensures gives { (ds : List Descriptor) → AreHeld base len ds chain.old → AddGives base len ds descriptor.now chain.new result }
     ensures count { WhereListed result (segment_count chain.new ≡ segment_count chain.old + 1) }
 {
     // A buffer that is not inside RAM.
-    if descriptor.addr > len || descriptor.len as u64 > len - descriptor.addr {
+    if !is_within(base, len, descriptor.addr, descriptor.len as u64) {
         return Walked::Missing;
     }
     let seg = Seg {

@@ -10,17 +10,17 @@ ghost use Rattle.chains.specs.Places.{places, read_places, place_writes, AreSegm
 use crate::segs::Seg;
 use guestmem::{Ram, TouchLog};
 
-/// Fills the buffer with the bytes of the concatenated segments, from offset `at` on. The segments lie inside RAM, and
-/// have at least `at + buf.len()` bytes. It takes no memory.
-pub fn copy_out(ram: &Ram, segs: &[Seg], at: u64, buf: &mut [u8])
-    requires inside { AreSegmentsInside (length ram.now.bytes) segs.now }
+/// Fills the buffer with the bytes of the concatenated segments, from offset `at` on. The segments lie inside RAM, which has
+/// this base, and have at least `at + buf.len()` bytes. It takes no memory.
+pub fn copy_out(ram: &Ram, base: u64, segs: &[Seg], at: u64, buf: &mut [u8])
+    requires inside { AreSegmentsInside base (length ram.now.bytes) segs.now }
     requires room { at + length buf.old ≤ length (places segs.now) }
-    ensures { buf.new ≡ take (length buf.old) (drop at (read_places ram.now.bytes (places segs.now))) }
+    ensures { buf.new ≡ take (length buf.old) (drop at (read_places base ram.now.bytes (places segs.now))) }
 {
     ram.recall();
     // Most messages lie in one segment.
     if at == 0 && !segs.is_empty() && buf.len() <= segs[0].len as usize {
-        ram.get(segs[0].addr, buf);
+        ram.get(segs[0].addr - base, buf);
         return;
     }
     let mut skip = at;
@@ -32,29 +32,36 @@ pub fn copy_out(ram: &Ram, segs: &[Seg], at: u64, buf: &mut [u8])
             continue;
         }
         let count = (buf.len() - filled).min((len - skip) as usize);
-        ram.get(seg.addr + skip, &mut buf[filled..filled + count]);
+        ram.get(seg.addr - base + skip, &mut buf[filled..filled + count]);
         filled += count;
         skip = 0;
     }
 }
 
 /// Writes `bytes` at offset `at` of the concatenated segments. Where segments overlap the later byte wins. The pages of
-/// these bytes are reported to the log. The segments lie inside RAM, and have at least `at + bytes.len()` bytes. It
-/// takes no memory.
+/// these bytes are reported to the log. The segments lie inside RAM, which has this base, and have at least `at + bytes.len()`
+/// bytes. It takes no memory.
 #[inline(always)]
-pub fn copy_in<L: TouchLog>(ram: &mut Ram, segs: &[Seg], at: u64, bytes: &[u8], log: &mut L)
-    requires inside { AreSegmentsInside (length ram.old.bytes) segs.now }
+pub fn copy_in<L: TouchLog>(
+    ram: &mut Ram,
+    base: u64,
+    segs: &[Seg],
+    at: u64,
+    bytes: &[u8],
+    log: &mut L,
+)
+    requires inside { AreSegmentsInside base (length ram.old.bytes) segs.now }
     requires room { at + length bytes.now ≤ length (places segs.now) }
     requires may { MayPages L.may log.old (length ram.old.bytes) }
-    ensures bytes { ram.new.bytes ≡ set_all ram.old.bytes (place_writes (take (length bytes.now) (drop at (places segs.now))) bytes.now) }
-    ensures log { log.new ≡ after_all L.after log.old (touched (place_writes (take (length bytes.now) (drop at (places segs.now))) bytes.now)) }
-    ensures rises { Rises (touched (place_writes (take (length bytes.now) (drop at (places segs.now))) bytes.now)) ram.old ram.new }
+    ensures bytes { ram.new.bytes ≡ set_all ram.old.bytes (place_writes base (take (length bytes.now) (drop at (places segs.now))) bytes.now) }
+    ensures log { log.new ≡ after_all L.after log.old (touched (place_writes base (take (length bytes.now) (drop at (places segs.now))) bytes.now)) }
+    ensures rises { Rises (touched (place_writes base (take (length bytes.now) (drop at (places segs.now))) bytes.now)) ram.old ram.new }
     ensures after { HasServed L.may ram.old ram.new log.new }
 {
     ram.recall();
     // Most messages lie in one segment.
     if at == 0 && !segs.is_empty() && bytes.len() <= segs[0].len as usize {
-        ram.put(segs[0].addr, bytes, log);
+        ram.put(segs[0].addr - base, bytes, log);
         return;
     }
     let mut skip = at;
@@ -67,7 +74,7 @@ pub fn copy_in<L: TouchLog>(ram: &mut Ram, segs: &[Seg], at: u64, bytes: &[u8], 
         }
         let count = rest.len().min((len - skip) as usize);
         let (front, back) = rest.split_at(count);
-        ram.put(seg.addr + skip, front, log);
+        ram.put(seg.addr - base + skip, front, log);
         rest = back;
         skip = 0;
     }

@@ -4,7 +4,7 @@ ghost use Rattle.std.specs.Prelude.{◌≡◌, ◌+◌, ◌≤◌, length, IsTru
 ghost use Rattle.chains.specs.Words.{decoded, words_of};
 
 use crate::flags::{AVAIL, INDIRECT, NEXT, USED, WRITE};
-use guestmem::Ram;
+use guestmem::{Ram, is_within};
 
 /// The bytes of a descriptor in guest memory, in a table of either layout.
 pub const DESCRIPTOR_SIZE: u64 = 16;
@@ -12,7 +12,7 @@ pub const DESCRIPTOR_SIZE: u64 = 16;
 /// One entry of a table of descriptors, decoded.
 #[derive(Clone, Copy, Debug, PartialEq, Eq)]
 pub struct Descriptor {
-    /// The address of the buffer, or of the table that an indirect descriptor names.
+    /// The guest-physical address of the buffer, or of the table that an indirect descriptor names.
     pub addr: u64,
 
     /// The bytes of the buffer or of the table.
@@ -88,13 +88,10 @@ pub(crate) fn decode(is_packed: bool, words: Words) -> Descriptor
 
 ghost use Rattle.chains.specs.Whole.{IsTable};
 
-/// Whether the table that an indirect descriptor names has some whole entries and lies inside RAM.
-pub fn is_table(descriptor: &Descriptor, ram: &Ram) -> bool
-    ensures { IsTrue result ↔ IsTable ram.now.bytes descriptor.now }
+/// Whether the table that an indirect descriptor names has some whole entries and lies inside RAM, which has this base.
+pub fn is_table(descriptor: &Descriptor, base: u64, ram: &Ram) -> bool
+    ensures { IsTrue result ↔ IsTable base ram.now.bytes descriptor.now }
 {
     let len = descriptor.len as u64;
-    len != 0
-        && len % DESCRIPTOR_SIZE == 0
-        && descriptor.addr <= ram.len()
-        && len <= ram.len() - descriptor.addr
+    len != 0 && len % DESCRIPTOR_SIZE == 0 && is_within(base, ram.len(), descriptor.addr, len)
 }

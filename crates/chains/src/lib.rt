@@ -24,8 +24,11 @@
 //!   and the log may name the pages of RAM. Where RAM is written, both stand in one word, `MayServe`, and what every step leaves
 //!   in another, `HasServed`: RAM that is later, and a log that may name its pages still.
 //!
+//! - Descriptors and segments hold guest-physical addresses as the guest wrote them; `base()` says where RAM begins. The areas of a
+//!   queue are indexes in RAM (`specs/State`).
+//!
 //! And on these functions:
-//! - `copy_out` and `copy_in` read and write the bytes of the concatenated segments, from an offset on; where segments overlap the
+//! - `copy_out` and `copy_in` read and write the bytes of the concatenated segments in a RAM with a base, from an offset on; where segments overlap the
 //!   later byte wins; the log takes in exactly the pages written, and the versions of exactly these rise.
 //! - `fill(ring, chain, front, back, ram, log)` gives bytes to a chain: they go to its first writable bytes, and the chain is
 //!   published with their count.
@@ -34,7 +37,7 @@
 //! - `transmit(alloc, ring, form, ram, log)` is `transmit_step` over any `Ring`: it reads the message of the next chain, which a
 //!   `MessageForm` separates from a malformed one, and publishes the chain with nothing written. An error is out of memory, at a long
 //!   chain or where a message waits, and changes nothing.
-//! - `add(descriptor, len, chain)` adds the buffer of a descriptor to a chain that a ring gathers as it walks, with the tests of
+//! - `add(descriptor, base, len, chain)` adds the buffer of a descriptor to a chain that a ring gathers as it walks, with the tests of
 //!   one buffer; `ended(chain)` is the last test, of all bytes together. Both layouts gather by these.
 //! - The module `laws`: a queue has at most one chain, and so one answer; every chain is bounded, whatever the driver wrote; memory
 //!   is taken only at a queue that is not empty.

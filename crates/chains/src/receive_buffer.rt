@@ -37,10 +37,11 @@ pub fn fill<R: Ring, L: TouchLog>(
     ensures state { R.state ring.new ≡ after_publish (after_take (R.state ring.old) chain.now.slots) chain.now.slots }
     ensures due { result ≡ is_interrupt_due (after_take (R.state ring.old) chain.now.slots) chain.now.slots ram.new.bytes }
 {
+    let base = ring.base();
     let segs = chain.writable.as_slice();
-    copy_in(ram, segs, 0, front, log);
+    copy_in(ram, base, segs, 0, front, log);
     if !back.is_empty() {
-        copy_in(ram, segs, front.len() as u64, back, log);
+        copy_in(ram, base, segs, front.len() as u64, back, log);
     }
     ring.take(chain);
     let len = (front.len() + back.len()) as u32;

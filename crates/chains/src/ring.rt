@@ -35,6 +35,10 @@ pub trait Ring {
     /// For the chains that `next` makes.
     fn alloc(&self) -> Global;
 
+    /// The guest-physical address at which RAM begins.
+    fn base(&self) -> u64
+        ensures { result ≡ (state self.now).base };
+
     /// What is at the taking position. The state of the ring stays as it was, so asking again on the same RAM gives the
     /// same answer. A chain, whatever the driver wrote, is bounded: its segments lie inside RAM. The only error is out
     /// of memory, which comes only after more than `SHORT_CHAIN_MAX` descriptors. Whatever RAM holds, it decodes at most one

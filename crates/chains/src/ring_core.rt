@@ -17,16 +17,19 @@ pub struct RingCore {
     /// The features that the driver accepted.
     pub features: u64,
 
+    /// The guest-physical address at which RAM begins.
+    pub base: u64,
+
     /// The number of slots.
     pub size: u16,
 
-    /// The address of the descriptor area.
+    /// The index in RAM of the descriptor area.
     pub descriptors: u64,
 
-    /// The address of the driver area.
+    /// The index in RAM of the driver area.
     pub driver: u64,
 
-    /// The address of the device area.
+    /// The index in RAM of the device area.
     pub device: u64,
 
     /// Where the next chain is taken.
@@ -42,18 +45,26 @@ pub struct RingCore {
 impl RingCore {
     ghost use Rattle.chains.specs.RingCore.{core_state};
 
-    /// Of a queue at these positions, under the features that the driver accepted. It takes no memory.
-    pub fn new(alloc: Global, queue: &Queue, features: u64, positions: Positions) -> RingCore
-        requires { MayRing (state_of queue.now features positions) }
-        ensures { core_state (has_bit features RING_PACKED) result ≡ state_of queue.now features positions }
+    /// Of a queue at these positions, under the features that the driver accepted, in a RAM with this base. It takes no memory.
+    pub fn new(
+        alloc: Global,
+        queue: &Queue,
+        features: u64,
+        base: u64,
+        positions: Positions,
+    ) -> RingCore
+        requires { MayRing (state_of queue.now features base positions) }
+        ensures { core_state (has_bit features RING_PACKED) result ≡ state_of queue.now features base positions }
     {
         RingCore {
             alloc,
             features,
+            base,
             size: queue.size as u16,
-            descriptors: queue.descriptors,
-            driver: queue.driver,
-            device: queue.device,
+            // An area of a ready queue is not below the base.
+            descriptors: queue.descriptors.saturating_sub(base),
+            driver: queue.driver.saturating_sub(base),
+            device: queue.device.saturating_sub(base),
             taking: positions.taking,
             used: positions.used,
         }

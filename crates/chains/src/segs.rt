@@ -12,7 +12,7 @@ use std::marker::Model;
 /// `len` bytes of guest memory, from `addr` on.
 #[derive(Clone, Copy, Debug, Default, PartialEq, Eq)]
 pub struct Seg {
-    /// The address of the first byte.
+    /// The guest-physical address of the first byte.
     pub addr: u64,
 
     /// The number of bytes, which may be 0.

@@ -71,7 +71,7 @@ pub fn transmit<R: Ring, L: TouchLog>(
         NextKind::Empty => Ok(Transmitted::Empty),
         NextKind::Malformed => Ok(Transmitted::Malformed),
         NextKind::Chain => {
-            read_message(form.header, &chain, message, ram)?;
+            read_message(form.header, &chain, message, ring.base(), ram)?;
             let is_due = hand_back(ring, &chain, ram, log);
             Ok(Transmitted::Sent { is_due })
         }
@@ -85,17 +85,18 @@ fn read_message(
     header: u32,
     chain: &Chain,
     message: &mut Vec<u8>,
+    base: u64,
     ram: &Ram,
 ) -> Result<(), NoMemory>
-    requires inside { AreSegmentsInside (length ram.now.bytes) chain.now.readable }
+    requires inside { AreSegmentsInside base (length ram.now.bytes) chain.now.readable }
     requires header { header ≤ length (places chain.now.readable) }
     requires total { length (places chain.now.readable) < 2 ^ 32 }
-    ensures { OnOk result (message.new.items ≡ message_of ram.now.bytes header chain.now) }
+    ensures { OnOk result (message.new.items ≡ message_of base ram.now.bytes header chain.now) }
 {
     let count = chain.readable.total_len() - header as u64;
     message.resize(count as usize, 0)?;
     let segs = chain.readable.as_slice();
-    copy_out(ram, segs, header as u64, message.as_mut_slice());
+    copy_out(ram, base, segs, header as u64, message.as_mut_slice());
     Ok(())
 }
 

@@ -1,3 +1,4 @@
+pub mod Address
 pub mod Arriving
 pub mod ByteLaws
 pub mod Failures
@@ -9,6 +10,7 @@ pub mod Page
 pub mod PageLaws
 pub mod Later
 pub mod LaterLaws
+pub mod Lending
 pub mod Lent
 pub mod Number
 pub mod Rises

@@ -31,7 +31,7 @@
 //! The bytes of a RAM lie in memory of the library (`Ram::new`), or are those of a `region::Region` (`Ram::over`), which are read and
 //! written in place. Every call is the same over both, and none moves the bytes: `place` in `Memory` says where they lie, and a
 //! later RAM has them where the earlier one had. A RAM that is dropped drops the region that it keeps, whose bytes are then as they
-//! were and the caller's again (`KeptRegion::drop`).
+//! were and the caller's again (`KeptRegion`).
 //!
 //! `Ram::lend` hands the region out, with all that was written so far, and keeps the versions as a `ParkedRam` (`specs/Lent`).
 //! `ParkedRam::give_back` makes a RAM of them and of a region of the same length, whatever the caller wrote. The caller names the
@@ -39,6 +39,12 @@
 //! RAM is what the guest would have made of it by writing each of these pages whole (`given_back_is_written`). A page that was written
 //! and not named keeps its version, so a cache or a migration may miss what was written. Neither call reads a byte of RAM or writes
 //! one; giving back takes time for the named pages alone.
+//!
+//! # What a guest-physical address means
+//! A `Ram` numbers its bytes from 0, and so do pages, items and logs. A guest may have its RAM at another address: then an address of
+//! the guest means the byte that is as far behind the first one as the address is behind RAM's base (`specs/Address`). The crates
+//! above name that definition wherever they hold addresses as the guest wrote them; `is_within` is its test, and `access_refusal` says why an
+//! access is refused.
 //!
 //! `is_zero` tells whether a page has zeros alone (`specs/Zeros`).
 //!
@@ -53,11 +59,11 @@
 //! checker, and the lines after it rely on what it says.
 #![tactic(auto)]
 
+mod address;
 mod arriving;
 mod bytes;
 mod error;
 mod fresh;
-mod kept_region;
 pub mod laws;
 mod limits;
 mod log;
@@ -67,6 +73,7 @@ mod storage;
 mod touched;
 mod zero_page;
 
+pub use address::{access_refusal, is_within};
 pub use arriving::ArrivingRam;
 pub use bytes::Bytes;
 pub use error::RamError;

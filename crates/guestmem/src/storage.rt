@@ -1,7 +1,6 @@
 //! Where the bytes of a RAM lie.
 
-use crate::kept_region::KeptRegion;
-use region::Region;
+use region::{KeptRegion, Region};
 use std::marker::Model;
 
 /// Memory of the library, or memory of the caller.
@@ -12,6 +11,26 @@ pub enum Place {
 
     /// It is the caller's.
     Callers(KeptRegion),
+}
+
+impl Place {
+    ghost use Rattle.std.specs.Prelude.{◌≡◌, ◌<◌, length};
+    ghost use Rattle.std.specs.Borrow.{sem};
+    ghost use Rattle.guestmem.specs.Lending.{LendsPlace};
+    ghost use Rattle.guestmem.specs.Storage.{stored_in};
+
+    /// The bytes, of which there are some, to be read and written in place.
+    #[inline(always)]
+    fn as_mut_slice(&mut self) -> &mut [u8]
+        requires { 0 < length (stored_in self.old).bytes }
+        ensures* writes_back { sem 𝓛 (LendsPlace self.entry result) }
+        ensures value { result.now ≡ (stored_in self.old).bytes }
+    {
+        match self {
+            Place::Own(bytes) => bytes.as_mut_slice(),
+            Place::Callers(region) => region.as_mut_slice(),
+        }
+    }
 }
 
 /// The bytes of a RAM, of which there is one at least, wherever they lie.
@@ -87,10 +106,7 @@ impl Storage {
         ensures { self.new ≡ record self.old { bytes = put_at self.old.bytes start bytes.now } }
     {
         let _all = self.len();
-        match &mut self.place {
-            Place::Own(own) => own[start..start + bytes.len()].copy_from_slice(bytes),
-            Place::Callers(region) => region.put(start, bytes),
-        }
+        self.place.as_mut_slice()[start..start + bytes.len()].copy_from_slice(bytes);
     }
 
     /// The region, if the bytes lie in memory of the caller.

@@ -27,7 +27,7 @@ pub record IsAdvancedAt (d : DeviceState) (pick : ℕ) (q : RingState) : Type 0 
   pub some : 0 < pick
   pub below : pick - 1 < length (requests_of d.kind)
   pub ready : queue.is_ready ≡ true
-  pub is : q ≡ state_of queue d.registers.common.features positions
+  pub is : q ≡ state_of queue d.registers.common.features d.registers.ram_base positions
 
 -- A queue with requests is ready.
 ready_by : (b : Bool) (requests : List Request) (k : ℕ) → MatchBool b (Unit {0}) (requests ≡ []) → k < length requests → b ≡ true
@@ -37,13 +37,13 @@ ready_by false requests k h below = let none : length requests ≡ 0 = rw h refl
 kind_ready : (len : ℕ) (r : Registers) (kind : Kind) (queue : Queue) (k : ℕ) → queue_at r 0 ≡ Some queue → IsSoundKind len r kind → k < length (requests_of kind) → queue.is_ready ≡ true
 kind_ready len r (Network mac frames) queue k there sound below = absurd (omega (arith, below))
 kind_ready len r (Block sectors read_only id requests) queue k there sound below =
-    let are : AreRequestsOf len (is_packed_by r.common) queue (with_features sectors read_only id r.common.features) requests = rw there at sound in
+    let are : AreRequestsOf r.ram_base len (is_packed_by r.common) queue (with_features sectors read_only id r.common.features) requests = rw there at sound in
     ready_by queue.is_ready requests k are.where_ready below
 kind_ready len r (Console size held) queue k there sound below = absurd (omega (arith, below))
 kind_ready len r (Entropy pool) queue k there sound below = absurd (omega (arith, below))
 
-advance_if : (len : ℕ) (d : DeviceState) (pick : ℕ) (queue : Queue) (p : Positions) (q : RingState) (b : Bool) → IsSoundDevice len d → advances d pick ≡ b → queue_at d.registers 0 ≡ Some queue → slice_get d.positions 0 ≡ Some p
-    → cond b (Some (state_of queue d.registers.common.features p)) None ≡ Some q → IsAdvancedAt d pick q
+advance_if : {base : ℕ} (len : ℕ) (d : DeviceState) (pick : ℕ) (queue : Queue) (p : Positions) (q : RingState) (b : Bool) → IsSoundDevice base len d → advances d pick ≡ b → queue_at d.registers 0 ≡ Some queue → slice_get d.positions 0 ≡ Some p
+    → cond b (Some (state_of queue d.registers.common.features d.registers.ram_base p)) None ≡ Some q → IsAdvancedAt d pick q
 advance_if len d pick queue p q true sound all there placed is =
     let two = left_of_and _ _ all in
     let below = ltb-true (pick - 1) (length (requests_of d.kind)) (right_of_and _ _ all) in
@@ -55,14 +55,14 @@ advance_if len d pick queue p q true sound all there placed is =
       some = ltb-true 0 pick (right_of_and _ _ two);
       below = below;
       ready = kind_ready len d.registers d.kind queue (pick - 1) there sound.kind below;
-      is = sym (same_some (state_of queue d.registers.common.features p) q is);
+      is = sym (same_some (state_of queue d.registers.common.features d.registers.ram_base p) q is);
     }
 advance_if len d pick queue p q false sound all there placed is = cc
 
-advance_by : (len : ℕ) (d : DeviceState) (pick : ℕ) (queue : Option Queue) (p : Option Positions) (q : RingState) → IsSoundDevice len d → queue_at d.registers 0 ≡ queue → slice_get d.positions 0 ≡ p → advanced_by d pick queue p ≡ Some q → IsAdvancedAt d pick q
+advance_by : {base : ℕ} (len : ℕ) (d : DeviceState) (pick : ℕ) (queue : Option Queue) (p : Option Positions) (q : RingState) → IsSoundDevice base len d → queue_at d.registers 0 ≡ queue → slice_get d.positions 0 ≡ p → advanced_by d pick queue p ≡ Some q → IsAdvancedAt d pick q
 advance_by len d pick None p q sound there placed is = cc
 advance_by len d pick (Some queue) None q sound there placed is = cc
 advance_by len d pick (Some queue) (Some p) q sound there placed is = advance_if len d pick queue p q (advances d pick) sound refl there placed is
 
-pub advanced_is : (len : ℕ) (d : DeviceState) (pick : ℕ) (q : RingState) → IsSoundDevice len d → advanced_at d pick ≡ Some q → IsAdvancedAt d pick q
+pub advanced_is : {base : ℕ} (len : ℕ) (d : DeviceState) (pick : ℕ) (q : RingState) → IsSoundDevice base len d → advanced_at d pick ≡ Some q → IsAdvancedAt d pick q
 advanced_is len d pick q sound is = advance_by len d pick (queue_at d.registers 0) (slice_get d.positions 0) q sound refl refl is

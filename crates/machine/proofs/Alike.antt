@@ -2,6 +2,7 @@
 use Rattle.std.proofs.Common.{◌≡◌, ℕ, zero, suc, ◌-◌, ◌*◌, Bool, true, false, cond, List, [], ◌∷◌, length, map, set, get_or, take, drop, Option, Some, None, refl, sym, ap, ◌∙◌, arith}
 use Rattle.std.specs.Prelude.{slice_get}
 use Rattle.std.proofs.lemmas.Bool.{true≢false}
+use Rattle.guestmem.specs.Address.{index_of}
 use Rattle.guestmem.specs.Writes.{Write}
 use Rattle.chains.specs.Places.{places, place_writes}
 use Rattle.chains.specs.State.{RingState}
@@ -61,12 +62,12 @@ like_at (s ∷ x) (t ∷ y) (suc n) marks first second =
 abbrev addresses : List Write → List ℕ
 addresses ws = map (λ w. w.address) ws
 
-like_places : (at bs cs : List ℕ) → length bs ≡ length cs → addresses (place_writes at bs) ≡ addresses (place_writes at cs)
-like_places [] bs cs e = refl
-like_places (p ∷ at) [] [] e = refl
-like_places (p ∷ at) [] (c ∷ cs) e = absurd (omega (arith, e))
-like_places (p ∷ at) (b ∷ bs) [] e = absurd (omega (arith, e))
-like_places (p ∷ at) (b ∷ bs) (c ∷ cs) e = ap (λ (ps : List ℕ). p ∷ ps) (like_places at bs cs (omega (arith, e)))
+like_places : (base : ℕ) (at bs cs : List ℕ) → length bs ≡ length cs → addresses (place_writes base at bs) ≡ addresses (place_writes base at cs)
+like_places base [] bs cs e = refl
+like_places base (p ∷ at) [] [] e = refl
+like_places base (p ∷ at) [] (c ∷ cs) e = absurd (omega (arith, e))
+like_places base (p ∷ at) (b ∷ bs) [] e = absurd (omega (arith, e))
+like_places base (p ∷ at) (b ∷ bs) (c ∷ cs) e = ap (λ (ps : List ℕ). index_of base p ∷ ps) (like_places base at bs cs (omega (arith, e)))
 
 -- One unit of a request.
 record AreLikeMoves (a b : Move) : Type 0 where
@@ -78,21 +79,21 @@ record AreLikeMoves (a b : Move) : Type 0 where
 one_move : (m : Move) → AreLikeMoves m m
 one_move m = record { answer = refl; request = refl; writes = refl; sets = refl }
 
-like_reads : (r : Request) (is_fine : Bool) (at : List ℕ) (s t : Sector) → AreLikeSectors s t
-    → AreLikeMoves (cond (is_bad s) (bad_sector r) (cond is_fine (moved r (place_writes at (bytes_of s)) []) (disk_failed r []))) (cond (is_bad t) (bad_sector r) (cond is_fine (moved r (place_writes at (bytes_of t)) []) (disk_failed r [])))
-like_reads r is_fine at None None h = one_move (bad_sector r)
-like_reads r is_fine at None (Some b) h = absurd (true≢false h.bad)
-like_reads r is_fine at (Some a) None h = absurd (true≢false (sym h.bad))
-like_reads r true at (Some a) (Some b) h = record { answer = refl; request = refl; writes = like_places at a b h.size; sets = refl }
-like_reads r false at (Some a) (Some b) h = one_move (disk_failed r [])
+like_reads : (base : ℕ) (r : Request) (is_fine : Bool) (at : List ℕ) (s t : Sector) → AreLikeSectors s t
+    → AreLikeMoves (cond (is_bad s) (bad_sector r) (cond is_fine (moved r (place_writes base at (bytes_of s)) []) (disk_failed r []))) (cond (is_bad t) (bad_sector r) (cond is_fine (moved r (place_writes base at (bytes_of t)) []) (disk_failed r [])))
+like_reads base r is_fine at None None h = one_move (bad_sector r)
+like_reads base r is_fine at None (Some b) h = absurd (true≢false h.bad)
+like_reads base r is_fine at (Some a) None h = absurd (true≢false (sym h.bad))
+like_reads base r true at (Some a) (Some b) h = record { answer = refl; request = refl; writes = like_places base at a b h.size; sets = refl }
+like_reads base r false at (Some a) (Some b) h = one_move (disk_failed r [])
 
-like_moves : (kind : Kind) (id ram : List ℕ) (x y : List Sector) (r : Request) (is_fine : Bool) → HaveSameMarks x y → AreLikeMoves (move_of kind id ram x r is_fine) (move_of kind id ram y r is_fine)
-like_moves In id ram x y r is_fine h = like_reads r is_fine (take 512 (drop (512 * r.done) (places r.writable))) (sector_in x (next_sector r)) (sector_in y (next_sector r)) (like_at x y (next_sector r) h.marks h.first h.second)
-like_moves Out id ram x y r is_fine h = one_move (move_of Out id ram x r is_fine)
-like_moves Flush id ram x y r is_fine h = one_move (move_of Flush id ram x r is_fine)
-like_moves GetId id ram x y r is_fine h = one_move (move_of GetId id ram x r is_fine)
-like_moves Refused id ram x y r is_fine h = one_move (move_of Refused id ram x r is_fine)
-like_moves Zero id ram x y r is_fine h = one_move (move_of Zero id ram x r is_fine)
+like_moves : (kind : Kind) (base : ℕ) (id ram : List ℕ) (x y : List Sector) (r : Request) (is_fine : Bool) → HaveSameMarks x y → AreLikeMoves (move_of kind base id ram x r is_fine) (move_of kind base id ram y r is_fine)
+like_moves In base id ram x y r is_fine h = like_reads base r is_fine (take 512 (drop (512 * r.done) (places r.writable))) (sector_in x (next_sector r)) (sector_in y (next_sector r)) (like_at x y (next_sector r) h.marks h.first h.second)
+like_moves Out base id ram x y r is_fine h = one_move (move_of Out base id ram x r is_fine)
+like_moves Flush base id ram x y r is_fine h = one_move (move_of Flush base id ram x r is_fine)
+like_moves GetId base id ram x y r is_fine h = one_move (move_of GetId base id ram x r is_fine)
+like_moves Refused base id ram x y r is_fine h = one_move (move_of Refused base id ram x r is_fine)
+like_moves Zero base id ram x y r is_fine h = one_move (move_of Zero base id ram x r is_fine)
 
 -- A request that goes on, or ends.
 record AreLikeSteps (a b : AdvanceStep) : Type 0 where
@@ -108,7 +109,7 @@ one_step s = record { answer = refl; writes = refl; sets = refl; ring = refl; re
 like_by : (shape : BlockShape) (ram : List ℕ) (q : RingState) (x y : List Sector) (requests : List Request) (k : ℕ) (is_fine : Bool) (r : Request) (at_work : Bool) → is_open r ≡ at_work → HaveSameMarks x y
     → AreLikeSteps (advance_one shape ram q x requests k is_fine (Some r)) (advance_one shape ram q y requests k is_fine (Some r))
 like_by shape ram q x y requests k is_fine r true at_work h =
-    let m = like_moves r.kind shape.id ram x y r is_fine h in
+    let m = like_moves r.kind q.base shape.id ram x y r is_fine h in
     rw at_work (record { answer = m.answer; writes = m.writes; sets = m.sets; ring = refl; requests = ap (set requests k) m.request })
 like_by shape ram q x y requests k is_fine r false at_work h = rw at_work (one_step _)
 

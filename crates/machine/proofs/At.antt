@@ -18,7 +18,7 @@ use Rattle.guestmem.specs.LaterLaws.{later_same}
 use Rattle.guestmem.specs.Memory.{Memory}
 use Rattle.guestmem.specs.Rises.{Rises, Touches}
 use Rattle.guestmem.specs.RisesLaws.{rises_none}
-use Rattle.guestmem.specs.Write.{refusal_of}
+use Rattle.guestmem.specs.Address.{access_refusal, index_of}
 use Rattle.guestmem.specs.Writes.{Write, byte_writes, set_all, touched}
 use Rattle.guestmem.specs.declared.error.RamError.{RamError}
 use Rattle.chains.specs.declared.next.Next.TheVariants.{Empty}
@@ -34,7 +34,7 @@ use Rattle.machine.specs.Outcome.{Outcome, fine, is_failure, outcome_of}
 use Rattle.machine.specs.Seen.{DeviceSeen, Marks, Seen, state_of, all_marks, failed_at, failed_if, marks_at}
 use Rattle.machine.specs.Shapes.{made_as}
 use Rattle.machine.specs.Sound.{IsSound, IsSoundDevice}
-use Rattle.machine.specs.State.{DeviceState, MachineState}
+use Rattle.machine.specs.State.{DeviceState, MachineState, base_of}
 use Rattle.machine.specs.Step.{HasEffect, IsStep, IsTouchingStep, IsResized, ResizesDevice, disk_of, disk_or_none, input_of, out_reply, kind_with_input, ram_refusal, refused, size_by, written_out, register_set, with_input}
 use Rattle.machine.specs.StepLaws.{Fits}
 use Rattle.machine.specs.declared.event.Event.{Event}
@@ -194,19 +194,23 @@ found_marks [] dev d at = absurd (omega (arith, at.below))
 found_marks (x ∷ ds) zero d at = ap (λ (y : DeviceSeen). y.marks) (sym at.is)
 found_marks (x ∷ ds) (suc dev) d at = found_marks ds dev d (record { below = omega (arith, at.below); is = at.is })
 
+-- The base that these devices know.
+abbrev pub seen_base : List DeviceSeen → ℕ
+seen_base ds = base_of (map (λ (x : DeviceSeen). x.state) ds)
+
 -- The guest wrote RAM.
-pub stored_step : (touches : List Item → Type 0) (m new_m : Memory) (ds : List DeviceSeen) (addr : ℕ) (bytes : List ℕ) → refusal_of (length m.bytes) addr (length bytes) ≡ None
-    → new_m.bytes ≡ set_all m.bytes (byte_writes addr bytes) → touches (touched (byte_writes addr bytes))
+pub stored_step : (touches : List Item → Type 0) (m new_m : Memory) (ds : List DeviceSeen) (addr : ℕ) (bytes : List ℕ) → access_refusal (seen_base ds) (length m.bytes) addr (length bytes) ≡ None
+    → new_m.bytes ≡ set_all m.bytes (byte_writes (index_of (seen_base ds) addr) bytes) → touches (touched (byte_writes (index_of (seen_base ds) addr) bytes))
     → IsTouchingStep touches (state_of (record { memory = m; devices = ds })) (MemWrite addr bytes) Done (state_of (record { memory = new_m; devices = ds }))
 stored_step touches m new_m ds addr bytes none is items_are = record {
-  effect = record { writes = byte_writes addr bytes; sectors = []; replaced = None };
+  effect = record { writes = byte_writes (index_of (seen_base ds) addr) bytes; sectors = []; replaced = None };
   has = record { seen = Empty; may_see = tt; reply_is = rw none refl; effect_is = rw none refl; outcome_is = refl };
   changed = rw is refl;
   items_are = rw append-nil items_are;
 }
 
 -- The bytes lie outside RAM, or are too many.
-pub unstored_step : (touches : List Item → Type 0) (m : Memory) (ds : List DeviceSeen) (addr : ℕ) (bytes : List ℕ) (error : RamError) (refusal : Refusal) → refusal_of (length m.bytes) addr (length bytes) ≡ Some error → refusal ≡ ram_refusal error → touches []
+pub unstored_step : (touches : List Item → Type 0) (m : Memory) (ds : List DeviceSeen) (addr : ℕ) (bytes : List ℕ) (error : RamError) (refusal : Refusal) → access_refusal (seen_base ds) (length m.bytes) addr (length bytes) ≡ Some error → refusal ≡ ram_refusal error → touches []
     → IsTouchingStep touches (state_of (record { memory = m; devices = ds })) (MemWrite addr bytes) (Refused refusal) (state_of (record { memory = m; devices = ds }))
 unstored_step touches m ds addr bytes error refusal some is untouched = record {
   effect = no_effect;
@@ -229,8 +233,12 @@ missing_step touches m ds dev pick h untouched = record {
 }
 
 -- Each device of a sound machine is sound.
-pub sound_device : (m : Memory) (ds : List DeviceSeen) (dev : ℕ) (d : DeviceSeen) → IsAt ds dev d → IsSound (state_of (record { memory = m; devices = ds })) → IsSoundDevice (length m.bytes) d.state
+pub sound_device : (m : Memory) (ds : List DeviceSeen) (dev : ℕ) (d : DeviceSeen) → IsAt ds dev d → IsSound (state_of (record { memory = m; devices = ds })) → IsSoundDevice (seen_base ds) (length m.bytes) d.state
 sound_device m ds dev d at sound = sound_at (state_of (record { memory = m; devices = ds })) dev d.state (found ds dev d at) sound
+
+-- A device that is sound for a base is so for the one that its registers know.
+pub own_base : {base : ℕ} (len : ℕ) (d : DeviceState) → IsSoundDevice base len d → IsSoundDevice d.registers.ram_base len d
+own_base len d sound = subst (λ (b : ℕ). IsSoundDevice b len d) (sym sound.ram_base) sound
 
 pub shapes_seen : (ds : List DeviceSeen) → map (λ (x : DeviceSeen). made_as x.state.kind) ds ≡ map (λ (d : DeviceState). made_as d.kind) (map (λ (x : DeviceSeen). x.state) ds)
 shapes_seen [] = refl
@@ -386,12 +394,12 @@ pub held_worked : (touches : List Item → Type 0) (shapes : List Shape) (m new_
     → length new_m.bytes ≡ length m.bytes → IsBytes new_m.bytes → AreWhole new.sectors → length new.sectors ≡ length d.sectors → IsHeld shapes (record { memory = new_m; devices = set ds dev new })
 held_worked touches shapes m new_m ds dev pick d new reply held at h size bytes whole count =
     let old : MachineState = state_of (record { memory = m; devices = ds }) in
-    let sound_new : IsSoundDevice (length m.bytes) new.state = rw h.device_is (sound_stepped d.state m.bytes h.given pick (outcome_of reply) h.seen h.may_look held.sound.bytes (sound_device m ds dev d at held.sound) (has_given d.marks.honest d.state d.sectors h.given h.is_given (has_disk m ds dev d at held.sound))) in
+    let sound_new : IsSoundDevice (seen_base ds) (length m.bytes) new.state = rw h.device_is (sound_stepped d.state m.bytes h.given pick (outcome_of reply) h.seen h.may_look held.sound.bytes (sound_device m ds dev d at held.sound) (has_given d.marks.honest d.state d.sectors h.given h.is_given (has_disk m ds dev d at held.sound))) in
     let states : map (λ (x : DeviceSeen). x.state) (set ds dev new) ≡ set (map (λ (x : DeviceSeen). x.state) ds) dev new.state = map-set (λ (x : DeviceSeen). x.state) ds dev new in
     let disks : map (λ (x : DeviceSeen). x.sectors) (set ds dev new) ≡ set (map (λ (x : DeviceSeen). x.sectors) ds) dev new.sectors = map-set (λ (x : DeviceSeen). x.sectors) ds dev new in
     let same = same_worked touches m new_m ds dev pick d new reply at h size count in
     record {
-      sound = sound_by old (state_of (record { memory = new_m; devices = set ds dev new })) same (rw (states, length-set) refl) (rw states (All-set (IsSoundDevice (length m.bytes)) (map (λ (x : DeviceSeen). x.state) ds) dev new.state sound_new held.sound.devices)) bytes
+      sound = sound_by old (state_of (record { memory = new_m; devices = set ds dev new })) same (rw (states, length-set) refl) (rw states (All-set (IsSoundDevice (seen_base ds) (length m.bytes)) (map (λ (x : DeviceSeen). x.state) ds) dev new.state sound_new held.sound.devices)) bytes
           (rw disks (All-set AreWhole (map (λ (x : DeviceSeen). x.sectors) ds) dev new.sectors whole held.sound.sectors)) held.sound;
       shapes_are = held.shapes_are ∙ sym (seen_shapes touches m new_m ds dev pick d new reply at h);
     }

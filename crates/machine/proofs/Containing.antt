@@ -1,7 +1,7 @@
 -- Malformed chains, and events that change nothing.
 use Rattle.std.proofs.Common.{◌≡◌, ℕ, zero, suc, ◌+◌, set, Bool, true, false, cond, ltb, List, [], ◌∷◌, length, Option, Some, None, refl, ap, sym, ◌∙◌, subst}
 use Rattle.std.specs.Prelude.{◌-◌, bit_or, slice_get, Result, Ok, Err}
-use Rattle.guestmem.specs.Write.{refusal_of}
+use Rattle.guestmem.specs.Address.{access_refusal, index_of}
 use Rattle.guestmem.specs.declared.error.RamError.{RamError}
 use Rattle.mmio.specs.State.{with_common, Registers}
 use Rattle.mmio.specs.Bits.{has}
@@ -23,7 +23,7 @@ use Rattle.machine.specs.Effect.{Effect, applied, sets_on}
 use Rattle.machine.specs.Looked.{IsLookedAt, LooksAtMalformed}
 use Rattle.machine.specs.Outcome.{Outcome, fine, disk_failed, no_memory, disk_does}
 use Rattle.machine.specs.Shapes.{block_of, made_as}
-use Rattle.machine.specs.State.{MachineState, DeviceState}
+use Rattle.machine.specs.State.{MachineState, DeviceState, base_of}
 use Rattle.machine.specs.Step.{answer, disk_of, input_of, MaySeeAt, HasEffect, out_reply, put_by, set_size, size_by, written_out, read_register, write_register, read_ram, write_ram, put_in, step_device}
 use Rattle.machine.specs.StepLaws.{IsContained, MalformedIsContained, MalformedAsksForReset, IsRefusal, RefusalsChangeNothing}
 use Rattle.machine.specs.declared.event.Event.{Event}
@@ -216,8 +216,8 @@ quiet_size m dev (Some d) size h = quiet_size_by m dev d d.kind size h
 pub quiet : (m : MachineState) (e : Event) (o : Outcome) (seen : Next) → IsRefusal (answer m e o seen).reply → applied m (answer m e o seen).effect ≡ m
 quiet m (RegRead dev off width) o seen h = quiet_look m (slice_get m.devices dev) off width
 quiet m (RegWrite dev off width value) o seen h = quiet_set m dev (slice_get m.devices dev) off width value h
-quiet m (MemRead addr len) o seen h = quiet_read m addr len (refusal_of (length m.ram) addr len) o
-quiet m (MemWrite addr bytes) o seen h = quiet_store m addr bytes (refusal_of (length m.ram) addr (length bytes)) h
+quiet m (MemRead addr len) o seen h = quiet_read m (index_of (base_of m.devices) addr) len (access_refusal (base_of m.devices) (length m.ram) addr len) o
+quiet m (MemWrite addr bytes) o seen h = quiet_store m (index_of (base_of m.devices) addr) bytes (access_refusal (base_of m.devices) (length m.ram) addr (length bytes)) h
 quiet m (Step dev pick) o seen h = quiet_device m dev pick o seen (slice_get m.devices dev) refl h
 quiet m (Resize dev cols rows) o seen h = quiet_size m dev (slice_get m.devices dev) (record { columns = cols; rows = rows }) h
 quiet m (Input dev bytes) o seen h = quiet_put m dev (slice_get m.devices dev) bytes h

@@ -12,12 +12,12 @@ use Rattle.blk.specs.Disk.{AreSectors, DiskState}
 use Rattle.blk.specs.Sectors.{Sector, AreWhole, IsWhole}
 use Rattle.mmio.proofs.StayingSound.{first_sound}
 use Rattle.mmio.specs.State.{first_common, first_queue}
-use Rattle.machine.specs.First.{HasBytes, are_beyond, are_same, dealt_sectors, first_machine, good_marks, machine_over, marked_sectors, new_refusal, over_refusal, saved_machine}
+use Rattle.machine.specs.First.{HasBytes, are_beyond, are_same, dealt_sectors, first_machine_at, good_marks, machine_over_at, marked_sectors, new_refusal, over_refusal, saved_machine}
 use Rattle.machine.specs.Parts.{ArePartsFor, PartsSeen, machine_of}
 use Rattle.machine.specs.QueuePositions.{HavePositions, first_positions, is_packed_by}
 use Rattle.machine.specs.Shapes.{device_id_of, disk_sizes, first_device, first_kind, is_beyond, made_as, offered_of, queues_of, sector_count}
-use Rattle.machine.specs.Sound.{IsSound, IsSoundDevice, IsSoundKind, IsSoundShape}
-use Rattle.machine.specs.State.{DeviceState}
+use Rattle.machine.specs.Sound.{IsBase, IsSound, IsSoundDevice, IsSoundKind, IsSoundShape}
+use Rattle.machine.specs.State.{DeviceState, base_of}
 use Rattle.machine.specs.declared.new_error.NewError.TheVariants.{BadShape, DiskMismatch}
 use Rattle.machine.specs.declared.shape.Shape.{Shape}
 use Rattle.machine.specs.declared.shape.Shape.TheVariants.{Net, Block, Console, Entropy}
@@ -94,24 +94,26 @@ have_first : (packed : Bool) (count : ℕ) → HavePositions packed (replicate c
 have_first packed zero = tt
 have_first packed (suc count) = (record { taking_fits = omega arith; used_fits = omega arith; where_ready = refl }, have_first packed count)
 
-kind_sound : (bytes : ℕ) (shape : Shape) → IsSoundKind bytes (first_device bytes shape).registers (first_kind shape)
-kind_sound bytes (Net mac) = record { few = omega arith; are = All-nil _ }
-kind_sound bytes (Block sectors read_only id) = record { few = omega arith; sound = All-nil _; where_ready = refl }
-kind_sound bytes Console = record { columns = omega arith; rows = omega arith; text = record { few = omega arith; are = λ i. omega arith } }
-kind_sound bytes Entropy = record { few = omega arith; are = λ i. omega arith }
+kind_sound : (base bytes : ℕ) (shape : Shape) → IsSoundKind bytes (first_device base bytes shape).registers (first_kind shape)
+kind_sound base bytes (Net mac) = record { few = omega arith; are = All-nil _ }
+kind_sound base bytes (Block sectors read_only id) = record { few = omega arith; sound = All-nil _; where_ready = refl }
+kind_sound base bytes Console = record { columns = omega arith; rows = omega arith; text = record { few = omega arith; are = λ i. omega arith } }
+kind_sound base bytes Entropy = record { few = omega arith; are = λ i. omega arith }
 
-first_device_sound : (bytes : ℕ) (shape : Shape) → bytes < 2 ^ 64 → is_beyond shape ≡ false → HasBytes shape → IsSoundDevice bytes (first_device bytes shape)
-first_device_sound bytes shape fits within has =
+first_device_sound : (base bytes : ℕ) (shape : Shape) → IsBase base bytes → bytes < 2 ^ 64 → base < 2 ^ 64 → is_beyond shape ≡ false → HasBytes shape → IsSoundDevice base bytes (first_device base bytes shape)
+first_device_sound base bytes shape based fits low within has =
     let small = numbers_fit shape in
     record {
       shape = rw (first_as shape) (shape_sound shape within has);
       device_id = rw (first_as shape) refl;
       offered = rw (first_as shape) refl;
       queues = rw (first_as shape) (length-replicate (queues_of shape) first_queue);
+      based = based;
+      ram_base = refl;
       ram_len = refl;
-      registers = first_sound (device_id_of shape) (offered_of shape) (queues_of shape) bytes small.0 small.1 small.2 fits;
+      registers = first_sound (device_id_of shape) (offered_of shape) (queues_of shape) base bytes small.0 small.1 small.2 low fits;
       positions = have_first (is_packed_by (first_common 0)) (queues_of shape);
-      kind = kind_sound bytes shape;
+      kind = kind_sound base bytes shape;
     }
 
 -- Disks of the right sizes, dealt to devices: each device has as many sectors as it is to have.
@@ -144,21 +146,27 @@ dealt_whole (Block sectors read_only id ∷ shapes) (disk ∷ disks) whole zero 
 dealt_whole (Block sectors read_only id ∷ shapes) (disk ∷ disks) whole (suc k) d below =
     dealt_whole shapes disks (λ j e lt. whole (suc j) e (omega (arith, lt))) k d (omega (arith, below))
 
-pub first_shapes : (bytes : ℕ) (shapes : List Shape) → map (λ (d : DeviceState). made_as d.kind) (map (first_device bytes) shapes) ≡ shapes
-first_shapes bytes [] = refl
-first_shapes bytes (shape ∷ shapes) = rw (first_as shape) (ap (λ xs. shape ∷ xs) (first_shapes bytes shapes))
+pub first_shapes : (base bytes : ℕ) (shapes : List Shape) → map (λ (d : DeviceState). made_as d.kind) (map (first_device base bytes) shapes) ≡ shapes
+first_shapes base bytes [] = refl
+first_shapes base bytes (shape ∷ shapes) = rw (first_as shape) (ap (λ xs. shape ∷ xs) (first_shapes base bytes shapes))
 
-first_counts : (bytes : ℕ) (shapes : List Shape) → map (λ (d : DeviceState). sector_count (made_as d.kind)) (map (first_device bytes) shapes) ≡ map sector_count shapes
-first_counts bytes shapes = shape_counts (map (first_device bytes) shapes) ∙ ap (map sector_count) (first_shapes bytes shapes)
+first_counts : (base bytes : ℕ) (shapes : List Shape) → map (λ (d : DeviceState). sector_count (made_as d.kind)) (map (first_device base bytes) shapes) ≡ map sector_count shapes
+first_counts base bytes shapes = shape_counts (map (first_device base bytes) shapes) ∙ ap (map sector_count) (first_shapes base bytes shapes)
+
+-- New devices know the base.
+first_base : (base bytes : ℕ) (shapes : List Shape) → 1 ≤ length shapes → base_of (map (first_device base bytes) shapes) ≡ base
+first_base base bytes [] some = absurd (omega (arith, some))
+first_base base bytes (shape ∷ shapes) some = refl
 
 -- A new machine is sound.
-machine_over_sound : (pages : ℕ) (bytes : List ℕ) (shapes : List Shape) (sizes : List ℕ) (disks : List (List Sector)) → new_refusal pages shapes sizes ≡ None → length bytes ≡ 4096 * pages → IsBytes bytes
-    → All HasBytes shapes → map length disks ≡ sizes → All AreWhole disks → IsSound (machine_over bytes shapes disks)
-machine_over_sound pages bytes shapes sizes disks none long are ids sizes_are whole =
+machine_over_sound : (base pages : ℕ) (bytes : List ℕ) (shapes : List Shape) (sizes : List ℕ) (disks : List (List Sector)) → new_refusal pages shapes sizes ≡ None → IsBase base (length bytes) → length bytes ≡ 4096 * pages → IsBytes bytes
+    → All HasBytes shapes → map length disks ≡ sizes → All AreWhole disks → IsSound (machine_over_at base bytes shapes disks)
+machine_over_sound base pages bytes shapes sizes disks none based long are ids sizes_are whole =
     let within = limits pages shapes sizes none in
-    let many : length (map (first_device (length bytes)) shapes) ≡ length shapes = rw length-map refl in
+    let many : length (map (first_device base (length bytes)) shapes) ≡ length shapes = rw length-map refl in
     let counts : disk_sizes shapes ≡ map length disks = same_sizes (disk_sizes shapes) sizes within.same ∙ sym sizes_are in
     let fits : length bytes < 2 ^ 64 = omega (arith, long, within.few_pages) in
+    let low : base < 2 ^ 64 = omega (arith, based.reach, long, within.some_pages) in
     let each = each_within shapes within.none_beyond in
     record {
       whole_pages = omega (arith, long);
@@ -166,21 +174,21 @@ machine_over_sound pages bytes shapes sizes disks none long are ids sizes_are wh
       few_pages = omega (arith, long, within.few_pages);
       some_devices = rw many within.some_devices;
       few_devices = rw many within.few_devices;
-      devices = All-map (IsSoundDevice (length bytes)) (first_device (length bytes)) shapes (λ k d below. first_device_sound (length bytes) (get_or shapes k d) fits (each k d below) (ids k d below));
+      devices = rw (first_base base (length bytes) shapes within.some_devices) (All-map (IsSoundDevice base (length bytes)) (first_device base (length bytes)) shapes (λ k d below. first_device_sound base (length bytes) (get_or shapes k d) based fits low (each k d below) (ids k d below)));
       bytes = are;
-      disks = dealt_counts shapes disks counts ∙ sym (first_counts (length bytes) shapes);
+      disks = dealt_counts shapes disks counts ∙ sym (first_counts base (length bytes) shapes);
       sectors = dealt_whole shapes disks whole;
     }
 
 -- One of zeros is one over zeros.
-first_is_over : (pages : ℕ) (shapes : List Shape) (disks : List (List Sector)) → first_machine pages shapes disks ≡ machine_over (replicate (4096 * pages) 0) shapes disks
-first_is_over pages shapes disks =
+first_is_over : (base pages : ℕ) (shapes : List Shape) (disks : List (List Sector)) → first_machine_at base pages shapes disks ≡ machine_over_at base (replicate (4096 * pages) 0) shapes disks
+first_is_over base pages shapes disks =
     let long : length (replicate (4096 * pages) 0) ≡ 4096 * pages = length-replicate {A = ℕ} (4096 * pages) 0 in
     rw long refl
 
 -- The same machine, as it is put together.
-over_is_saved : (shapes : List Shape) (disks : List (List Sector)) (bytes : List ℕ) (states : List DeviceState) → states ≡ map (first_device (length bytes)) shapes → saved_machine bytes states disks ≡ machine_over bytes shapes disks
-over_is_saved shapes disks bytes states are = rw (are, first_shapes (length bytes) shapes) refl
+over_is_saved : (base : ℕ) (shapes : List Shape) (disks : List (List Sector)) (bytes : List ℕ) (states : List DeviceState) → states ≡ map (first_device base (length bytes)) shapes → saved_machine bytes states disks ≡ machine_over_at base bytes shapes disks
+over_is_saved base shapes disks bytes states are = rw (are, first_shapes base (length bytes) shapes) refl
 
 -- The sectors of good disks.
 good_sizes : {A : Type 0} (state : A → DiskState) (xs : List A) → map length (map (λ x. map Some (state x).sectors) xs) ≡ map (λ x. length (state x).sectors) xs
@@ -191,39 +199,40 @@ good_whole : {A : Type 0} (state : A → DiskState) (xs : List A) → All (λ x.
 good_whole state xs whole = All-map AreWhole (λ x. map Some (state x).sectors) xs (λ k d below. All-map IsWhole Some (state (get_or xs k d)).sectors (whole k d below))
 
 -- The parts of a new machine: they are parts for its disks, and make it with them.
-pub record AreOver {A : Type 0} (state : A → DiskState) (bytes : List ℕ) (shapes : List Shape) (xs : List A) (p : PartsSeen) : Type 0 where
+pub record AreOver {A : Type 0} (state : A → DiskState) (base : ℕ) (bytes : List ℕ) (shapes : List Shape) (xs : List A) (p : PartsSeen) : Type 0 where
   pub parts : ArePartsFor (map state xs) p
-  pub made : machine_of p (map state xs) ≡ machine_over bytes shapes (map (λ x. map Some (state x).sectors) xs)
+  pub made : machine_of p (map state xs) ≡ machine_over_at base bytes shapes (map (λ x. map Some (state x).sectors) xs)
 
-pub are_over : {A : Type 0} (state : A → DiskState) (pages : ℕ) (bytes : List ℕ) (shapes : List Shape) (xs : List A) (p : PartsSeen) → new_refusal pages shapes (map (λ x. length (state x).sectors) xs) ≡ None → length bytes ≡ 4096 * pages
-    → IsBytes bytes → All HasBytes shapes → All (λ x. AreSectors (state x).sectors) xs → p.ram ≡ bytes → p.shapes ≡ shapes → p.states ≡ map (first_device (length bytes)) shapes → p.bad ≡ good_marks (map state xs)
-    → AreOver state bytes shapes xs p
-are_over state pages bytes shapes xs p none long are ids whole ram_is same states_are bad_are =
+pub are_over : {A : Type 0} (state : A → DiskState) (base pages : ℕ) (bytes : List ℕ) (shapes : List Shape) (xs : List A) (p : PartsSeen) → new_refusal pages shapes (map (λ x. length (state x).sectors) xs) ≡ None → IsBase base (length bytes) → length bytes ≡ 4096 * pages
+    → IsBytes bytes → All HasBytes shapes → All (λ x. AreSectors (state x).sectors) xs → p.ram ≡ bytes → p.shapes ≡ shapes → p.states ≡ map (first_device base (length bytes)) shapes → p.bad ≡ good_marks (map state xs)
+    → AreOver state base bytes shapes xs p
+are_over state base pages bytes shapes xs p none based long are ids whole ram_is same states_are bad_are =
     let disks : List (List Sector) = map (λ x. map Some (state x).sectors) xs in
     let content : marked_sectors (map state xs) p.bad ≡ disks = ap (marked_sectors (map state xs)) bad_are ∙ good_content state xs in
-    let made : machine_of p (map state xs) ≡ machine_over bytes shapes disks = ap (saved_machine p.ram p.states) content ∙ ap (λ (b : List ℕ). saved_machine b p.states disks) ram_is ∙ over_is_saved shapes disks bytes p.states states_are in
+    let made : machine_of p (map state xs) ≡ machine_over_at base bytes shapes disks = ap (saved_machine p.ram p.states) content ∙ ap (λ (b : List ℕ). saved_machine b p.states disks) ram_is ∙ over_is_saved base shapes disks bytes p.states states_are in
     record {
       parts = record {
-        sound = rw made (machine_over_sound pages bytes shapes (map (λ x. length (state x).sectors) xs) disks none long are ids (good_sizes state xs) (good_whole state xs whole));
-        shapes = same ∙ sym (ap (map (λ (d : DeviceState). made_as d.kind)) states_are ∙ first_shapes (length bytes) shapes);
+        sound = rw made (machine_over_sound base pages bytes shapes (map (λ x. length (state x).sectors) xs) disks none based long are ids (good_sizes state xs) (good_whole state xs whole));
+        shapes = same ∙ sym (ap (map (λ (d : DeviceState). made_as d.kind)) states_are ∙ first_shapes base (length bytes) shapes);
         marks = rw bad_are (good_are_marks (map state xs));
       };
       made = made;
     }
 
-pub record AreFirst {A : Type 0} (state : A → DiskState) (pages : ℕ) (shapes : List Shape) (xs : List A) (p : PartsSeen) : Type 0 where
+pub record AreFirst {A : Type 0} (state : A → DiskState) (base pages : ℕ) (shapes : List Shape) (xs : List A) (p : PartsSeen) : Type 0 where
   pub parts : ArePartsFor (map state xs) p
-  pub made : machine_of p (map state xs) ≡ first_machine pages shapes (map (λ x. map Some (state x).sectors) xs)
+  pub made : machine_of p (map state xs) ≡ first_machine_at base pages shapes (map (λ x. map Some (state x).sectors) xs)
 
-pub are_first : {A : Type 0} (state : A → DiskState) (pages : ℕ) (shapes : List Shape) (xs : List A) (p : PartsSeen) → new_refusal pages shapes (map (λ x. length (state x).sectors) xs) ≡ None → All HasBytes shapes
-    → All (λ x. AreSectors (state x).sectors) xs → p.ram ≡ replicate (4096 * pages) 0 → p.shapes ≡ shapes → p.states ≡ map (first_device (length p.ram)) shapes → p.bad ≡ good_marks (map state xs) → AreFirst state pages shapes xs p
-are_first state pages shapes xs p none ids whole zeros same states_are bad_are =
+pub are_first : {A : Type 0} (state : A → DiskState) (base pages : ℕ) (shapes : List Shape) (xs : List A) (p : PartsSeen) → new_refusal pages shapes (map (λ x. length (state x).sectors) xs) ≡ None → IsBase base (4096 * pages) → All HasBytes shapes
+    → All (λ x. AreSectors (state x).sectors) xs → p.ram ≡ replicate (4096 * pages) 0 → p.shapes ≡ shapes → p.states ≡ map (first_device base (length p.ram)) shapes → p.bad ≡ good_marks (map state xs) → AreFirst state base pages shapes xs p
+are_first state base pages shapes xs p none based ids whole zeros same states_are bad_are =
     let bytes : List ℕ = replicate (4096 * pages) 0 in
-    let over : AreOver state bytes shapes xs p =
-    are_over state pages bytes shapes xs p none (length-replicate (4096 * pages) 0) (zero_bytes (4096 * pages)) ids whole zeros same (states_are ∙ ap (λ (b : List ℕ). map (first_device (length b)) shapes) zeros) bad_are in
+    let long : length bytes ≡ 4096 * pages = length-replicate {A = ℕ} (4096 * pages) 0 in
+    let over : AreOver state base bytes shapes xs p =
+    are_over state base pages bytes shapes xs p none (rw long based) long (zero_bytes (4096 * pages)) ids whole zeros same (states_are ∙ ap (λ (b : List ℕ). map (first_device base (length b)) shapes) zeros) bad_are in
     record {
       parts = over.parts;
-      made = over.made ∙ sym (first_is_over pages shapes (map (λ x. map Some (state x).sectors) xs));
+      made = over.made ∙ sym (first_is_over base pages shapes (map (λ x. map Some (state x).sectors) xs));
     }
 
 -- A region that is not refused has whole pages, as many as there may be.

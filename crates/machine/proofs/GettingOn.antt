@@ -23,7 +23,7 @@ use Rattle.machine.specs.NextWork.{IdleWithoutWork, IsNotNotified, WorkGetsOn, d
 use Rattle.machine.specs.Outcome.{Outcome, fine, disk_failed, no_memory, disk_does}
 use Rattle.machine.specs.Shapes.{block_of, made_as}
 use Rattle.machine.specs.Sound.{IsSound, IsSoundDevice}
-use Rattle.machine.specs.State.{DeviceState, MachineState}
+use Rattle.machine.specs.State.{DeviceState, MachineState, base_of}
 use Rattle.machine.specs.Step.{answer, disk_of, step_device, Answer, MaySeeAt}
 use Rattle.machine.specs.declared.event.Event.TheVariants.{Step}
 use Rattle.machine.specs.declared.reply.Reply.{Reply}
@@ -62,16 +62,16 @@ busy_if : (b : Bool) (x y : Move) → x.answer ≢ advanced.Idle → y.answer �
 busy_if true x y h k = h
 busy_if false x y h k = k
 
-busy_move : (k : blk.Kind) (id ram : List ℕ) (content : List Sector) (r : Request) (is_fine : Bool) → (move_of k id ram content r is_fine).answer ≢ advanced.Idle
-busy_move request.In id ram content r is_fine = busy_if (is_bad (sector_in content (next_sector r))) _ _ (λ h. cc) (busy_if is_fine _ _ (λ h. cc) (λ h. cc))
-busy_move request.Out id ram content r is_fine = busy_if is_fine _ _ (λ h. cc) (λ h. cc)
-busy_move request.Flush id ram content r is_fine = busy_if is_fine _ _ (λ h. cc) (λ h. cc)
-busy_move request.GetId id ram content r is_fine = λ h. cc
-busy_move request.Refused id ram content r is_fine = λ h. cc
-busy_move request.Zero id ram content r is_fine = busy_if is_fine _ _ (λ h. cc) (λ h. cc)
+busy_move : (k : blk.Kind) (base : ℕ) (id ram : List ℕ) (content : List Sector) (r : Request) (is_fine : Bool) → (move_of k base id ram content r is_fine).answer ≢ advanced.Idle
+busy_move request.In base id ram content r is_fine = busy_if (is_bad (sector_in content (next_sector r))) _ _ (λ h. cc) (busy_if is_fine _ _ (λ h. cc) (λ h. cc))
+busy_move request.Out base id ram content r is_fine = busy_if is_fine _ _ (λ h. cc) (λ h. cc)
+busy_move request.Flush base id ram content r is_fine = busy_if is_fine _ _ (λ h. cc) (λ h. cc)
+busy_move request.GetId base id ram content r is_fine = λ h. cc
+busy_move request.Refused base id ram content r is_fine = λ h. cc
+busy_move request.Zero base id ram content r is_fine = busy_if is_fine _ _ (λ h. cc) (λ h. cc)
 
 busy_one : (shape : BlockShape) (ram : List ℕ) (q : RingState) (content : List Sector) (requests : List Request) (k : ℕ) (is_fine : Bool) (r : Request) (more : Bool) → is_open r ≡ more → (advance_one shape ram q content requests k is_fine (Some r)).answer ≢ advanced.Idle
-busy_one shape ram q content requests k is_fine r true is = rw is (busy_move r.kind shape.id ram content r is_fine)
+busy_one shape ram q content requests k is_fine r true is = rw is (busy_move r.kind q.base shape.id ram content r is_fine)
 busy_one shape ram q content requests k is_fine r false is = rw is (λ h. cc)
 
 busy_reply : (a : Advanced) → a ≢ advanced.Idle → reply_to_advance a ≢ Idle
@@ -86,7 +86,7 @@ busy_at shape ram q content [] k is_fine below = absurd (omega (arith, below))
 busy_at shape ram q content (r ∷ rs) k is_fine below =
     rw (slice_get-get_or (r ∷ rs) k r below) (busy_one shape ram q content (r ∷ rs) k is_fine (get_or (r ∷ rs) k r) (is_open (get_or (r ∷ rs) k r)) refl)
 
-advanced_busy : (len : ℕ) (d : DeviceState) (ram : List ℕ) (content : List Sector) (pick : ℕ) (q : RingState) (o : Outcome) → IsSoundDevice len d → advanced_at d pick ≡ Some q → (advance_on d ram content pick q o).reply ≢ Idle
+advanced_busy : {base : ℕ} (len : ℕ) (d : DeviceState) (ram : List ℕ) (content : List Sector) (pick : ℕ) (q : RingState) (o : Outcome) → IsSoundDevice base len d → advanced_at d pick ≡ Some q → (advance_on d ram content pick q o).reply ≢ Idle
 advanced_busy len d ram content pick q o sound is =
     let shape = block_of (made_as d.kind) d.registers.common.features in
     busy_reply (advance_step shape ram q content (requests_of d.kind) (pick - 1) (disk_does o)).answer (busy_at shape ram q content (requests_of d.kind) (pick - 1) (disk_does o) (advanced_is len d pick q sound is).below)
@@ -130,7 +130,7 @@ by_look m after w d q fine seen r there looked may is changed =
     let s = serve d.registers.common.features d.kind w.pick m.ram q seen in
     by_served m after w d look.queue s r s.served there look.there refl (answered d.registers.common.features d.kind w.pick m.ram q seen).idle is changed
 
-by_work : (m after : MachineState) (w : Work) (d : DeviceState) (looked advanced : Option RingState) (o : Outcome) (seen : Next) (r : Reply) → IsSoundDevice (length m.ram) d → slice_get m.devices w.dev ≡ Some d → looked_at d w.pick ≡ looked → advanced_at d w.pick ≡ advanced
+by_work : (m after : MachineState) (w : Work) (d : DeviceState) (looked advanced : Option RingState) (o : Outcome) (seen : Next) (r : Reply) → IsSoundDevice (base_of m.devices) (length m.ram) d → slice_get m.devices w.dev ≡ Some d → looked_at d w.pick ≡ looked → advanced_at d w.pick ≡ advanced
     → (is_some looked || is_some advanced) ≡ true → MayLook (wanted_of d.kind w.pick) looked m.ram o seen → r ≡ (device_step d m.ram (disk_of m w.dev) w.pick o seen).reply → after.devices ≡ set m.devices w.dev (device_step d m.ram (disk_of m w.dev) w.pick o seen).device
     → (r ≢ Idle) ⊎ IsNotNotified after w.dev w.pick
 by_work m after w d (Some q) advanced o seen r sound there looked goes work may is changed =

@@ -3,6 +3,7 @@ use Rattle.std.proofs.Common.{◌≡◌, ℕ, zero, suc, ◌+◌, ◌*◌, ◌%�
 use Rattle.std.specs.List.{All}
 use Rattle.std.proofs.lemmas.List.{length-set}
 use Rattle.std.proofs.lemmas.Nat.{mod_below}
+use Rattle.guestmem.specs.Address.{index_of}
 use Rattle.guestmem.specs.ByteLaws.{little_bytes, IsBytes-append, IsBytes-take, IsBytes-set, IsBytes-little_bytes, length-little_bytes}
 use Rattle.guestmem.specs.Number.{IsBytes}
 use Rattle.guestmem.specs.Writes.{Write, byte_writes, set_all}
@@ -63,34 +64,35 @@ pub run_inside : (len at : ℕ) (bytes : List ℕ) → at + length bytes ≤ len
 run_inside len at [] inside are = tt
 run_inside len at (b ∷ bytes) inside are = (omega (arith, inside), are 0, run_inside len (at + 1) bytes (omega (arith, inside)) (λ i. are (suc i)))
 
--- Bytes at places.
-abbrev pub AreAddresses : ℕ → List ℕ → Type 0
-AreAddresses len [] = Unit {0}
-AreAddresses len (a ∷ at) = (a < len) × AreAddresses len at
+-- Bytes at places, in a RAM with this base.
+abbrev pub AreAddresses : ℕ → ℕ → List ℕ → Type 0
+AreAddresses base len [] = Unit {0}
+AreAddresses base len (a ∷ at) = (index_of base a < len) × AreAddresses base len at
 
-pub addresses_append : (len : ℕ) (xs ys : List ℕ) → AreAddresses len xs → AreAddresses len ys → AreAddresses len (xs ++ ys)
-addresses_append len [] ys h k = k
-addresses_append len (x ∷ xs) ys h k = (h.0, addresses_append len xs ys h.1 k)
+pub addresses_append : (base len : ℕ) (xs ys : List ℕ) → AreAddresses base len xs → AreAddresses base len ys → AreAddresses base len (xs ++ ys)
+addresses_append base len [] ys h k = k
+addresses_append base len (x ∷ xs) ys h k = (h.0, addresses_append base len xs ys h.1 k)
 
-addresses_inside : (len address count : ℕ) → address + count ≤ len → AreAddresses len (addresses address count)
-addresses_inside len address zero inside = tt
-addresses_inside len address (suc count) inside = (omega (arith, inside), addresses_inside len (address + 1) count (omega (arith, inside)))
+addresses_inside : (base len address count : ℕ) → base ≤ address → address + count ≤ base + len → AreAddresses base len (addresses address count)
+addresses_inside base len address zero above inside = tt
+addresses_inside base len address (suc count) above inside = (omega (arith, above, inside), addresses_inside base len (address + 1) count (omega (arith, above)) (omega (arith, inside)))
 
-pub places_inside : (len : ℕ) (segs : List Seg) → AreSegmentsInside len segs → AreAddresses len (places segs)
-places_inside len [] h = tt
-places_inside len (seg ∷ segs) h =
-    addresses_append len (addresses seg.addr seg.len) (places segs) (addresses_inside len seg.addr seg.len (h 0 seg (omega arith)))
-    (places_inside len segs (λ k d below. h (suc k) d (omega (arith, below))))
+pub places_inside : (base len : ℕ) (segs : List Seg) → AreSegmentsInside base len segs → AreAddresses base len (places segs)
+places_inside base len [] h = tt
+places_inside base len (seg ∷ segs) h =
+    let here = h 0 seg (omega arith) in
+    addresses_append base len (addresses seg.addr seg.len) (places segs) (addresses_inside base len seg.addr seg.len here.above here.below)
+    (places_inside base len segs (λ k d below. h (suc k) d (omega (arith, below))))
 
-pub first_inside : (len n : ℕ) (at : List ℕ) → AreAddresses len at → AreAddresses len (take n at)
-first_inside len zero at h = tt
-first_inside len (suc n) [] h = tt
-first_inside len (suc n) (a ∷ at) h = (h.0, first_inside len n at h.1)
+pub first_inside : (base len n : ℕ) (at : List ℕ) → AreAddresses base len at → AreAddresses base len (take n at)
+first_inside base len zero at h = tt
+first_inside base len (suc n) [] h = tt
+first_inside base len (suc n) (a ∷ at) h = (h.0, first_inside base len n at h.1)
 
-pub placed_inside : (len : ℕ) (at bytes : List ℕ) → AreAddresses len at → IsBytes bytes → AreInsideRam len (place_writes at bytes)
-placed_inside len [] bytes h are = tt
-placed_inside len (a ∷ at) [] h are = tt
-placed_inside len (a ∷ at) (b ∷ bytes) h are = (h.0, are 0, placed_inside len at bytes h.1 (λ i. are (suc i)))
+pub placed_inside : (base len : ℕ) (at bytes : List ℕ) → AreAddresses base len at → IsBytes bytes → AreInsideRam len (place_writes base at bytes)
+placed_inside base len [] bytes h are = tt
+placed_inside base len (a ∷ at) [] h are = tt
+placed_inside base len (a ∷ at) (b ∷ bytes) h are = (h.0, are 0, placed_inside base len at bytes h.1 (λ i. are (suc i)))
 
 -- What publishing writes.
 slot_below : (place size : ℕ) → 1 ≤ size → place % size < size
@@ -163,10 +165,10 @@ pub note_inside : (len : ℕ) (q : RingState) → HasAreas len q → AreInsideRa
 note_inside len q areas = noted_if len (cond q.is_packed (packed_note q) (split_note q)) q.has_event_index (note_by len q q.is_packed refl areas)
 
 -- What giving bytes to a chain writes.
-pub filled_inside : (len : ℕ) (q : RingState) (c : Chain) (bytes : List ℕ) → IsLookedRing len q → AreSegmentsInside len c.writable → IsBytes bytes → AreInsideRam len (filled q c bytes)
+pub filled_inside : (len : ℕ) (q : RingState) (c : Chain) (bytes : List ℕ) → IsLookedRing len q → AreSegmentsInside q.base len c.writable → IsBytes bytes → AreInsideRam len (filled q c bytes)
 filled_inside len q c bytes looked inside are =
-    inside_append len (place_writes (places c.writable) bytes) (published (after_take q c.slots) c.id c.slots (length bytes) (ltb 0 (length bytes)))
-    (placed_inside len (places c.writable) bytes (places_inside len c.writable inside) are)
+    inside_append len (place_writes q.base (places c.writable) bytes) (published (after_take q c.slots) c.id c.slots (length bytes) (ltb 0 (length bytes)))
+    (placed_inside q.base len (places c.writable) bytes (places_inside q.base len c.writable inside) are)
     (published_inside len (after_take q c.slots) c.id c.slots (length bytes) (ltb 0 (length bytes)) (may_publish_taken len q c.slots looked))
 
 -- What the step that gives bytes writes.
@@ -200,7 +202,7 @@ header_bytes (suc (suc (suc (suc (suc (suc (suc (suc (suc (suc zero)))))))))) = 
 header_bytes (suc (suc (suc (suc (suc (suc (suc (suc (suc (suc (suc zero))))))))))) = omega arith
 header_bytes (suc (suc (suc (suc (suc (suc (suc (suc (suc (suc (suc (suc i)))))))))))) = omega arith
 
-one_framed : (ram : List ℕ) (q : RingState) (frame : List ℕ) (rest : List (List ℕ)) (c : Chain) (short : Bool) → IsLookedRing (length ram) q → AreSegmentsInside (length ram) c.writable → IsBytes frame
+one_framed : (ram : List ℕ) (q : RingState) (frame : List ℕ) (rest : List (List ℕ)) (c : Chain) (short : Bool) → IsLookedRing (length ram) q → AreSegmentsInside q.base (length ram) c.writable → IsBytes frame
     → AreInsideRam (length ram) (cond short (net.drop_frame q rest) (net.give ram q frame rest c)).writes
 unfolding net.give
 one_framed ram q frame rest c true looked inside are = tt

@@ -25,7 +25,7 @@ pub same_some : {A : Type 0} (x y : A) → Some x ≡ Some y → x ≡ y
 same_some x y h = cc
 
 look_if : (d : DeviceState) (pick : ℕ) (queue : Queue) (p : Positions) (q : RingState) (b : Bool) → looks d pick queue ≡ b → queue_at d.registers pick ≡ Some queue → slice_get d.positions pick ≡ Some p
-    → cond b (Some (state_of queue d.registers.common.features p)) None ≡ Some q → IsLookedAt d pick q
+    → cond b (Some (state_of queue d.registers.common.features d.registers.ram_base p)) None ≡ Some q → IsLookedAt d pick q
 look_if d pick queue p q true all there placed is =
     let three = left_of_and _ _ all in
     let two = left_of_and _ _ three in
@@ -38,7 +38,7 @@ look_if d pick queue p q true all there placed is =
       ready = right_of_and _ _ two;
       notified = right_of_and _ _ three;
       work = right_of_and _ _ all;
-      is = sym (same_some (state_of queue d.registers.common.features p) q is);
+      is = sym (same_some (state_of queue d.registers.common.features d.registers.ram_base p) q is);
     }
 look_if d pick queue p q false all there placed is = cc
 
@@ -72,7 +72,7 @@ none_looked d pick dflt below h = rw (slice_get-get_or d.registers.queues pick d
 
 -- A queue that is looked at, of a device whose positions are held in an array with room to spare.
 pub some_looked : (d : DeviceState) (pick : ℕ) (dflt : Queue) (first : Positions) (held : List Positions) → pick < length d.registers.queues → d.positions ≡ take (length d.registers.queues) held → length d.positions ≡ length d.registers.queues
-    → true ≡ looks d pick (get_or d.registers.queues pick dflt) → looked_at d pick ≡ Some (state_of (get_or d.registers.queues pick dflt) d.registers.common.features (get_or held pick first))
+    → true ≡ looks d pick (get_or d.registers.queues pick dflt) → looked_at d pick ≡ Some (state_of (get_or d.registers.queues pick dflt) d.registers.common.features d.registers.ram_base (get_or held pick first))
 some_looked d pick dflt first held below held_is long h =
     let place : slice_get d.positions pick ≡ Some (get_or d.positions pick first) = slice_get-get_or d.positions pick first (omega (arith, below, long)) in
     let same : get_or d.positions pick first ≡ get_or held pick first = ap (λ ps. get_or ps pick first) held_is ∙ get_or-take (length d.registers.queues) held pick first below in

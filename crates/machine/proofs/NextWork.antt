@@ -181,21 +181,21 @@ some_if : {A : Type 0} (b : Bool) (x : A) → is_some (cond b (Some x) None) ≡
 some_if true x = refl
 some_if false x = refl
 
-pub looks_some : (len : ℕ) (d : DeviceState) (pick : ℕ) (qs : List Queue) → IsSoundDevice len d → qs ≡ d.registers.queues → pick < length qs → looks d pick (get_or qs pick first_queue) ≡ is_some (looked_at d pick)
+pub looks_some : {base : ℕ} (len : ℕ) (d : DeviceState) (pick : ℕ) (qs : List Queue) → IsSoundDevice base len d → qs ≡ d.registers.queues → pick < length qs → looks d pick (get_or qs pick first_queue) ≡ is_some (looked_at d pick)
 looks_some len d pick qs sound same below =
     let there : pick < length d.registers.queues = omega (arith, below, ap length same) in
     let long : length d.positions ≡ length d.registers.queues = positions_long _ d.registers.queues d.positions sound.positions in
     let queue = get_or d.registers.queues pick first_queue in
     let placed = get_or d.positions pick no_positions in
     rw (same, slice_get-get_or d.registers.queues pick first_queue there, slice_get-get_or d.positions pick no_positions (omega (arith, there, long)))
-    (sym (some_if (looks d pick queue) (state_of queue d.registers.common.features placed)))
+    (sym (some_if (looks d pick queue) (state_of queue d.registers.common.features d.registers.ram_base placed)))
 
-pub advances_some : (len : ℕ) (d : DeviceState) (pick : ℕ) → IsSoundDevice len d → is_some (advanced_at d pick) ≡ advances d pick
+pub advances_some : {base : ℕ} (len : ℕ) (d : DeviceState) (pick : ℕ) → IsSoundDevice base len d → is_some (advanced_at d pick) ≡ advances d pick
 advances_some len d pick sound =
     let queues : 0 < length d.registers.queues = omega (arith, some_queues (made_as d.kind), sound.queues) in
     let long : length d.positions ≡ length d.registers.queues = positions_long _ d.registers.queues d.positions sound.positions in
     rw (slice_get-get_or d.registers.queues 0 first_queue queues, slice_get-get_or d.positions 0 no_positions (omega (arith, queues, long)))
-    (some_if (advances d pick) (state_of (get_or d.registers.queues 0 first_queue) d.registers.common.features (get_or d.positions 0 no_positions)))
+    (some_if (advances d pick) (state_of (get_or d.registers.queues 0 first_queue) d.registers.common.features d.registers.ram_base (get_or d.positions 0 no_positions)))
 
 pub second_of_or : (x y r : Bool) → x ≡ false → r ≡ y → r ≡ (x || y)
 second_of_or true y r none is = cc

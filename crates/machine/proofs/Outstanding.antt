@@ -6,6 +6,7 @@ use Rattle.std.proofs.lemmas.List.{length-set, length-take, length-drop}
 use Rattle.std.proofs.lemmas.Option.{get_or_from_slice_get, slice_get_within}
 use Rattle.std.proofs.lemmas.Bool.{true≢false}
 use borrow.Author.Tests.{ltb-true}
+use Rattle.guestmem.specs.Address.{index_of}
 use Rattle.guestmem.specs.ByteLaws.{IsBytes-take, IsBytes-drop}
 use Rattle.guestmem.specs.Number.{IsBytes}
 use Rattle.chains.specs.Places.{places, place_writes, read_places, AreSegmentsInside}
@@ -104,13 +105,13 @@ failed_after len shape r at_work calls work k q rs sound below is =
     (gone_wrong r.kind (length (places r.readable)) (length (places r.writable)) shape r.first r.units r.done calls at_work.left (rw at_work.good at work))
 
 -- Places further on.
-rest_inside : (len n : ℕ) (at : List ℕ) → AreAddresses len at → AreAddresses len (drop n at)
-rest_inside len zero at h = h
-rest_inside len (suc n) [] h = tt
-rest_inside len (suc n) (a ∷ at) h = rest_inside len n at h.1
+rest_inside : (base len n : ℕ) (at : List ℕ) → AreAddresses base len at → AreAddresses base len (drop n at)
+rest_inside base len zero at h = h
+rest_inside base len (suc n) [] h = tt
+rest_inside base len (suc n) (a ∷ at) h = rest_inside base len n at h.1
 
-some_inside : (len n k : ℕ) (r : Request) (bytes : List ℕ) → AreSegmentsInside len r.writable → IsBytes bytes → AreInsideRam len (place_writes (take n (drop k (places r.writable))) bytes)
-some_inside len n k r bytes inside are = placed_inside len (take n (drop k (places r.writable))) bytes (first_inside len n (drop k (places r.writable)) (rest_inside len k (places r.writable) (places_inside len r.writable inside))) are
+some_inside : (base len n k : ℕ) (r : Request) (bytes : List ℕ) → AreSegmentsInside base len r.writable → IsBytes bytes → AreInsideRam len (place_writes base (take n (drop k (places r.writable))) bytes)
+some_inside base len n k r bytes inside are = placed_inside base len (take n (drop k (places r.writable))) bytes (first_inside base len n (drop k (places r.writable)) (rest_inside base len k (places r.writable) (places_inside base len r.writable inside))) are
 
 no_bytes : IsBytes []
 no_bytes i = omega arith
@@ -119,33 +120,33 @@ whole_bytes : (s : Sector) → IsWhole s → IsBytes (bytes_of s)
 whole_bytes None h = no_bytes
 whole_bytes (Some bytes) h = h.bytes
 
-in_by : (len : ℕ) (shape : BlockShape) (content : List Sector) (r : Request) (bad is_fine : Bool) → IsOpen r → r.kind ≡ In → WorkOf shape r → AreSegmentsInside len r.writable → IsWhole (sector_in content (next_sector r))
-    → IsMove len shape r (cond bad (bad_sector r) (cond is_fine (moved r (place_writes (take 512 (drop (512 * r.done) (places r.writable))) (bytes_of (sector_in content (next_sector r)))) []) (disk_failed r [])))
-in_by len shape content r true is_fine at_work kind work inside whole = record { goes = failed_after len shape r at_work (rw kind tt) work; inside = tt; sets = tt }
-in_by len shape content r false true at_work kind work inside whole = record {
+in_by : (base len : ℕ) (shape : BlockShape) (content : List Sector) (r : Request) (bad is_fine : Bool) → IsOpen r → r.kind ≡ In → WorkOf shape r → AreSegmentsInside base len r.writable → IsWhole (sector_in content (next_sector r))
+    → IsMove len shape r (cond bad (bad_sector r) (cond is_fine (moved r (place_writes base (take 512 (drop (512 * r.done) (places r.writable))) (bytes_of (sector_in content (next_sector r)))) []) (disk_failed r [])))
+in_by base len shape content r true is_fine at_work kind work inside whole = record { goes = failed_after len shape r at_work (rw kind tt) work; inside = tt; sets = tt }
+in_by base len shape content r false true at_work kind work inside whole = record {
   goes = moved_after len shape r at_work work;
-  inside = some_inside len 512 (512 * r.done) r (bytes_of (sector_in content (next_sector r))) inside (whole_bytes (sector_in content (next_sector r)) whole);
+  inside = some_inside base len 512 (512 * r.done) r (bytes_of (sector_in content (next_sector r))) inside (whole_bytes (sector_in content (next_sector r)) whole);
   sets = tt;
 }
-in_by len shape content r false false at_work kind work inside whole = record { goes = failed_after len shape r at_work (rw kind tt) work; inside = tt; sets = tt }
+in_by base len shape content r false false at_work kind work inside whole = record { goes = failed_after len shape r at_work (rw kind tt) work; inside = tt; sets = tt }
 
 -- The bytes of a unit.
-read_bytes : (ram at : List ℕ) → IsBytes ram → IsBytes (read_places ram at)
-read_bytes ram [] are i = omega arith
-read_bytes ram (a ∷ at) are zero = are a
-read_bytes ram (a ∷ at) are (suc i) = read_bytes ram at are i
+read_bytes : (base : ℕ) (ram at : List ℕ) → IsBytes ram → IsBytes (read_places base ram at)
+read_bytes base ram [] are i = omega arith
+read_bytes base ram (a ∷ at) are zero = are (index_of base a)
+read_bytes base ram (a ∷ at) are (suc i) = read_bytes base ram at are i
 
-length-read_places : (ram at : List ℕ) → length (read_places ram at) ≡ length at
-length-read_places ram [] = refl
-length-read_places ram (a ∷ at) = ap suc (length-read_places ram at)
+length-read_places : (base : ℕ) (ram at : List ℕ) → length (read_places base ram at) ≡ length at
+length-read_places base ram [] = refl
+length-read_places base ram (a ∷ at) = ap suc (length-read_places base ram at)
 
-unit_whole : (ram : List ℕ) (r : Request) (units : ℕ) → IsBytes ram → r.done < units → 512 * units + 16 ≡ length (places r.readable) → IsWhole (Some (unit_bytes ram r))
-unit_whole ram r units are left long =
-    let all = read_places ram (places r.readable) in
+unit_whole : (base : ℕ) (ram : List ℕ) (r : Request) (units : ℕ) → IsBytes ram → r.done < units → 512 * units + 16 ≡ length (places r.readable) → IsWhole (Some (unit_bytes base ram r))
+unit_whole base ram r units are left long =
+    let all = read_places base ram (places r.readable) in
     let rest = drop (16 + 512 * r.done) all in
     record {
-      size = omega (arith, length-take 512 rest, length-drop (16 + 512 * r.done) all, length-read_places ram (places r.readable), left, long);
-      bytes = IsBytes-take 512 rest (IsBytes-drop (16 + 512 * r.done) all (read_bytes ram (places r.readable) are));
+      size = omega (arith, length-take 512 rest, length-drop (16 + 512 * r.done) all, length-read_places base ram (places r.readable), left, long);
+      bytes = IsBytes-take 512 rest (IsBytes-drop (16 + 512 * r.done) all (read_bytes base ram (places r.readable) are));
     }
 
 -- A unit that writes bytes to its sector.
@@ -161,10 +162,10 @@ write_by len shape bytes r false whole there at_work calls work = record {
   sets = (record { there = there; whole = tt }, tt);
 }
 
-out_by : (len : ℕ) (shape : BlockShape) (ram : List ℕ) (r : Request) (is_fine : Bool) → IsBytes ram → IsOpen r → r.kind ≡ Out → WorkOf shape r → IsMove len shape r (move_out ram r is_fine)
-out_by len shape ram r is_fine are at_work kind work =
+out_by : (base len : ℕ) (shape : BlockShape) (ram : List ℕ) (r : Request) (is_fine : Bool) → IsBytes ram → IsOpen r → r.kind ≡ Out → WorkOf shape r → IsMove len shape r (move_out base ram r is_fine)
+out_by base len shape ram r is_fine are at_work kind work =
     let w : IsSoundWork Out (length (places r.readable)) (length (places r.writable)) shape r.verdict r.first r.units r.done = rw kind at work in
-    write_by len shape (unit_bytes ram r) r is_fine (unit_whole ram r r.units are at_work.left w.1) (omega (arith, at_work.left, w.2)) at_work (rw kind tt) work
+    write_by len shape (unit_bytes base ram r) r is_fine (unit_whole base ram r r.units are at_work.left w.1) (omega (arith, at_work.left, w.2)) at_work (rw kind tt) work
 
 zeros_whole : IsWhole (Some (replicate 512 0))
 zeros_whole = record { size = refl; bytes = zero_bytes 512 }
@@ -178,21 +179,21 @@ flush_by : (len : ℕ) (shape : BlockShape) (r : Request) (is_fine : Bool) → I
 flush_by len shape r true at_work kind work = record { goes = moved_after len shape r at_work work; inside = tt; sets = tt }
 flush_by len shape r false at_work kind work = record { goes = failed_after len shape r at_work (rw kind tt) work; inside = tt; sets = tt }
 
-move_by : (len : ℕ) (shape : BlockShape) (ram : List ℕ) (content : List Sector) (r : Request) (is_fine : Bool) (k : Kind) → r.kind ≡ k → IsBytes ram → IsBytes shape.id → length content ≡ shape.sectors → AreWhole content → IsOpen r → WorkOf shape r → AreSegmentsInside len r.writable
-    → IsMove len shape r (move_of k shape.id ram content r is_fine)
-move_by len shape ram content r is_fine Refused kind are id long whole at_work work inside =
+move_by : (base len : ℕ) (shape : BlockShape) (ram : List ℕ) (content : List Sector) (r : Request) (is_fine : Bool) (k : Kind) → r.kind ≡ k → IsBytes ram → IsBytes shape.id → length content ≡ shape.sectors → AreWhole content → IsOpen r → WorkOf shape r → AreSegmentsInside base len r.writable
+    → IsMove len shape r (move_of k base shape.id ram content r is_fine)
+move_by base len shape ram content r is_fine Refused kind are id long whole at_work work inside =
     let w : IsSoundWork Refused (length (places r.readable)) (length (places r.writable)) shape Good r.first r.units r.done = rw (kind, at_work.good) at work in
     absurd (true≢false w.0)
-move_by len shape ram content r is_fine In kind are id long whole at_work work inside =
+move_by base len shape ram content r is_fine In kind are id long whole at_work work inside =
     let w : IsSoundWork In (length (places r.readable)) (length (places r.writable)) shape r.verdict r.first r.units r.done = rw kind at work in
     let there : next_sector r < length content = omega (arith, at_work.left, w.2, long) in
-    in_by len shape content r (is_bad (sector_in content (next_sector r))) is_fine at_work kind work inside (whole (next_sector r) None there)
-move_by len shape ram content r is_fine Out kind are id long whole at_work work inside = out_by len shape ram r is_fine are at_work kind work
-move_by len shape ram content r is_fine Flush kind are id long whole at_work work inside = flush_by len shape r is_fine at_work kind work
-move_by len shape ram content r is_fine Zero kind are id long whole at_work work inside = zero_by len shape r is_fine at_work kind work
-move_by len shape ram content r is_fine GetId kind are id long whole at_work work inside = record {
+    in_by base len shape content r (is_bad (sector_in content (next_sector r))) is_fine at_work kind work inside (whole (next_sector r) None there)
+move_by base len shape ram content r is_fine Out kind are id long whole at_work work inside = out_by base len shape ram r is_fine are at_work kind work
+move_by base len shape ram content r is_fine Flush kind are id long whole at_work work inside = flush_by len shape r is_fine at_work kind work
+move_by base len shape ram content r is_fine Zero kind are id long whole at_work work inside = zero_by len shape r is_fine at_work kind work
+move_by base len shape ram content r is_fine GetId kind are id long whole at_work work inside = record {
   goes = moved_after len shape r at_work work;
-  inside = some_inside len 20 0 r shape.id inside id;
+  inside = some_inside base len 20 0 r shape.id inside id;
   sets = tt;
 }
 
@@ -206,11 +207,11 @@ one_byte : (b : ℕ) → b < 256 → IsBytes (b ∷ [])
 one_byte b small zero = small
 one_byte b small (suc i) = omega arith
 
-end_inside : (len : ℕ) (q : RingState) (r : Request) → MayPublish len q → AreSegmentsInside len r.writable → AreInsideRam len (end_writes q r)
+end_inside : (len : ℕ) (q : RingState) (r : Request) → MayPublish len q → AreSegmentsInside q.base len r.writable → AreInsideRam len (end_writes q r)
 unfolding end_writes
 end_inside len q r may inside =
-    inside_append len (verdict_writes r) (published q r.id r.slots (used_len r) true)
-    (some_inside len 1 (length (places r.writable) - 1) r (verdict_byte r.verdict ∷ []) inside (one_byte (verdict_byte r.verdict) (verdict_small r.verdict)))
+    inside_append len (verdict_writes q.base r) (published q r.id r.slots (used_len r) true)
+    (some_inside q.base len 1 (length (places r.writable) - 1) r (verdict_byte r.verdict ∷ []) inside (one_byte (verdict_byte r.verdict) (verdict_small r.verdict)))
     (published_inside len q r.id r.slots (used_len r) true may)
 
 All-remove : {A : Type 0} (P : A → Type 0) (xs : List A) (n : ℕ) → All P xs → All P (remove xs n)
@@ -236,26 +237,26 @@ pub record GoesOn (len : ℕ) (q : RingState) (shape : BlockShape) (requests : L
 
 advanced_one : (len : ℕ) (shape : BlockShape) (ram : List ℕ) (q : RingState) (content : List Sector) (requests : List Request) (k : ℕ) (is_fine : Bool) (r : Request) (at_work : Bool) → is_open r ≡ at_work → slice_get requests k ≡ Some r
     → IsLookedRing len q → IsBytes ram → IsBytes shape.id → length content ≡ shape.sectors → AreWhole content → AreSound len q shape requests
-    → GoesOn len q shape requests (cond at_work (after_move q requests k (move_of r.kind shape.id ram content r is_fine)) (completed ram q requests k r))
+    → GoesOn len q shape requests (cond at_work (after_move q requests k (move_of r.kind q.base shape.id ram content r is_fine)) (completed ram q requests k r))
 advanced_one len shape ram q content requests k is_fine r true at_work at may are id long whole sound =
     let below : k < length requests = slice_get_within requests k r at in
     let is : r ≡ get_or requests k r = sym (get_or_from_slice_get requests k r r at) in
-    let one : IsSoundRequest len q.is_packed q.size shape r = rw (← is) at (sound k r below) in
-    let m = move_by len shape ram content r is_fine r.kind refl are id long whole (open_is r at_work) one.work one.writable in
+    let one : IsSoundRequest q.base len q.is_packed q.size shape r = rw (← is) at (sound k r below) in
+    let m = move_by q.base len shape ram content r is_fine r.kind refl are id long whole (open_is r at_work) one.work one.writable in
     record {
       sound = m.goes k q requests sound below is;
       ring = same_ring q may.placed;
-      few = omega (arith, length-set requests k (move_of r.kind shape.id ram content r is_fine).request);
+      few = omega (arith, length-set requests k (move_of r.kind q.base shape.id ram content r is_fine).request);
       inside = m.inside;
       sets = m.sets;
     }
 advanced_one len shape ram q content requests k is_fine r false at_work at may are id long whole sound =
     let below : k < length requests = slice_get_within requests k r at in
     let is : r ≡ get_or requests k r = sym (get_or_from_slice_get requests k r r at) in
-    let one : IsSoundRequest len q.is_packed q.size shape r = rw (← is) at (sound k r below) in
+    let one : IsSoundRequest q.base len q.is_packed q.size shape r = rw (← is) at (sound k r below) in
     record {
-      sound = All-remove (IsSoundRequest len q.is_packed q.size shape) requests k sound;
-      ring = record { layout = refl; size = refl; placed = placed_published q r.slots q.is_packed refl may.may may.placed one.slots };
+      sound = All-remove (IsSoundRequest q.base len q.is_packed q.size shape) requests k sound;
+      ring = record { base = refl; layout = refl; size = refl; placed = placed_published q r.slots q.is_packed refl may.may may.placed one.slots };
       few = length-remove requests k;
       inside = end_inside len q r (may_publish len q may) one.writable;
       sets = tt;

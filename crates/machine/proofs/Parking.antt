@@ -12,6 +12,7 @@ use Rattle.machine.specs.Sound.{IsSoundDevice}
 use Rattle.machine.specs.declared.machine.TheConstants.{DEVICES_MAX}
 use Rattle.machine.specs.declared.shape.Shape.{Shape}
 use Rattle.machine.specs.Shapes.{made_as}
+use Rattle.machine.specs.State.{base_of}
 
 pub was_held : (shapes : List Shape) (m : Seen) → IsHeld shapes m → IsMemory m.memory → WasHeld shapes (record { versions = m.memory.versions; devices = m.devices })
 was_held shapes m held mem n is bytes count =
@@ -23,7 +24,7 @@ was_held shapes m held mem n is bytes count =
         few_pages = omega (arith, is.pages, is.few);
         some_devices = held.sound.some_devices;
         few_devices = held.sound.few_devices;
-        devices = subst (λ (k : ℕ). All (IsSoundDevice k) (map (λ d. d.state) m.devices)) (sym same) held.sound.devices;
+        devices = subst (λ (k : ℕ). All (IsSoundDevice (base_of (map (λ d. d.state) m.devices)) k) (map (λ d. d.state) m.devices)) (sym same) held.sound.devices;
         bytes = bytes;
         disks = held.sound.disks;
         sectors = held.sound.sectors;

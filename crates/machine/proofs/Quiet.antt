@@ -2,7 +2,7 @@
 use Rattle.std.proofs.Common.{◌≡◌, ℕ, List, [], length, Option, Some, None, refl, ap, ◌∙◌}
 use Rattle.std.specs.Prelude.{Result, Ok, Err, slice_get}
 use Rattle.guestmem.specs.Item.{Item}
-use Rattle.guestmem.specs.Write.{refusal_of}
+use Rattle.guestmem.specs.Address.{access_refusal, index_of}
 use Rattle.guestmem.specs.declared.error.RamError.{RamError}
 use Rattle.chains.specs.declared.next.Next.{Next}
 use Rattle.console.specs.declared.size.ConsoleSize.{ConsoleSize}
@@ -10,7 +10,7 @@ use Rattle.machine.specs.Applied.{IsApplied, IsAppliedLogged, as_given}
 use Rattle.machine.specs.Effect.{items_of}
 use Rattle.machine.specs.Outcome.{Outcome, disk_failed, fine, no_memory, outcome_of}
 use Rattle.machine.specs.Seen.{Seen, state_of}
-use Rattle.machine.specs.State.{DeviceState, MachineState}
+use Rattle.machine.specs.State.{DeviceState, MachineState, base_of}
 use Rattle.machine.specs.Step.{answer, input_of, put_by, put_in, read_ram, read_register, set_size, size_by, write_register}
 use Rattle.machine.specs.declared.event.Event.{Event}
 use Rattle.machine.specs.declared.event.Event.TheVariants.{RegRead, RegWrite, MemRead, MemWrite, Step, Input, Resize}
@@ -59,7 +59,7 @@ of_size dev (Some d) size = of_kind dev d d.kind size
 pub no_items : (m : MachineState) (e : Event) (o : Outcome) (seen : Next) → IsQuiet e → items_of (answer m e o seen).effect ≡ []
 no_items m (RegRead dev off width) o seen quiet = of_read (slice_get m.devices dev) off width
 no_items m (RegWrite dev off width value) o seen quiet = of_written dev (slice_get m.devices dev) off width value
-no_items m (MemRead addr len) o seen quiet = of_ram m.ram addr len (refusal_of (length m.ram) addr len) o
+no_items m (MemRead addr len) o seen quiet = of_ram m.ram (index_of (base_of m.devices) addr) len (access_refusal (base_of m.devices) (length m.ram) addr len) o
 no_items m (MemWrite addr bytes) o seen quiet = absurd quiet
 no_items m (Step dev pick) o seen quiet = absurd quiet
 no_items m (Input dev bytes) o seen quiet = of_input dev (slice_get m.devices dev) bytes

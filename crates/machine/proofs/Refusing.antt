@@ -5,7 +5,7 @@ use Rattle.blk.specs.Sectors.{Sector}
 use Rattle.chains.specs.State.{RingState}
 use Rattle.chains.specs.declared.next.Next.{Next}
 use Rattle.console.specs.declared.size.ConsoleSize.{ConsoleSize}
-use Rattle.guestmem.specs.Write.{refusal_of}
+use Rattle.guestmem.specs.Address.{access_refusal, index_of}
 use Rattle.guestmem.specs.Writes.{set_all}
 use Rattle.guestmem.specs.declared.error.RamError.{RamError}
 use Rattle.machine.specs.Applied.{AreMadeBad, as_given, marks_after}
@@ -14,7 +14,7 @@ use Rattle.machine.specs.DeviceStep.{advanced_at, device_step, looked_at, step_a
 use Rattle.machine.specs.Effect.{Effect, applied, items_of, replaced_in, sectors_set, sets_on}
 use Rattle.machine.specs.Outcome.{Outcome, disk_failed, fine, is_failure, no_memory, outcome_of}
 use Rattle.machine.specs.Seen.{Marks, all_marks, state_of}
-use Rattle.machine.specs.State.{DeviceState, MachineState}
+use Rattle.machine.specs.State.{DeviceState, MachineState, base_of}
 use Rattle.machine.specs.Step.{answer, input_of, put_by, put_in, read_ram, read_register, set_size, size_by, step_device, write_ram, write_register}
 use Rattle.machine.specs.StepLaws.{IsRefusal}
 use Rattle.machine.specs.declared.event.Event.{Event}
@@ -85,8 +85,8 @@ of_size dev (Some d) size = of_size_by dev d d.kind size
 unwritten : (m : MachineState) (e : Event) (o : Outcome) (seen : Next) → IsRefusal (answer m e o seen).reply → IsUnwritten (answer m e o seen).effect
 unwritten m (RegRead dev off width) o seen h = of_look (slice_get m.devices dev) off width
 unwritten m (RegWrite dev off width value) o seen h = of_set dev (slice_get m.devices dev) off width value
-unwritten m (MemRead addr len) o seen h = of_read m.ram addr len (refusal_of (length m.ram) addr len) o
-unwritten m (MemWrite addr bytes) o seen h = of_store addr bytes (refusal_of (length m.ram) addr (length bytes)) h
+unwritten m (MemRead addr len) o seen h = of_read m.ram (index_of (base_of m.devices) addr) len (access_refusal (base_of m.devices) (length m.ram) addr len) o
+unwritten m (MemWrite addr bytes) o seen h = of_store (index_of (base_of m.devices) addr) bytes (access_refusal (base_of m.devices) (length m.ram) addr (length bytes)) h
 unwritten m (Step dev pick) o seen h = of_step dev (slice_get m.devices dev) m.ram _ pick o seen h
 unwritten m (Input dev bytes) o seen h = of_put dev (slice_get m.devices dev) bytes
 unwritten m (Resize dev cols rows) o seen h = of_size dev (slice_get m.devices dev) (record { columns = cols; rows = rows })

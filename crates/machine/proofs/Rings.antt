@@ -1,5 +1,5 @@
 -- The ring of a queue that is looked at: what holds of it before and after the step.
-use Rattle.std.proofs.Common.{◌≡◌, ℕ, zero, suc, ◌+◌, ◌-◌, ◌*◌, ◌^◌, ◌<◌, ◌≤◌, Bool, true, false, cond, ltb, List, [], ◌∷◌, length, set, Some, refl, ap, subst, arith}
+use Rattle.std.proofs.Common.{◌≡◌, ℕ, zero, suc, ◌+◌, ◌-◌, ◌*◌, ◌%◌, ◌^◌, ◌<◌, ◌≤◌, Bool, true, false, cond, ltb, List, [], ◌∷◌, length, set, Some, refl, ap, subst, arith}
 use Rattle.std.specs.Prelude.{not, bit_and}
 use Rattle.std.specs.Bool.{MatchBool}
 use Rattle.std.specs.List.{slice_get}
@@ -8,11 +8,12 @@ use Rattle.std.proofs.lemmas.Bool.{eqb-true, eqb-false}
 use borrow.Author.Tests.{ltb-true, ltb-false}
 use Rattle.std.proofs.lemmas.Nat.Bits.{and_pow}
 use Rattle.mmio.specs.Bits.{has}
-use Rattle.mmio.specs.QueueReady.{MayBeReady}
+use Rattle.guestmem.specs.Address.{index_of}
+use Rattle.mmio.specs.QueueReady.{IsInside, MayBeReady}
 use Rattle.mmio.specs.declared.common.Common.{Common}
 use Rattle.mmio.specs.declared.queue.Queue.{Queue}
 use Rattle.mmio.proofs.StayingSound.{queue_sound}
-use Rattle.chains.specs.State.{RingState, state_of, has_bit, MayRing, HasAreas}
+use Rattle.chains.specs.State.{RingState, state_of, has_bit, MayRing, HasAreas, IsArea}
 use Rattle.chains.specs.Publish.{after_take, after_publish, gone_on, after_chain}
 use Rattle.chains.specs.declared.position.Position.{Position}
 use Rattle.chains.specs.declared.position.Positions.{Positions}
@@ -79,33 +80,48 @@ pub record IsLookedRing (len : ℕ) (s : RingState) : Type 0 where
   pub areas : HasAreas len s
   pub placed : IsPlacedRing s
 
-ring_by : (len : ℕ) (c : Common) (q : Queue) (p : Positions) (packed : Bool) → has c.features (2 ^ 34) ≡ packed → has_bit c.features (2 ^ 34) ≡ packed → MayBeReady len c q → q.is_ready ≡ true → HasPositions packed q p → IsLookedRing len (state_of q c.features p)
-ring_by len c q p true is bit may ready at =
+-- An area that the driver gave at an aligned address lies at an aligned index, since RAM begins at a whole page.
+area_16 : (base len from bytes : ℕ) → base % 4096 ≡ 0 → IsInside base len from 16 bytes → IsArea len (index_of base from) 16 bytes
+area_16 base len from bytes whole h = record { aligned = omega (arith, whole, h.aligned, h.within.above); inside = omega (arith, h.within.above, h.within.below) }
+
+area_4 : (base len from bytes : ℕ) → base % 4096 ≡ 0 → IsInside base len from 4 bytes → IsArea len (index_of base from) 4 bytes
+area_4 base len from bytes whole h = record { aligned = omega (arith, whole, h.aligned, h.within.above); inside = omega (arith, h.within.above, h.within.below) }
+
+area_2 : (base len from bytes : ℕ) → base % 4096 ≡ 0 → IsInside base len from 2 bytes → IsArea len (index_of base from) 2 bytes
+area_2 base len from bytes whole h = record { aligned = omega (arith, whole, h.aligned, h.within.above); inside = omega (arith, h.within.above, h.within.below) }
+
+ring_by : (base len : ℕ) (c : Common) (q : Queue) (p : Positions) (packed : Bool) → has c.features (2 ^ 34) ≡ packed → has_bit c.features (2 ^ 34) ≡ packed → base % 4096 ≡ 0 → MayBeReady base len c q → q.is_ready ≡ true → HasPositions packed q p → IsLookedRing len (state_of q c.features base p)
+ring_by base len c q p true is bit whole may ready at =
     let areas = may.packed (eqb-true _ _ is) in
+    let driver = area_4 base len q.driver 4 whole areas.driver in
+    let device = area_4 base len q.device 4 whole areas.device in
     let placed : ArePlaced true q.size p = of_true q.is_ready (ArePlaced true q.size p) (p ≡ first_positions) at.where_ready ready in
     record {
       may = record { some = may.some; few = may.few; slots = rw bit placed };
-      areas = record { descriptors = areas.descriptors; driver = rw bit areas.driver; device = rw bit areas.device };
+      areas = record { descriptors = area_16 base len q.descriptors (16 * q.size) whole areas.descriptors; driver = rw bit driver; device = rw bit device };
       placed = record { taking_fits = at.taking_fits; used_fits = at.used_fits; placed = rw bit placed };
     }
-ring_by len c q p false is bit may ready at =
+ring_by base len c q p false is bit whole may ready at =
     let areas = may.split (eqb-false _ _ is) in
+    let driver = area_2 base len q.driver (6 + 2 * q.size) whole areas.driver in
+    let device = area_4 base len q.device (6 + 8 * q.size) whole areas.device in
     let placed : ArePlaced false q.size p = of_true q.is_ready (ArePlaced false q.size p) (p ≡ first_positions) at.where_ready ready in
     record {
       may = record { some = may.some; few = may.few; slots = rw bit tt };
-      areas = record { descriptors = areas.descriptors; driver = rw bit areas.driver; device = rw bit areas.device };
+      areas = record { descriptors = area_16 base len q.descriptors (16 * q.size) whole areas.descriptors; driver = rw bit driver; device = rw bit device };
       placed = record { taking_fits = at.taking_fits; used_fits = at.used_fits; placed = rw bit placed };
     }
 
 -- The ring of a ready queue of a sound device.
-pub ready_ring : (len : ℕ) (d : DeviceState) (pick : ℕ) (queue : Queue) (p : Positions) → IsSoundDevice len d → slice_get d.registers.queues pick ≡ Some queue → slice_get d.positions pick ≡ Some p → queue.is_ready ≡ true
-    → IsLookedRing len (state_of queue d.registers.common.features p)
+pub ready_ring : {base : ℕ} (len : ℕ) (d : DeviceState) (pick : ℕ) (queue : Queue) (p : Positions) → IsSoundDevice base len d → slice_get d.registers.queues pick ≡ Some queue → slice_get d.positions pick ≡ Some p → queue.is_ready ≡ true
+    → IsLookedRing len (state_of queue d.registers.common.features d.registers.ram_base p)
 ready_ring len d pick queue p sound there placed ready =
-    let may : MayBeReady len d.registers.common queue = rw sound.ram_len at ((queue_sound d.registers pick queue there sound.registers).ready ready) in
-    ring_by len d.registers.common queue p (has d.registers.common.features (2 ^ 34)) refl (packed_same d.registers.common.features) may ready
+    let whole : d.registers.ram_base % 4096 ≡ 0 = rw sound.ram_base sound.based.whole in
+    let may : MayBeReady d.registers.ram_base len d.registers.common queue = rw sound.ram_len at ((queue_sound d.registers pick queue there sound.registers).ready ready) in
+    ring_by d.registers.ram_base len d.registers.common queue p (has d.registers.common.features (2 ^ 34)) refl (packed_same d.registers.common.features) whole may ready
     (have_at (is_packed_by d.registers.common) d.registers.queues d.positions pick queue p sound.positions there placed)
 
-pub looked_ring : (len : ℕ) (d : DeviceState) (pick : ℕ) (q : RingState) → IsSoundDevice len d → IsLookedAt d pick q → IsLookedRing len q
+pub looked_ring : {base : ℕ} (len : ℕ) (d : DeviceState) (pick : ℕ) (q : RingState) → IsSoundDevice base len d → IsLookedAt d pick q → IsLookedRing len q
 looked_ring len d pick q sound h = rw h.is (ready_ring len d pick h.queue h.positions sound h.there h.placed h.ready)
 
 -- The ring after a chain was taken and published.

@@ -36,14 +36,15 @@ use Rattle.machine.specs.declared.kind.Kind.{Kind}
 use Rattle.machine.specs.declared.kind.Kind.TheVariants.{Network, Block, Console, Entropy}
 use Rattle.machine.proofs.Rings.{IsLookedRing, IsPlacedRing, placed_by, placed_taken}
 
--- A ring of the same layout and size, whose places fit.
+-- A ring of the same base, layout and size, whose places fit.
 pub record IsSameRing (s new : RingState) : Type 0 where
+  pub base : new.base ≡ s.base
   pub layout : new.is_packed ≡ s.is_packed
   pub size : new.size ≡ s.size
   pub placed : IsPlacedRing new
 
 pub same_ring : (s : RingState) → IsPlacedRing s → IsSameRing s s
-same_ring s placed = record { layout = refl; size = refl; placed = placed }
+same_ring s placed = record { base = refl; layout = refl; size = refl; placed = placed }
 
 -- The step that gives bytes: the ring after it, and the bytes that are left.
 record GivesOn (s new : RingState) (left : List ℕ) : Type 0 where
@@ -56,7 +57,7 @@ unfolding give
 given_on len ram s held next.Empty looked bounded are = record { ring = same_ring s looked.placed; left_are = are }
 given_on len ram s held next.Malformed looked bounded are = record { ring = same_ring s looked.placed; left_are = are }
 given_on len ram s held (next.Chain c) looked bounded are = record {
-  ring = record { layout = refl; size = refl; placed = placed_by s c.slots s.is_packed refl looked.may looked.placed bounded.slots };
+  ring = record { base = refl; layout = refl; size = refl; placed = placed_by s c.slots s.is_packed refl looked.may looked.placed bounded.slots };
   left_are = record {
     few = omega (arith, length-drop (min (length (places c.writable)) (length held)) held, are.few);
     are = IsBytes-drop (min (length (places c.writable)) (length held)) held are.are;
@@ -87,10 +88,10 @@ taken_on ram s shape requests (next.Chain c) room bytes sees looked are =
     let usage = usable (wanted.Request REQUEST_HEADER_SIZE) ram s c sees in
     let bounded : IsBounded (length ram) s c = sight_bounded (wanted.Request REQUEST_HEADER_SIZE) ram s (next.Chain c) sees in
     record {
-      ring = record { layout = refl; size = refl; placed = placed_taken s c.slots s.is_packed refl looked.may looked.placed bounded.slots };
+      ring = record { base = refl; layout = refl; size = refl; placed = placed_taken s c.slots s.is_packed refl looked.may looked.placed bounded.slots };
       are = record {
-        few = omega (arith, ltb-true (length requests) 8 room, length-append requests (request_for c (task_for ram shape c) ∷ []));
-        sound = taken_sound (length ram) s shape requests (header_of ram c) (segment_of ram c) c (id_fits ram s c bytes looked.may.few usage.answers.1) bounded usage.fit are.sound;
+        few = omega (arith, ltb-true (length requests) 8 room, length-append requests (request_for c (task_for s.base ram shape c) ∷ []));
+        sound = taken_sound (length ram) s shape requests (header_of s.base ram c) (segment_of s.base ram c) c (id_fits ram s c bytes looked.may.few usage.answers.1) bounded usage.fit are.sound;
       };
     }
 
@@ -107,7 +108,7 @@ one_given : (ram : List ℕ) (s : RingState) (frame : List ℕ) (rest : List (Li
 unfolding net.give
 one_given ram s frame rest c true looked few are = record { ring = same_ring s looked.placed; are = frames_left frame rest are }
 one_given ram s frame rest c false looked few are = record {
-  ring = record { layout = refl; size = refl; placed = placed_by s c.slots s.is_packed refl looked.may looked.placed few };
+  ring = record { base = refl; layout = refl; size = refl; placed = placed_by s c.slots s.is_packed refl looked.may looked.placed few };
   are = frames_left frame rest are;
 }
 
@@ -122,7 +123,7 @@ framed_on ram s (frame ∷ rest) (next.Chain c) looked bounded are = one_given r
 sent_on : (ram : List ℕ) (s : RingState) (form : MessageForm) (seen : Next) → IsLookedRing (length ram) s → IsBoundedNext (length ram) s seen → IsSameRing s (transmit_step ram s form seen).ring
 sent_on ram s form next.Empty looked bounded = same_ring s looked.placed
 sent_on ram s form next.Malformed looked bounded = same_ring s looked.placed
-sent_on ram s form (next.Chain c) looked bounded = record { layout = refl; size = refl; placed = placed_by s c.slots s.is_packed refl looked.may looked.placed bounded.slots }
+sent_on ram s form (next.Chain c) looked bounded = record { base = refl; layout = refl; size = refl; placed = placed_by s c.slots s.is_packed refl looked.may looked.placed bounded.slots }
 
 -- The ring after a queue was served, and what the kind has.
 pub record ServesOn (len : ℕ) (features : ℕ) (s new : RingState) (kind : Kind) : Type 0 where

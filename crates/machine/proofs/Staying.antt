@@ -58,12 +58,14 @@ use Rattle.blk.proofs.Zeros.{zero_bytes}
 
 -- A device stays sound if it stays what it was made as, its registers stay sound, and its positions and what only its kind has
 -- are such as it can have.
-stays_sound : (len : ℕ) (d new : DeviceState) → made_as new.kind ≡ made_as d.kind → StaysSound d.registers new.registers → HavePositions (is_packed_by new.registers.common) new.registers.queues new.positions → IsSoundKind len new.registers new.kind → IsSoundDevice len d → IsSoundDevice len new
+stays_sound : {base : ℕ} (len : ℕ) (d new : DeviceState) → made_as new.kind ≡ made_as d.kind → StaysSound d.registers new.registers → HavePositions (is_packed_by new.registers.common) new.registers.queues new.positions → IsSoundKind len new.registers new.kind → IsSoundDevice base len d → IsSoundDevice base len new
 stays_sound len d new same stays positions kind sound = record {
   shape = rw same sound.shape;
   device_id = rw same (stays.same.device_id ∙ sound.device_id);
   offered = rw same (stays.same.offered ∙ sound.offered);
   queues = rw same (stays.same.queue_count ∙ sound.queues);
+  based = sound.based;
+  ram_base = stays.same.ram_base ∙ sound.ram_base;
   ram_len = stays.same.ram_len ∙ sound.ram_len;
   registers = stays.sound;
   positions = positions;
@@ -71,7 +73,7 @@ stays_sound len d new same stays positions kind sound = record {
 }
 
 same_registers : (r : Registers) → IsSoundRegisters r → StaysSound r r
-same_registers r sound = record { same = record { device_id = refl; offered = refl; ram_len = refl; queue_count = refl }; sound = sound }
+same_registers r sound = record { same = record { device_id = refl; offered = refl; ram_base = refl; ram_len = refl; queue_count = refl }; sound = sound }
 
 first_placed : (packed : Bool) (size : ℕ) → 0 < size → ArePlaced packed size first_positions
 first_placed true size some = (some, some)
@@ -127,43 +129,45 @@ none_where : (b : Bool) → MatchBool b (Unit {0}) (NoRequests ≡ [])
 none_where true = tt
 none_where false = refl
 
-no_requests : (len : ℕ) (packed : Bool) (q : Queue) (shape : BlockShape) → AreRequestsOf len packed q shape []
-no_requests len packed q shape = record { few = omega arith; sound = λ k d below. absurd (omega (arith, below)); where_ready = none_where q.is_ready }
+no_requests : (base len : ℕ) (packed : Bool) (q : Queue) (shape : BlockShape) → AreRequestsOf base len packed q shape []
+no_requests base len packed q shape = record { few = omega arith; sound = λ k d below. absurd (omega (arith, below)); where_ready = none_where q.is_ready }
 
 any_where : (b : Bool) (requests : List Request) → b ≡ true → MatchBool b (Unit {0}) (requests ≡ [])
 any_where true requests is = tt
 any_where false requests is = cc
 
-kept_by : (len : ℕ) (was is : ℕ) (old new : Queue) (shape : ℕ → BlockShape) (requests : List Request) (ready : Bool) → new.is_ready ≡ ready → StaysReady was is old new → AreRequestsOf len (is_packed was) old (shape was) requests
-    → AreRequestsOf len (is_packed is) new (shape is) (cond ready requests [])
-kept_by len was is old new shape requests false at stays are = no_requests len (is_packed is) new (shape is)
-kept_by len was is old new shape requests true at stays are = elim (stays at) as (λ _. AreRequestsOf len (is_packed is) new (shape is) requests) [
+kept_by : (base len : ℕ) (was is : ℕ) (old new : Queue) (shape : ℕ → BlockShape) (requests : List Request) (ready : Bool) → new.is_ready ≡ ready → StaysReady was is old new → AreRequestsOf base len (is_packed was) old (shape was) requests
+    → AreRequestsOf base len (is_packed is) new (shape is) (cond ready requests [])
+kept_by base len was is old new shape requests false at stays are = no_requests base len (is_packed is) new (shape is)
+kept_by base len was is old new shape requests true at stays are = elim (stays at) as (λ _. AreRequestsOf base len (is_packed is) new (shape is) requests) [
   | inl made ↦
       (let none : requests ≡ [] = of_idle old.is_ready (Unit {0}) (requests ≡ []) are.where_ready made.0 in
-      rw none (no_requests len (is_packed is) new (shape is)))
+      rw none (no_requests base len (is_packed is) new (shape is)))
   | inr stayed ↦ record { few = are.few; sound = rw (stayed.1, stayed.2) are.sound; where_ready = any_where new.is_ready requests at }
 ]
 
-kept_requests_sound : (len : ℕ) (was is : ℕ) (os ns : List Queue) (shape : ℕ → BlockShape) (requests : List Request) → EachStaysReady was is os ns
-    → IsSomeAnd (slice_get os 0) (λ q. AreRequestsOf len (is_packed was) q (shape was) requests) → IsSomeAnd (slice_get ns 0) (λ q. AreRequestsOf len (is_packed is) q (shape is) (kept_requests ns requests))
-kept_requests_sound len was is [] ns shape requests stay are = absurd are
-kept_requests_sound len was is (o ∷ os) [] shape requests stay are = absurd stay
-kept_requests_sound len was is (o ∷ os) (n ∷ ns) shape requests stay are = kept_by len was is o n shape requests n.is_ready refl stay.0 are
+kept_requests_sound : (base len : ℕ) (was is : ℕ) (os ns : List Queue) (shape : ℕ → BlockShape) (requests : List Request) → EachStaysReady was is os ns
+    → IsSomeAnd (slice_get os 0) (λ q. AreRequestsOf base len (is_packed was) q (shape was) requests) → IsSomeAnd (slice_get ns 0) (λ q. AreRequestsOf base len (is_packed is) q (shape is) (kept_requests ns requests))
+kept_requests_sound base len was is [] ns shape requests stay are = absurd are
+kept_requests_sound base len was is (o ∷ os) [] shape requests stay are = absurd stay
+kept_requests_sound base len was is (o ∷ os) (n ∷ ns) shape requests stay are = kept_by base len was is o n shape requests n.is_ready refl stay.0 are
 
-kind_kept : (len : ℕ) (r new : Registers) (kind : Kind) → EachStaysReady r.common.features new.common.features r.queues new.queues → IsSoundKind len r kind → IsSoundKind len new (kept_kind new.queues kind)
-kind_kept len r new (Network mac frames) stay sound = sound
-kind_kept len r new (Block sectors read_only id requests) stay sound = kept_requests_sound len r.common.features new.common.features r.queues new.queues (with_features sectors read_only id) requests stay sound
-kind_kept len r new (Console size held) stay sound = sound
-kind_kept len r new (Entropy pool) stay sound = sound
+kind_kept : (len : ℕ) (r new : Registers) (kind : Kind) → new.ram_base ≡ r.ram_base → EachStaysReady r.common.features new.common.features r.queues new.queues → IsSoundKind len r kind → IsSoundKind len new (kept_kind new.queues kind)
+kind_kept len r new (Network mac frames) same stay sound = sound
+kind_kept len r new (Block sectors read_only id requests) same stay sound =
+    subst (λ (base : ℕ). IsSomeAnd (slice_get new.queues 0) (λ q. AreRequestsOf base len (is_packed_by new.common) q (with_features sectors read_only id new.common.features) (kept_requests new.queues requests))) (sym same)
+    (kept_requests_sound r.ram_base len r.common.features new.common.features r.queues new.queues (with_features sectors read_only id) requests stay sound)
+kind_kept len r new (Console size held) same stay sound = sound
+kind_kept len r new (Entropy pool) same stay sound = sound
 
 -- The driver writes a register.
-pub sound_written : (len : ℕ) (d : DeviceState) (offset width value : ℕ) → value < 2 ^ 32 → IsSoundDevice len d → IsSoundDevice len (register_set d offset width value)
+pub sound_written : {base : ℕ} (len : ℕ) (d : DeviceState) (offset width value : ℕ) → value < 2 ^ 32 → IsSoundDevice base len d → IsSoundDevice base len (register_set d offset width value)
 sound_written len d offset width value small sound =
     let new = (register_write d.registers offset width value).1 in
     let stays : StaysSound d.registers new = write_sound d.registers offset width value small sound.registers in
     let ready = write_stays d.registers offset width value sound.registers in
     stays_sound len d (register_set d offset width value) (kept_as new.queues d.kind) stays
-    (all_kept d.registers.common.features new.common.features d.registers.queues new.queues d.positions ready sound.positions) (kind_kept len d.registers new d.kind ready sound.kind) sound
+    (all_kept d.registers.common.features new.common.features d.registers.queues new.queues d.positions ready sound.positions) (kind_kept len d.registers new d.kind stays.same.ram_base ready sound.kind) sound
 
 -- The host puts bytes in.
 host_bytes_more : (pool bytes : List ℕ) → AreHostBytes pool → IsBytes bytes → length pool + length bytes ≤ 4096 → AreHostBytes (pool ++ bytes)
@@ -204,7 +208,7 @@ sound_put len r (Block sectors read_only id requests) bytes sound are = sound
 sound_put len r (Console size held) bytes sound are = record { columns = sound.columns; rows = sound.rows; text = bytes_put held bytes sound.text are }
 sound_put len r (Entropy pool) bytes sound are = bytes_put pool bytes sound are
 
-pub sound_input : (len : ℕ) (d : DeviceState) (bytes : List ℕ) → IsBytes bytes → IsSoundDevice len d → IsSoundDevice len (with_input d bytes)
+pub sound_input : {base : ℕ} (len : ℕ) (d : DeviceState) (bytes : List ℕ) → IsBytes bytes → IsSoundDevice base len d → IsSoundDevice base len (with_input d bytes)
 sound_input len d bytes are sound =
     stays_sound len d (with_input d bytes) (input_as d.kind bytes) (same_registers d.registers sound.registers) sound.positions (sound_put len d.registers d.kind bytes sound.kind are) sound
 
@@ -231,7 +235,7 @@ changed_by r false sound = registers_stay r (record r.common { generation = (r.c
 
 changed_sound : (r : Registers) (feature : ℕ) → IsSoundRegisters r → StaysSound r (with_common r (configuration_changed r.common feature))
 changed_sound r feature sound = record {
-  same = record { device_id = refl; offered = refl; ram_len = refl; queue_count = refl };
+  same = record { device_id = refl; offered = refl; ram_base = refl; ram_len = refl; queue_count = refl };
   sound = changed_by r (has r.common.status 4 && has r.common.features feature) sound;
 }
 
@@ -244,7 +248,7 @@ resized_positions : (r : Registers) (other : Bool) (ps : List Positions) → Hav
 resized_positions r true ps have = have
 resized_positions r false ps have = have
 
-pub sound_resized : (len : ℕ) (d : DeviceState) (old size : ConsoleSize) (held : List ℕ) → d.kind ≡ Console old held → size.columns < 2 ^ 16 → size.rows < 2 ^ 16 → IsSoundDevice len d → IsSoundDevice len (record d { registers = resized old size d.registers; kind = Console size held })
+pub sound_resized : {base : ℕ} (len : ℕ) (d : DeviceState) (old size : ConsoleSize) (held : List ℕ) → d.kind ≡ Console old held → size.columns < 2 ^ 16 → size.rows < 2 ^ 16 → IsSoundDevice base len d → IsSoundDevice base len (record d { registers = resized old size d.registers; kind = Console size held })
 sound_resized len d old size held is columns rows sound =
     let stays = resized_by d.registers (differ old size) sound.registers in
     let was : IsSoundConsole old held = rw is at sound.kind in
@@ -252,10 +256,10 @@ sound_resized len d old size held is columns rows sound =
     (resized_positions d.registers (differ old size) d.positions sound.positions) (record { columns = columns; rows = rows; text = was.text }) sound
 
 -- What only a kind has, beside the ring of a queue.
-beside_by : (len : ℕ) (r : Registers) (kind : Kind) (pick : ℕ) (queue : Queue) (p : Positions) → length r.queues ≡ queues_of (made_as kind) → queue_at r pick ≡ Some queue → IsSoundKind len r kind → SoundBeside len (state_of queue r.common.features p) r.common.features kind
+beside_by : (len : ℕ) (r : Registers) (kind : Kind) (pick : ℕ) (queue : Queue) (p : Positions) → length r.queues ≡ queues_of (made_as kind) → queue_at r pick ≡ Some queue → IsSoundKind len r kind → SoundBeside len (state_of queue r.common.features r.ram_base p) r.common.features kind
 beside_by len r (Network mac frames) pick queue p count there sound = sound
 beside_by len r (Block sectors read_only id requests) zero queue p count there sound =
-    let are : AreRequestsOf len (is_packed_by r.common) queue (with_features sectors read_only id r.common.features) requests = rw there at sound in
+    let are : AreRequestsOf r.ram_base len (is_packed_by r.common) queue (with_features sectors read_only id r.common.features) requests = rw there at sound in
     record { few = are.few; sound = rw (packed_same r.common.features) are.sound }
 beside_by len r (Block sectors read_only id requests) (suc pick) queue p count there sound =
     let below : suc pick < length r.queues = slice_get_within r.queues (suc pick) queue there in
@@ -263,7 +267,7 @@ beside_by len r (Block sectors read_only id requests) (suc pick) queue p count t
 beside_by len r (Console size held) pick queue p count there sound = sound
 beside_by len r (Entropy pool) pick queue p count there sound = sound
 
-pub beside : (len : ℕ) (d : DeviceState) (pick : ℕ) (queue : Queue) (p : Positions) (q : RingState) → IsSoundDevice len d → queue_at d.registers pick ≡ Some queue → q ≡ state_of queue d.registers.common.features p → SoundBeside len q d.registers.common.features d.kind
+pub beside : {base : ℕ} (len : ℕ) (d : DeviceState) (pick : ℕ) (queue : Queue) (p : Positions) (q : RingState) → IsSoundDevice base len d → queue_at d.registers pick ≡ Some queue → q ≡ state_of queue d.registers.common.features d.registers.ram_base p → SoundBeside len q d.registers.common.features d.kind
 beside len d pick queue p q sound there is = rw is (beside_by len d.registers d.kind pick queue p sound.queues there sound.kind)
 
 -- A queue that is ready, with such a size, where the driver accepted these features.
@@ -275,24 +279,24 @@ record IsReadyAt (r : Registers) (pick : ℕ) (features : ℕ) (size : ℕ) : Ty
   accepted : r.common.features ≡ features
 
 -- Back from what a kind has beside the ring of such a queue.
-back : (len : ℕ) (r : Registers) (kind : Kind) (pick features size : ℕ) (s : RingState) → length r.queues ≡ queues_of (made_as kind) → IsReadyAt r pick features size → s.is_packed ≡ is_packed features → s.size ≡ size → SoundBeside len s features kind → IsSoundKind len r kind
-back len r (Network mac frames) pick features size s count at layout long sound = sound
-back len r (Block sectors read_only id requests) zero features size s count at layout long sound =
-    let are : AreRequestsOf len (is_packed_by r.common) at.queue (with_features sectors read_only id r.common.features) requests =
-    record { few = sound.few; sound = rw (at.accepted, at.size_is, ← layout, ← long) sound.sound; where_ready = any_where at.queue.is_ready requests at.ready } in
+back : (len : ℕ) (r : Registers) (kind : Kind) (pick features size : ℕ) (s : RingState) → length r.queues ≡ queues_of (made_as kind) → IsReadyAt r pick features size → s.is_packed ≡ is_packed features → s.size ≡ size → s.base ≡ r.ram_base → SoundBeside len s features kind → IsSoundKind len r kind
+back len r (Network mac frames) pick features size s count at layout long based sound = sound
+back len r (Block sectors read_only id requests) zero features size s count at layout long based sound =
+    let are : AreRequestsOf r.ram_base len (is_packed_by r.common) at.queue (with_features sectors read_only id r.common.features) requests =
+    record { few = sound.few; sound = rw (at.accepted, at.size_is, ← layout, ← long, ← based) sound.sound; where_ready = any_where at.queue.is_ready requests at.ready } in
     rw at.there are
-back len r (Block sectors read_only id requests) (suc pick) features size s count at layout long sound =
+back len r (Block sectors read_only id requests) (suc pick) features size s count at layout long based sound =
     let below : suc pick < length r.queues = slice_get_within r.queues (suc pick) at.queue at.there in
     absurd (omega (arith, below, count))
-back len r (Console columns held) pick features size s count at layout long sound = sound
-back len r (Entropy pool) pick features size s count at layout long sound = sound
+back len r (Console columns held) pick features size s count at layout long based sound = sound
+back len r (Entropy pool) pick features size s count at layout long based sound = sound
 
 -- The ring of a queue was used: the registers, the ring and the kind are new.
 record IsUsed (len : ℕ) (d : DeviceState) (pick : ℕ) (queue : Queue) (q s : RingState) (r : Registers) (kind : Kind) : Type 0 where
   there : queue_at d.registers pick ≡ Some queue
   ready : queue.is_ready ≡ true
   positions : Positions
-  was : q ≡ state_of queue d.registers.common.features positions
+  was : q ≡ state_of queue d.registers.common.features d.registers.ram_base positions
   ring : IsSameRing q s
   registers : StaysSound d.registers r
   stays : IsReadyAt d.registers pick d.registers.common.features queue.size → IsReadyAt r pick d.registers.common.features queue.size
@@ -300,13 +304,14 @@ record IsUsed (len : ℕ) (d : DeviceState) (pick : ℕ) (queue : Queue) (q s : 
   same : made_as kind ≡ made_as d.kind
   beside : SoundBeside len s d.registers.common.features kind
 
-sound_used : (len : ℕ) (d : DeviceState) (pick : ℕ) (queue : Queue) (q s : RingState) (r : Registers) (kind : Kind) → IsUsed len d pick queue q s r kind → IsSoundDevice len d
-    → IsSoundDevice len (record { kind = kind; registers = r; positions = set d.positions pick (record { taking = s.taking; used = s.used }) })
+sound_used : {base : ℕ} (len : ℕ) (d : DeviceState) (pick : ℕ) (queue : Queue) (q s : RingState) (r : Registers) (kind : Kind) → IsUsed len d pick queue q s r kind → IsSoundDevice base len d
+    → IsSoundDevice base len (record { kind = kind; registers = r; positions = set d.positions pick (record { taking = s.taking; used = s.used }) })
 sound_used len d pick queue q s r kind h sound =
     let packed = is_packed_by d.registers.common in
     let new : Positions = record { taking = s.taking; used = s.used } in
     let layout : s.is_packed ≡ packed = h.ring.layout ∙ ap (λ (q : RingState). q.is_packed) h.was ∙ packed_same d.registers.common.features in
     let size : s.size ≡ queue.size = h.ring.size ∙ ap (λ (q : RingState). q.size) h.was in
+    let based : s.base ≡ r.ram_base = h.ring.base ∙ ap (λ (q : RingState). q.base) h.was ∙ sym h.registers.same.ram_base in
     let placed : ArePlaced packed queue.size new = rw (layout, size) at h.ring.placed.placed in
     let after = h.stays (record { queue = queue; there = h.there; ready = h.ready; size_is = refl; accepted = refl }) in
     stays_sound len d (record { kind = kind; registers = r; positions = set d.positions pick new }) h.same h.registers
@@ -315,7 +320,7 @@ sound_used len d pick queue q s r kind h sound =
       used_fits = h.ring.placed.used_fits;
       where_ready = subst (λ b. MatchBool b (ArePlaced packed queue.size new) (new ≡ first_positions)) (sym h.ready) placed;
     })))
-    (back len r kind pick d.registers.common.features queue.size s (h.registers.same.queue_count ∙ rw h.same sound.queues) after layout size h.beside)
+    (back len r kind pick d.registers.common.features queue.size s (h.registers.same.queue_count ∙ rw h.same sound.queues) after layout size based h.beside)
     sound
 
 -- A queue was served.
@@ -363,7 +368,7 @@ after_ready r pick served.Malformed features size h = record { queue = h.queue; 
 after_ready r pick (served.Published reply true) features size h = record { queue = h.queue; there = h.there; ready = h.ready; size_is = h.size_is; accepted = h.accepted }
 after_ready r pick (served.Published reply false) features size h = h
 
-sound_served : (d : DeviceState) (ram : List ℕ) (pick : ℕ) (q : RingState) (seen : Next) → IsBytes ram → IsLookedAt d pick q → Sees (wanted_of d.kind pick) ram q seen → IsSoundDevice (length ram) d → IsSoundDevice (length ram) (after_service d pick (serve d.registers.common.features d.kind pick ram q seen))
+sound_served : {base : ℕ} (d : DeviceState) (ram : List ℕ) (pick : ℕ) (q : RingState) (seen : Next) → IsBytes ram → IsLookedAt d pick q → Sees (wanted_of d.kind pick) ram q seen → IsSoundDevice base (length ram) d → IsSoundDevice base (length ram) (after_service d pick (serve d.registers.common.features d.kind pick ram q seen))
 sound_served d ram pick q seen bytes look sees sound =
     let features = d.registers.common.features in
     let s = serve features d.kind pick ram q seen in
@@ -398,11 +403,11 @@ have_due r false ps have = have
 kind_goes_on : (len : ℕ) (q : RingState) (features : ℕ) (kind : Kind) (s : AdvanceStep) → GoesOn len q (block_of (made_as kind) features) (requests_of kind) s → SoundBeside len q features kind
     → SoundBeside len s.ring features (with_requests kind s.requests)
 kind_goes_on len q features (Network mac frames) s on sound = sound
-kind_goes_on len q features (Block sectors read_only id requests) s on sound = record { few = omega (arith, on.few, sound.few); sound = rw (on.ring.layout, on.ring.size) on.sound }
+kind_goes_on len q features (Block sectors read_only id requests) s on sound = record { few = omega (arith, on.few, sound.few); sound = rw (on.ring.base, on.ring.layout, on.ring.size) on.sound }
 kind_goes_on len q features (Console size held) s on sound = sound
 kind_goes_on len q features (Entropy pool) s on sound = sound
 
-sound_advanced : (len : ℕ) (d : DeviceState) (pick : ℕ) (q : RingState) (s : AdvanceStep) → (look : IsAdvancedAt d pick q) → IsSoundDevice len d → GoesOn len q (block_of (made_as d.kind) d.registers.common.features) (requests_of d.kind) s → IsSoundDevice len (after_advance d s)
+sound_advanced : {base : ℕ} (len : ℕ) (d : DeviceState) (pick : ℕ) (q : RingState) (s : AdvanceStep) → (look : IsAdvancedAt d pick q) → IsSoundDevice base len d → GoesOn len q (block_of (made_as d.kind) d.registers.common.features) (requests_of d.kind) s → IsSoundDevice base len (after_advance d s)
 sound_advanced len d pick q s look sound on =
     let features = d.registers.common.features in
     let due = is_advance_due s.answer in
@@ -442,7 +447,7 @@ outstanding len q features (Block sectors read_only id requests) h = h.sound
 outstanding len q features (Console size held) h = λ k d below. absurd (omega (arith, below))
 outstanding len q features (Entropy pool) h = λ k d below. absurd (omega (arith, below))
 
-pub advanced_goes_on : (d : DeviceState) (ram : List ℕ) (content : List Sector) (pick : ℕ) (q : RingState) (is_fine : Bool) → (look : IsAdvancedAt d pick q) → IsBytes ram → IsSoundDevice (length ram) d → HasSectors d content
+pub advanced_goes_on : {base : ℕ} (d : DeviceState) (ram : List ℕ) (content : List Sector) (pick : ℕ) (q : RingState) (is_fine : Bool) → (look : IsAdvancedAt d pick q) → IsBytes ram → IsSoundDevice base (length ram) d → HasSectors d content
     → GoesOn (length ram) q (block_of (made_as d.kind) d.registers.common.features) (requests_of d.kind) (advance_step (block_of (made_as d.kind) d.registers.common.features) ram q content (requests_of d.kind) (pick - 1) is_fine)
 advanced_goes_on d ram content pick q is_fine look are sound has =
     let ring = ready_ring (length ram) d 0 look.queue look.positions sound look.there look.placed look.ready in
@@ -450,20 +455,20 @@ advanced_goes_on d ram content pick q is_fine look are sound has =
     let old = beside (length ram) d 0 look.queue look.positions q sound look.there look.is in
     goes_on_by (length ram) (block_of (made_as d.kind) features) ram q content (requests_of d.kind) (pick - 1) is_fine (rw look.is ring) are (block_id (made_as d.kind) features sound.shape) (has.count ∙ sym (block_count (made_as d.kind) features)) has.whole (outstanding (length ram) q features d.kind old)
 
-sound_advance_at : (d : DeviceState) (ram : List ℕ) (content : List Sector) (pick : ℕ) (ring : Option RingState) (o : Outcome) → advanced_at d pick ≡ ring → IsBytes ram → IsSoundDevice (length ram) d → HasSectors d content → IsSoundDevice (length ram) (advance_at d ram content pick ring o).device
+sound_advance_at : {base : ℕ} (d : DeviceState) (ram : List ℕ) (content : List Sector) (pick : ℕ) (ring : Option RingState) (o : Outcome) → advanced_at d pick ≡ ring → IsBytes ram → IsSoundDevice base (length ram) d → HasSectors d content → IsSoundDevice base (length ram) (advance_at d ram content pick ring o).device
 sound_advance_at d ram content pick None o is are sound has = sound
 sound_advance_at d ram content pick (Some q) o is are sound has =
     let look = advanced_is (length ram) d pick q sound is in
     sound_advanced (length ram) d pick q _ look sound (advanced_goes_on d ram content pick q (disk_does o) look are sound has)
 
-sound_stepped_at : (d : DeviceState) (ram : List ℕ) (content : List Sector) (pick : ℕ) (ring : Option RingState) (o : Outcome) (seen : Next) → looked_at d pick ≡ ring → MayLook (wanted_of d.kind pick) ring ram o seen → IsBytes ram → IsSoundDevice (length ram) d → HasSectors d content
-    → IsSoundDevice (length ram) (step_at d ram content pick ring o seen).device
+sound_stepped_at : {base : ℕ} (d : DeviceState) (ram : List ℕ) (content : List Sector) (pick : ℕ) (ring : Option RingState) (o : Outcome) (seen : Next) → looked_at d pick ≡ ring → MayLook (wanted_of d.kind pick) ring ram o seen → IsBytes ram → IsSoundDevice base (length ram) d → HasSectors d content
+    → IsSoundDevice base (length ram) (step_at d ram content pick ring o seen).device
 sound_stepped_at d ram content pick None o seen is may are sound has = sound_advance_at d ram content pick (advanced_at d pick) o refl are sound has
 sound_stepped_at d ram content pick (Some q) fine seen is may are sound has = sound_served d ram pick q seen are (looked_is d pick q is) may sound
 sound_stepped_at d ram content pick (Some q) disk_failed seen is may are sound has = sound
 sound_stepped_at d ram content pick (Some q) no_memory seen is may are sound has = sound
 
 -- A device does a piece of its work.
-pub sound_stepped : (d : DeviceState) (ram : List ℕ) (content : List Sector) (pick : ℕ) (o : Outcome) (seen : Next) → MayLook (wanted_of d.kind pick) (looked_at d pick) ram o seen → IsBytes ram → IsSoundDevice (length ram) d → HasSectors d content → IsSoundDevice (length ram) (device_step d ram content pick o seen).device
+pub sound_stepped : {base : ℕ} (d : DeviceState) (ram : List ℕ) (content : List Sector) (pick : ℕ) (o : Outcome) (seen : Next) → MayLook (wanted_of d.kind pick) (looked_at d pick) ram o seen → IsBytes ram → IsSoundDevice base (length ram) d → HasSectors d content → IsSoundDevice base (length ram) (device_step d ram content pick o seen).device
 unfolding device_step
 sound_stepped d ram content pick o seen may are sound has = sound_stepped_at d ram content pick (looked_at d pick) o seen refl may are sound has

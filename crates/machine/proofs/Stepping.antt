@@ -45,26 +45,26 @@ abbrev pub no_positions : Positions
 no_positions = record { taking = record { place = 0; wrap = false }; used = record { place = 0; wrap = false } }
 
 -- The ring of the queue that is looked at, as it is made.
-pub made_ring : (len : ℕ) (kind : Kind) (r : Registers) (held : List Positions) (pick : ℕ) (qs : List Queue) (features : ℕ) → IsSoundDevice len (held_device kind r held) → qs ≡ r.queues → pick < length qs
-    → true ≡ looks (held_device kind r held) pick (get_or qs pick first_queue) → features ≡ r.common.features
-    → IsLookedRing len (state_of (get_or qs pick first_queue) features (get_or held pick no_positions))
-made_ring len kind r held pick qs features sound same below looking feature =
+pub made_ring : {base : ℕ} (len : ℕ) (kind : Kind) (r : Registers) (held : List Positions) (pick : ℕ) (qs : List Queue) (features at : ℕ) → IsSoundDevice base len (held_device kind r held) → qs ≡ r.queues → pick < length qs
+    → true ≡ looks (held_device kind r held) pick (get_or qs pick first_queue) → features ≡ r.common.features → at ≡ r.ram_base
+    → IsLookedRing len (state_of (get_or qs pick first_queue) features at (get_or held pick no_positions))
+made_ring len kind r held pick qs features at sound same below looking feature based =
     let d = held_device kind r held in
     let there : pick < length r.queues = omega (arith, below, ap length same) in
     let looking_here = rw same at looking in
     let long : length d.positions ≡ length r.queues = positions_long _ r.queues d.positions sound.positions in
     let is = some_looked d pick first_queue no_positions held there refl long looking_here in
-    rw (same, feature) (looked_ring len d pick (state_of (get_or r.queues pick first_queue) r.common.features (get_or held pick no_positions)) sound (looked_is d pick _ is))
+    rw (same, feature, based) (looked_ring len d pick (state_of (get_or r.queues pick first_queue) r.common.features r.ram_base (get_or held pick no_positions)) sound (looked_is d pick _ is))
 
-pub made_look : (len : ℕ) (kind : Kind) (r : Registers) (held : List Positions) (pick : ℕ) (qs : List Queue) (features : ℕ) → IsSoundDevice len (held_device kind r held) → qs ≡ r.queues → pick < length qs
-    → true ≡ looks (held_device kind r held) pick (get_or qs pick first_queue) → features ≡ r.common.features
-    → looked_at (held_device kind r held) pick ≡ Some (state_of (get_or qs pick first_queue) features (get_or held pick no_positions))
-made_look len kind r held pick qs features sound same below looking feature =
+pub made_look : {base : ℕ} (len : ℕ) (kind : Kind) (r : Registers) (held : List Positions) (pick : ℕ) (qs : List Queue) (features at : ℕ) → IsSoundDevice base len (held_device kind r held) → qs ≡ r.queues → pick < length qs
+    → true ≡ looks (held_device kind r held) pick (get_or qs pick first_queue) → features ≡ r.common.features → at ≡ r.ram_base
+    → looked_at (held_device kind r held) pick ≡ Some (state_of (get_or qs pick first_queue) features at (get_or held pick no_positions))
+made_look len kind r held pick qs features at sound same below looking feature based =
     let d = held_device kind r held in
     let there : pick < length r.queues = omega (arith, below, ap length same) in
     let looking_here = rw same at looking in
     let long : length d.positions ≡ length r.queues = positions_long _ r.queues d.positions sound.positions in
-    rw (same, feature) (some_looked d pick first_queue no_positions held there refl long looking_here)
+    rw (same, feature, based) (some_looked d pick first_queue no_positions held there refl long looking_here)
 
 -- The ring of a request that goes on, as it is made.
 none_by : (d : DeviceState) (pick : ℕ) (q : Option Queue) (p : Option Positions) → advances d pick ≡ false → advanced_by d pick q p ≡ None
@@ -78,22 +78,22 @@ none_advanced d pick h = none_by d pick (queue_at d.registers 0) (slice_get d.po
 none_there : (d : DeviceState) (pick : ℕ) → queue_at d.registers 0 ≡ None → advanced_at d pick ≡ None
 none_there d pick h = rw h refl
 
-pub advanced_ring : (len : ℕ) (d : DeviceState) (pick : ℕ) (q : RingState) → IsSoundDevice len d → advanced_at d pick ≡ Some q → IsLookedRing len q
+pub advanced_ring : {base : ℕ} (len : ℕ) (d : DeviceState) (pick : ℕ) (q : RingState) → IsSoundDevice base len d → advanced_at d pick ≡ Some q → IsLookedRing len q
 advanced_ring len d pick q sound is =
     let look = advanced_is len d pick q sound is in
     rw look.is (ready_ring len d 0 look.queue look.positions sound look.there look.placed look.ready)
 
-pub advanced_sound : (len : ℕ) (d : DeviceState) (pick : ℕ) (q : RingState) → IsSoundDevice len d → advanced_at d pick ≡ Some q → AreSound len q (block_of (made_as d.kind) d.registers.common.features) (requests_of d.kind)
+pub advanced_sound : {base : ℕ} (len : ℕ) (d : DeviceState) (pick : ℕ) (q : RingState) → IsSoundDevice base len d → advanced_at d pick ≡ Some q → AreSound len q (block_of (made_as d.kind) d.registers.common.features) (requests_of d.kind)
 advanced_sound len d pick q sound is =
     let look = advanced_is len d pick q sound is in
     outstanding len q d.registers.common.features d.kind (beside len d 0 look.queue look.positions q sound look.there look.is)
 
-pub looked_sound : (len : ℕ) (d : DeviceState) (pick : ℕ) (q : RingState) → IsSoundDevice len d → looked_at d pick ≡ Some q → AreSound len q (block_of (made_as d.kind) d.registers.common.features) (requests_of d.kind)
+pub looked_sound : {base : ℕ} (len : ℕ) (d : DeviceState) (pick : ℕ) (q : RingState) → IsSoundDevice base len d → looked_at d pick ≡ Some q → AreSound len q (block_of (made_as d.kind) d.registers.common.features) (requests_of d.kind)
 looked_sound len d pick q sound is =
     let look = looked_is d pick q is in
     outstanding len q d.registers.common.features d.kind (beside len d pick look.queue look.positions q sound look.there look.is)
 
-pub has_queue : (d : DeviceState) (pick : ℕ) (q : RingState) (len : ℕ) → IsSoundDevice len d → advanced_at d pick ≡ Some q → 0 < length d.registers.queues
+pub has_queue : {base : ℕ} (d : DeviceState) (pick : ℕ) (q : RingState) (len : ℕ) → IsSoundDevice base len d → advanced_at d pick ≡ Some q → 0 < length d.registers.queues
 has_queue d pick q len sound is = let look = advanced_is len d pick q sound is in slice_get_within d.registers.queues 0 look.queue look.there
 
 -- A device without a disk has no requests.
@@ -103,11 +103,11 @@ empty_handed (Block sectors read_only id requests) limits none = absurd (omega (
 empty_handed (Console size held) limits none = refl
 empty_handed (Entropy pool) limits none = refl
 
-none_or : (len : ℕ) (d : DeviceState) (pick : ℕ) (ring : Option RingState) → IsSoundDevice len d → length (requests_of d.kind) ≡ 0 → advanced_at d pick ≡ ring → advanced_at d pick ≡ None
+none_or : {base : ℕ} (len : ℕ) (d : DeviceState) (pick : ℕ) (ring : Option RingState) → IsSoundDevice base len d → length (requests_of d.kind) ≡ 0 → advanced_at d pick ≡ ring → advanced_at d pick ≡ None
 none_or len d pick None sound none is = is
 none_or len d pick (Some q) sound none is = let look = advanced_is len d pick q sound is in absurd (omega (arith, look.below, none))
 
-pub none_without : (len : ℕ) (d : DeviceState) (pick : ℕ) → IsSoundDevice len d → sector_count (made_as d.kind) ≡ 0 → advanced_at d pick ≡ None
+pub none_without : {base : ℕ} (len : ℕ) (d : DeviceState) (pick : ℕ) → IsSoundDevice base len d → sector_count (made_as d.kind) ≡ 0 → advanced_at d pick ≡ None
 none_without len d pick sound none = none_or len d pick (advanced_at d pick) sound (empty_handed d.kind sound.shape none) refl
 
 pub none_queued : (d : DeviceState) (pick : ℕ) (qs : List Queue) → qs ≡ d.registers.queues → length qs ≡ 0 → advanced_at d pick ≡ None
@@ -118,17 +118,17 @@ first_held zero held some long = absurd (omega (arith, some))
 first_held (suc n) [] some long = absurd (omega (arith, long))
 first_held (suc n) (p ∷ held) some long = refl
 
-pub some_advanced : (len : ℕ) (kind : Kind) (r : Registers) (held : List Positions) (pick : ℕ) (qs : List Queue) (features : ℕ) → IsSoundDevice len (held_device kind r held) → qs ≡ r.queues → 1 ≤ length qs → true ≡ advances (held_device kind r held) pick → features ≡ r.common.features
-    → advanced_at (held_device kind r held) pick ≡ Some (state_of (get_or qs 0 first_queue) features (get_or held 0 no_positions))
-some_advanced len kind r held pick qs features sound is some all feature =
+pub some_advanced : {base : ℕ} (len : ℕ) (kind : Kind) (r : Registers) (held : List Positions) (pick : ℕ) (qs : List Queue) (features at : ℕ) → IsSoundDevice base len (held_device kind r held) → qs ≡ r.queues → 1 ≤ length qs → true ≡ advances (held_device kind r held) pick → features ≡ r.common.features → at ≡ r.ram_base
+    → advanced_at (held_device kind r held) pick ≡ Some (state_of (get_or qs 0 first_queue) features at (get_or held 0 no_positions))
+some_advanced len kind r held pick qs features at sound is some all feature based =
     let below : 0 < length r.queues = omega (arith, ap length is, some) in
     let long : length (take (length r.queues) held) ≡ length r.queues = positions_long _ r.queues (take (length r.queues) held) sound.positions in
-    rw (slice_get-get_or r.queues 0 first_queue below, first_held (length r.queues) held below (omega (arith, long, below)), ← all, is, feature) refl
+    rw (slice_get-get_or r.queues 0 first_queue below, first_held (length r.queues) held below (omega (arith, long, below)), ← all, is, feature, based) refl
 
-pub made_advanced : (len : ℕ) (kind : Kind) (r : Registers) (held : List Positions) (pick : ℕ) (qs : List Queue) (features : ℕ) → IsSoundDevice len (held_device kind r held) → qs ≡ r.queues → 1 ≤ length qs → true ≡ advances (held_device kind r held) pick → features ≡ r.common.features
-    → IsLookedRing len (state_of (get_or qs 0 first_queue) features (get_or held 0 no_positions))
-made_advanced len kind r held pick qs features sound is some all feature =
-    advanced_ring len (held_device kind r held) pick _ sound (some_advanced len kind r held pick qs features sound is some all feature)
+pub made_advanced : {base : ℕ} (len : ℕ) (kind : Kind) (r : Registers) (held : List Positions) (pick : ℕ) (qs : List Queue) (features at : ℕ) → IsSoundDevice base len (held_device kind r held) → qs ≡ r.queues → 1 ≤ length qs → true ≡ advances (held_device kind r held) pick → features ≡ r.common.features → at ≡ r.ram_base
+    → IsLookedRing len (state_of (get_or qs 0 first_queue) features at (get_or held 0 no_positions))
+made_advanced len kind r held pick qs features at sound is some all feature based =
+    advanced_ring len (held_device kind r held) pick _ sound (some_advanced len kind r held pick qs features at sound is some all feature based)
 
 -- A device without a disk has no sectors.
 pub none_whole : AreWhole []

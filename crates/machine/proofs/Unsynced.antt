@@ -47,19 +47,19 @@ same_if : (rs : List Request) (k : ℕ) (r : Option Request) → flushes_in r �
 same_if rs k None h = refl
 same_if rs k (Some r) h = rw h refl
 
-moved_so : (k : request.Kind) (id ram : List ℕ) (content : List Sector) (r : Request) → is_flush k ≡ true → move_of k id ram content r false ≡ disk_failed r []
-moved_so Flush id ram content r h = refl
-moved_so Refused id ram content r h = cc
-moved_so In id ram content r h = cc
-moved_so Out id ram content r h = cc
-moved_so GetId id ram content r h = cc
-moved_so Zero id ram content r h = cc
+moved_so : (k : request.Kind) (base : ℕ) (id ram : List ℕ) (content : List Sector) (r : Request) → is_flush k ≡ true → move_of k base id ram content r false ≡ disk_failed r []
+moved_so Flush base id ram content r h = refl
+moved_so Refused base id ram content r h = cc
+moved_so In base id ram content r h = cc
+moved_so Out base id ram content r h = cc
+moved_so GetId base id ram content r h = cc
+moved_so Zero base id ram content r h = cc
 
 advanced_so : (shape : BlockShape) (ram : List ℕ) (q : RingState) (content : List Sector) (rs : List Request) (k : ℕ) (r : Request) → slice_get rs k ≡ Some r → blk.flushes r ≡ true
     → ◌≡◌ {A = AdvanceStep} (advance_step shape ram q content rs k false) (record { answer = advanced.DiskFailed; writes = []; sets = []; ring = q; requests = flush_failed rs k })
 advanced_so shape ram q content rs k r there h =
     let opens = left_of_and (is_open r) (is_flush r.kind) h in
-    rw (there, h, opens, moved_so r.kind shape.id ram content r (right_of_and (is_open r) (is_flush r.kind) h)) refl
+    rw (there, h, opens, moved_so r.kind q.base shape.id ram content r (right_of_and (is_open r) (is_flush r.kind) h)) refl
 
 -- The request that flushes is there.
 record HasFlush (rs : List Request) (k : ℕ) : Type 0 where
@@ -105,13 +105,13 @@ flushing d pick h =
       flush = flush_in (requests_of d.kind) (pick - 1) (slice_get (requests_of d.kind) (pick - 1)) refl (right_of_and (advances d pick) (flushes_at (requests_of d.kind) (pick - 1)) h);
     }
 
-one_of : (len : ℕ) (d : DeviceState) (pick : ℕ) → IsSoundDevice len d → IsFlushing d pick → length d.registers.queues ≡ 1
+one_of : {base : ℕ} (len : ℕ) (d : DeviceState) (pick : ℕ) → IsSoundDevice base len d → IsFlushing d pick → length d.registers.queues ≡ 1
 one_of len d pick sound f = sound.queues ∙ one_queue d.kind (omega (arith, slice_get_within (requests_of d.kind) (pick - 1) f.flush.request f.flush.there))
 
-unlooked : (len : ℕ) (d : DeviceState) (pick : ℕ) → IsSoundDevice len d → IsFlushing d pick → looked_at d pick ≡ None
+unlooked : {base : ℕ} (len : ℕ) (d : DeviceState) (pick : ℕ) → IsSoundDevice base len d → IsFlushing d pick → looked_at d pick ≡ None
 unlooked len d pick sound f = none_past d pick (omega (arith, one_of len d pick sound f, f.some))
 
-step_fails : (len : ℕ) (d : DeviceState) (ram : List ℕ) (content : List Sector) (pick : ℕ) (seen : Next) → IsSoundDevice len d → IsFlushing d pick
+step_fails : {base : ℕ} (len : ℕ) (d : DeviceState) (ram : List ℕ) (content : List Sector) (pick : ℕ) (seen : Next) → IsSoundDevice base len d → IsFlushing d pick
     → ◌≡◌ {A = DeviceAnswer} (device_step d ram content pick outcome.disk_failed seen) (record { reply = DiskFailed; writes = []; sets = []; device = with_flush_failed d pick })
 unfolding device_step
 step_fails len d ram content pick seen sound f =
@@ -125,7 +125,7 @@ step_fails len d ram content pick seen sound f =
 pub at_device : (m : Memory) (ds : List DeviceSeen) (dev pick : ℕ) (d : DeviceSeen) → IsAt ds dev d → makes_flush (seen.state_of (record { memory = m; devices = ds })) dev pick ≡ flushes d.state pick
 at_device m ds dev pick d at = rw (found ds dev d at) refl
 
-flush_has : (m : Memory) (ds : List DeviceSeen) (dev pick : ℕ) (d new : DeviceSeen) → IsAt ds dev d → new ≡ record d { state = with_flush_failed d.state pick } → IsSoundDevice (length m.bytes) d.state → IsFlushing d.state pick
+flush_has : {base : ℕ} (m : Memory) (ds : List DeviceSeen) (dev pick : ℕ) (d new : DeviceSeen) → IsAt ds dev d → new ≡ record d { state = with_flush_failed d.state pick } → IsSoundDevice base (length m.bytes) d.state → IsFlushing d.state pick
     → HasEffect (seen.state_of (record { memory = m; devices = ds })) (Step dev pick) outcome.disk_failed DiskFailed (changing dev [] new.state)
 flush_has m ds dev pick d new at is sound f =
     let fails = step_fails (length m.bytes) d.state m.bytes (disk_of (seen.state_of (record { memory = m; devices = ds })) dev) pick next.Empty sound f in
@@ -141,7 +141,7 @@ flush_changed : (m : Memory) (ds : List DeviceSeen) (dev pick : ℕ) (d new : De
     → seen.state_of (record { memory = m; devices = set ds dev new }) ≡ applied (seen.state_of (record { memory = m; devices = ds })) (changing dev [] new.state)
 flush_changed m ds dev pick d new at is = changed_at m m ds dev d new [] at (ap (λ (x : DeviceSeen). x.sectors) is) refl
 
-flush_step : (m : Memory) (ds : List DeviceSeen) (dev pick : ℕ) (d new : DeviceSeen) → IsAt ds dev d → new ≡ record d { state = with_flush_failed d.state pick } → IsSoundDevice (length m.bytes) d.state → IsFlushing d.state pick
+flush_step : {base : ℕ} (m : Memory) (ds : List DeviceSeen) (dev pick : ℕ) (d new : DeviceSeen) → IsAt ds dev d → new ≡ record d { state = with_flush_failed d.state pick } → IsSoundDevice base (length m.bytes) d.state → IsFlushing d.state pick
     → IsStep (seen.state_of (record { memory = m; devices = ds })) (Step dev pick) outcome.disk_failed DiskFailed (seen.state_of (record { memory = m; devices = set ds dev new }))
 flush_step m ds dev pick d new at is sound f = record { effect = changing dev [] new.state; has = flush_has m ds dev pick d new at is sound f; changed = flush_changed m ds dev pick d new at is }
 

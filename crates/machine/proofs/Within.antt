@@ -1,13 +1,13 @@
 -- The effect of a step lies within its machine, and keeps it sound.
-use Rattle.std.proofs.Common.{◌≡◌, ℕ, zero, suc, ◌+◌, ◌^◌, ◌<◌, ◌≤◌, Bool, true, false, cond, ltb, List, [], ◌∷◌, length, map, get_or, set, Option, Some, None, refl, sym, ap, ◌∙◌, arith}
-use Rattle.std.specs.Prelude.{slice_get, Result, Ok, Err}
+use Rattle.std.proofs.Common.{◌≡◌, ℕ, zero, suc, ◌+◌, ◌^◌, ◌<◌, ◌≤◌, Bool, true, false, cond, leb, ltb, List, [], ◌∷◌, length, map, get_or, set, Option, Some, None, refl, sym, ap, ◌∙◌, arith}
+use Rattle.std.specs.Prelude.{◌&&◌, slice_get, Result, Ok, Err}
 use Rattle.std.specs.List.{All}
 use Rattle.std.proofs.lemmas.List.{length-set}
 use Rattle.std.proofs.lemmas.List.Elements.{All-set}
 use Rattle.std.proofs.lemmas.Option.{get_or_from_slice_get, slice_get-get_or, slice_get_within}
-use borrow.Author.Tests.{ltb-false}
+use Rattle.std.proofs.lemmas.Bool.{leb-true}
 use Rattle.guestmem.specs.Number.{IsBytes}
-use Rattle.guestmem.specs.Write.{refusal_of}
+use Rattle.guestmem.specs.Address.{access_refusal, index_of}
 use Rattle.guestmem.specs.WriteLaws.{length-set_all}
 use Rattle.guestmem.specs.Writes.{Write, byte_writes, set_all}
 use Rattle.guestmem.specs.declared.error.RamError.{RamError}
@@ -25,7 +25,7 @@ use Rattle.machine.specs.EffectLaws.{HasItem, IsSameShape, MayReplace, sector_on
 use Rattle.machine.specs.Outcome.{Outcome, fine, disk_failed, no_memory, disk_does}
 use Rattle.machine.specs.Shapes.{block_of, made_as, sector_count}
 use Rattle.machine.specs.Sound.{IsSound, IsSoundDevice}
-use Rattle.machine.specs.State.{MachineState, DeviceState}
+use Rattle.machine.specs.State.{MachineState, DeviceState, base_of}
 use Rattle.machine.specs.Step.{answer, disk_of, disk_or_none, input_of, MaySee, MaySeeAt, read_register, write_register, read_ram, write_ram, put_by, put_in, set_size, size_by, step_device}
 use Rattle.machine.specs.StepLaws.{Fits, StepStaysWithin, StepKeepsShape, StepStaysSound}
 use Rattle.mmio.specs.RegisterWrite.{register_write}
@@ -45,9 +45,9 @@ use Rattle.machine.proofs.Rings.{looked_ring}
 use Rattle.machine.proofs.Staying.{HasSectors, advanced_goes_on, block_count, sound_resized, sound_written, sound_input, sound_stepped}
 
 -- The effect of an answer: writes of bytes inside RAM, no sector, and one device replaced by a sound one of its shape.
-abbrev pub StaysSoundAt : ℕ → Option Replacement → Type 0
-StaysSoundAt len None = Unit {0}
-StaysSoundAt len (Some r) = IsSoundDevice len r.device
+abbrev pub StaysSoundAt : ℕ → ℕ → Option Replacement → Type 0
+StaysSoundAt base len None = Unit {0}
+StaysSoundAt base len (Some r) = IsSoundDevice base len r.device
 
 -- A device is replaced by one of its shape.
 may_write : (devices : List DeviceState) (number : ℕ) (found : Option DeviceState) (offset width value : ℕ) → slice_get devices number ≡ found → MayReplace devices (write_register number found offset width value).effect.replaced
@@ -104,8 +104,8 @@ may_store devices addr bytes None = tt
 pub may_replace : (m : MachineState) (e : Event) (o : Outcome) (seen : Next) → MayReplace m.devices (answer m e o seen).effect.replaced
 may_replace m (RegRead dev off width) o seen = may_look m.devices (slice_get m.devices dev) off width
 may_replace m (RegWrite dev off width value) o seen = may_write m.devices dev (slice_get m.devices dev) off width value refl
-may_replace m (MemRead addr len) o seen = may_read m.devices m.ram addr len (refusal_of (length m.ram) addr len) o
-may_replace m (MemWrite addr bytes) o seen = may_store m.devices addr bytes (refusal_of (length m.ram) addr (length bytes))
+may_replace m (MemRead addr len) o seen = may_read m.devices m.ram (index_of (base_of m.devices) addr) len (access_refusal (base_of m.devices) (length m.ram) addr len) o
+may_replace m (MemWrite addr bytes) o seen = may_store m.devices (index_of (base_of m.devices) addr) bytes (access_refusal (base_of m.devices) (length m.ram) addr (length bytes))
 may_replace m (Step dev pick) o seen = may_work m.devices dev (slice_get m.devices dev) m.ram (disk_of m dev) pick o seen refl
 may_replace m (Input dev bytes) o seen = may_put m.devices dev (slice_get m.devices dev) bytes refl
 may_replace m (Resize dev cols rows) o seen = may_size m.devices dev (slice_get m.devices dev) (record { columns = cols; rows = rows }) refl
@@ -118,13 +118,25 @@ step_shape m e o r f h = record {
 }
 
 -- A write of the guest that is not refused lies inside RAM.
-refused_by : (len at count : ℕ) (long past : Bool) → ltb 4096 count ≡ long → ltb len (at + count) ≡ past → cond long (Some ram_error.TooLong) (cond past (Some ram_error.OutOfRam) None) ≡ None → at + count ≤ len
-refused_by len at count true past p q is = cc
-refused_by len at count false true p q is = cc
-refused_by len at count false false p q is = ltb-false len (at + count) q
+refused_by : (long within : Bool) → cond long (Some ram_error.TooLong) (cond within None (Some ram_error.OutOfRam)) ≡ None → within ≡ true
+refused_by true within is = cc
+refused_by false true is = refl
+refused_by false false is = cc
 
-not_refused : (len at count : ℕ) → refusal_of len at count ≡ None → at + count ≤ len
-not_refused len at count is = refused_by len at count (ltb 4096 count) (ltb len (at + count)) refl refl is
+first_of_and : (a b : Bool) → (a && b) ≡ true → a ≡ true
+first_of_and true b h = refl
+first_of_and false b h = cc
+
+second_of_and : (a b : Bool) → (a && b) ≡ true → b ≡ true
+second_of_and true b h = h
+second_of_and false b h = cc
+
+not_refused : (base len at count : ℕ) → access_refusal base len at count ≡ None → index_of base at + count ≤ len
+not_refused base len at count is =
+    let within : (ltb at (2 ^ 64) && leb base at && leb (at + count) (base + len)) ≡ true = refused_by (ltb 4096 count) (ltb at (2 ^ 64) && leb base at && leb (at + count) (base + len)) is in
+    let above = leb-true base at (second_of_and _ _ (first_of_and _ _ within)) in
+    let below = leb-true (at + count) (base + len) (second_of_and _ _ within) in
+    omega (arith, above, below)
 
 below_run : (len at : ℕ) (bytes : List ℕ) → at + length bytes ≤ len → All (λ (w : Write). w.address < len) (byte_writes at bytes)
 below_run len at [] inside k d below = absurd (omega (arith, below))
@@ -134,16 +146,16 @@ below_run len at (b ∷ bytes) inside (suc k) d below = below_run len (at + 1) b
 none_below : (len : ℕ) → All (λ (w : Write). w.address < len) []
 none_below len k d below = absurd (omega (arith, below))
 
-below_stored : (len addr : ℕ) (bytes : List ℕ) (error : Option RamError) → refusal_of len addr (length bytes) ≡ error → All (λ (w : Write). w.address < len) (write_ram addr bytes error).effect.writes
-below_stored len addr bytes (Some error) is = none_below len
-below_stored len addr bytes None is = below_run len addr bytes (not_refused len addr (length bytes) is)
+below_stored : (base len addr : ℕ) (bytes : List ℕ) (error : Option RamError) → access_refusal base len addr (length bytes) ≡ error → All (λ (w : Write). w.address < len) (write_ram (index_of base addr) bytes error).effect.writes
+below_stored base len addr bytes (Some error) is = none_below len
+below_stored base len addr bytes None is = below_run len (index_of base addr) bytes (not_refused base len addr (length bytes) is)
 
-stored_inside : (len addr : ℕ) (bytes : List ℕ) (error : Option RamError) → IsBytes bytes → refusal_of len addr (length bytes) ≡ error → AreInsideRam len (write_ram addr bytes error).effect.writes
-stored_inside len addr bytes (Some error) are is = tt
-stored_inside len addr bytes None are is = run_inside len addr bytes (not_refused len addr (length bytes) is) are
+stored_inside : (base len addr : ℕ) (bytes : List ℕ) (error : Option RamError) → IsBytes bytes → access_refusal base len addr (length bytes) ≡ error → AreInsideRam len (write_ram (index_of base addr) bytes error).effect.writes
+stored_inside base len addr bytes (Some error) are is = tt
+stored_inside base len addr bytes None are is = run_inside len (index_of base addr) bytes (not_refused base len addr (length bytes) is) are
 
 -- So does what a device writes.
-pub sound_at : (m : MachineState) (dev : ℕ) (d : DeviceState) → slice_get m.devices dev ≡ Some d → IsSound m → IsSoundDevice (length m.ram) d
+pub sound_at : (m : MachineState) (dev : ℕ) (d : DeviceState) → slice_get m.devices dev ≡ Some d → IsSound m → IsSoundDevice (base_of m.devices) (length m.ram) d
 sound_at m dev d there sound = rw (get_or_from_slice_get m.devices dev d d there) at (sound.devices dev d (slice_get_within m.devices dev d there))
 
 -- What a device has of the sectors of a sound machine.
@@ -161,11 +173,11 @@ disk_at (x ∷ ds) (disk ∷ disks) (suc dev) d sizes whole there =
 pub has_sectors : (m : MachineState) (dev : ℕ) (d : DeviceState) → slice_get m.devices dev ≡ Some d → IsSound m → HasSectors d (disk_of m dev)
 has_sectors m dev d there sound = disk_at m.devices m.disks dev d sound.disks sound.sectors there
 
-advance_inside : (d : DeviceState) (ram : List ℕ) (content : List Sector) (pick : ℕ) (ring : Option RingState) (o : Outcome) → advanced_at d pick ≡ ring → IsBytes ram → IsSoundDevice (length ram) d → HasSectors d content → AreInsideRam (length ram) (advance_at d ram content pick ring o).writes
+advance_inside : {base : ℕ} (d : DeviceState) (ram : List ℕ) (content : List Sector) (pick : ℕ) (ring : Option RingState) (o : Outcome) → advanced_at d pick ≡ ring → IsBytes ram → IsSoundDevice base (length ram) d → HasSectors d content → AreInsideRam (length ram) (advance_at d ram content pick ring o).writes
 advance_inside d ram content pick None o is are sound has = tt
 advance_inside d ram content pick (Some q) o is are sound has = (advanced_goes_on d ram content pick q (disk_does o) (advanced_is (length ram) d pick q sound is) are sound has).inside
 
-worked_at : (d : DeviceState) (ram : List ℕ) (content : List Sector) (pick : ℕ) (ring : Option RingState) (o : Outcome) (seen : Next) → looked_at d pick ≡ ring → MayLook (wanted_of d.kind pick) ring ram o seen → IsBytes ram → IsSoundDevice (length ram) d → HasSectors d content → AreInsideRam (length ram) (step_at d ram content pick ring o seen).writes
+worked_at : {base : ℕ} (d : DeviceState) (ram : List ℕ) (content : List Sector) (pick : ℕ) (ring : Option RingState) (o : Outcome) (seen : Next) → looked_at d pick ≡ ring → MayLook (wanted_of d.kind pick) ring ram o seen → IsBytes ram → IsSoundDevice base (length ram) d → HasSectors d content → AreInsideRam (length ram) (step_at d ram content pick ring o seen).writes
 worked_at d ram content pick None o seen is may are sound has = advance_inside d ram content pick (advanced_at d pick) o refl are sound has
 worked_at d ram content pick (Some q) fine seen is may are sound has = served_inside (length ram) d.registers d.kind pick ram q seen (looked_ring (length ram) d pick q sound (looked_is d pick q is)) may sound.kind
 worked_at d ram content pick (Some q) disk_failed seen is may are sound has = tt
@@ -212,8 +224,8 @@ no_writes_put dev (Some d) bytes = no_writes_put_by dev d bytes (input_of d.kind
 below_of : (m : MachineState) (e : Event) (o : Outcome) (seen : Next) → MaySee m e o seen → IsSound m → All (λ (w : Write). w.address < length m.ram) (answer m e o seen).effect.writes
 below_of m (RegRead dev off width) o seen may sound = rw (no_writes_looked (slice_get m.devices dev) off width) (none_below (length m.ram))
 below_of m (RegWrite dev off width value) o seen may sound = rw (no_writes_set dev (slice_get m.devices dev) off width value) (none_below (length m.ram))
-below_of m (MemRead addr len) o seen may sound = rw (no_writes_read m.ram addr len (refusal_of (length m.ram) addr len) o) (none_below (length m.ram))
-below_of m (MemWrite addr bytes) o seen may sound = below_stored (length m.ram) addr bytes (refusal_of (length m.ram) addr (length bytes)) refl
+below_of m (MemRead addr len) o seen may sound = rw (no_writes_read m.ram (index_of (base_of m.devices) addr) len (access_refusal (base_of m.devices) (length m.ram) addr len) o) (none_below (length m.ram))
+below_of m (MemWrite addr bytes) o seen may sound = below_stored (base_of m.devices) (length m.ram) addr bytes (access_refusal (base_of m.devices) (length m.ram) addr (length bytes)) refl
 below_of m (Step dev pick) o seen may sound =
     all_inside (length m.ram) (step_device dev (slice_get m.devices dev) m.ram (disk_of m dev) pick o seen).effect.writes (worked_inside m dev (slice_get m.devices dev) pick o seen refl may sound)
 below_of m (Resize dev cols rows) o seen may sound = rw (no_writes_size dev (slice_get m.devices dev) (record { columns = cols; rows = rows })) (none_below (length m.ram))
@@ -222,8 +234,8 @@ below_of m (Input dev bytes) o seen may sound = rw (no_writes_put dev (slice_get
 inside_of : (m : MachineState) (e : Event) (o : Outcome) (seen : Next) → MaySee m e o seen → Fits e → IsSound m → AreInsideRam (length m.ram) (answer m e o seen).effect.writes
 inside_of m (RegRead dev off width) o seen may fits sound = rw (no_writes_looked (slice_get m.devices dev) off width) tt
 inside_of m (RegWrite dev off width value) o seen may fits sound = rw (no_writes_set dev (slice_get m.devices dev) off width value) tt
-inside_of m (MemRead addr len) o seen may fits sound = rw (no_writes_read m.ram addr len (refusal_of (length m.ram) addr len) o) tt
-inside_of m (MemWrite addr bytes) o seen may fits sound = stored_inside (length m.ram) addr bytes (refusal_of (length m.ram) addr (length bytes)) fits.1 refl
+inside_of m (MemRead addr len) o seen may fits sound = rw (no_writes_read m.ram (index_of (base_of m.devices) addr) len (access_refusal (base_of m.devices) (length m.ram) addr len) o) tt
+inside_of m (MemWrite addr bytes) o seen may fits sound = stored_inside (base_of m.devices) (length m.ram) addr bytes (access_refusal (base_of m.devices) (length m.ram) addr (length bytes)) fits.1 refl
 inside_of m (Step dev pick) o seen may fits sound = worked_inside m dev (slice_get m.devices dev) pick o seen refl may sound
 inside_of m (Resize dev cols rows) o seen may fits sound = rw (no_writes_size dev (slice_get m.devices dev) (record { columns = cols; rows = rows })) tt
 inside_of m (Input dev bytes) o seen may fits sound = rw (no_writes_put dev (slice_get m.devices dev) bytes) tt
@@ -244,13 +256,13 @@ good_sets : (m : MachineState) (dev : ℕ) (sets : List blk.SectorSet) → AreGo
 good_sets m dev [] h = tt
 good_sets m dev (s ∷ ss) h = ((good_sector (slice_get m.disks dev) s.number h.0.there, h.0.whole), good_sets m dev ss h.1)
 
-advance_sets : (d : DeviceState) (ram : List ℕ) (content : List Sector) (pick : ℕ) (ring : Option RingState) (o : Outcome) → advanced_at d pick ≡ ring → IsBytes ram → IsSoundDevice (length ram) d → HasSectors d content → AreGoodSets (length content) (advance_at d ram content pick ring o).sets
+advance_sets : {base : ℕ} (d : DeviceState) (ram : List ℕ) (content : List Sector) (pick : ℕ) (ring : Option RingState) (o : Outcome) → advanced_at d pick ≡ ring → IsBytes ram → IsSoundDevice base (length ram) d → HasSectors d content → AreGoodSets (length content) (advance_at d ram content pick ring o).sets
 advance_sets d ram content pick None o is are sound has = tt
 advance_sets d ram content pick (Some q) o is are sound has =
     let count : length content ≡ (block_of (made_as d.kind) d.registers.common.features).sectors = has.count ∙ sym (block_count (made_as d.kind) d.registers.common.features) in
     rw count (advanced_goes_on d ram content pick q (disk_does o) (advanced_is (length ram) d pick q sound is) are sound has).sets
 
-worked_sets : (d : DeviceState) (ram : List ℕ) (content : List Sector) (pick : ℕ) (ring : Option RingState) (o : Outcome) (seen : Next) → IsBytes ram → IsSoundDevice (length ram) d → HasSectors d content → AreGoodSets (length content) (step_at d ram content pick ring o seen).sets
+worked_sets : {base : ℕ} (d : DeviceState) (ram : List ℕ) (content : List Sector) (pick : ℕ) (ring : Option RingState) (o : Outcome) (seen : Next) → IsBytes ram → IsSoundDevice base (length ram) d → HasSectors d content → AreGoodSets (length content) (step_at d ram content pick ring o seen).sets
 worked_sets d ram content pick None o seen are sound has = advance_sets d ram content pick (advanced_at d pick) o refl are sound has
 worked_sets d ram content pick (Some q) fine seen are sound has = tt
 worked_sets d ram content pick (Some q) disk_failed seen are sound has = tt
@@ -301,8 +313,8 @@ no_sectors_put dev (Some d) bytes = no_sectors_put_by dev d bytes (input_of d.ki
 sets_of : (m : MachineState) (e : Event) (o : Outcome) (seen : Next) → IsSound m → AreGoodIn m (answer m e o seen).effect.sectors
 sets_of m (RegRead dev off width) o seen sound = rw (no_sectors_looked (slice_get m.devices dev) off width) tt
 sets_of m (RegWrite dev off width value) o seen sound = rw (no_sectors_set dev (slice_get m.devices dev) off width value) tt
-sets_of m (MemRead addr len) o seen sound = rw (no_sectors_read m.ram addr len (refusal_of (length m.ram) addr len) o) tt
-sets_of m (MemWrite addr bytes) o seen sound = rw (no_sectors_stored addr bytes (refusal_of (length m.ram) addr (length bytes))) tt
+sets_of m (MemRead addr len) o seen sound = rw (no_sectors_read m.ram (index_of (base_of m.devices) addr) len (access_refusal (base_of m.devices) (length m.ram) addr len) o) tt
+sets_of m (MemWrite addr bytes) o seen sound = rw (no_sectors_stored (index_of (base_of m.devices) addr) bytes (access_refusal (base_of m.devices) (length m.ram) addr (length bytes))) tt
 sets_of m (Step dev pick) o seen sound = sets_worked m dev (slice_get m.devices dev) pick o seen refl sound
 sets_of m (Resize dev cols rows) o seen sound = rw (no_sectors_size dev (slice_get m.devices dev) (record { columns = cols; rows = rows })) tt
 sets_of m (Input dev bytes) o seen sound = rw (no_sectors_put dev (slice_get m.devices dev) bytes) tt
@@ -320,63 +332,63 @@ step_within m e o r f sound h = rw h.effect_is (record {
 })
 
 -- The device that takes another's place is sound.
-set_sound : (len dev : ℕ) (devices : List DeviceState) (found : Option DeviceState) (offset width value : ℕ) → slice_get devices dev ≡ found → All (IsSoundDevice len) devices → value < 2 ^ 32
-    → StaysSoundAt len (write_register dev found offset width value).effect.replaced
+set_sound : {base : ℕ} (len dev : ℕ) (devices : List DeviceState) (found : Option DeviceState) (offset width value : ℕ) → slice_get devices dev ≡ found → All (IsSoundDevice base len) devices → value < 2 ^ 32
+    → StaysSoundAt base len (write_register dev found offset width value).effect.replaced
 set_sound len dev devices None offset width value there all small = tt
 set_sound len dev devices (Some d) offset width value there all small =
     sound_written len d offset width value small (rw (get_or_from_slice_get devices dev d d there) at (all dev d (slice_get_within devices dev d there)))
 
-size_sound_by : (len dev : ℕ) (d : DeviceState) (kind : Kind) (size : ConsoleSize) → d.kind ≡ kind → size.columns < 2 ^ 16 → size.rows < 2 ^ 16 → IsSoundDevice len d → StaysSoundAt len (size_by dev d kind size).effect.replaced
+size_sound_by : {base : ℕ} (len dev : ℕ) (d : DeviceState) (kind : Kind) (size : ConsoleSize) → d.kind ≡ kind → size.columns < 2 ^ 16 → size.rows < 2 ^ 16 → IsSoundDevice base len d → StaysSoundAt base len (size_by dev d kind size).effect.replaced
 size_sound_by len dev d (Network mac frames) size is columns rows sound = tt
 size_sound_by len dev d (Block sectors read_only id requests) size is columns rows sound = tt
 size_sound_by len dev d (Console old held) size is columns rows sound = sound_resized len d old size held is columns rows sound
 size_sound_by len dev d (Entropy pool) size is columns rows sound = tt
 
-size_sound : (len dev : ℕ) (devices : List DeviceState) (found : Option DeviceState) (size : ConsoleSize) → slice_get devices dev ≡ found → All (IsSoundDevice len) devices → size.columns < 2 ^ 16 → size.rows < 2 ^ 16
-    → StaysSoundAt len (set_size dev found size).effect.replaced
+size_sound : {base : ℕ} (len dev : ℕ) (devices : List DeviceState) (found : Option DeviceState) (size : ConsoleSize) → slice_get devices dev ≡ found → All (IsSoundDevice base len) devices → size.columns < 2 ^ 16 → size.rows < 2 ^ 16
+    → StaysSoundAt base len (set_size dev found size).effect.replaced
 size_sound len dev devices None size there all columns rows = tt
 size_sound len dev devices (Some d) size there all columns rows = size_sound_by len dev d d.kind size refl columns rows (rw (get_or_from_slice_get devices dev d d there) at (all dev d (slice_get_within devices dev d there)))
 
-put_sound_by : (len dev : ℕ) (d : DeviceState) (bytes : List ℕ) (answer : Result ℕ Refusal) → IsBytes bytes → IsSoundDevice len d → StaysSoundAt len (put_by dev d bytes answer).effect.replaced
+put_sound_by : {base : ℕ} (len dev : ℕ) (d : DeviceState) (bytes : List ℕ) (answer : Result ℕ Refusal) → IsBytes bytes → IsSoundDevice base len d → StaysSoundAt base len (put_by dev d bytes answer).effect.replaced
 put_sound_by len dev d bytes (Ok count) are sound = sound_input len d bytes are sound
 put_sound_by len dev d bytes (Err refusal) are sound = tt
 
-put_sound : (len dev : ℕ) (devices : List DeviceState) (found : Option DeviceState) (bytes : List ℕ) → slice_get devices dev ≡ found → All (IsSoundDevice len) devices → IsBytes bytes
-    → StaysSoundAt len (put_in dev found bytes).effect.replaced
+put_sound : {base : ℕ} (len dev : ℕ) (devices : List DeviceState) (found : Option DeviceState) (bytes : List ℕ) → slice_get devices dev ≡ found → All (IsSoundDevice base len) devices → IsBytes bytes
+    → StaysSoundAt base len (put_in dev found bytes).effect.replaced
 put_sound len dev devices None bytes there all are = tt
 put_sound len dev devices (Some d) bytes there all are = put_sound_by len dev d bytes (input_of d.kind bytes) are (rw (get_or_from_slice_get devices dev d d there) at (all dev d (slice_get_within devices dev d there)))
 
 work_sound : (m : MachineState) (dev : ℕ) (found : Option DeviceState) (pick : ℕ) (o : Outcome) (seen : Next) → slice_get m.devices dev ≡ found → MaySeeAt found m.ram pick o seen → IsSound m
-    → StaysSoundAt (length m.ram) (step_device dev found m.ram (disk_of m dev) pick o seen).effect.replaced
+    → StaysSoundAt (base_of m.devices) (length m.ram) (step_device dev found m.ram (disk_of m dev) pick o seen).effect.replaced
 work_sound m dev None pick o seen there may sound = tt
 work_sound m dev (Some d) pick o seen there may sound = sound_stepped d m.ram (disk_of m dev) pick o seen may sound.bytes (sound_at m dev d there sound) (has_sectors m dev d there sound)
 
-look_sound : (len : ℕ) (found : Option DeviceState) (offset width : ℕ) → StaysSoundAt len (read_register found offset width).effect.replaced
-look_sound len None offset width = tt
-look_sound len (Some d) offset width = tt
+look_sound : (base len : ℕ) (found : Option DeviceState) (offset width : ℕ) → StaysSoundAt base len (read_register found offset width).effect.replaced
+look_sound base len None offset width = tt
+look_sound base len (Some d) offset width = tt
 
-read_sound : (len : ℕ) (ram : List ℕ) (addr count : ℕ) (error : Option RamError) (o : Outcome) → StaysSoundAt len (read_ram ram addr count error o).effect.replaced
-read_sound len ram addr count (Some error) o = tt
-read_sound len ram addr count None fine = tt
-read_sound len ram addr count None disk_failed = tt
-read_sound len ram addr count None no_memory = tt
+read_sound : (base len : ℕ) (ram : List ℕ) (addr count : ℕ) (error : Option RamError) (o : Outcome) → StaysSoundAt base len (read_ram ram addr count error o).effect.replaced
+read_sound base len ram addr count (Some error) o = tt
+read_sound base len ram addr count None fine = tt
+read_sound base len ram addr count None disk_failed = tt
+read_sound base len ram addr count None no_memory = tt
 
-store_sound : (len addr : ℕ) (bytes : List ℕ) (error : Option RamError) → StaysSoundAt len (write_ram addr bytes error).effect.replaced
-store_sound len addr bytes (Some error) = tt
-store_sound len addr bytes None = tt
+store_sound : (base len addr : ℕ) (bytes : List ℕ) (error : Option RamError) → StaysSoundAt base len (write_ram addr bytes error).effect.replaced
+store_sound base len addr bytes (Some error) = tt
+store_sound base len addr bytes None = tt
 
-replaced_sound : (m : MachineState) (e : Event) (o : Outcome) (seen : Next) → MaySee m e o seen → Fits e → IsSound m → StaysSoundAt (length m.ram) (answer m e o seen).effect.replaced
-replaced_sound m (RegRead dev off width) o seen may fits sound = look_sound (length m.ram) (slice_get m.devices dev) off width
+replaced_sound : (m : MachineState) (e : Event) (o : Outcome) (seen : Next) → MaySee m e o seen → Fits e → IsSound m → StaysSoundAt (base_of m.devices) (length m.ram) (answer m e o seen).effect.replaced
+replaced_sound m (RegRead dev off width) o seen may fits sound = look_sound (base_of m.devices) (length m.ram) (slice_get m.devices dev) off width
 replaced_sound m (RegWrite dev off width value) o seen may fits sound = set_sound (length m.ram) dev m.devices (slice_get m.devices dev) off width value refl sound.devices fits.3
-replaced_sound m (MemRead addr len) o seen may fits sound = read_sound (length m.ram) m.ram addr len (refusal_of (length m.ram) addr len) o
-replaced_sound m (MemWrite addr bytes) o seen may fits sound = store_sound (length m.ram) addr bytes (refusal_of (length m.ram) addr (length bytes))
+replaced_sound m (MemRead addr len) o seen may fits sound = read_sound (base_of m.devices) (length m.ram) m.ram (index_of (base_of m.devices) addr) len (access_refusal (base_of m.devices) (length m.ram) addr len) o
+replaced_sound m (MemWrite addr bytes) o seen may fits sound = store_sound (base_of m.devices) (length m.ram) (index_of (base_of m.devices) addr) bytes (access_refusal (base_of m.devices) (length m.ram) addr (length bytes))
 replaced_sound m (Step dev pick) o seen may fits sound = work_sound m dev (slice_get m.devices dev) pick o seen refl may sound
 replaced_sound m (Resize dev cols rows) o seen may fits sound = size_sound (length m.ram) dev m.devices (slice_get m.devices dev) (record { columns = cols; rows = rows }) refl sound.devices fits.1 fits.2
 replaced_sound m (Input dev bytes) o seen may fits sound = put_sound (length m.ram) dev m.devices (slice_get m.devices dev) bytes refl sound.devices fits.1
 
-all_replaced : (len : ℕ) (devices : List DeviceState) (r : Option Replacement) → All (IsSoundDevice len) devices → StaysSoundAt len r → All (IsSoundDevice len) (replaced_in devices r)
+all_replaced : {base : ℕ} (len : ℕ) (devices : List DeviceState) (r : Option Replacement) → All (IsSoundDevice base len) devices → StaysSoundAt base len r → All (IsSoundDevice base len) (replaced_in devices r)
 all_replaced len devices None all sound = all
-all_replaced len devices (Some r) all sound = All-set (IsSoundDevice len) devices r.number r.device sound all
+all_replaced len devices (Some r) all sound = All-set (IsSoundDevice _ len) devices r.number r.device sound all
 
 count_replaced : (devices : List DeviceState) (r : Option Replacement) → length (replaced_in devices r) ≡ length devices
 count_replaced devices None = refl
@@ -394,14 +406,19 @@ whole_set m disks [] h all = all
 whole_set m disks (s ∷ ss) h all = whole_set m (effects.set_on disks s (slice_get disks s.device)) ss h.1 (whole_on disks s (slice_get disks s.device) refl h.0.1 all)
 
 -- Two machines of one shape, where devices, RAM and sectors are sound.
-pub sound_by : (m k : MachineState) → IsSameShape m k → length k.devices ≡ length m.devices → All (IsSoundDevice (length m.ram)) k.devices → IsBytes k.ram → All AreWhole k.disks → IsSound m → IsSound k
+-- Devices that are sound for a base have it.
+pub one_base : (base len : ℕ) (devices : List DeviceState) → All (IsSoundDevice base len) devices → 1 ≤ length devices → base_of devices ≡ base
+one_base base len [] all some = absurd (omega (arith, some))
+one_base base len (d ∷ devices) all some = (all 0 d (omega arith)).ram_base
+
+pub sound_by : (m k : MachineState) → IsSameShape m k → length k.devices ≡ length m.devices → All (IsSoundDevice (base_of m.devices) (length m.ram)) k.devices → IsBytes k.ram → All AreWhole k.disks → IsSound m → IsSound k
 sound_by m k same count devices bytes whole sound = record {
   whole_pages = rw same.ram sound.whole_pages;
   some_pages = rw same.ram sound.some_pages;
   few_pages = rw same.ram sound.few_pages;
   some_devices = rw count sound.some_devices;
   few_devices = rw count sound.few_devices;
-  devices = rw same.ram devices;
+  devices = rw (same.ram, one_base (base_of m.devices) (length m.ram) k.devices devices (rw count sound.some_devices)) devices;
   bytes = bytes;
   disks = same.disks ∙ sound.disks ∙ shape_counts m.devices ∙ sym (ap (map sector_count) same.devices) ∙ sym (shape_counts k.devices);
   sectors = whole;
@@ -410,7 +427,7 @@ sound_by m k same count devices bytes whole sound = record {
 pub step_sound : StepStaysSound
 step_sound m e o r f sound fits h =
     let effect = (answer m e o h.seen).effect in
-    let devices : All (IsSoundDevice (length m.ram)) (replaced_in m.devices f.replaced) = rw h.effect_is (all_replaced (length m.ram) m.devices effect.replaced sound.devices (replaced_sound m e o h.seen h.may_see fits sound)) in
+    let devices : All (IsSoundDevice (base_of m.devices) (length m.ram)) (replaced_in m.devices f.replaced) = rw h.effect_is (all_replaced (length m.ram) m.devices effect.replaced sound.devices (replaced_sound m e o h.seen h.may_see fits sound)) in
     let bytes : IsBytes (set_all m.ram f.writes) = rw h.effect_is (bytes_after m.ram effect.writes sound.bytes (inside_of m e o h.seen h.may_see fits sound)) in
     let whole : All AreWhole (effects.sectors_set m.disks f.sectors) = rw h.effect_is (whole_set m m.disks effect.sectors (sets_of m e o h.seen sound) sound.sectors) in
     sound_by m (applied m f) (step_shape m e o r f h) (count_replaced m.devices f.replaced) devices bytes whole sound

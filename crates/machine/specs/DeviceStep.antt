@@ -64,7 +64,7 @@ abbrev pub looks : DeviceState → ℕ → Queue → Bool
 looks d number q = is_running d.registers.common && q.is_ready && q.is_notified && has_work d.kind number
 
 abbrev pub looked_by : DeviceState → ℕ → Option Queue → Option Positions → Option RingState
-looked_by d number (Some q) (Some p) = if looks d number q then Some (state_of q d.registers.common.features p) else None
+looked_by d number (Some q) (Some p) = if looks d number q then Some (state_of q d.registers.common.features d.registers.ram_base p) else None
 looked_by d number q p = None
 
 -- The ring that a step with this pick looks at, if any: that of the queue whose number is the pick.
@@ -114,7 +114,7 @@ abbrev pub advances : DeviceState → ℕ → Bool
 advances d pick = is_running d.registers.common && nat_lt 0 pick && nat_lt (pick - 1) (length (requests_of d.kind))
 
 abbrev pub advanced_by : DeviceState → ℕ → Option Queue → Option Positions → Option RingState
-advanced_by d pick (Some q) (Some p) = if advances d pick then Some (state_of q d.registers.common.features p) else None
+advanced_by d pick (Some q) (Some p) = if advances d pick then Some (state_of q d.registers.common.features d.registers.ram_base p) else None
 advanced_by d pick q p = None
 
 -- The ring on which the request of a pick is published, if there is such a request: that of queue 0.

@@ -1,5 +1,5 @@
 -- New machines, and machines as they were saved.
-use Rattle.std.specs.Prelude.{◌≡◌, ℕ, ◌*◌, ◌/◌, ◌%◌, ◌||◌, ◌&&◌, ◌==◌, not, nat_lt, if◌then◌else◌, Bool, true, false, List, [], ◌∷◌, length, map, replicate, Option, Some, None}
+use Rattle.std.specs.Prelude.{◌≡◌, ℕ, ◌+◌, ◌*◌, ◌/◌, ◌%◌, ◌^◌, ◌||◌, ◌&&◌, ◌==◌, not, nat_le, nat_lt, if◌then◌else◌, Bool, true, false, List, [], ◌∷◌, length, map, replicate, Option, Some, None}
 use Rattle.guestmem.specs.declared.limits.TheConstants.{PAGE_SIZE, PAGES_MAX}
 use Rattle.guestmem.specs.Number.{IsBytes}
 use Rattle.blk.specs.Disk.{DiskState}
@@ -36,21 +36,29 @@ dealt_sectors shapes disks = dealt [] shapes disks
 abbrev pub dealt_marks : List Shape → List Marks → List Marks
 dealt_marks shapes marks = dealt no_marks shapes marks
 
--- A new machine: RAM of zeros, and each device in its initial state.
-abbrev pub first_machine : ℕ → List Shape → List (List Sector) → MachineState
-first_machine pages shapes disks = record {
+-- A new machine: RAM of zeros from the address `base` on, and each device in its initial state.
+abbrev pub first_machine_at : ℕ → ℕ → List Shape → List (List Sector) → MachineState
+first_machine_at base pages shapes disks = record {
   ram = replicate (PAGE_SIZE * pages) 0;
-  devices = map (first_device (PAGE_SIZE * pages)) shapes;
+  devices = map (first_device base (PAGE_SIZE * pages)) shapes;
   disks = dealt_sectors shapes disks;
 }
 
--- A new machine whose RAM has these bytes.
-abbrev pub machine_over : List ℕ → List Shape → List (List Sector) → MachineState
-machine_over bytes shapes disks = record {
+-- A new machine whose RAM begins at the address 0.
+abbrev pub first_machine : ℕ → List Shape → List (List Sector) → MachineState
+first_machine pages shapes disks = first_machine_at 0 pages shapes disks
+
+-- A new machine whose RAM has these bytes, from the address `base` on.
+abbrev pub machine_over_at : ℕ → List ℕ → List Shape → List (List Sector) → MachineState
+machine_over_at base bytes shapes disks = record {
   ram = bytes;
-  devices = map (first_device (length bytes)) shapes;
+  devices = map (first_device base (length bytes)) shapes;
   disks = dealt_sectors shapes disks;
 }
+
+-- A new machine whose RAM has these bytes, from the address 0 on.
+abbrev pub machine_over : List ℕ → List Shape → List (List Sector) → MachineState
+machine_over bytes shapes disks = machine_over_at 0 bytes shapes disks
 
 -- Some device is beyond its limits.
 abbrev pub are_beyond : List Shape → Bool
@@ -75,6 +83,17 @@ abbrev pub over_refusal : ℕ → List Shape → List ℕ → Option NewError
 over_refusal bytes shapes sizes =
     if not (bytes % PAGE_SIZE == 0) then Some BadShape
     else new_refusal (bytes / PAGE_SIZE) shapes sizes
+
+-- Whether RAM of so many bytes may begin at this guest-physical address: a multiple of a page, with no byte past the last address.
+abbrev pub is_base : ℕ → ℕ → Bool
+is_base base bytes = base % PAGE_SIZE == 0 && nat_le (base + bytes) (2 ^ 64)
+
+-- The same of a machine whose RAM is to begin at an address: one at which it may not begin is a bad shape too.
+abbrev pub new_refusal_at : ℕ → ℕ → List Shape → List ℕ → Option NewError
+new_refusal_at base pages shapes sizes = if is_base base (PAGE_SIZE * pages) then new_refusal pages shapes sizes else Some BadShape
+
+abbrev pub over_refusal_at : ℕ → ℕ → List Shape → List ℕ → Option NewError
+over_refusal_at base bytes shapes sizes = if is_base base bytes then over_refusal bytes shapes sizes else Some BadShape
 
 -- The MAC of a network device is 6 bytes, and the id of a block device 20.
 pub record AreBytes (count : ℕ) (list : List ℕ) : Type 0 where

@@ -21,7 +21,7 @@ pub record IsLookedAt (d : DeviceState) (pick : ℕ) (q : RingState) : Type 0 wh
   pub ready : queue.is_ready ≡ true
   pub notified : queue.is_notified ≡ true
   pub work : has_work d.kind pick ≡ true
-  pub is : q ≡ state_of queue d.registers.common.features positions
+  pub is : q ≡ state_of queue d.registers.common.features d.registers.ram_base positions
 
 -- A step of a device with this pick looks at a queue that is malformed for it: there is no chain at all, or one that the device
 -- cannot use.

@@ -1,5 +1,5 @@
 -- What contracts see of a machine whose RAM is lent.
-use Rattle.std.specs.Prelude.{◌≡◌, ℕ, ◌*◌, ◌/◌, List, [], ◌∷◌, false, length, slice_index}
+use Rattle.std.specs.Prelude.{◌≡◌, ℕ, ◌+◌, ◌*◌, ◌/◌, List, [], ◌∷◌, false, length, slice_index}
 use Rattle.region.specs.Address.{address}
 use Rattle.region.specs.declared.region.Region.{Region}
 use Rattle.guestmem.specs.Lent.{AreBelow, IsLent, given_back, is_named}
@@ -11,6 +11,7 @@ use Rattle.machine.specs.Applied.{IsApplied}
 use Rattle.machine.specs.Held.{IsHeld}
 use Rattle.machine.specs.Seen.{DeviceSeen, Seen, state_of}
 use Rattle.machine.specs.Sound.{IsSound}
+use Rattle.machine.specs.State.{base_of}
 use Rattle.machine.specs.declared.event.Event.TheVariants.{MemWrite}
 use Rattle.machine.specs.declared.reply.Reply.TheVariants.{Done}
 use Rattle.machine.specs.declared.shape.Shape.{Shape}
@@ -33,10 +34,14 @@ pub record IsParked (m : Seen) (region : Region) (p : ParkedSeen) : Type 0 where
   pub lent : IsLent m.memory region p.versions
   pub devices_are : p.devices ≡ m.devices
 
+-- The guest-physical address of a page's first byte.
+abbrev pub page_address : Seen → ℕ → ℕ
+page_address m n = base_of (state_of m).devices + PAGE_SIZE * n
+
 -- The guest wrote each of these pages whole, one after another, with these bytes.
 abbrev pub AreWritten : Seen → List ℕ → List ℕ → Seen → Type 0
 AreWritten m [] bytes next = next ≡ m
-AreWritten m (n ∷ pages) bytes next = (mid : Seen) × IsApplied m (MemWrite (PAGE_SIZE * n) (page_of bytes n)) Done mid × AreWritten mid pages bytes next
+AreWritten m (n ∷ pages) bytes next = (mid : Seen) × IsApplied m (MemWrite (page_address m n) (page_of bytes n)) Done mid × AreWritten mid pages bytes next
 
 -- A caller that gives back the region that it was lent, in which it wrote into no other page than those that it names, has done
 -- what the guest's writes of these pages do.

@@ -103,18 +103,18 @@ first_kind (Block sectors read_only id) = kinds.Block sectors read_only id []
 first_kind Console = kinds.Console first_size []
 first_kind Entropy = kinds.Entropy []
 
--- A new device in a machine with `ram_len` bytes of RAM.
-abbrev pub first_device : ℕ → Shape → DeviceState
-first_device ram_len shape = record {
+-- A new device in a machine with `ram_len` bytes of RAM from the address `ram_base` on.
+abbrev pub first_device : ℕ → ℕ → Shape → DeviceState
+first_device ram_base ram_len shape = record {
   kind = first_kind shape;
-  registers = first_registers (device_id_of shape) (offered_of shape) (queues_of shape) ram_len;
+  registers = first_registers (device_id_of shape) (offered_of shape) (queues_of shape) ram_base ram_len;
   positions = replicate (queues_of shape) first_positions;
 }
 
--- A device as it was saved.
-abbrev pub saved_device : ℕ → Kind → Common → List Queue → List Positions → DeviceState
-saved_device ram_len kind common queues positions = record {
+-- A device as it was saved, in such a machine.
+abbrev pub saved_device : ℕ → ℕ → Kind → Common → List Queue → List Positions → DeviceState
+saved_device ram_base ram_len kind common queues positions = record {
   kind = kind;
-  registers = record { device_id = device_id_of (made_as kind); offered = offered_of (made_as kind); ram_len = ram_len; common = common; queues = queues };
+  registers = record { device_id = device_id_of (made_as kind); offered = offered_of (made_as kind); ram_base = ram_base; ram_len = ram_len; common = common; queues = queues };
   positions = positions;
 }

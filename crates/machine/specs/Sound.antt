@@ -1,7 +1,7 @@
 -- What holds of every machine.
-use Rattle.std.specs.Prelude.{◌≡◌, ℕ, ◌*◌, ◌/◌, ◌≤◌, List, length, map, All, IsSomeAnd}
+use Rattle.std.specs.Prelude.{◌≡◌, ℕ, ◌+◌, ◌*◌, ◌/◌, ◌%◌, ◌^◌, ◌≤◌, List, length, map, All, IsSomeAnd}
 use Rattle.guestmem.specs.Number.{IsBytes}
-use Rattle.guestmem.specs.declared.limits.TheConstants.{PAGES_MAX}
+use Rattle.guestmem.specs.declared.limits.TheConstants.{PAGE_SIZE, PAGES_MAX}
 use Rattle.mmio.specs.Sound.{IsSoundRegisters}
 use Rattle.console.specs.Shape.{AreHostBytes, IsSoundConsole}
 use Rattle.net.specs.Inbox.{AreFrames}
@@ -12,7 +12,7 @@ use Rattle.blk.specs.Sound.{AreRequestsOf}
 use Rattle.blk.specs.declared.request.Request.{Request}
 use Rattle.blk.specs.declared.shape.BlockShape.{BlockShape}
 use Rattle.mmio.specs.State.{Registers, queue_at}
-use Rattle.machine.specs.State.{DeviceState, MachineState}
+use Rattle.machine.specs.State.{DeviceState, MachineState, base_of}
 use Rattle.machine.specs.QueuePositions.{HavePositions, is_packed_by}
 use Rattle.machine.specs.Shapes.{device_id_of, made_as, offered_of, queues_of, sector_count}
 use Rattle.machine.specs.declared.machine.TheConstants.{DEVICES_MAX}
@@ -30,7 +30,7 @@ IsSoundShape Entropy = Unit {0}
 
 -- Requests that a block device of this shape with these registers can have outstanding: they are those of its queue 0.
 abbrev pub AreRequests : ℕ → Registers → BlockShape → List Request → Type 0
-AreRequests bytes r shape requests = IsSomeAnd (queue_at r 0) (λ q. AreRequestsOf bytes (is_packed_by r.common) q shape requests)
+AreRequests bytes r shape requests = IsSomeAnd (queue_at r 0) (λ q. AreRequestsOf r.ram_base bytes (is_packed_by r.common) q shape requests)
 
 -- What only its kind has is such as a device with these registers can have, in a machine with `bytes` bytes of RAM.
 abbrev pub IsSoundKind : ℕ → Registers → Kind → Type 0
@@ -39,19 +39,27 @@ IsSoundKind bytes r (kinds.Block sectors read_only id requests) = AreRequests by
 IsSoundKind bytes r (kinds.Console size held) = IsSoundConsole size held
 IsSoundKind bytes r (kinds.Entropy pool) = AreHostBytes pool
 
--- A sound device in a machine with `bytes` bytes of RAM: its shape is sound, its registers agree with its shape and hold what
--- accesses can bring about, and its positions and what only its kind has are such as it can have.
-pub record IsSoundDevice (bytes : ℕ) (d : DeviceState) : Type 0 where
+-- RAM of `bytes` bytes may begin at this guest-physical address: a multiple of a page, with no byte past the last address.
+pub record IsBase (base bytes : ℕ) : Type 0 where
+  pub whole : base % PAGE_SIZE ≡ 0
+  pub reach : base + bytes ≤ 2 ^ 64
+
+-- A sound device in a machine with `bytes` bytes of RAM from the address `base` on: RAM may begin there, the device's shape is sound,
+-- its registers agree with its shape and hold what accesses can bring about, and its positions and what only its kind has are such as
+-- it can have.
+pub record IsSoundDevice (base bytes : ℕ) (d : DeviceState) : Type 0 where
   pub shape : IsSoundShape (made_as d.kind)
   pub device_id : d.registers.device_id ≡ device_id_of (made_as d.kind)
   pub offered : d.registers.offered ≡ offered_of (made_as d.kind)
   pub queues : length d.registers.queues ≡ queues_of (made_as d.kind)
+  pub based : IsBase base bytes
+  pub ram_base : d.registers.ram_base ≡ base
   pub ram_len : d.registers.ram_len ≡ bytes
   pub registers : IsSoundRegisters d.registers
   pub positions : HavePositions (is_packed_by d.registers.common) d.registers.queues d.positions
   pub kind : IsSoundKind bytes d.registers d.kind
 
--- A machine is sound: 1 to 16,384 whole pages of RAM, 1 to 16 devices, each of them sound, and each disk of its device's size,
+-- A machine is sound: 1 to 16,384 whole pages of RAM, 1 to 16 devices, each of them sound and of one base, and each disk of its device's size,
 -- with sectors that are 512 bytes or bad.
 pub record IsSound (m : MachineState) : Type 0 where
   pub whole_pages : length m.ram ≡ 4096 * (length m.ram / 4096)
@@ -59,7 +67,7 @@ pub record IsSound (m : MachineState) : Type 0 where
   pub few_pages : length m.ram / 4096 ≤ PAGES_MAX
   pub some_devices : 1 ≤ length m.devices
   pub few_devices : length m.devices ≤ DEVICES_MAX
-  pub devices : All (IsSoundDevice (length m.ram)) m.devices
+  pub devices : All (IsSoundDevice (base_of m.devices) (length m.ram)) m.devices
   pub bytes : IsBytes m.ram
   pub disks : map length m.disks ≡ map (λ d. sector_count (made_as d.kind)) m.devices
   pub sectors : All AreWhole m.disks

@@ -1,5 +1,5 @@
 -- The state of a machine: what two equal machines agree on.
-use Rattle.std.specs.Prelude.{List, ℕ}
+use Rattle.std.specs.Prelude.{List, [], ◌∷◌, ℕ}
 use Rattle.blk.specs.Sectors.{Sector}
 use Rattle.mmio.specs.State.{Registers}
 use Rattle.chains.specs.declared.position.Positions.{Positions}
@@ -18,3 +18,8 @@ pub record MachineState : Type 0 where
   pub ram : List ℕ
   pub devices : List DeviceState
   pub disks : List (List Sector)
+
+-- The base of a machine: the guest-physical address at which its RAM begins. The registers of each device know it.
+abbrev pub base_of : List DeviceState → ℕ
+base_of [] = 0
+base_of (d ∷ devices) = d.registers.ram_base

@@ -1,7 +1,7 @@
 -- Steps of a machine.
 use Rattle.std.specs.Prelude.{min, ◌-◌, ◌++◌, ◌≡◌, ℕ, List, [], ◌∷◌, take, drop, length, Option, Some, None, slice_get, Result, Ok, Err, if◌then◌else◌}
+use Rattle.guestmem.specs.Address.{access_refusal, index_of}
 use Rattle.guestmem.specs.Item.{Item}
-use Rattle.guestmem.specs.Write.{refusal_of}
 use Rattle.guestmem.specs.Writes.{byte_writes}
 use Rattle.guestmem.specs.declared.error.RamError.{RamError}
 use Rattle.guestmem.specs.declared.error.RamError.TheVariants as ram_error
@@ -22,7 +22,7 @@ use Rattle.machine.specs.Effect.{Effect, no_effect, sets_on, applied, items_of}
 use Rattle.machine.specs.Outcome.{Outcome, fine, disk_failed, no_memory, outcome_of}
 use Rattle.machine.specs.QueuePositions.{kept_positions}
 use Rattle.machine.specs.Shapes.{configuration_of}
-use Rattle.machine.specs.State.{DeviceState, MachineState}
+use Rattle.machine.specs.State.{DeviceState, MachineState, base_of}
 use Rattle.machine.specs.declared.event.Event.{Event}
 use Rattle.machine.specs.declared.event.Event.TheVariants.{RegRead, RegWrite, MemRead, MemWrite, Step, Input, Resize}
 use Rattle.machine.specs.declared.kind.Kind.{Kind}
@@ -95,19 +95,19 @@ abbrev pub write_register : ℕ → Option DeviceState → ℕ → ℕ → ℕ �
 write_register number None offset width value = refused NoDevice
 write_register number (Some d) offset width value = becomes number (register_set d offset width value) (out_reply (written_out d.kind offset width value))
 
--- The guest reads RAM. The reply holds the bytes, so memory may be refused.
+-- The guest reads RAM, from an index on. The reply holds the bytes, so memory may be refused.
 abbrev pub read_ram : List ℕ → ℕ → ℕ → Option RamError → Outcome → Answer
-read_ram ram addr len (Some error) o = refused (ram_refusal error)
-read_ram ram addr len None no_memory = unchanged NoMemory
-read_ram ram addr len None disk_failed = unchanged (Bytes (take len (drop addr ram)))
-read_ram ram addr len None fine = unchanged (Bytes (take len (drop addr ram)))
+read_ram ram at len (Some error) o = refused (ram_refusal error)
+read_ram ram at len None no_memory = unchanged NoMemory
+read_ram ram at len None disk_failed = unchanged (Bytes (take len (drop at ram)))
+read_ram ram at len None fine = unchanged (Bytes (take len (drop at ram)))
 
--- The guest writes RAM.
+-- The guest writes RAM, from an index on.
 abbrev pub write_ram : ℕ → List ℕ → Option RamError → Answer
-write_ram addr bytes (Some error) = refused (ram_refusal error)
-write_ram addr bytes None = record {
+write_ram at bytes (Some error) = refused (ram_refusal error)
+write_ram at bytes None = record {
   reply = Done;
-  effect = record { writes = byte_writes addr bytes; sectors = []; replaced = None };
+  effect = record { writes = byte_writes at bytes; sectors = []; replaced = None };
 }
 
 -- The host puts bytes in. A console and an entropy device keep the first ones that fit; a network device keeps a frame whole,
@@ -175,12 +175,12 @@ abbrev pub disk_of : MachineState → ℕ → List Sector
 disk_of m dev = disk_or_none (slice_get m.disks dev)
 
 -- The reply of a machine to an event, and what changes, given the outcome of what it asks of the environment, and what the
--- queue that it looks at, if any, answers about its next chain.
+-- queue that it looks at, if any, answers about its next chain. The addresses of RAM are guest-physical ones.
 abbrev pub answer : MachineState → Event → Outcome → Next → Answer
 answer m (RegRead dev off width) o seen = read_register (slice_get m.devices dev) off width
 answer m (RegWrite dev off width value) o seen = write_register dev (slice_get m.devices dev) off width value
-answer m (MemRead addr len) o seen = read_ram m.ram addr len (refusal_of (length m.ram) addr len) o
-answer m (MemWrite addr bytes) o seen = write_ram addr bytes (refusal_of (length m.ram) addr (length bytes))
+answer m (MemRead addr len) o seen = read_ram m.ram (index_of (base_of m.devices) addr) len (access_refusal (base_of m.devices) (length m.ram) addr len) o
+answer m (MemWrite addr bytes) o seen = write_ram (index_of (base_of m.devices) addr) bytes (access_refusal (base_of m.devices) (length m.ram) addr (length bytes))
 answer m (Step dev pick) o seen = step_device dev (slice_get m.devices dev) m.ram (disk_of m dev) pick o seen
 answer m (Input dev bytes) o seen = put_in dev (slice_get m.devices dev) bytes
 answer m (Resize dev cols rows) o seen = set_size dev (slice_get m.devices dev) (record { columns = cols; rows = rows })

@@ -36,38 +36,45 @@ impl AnyRing {
             is_ready: false,
             is_notified: false,
         };
-        AnyRing::Split(SplitRing::new(alloc, &queue, 0, Positions::FIRST))
+        AnyRing::Split(SplitRing::new(alloc, &queue, 0, 0, Positions::FIRST))
     }
 
-    /// Makes it the ring of a queue at these positions, under the features that the driver accepted: RING_PACKED names the
-    /// packed layout (VIRTIO 1.2, 6). What it keeps of descriptors stays, unless the layout is another one.
-    pub fn renew(&mut self, alloc: Global, queue: &Queue, features: u64, positions: Positions)
-        requires { MayRing (state_of queue.now features positions) }
-        ensures ring { ring_in self.new ≡ state_of queue.now features positions }
+    /// Makes it the ring of a queue at these positions, under the features that the driver accepted, in a RAM with this base:
+    /// RING_PACKED names the packed layout (VIRTIO 1.2, 6). What it keeps of descriptors stays, unless the layout is another one.
+    pub fn renew(
+        &mut self,
+        alloc: Global,
+        queue: &Queue,
+        features: u64,
+        base: u64,
+        positions: Positions,
+    )
+        requires { MayRing (state_of queue.now features base positions) }
+        ensures ring { ring_in self.new ≡ state_of queue.now features base positions }
         ensures kept { is_packed_in self.old ≡ has_bit features RING_PACKED → decoder_in self.new ≡ decoder_in self.old }
         ensures fits { (ram : Memory) → Fits (decoder_in self.old) ram → Fits (decoder_in self.new) ram }
     {
         let is_packed = features & RING_PACKED != 0;
         match self {
             AnyRing::Split(ring) if !is_packed => {
-                ring.renew(RingCore::new(alloc, queue, features, positions));
+                ring.renew(RingCore::new(alloc, queue, features, base, positions));
             }
             AnyRing::Packed(ring) if is_packed => {
-                ring.renew(RingCore::new(alloc, queue, features, positions));
+                ring.renew(RingCore::new(alloc, queue, features, base, positions));
             }
-            _ => self.turn(alloc, queue, features, positions),
+            _ => self.turn(alloc, queue, features, base, positions),
         }
     }
 
     /// Makes it a ring that keeps nothing, of the layout that the features name. That is seldom: a driver chooses its layout once.
     #[cold]
     #[inline(never)]
-    fn turn(&mut self, alloc: Global, queue: &Queue, features: u64, positions: Positions)
-        requires { MayRing (state_of queue.now features positions) }
-        ensures ring { ring_in self.new ≡ state_of queue.now features positions }
+    fn turn(&mut self, alloc: Global, queue: &Queue, features: u64, base: u64, positions: Positions)
+        requires { MayRing (state_of queue.now features base positions) }
+        ensures ring { ring_in self.new ≡ state_of queue.now features base positions }
         ensures fits { (ram : Memory) → Fits (decoder_in self.new) ram }
     {
-        let core = RingCore::new(alloc, queue, features, positions);
+        let core = RingCore::new(alloc, queue, features, base, positions);
         if features & RING_PACKED != 0 {
             *self = AnyRing::Packed(PackedRing::of(core));
         } else {
@@ -104,6 +111,13 @@ impl Ring for AnyRing {
         match self {
             AnyRing::Split(ring) => ring.next_into(ram, chain),
             AnyRing::Packed(ring) => ring.next_into(ram, chain),
+        }
+    }
+
+    fn base(&self) -> u64 {
+        match self {
+            AnyRing::Split(ring) => ring.base(),
+            AnyRing::Packed(ring) => ring.base(),
         }
     }
 

@@ -122,7 +122,7 @@ impl<D: Disk> Device<D> {
         log: &mut L,
     ) -> Stepped
         requires fits { Fits (decoder_in ring.old) ram.old }
-        requires sound { IsSoundDevice (length ram.old.bytes) self.old.state }
+        requires sound { IsSoundDevice self.old.state.registers.ram_base (length ram.old.bytes) self.old.state }
         requires capacity { length self.old.sectors ≡ sector_count (made_as self.old.state.kind) }
         requires may { MayPages L.may log.old (length ram.old.bytes) }
         requires may_sectors { MaySectors L.may log.old number (length self.old.sectors) }

@@ -35,6 +35,8 @@
 //! - `play(events)` is a run of steps (`specs/Run`), with a reply to each: one event after another is applied. Where it is refused
 //!   memory, nothing was played.
 //! - `Machine::new` gives zeros and first values, or the first of its refusals; `new_or_back` also gives the disks back.
+//!   RAM begins at a guest-physical address, its base: at 0 there, and at the address that `new_at` and `new_over_at` are given. All
+//!   addresses of the guest count from it, and all devices of a machine hold the same one (`specs/Sound`).
 //!   `restore` gives the machine of what was saved. Every machine is sound (`specs/Sound`), and stays so. `lines` is the
 //!   interrupt lines.
 //! - `Machine::new_over` is `new` over a `region::Region`: RAM is the bytes that lie there, which stay where they are. A refusal gives
@@ -75,7 +77,7 @@ pub use event::Event;
 pub use fitting::are_disks_of;
 pub use guestmem::Bytes;
 pub use kind::Kind;
-pub use machine::{DEVICES_MAX, Machine, Parked};
+pub use machine::{DEVICES_MAX, Machine, Parked, is_base};
 pub use new_error::NewError;
 pub use reply::{Refusal, Reply};
 pub use shape::Shape;

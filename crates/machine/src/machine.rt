@@ -16,6 +16,7 @@ use crate::shape::Shape;
 use blk::Disk;
 use guestmem::Ram;
 pub use lending::Parked;
+pub use making::is_base;
 use std::alloc::Global;
 use std::marker::Model;
 

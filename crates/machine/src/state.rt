@@ -60,9 +60,14 @@ impl DeviceState {
     ghost use Rattle.machine.specs.Sound.{IsSoundDevice};
     ghost use Rattle.machine.specs.Step.{ResizesDevice, register_value_of, register_set, input_of, with_input, written_out};
 
-    /// A new device, in a machine whose RAM has `ram_len` bytes. Its only error is out of memory.
-    pub(crate) fn new(alloc: Global, shape: Shape, ram_len: u64) -> Result<DeviceState, NoMemory>
-        ensures { IfOk result (λ d. d ≡ first_device ram_len shape) }
+    /// A new device, in a machine whose RAM has `ram_len` bytes from the address `ram_base` on. Its only error is out of memory.
+    pub(crate) fn new(
+        alloc: Global,
+        shape: Shape,
+        ram_base: u64,
+        ram_len: u64,
+    ) -> Result<DeviceState, NoMemory>
+        ensures { IfOk result (λ d. d ≡ first_device ram_base ram_len shape) }
     {
         let kind = Kind::new(alloc, shape)?;
         Ok(DeviceState {
@@ -71,28 +76,31 @@ impl DeviceState {
                 device_id(shape),
                 offered(shape),
                 queue_count(shape),
+                ram_base,
                 ram_len,
             ),
             positions: [Positions::FIRST; QUEUE_COUNT_MAX],
         })
     }
 
-    /// A device as it was saved, in a machine whose RAM has `ram_len` bytes. The caller makes sure that it is sound.
+    /// A device as it was saved, in a machine whose RAM has `ram_len` bytes from the address `ram_base` on. The caller makes sure that it is sound.
     pub fn restored(
+        ram_base: u64,
         ram_len: u64,
         common: Common,
         queues: &[Queue],
         positions: [Positions; QUEUE_COUNT_MAX],
         kind: Kind,
     ) -> DeviceState
-        requires { IsSoundDevice ram_len (saved_device ram_len kind common queues.now (take (length queues.now) positions)) }
-        ensures { result ≡ saved_device ram_len kind common queues.now (take (length queues.now) positions) }
+        requires { IsSoundDevice ram_base ram_len (saved_device ram_base ram_len kind common queues.now (take (length queues.now) positions)) }
+        ensures { result ≡ saved_device ram_base ram_len kind common queues.now (take (length queues.now) positions) }
     {
         let shape = kind.shape();
         let mut registers = Regs::new(
             device_id(shape),
             offered(shape),
             queue_count(shape),
+            ram_base,
             ram_len,
         );
         registers.restore(common, queues);
@@ -189,7 +197,7 @@ impl DeviceState {
         log: &mut L,
     ) -> Stepped
         requires fits { Fits (decoder_in ring.old) ram.old }
-        requires sound { IsSoundDevice (length ram.old.bytes) self.old }
+        requires sound { IsSoundDevice self.old.registers.ram_base (length ram.old.bytes) self.old }
         requires capacity { length sectors.old.content ≡ sector_count (made_as self.old.kind) }
         requires may { MayPages L.may log.old (length ram.old.bytes) }
         requires may_sectors { MaySectors L.may log.old device (length sectors.old.content) }
@@ -219,7 +227,7 @@ impl DeviceState {
         log: &mut L,
     ) -> Stepped
         requires fits { Fits (decoder_in ring.old) ram.old }
-        requires sound { IsSoundDevice (length ram.old.bytes) self.old }
+        requires sound { IsSoundDevice self.old.registers.ram_base (length ram.old.bytes) self.old }
         requires without { sector_count (made_as self.old.kind) ≡ 0 }
         requires may { MayPages L.may log.old (length ram.old.bytes) }
         ensures step { (device : ℕ) → IsDeviceStep (Touches L.after log.old log.new ram.old ram.new) device true ram.old.bytes [] self.old pick (reply_in result sent.new.items) ram.new.bytes [] self.new }
@@ -243,7 +251,7 @@ impl DeviceState {
         ram: &mut Ram,
         log: &mut L,
     ) -> Stepped
-        requires sound { IsSoundDevice (length ram.old.bytes) self.old }
+        requires sound { IsSoundDevice self.old.registers.ram_base (length ram.old.bytes) self.old }
         requires looked { looked_at self.old pick ≡ Some (ring_in ring.old) }
         requires fits { Fits (decoder_in ring.old) ram.old }
         requires there { pick < length self.old.registers.queues }
@@ -273,7 +281,7 @@ impl DeviceState {
         ram: &mut Ram,
         log: &mut L,
     ) -> Stepped
-        requires sound { IsSoundDevice (length ram.old.bytes) self.old }
+        requires sound { IsSoundDevice self.old.registers.ram_base (length ram.old.bytes) self.old }
         requires capacity { length sectors.old.content ≡ sector_count (made_as self.old.kind) }
         requires advanced { advanced_at self.old pick ≡ Some (ring_in ring.old) }
         requires fits { Fits (decoder_in ring.old) ram.old }
@@ -296,7 +304,7 @@ impl DeviceState {
 
     /// Makes the ring the one on which the request of a pick is published, and says whether there is such a request.
     fn advanced_ring(&self, alloc: Global, pick: u8, ring: &mut AnyRing) -> bool
-        requires sound { (len : ℕ) × IsSoundDevice len self.now }
+        requires sound { (len : ℕ) × IsSoundDevice self.now.registers.ram_base len self.now }
         ensures ring { result ≡ true → advanced_at self.now pick ≡ Some (ring_in ring.new) }
         ensures none { result ≡ false → advanced_at self.now pick ≡ None }
         ensures fits { (ram : Memory) → Fits (decoder_in ring.old) ram → Fits (decoder_in ring.new) ram }
@@ -308,7 +316,8 @@ impl DeviceState {
             return false;
         };
         let features = self.registers.features();
-        ring.renew(alloc, queue, features, self.positions[0]);
+        let base = self.registers.ram_base();
+        ring.renew(alloc, queue, features, base, self.positions[0]);
         true
     }
 
@@ -321,7 +330,7 @@ impl DeviceState {
 
     /// Makes the ring the one that a step with this pick looks at, and says whether it looks at one.
     fn looked_ring(&self, alloc: Global, pick: u8, ring: &mut AnyRing) -> bool
-        requires sound { (len : ℕ) × IsSoundDevice len self.now }
+        requires sound { (len : ℕ) × IsSoundDevice self.now.registers.ram_base len self.now }
         ensures ring { result ≡ true → looked_at self.now pick ≡ Some (ring_in ring.new) }
         ensures none { result ≡ false → looked_at self.now pick ≡ None }
         ensures fits { (ram : Memory) → Fits (decoder_in ring.old) ram → Fits (decoder_in ring.new) ram }
@@ -337,7 +346,8 @@ impl DeviceState {
             return false;
         }
         let features = self.registers.features();
-        ring.renew(alloc, queue, features, self.positions[number]);
+        let base = self.registers.ram_base();
+        ring.renew(alloc, queue, features, base, self.positions[number]);
         true
     }
 

@@ -1,3 +1,2 @@
-pub mod Cuts
-pub mod Images
-pub mod Whole
+mod Images
+pub mod Sectors

@@ -1,16 +1,13 @@
--- The bytes of an image.
-use Rattle.std.specs.Prelude.{ℕ, ◌*◌, List}
+-- The bytes of sectors.
+use Prim.Native.Nat.{ℕ, zero, suc}
+use Rattle.std.specs.Prelude.{List, [], ◌∷◌, take, drop}
 use Rattle.std.specs.List.{concat}
-use base.Fml.{Fml}
-use base.Fraction.{full_share}
-use denote.Array.{Array}
-use denote.Builtin.{u8}
-use denote.RawPtr.{Ptr, lies_at}
 
 -- The sectors, one after another.
 abbrev pub bytes_of : List (List ℕ) → List ℕ
 bytes_of = concat
 
--- The bytes of `count` sectors lie at the pointer.
-abbrev pub bytes_lie : Ptr → ℕ → List ℕ → Fml
-bytes_lie at count bytes = lies_at (Array u8 (count * 512)) full_share at bytes
+-- Bytes, cut into so many sectors.
+abbrev pub cut : ℕ → List ℕ → List (List ℕ)
+cut zero bytes = []
+cut (suc n) bytes = take 512 bytes ∷ cut n (drop 512 bytes)

@@ -1,23 +1,24 @@
 -- What an image owns.
-use Prim.Native.Nat.{ℕ, zero, suc, ◌*◌, ◌^◌}
-use Rattle.std.specs.Prelude.{◌≡◌, List, []}
-use base.Fraction.{full_share}
-use base.Fml.{Fml, ftrue, fsep, fex, flt}
+use Rattle.std.specs.Prelude.{◌≡◌, ℕ, ◌*◌, List, length}
+use base.Fml.{Fml, ftrue, fsep, fex}
 use base.Stored.{Coded}
 use denote.Array.{Array}
 use denote.Builtin.{u8}
-use denote.RawPtr.{Ptr, lies_at}
-use denote.RattleType.{RattleType}
+use denote.RawPtr.{Ptr}
+use Rattle.region.specs.Region.{region_owns}
+use Rattle.blk.specs.Disk.{AreSectors}
+use Rattle.mapped_disk.specs.Bytes.{bytes_of}
 
--- The type of a sector.
-abbrev pub sector_row : RattleType
-sector_row = Array u8 512
+-- These are as many sectors.
+pub record IsContent (sectors : ℕ) (content : List (List ℕ)) : Type 0 where
+  pub count : length content ≡ sectors
+  pub whole : AreSectors content
 
--- The sectors lie at the pointer, one after another: n of them are n * 512 bytes, fewer than 2^63. An image of no sectors owns
--- nothing, and its pointer may be anything.
+-- There are as many sectors as the image says, and it owns what a region of their bytes does: n of them are n * 512 bytes, fewer
+-- than 2^63. An image of no sectors owns nothing, and its pointer may be anything.
 abbrev pub image_owns : Ptr → ℕ → List (List ℕ) → Fml
-image_owns at zero content = fex (content ≡ []) (λ _. ftrue)
-image_owns at (suc n) content = fsep (flt (suc n * 512) (2 ^ 63)) (lies_at (Array sector_row (suc n)) full_share at content)
+image_owns at sectors content = fsep (fex (IsContent sectors content) (λ _. ftrue)) (region_owns at (sectors * 512) (bytes_of content))
 
+-- How a list of sectors is stored.
 abbrev pub image_coded : Coded (List (List ℕ))
-image_coded = (Array sector_row 0).coded
+image_coded = (Array (Array u8 512) 0).coded

@@ -1,3 +1,3 @@
 pub mod Bytes
 pub mod Image
-pub mod Lending
+pub mod Over

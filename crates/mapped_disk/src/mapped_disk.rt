@@ -1,74 +1,74 @@
 //! A disk in memory that its caller owns.
 
 ghost use Rattle.std.specs.Prelude.{◌≡◌, true};
-ghost use Rattle.std.specs.Borrow.{sem};
-ghost use Rattle.mapped_disk.specs.Image.{image_owns};
 
 use crate::image::Image;
-use blk::{Disk, DiskFault};
+use blk::{Disk, DiskFault, SECTOR_SIZE};
+use region::KeptRegion;
 use std::marker::Model;
 
 /// A disk over an image. It is honest and steady. A flush does nothing: what is written is in the image.
 ///
-/// One that is dropped leaves its bytes where they are, as they are, and they are the caller's again.
+/// One that is dropped leaves its bytes where they are, as they are, and they are the caller's again (`KeptRegion`).
+#[derive(Drop)]
 pub struct MappedDisk {
-    image: Image,
+    region: KeptRegion,
     count: u64,
 }
 
 impl Model for MappedDisk {
-    ghost use Rattle.std.specs.Prelude.{◌≡◌, length};
-    ghost use Rattle.blk.specs.Disk.{AreSectors};
     ghost use Rattle.mapped_disk.specs.declared.image.Image.{Image};
+    ghost use Rattle.mapped_disk.specs.Over.{IsOver, image_over};
 
     ghost Value = { Image };
 
-    ghost view = { λ d. d.image };
+    ghost view = { λ d. image_over d.region d.count };
 
-    ghost invariant = { λ d. (d.count ≡ length d.image.content) × AreSectors d.image.content };
+    ghost invariant = { λ d. IsOver d.region d.count };
 }
 
 impl MappedDisk {
     /// The disk whose sectors are those of an image.
-    pub fn new(mut image: Image) -> MappedDisk
+    pub fn new(image: Image) -> MappedDisk
         ensures { result ≡ image }
     {
-        let count = image.count();
-        MappedDisk { image, count }
+        let (region, count) = image.into_region();
+        MappedDisk {
+            region: KeptRegion::of(region),
+            count,
+        }
     }
 
     /// The image, with the disk's contents.
     pub fn into_image(self) -> Image
         ensures { result ≡ self }
     {
-        let MappedDisk { image, count: _ } = self;
-        image
-    }
-}
-
-impl Drop for MappedDisk {
-    fn drop(self)
-        ensures* memory { sem 𝓛 (image_owns self.at self.sectors self.content) }
-    {
-        let Self { image, count: _ } = self;
-        image.forget();
+        let MappedDisk { region, count } = self;
+        Image::over(region.into_region(), count)
     }
 }
 
 impl Disk for MappedDisk {
     ghost state = { λ d. record { sectors = d.content; failures = 0; honest = true; steady = true; is_flushed = true } };
 
+    #[tactic(auto, using(crate::proofs::Sectors::length_cut))]
     fn sectors(&self) -> u64 {
         self.count
     }
 
+    #[tactic(auto, using(crate::proofs::Sectors::length_cut, crate::proofs::Sectors::at_cut))]
     fn read(&mut self, n: u64, buf: &mut [u8; 512]) -> Result<(), DiskFault> {
-        *buf = self.image.sectors_mut()[n as usize];
+        let _all = self.region.len();
+        let start = n as usize * SECTOR_SIZE;
+        buf.copy_from_slice(&self.region.as_slice()[start..start + SECTOR_SIZE]);
         Ok(())
     }
 
+    #[tactic(auto, using(crate::proofs::Sectors::length_cut, crate::proofs::Sectors::cut_put))]
     fn write(&mut self, n: u64, bytes: &[u8; 512]) -> Result<(), DiskFault> {
-        self.image.sectors_mut()[n as usize] = *bytes;
+        let _all = self.region.len();
+        let start = n as usize * SECTOR_SIZE;
+        self.region.as_mut_slice()[start..start + SECTOR_SIZE].copy_from_slice(bytes);
         Ok(())
     }
 

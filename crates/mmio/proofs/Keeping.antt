@@ -14,8 +14,8 @@ use Rattle.mmio.specs.declared.queue.Queue.{Queue}
 use Rattle.mmio.proofs.StatusBits.{after_is_status, asked_is_status, settled_before, settled_after, stays_there, was_there}
 
 -- a queue stays sound under other common registers with FEATURES_OK, if it was there, and with the same features
-pub queue_stays : (ram_len : ℕ) (c d : Common) (q : Queue) → (Has c.status 8 → Has d.status 8) → d.features ≡ c.features → IsSoundQueue ram_len c q → IsSoundQueue ram_len d q
-queue_stays ram_len c d q still same h = record {
+pub queue_stays : (base ram_len : ℕ) (c d : Common) (q : Queue) → (Has c.status 8 → Has d.status 8) → d.features ≡ c.features → IsSoundQueue base ram_len c q → IsSoundQueue base ram_len d q
+queue_stays base ram_len c d q still same h = record {
   fits = h.fits;
   notified = h.notified;
   ready = λ r. let was = h.ready r in record {
@@ -32,10 +32,11 @@ pub registers_stay : (r : Registers) (d : Common) → (Has r.common.status 8 →
 registers_stay r d still same sound h = record {
   device_id = h.device_id;
   offered = h.offered;
+  ram_base = h.ram_base;
   ram_len = h.ram_len;
   few = h.few;
   common = sound;
-  queues = λ k d' below. queue_stays r.ram_len r.common d _ still same (h.queues k d' below);
+  queues = λ k d' below. queue_stays r.ram_base r.ram_len r.common d _ still same (h.queues k d' below);
 }
 
 pub fits_still : (c : Common) (s i : ℕ) → FitsCommon c → FitsCommon (record c { status = s; interrupts = i })
@@ -106,12 +107,13 @@ pub change_kept : (r : Registers) (c : Common) → c ≡ r.common → IsSoundReg
 change_kept r c e h = rw e (change_kept_at r ((r.common.generation + 1) % 2 ^ 32) (mod_below (r.common.generation + 1) (2 ^ 32) (omega arith)) h)
 
 -- a queue is replaced by a sound one
-pub queues_kept : (r : Registers) (number : ℕ) (q : Queue) → IsSoundRegisters r → IsSoundQueue r.ram_len r.common q → IsSoundRegisters (with_queue r number q)
+pub queues_kept : (r : Registers) (number : ℕ) (q : Queue) → IsSoundRegisters r → IsSoundQueue r.ram_base r.ram_len r.common q → IsSoundRegisters (with_queue r number q)
 queues_kept r number q h sound = record {
   device_id = h.device_id;
   offered = h.offered;
+  ram_base = h.ram_base;
   ram_len = h.ram_len;
   few = simp length-set h.few;
   common = h.common;
-  queues = All-set (IsSoundQueue r.ram_len r.common) r.queues number q sound h.queues;
+  queues = All-set (IsSoundQueue r.ram_base r.ram_len r.common) r.queues number q sound h.queues;
 }

@@ -89,9 +89,9 @@ second_of_and : (a b : Bool) → (a && b) ≡ true → b ≡ true
 second_of_and true b h = h
 second_of_and false b h = cc
 
-has_slots : (ram_len : ℕ) (c : Common) (q : Queue) → may_be_ready ram_len c q ≡ true → 0 < q.size
+has_slots : (base ram_len : ℕ) (c : Common) (q : Queue) → may_be_ready base ram_len c q ≡ true → 0 < q.size
 unfolding may_be_ready
-has_slots ram_len c q h =
+has_slots base ram_len c q h =
     let few = first_of_and _ _ h in
     let some = first_of_and _ _ few in
     let slots : ltb 0 q.size ≡ true = second_of_and _ _ some in
@@ -101,11 +101,11 @@ not_true : (b : Bool) → not b ≡ true → b ≡ false
 not_true true h = cc
 not_true false h = refl
 
-enabled : (r : Registers) (v : ℕ) (q : Queue) (may : Bool) → (eqb v 1 && not q.is_ready && may_be_ready r.ram_len r.common q) ≡ may → slice_get r.queues r.common.queue_select ≡ Some q
+enabled : (r : Registers) (v : ℕ) (q : Queue) (may : Bool) → (eqb v 1 && not q.is_ready && may_be_ready r.ram_base r.ram_len r.common q) ≡ may → slice_get r.queues r.common.queue_select ≡ Some q
     → StayReady r (cond {A = Effect × Registers} may (e.Enabled r.common.queue_select, with_queue r r.common.queue_select (record q { is_ready = true })) (e.None, r)).1
 enabled r v q false is at = same r
 enabled r v q true is at =
-    let slots : 0 < q.size = has_slots r.ram_len r.common q (second_of_and _ _ is) in
+    let slots : 0 < q.size = has_slots r.ram_base r.ram_len r.common q (second_of_and _ _ is) in
     let idle : q.is_ready ≡ false = not_true q.is_ready (second_of_and _ _ (first_of_and _ _ is)) in
     one_set r.common.features r.queues r.common.queue_select q (record q { is_ready = true }) at (λ h. inl (idle, slots))
 
@@ -113,9 +113,9 @@ ready_stays : (r : Registers) (v : ℕ) (q : Option Queue) → slice_get r.queue
 ready_stays r v None at = same r
 ready_stays r v (Some q) at =
     either r (eqb v 0) (e.Disabled r.common.queue_select, with_queue r r.common.queue_select (record q { is_ready = false; is_notified = false }))
-    (cond (eqb v 1 && not q.is_ready && may_be_ready r.ram_len r.common q) (e.Enabled r.common.queue_select, with_queue r r.common.queue_select (record q { is_ready = true })) (e.None, r))
+    (cond (eqb v 1 && not q.is_ready && may_be_ready r.ram_base r.ram_len r.common q) (e.Enabled r.common.queue_select, with_queue r r.common.queue_select (record q { is_ready = true })) (e.None, r))
     (one_set r.common.features r.queues r.common.queue_select q (record q { is_ready = false; is_notified = false }) at (λ h. cc))
-    (enabled r v q (eqb v 1 && not q.is_ready && may_be_ready r.ram_len r.common q) refl at)
+    (enabled r v q (eqb v 1 && not q.is_ready && may_be_ready r.ram_base r.ram_len r.common q) refl at)
 
 notified_by : (b : ℕ) (q : Queue) (ready : Bool) → q.is_ready ≡ ready → StaysReady b b q (record q { is_notified = true })
 notified_by b q true is h = inr (is, refl, refl)

@@ -35,13 +35,13 @@ pub record StaysSound (old new : Registers) : Type 0 where
   pub sound : IsSoundRegisters new
 
 stays_as_it_is : (r : Registers) → IsSoundRegisters r → StaysSound r r
-stays_as_it_is r h = record { same = record { device_id = refl; offered = refl; ram_len = refl; queue_count = refl }; sound = h }
+stays_as_it_is r h = record { same = record { device_id = refl; offered = refl; ram_base = refl; ram_len = refl; queue_count = refl }; sound = h }
 
 same_common : (r : Registers) (c : Common) → IsSameDevice r (with_common r c)
-same_common r c = record { device_id = refl; offered = refl; ram_len = refl; queue_count = refl }
+same_common r c = record { device_id = refl; offered = refl; ram_base = refl; ram_len = refl; queue_count = refl }
 
 same_queue : (r : Registers) (n : ℕ) (q : Queue) → IsSameDevice r (with_queue r n q)
-same_queue r n q = record { device_id = refl; offered = refl; ram_len = refl; queue_count = length-set r.queues n q }
+same_queue r n q = record { device_id = refl; offered = refl; ram_base = refl; ram_len = refl; queue_count = length-set r.queues n q }
 
 either : (r : Registers) (b : Bool) (p q : Effect × Registers) → StaysSound r p.1 → StaysSound r q.1 → StaysSound r (cond b p q).1
 either r true p q h k = h
@@ -93,6 +93,7 @@ features_sound r f false is fits h =
       sound = record {
         device_id = h.device_id;
         offered = h.offered;
+        ram_base = h.ram_base;
         ram_len = h.ram_len;
         few = h.few;
         common = record {
@@ -111,10 +112,10 @@ features_sound r f false is fits h =
     }
 
 -- A queue of sound registers is sound.
-pub queue_sound : (r : Registers) (n : ℕ) (q : Queue) → slice_get r.queues n ≡ Some q → IsSoundRegisters r → IsSoundQueue r.ram_len r.common q
+pub queue_sound : (r : Registers) (n : ℕ) (q : Queue) → slice_get r.queues n ≡ Some q → IsSoundRegisters r → IsSoundQueue r.ram_base r.ram_len r.common q
 queue_sound r n q at h = rw (get_or_from_slice_get r.queues n q q at) at (h.queues n q (slice_get_within r.queues n q at))
 
-with_queue_sound : (r : Registers) (n : ℕ) (q : Queue) → IsSoundQueue r.ram_len r.common q → IsSoundRegisters r → StaysSound r (with_queue r n q)
+with_queue_sound : (r : Registers) (n : ℕ) (q : Queue) → IsSoundQueue r.ram_base r.ram_len r.common q → IsSoundRegisters r → StaysSound r (with_queue r n q)
 with_queue_sound r n q sound h = record { same = same_queue r n q; sound = queues_kept r n q h sound }
 
 -- What a test of readiness tells.
@@ -126,43 +127,47 @@ second_of_and : (a b : Bool) → (a && b) ≡ true → b ≡ true
 second_of_and true b h = h
 second_of_and false b h = cc
 
-inside_from : (ram_len from align bytes : ℕ) → is_inside ram_len from align bytes ≡ true → IsInside ram_len from align bytes
-inside_from ram_len from align bytes h = record {
+inside_from : (base ram_len from align bytes : ℕ) → is_inside base ram_len from align bytes ≡ true → IsInside base ram_len from align bytes
+inside_from base ram_len from align bytes h = record {
   aligned = eqb-true (from % align) 0 (first_of_and _ _ h);
-  inside = leb-true (from + bytes) ram_len (second_of_and _ _ h);
+  within = record {
+    exists = ltb-true from (2 ^ 64) (first_of_and _ _ (first_of_and _ _ (second_of_and _ _ h)));
+    above = leb-true base from (second_of_and _ _ (first_of_and _ _ (second_of_and _ _ h)));
+    below = leb-true (from + bytes) (base + ram_len) (second_of_and _ _ (second_of_and _ _ h));
+  };
 }
 
-split_from : (ram_len : ℕ) (q : Queue) → is_split ram_len q ≡ true → IsSplit ram_len q
-split_from ram_len q h =
+split_from : (base ram_len : ℕ) (q : Queue) → is_split base ram_len q ≡ true → IsSplit base ram_len q
+split_from base ram_len q h =
     let three = first_of_and _ _ h in
     let two = first_of_and _ _ three in
     record {
       power = first_of_and _ _ two;
-      descriptors = inside_from ram_len q.descriptors 16 (16 * q.size) (second_of_and _ _ two);
-      driver = inside_from ram_len q.driver 2 (6 + 2 * q.size) (second_of_and _ _ three);
-      device = inside_from ram_len q.device 4 (6 + 8 * q.size) (second_of_and _ _ h);
+      descriptors = inside_from base ram_len q.descriptors 16 (16 * q.size) (second_of_and _ _ two);
+      driver = inside_from base ram_len q.driver 2 (6 + 2 * q.size) (second_of_and _ _ three);
+      device = inside_from base ram_len q.device 4 (6 + 8 * q.size) (second_of_and _ _ h);
     }
 
-packed_from : (ram_len : ℕ) (q : Queue) → is_packed ram_len q ≡ true → IsPacked ram_len q
-packed_from ram_len q h =
+packed_from : (base ram_len : ℕ) (q : Queue) → is_packed base ram_len q ≡ true → IsPacked base ram_len q
+packed_from base ram_len q h =
     let two = first_of_and _ _ h in
     record {
-      descriptors = inside_from ram_len q.descriptors 16 (16 * q.size) (first_of_and _ _ two);
-      driver = inside_from ram_len q.driver 4 4 (second_of_and _ _ two);
-      device = inside_from ram_len q.device 4 4 (second_of_and _ _ h);
+      descriptors = inside_from base ram_len q.descriptors 16 (16 * q.size) (first_of_and _ _ two);
+      driver = inside_from base ram_len q.driver 4 4 (second_of_and _ _ two);
+      device = inside_from base ram_len q.device 4 4 (second_of_and _ _ h);
     }
 
-layout_from : (ram_len : ℕ) (c : Common) (q : Queue) (packed : Bool) → eqb (bit_and c.features (2 ^ 34)) (2 ^ 34) ≡ packed → cond packed (is_packed ram_len q) (is_split ram_len q) ≡ true
-    → (¬ (Has c.features (2 ^ 34)) → IsSplit ram_len q) × (Has c.features (2 ^ 34) → IsPacked ram_len q)
-layout_from ram_len c q true is h = ((λ k. absurd (k (eqb-true (bit_and c.features (2 ^ 34)) (2 ^ 34) is))), (λ k. packed_from ram_len q h))
-layout_from ram_len c q false is h = ((λ k. split_from ram_len q h), (λ k. absurd (eqb-false (bit_and c.features (2 ^ 34)) (2 ^ 34) is k)))
+layout_from : (base ram_len : ℕ) (c : Common) (q : Queue) (packed : Bool) → eqb (bit_and c.features (2 ^ 34)) (2 ^ 34) ≡ packed → cond packed (is_packed base ram_len q) (is_split base ram_len q) ≡ true
+    → (¬ (Has c.features (2 ^ 34)) → IsSplit base ram_len q) × (Has c.features (2 ^ 34) → IsPacked base ram_len q)
+layout_from base ram_len c q true is h = ((λ k. absurd (k (eqb-true (bit_and c.features (2 ^ 34)) (2 ^ 34) is))), (λ k. packed_from base ram_len q h))
+layout_from base ram_len c q false is h = ((λ k. split_from base ram_len q h), (λ k. absurd (eqb-false (bit_and c.features (2 ^ 34)) (2 ^ 34) is k)))
 
-may_from : (ram_len : ℕ) (c : Common) (q : Queue) → may_be_ready ram_len c q ≡ true → MayBeReady ram_len c q
+may_from : (base ram_len : ℕ) (c : Common) (q : Queue) → may_be_ready base ram_len c q ≡ true → MayBeReady base ram_len c q
 unfolding may_be_ready
-may_from ram_len c q h =
+may_from base ram_len c q h =
     let three = first_of_and _ _ h in
     let two = first_of_and _ _ three in
-    let layout = layout_from ram_len c q (eqb (bit_and c.features (2 ^ 34)) (2 ^ 34)) refl (second_of_and _ _ h) in
+    let layout = layout_from base ram_len c q (eqb (bit_and c.features (2 ^ 34)) (2 ^ 34)) refl (second_of_and _ _ h) in
     record {
       settled = eqb-true (bit_and c.status 8) 8 (first_of_and _ _ two);
       some = ltb-true 0 q.size (second_of_and _ _ two);
@@ -216,11 +221,11 @@ size_sound r register v None at small h = stays_as_it_is r h
 size_sound r register v (Some q) at small h = size_by r register v q q.is_ready refl at small h
 
 -- A queue that becomes ready, and one that is made not ready.
-enabled : (r : Registers) (v : ℕ) (q : Queue) (may : Bool) → (eqb v 1 && not q.is_ready && may_be_ready r.ram_len r.common q) ≡ may → slice_get r.queues r.common.queue_select ≡ Some q → IsSoundRegisters r
+enabled : (r : Registers) (v : ℕ) (q : Queue) (may : Bool) → (eqb v 1 && not q.is_ready && may_be_ready r.ram_base r.ram_len r.common q) ≡ may → slice_get r.queues r.common.queue_select ≡ Some q → IsSoundRegisters r
     → StaysSound r (cond {A = Effect × Registers} may (e.Enabled r.common.queue_select, with_queue r r.common.queue_select (record q { is_ready = true })) (e.None, r)).1
 enabled r v q false is at h = stays_as_it_is r h
 enabled r v q true is at h =
-    let may = may_from r.ram_len r.common q (second_of_and _ _ is) in
+    let may = may_from r.ram_base r.ram_len r.common q (second_of_and _ _ is) in
     with_queue_sound r r.common.queue_select (record q { is_ready = true }) (record {
       fits = record { size = (queue_sound r r.common.queue_select q at h).fits.size; descriptors = (queue_sound r r.common.queue_select q at h).fits.descriptors; driver = (queue_sound r r.common.queue_select q at h).fits.driver; device = (queue_sound r r.common.queue_select q at h).fits.device };
       notified = λ k. refl;
@@ -238,13 +243,13 @@ ready_sound r v None at h = stays_as_it_is r h
 ready_sound r v (Some q) at h =
     let fits = (queue_sound r r.common.queue_select q at h).fits in
     either r (eqb v 0) (e.Disabled r.common.queue_select, with_queue r r.common.queue_select (record q { is_ready = false; is_notified = false }))
-    (cond (eqb v 1 && not q.is_ready && may_be_ready r.ram_len r.common q) (e.Enabled r.common.queue_select, with_queue r r.common.queue_select (record q { is_ready = true })) (e.None, r))
+    (cond (eqb v 1 && not q.is_ready && may_be_ready r.ram_base r.ram_len r.common q) (e.Enabled r.common.queue_select, with_queue r r.common.queue_select (record q { is_ready = true })) (e.None, r))
     (with_queue_sound r r.common.queue_select (record q { is_ready = false; is_notified = false }) (record {
       fits = record { size = fits.size; descriptors = fits.descriptors; driver = fits.driver; device = fits.device };
       notified = λ k. cc;
       ready = λ k. cc;
     }) h)
-    (enabled r v q (eqb v 1 && not q.is_ready && may_be_ready r.ram_len r.common q) refl at h)
+    (enabled r v q (eqb v 1 && not q.is_ready && may_be_ready r.ram_base r.ram_len r.common q) refl at h)
 
 -- A queue whose notified flag changes, the flag being set only where it is ready.
 flag_sound : (r : Registers) (n : ℕ) (q : Queue) (flag : Bool) → slice_get r.queues n ≡ Some q → (flag ≡ true → q.is_ready ≡ true) → IsSoundRegisters r → StaysSound r (with_queue r n (record q { is_notified = flag }))
@@ -272,11 +277,12 @@ notify_sound r v None at h = stays_as_it_is r h
 notify_sound r v (Some q) at h = notify_by r v q q.is_ready refl at h
 
 -- Registers as they begin, and after a reset.
-begun : (device_id offered ram_len queues generation : ℕ) → device_id < 2 ^ 32 → offered < 2 ^ 64 → ram_len < 2 ^ 64 → queues ≤ QUEUE_COUNT_MAX → generation < 2 ^ 32
-    → IsSoundRegisters (record { device_id = device_id; offered = offered; ram_len = ram_len; common = first_common generation; queues = replicate queues first_queue })
-begun device_id offered ram_len queues generation id_fits offered_fits len_fits few generation_fits = record {
+begun : (device_id offered ram_base ram_len queues generation : ℕ) → device_id < 2 ^ 32 → offered < 2 ^ 64 → ram_base < 2 ^ 64 → ram_len < 2 ^ 64 → queues ≤ QUEUE_COUNT_MAX → generation < 2 ^ 32
+    → IsSoundRegisters (record { device_id = device_id; offered = offered; ram_base = ram_base; ram_len = ram_len; common = first_common generation; queues = replicate queues first_queue })
+begun device_id offered ram_base ram_len queues generation id_fits offered_fits base_fits len_fits few generation_fits = record {
   device_id = id_fits;
   offered = offered_fits;
+  ram_base = base_fits;
   ram_len = len_fits;
   few = rw (length-replicate queues first_queue) few;
   common = record {
@@ -286,21 +292,21 @@ begun device_id offered ram_len queues generation id_fits offered_fits len_fits 
     offered_only = λ k. cc;
     version = λ k. cc;
   };
-  queues = All-replicate (IsSoundQueue ram_len (first_common generation)) queues first_queue (record {
+  queues = All-replicate (IsSoundQueue ram_base ram_len (first_common generation)) queues first_queue (record {
     fits = record { size = omega arith; descriptors = omega arith; driver = omega arith; device = omega arith };
     notified = λ k. cc;
     ready = λ k. cc;
   });
 }
 
-pub first_sound : (device_id offered queues ram_len : ℕ) → device_id < 2 ^ 32 → offered < 2 ^ 64 → queues ≤ QUEUE_COUNT_MAX → ram_len < 2 ^ 64 → IsSoundRegisters (first_registers device_id offered queues ram_len)
-first_sound device_id offered queues ram_len id_fits offered_fits few len_fits = begun device_id offered ram_len queues 0 id_fits offered_fits len_fits few (omega arith)
+pub first_sound : (device_id offered queues ram_base ram_len : ℕ) → device_id < 2 ^ 32 → offered < 2 ^ 64 → queues ≤ QUEUE_COUNT_MAX → ram_base < 2 ^ 64 → ram_len < 2 ^ 64 → IsSoundRegisters (first_registers device_id offered queues ram_base ram_len)
+first_sound device_id offered queues ram_base ram_len id_fits offered_fits few base_fits len_fits = begun device_id offered ram_base ram_len queues 0 id_fits offered_fits base_fits len_fits few (omega arith)
 
 -- A reset.
 reset_sound : (r : Registers) → IsSoundRegisters r → StaysSound r (reset_registers r)
 reset_sound r h = record {
-  same = record { device_id = refl; offered = refl; ram_len = refl; queue_count = length-replicate (length r.queues) first_queue };
-  sound = begun r.device_id r.offered r.ram_len (length r.queues) r.common.generation h.device_id h.offered h.ram_len h.few h.common.fits.generation;
+  same = record { device_id = refl; offered = refl; ram_base = refl; ram_len = refl; queue_count = length-replicate (length r.queues) first_queue };
+  sound = begun r.device_id r.offered r.ram_base r.ram_len (length r.queues) r.common.generation h.device_id h.offered h.ram_base h.ram_len h.few h.common.fits.generation;
 }
 
 status_sound : (r : Registers) (v : ℕ) → IsSoundRegisters r → StaysSound r (status_written r v).1

@@ -5,11 +5,12 @@ use Rattle.mmio.specs.declared.queue.Queue.{Queue}
 use Rattle.mmio.specs.declared.effect.Effect.{Effect}
 use Rattle.mmio.specs.declared.effect.Effect.TheVariants as e
 
--- A write keeps what identifies the device: its device id, the features that it offers, the length of RAM, and the number
--- of its queues.
+-- A write keeps what identifies the device: its device id, the features that it offers, where RAM begins and how long it is, and the
+-- number of its queues.
 pub record IsSameDevice (old new : Registers) : Type 0 where
   pub device_id : new.device_id ≡ old.device_id
   pub offered : new.offered ≡ old.offered
+  pub ram_base : new.ram_base ≡ old.ram_base
   pub ram_len : new.ram_len ≡ old.ram_len
   pub queue_count : length new.queues ≡ length old.queues
 

@@ -37,7 +37,7 @@ ready_written r value (Some q) =
       e.Disabled r.common.queue_select,
       with_queue r r.common.queue_select (record q { is_ready = false; is_notified = false }),
     )
-    else if (value == 1 && not q.is_ready && may_be_ready r.ram_len r.common q) then (
+    else if (value == 1 && not q.is_ready && may_be_ready r.ram_base r.ram_len r.common q) then (
       e.Enabled r.common.queue_select,
       with_queue r r.common.queue_select (record q { is_ready = true }),
     )

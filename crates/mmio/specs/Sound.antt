@@ -38,15 +38,16 @@ pub record IsSoundCommon (offered : ℕ) (c : Common) : Type 0 where
   pub version : Has c.status FEATURES_OK → Has c.features VERSION_1
 
 -- Only a ready queue has its notified flag set, and a ready queue satisfies MayBeReady.
-pub record IsSoundQueue (ram_len : ℕ) (c : Common) (q : Queue) : Type 0 where
+pub record IsSoundQueue (base ram_len : ℕ) (c : Common) (q : Queue) : Type 0 where
   pub fits : FitsQueue q
   pub notified : IsTrue q.is_notified → IsTrue q.is_ready
-  pub ready : IsTrue q.is_ready → MayBeReady ram_len c q
+  pub ready : IsTrue q.is_ready → MayBeReady base ram_len c q
 
 pub record IsSoundRegisters (r : Registers) : Type 0 where
   pub device_id : r.device_id < 2 ^ 32
   pub offered : r.offered < 2 ^ 64
+  pub ram_base : r.ram_base < 2 ^ 64
   pub ram_len : r.ram_len < 2 ^ 64
   pub few : length r.queues ≤ QUEUE_COUNT_MAX
   pub common : IsSoundCommon r.offered r.common
-  pub queues : All (IsSoundQueue r.ram_len r.common) r.queues
+  pub queues : All (IsSoundQueue r.ram_base r.ram_len r.common) r.queues

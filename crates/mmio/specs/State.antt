@@ -9,7 +9,9 @@ pub record Registers : Type 0 where
   pub device_id : ℕ
   -- the feature bits that the device offers
   pub offered : ℕ
-  -- the number of bytes of guest memory, inside which the areas of a ready queue lie
+  -- the guest-physical address of the first byte of guest memory, and the number of its bytes: inside these lie the areas of a ready
+  -- queue
+  pub ram_base : ℕ
   pub ram_len : ℕ
   pub common : Common
   pub queues : List Queue
@@ -30,11 +32,12 @@ first_common generation = record {
   generation = generation;
 }
 
--- The registers of a new device with `queues` queues.
-abbrev pub first_registers : ℕ → ℕ → ℕ → ℕ → Registers
-first_registers device_id offered queues ram_len = record {
+-- The registers of a new device with `queues` queues, where RAM has `ram_len` bytes from the guest-physical address `ram_base` on.
+abbrev pub first_registers : ℕ → ℕ → ℕ → ℕ → ℕ → Registers
+first_registers device_id offered queues ram_base ram_len = record {
   device_id = device_id;
   offered = offered;
+  ram_base = ram_base;
   ram_len = ram_len;
   common = first_common 0;
   queues = replicate queues first_queue;

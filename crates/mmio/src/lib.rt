@@ -8,15 +8,18 @@
 //! The layer above may rely on these:
 //! - `read` and `write` are the table of the standard, for every offset, width and value (`specs/RegisterRead.antt`,
 //!   `specs/RegisterWrite.antt`). No access is refused: one that the table does not know reads 0 and is ignored.
-//! - A write keeps the device the same (its number, its offer, its RAM, how many queues it has), and the queue that its
-//!   effect names exists (`specs/Effects.antt`).
+//! - A write keeps the device the same (its number, its offer, where RAM begins and how long it is, how many queues it has), and the
+//!   queue that its effect names exists (`specs/Effects.antt`).
 //! - Whatever the driver writes, the registers stay sound (`specs/Sound.antt`): the bits of the status go together, with FEATURES_OK
 //!   the driver's features are ones that the device offers, and a ready queue has a size and areas that suit its layout and lie
 //!   wholly inside RAM. Every call keeps this; the contracts of `common`, `queues` and `queue` say it.
 //! - Registers that were saved are sound exactly if `is_sound_common` and, of each queue, `is_sound_queue` say so, and
 //!   `restore` then sets them as they were.
 //!
-//! The crate trusts nothing below it but the standard library.
+//! An area's address is the guest's: RAM has the bytes from its base on, and an area below the base, or one that passes RAM's end, is
+//! refused (`guestmem::is_within`). The base is told when the registers are made, and no write and no reset changes it.
+//!
+//! The crate trusts nothing below it but the standard library and that test.
 //!
 //! Its definitions are in `specs/`: `State` (what contracts see), `RegisterTable` (offsets), `RegisterRead` and `RegisterWrite` (the
 //! two tables of accesses), and what they are made of: `Bits`, `Status`, `Features`, `Interrupts`, `QueueReady` (when a queue may be

@@ -22,6 +22,7 @@ use std::marker::Model;
 pub struct Regs {
     device_id: u32,
     offered: u64,
+    ram_base: u64,
     ram_len: u64,
     common: Common,
     // The queues of the device are the first `count` ones.
@@ -40,6 +41,7 @@ impl Model for Regs {
     ghost view = { λ r. record {
       device_id = r.device_id;
       offered = r.offered;
+      ram_base = r.ram_base;
       ram_len = r.ram_len;
       common = r.common;
       queues = take r.count r.queues;
@@ -48,6 +50,7 @@ impl Model for Regs {
     ghost invariant = { λ r. (r.count ≤ QUEUE_COUNT_MAX) × IsSoundRegisters (record {
       device_id = r.device_id;
       offered = r.offered;
+      ram_base = r.ram_base;
       ram_len = r.ram_len;
       common = r.common;
       queues = take r.count r.queues;
@@ -55,15 +58,16 @@ impl Model for Regs {
 }
 
 impl Regs {
-    /// The registers of a new device: its number, the feature bits that it offers, how many queues it has, and the bytes
-    /// of the guest's RAM. All that the driver may set is 0, and no queue is ready.
-    pub fn new(device_id: u32, offered: u64, queues: u8, ram_len: u64) -> Regs
+    /// The registers of a new device: its number, the feature bits that it offers, how many queues it has, the guest-physical address
+    /// of RAM's first byte, and how many bytes RAM has. All that the driver may set is 0, and no queue is ready.
+    pub fn new(device_id: u32, offered: u64, queues: u8, ram_base: u64, ram_len: u64) -> Regs
         requires { queues ≤ QUEUE_COUNT_MAX }
-        ensures { result ≡ first_registers device_id offered queues ram_len }
+        ensures { result ≡ first_registers device_id offered queues ram_base ram_len }
     {
         Regs {
             device_id,
             offered,
+            ram_base,
             ram_len,
             common: Common::FIRST,
             queues: [Queue::FIRST; QUEUE_COUNT_MAX],
@@ -91,7 +95,7 @@ impl Regs {
     pub fn queue(&self, number: u8) -> Queue
         requires { number < length self.now.queues }
         ensures value { queue_at self.now number ≡ Some result }
-        ensures sound { IsSoundQueue self.now.ram_len self.now.common result }
+        ensures sound { IsSoundQueue self.now.ram_base self.now.ram_len self.now.common result }
     {
         self.queues()[number as usize]
     }

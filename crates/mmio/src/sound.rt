@@ -41,10 +41,10 @@ pub fn is_sound_common(offered: u64, common: &Common) -> bool
             || offered & features == features && features & VERSION_1 == VERSION_1)
 }
 
-/// Whether a device with these common registers and `ram_len` bytes of RAM may have this queue: only a ready queue is
-/// notified, and a ready queue is one that QueueReady would take.
-pub fn is_sound_queue(ram_len: u64, common: &Common, queue: &Queue) -> bool
-    ensures { IsTrue result ↔ IsSoundQueue ram_len common.now queue.now }
+/// Whether a device with these common registers, where RAM has `ram_len` bytes from the guest-physical address `base` on, may have
+/// this queue: only a ready queue is notified, and a ready queue is one that QueueReady would take.
+pub fn is_sound_queue(base: u64, ram_len: u64, common: &Common, queue: &Queue) -> bool
+    ensures { IsTrue result ↔ IsSoundQueue base ram_len common.now queue.now }
 {
     // Each field is read, since with that it is known to fit its register.
     let Queue {
@@ -55,5 +55,5 @@ pub fn is_sound_queue(ram_len: u64, common: &Common, queue: &Queue) -> bool
         is_ready,
         is_notified,
     } = *queue;
-    (!is_notified || is_ready) && (!is_ready || may_be_ready(ram_len, common, queue))
+    (!is_notified || is_ready) && (!is_ready || may_be_ready(base, ram_len, common, queue))
 }

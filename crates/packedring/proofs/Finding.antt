@@ -1,6 +1,7 @@
 use Rattle.std.proofs.Common.{Bool, true, false, ◌≡◌, ℕ, suc, ◌+◌, ◌/◌, ◌%◌, ◌<◌, ◌≤◌, List, [], ◌∷◌, ◌++◌, length, refl, ap, sym, ◌∙◌, inl, inr, arith, length-append}
 use Rattle.std.proofs.lemmas.List.Elements.{All-push, All-nil}
 use Rattle.std.specs.Bool.{MatchBool}
+use Rattle.guestmem.specs.Address.{index_of}
 use Rattle.chains.specs.CaseLaws.{where_true}
 use Rattle.chains.specs.declared.descriptor.Descriptor.{Descriptor}
 use Rattle.chains.specs.declared.chain.Chain.{Chain}
@@ -32,7 +33,7 @@ alone_is ram table size slot [] last e h = consecutive_first ram table size slot
 alone_is ram table size slot (d ∷ ds) last e h = absurd (omega (arith, ap length e))
 
 last_plain_by : (ram : List ℕ) (q : RingState) (front : List Descriptor) (last : Descriptor) (all : List Descriptor) (named : Bool)
-    → named ≡ last.is_indirect → MatchBool named ((q.has_indirect ≡ true) × IsPackedTable ram front last all) (all ≡ front ++ last ∷ [])
+    → named ≡ last.is_indirect → MatchBool named ((q.has_indirect ≡ true) × IsPackedTable q.base ram front last all) (all ≡ front ++ last ∷ [])
     → AreConsecutive ram q.descriptors q.size q.taking.place (front ++ last ∷ []) → (first_of ram q).is_indirect ≡ false → (named ≡ false) × (all ≡ front ++ last ∷ [])
 last_plain_by ram q front last all true is (p, t) h plain =
     let e : last ≡ first_of ram q = alone_is ram q.descriptors q.size q.taking.place front last t.alone h in
@@ -56,7 +57,7 @@ pub record IsWalked (ram : List ℕ) (q : RingState) (c : Chain) (count next : �
   pub count_is : length walked ≡ count
   pub leads : Leads ram q.descriptors q.size q.taking.place walked next
   pub plain : ArePlain walked
-  pub held : AreHeld (length ram) walked c
+  pub held : AreHeld q.base (length ram) walked c
 
 -- None yet.
 pub walked_none : (ram : List ℕ) (q : RingState) (c : Chain) → c.readable ≡ [] → c.writable ≡ [] → IsWalked ram q c 0 q.taking.place
@@ -65,12 +66,12 @@ walked_none ram q c readable writable = record {
   count_is = refl;
   leads = leads_start ram q.descriptors q.size q.taking.place;
   plain = All-nil (λ (d : Descriptor). d.is_indirect ≡ false);
-  held = held_none (length ram) c readable writable;
+  held = held_none q.base (length ram) c readable writable;
 }
 
 -- One more, that has a next one.
 pub walked_more : (ram : List ℕ) (q : RingState) (c new : Chain) (count next : ℕ) (d : Descriptor) (w : IsWalked ram q c count next) → d ≡ descriptor_at true ram q.descriptors next
-    → d.is_indirect ≡ false → d.has_next ≡ true → AreHeld (length ram) (w.walked ++ d ∷ []) new → IsWalked ram q new (count + 1) ((next + 1) % q.size)
+    → d.is_indirect ≡ false → d.has_next ≡ true → AreHeld q.base (length ram) (w.walked ++ d ∷ []) new → IsWalked ram q new (count + 1) ((next + 1) % q.size)
 walked_more ram q c new count next d w here plain more held = record {
   walked = w.walked ++ d ∷ [];
   count_is = omega (arith, length-append w.walked (d ∷ []), w.count_is);
@@ -93,14 +94,14 @@ walked_named ram q c count next first d is plain w here named e s =
 
 -- Nor where one breaks a rule.
 pub walked_broken : (ram : List ℕ) (q : RingState) (c : Chain) (count next : ℕ) (first d : Descriptor) → first ≡ first_of ram q → first.is_indirect ≡ false → (w : IsWalked ram q c count next)
-    → d ≡ descriptor_at true ram q.descriptors next → ((rest : List Descriptor) → AreSound (length ram) (w.walked ++ d ∷ rest) → ⊥) → IsNoChain ram q
+    → d ≡ descriptor_at true ram q.descriptors next → ((rest : List Descriptor) → AreSound q.base (length ram) (w.walked ++ d ∷ rest) → ⊥) → IsNoChain ram q
 walked_broken ram q c count next first d is plain w here broken e s =
     let p : (first_of ram q).is_indirect ≡ false = rw (← is) plain in
     let whole = last_plain ram q s.front s.last s.all p s.list in
     let a = w.leads.only (s.front ++ s.last ∷ []) s.list.consecutive in
     let b = consecutive_begins ram q.descriptors q.size next d here a.0 a.2 in
     let parts : s.all ≡ w.walked ++ d ∷ b.0 = whole.1 ∙ a.1 ∙ ap (λ (ys : List Descriptor). w.walked ++ ys) b.1 in
-    let sound : AreSound (length ram) s.all = record { inside = s.whole.inside; in_order = s.whole.in_order } in
+    let sound : AreSound q.base (length ram) s.all = record { inside = s.whole.inside; in_order = s.whole.in_order } in
     broken b.0 (rw parts at sound)
 
 -- Nor where there are more of them than slots.
@@ -129,18 +130,18 @@ listed : (ram : List ℕ) (q : RingState) (front : List Descriptor) (last : Desc
     → IsPackedList ram q front last (front ++ last ∷ [])
 listed ram q front last consecutive plain last_plain = record { consecutive = consecutive; plain = plain; replaced = rw last_plain refl }
 
-whole_of : (ram : List ℕ) (size : ℕ) (all : List Descriptor) (c : Chain) → AreHeld (length ram) all c → length all ≤ size → EndGives c Listed → IsWhole ram size all
-whole_of ram size all c h few small = record { few = few; inside = h.sound.inside; in_order = h.sound.in_order; total = omega (arith, h.total) }
+whole_of : (base : ℕ) (ram : List ℕ) (size : ℕ) (all : List Descriptor) (c : Chain) → AreHeld base (length ram) all c → length all ≤ size → EndGives c Listed → IsWhole base ram size all
+whole_of base ram size all c h few small = record { few = few; inside = h.sound.inside; in_order = h.sound.in_order; total = omega (arith, h.total) }
 
 -- What the last test gives for these descriptors is what there is.
 made_of : (ram : List ℕ) (q : RingState) (front : List Descriptor) (last : Descriptor) (all : List Descriptor) (id slots : ℕ) (c : Chain) (gives : Walked) → IsPackedList ram q front last all
-    → AreHeld (length ram) all c → length all ≤ q.size → id ≡ last.id → slots ≡ length front + 1 → EndGives (chain_of id slots c) gives → ChainGives ram q (chain_of id slots c) gives
+    → AreHeld q.base (length ram) all c → length all ≤ q.size → id ≡ last.id → slots ≡ length front + 1 → EndGives (chain_of id slots c) gives → ChainGives ram q (chain_of id slots c) gives
 made_of ram q front last all id slots c Listed list h few id_is slots_is end = record {
   front = front;
   last = last;
   all = all;
   list = list;
-  whole = whole_of ram q.size all c h few end;
+  whole = whole_of q.base ram q.size all c h few end;
   is = rw (id_is, slots_is, h.readable, h.writable) refl;
 }
 made_of ram q front last all id slots c Missing list h few id_is slots_is end = λ e s.
@@ -150,7 +151,7 @@ made_of ram q front last all id slots c NoMemory list h few id_is slots_is end =
 
 -- The last one.
 pub walked_last : (ram : List ℕ) (q : RingState) (c new : Chain) (count next : ℕ) (d : Descriptor) (gives : Walked) (w : IsWalked ram q c count next) → d ≡ descriptor_at true ram q.descriptors next
-    → count < q.size → d.is_indirect ≡ false → d.has_next ≡ false → AreHeld (length ram) (w.walked ++ d ∷ []) new → EndGives (chain_of d.id (count + 1) new) gives
+    → count < q.size → d.is_indirect ≡ false → d.has_next ≡ false → AreHeld q.base (length ram) (w.walked ++ d ∷ []) new → EndGives (chain_of d.id (count + 1) new) gives
     → ChainGives ram q (chain_of d.id (count + 1) new) gives
 walked_last ram q c new count next d gives w here some plain last held end =
     let few : length (w.walked ++ d ∷ []) ≤ q.size = omega (arith, length-append w.walked (d ∷ []), w.count_is) in
@@ -160,17 +161,17 @@ walked_last ram q c new count next d gives w here some plain last held end =
 pub record IsNamed (ram : List ℕ) (q : RingState) (d : Descriptor) (all : List Descriptor) : Type 0 where
   pub alone : d.has_next ≡ false
   pub feature : q.has_indirect ≡ true
-  pub table : IsTable ram d
-  pub entries : all ≡ entries_from ram d.addr 0 (d.len / 16)
+  pub table : IsTable q.base ram d
+  pub entries : all ≡ entries_from ram (index_of q.base d.addr) 0 (d.len / 16)
 
 named_by : (ram : List ℕ) (q : RingState) (d : Descriptor) (all : List Descriptor) (named : Bool) → named ≡ true → d.has_next ≡ false
-    → MatchBool named ((q.has_indirect ≡ true) × IsPackedTable ram [] d all) (all ≡ d ∷ []) → IsNamed ram q d all
+    → MatchBool named ((q.has_indirect ≡ true) × IsPackedTable q.base ram [] d all) (all ≡ d ∷ []) → IsNamed ram q d all
 named_by ram q d all true is alone (p, t) = record { alone = alone; feature = p; table = t.table; entries = t.entries }
 named_by ram q d all false is alone t = absurd (cc)
 
 named_front : (ram : List ℕ) (q : RingState) (front : List Descriptor) (last : Descriptor) (all : List Descriptor) → (first_of ram q).is_indirect ≡ true
     → AreConsecutive ram q.descriptors q.size q.taking.place (front ++ last ∷ []) → ArePlain front
-    → MatchBool last.is_indirect ((q.has_indirect ≡ true) × IsPackedTable ram front last all) (all ≡ front ++ last ∷ []) → IsNamed ram q (first_of ram q) all
+    → MatchBool last.is_indirect ((q.has_indirect ≡ true) × IsPackedTable q.base ram front last all) (all ≡ front ++ last ∷ []) → IsNamed ram q (first_of ram q) all
 named_front ram q [] last all named h plain t =
     let e : last ≡ first_of ram q = consecutive_first ram q.descriptors q.size q.taking.place last [] h in
     rw (← e) (named_by ram q last all last.is_indirect (rw e named) h.1 t)
@@ -187,35 +188,35 @@ named_chain ram q first is named c s = rw is (named_front ram q s.front s.last s
 pub none_few : (ram : List ℕ) (q : RingState) (first : Descriptor) → first ≡ first_of ram q → first.is_indirect ≡ true → q.size < first.len / 16 → IsNoChain ram q
 none_few ram q first is named many c s =
     let n = named_chain ram q first is named c s in
-    omega (arith, ap length n.entries, length_entries ram first.addr 0 (first.len / 16), s.whole.few)
+    omega (arith, ap length n.entries, length_entries ram (index_of q.base first.addr) 0 (first.len / 16), s.whole.few)
 
 -- Nor where they break a rule.
-pub none_sound : (ram : List ℕ) (q : RingState) (first : Descriptor) → first ≡ first_of ram q → first.is_indirect ≡ true → (AreSound (length ram) (entries_from ram first.addr 0 (first.len / 16)) → ⊥) → IsNoChain ram q
+pub none_sound : (ram : List ℕ) (q : RingState) (first : Descriptor) → first ≡ first_of ram q → first.is_indirect ≡ true → (AreSound q.base (length ram) (entries_from ram (index_of q.base first.addr) 0 (first.len / 16)) → ⊥) → IsNoChain ram q
 none_sound ram q first is named broken c s =
     let n = named_chain ram q first is named c s in
-    let sound : AreSound (length ram) s.all = record { inside = s.whole.inside; in_order = s.whole.in_order } in
+    let sound : AreSound q.base (length ram) s.all = record { inside = s.whole.inside; in_order = s.whole.in_order } in
     broken (rw n.entries at sound)
 
 -- The entries of the table that the first slot names are the chain.
-pub table_made : (ram : List ℕ) (q : RingState) (first : Descriptor) (c : Chain) (gives : Walked) → first ≡ first_of ram q → first.is_indirect ≡ true → first.has_next ≡ false → q.has_indirect ≡ true → IsTable ram first
-    → first.len / 16 ≤ q.size → AreHeld (length ram) (entries_from ram first.addr 0 (first.len / 16)) c → EndGives (chain_of first.id 1 c) gives → ChainGives ram q (chain_of first.id 1 c) gives
+pub table_made : (ram : List ℕ) (q : RingState) (first : Descriptor) (c : Chain) (gives : Walked) → first ≡ first_of ram q → first.is_indirect ≡ true → first.has_next ≡ false → q.has_indirect ≡ true → IsTable q.base ram first
+    → first.len / 16 ≤ q.size → AreHeld q.base (length ram) (entries_from ram (index_of q.base first.addr) 0 (first.len / 16)) c → EndGives (chain_of first.id 1 c) gives → ChainGives ram q (chain_of first.id 1 c) gives
 table_made ram q first c gives is named alone feature t few held end =
-    let all = entries_from ram first.addr 0 (first.len / 16) in
+    let all = entries_from ram (index_of q.base first.addr) 0 (first.len / 16) in
     let list : IsPackedList ram q [] first all = record {
       consecutive = (is, alone);
       plain = λ k d below. absurd (omega arith);
-      replaced = where_true first.is_indirect ((q.has_indirect ≡ true) × IsPackedTable ram [] first all) (all ≡ first ∷ []) named (feature, record { alone = refl; table = t; entries = refl });
+      replaced = where_true first.is_indirect ((q.has_indirect ≡ true) × IsPackedTable q.base ram [] first all) (all ≡ first ∷ []) named (feature, record { alone = refl; table = t; entries = refl });
     } in
-    let size : length all ≤ q.size = omega (arith, length_entries ram first.addr 0 (first.len / 16)) in
+    let size : length all ≤ q.size = omega (arith, length_entries ram (index_of q.base first.addr) 0 (first.len / 16)) in
     made_of ram q [] first all first.id 1 c gives list held size refl (omega arith) end
 
 -- Many entries of the table that the first slot names are a long row.
 pub long_table : (ram : List ℕ) (q : RingState) (d : Descriptor) → d ≡ descriptor_at true ram q.descriptors q.taking.place → q.has_indirect ≡ true → d.is_indirect ≡ true → d.has_next ≡ false
-    → IsTable ram d → SHORT_CHAIN_MAX < d.len / 16 → d.len / 16 ≤ q.size → IsLongPacked ram q
+    → IsTable q.base ram d → SHORT_CHAIN_MAX < d.len / 16 → d.len / 16 ≤ q.size → IsLongPacked ram q
 long_table ram q d is feature named alone t long few =
-    let all : length (entries_from ram d.addr 0 (d.len / 16)) ≡ d.len / 16 = length_entries ram d.addr 0 (d.len / 16) in
+    let all : length (entries_from ram (index_of q.base d.addr) 0 (d.len / 16)) ≡ d.len / 16 = length_entries ram (index_of q.base d.addr) 0 (d.len / 16) in
     record {
-      row = entries_from ram d.addr 0 (d.len / 16);
+      row = entries_from ram (index_of q.base d.addr) 0 (d.len / 16);
       is_row = inr (rw (← is) (record { feature = feature; named = named; alone = alone; table = t; entries = refl }));
       long = omega arith;
       few = omega arith;

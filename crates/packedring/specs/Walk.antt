@@ -20,7 +20,7 @@ ChainGives ram q c NoMemory = IsLongPacked ram q
 
 -- What it gives to gather the first `count` entries of a table, by the chain that they are added to: their segments; or they
 -- break a rule; or memory was refused, and they are more than are handled without it.
-abbrev pub EntriesGives : List ℕ → ℕ → ℕ → Chain → Walked → Type 0
-EntriesGives ram table count c Listed = AreHeld (length ram) (entries_from ram table 0 count) c
-EntriesGives ram table count c Missing = AreSound (length ram) (entries_from ram table 0 count) → ⊥
-EntriesGives ram table count c NoMemory = SHORT_CHAIN_MAX < count
+abbrev pub EntriesGives : ℕ → List ℕ → ℕ → ℕ → Chain → Walked → Type 0
+EntriesGives base ram table count c Listed = AreHeld base (length ram) (entries_from ram table 0 count) c
+EntriesGives base ram table count c Missing = AreSound base (length ram) (entries_from ram table 0 count) → ⊥
+EntriesGives base ram table count c NoMemory = SHORT_CHAIN_MAX < count

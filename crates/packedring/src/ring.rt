@@ -45,16 +45,23 @@ impl Model for PackedRing {
 }
 
 impl PackedRing {
-    /// The ring of a queue at these positions, under the features that the driver accepted. It takes no memory: the
-    /// allocator is for the chains that it finds. It has decoded nothing, so what it keeps fits every RAM.
-    pub fn new(alloc: Global, queue: &Queue, features: u64, positions: Positions) -> PackedRing
-        requires layout { (state_of queue.now features positions).is_packed ≡ true }
-        requires state { MayRing (state_of queue.now features positions) }
-        ensures state { result.state ≡ state_of queue.now features positions }
+    /// The ring of a queue at these positions, under the features that the driver accepted, in a RAM that begins at the
+    /// guest-physical address `base`. It takes no memory: the allocator is for the chains that it finds. It has decoded nothing, so
+    /// what it keeps fits every RAM.
+    pub fn new(
+        alloc: Global,
+        queue: &Queue,
+        features: u64,
+        base: u64,
+        positions: Positions,
+    ) -> PackedRing
+        requires layout { (state_of queue.now features base positions).is_packed ≡ true }
+        requires state { MayRing (state_of queue.now features base positions) }
+        ensures state { result.state ≡ state_of queue.now features base positions }
         ensures decoder { result.decoder ≡ empty_decoder 0 }
         ensures fits { (ram : Memory) → Fits result.decoder ram }
     {
-        PackedRing::of(RingCore::new(alloc, queue, features, positions))
+        PackedRing::of(RingCore::new(alloc, queue, features, base, positions))
     }
 
     /// The ring of this core, which has decoded nothing.
@@ -70,7 +77,7 @@ impl PackedRing {
         }
     }
 
-    /// Makes it the ring of this core, in place. What it keeps stays: each descriptor is kept with its address, so it may be the
+    /// Makes it the ring of this core, in place. What it keeps stays: each descriptor is kept with its index in RAM, so it may be the
     /// core of another queue.
     pub fn renew(&mut self, core: RingCore)
         requires slots { (core.taking.place < core.size) × (core.used.place < core.size) }
@@ -114,6 +121,10 @@ impl Ring for PackedRing {
 
     fn alloc(&self) -> Global {
         self.core.alloc
+    }
+
+    fn base(&self) -> u64 {
+        self.core.base
     }
 
     #[inline(always)]

@@ -37,7 +37,7 @@ pub(crate) fn find(
     }
     // INDIRECT with NEXT, or without the feature, or a table that `is_table` refuses.
     let has_indirect = core.has_indirect();
-    if first.has_next || !has_indirect || !is_table(&first, ram) {
+    if first.has_next || !has_indirect || !is_table(&first, core.base, ram) {
         return Walked::Missing;
     }
     let count = first.len / DESCRIPTOR_SIZE as u32;
@@ -45,7 +45,9 @@ pub(crate) fn find(
     if count > core.size as u32 {
         return Walked::Missing;
     }
-    match add_entries(decoder, ram, first.addr, count as u16, chain) {
+    // The index in RAM of the table, whose address is as the guest wrote it.
+    let table = first.addr - core.base;
+    match add_entries(decoder, core.base, ram, table, count as u16, chain) {
         Walked::Listed => {}
         Walked::Missing => return Walked::Missing,
         Walked::NoMemory => return Walked::NoMemory,
@@ -55,9 +57,11 @@ pub(crate) fn find(
     ended(chain)
 }
 
-/// Adds the buffers of the `count` entries of a table to a chain that has none.
+/// Adds the buffers of the `count` entries of a table to a chain that has none. The table lies at the index `table` in RAM, which
+/// begins at the guest-physical address `base`.
 fn add_entries(
     decoder: &mut Decoder,
+    base: u64,
     ram: &Ram,
     table: u64,
     count: u16,
@@ -67,7 +71,7 @@ fn add_entries(
     requires fits { Fits decoder.old ram.now }
     requires none_readable { chain.old.readable ≡ [] }
     requires none_writable { chain.old.writable ≡ [] }
-    ensures gives { EntriesGives ram.now.bytes table count chain.new result }
+    ensures gives { EntriesGives base ram.now.bytes table count chain.new result }
     ensures fits { Fits decoder.new ram.now }
     ensures few { decoder.new.decoded ≤ decoder.old.decoded + count }
     ensures rises { decoder.old.decoded ≤ decoder.new.decoded }
@@ -75,7 +79,7 @@ fn add_entries(
     let len = ram.len();
     for index in 0..count {
         let descriptor = decoder.read(ram, true, table, index, false);
-        match add(&descriptor, len, chain) {
+        match add(&descriptor, base, len, chain) {
             Walked::Listed => {}
             Walked::Missing => return Walked::Missing,
             Walked::NoMemory => return Walked::NoMemory,

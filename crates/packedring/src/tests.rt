@@ -15,8 +15,12 @@ use std::test::Fail;
 /// The features VERSION_1, INDIRECT_DESC and RING_PACKED.
 const FEATURES: u64 = 0x5_1000_0000;
 
-/// A new ring of some slots, whose three areas are in page 0.
-fn ring_of(alloc: Global, ram: &Ram, size: u32) -> PackedRing
+/// The base of a RAM that does not begin at the address 0.
+const BASE: u64 = 0x8000_0000;
+
+/// A new ring of some slots, whose three areas are in page 0 of a RAM with this base.
+fn ring_of(alloc: Global, ram: &Ram, base: u64, size: u32) -> PackedRing
+    requires low { base ≤ BASE }
     requires some { 1 ≤ size }
     requires few { size ≤ 16 }
     ensures areas { HasAreas (length ram.now.bytes) result.state }
@@ -25,13 +29,13 @@ fn ring_of(alloc: Global, ram: &Ram, size: u32) -> PackedRing
     ram.recall();
     let queue = Queue {
         size,
-        descriptors: 0,
-        driver: 0x200,
-        device: 0x300,
+        descriptors: base,
+        driver: base + 0x200,
+        device: base + 0x300,
         is_ready: true,
         is_notified: true,
     };
-    PackedRing::new(alloc, &queue, FEATURES, Positions::FIRST)
+    PackedRing::new(alloc, &queue, FEATURES, base, Positions::FIRST)
 }
 
 /// Writes where a test says. The RAM is a later one, so what the ring keeps fits it.
@@ -64,6 +68,17 @@ fn look(ring: &mut PackedRing, ram: &Ram) -> Result<(usize, u64, u32, u64), NoMe
     }
 }
 
+/// Whether a look finds that the driver broke a rule.
+fn is_malformed(ring: &mut PackedRing, ram: &Ram) -> Result<bool, NoMemory>
+    requires areas { HasAreas (length ram.now.bytes) ring.old.state }
+    requires fits { Fits ring.old.decoder ram.now }
+    ensures areas { HasAreas (length ram.now.bytes) ring.new.state }
+    ensures fits { Fits ring.new.decoder ram.now }
+{
+    let next = ring.next(ram)?;
+    Ok(matches!(&next, Next::Malformed))
+}
+
 /// Descriptor 0 is one byte to be written at 0x800, and available.
 fn one_buffer(ring: &PackedRing, ram: &mut Ram)
     requires areas { HasAreas (length ram.old.bytes) ring.now.state }
@@ -76,6 +91,34 @@ fn one_buffer(ring: &PackedRing, ram: &mut Ram)
         ram,
         0,
         &[0, 8, 0, 0, 0, 0, 0, 0, 1, 0, 0, 0, 7, 0, 0x82, 0],
+    );
+}
+
+/// Descriptor 0 names a table at index 0x900 of RAM, and is available. The entries of the table are a byte each to be written, at
+/// the indexes 0x800 and 0xa00. `high` is the fourth byte of each address: that of the base of RAM.
+fn one_table(ring: &PackedRing, ram: &mut Ram, high: u8)
+    requires areas { HasAreas (length ram.old.bytes) ring.now.state }
+    requires fits { Fits ring.now.decoder ram.old }
+    ensures areas { HasAreas (length ram.new.bytes) ring.now.state }
+    ensures fits { Fits ring.now.decoder ram.new }
+{
+    store(
+        ring,
+        ram,
+        0,
+        &[0, 9, 0, high, 0, 0, 0, 0, 32, 0, 0, 0, 7, 0, 0x84, 0],
+    );
+    store(
+        ring,
+        ram,
+        0x900,
+        &[0, 8, 0, high, 0, 0, 0, 0, 1, 0, 0, 0, 0, 0, 2, 0],
+    );
+    store(
+        ring,
+        ram,
+        0x910,
+        &[0, 10, 0, high, 0, 0, 0, 0, 1, 0, 0, 0, 0, 0, 2, 0],
     );
 }
 
@@ -96,7 +139,7 @@ fn sixteen() -> [u8; 256] {
 #[test]
 fn kept_until_the_page_is_written(rt: HostRuntime) -> Result<(), Fail> {
     let mut ram = Ram::new(rt.alloc(), 2)?;
-    let mut ring = ring_of(rt.alloc(), &ram, 1);
+    let mut ring = ring_of(rt.alloc(), &ram, 0, 1);
     one_buffer(&ring, &mut ram);
     assert_eq!(rt; look(&mut ring, &ram)?, (1, 0x800, 1, 1));
     assert_eq!(rt; look(&mut ring, &ram)?, (1, 0x800, 1, 1));
@@ -113,7 +156,7 @@ fn kept_until_the_page_is_written(rt: HostRuntime) -> Result<(), Fail> {
 #[test]
 fn never_used_at_the_greatest_version(rt: HostRuntime) -> Result<(), Fail> {
     let mut ram = Ram::with_version(rt.alloc(), 1, u64::MAX - 2)?;
-    let mut ring = ring_of(rt.alloc(), &ram, 1);
+    let mut ring = ring_of(rt.alloc(), &ram, 0, 1);
     one_buffer(&ring, &mut ram);
     assert_eq!(rt; look(&mut ring, &ram)?, (1, 0x800, 1, 1));
     assert_eq!(rt; look(&mut ring, &ram)?, (1, 0x800, 1, 1));
@@ -127,7 +170,7 @@ fn never_used_at_the_greatest_version(rt: HostRuntime) -> Result<(), Fail> {
 #[test]
 fn sixteen_are_kept(rt: HostRuntime) -> Result<(), Fail> {
     let mut ram = Ram::new(rt.alloc(), 2)?;
-    let mut ring = ring_of(rt.alloc(), &ram, 16);
+    let mut ring = ring_of(rt.alloc(), &ram, 0, 16);
     store(&ring, &mut ram, 0, &sixteen());
     assert_eq!(rt; look(&mut ring, &ram)?, (16, 0x800, 1, 16));
     assert_eq!(rt; look(&mut ring, &ram)?, (16, 0x800, 1, 16));
@@ -141,25 +184,8 @@ fn sixteen_are_kept(rt: HostRuntime) -> Result<(), Fail> {
 #[test]
 fn tables_are_decoded_again(rt: HostRuntime) -> Result<(), Fail> {
     let mut ram = Ram::new(rt.alloc(), 2)?;
-    let mut ring = ring_of(rt.alloc(), &ram, 2);
-    store(
-        &ring,
-        &mut ram,
-        0,
-        &[0, 9, 0, 0, 0, 0, 0, 0, 32, 0, 0, 0, 7, 0, 0x84, 0],
-    );
-    store(
-        &ring,
-        &mut ram,
-        0x900,
-        &[0, 8, 0, 0, 0, 0, 0, 0, 1, 0, 0, 0, 0, 0, 2, 0],
-    );
-    store(
-        &ring,
-        &mut ram,
-        0x910,
-        &[0, 10, 0, 0, 0, 0, 0, 0, 1, 0, 0, 0, 0, 0, 2, 0],
-    );
+    let mut ring = ring_of(rt.alloc(), &ram, 0, 2);
+    one_table(&ring, &mut ram, 0);
     assert_eq!(rt; look(&mut ring, &ram)?, (2, 0x800, 1, 3));
     assert_eq!(rt; look(&mut ring, &ram)?, (2, 0x800, 1, 5));
     Ok(())
@@ -169,9 +195,42 @@ fn tables_are_decoded_again(rt: HostRuntime) -> Result<(), Fail> {
 #[test]
 fn one_more_than_slots_at_most(rt: HostRuntime) -> Result<(), Fail> {
     let mut ram = Ram::with_version(rt.alloc(), 1, u64::MAX)?;
-    let mut ring = ring_of(rt.alloc(), &ram, 4);
+    let mut ring = ring_of(rt.alloc(), &ram, 0, 4);
     store(&ring, &mut ram, 0, &sixteen());
     assert_eq!(rt; look(&mut ring, &ram)?, (0, 0, 0, 5));
     assert_eq!(rt; look(&mut ring, &ram)?, (0, 0, 0, 10));
+    Ok(())
+}
+
+/// Over a RAM that begins at a base the addresses are as much greater, and all else is as over one that begins at 0.
+#[test]
+fn a_base_moves_addresses_alone(rt: HostRuntime) -> Result<(), Fail> {
+    let mut ram = Ram::new(rt.alloc(), 2)?;
+    let mut ring = ring_of(rt.alloc(), &ram, BASE, 2);
+    one_table(&ring, &mut ram, 0x80);
+    assert_eq!(rt; look(&mut ring, &ram)?, (2, 0x8000_0800, 1, 3));
+    assert_eq!(rt; look(&mut ring, &ram)?, (2, 0x8000_0800, 1, 5));
+    // Addresses without the base lie outside RAM.
+    one_table(&ring, &mut ram, 0);
+    assert!(rt; is_malformed(&mut ring, &ram)?);
+    Ok(())
+}
+
+/// A buffer whose first byte lies below the base is outside RAM, though its second one is the first of RAM.
+#[test]
+fn below_the_base_is_malformed(rt: HostRuntime) -> Result<(), Fail> {
+    let mut ram = Ram::new(rt.alloc(), 1)?;
+    let mut ring = ring_of(rt.alloc(), &ram, BASE, 1);
+    store(
+        &ring,
+        &mut ram,
+        0,
+        &[
+            0xff, 0xff, 0xff, 0x7f, 0, 0, 0, 0, 2, 0, 0, 0, 7, 0, 0x82, 0,
+        ],
+    );
+    assert!(rt; is_malformed(&mut ring, &ram)?);
+    store(&ring, &mut ram, 0, &[0, 0, 0, 0x80]);
+    assert_eq!(rt; look(&mut ring, &ram)?, (1, BASE, 2, 2));
     Ok(())
 }

@@ -38,7 +38,7 @@ pub(crate) fn walk(
     let mut place = core.taking.place;
     let mut descriptor = first;
     for step in 0..core.size {
-        match add(&descriptor, len, chain) {
+        match add(&descriptor, core.base, len, chain) {
             Walked::Listed => {}
             Walked::Missing => return Walked::Missing,
             Walked::NoMemory => return Walked::NoMemory,

@@ -16,7 +16,8 @@ use Rattle.receiver.specs.Faults.{IsEarly, Opens, IsBadPage, IsLongZeros, IsBadS
 use Rattle.receiver.specs.declared.recv_error.RecvError.{RecvError}
 use Rattle.receiver.proofs.Lists.{not_both_ways}
 use Rattle.receiver.proofs.Quiet.{no_page, quiet}
-use Rattle.wire.specs.Header.{Opening, layout_in}
+use Rattle.wire.specs.Header.{Opening}
+use Rattle.receiver.specs.Opened.{Begins, Opened, layout_in, opened, said_by}
 
 -- One list of records is the beginning of the other.
 pub record LongerRecords (rs ss : List Record) (x y : List ℕ) : Type 0 where
@@ -39,13 +40,13 @@ records_led (r ∷ rs) (s ∷ ss) x y h k e =
     let o = one_record r s (texts rs ++ x) (texts ss ++ y) h.0 k.0 (sym (append_assoc (spelled_record r) (texts rs) x) ∙ e ∙ append_assoc (spelled_record s) (texts ss) y) in
     records_by r s rs ss x y o.0 (records_led rs ss x y h.1 k.1 o.1)
 
-pub good_spell : (opening : Opening) (acc rs : List Record) → AreGood opening acc rs → AllByRecursion HasSpelling rs
+pub good_spell : (opening : Opened) (acc rs : List Record) → AreGood opening acc rs → AllByRecursion HasSpelling rs
 unfolding AreGood
 good_spell opening acc [] h = tt
 good_spell opening acc (r ∷ rs) h = (h.0.spells, good_spell opening (acc ++ r ∷ []) rs h.1)
 
 -- The record behind the first ones may stand there.
-pub next_good : (opening : Opening) (acc rs more : List Record) (r : Record) → AreGood opening acc (rs ++ r ∷ more) → Follows opening (acc ++ rs) r
+pub next_good : (opening : Opened) (acc rs more : List Record) (r : Record) → AreGood opening acc (rs ++ r ∷ more) → Follows opening (acc ++ rs) r
 unfolding AreGood
 next_good opening acc [] more r h = rw (append-nil acc) h.0
 next_good opening acc (s ∷ rs) more r h =
@@ -58,14 +59,14 @@ pub not_early : (tag : ℕ) → 4 ≤ tag → tag ≤ 5 → ¬ (IsEarly tag)
 not_early tag low high (inl e) = omega (arith, low, e)
 not_early tag low high (inr e) = omega (arith, high, e)
 
-opens_early : (opening : Opening) (before : List Record) (tail : List ℕ) (tag : ℕ) (more : List ℕ) → tail ≡ tag ∷ more → 1 ≤ tag → tag ≤ 3 → devices_in before ≡ 0 → Opens opening before tail tag more
+opens_early : (opening : Opened) (before : List Record) (tail : List ℕ) (tag : ℕ) (more : List ℕ) → tail ≡ tag ∷ more → 1 ≤ tag → tag ≤ 3 → devices_in before ≡ 0 → Opens opening before tail tag more
 opens_early opening before tail tag more e least most none = record {
   whole = e;
   may = record { least = least; most = omega (arith, most); early = λ low. none; missing = λ four. absurd (omega (arith, most, four)); since = λ six. absurd (omega (arith, most, six)) };
   complete = λ late. absurd (omega (arith, most, late.0));
 }
 
-opens_zeros : (opening : Opening) (before : List Record) (tail more : List ℕ) → tail ≡ 6 ∷ more → devices_in before ≡ 0 → opening.version ≡ 2 → Opens opening before tail 6 more
+opens_zeros : (opening : Opened) (before : List Record) (tail more : List ℕ) → tail ≡ 6 ∷ more → devices_in before ≡ 0 → opening.version ≡ 2 → Opens opening before tail 6 more
 opens_zeros opening before tail more whole none second = record {
   whole = whole;
   may = record { least = omega arith; most = omega arith; early = λ low. none; missing = λ four. absurd (omega (arith, four)); since = λ six. second };
@@ -102,11 +103,11 @@ device_tail d b x = ap (λ (y : List ℕ). 4 ∷ (d ∷ y)) (append_assoc (digit
 first_of : {A : Type 0} {x y : A} {xs ys : List A} → x ∷ xs ≡ y ∷ ys → x ≡ y
 first_of e = cc
 
-no_bad_number : (opening : Opening) (before : List Record) (tail more : List ℕ) (tag n : ℕ) → tail ≡ tag ∷ (digits 4 n ++ more) → n < 2 ^ 32 → n < opening.pages → (place : ℕ) → ¬ (IsBadPage opening before tail place)
+no_bad_number : (opening : Opened) (before : List Record) (tail more : List ℕ) (tag n : ℕ) → tail ≡ tag ∷ (digits 4 n ++ more) → n < 2 ^ 32 → n < opening.pages → (place : ℕ) → ¬ (IsBadPage opening before tail place)
 no_bad_number opening before tail more tag n e fits below place h =
     let same = (number_same 4 n h.number more h.more fits h.fits (tail_same (sym e ∙ h.opens.whole))).0 in omega (arith, below, h.never, same)
 
-no_bad_page : (opening : Opening) (before : List Record) (tail more : List ℕ) (n : ℕ) (b : List ℕ) → tail ≡ 1 ∷ (digits 4 n ++ (b ++ more)) → n < 2 ^ 32 → n < opening.pages → length b ≡ 4096 → is_zero_page opening.version b ≡ false
+no_bad_page : (opening : Opened) (before : List Record) (tail more : List ℕ) (n : ℕ) (b : List ℕ) → tail ≡ 1 ∷ (digits 4 n ++ (b ++ more)) → n < 2 ^ 32 → n < opening.pages → length b ≡ 4096 → is_zero_page opening.version b ≡ false
     → (place : ℕ) → ¬ (IsBadPage opening before tail place ⊎ IsLongZeros opening before tail place)
 no_bad_page opening before tail more n b e fits below long has place (inl h) = no_bad_number opening before tail (b ++ more) 1 n e fits below place h
 no_bad_page opening before tail more n b e fits below long has place (inr h) =
@@ -114,22 +115,22 @@ no_bad_page opening before tail more n b e fits below long has place (inr h) =
     let same = (split_same b h.bytes more h.more (long ∙ sym h.long) s.1).0 in
     not_both_ways (is_zero_page opening.version b) (ap (is_zero_page opening.version) same ∙ h.zeros) has
 
-no_bad_zeros : (opening : Opening) (before : List Record) (tail more : List ℕ) (n : ℕ) → tail ≡ 6 ∷ (digits 4 n ++ more) → n < 2 ^ 32 → n < opening.pages
+no_bad_zeros : (opening : Opened) (before : List Record) (tail more : List ℕ) (n : ℕ) → tail ≡ 6 ∷ (digits 4 n ++ more) → n < 2 ^ 32 → n < opening.pages
     → (place : ℕ) → ¬ (IsBadPage opening before tail place ⊎ IsLongZeros opening before tail place)
 no_bad_zeros opening before tail more n e fits below place (inl h) = no_bad_number opening before tail more 6 n e fits below place h
 no_bad_zeros opening before tail more n e fits below place (inr h) = let tag = head_same (sym e ∙ h.opens.whole) in omega (arith, tag)
 
-no_bad_round : (opening : Opening) (before : List Record) (tail more : List ℕ) (n : ℕ) → tail ≡ 3 ∷ (digits 4 n ++ more) → n < 2 ^ 32 → n ≡ rounds before + 1 → (place : ℕ) → ¬ (IsBadRound opening before tail place)
+no_bad_round : (opening : Opened) (before : List Record) (tail more : List ℕ) (n : ℕ) → tail ≡ 3 ∷ (digits 4 n ++ more) → n < 2 ^ 32 → n ≡ rounds before + 1 → (place : ℕ) → ¬ (IsBadRound opening before tail place)
 no_bad_round opening before tail more n e fits next place h =
     let same = (number_same 4 n h.number more h.more fits h.fits (tail_same (sym e ∙ h.opens.whole))).0 in h.never (sym same ∙ next)
 
-no_bad_sector : (opening : Opening) (before : List Record) (tail more : List ℕ) (d n mark : ℕ) → tail ≡ 2 ∷ (d ∷ (digits 4 n ++ (mark ∷ more))) → n < 2 ^ 32 → IsItemIn (layout_in opening) (items.sector d n) → mark ≤ 1 → (place : ℕ) → ¬ (IsBadSector opening before tail place)
+no_bad_sector : (opening : Opened) (before : List Record) (tail more : List ℕ) (d n mark : ℕ) → tail ≡ 2 ∷ (d ∷ (digits 4 n ++ (mark ∷ more))) → n < 2 ^ 32 → IsItemIn (layout_in opening) (items.sector d n) → mark ≤ 1 → (place : ℕ) → ¬ (IsBadSector opening before tail place)
 no_bad_sector opening before tail more d n mark e fits below few place h =
     let t = tail_same (sym e ∙ h.opens.whole) in
     let s = number_same 4 n h.number (mark ∷ more) (h.mark ∷ h.more) fits h.fits (tail_same t) in
     h.never (rw (sym (head_same t), sym s.0, sym (head_same s.1)) (below, few))
 
-no_bad_device : (opening : Opening) (before : List Record) (tail more raw : List ℕ) (d : ℕ) → tail ≡ 4 ∷ (d ∷ (digits 4 (length raw) ++ (raw ++ more))) → IsNextDevice opening before d raw
+no_bad_device : (opening : Opened) (before : List Record) (tail more raw : List ℕ) (d : ℕ) → tail ≡ 4 ∷ (d ∷ (digits 4 (length raw) ++ (raw ++ more))) → IsNextDevice opening before d raw
     → (place : ℕ) → ¬ (IsBadHead opening before tail place ⊎ IsBadBody opening before tail place)
 no_bad_device opening before tail more raw d e next place (inl h) =
     let few : length raw ≤ 131072 = omega (arith, ap length next.is.is, body_is_short (4096 * opening.pages) next.state next.is.sound) in
@@ -145,10 +146,10 @@ no_bad_device opening before tail more raw d e next place (inr h) =
     let shape : next.shape ≡ h.shape = first_of (sym next.here ∙ there) in
     h.never next.state (rw (sym shape, sym same) next.is)
 
-no_digest : (opening : Opening) (before : List Record) (tail : List ℕ) (tag : ℕ) → tag ≤ 4 → tag ≡ 5 → (place : ℕ) → ¬ (IsBadDigest opening before tail place ⊎ IsTrailing opening before tail place)
+no_digest : (opening : Opened) (before : List Record) (tail : List ℕ) (tag : ℕ) → tag ≤ 4 → tag ≡ 5 → (place : ℕ) → ¬ (IsBadDigest opening before tail place ⊎ IsTrailing opening before tail place)
 no_digest opening before tail tag few e place h = omega (arith, few, e)
 
-pub no_fault_here : (opening : Opening) (before : List Record) (tail x : List ℕ) (r : Record) → Follows opening before r → tail ≡ spelled_record r ++ x → (k : RecvError) (place : ℕ) → ¬ (IsFault opening before tail k place)
+pub no_fault_here : (opening : Opened) (before : List Record) (tail x : List ℕ) (r : Record) → Follows opening before r → tail ≡ spelled_record r ++ x → (k : RecvError) (place : ℕ) → ¬ (IsFault opening before tail k place)
 no_fault_here opening before tail x (page n b) f e =
     let t = e ∙ page_tail n b x in
     quiet opening before tail 1 _ (opens_early opening before tail 1 _ t (omega arith) (omega arith) f.may.1)
@@ -186,7 +187,7 @@ no_fault_here opening before tail x (zero_page n) f e =
     (λ six. no_bad_zeros opening before tail x n t f.spells f.may.0)
     (λ z. absurd (omega (arith, z))) (λ z. absurd (omega (arith, z))) (λ z. absurd (omega (arith, z))) (λ z. absurd (omega (arith, z)))
 
-longer_on : (opening : Opening) (before others : List Record) (tail rest : List ℕ) → AreGood opening [] others
+longer_on : (opening : Opened) (before others : List Record) (tail rest : List ℕ) → AreGood opening [] others
     → ((r : Record) (y : List ℕ) → Follows opening before r → ¬ (tail ≡ spelled_record r ++ y)) → ((k : RecvError) (place : ℕ) → ¬ (IsFault opening before tail k place))
     → (more : List Record) → others ≡ before ++ more → tail ≡ texts more ++ rest → (k : RecvError) (place : ℕ) → ¬ (IsFault opening others rest k place)
 unfolding texts
@@ -196,7 +197,7 @@ longer_on opening before others tail rest goods none quiets [] all left k place 
 longer_on opening before others tail rest goods none quiets (r ∷ more) all left k place f =
     none r (texts more ++ rest) (next_good opening [] before more r (rw all at goods)) (left ∙ append_assoc (spelled_record r) (texts more) rest)
 
-longer_off : (opening : Opening) (before others : List Record) (tail rest : List ℕ) → AreGood opening [] before → ((k : RecvError) (place : ℕ) → ¬ (IsFault opening before tail k place))
+longer_off : (opening : Opened) (before others : List Record) (tail rest : List ℕ) → AreGood opening [] before → ((k : RecvError) (place : ℕ) → ¬ (IsFault opening before tail k place))
     → (more : List Record) → before ≡ others ++ more → rest ≡ texts more ++ tail → (k : RecvError) (place : ℕ) → ¬ (IsFault opening others rest k place)
 unfolding texts
 longer_off opening before others tail rest good quiets [] all left k place f =
@@ -206,20 +207,25 @@ longer_off opening before others tail rest good quiets (r ∷ more) all left k p
     no_fault_here opening others rest (texts more ++ tail) r (next_good opening [] others more r (rw all at good)) (left ∙ append_assoc (spelled_record r) (texts more) tail) k place f
 
 -- No record fault stands in bytes whose good records end where neither a good record nor a fault stands.
-led_fault : (opening : Opening) (before others : List Record) (tail rest : List ℕ) → AreGood opening [] before → AreGood opening [] others
+led_fault : (opening : Opened) (before others : List Record) (tail rest : List ℕ) → AreGood opening [] before → AreGood opening [] others
     → ((r : Record) (y : List ℕ) → Follows opening before r → ¬ (tail ≡ spelled_record r ++ y)) → ((k : RecvError) (place : ℕ) → ¬ (IsFault opening before tail k place))
     → LongerRecords before others tail rest ⊎ LongerRecords others before rest tail → (k : RecvError) (place : ℕ) → ¬ (IsFault opening others rest k place)
 unfolding texts
 led_fault opening before others tail rest good goods none quiets (inl l) k place f = longer_on opening before others tail rest goods none quiets l.more l.all l.left k place f
 led_fault opening before others tail rest good goods none quiets (inr l) k place f = longer_off opening before others tail rest good quiets l.more l.all l.left k place f
 
-pub no_record_fault : (sizes bytes : List ℕ) (opening : Opening) (before : List Record) (tail : List ℕ) → IsFront sizes bytes opening before tail
+-- Two headers of the same bytes, of machines whose RAM begins at one address.
+pub one_opening : (bytes : List ℕ) (o p : Opened) (x y : List ℕ) → o.base ≡ p.base → Begins bytes o x → Begins bytes p y → (o ≡ p) × (x ≡ y)
+one_opening bytes o p x y based a b =
+    let t = alike (said_by o) (said_by p) x y (sym (header_of-spelled bytes (said_by o) x a) ∙ header_of-spelled bytes (said_by p) y b) in
+    let same : opened o.base (said_by o) ≡ opened p.base (said_by p) = ap (λ (b : ℕ). opened b (said_by o)) based ∙ ap (λ (h : Opening). opened p.base h) t.0 in
+    (same, t.1)
+
+pub no_record_fault : (base : ℕ) (sizes bytes : List ℕ) (opening : Opened) (before : List Record) (tail : List ℕ) → IsFront base sizes bytes opening before tail
     → ((r : Record) (y : List ℕ) → Follows opening before r → ¬ (tail ≡ spelled_record r ++ y)) → ((k : RecvError) (place : ℕ) → ¬ (IsFault opening before tail k place))
-    → (k : RecvError) (at : ℕ) → ¬ (IsRecordFault sizes bytes k at)
-no_record_fault sizes bytes opening before tail front none quiets k at h =
-    let a = header_of-spelled bytes opening (texts before ++ tail) front.begins in
-    let b = header_of-spelled bytes h.opening (texts h.before ++ h.tail) h.front.begins in
-    let t = alike h.opening opening (texts h.before ++ h.tail) (texts before ++ tail) (sym b ∙ a) in
+    → (k : RecvError) (at : ℕ) → ¬ (IsRecordFault base sizes bytes k at)
+no_record_fault base sizes bytes opening before tail front none quiets k at h =
+    let t = one_opening bytes h.opening opening (texts h.before ++ h.tail) (texts before ++ tail) (h.front.based ∙ sym front.based) h.front.begins front.begins in
     let goods : AreGood opening [] h.before = rw t.0 at h.front.good in
     let fault : IsFault opening h.before h.tail k h.place = rw t.0 at h.fault in
     led_fault opening before h.before tail h.tail front.good goods none quiets

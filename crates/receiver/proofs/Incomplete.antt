@@ -8,7 +8,7 @@ use Rattle.sha2.proofs.Facts256.{length-sha256}
 use Rattle.blk.specs.Disk.{DiskState}
 use Rattle.guestmem.specs.Number.{IsBytes}
 use Rattle.guestmem.specs.ByteLaws.{IsBytes-append}
-use Rattle.wire.specs.Header.{header, Opening}
+use Rattle.receiver.specs.Opened.{header, Opened}
 use Rattle.wire.specs.RecordHeads.{BeginsHead, body_len, spelled_head}
 use Rattle.wire.specs.Records.{Record}
 use Rattle.wire.specs.Stream.{texts}
@@ -60,7 +60,7 @@ short_body held piece head b short =
     omega (arith, short, ap length b.whole, length-append (spelled_head head) rest, length-append rest piece)
 
 -- Its faults stand within the bytes that wait.
-within : (opening : Opening) (before : List Record) (held piece : List ℕ) (head : RecordHead) → IsBytes (held ++ piece) → BeginsHead held head → 7 ≤ length held → length held + length piece < length (spelled_head head) + body_len head
+within : (opening : Opened) (before : List Record) (held piece : List ℕ) (head : RecordHead) → IsBytes (held ++ piece) → BeginsHead held head → 7 ≤ length held → length held + length piece < length (spelled_head head) + body_len head
     → (k : RecvError) (place : ℕ) → IsFault opening before (held ++ piece) k place → place ≤ length held
 within opening before held piece head are b long short errors.BadMagic place h = absurd h
 within opening before held piece head are b long short errors.BadVersion place h = absurd h
@@ -94,41 +94,43 @@ within opening before held piece head are b long short errors.DiskFailed place h
 within opening before held piece head are b long short errors.NoMemory place h = absurd h
 within opening before held piece head are b long short errors.AlreadyFailed place h = absurd h
 
-waits_on : (opening : Opening) (before : List Record) (stage : Stage) (held piece : List ℕ) → IsWithinBody stage held piece → Waits opening before held → Waits opening before (held ++ piece)
+waits_on : (opening : Opened) (before : List Record) (stage : Stage) (held piece : List ℕ) → IsWithinBody stage held piece → Waits opening before held → Waits opening before (held ++ piece)
 waits_on opening before stage held piece w waits = record {
   no_record = no_body opening.version (held ++ piece) (drop (length (spelled_head w.head)) held ++ piece) w.head w.begins.fits (behind_head held piece w.head w.begins) (short_body held piece w.head w.begins w.short);
   no_fault = λ k place h. waits.no_fault k place (holds_here opening before held piece k place (within opening before held piece w.head w.bytes w.begins w.long w.short k place h) h);
 }
 
 -- What is known of the bytes stays known.
-known_on : (ds : List DiskState) (digest : Sha256) (front held piece : List ℕ) (stage : Stage) → IsWithinBody stage held piece → IsKnown ds digest front held stage → IsKnown ds digest front (held ++ piece) stage
-known_on ds digest front held piece stages.Head w known = absurd w.reads
-known_on ds digest front held piece (stages.Records i) w known =
+known_on : (base : ℕ) (ds : List DiskState) (digest : Sha256) (front held piece : List ℕ) (stage : Stage) → IsWithinBody stage held piece → IsKnown base ds digest front held stage → IsKnown base ds digest front (held ++ piece) stage
+known_on base ds digest front held piece stages.Head w known = absurd w.reads
+known_on base ds digest front held piece (stages.Records i) w known =
     let reading = known.1 in
     let here = reading.open_at in (
       known.0,
       record {
         opening = reading.opening;
+        based = reading.based;
         open_at = record { before = here.before; read = here.read; waits = waits_on reading.opening here.before (stages.Records i) held piece w here.waits };
       },
     )
-known_on ds digest front held piece (stages.Ended i) w known = absurd w.reads
-known_on ds digest front held piece stages.Failed w known = absurd w.reads
+known_on base ds digest front held piece (stages.Ended i) w known = absurd w.reads
+known_on base ds digest front held piece stages.Failed w known = absurd w.reads
 
 -- The piece is taken, and the receiver is one still.
-pub held_on : (place : Option Ptr) (ds : List DiskState) (stage : Stage) (digest : Sha256) (held piece : List ℕ) → IsBytes piece → IsWithinBody stage held piece → GoesOn (received_by place ds stage digest held) piece (received_by place ds stage digest (held ++ piece))
-held_on place ds stage digest held piece are w =
-    let more : (b : List ℕ) → HasBeenFed (received_by place ds stage digest held) b → IsTaken ds digest (b ++ piece) (held ++ piece) stage =
+pub held_on : (base : ℕ) (place : Option Ptr) (ds : List DiskState) (stage : Stage) (digest : Sha256) (held piece : List ℕ) → IsBytes piece → IsWithinBody stage held piece → GoesOn (received_by base place ds stage digest held) piece (received_by base place ds stage digest (held ++ piece))
+held_on base place ds stage digest held piece are w =
+    let more : (b : List ℕ) → HasBeenFed (received_by base place ds stage digest held) b → IsTaken base ds digest (b ++ piece) (held ++ piece) stage =
     λ b h. record {
       front = h.taken.front;
       whole = ap (λ (x : List ℕ). x ++ piece) h.taken.whole ∙ append_assoc h.taken.front held piece;
-      known = known_on ds digest h.taken.front held piece stage w h.taken.known;
+      known = known_on base ds digest h.taken.front held piece stage w h.taken.known;
     } in
     record {
+      base = refl;
       sizes = refl;
       marks = refl;
       fed = λ b h. record { goes_on = h.goes_on; bytes = IsBytes-append b piece h.bytes are; taken = more b h };
-      quiet = λ b h. no_fault_known ds digest (b ++ piece) (held ++ piece) stage (more b h);
+      quiet = λ b h. no_fault_known base ds digest (b ++ piece) (held ++ piece) stage (more b h);
     }
 
 -- With the piece behind the held bytes, the record lacks so many fewer.
@@ -155,9 +157,9 @@ on_reading (stages.Records i) reads = refl
 on_reading (stages.Ended i) reads = absurd reads
 on_reading stages.Failed reads = absurd reads
 
-pub receiver_on : (ds : List DiskState) (digest : Sha256) (held piece : List ℕ) (room more lacking left : ℕ) (stage : Stage) → IsBytes piece → length piece < lacking → left + length piece ≡ lacking → IsReceiver ds digest held room lacking stage → room ≤ more → IsReceiver ds digest (held ++ piece) more left stage
-receiver_on ds digest held piece room more lacking left stage are less is kept le =
+pub receiver_on : (base : ℕ) (ds : List DiskState) (digest : Sha256) (held piece : List ℕ) (room more lacking left : ℕ) (stage : Stage) → IsBytes piece → length piece < lacking → left + length piece ≡ lacking → IsReceiver base ds digest held room lacking stage → room ≤ more → IsReceiver base ds digest (held ++ piece) more left stage
+receiver_on base ds digest held piece room more lacking left stage are less is kept le =
     let l = kept.lacks (omega (arith, less)) in
     let w = within_body stage held piece lacking are less l in
     let some = kept.known (on_reading stage l.reads) in
-    is_receiver ds digest (held ++ piece) more left stage some.0 (known_on ds digest some.0 held piece stage w some.1) (omega (arith, w.few, length-append held piece)) (omega (arith, kept.roomy (past_reading stage l.reads), le)) (λ some_left. lacks_on stage held piece lacking left are is l)
+    is_receiver base ds digest (held ++ piece) more left stage some.0 (known_on base ds digest some.0 held piece stage w some.1) (omega (arith, w.few, length-append held piece)) (omega (arith, kept.roomy (past_reading stage l.reads), le)) (λ some_left. lacks_on stage held piece lacking left are is l)

@@ -1,5 +1,6 @@
 -- What a receiver knows of its bytes.
-use Rattle.std.proofs.Common.{◌≡◌, ℕ, ◌+◌, ◌/◌, ◌⊎◌, inl, inr, Some, None, Option, Bool, true, false, List, [], ◌∷◌, ◌++◌, length, map, get_or, refl, sym, ap, ◌∙◌, append_assoc, append-nil, arith}
+use Rattle.std.proofs.Common.{◌≡◌, ℕ, ◌+◌, ◌*◌, ◌/◌, ◌≤◌, ◌⊎◌, inl, inr, Some, None, Option, Bool, true, false, List, [], ◌∷◌, ◌++◌, length, map, get_or, refl, sym, ap, subst, ◌∙◌, append_assoc, append-nil, arith}
+use Rattle.std.specs.List.{AllByRecursion}
 use Rattle.std.specs.Prelude.{All, is_some}
 use Rattle.std.proofs.lemmas.List.{length-append}
 use Rattle.std.proofs.lemmas.List.Elements.{All-from_recursion}
@@ -8,7 +9,8 @@ use Rattle.sha2.specs.declared.Sha256.{Sha256}
 use Rattle.sha2.proofs.Facts256.{length-sha256}
 use Rattle.guestmem.specs.Number.{IsBytes}
 use Rattle.wire.specs.DeviceBody.{body, IsDeviceOf}
-use Rattle.wire.specs.Header.{header, Opening, layout_in}
+use Rattle.receiver.specs.Opened.{Opened, header, layout_in, said_by}
+use Rattle.wire.specs.Header as told
 use Rattle.wire.specs.Records.{Record, page, sector, round_end, device, commit, spelled_record, zero_page}
 use Rattle.wire.specs.Stream.{IsStream, texts, rounds, shapes_in, device_texts, before_commit, last_named, record_in}
 use Rattle.receiver.specs.Taken.{shown}
@@ -18,7 +20,7 @@ use Rattle.machine.specs.First.{dealt_sectors, marked_sectors, saved_machine}
 use Rattle.machine.specs.Layout.{IsItemIn, layout_of, number_of, pages_of}
 use Rattle.machine.specs.Shapes.{disk_sizes}
 use Rattle.machine.specs.Sound.{IsSound, IsSoundDevice}
-use Rattle.machine.specs.State.{DeviceState, MachineState}
+use Rattle.machine.specs.State.{DeviceState, MachineState, base_of}
 use Rattle.machine.specs.declared.shape.Shape.{Shape}
 use Rattle.machine.proofs.Fresh.{dealt_sizes, dealt_whole}
 use Rattle.machine.proofs.Numbering.{sound_layout}
@@ -39,14 +41,14 @@ use Rattle.receiver.proofs.Aligned.{no_record_fault, not_early}
 use Rattle.receiver.proofs.Heads.{head_short, no_header_fault}
 use Rattle.receiver.proofs.Quiet.{no_page, quiet}
 use Rattle.receiver.proofs.Steps.{devices_are}
-use Rattle.receiver.proofs.Working.{front_of, commit_text}
+use Rattle.receiver.proofs.Working.{commit_text, front_at, front_of}
 
 pub nothing_known : WaitsHead []
 nothing_known = head_short [] (omega arith) (λ at h. omega (arith, h.long)) (λ at h. omega (arith, h.long))
 
 -- The digest is no other record, and has no fault.
 
-pub no_other : (opening : Opening) (before : List Record) (digest : List ℕ) (r : Record) (y : List ℕ) → Follows opening before r → ¬ (5 ∷ digest ≡ spelled_record r ++ y)
+pub no_other : (opening : Opened) (before : List Record) (digest : List ℕ) (r : Record) (y : List ℕ) → Follows opening before r → ¬ (5 ∷ digest ≡ spelled_record r ++ y)
 unfolding spelled_record
 no_other opening before digest (page n b) y f e = cc
 no_other opening before digest (sector d n (Some b)) y f e = cc
@@ -56,7 +58,7 @@ no_other opening before digest (device d b) y f e = cc
 no_other opening before digest (commit b) y f e = f.may
 no_other opening before digest (zero_page n) y f e = cc
 
-digest_quiet : (opening : Opening) (before : List Record) (digest : List ℕ) → digest ≡ sha256 (header opening ++ texts before) → (place : ℕ)
+digest_quiet : (opening : Opened) (before : List Record) (digest : List ℕ) → digest ≡ sha256 (header opening ++ texts before) → (place : ℕ)
     → ¬ (IsBadDigest opening before (5 ∷ digest) place ⊎ IsTrailing opening before (5 ∷ digest) place)
 digest_quiet opening before digest is place (inl h) =
     let size : length digest ≡ 32 = ap length is ∙ length-sha256 (header opening ++ texts before) in
@@ -66,7 +68,7 @@ digest_quiet opening before digest is place (inr h) =
     let size : length digest ≡ 32 = ap length is ∙ length-sha256 (header opening ++ texts before) in
     omega (arith, size, ap length (tail_same h.opens.whole), length-append (sha256 (header opening ++ texts before)) (h.byte ∷ h.more), length-sha256 (header opening ++ texts before))
 
-pub end_quiet : (opening : Opening) (before : List Record) (digest : List ℕ) → IsComplete opening before 5 → digest ≡ sha256 (header opening ++ texts before) → (k : RecvError) (place : ℕ) → ¬ (IsFault opening before (5 ∷ digest) k place)
+pub end_quiet : (opening : Opened) (before : List Record) (digest : List ℕ) → IsComplete opening before 5 → digest ≡ sha256 (header opening ++ texts before) → (k : RecvError) (place : ℕ) → ¬ (IsFault opening before (5 ∷ digest) k place)
 end_quiet opening before digest complete is =
     quiet opening before (5 ∷ digest) 5 digest (record {
       whole = refl;
@@ -76,44 +78,44 @@ end_quiet opening before digest complete is =
     (λ z. absurd (no_page 5 (omega arith) (omega arith) z)) (λ z. absurd (omega (arith, z))) (λ z. absurd (omega (arith, z))) (λ z. absurd (omega (arith, z)))
     (λ five. digest_quiet opening before digest is)
 
-pub quiet_front : (sizes bytes : List ℕ) (opening : Opening) (before : List Record) (tail : List ℕ) → IsFront sizes bytes opening before tail
+pub quiet_front : (base : ℕ) (sizes bytes : List ℕ) (opening : Opened) (before : List Record) (tail : List ℕ) → IsFront base sizes bytes opening before tail
     → ((r : Record) (y : List ℕ) → Follows opening before r → ¬ (tail ≡ spelled_record r ++ y)) → ((k : RecvError) (place : ℕ) → ¬ (IsFault opening before tail k place))
-    → NoFault sizes bytes
-quiet_front sizes bytes opening before tail front none quiets k at (inl h) = no_header_fault sizes bytes opening (texts before ++ tail) front.begins front.fits k at h
-quiet_front sizes bytes opening before tail front none quiets k at (inr h) = no_record_fault sizes bytes opening before tail front none quiets k at h
+    → NoFault base sizes bytes
+quiet_front base sizes bytes opening before tail front none quiets k at (inl h) = no_header_fault sizes bytes (said_by opening) (texts before ++ tail) front.begins front.fits k at h
+quiet_front base sizes bytes opening before tail front none quiets k at (inr h) = no_record_fault base sizes bytes opening before tail front none quiets k at h
 
-no_fault_head : (sizes held : List ℕ) → WaitsHead held → NoFault sizes held
-no_fault_head sizes held w k at (inl h) = w.no_fault sizes k at h
-no_fault_head sizes held w k at (inr h) = w.no_header h.opening (texts h.before ++ h.tail) h.front.begins
+no_fault_head : (base : ℕ) (sizes held : List ℕ) → WaitsHead held → NoFault base sizes held
+no_fault_head base sizes held w k at (inl h) = w.no_fault sizes k at h
+no_fault_head base sizes held w k at (inr h) = w.no_header (said_by h.opening) (texts h.before ++ h.tail) h.front.begins
 
-no_fault_reading : (ds : List DiskState) (front held : List ℕ) (i : Intake) → IsReading ds front held i → NoFault (sizes_in ds) (front ++ held)
-no_fault_reading ds front held i r =
+no_fault_reading : (base : ℕ) (ds : List DiskState) (front held : List ℕ) (i : Intake) → IsReading base ds front held i → NoFault base (sizes_in ds) (front ++ held)
+no_fault_reading base ds front held i r =
     let o = r.open_at in
-    quiet_front (sizes_in ds) (front ++ held) r.opening o.before held (front_of (front ++ held) held o.read refl) (λ s y f e. o.waits.no_record s y f.spells f.has e) o.waits.no_fault
+    quiet_front base (sizes_in ds) (front ++ held) r.opening o.before held (front_at r.based (front_of (front ++ held) held o.read refl)) (λ s y f e. o.waits.no_record s y f.spells f.has e) o.waits.no_fault
 
-no_fault_come : (ds : List DiskState) (bytes : List ℕ) (i : Intake) → HasCome ds bytes i → NoFault (sizes_in ds) bytes
-no_fault_come ds bytes i h =
+no_fault_come : (base : ℕ) (ds : List DiskState) (bytes : List ℕ) (i : Intake) → HasCome base ds bytes i → NoFault base (sizes_in ds) bytes
+no_fault_come base ds bytes i h =
     let w = h.ended in
     let whole : bytes ≡ w.front ++ (5 ∷ sha256 w.front) = w.whole ∙ ap (λ (x : List ℕ). w.front ++ x) (commit_text (sha256 w.front)) in
-    quiet_front (sizes_in ds) bytes h.opening w.before (5 ∷ sha256 w.front) (front_of bytes (5 ∷ sha256 w.front) w.read whole)
+    quiet_front base (sizes_in ds) bytes h.opening w.before (5 ∷ sha256 w.front) (front_at h.based (front_of bytes (5 ∷ sha256 w.front) w.read whole))
     (λ s y f e. no_other h.opening w.before (sha256 w.front) s y f e) (end_quiet h.opening w.before (sha256 w.front) w.complete (ap sha256 w.read.whole))
 
 none_held : (front held : List ℕ) → held ≡ [] → front ++ held ≡ front
 none_held front held none = ap (λ (x : List ℕ). front ++ x) none ∙ append-nil front
 
 -- No fault stands in what was fed while no refusal came.
-no_fault_in_stage : (ds : List DiskState) (digest : Sha256) (front held : List ℕ) (stage : Stage) → IsKnown ds digest front held stage → NoFault (sizes_in ds) (front ++ held)
-no_fault_in_stage ds digest front held stages.Head k = rw (k.0) (no_fault_head (sizes_in ds) held k.2)
-no_fault_in_stage ds digest front held (stages.Records i) k = no_fault_reading ds front held i k.1
-no_fault_in_stage ds digest front held (stages.Ended i) k = rw (none_held front held k.0) (no_fault_come ds front i k.1)
-no_fault_in_stage ds digest front held stages.Failed k = absurd k
+no_fault_in_stage : (base : ℕ) (ds : List DiskState) (digest : Sha256) (front held : List ℕ) (stage : Stage) → IsKnown base ds digest front held stage → NoFault base (sizes_in ds) (front ++ held)
+no_fault_in_stage base ds digest front held stages.Head k = rw (k.0) (no_fault_head base (sizes_in ds) held k.2)
+no_fault_in_stage base ds digest front held (stages.Records i) k = no_fault_reading base ds front held i k.1
+no_fault_in_stage base ds digest front held (stages.Ended i) k = rw (none_held front held k.0) (no_fault_come base ds front i k.1)
+no_fault_in_stage base ds digest front held stages.Failed k = absurd k
 
-pub no_fault_known : (ds : List DiskState) (digest : Sha256) (bytes held : List ℕ) (stage : Stage) → IsTaken ds digest bytes held stage → NoFault (sizes_in ds) bytes
-no_fault_known ds digest bytes held stage t = rw (t.whole) (no_fault_in_stage ds digest t.front held stage t.known)
+pub no_fault_known : (base : ℕ) (ds : List DiskState) (digest : Sha256) (bytes held : List ℕ) (stage : Stage) → IsTaken base ds digest bytes held stage → NoFault base (sizes_in ds) bytes
+no_fault_known base ds digest bytes held stage t = rw (t.whole) (no_fault_in_stage base ds digest t.front held stage t.known)
 
 -- All bytes of a stream that has ended.
-pub come_of : (ds : List DiskState) (digest : Sha256) (bytes held : List ℕ) (i : Intake) → IsTaken ds digest bytes held (stages.Ended i) → HasCome ds bytes i
-come_of ds digest bytes held i t = rw (t.whole ∙ none_held t.front held t.known.0) t.known.1
+pub come_of : (base : ℕ) (ds : List DiskState) (digest : Sha256) (bytes held : List ℕ) (i : Intake) → IsTaken base ds digest bytes held (stages.Ended i) → HasCome base ds bytes i
+come_of base ds digest bytes held i t = rw (t.whole ∙ none_held t.front held t.known.0) t.known.1
 
 -- A whole stream.
 
@@ -150,10 +152,20 @@ some_shown : (b : Bool) (x : Record) (o : Option Record) → o ≡ shown b x →
 some_shown true x o e s = e
 some_shown false x o e s = let no : false ≡ true = ap is_some (sym e) ∙ s in absurd cc
 
-pub whole_shapes : {ds : List DiskState} {front : List ℕ} {opening : Opening} {before : List Record} {i : Intake} → HasRead ds opening before i front → devices_in before ≡ length opening.shapes → shapes_in i.devices.items ≡ opening.shapes
+pub whole_shapes : {ds : List DiskState} {front : List ℕ} {opening : Opened} {before : List Record} {i : Intake} → HasRead ds opening before i front → devices_in before ≡ length opening.shapes → shapes_in i.devices.items ≡ opening.shapes
 whole_shapes {opening = opening} {i = i} h all = h.devices_are ∙ take_all (length i.devices.items) opening.shapes (omega (arith, all, devices_are h))
 
-pub read_sound : {ds : List DiskState} {front : List ℕ} {opening : Opening} {before : List Record} {i : Intake} → HasRead ds opening before i front → devices_in before ≡ length opening.shapes → IsBytes i.ram.bytes → All (λ (d : DiskState). AreSectors d.sectors) ds → IsSound (read_machine ds i)
+base_found : (base len : ℕ) (ds : List DeviceState) → AllByRecursion (IsSoundDevice base len) ds → 1 ≤ length ds → base_of ds ≡ base
+base_found base len [] h some = absurd (omega (arith, some))
+base_found base len (d ∷ ds) h some = h.0.ram_base
+
+-- The machine that was read has the base that was named.
+pub read_based : {ds : List DiskState} {front : List ℕ} {opening : Opened} {before : List Record} {i : Intake} → HasRead ds opening before i front → devices_in before ≡ length opening.shapes → base_of i.devices.items ≡ opening.base
+read_based {opening = opening} {i = i} h all =
+    let count : length i.devices.items ≡ length opening.shapes = omega (arith, all, devices_are h) in
+    base_found opening.base (4096 * opening.pages) i.devices.items h.sound (omega (arith, h.head.some_device, count))
+
+pub read_sound : {ds : List DiskState} {front : List ℕ} {opening : Opened} {before : List Record} {i : Intake} → HasRead ds opening before i front → devices_in before ≡ length opening.shapes → IsBytes i.ram.bytes → All (λ (d : DiskState). AreSectors d.sectors) ds → IsSound (read_machine ds i)
 read_sound {ds = ds} {opening = opening} {i = i} h all are sectors =
     let count : length i.devices.items ≡ length opening.shapes = omega (arith, all, devices_are h) in
     let size : length i.ram.bytes / 4096 ≡ opening.pages = omega (arith, h.taken.ram_size) in
@@ -164,26 +176,26 @@ read_sound {ds = ds} {opening = opening} {i = i} h all are sectors =
       few_pages = omega (arith, size, h.head.few_pages);
       some_devices = omega (arith, h.head.some_device, count);
       few_devices = omega (arith, h.head.few_devices, count);
-      devices = All-from_recursion (IsSoundDevice (length i.ram.bytes)) i.devices.items (rw h.taken.ram_size h.sound);
+      devices = All-from_recursion (IsSoundDevice (base_of i.devices.items) (length i.ram.bytes)) i.devices.items (rw (read_based h all, h.taken.ram_size) h.sound);
       bytes = are;
       disks = dealt_sizes i.devices.items (marked_sectors ds i.bad.items) sizes;
       sectors = dealt_whole (shapes_in i.devices.items) (marked_sectors ds i.bad.items) (marked_whole ds i.bad.items sectors);
     }
 
 -- Its layout is that of the header.
-pub read_layout : {ds : List DiskState} {front : List ℕ} {opening : Opening} {before : List Record} {i : Intake} → HasRead ds opening before i front → devices_in before ≡ length opening.shapes → IsSound (read_machine ds i) → layout_of (read_machine ds i) ≡ layout_in opening
+pub read_layout : {ds : List DiskState} {front : List ℕ} {opening : Opened} {before : List Record} {i : Intake} → HasRead ds opening before i front → devices_in before ≡ length opening.shapes → IsSound (read_machine ds i) → layout_of (read_machine ds i) ≡ layout_in opening
 read_layout {ds = ds} {opening = opening} {i = i} h all sound =
     let size : length i.ram.bytes / 4096 ≡ opening.pages = omega (arith, h.taken.ram_size) in
     sound_layout (read_machine ds i) sound ∙ rw (size, whole_shapes h all) refl
 
-pub whole_stream : (ds : List DiskState) (held : List ℕ) (opening : Opening) (i : Intake) → IsEnded ds opening i held → IsSound (read_machine ds i) → AreHonestDisks (all_marks_in ds) → IsStream held (read_machine ds i)
+pub whole_stream : (ds : List DiskState) (held : List ℕ) (opening : Opened) (i : Intake) → IsEnded ds opening i held → IsSound (read_machine ds i) → AreHonestDisks (all_marks_in ds) → IsStream held (read_machine ds i)
 whole_stream ds held opening i w sound honest =
     let h = w.read in
     let all = w.complete.devices refl in
     let same : texts w.before ≡ texts h.entries ++ device_texts 0 i.devices.items =
     ap texts h.split ∙ texts-append h.entries (device_records 0 i.devices.items) ∙ ap (λ (x : List ℕ). texts h.entries ++ x) (texts_devices 0 i.devices.items) in
     let front : w.front ≡ before_commit opening.version opening.pages h.entries i.devices.items =
-    h.whole ∙ ap (λ (x : List ℕ). header opening ++ x) same ∙ ap (λ (x : List Shape). header (record { version = opening.version; pages = opening.pages; shapes = x }) ++ (texts h.entries ++ device_texts 0 i.devices.items)) (sym (whole_shapes h all)) in
+    h.whole ∙ ap (λ (x : List ℕ). header opening ++ x) same ∙ ap (λ (x : List Shape). told.header (record { version = opening.version; pages = opening.pages; shapes = x }) ++ (texts h.entries ++ device_texts 0 i.devices.items)) (sym (whole_shapes h all)) in
     let m : MachineState = read_machine ds i in
     let layout : layout_of m ≡ layout_in opening = read_layout h all sound in
     let size : pages_of m ≡ opening.pages = omega (arith, h.taken.ram_size) in
@@ -205,10 +217,13 @@ whole_stream ds held opening i w sound honest =
       };
     }
 
-pub whole_for : (ds : List DiskState) (held : List ℕ) (opening : Opening) (i : Intake) → IsEnded ds opening i held → IsWholeFor (sizes_in ds) held
+pub whole_for : (ds : List DiskState) (held : List ℕ) (opening : Opened) (i : Intake) → IsEnded ds opening i held → IsWholeFor opening.base (sizes_in ds) held
 whole_for ds held opening i w = record {
   opening = opening;
   before = w.before;
   front = front_of held (spelled_record (commit (sha256 (header opening ++ texts w.before)))) w.read (w.whole ∙ ap (λ (x : List ℕ). w.front ++ spelled_record (commit (sha256 x))) w.read.whole);
   complete = w.complete;
 }
+
+pub whole_come : (base : ℕ) (ds : List DiskState) (held : List ℕ) (i : Intake) → HasCome base ds held i → IsWholeFor base (sizes_in ds) held
+whole_come base ds held i h = subst (λ (b : ℕ). IsWholeFor b (sizes_in ds) held) h.based (whole_for ds held h.opening i h.ended)

@@ -5,28 +5,28 @@ use Rattle.std.specs.Prelude.{All}
 use Rattle.std.specs.List.{AllByRecursion}
 use Rattle.sha2.specs.Sha256.{sha256}
 use Rattle.sha2.proofs.Facts256.{length-sha256}
-use Rattle.wire.specs.Header.{header, Begins, spelled_shapes, Opening}
+use Rattle.wire.specs.Header.{spelled_shapes}
+use Rattle.receiver.specs.Opened.{Opened, header, said_by}
+use Rattle.wire.specs.Header as told
 use Rattle.wire.specs.Records.{Record, spelled_record}
 use Rattle.wire.specs.Stream.{texts}
 use Rattle.machine.specs.Sound.{IsSoundShape}
 use Rattle.machine.specs.declared.shape.Shape.{Shape}
-use Rattle.wire.proofs.HeaderLemmas.{header_of-spelled}
 use Rattle.wire.proofs.PartLengths.{length_header}
 use Rattle.wire.proofs.Spelling.{head_same, tail_same, split_same, number_same}
-use Rattle.wire.proofs.Unique.{alike}
 use Rattle.receiver.specs.Good.{AreGood, devices_in}
 use Rattle.machine.specs.Shapes.{disk_sizes}
 use Rattle.receiver.specs.Faults.{MayTag, IsComplete, IsLate, IsPageTag, Opens, IsBadTag, IsMissing, IsBadPage, IsLongZeros, IsBadSector, IsBadRound, IsBadHead, IsBadBody, IsBadDigest, IsTrailing, IsFault, IsRecordFault, IsBadMagic, IsBadVersion, IsBadCount, IsBadShape, IsMismatch, IsNoShape, IsHeaderFault, Fault}
 use Rattle.receiver.specs.declared.recv_error.RecvError.{RecvError}
 use Rattle.receiver.specs.declared.recv_error.RecvError.TheVariants as errors
 use Rattle.receiver.proofs.Quiet.{no_page}
-use Rattle.receiver.proofs.Aligned.{LongerRecords, records_led, good_spell, next_good, no_fault_here}
+use Rattle.receiver.proofs.Aligned.{one_opening, LongerRecords, records_led, good_spell, next_good, no_fault_here}
 use Rattle.receiver.proofs.Heads.{no_header_fault, header_same, says_of, shapes_led, sound_behind, LongerShapes, bad_lengths, no_bad_spelled}
 
 abbrev pub Same : RecvError → ℕ → RecvError → ℕ → Type 0
 Same k p j q = (k ≡ j) × (p ≡ q)
 
-by_tag : (G : RecvError → ℕ → Type 0) (opening : Opening) (before : List Record) (tail : List ℕ) (tag : ℕ) (more : List ℕ) → Opens opening before tail tag more
+by_tag : (G : RecvError → ℕ → Type 0) (opening : Opened) (before : List Record) (tail : List ℕ) (tag : ℕ) (more : List ℕ) → Opens opening before tail tag more
     → (IsPageTag tag → (q : ℕ) → IsBadPage opening before tail q ⊎ IsLongZeros opening before tail q → G errors.BadPage q)
     → (tag ≡ 2 → (q : ℕ) → IsBadSector opening before tail q → G errors.BadSector q)
     → (tag ≡ 3 → (q : ℕ) → IsBadRound opening before tail q → G errors.BadRound q)
@@ -52,7 +52,7 @@ by_tag G opening before tail tag more o p s r d b c t errors.DiskFailed q h = ab
 by_tag G opening before tail tag more o p s r d b c t errors.NoMemory q h = absurd h
 by_tag G opening before tail tag more o p s r d b c t errors.AlreadyFailed q h = absurd h
 
-one_tag : (opening : Opening) (before : List Record) (tail : List ℕ) (p : ℕ) → IsBadTag opening before tail p → (j : RecvError) (q : ℕ) → IsFault opening before tail j q → Same errors.BadTag p j q
+one_tag : (opening : Opened) (before : List Record) (tail : List ℕ) (p : ℕ) → IsBadTag opening before tail p → (j : RecvError) (q : ℕ) → IsFault opening before tail j q → Same errors.BadTag p j q
 one_tag opening before tail p f errors.BadMagic q h = absurd h
 one_tag opening before tail p f errors.BadVersion q h = absurd h
 one_tag opening before tail p f errors.BadShape q h = absurd h
@@ -72,7 +72,7 @@ one_tag opening before tail p f errors.DiskFailed q h = absurd h
 one_tag opening before tail p f errors.NoMemory q h = absurd h
 one_tag opening before tail p f errors.AlreadyFailed q h = absurd h
 
-one_missing : (opening : Opening) (before : List Record) (tail : List ℕ) (p : ℕ) → IsMissing opening before tail p → (j : RecvError) (q : ℕ) → IsFault opening before tail j q → Same errors.Missing p j q
+one_missing : (opening : Opened) (before : List Record) (tail : List ℕ) (p : ℕ) → IsMissing opening before tail p → (j : RecvError) (q : ℕ) → IsFault opening before tail j q → Same errors.Missing p j q
 one_missing opening before tail p f errors.BadMagic q h = absurd h
 one_missing opening before tail p f errors.BadVersion q h = absurd h
 one_missing opening before tail p f errors.BadShape q h = absurd h
@@ -92,19 +92,19 @@ one_missing opening before tail p f errors.DiskFailed q h = absurd h
 one_missing opening before tail p f errors.NoMemory q h = absurd h
 one_missing opening before tail p f errors.AlreadyFailed q h = absurd h
 
-head_body : (opening : Opening) (before : List Record) (tail : List ℕ) (p q : ℕ) → IsBadHead opening before tail p → IsBadBody opening before tail q → ⊥
+head_body : (opening : Opened) (before : List Record) (tail : List ℕ) (p q : ℕ) → IsBadHead opening before tail p → IsBadBody opening before tail q → ⊥
 head_body opening before tail p q f h =
     let t = tail_same (sym f.opens.whole ∙ h.opens.whole) in
     let s = number_same 4 f.len (length h.body) f.more (h.body ++ h.more) f.fits (omega (arith, h.few)) (tail_same t) in
     f.never (record { next = head_same t; few = omega (arith, h.few, s.0) })
 
-body_body : (opening : Opening) (before : List Record) (tail : List ℕ) (p q : ℕ) → IsBadBody opening before tail p → IsBadBody opening before tail q → p ≡ q
+body_body : (opening : Opened) (before : List Record) (tail : List ℕ) (p q : ℕ) → IsBadBody opening before tail p → IsBadBody opening before tail q → p ≡ q
 body_body opening before tail p q f h =
     let t = tail_same (sym f.opens.whole ∙ h.opens.whole) in
     let s = number_same 4 (length f.body) (length h.body) (f.body ++ f.more) (h.body ++ h.more) (omega (arith, f.few)) (omega (arith, h.few)) (tail_same t) in
     omega (arith, f.there, h.there, s.0)
 
-digest_trailing : (opening : Opening) (before : List Record) (tail : List ℕ) (p q : ℕ) → IsBadDigest opening before tail p → IsTrailing opening before tail q → ⊥
+digest_trailing : (opening : Opened) (before : List Record) (tail : List ℕ) (p q : ℕ) → IsBadDigest opening before tail p → IsTrailing opening before tail q → ⊥
 digest_trailing opening before tail p q f h =
     let t : f.digest ++ f.more ≡ sha256 (header opening ++ texts before) ++ (h.byte ∷ h.more) = tail_same (sym f.opens.whole ∙ h.opens.whole) in
     f.never (split_same f.digest (sha256 (header opening ++ texts before)) f.more (h.byte ∷ h.more) (f.long ∙ sym (length-sha256 (header opening ++ texts before))) t).0
@@ -112,20 +112,20 @@ digest_trailing opening before tail p q f h =
 page_not : (tag : ℕ) → IsPageTag tag → (t : ℕ) → 2 ≤ t → t ≤ 5 → tag ≡ t → ⊥
 page_not tag names t low high e = no_page t low high (subst IsPageTag e names)
 
-zeros_number : (opening : Opening) (before : List Record) (tail : List ℕ) (p q : ℕ) → IsBadPage opening before tail p → IsLongZeros opening before tail q → ⊥
+zeros_number : (opening : Opened) (before : List Record) (tail : List ℕ) (p q : ℕ) → IsBadPage opening before tail p → IsLongZeros opening before tail q → ⊥
 zeros_number opening before tail p q f h =
     let s = number_same 4 f.number h.number f.more (h.bytes ++ h.more) f.fits h.fits (tail_same (sym f.opens.whole ∙ h.opens.whole)) in
     omega (arith, s.0, f.never, h.within)
 
-page_page : (opening : Opening) (before : List Record) (tail : List ℕ) (p q : ℕ) → IsBadPage opening before tail p → IsBadPage opening before tail q ⊎ IsLongZeros opening before tail q → p ≡ q
+page_page : (opening : Opened) (before : List Record) (tail : List ℕ) (p q : ℕ) → IsBadPage opening before tail p → IsBadPage opening before tail q ⊎ IsLongZeros opening before tail q → p ≡ q
 page_page opening before tail p q f (inl h) = f.there ∙ sym h.there
 page_page opening before tail p q f (inr h) = absurd (zeros_number opening before tail p q f h)
 
-zeros_page : (opening : Opening) (before : List Record) (tail : List ℕ) (p q : ℕ) → IsLongZeros opening before tail p → IsBadPage opening before tail q ⊎ IsLongZeros opening before tail q → p ≡ q
+zeros_page : (opening : Opened) (before : List Record) (tail : List ℕ) (p q : ℕ) → IsLongZeros opening before tail p → IsBadPage opening before tail q ⊎ IsLongZeros opening before tail q → p ≡ q
 zeros_page opening before tail p q f (inl h) = absurd (zeros_number opening before tail q p h f)
 zeros_page opening before tail p q f (inr h) = f.there ∙ sym h.there
 
-one_local : (opening : Opening) (before : List Record) (tail : List ℕ) (k : RecvError) (p : ℕ) → IsFault opening before tail k p → (j : RecvError) (q : ℕ) → IsFault opening before tail j q → Same k p j q
+one_local : (opening : Opened) (before : List Record) (tail : List ℕ) (k : RecvError) (p : ℕ) → IsFault opening before tail k p → (j : RecvError) (q : ℕ) → IsFault opening before tail j q → Same k p j q
 one_local opening before tail errors.BadMagic p f = absurd f
 one_local opening before tail errors.BadVersion p f = absurd f
 one_local opening before tail errors.BadShape p f = absurd f
@@ -145,7 +145,7 @@ one_local opening before tail errors.DiskFailed p f = absurd f
 one_local opening before tail errors.NoMemory p f = absurd f
 one_local opening before tail errors.AlreadyFailed p f = absurd f
 
-longer_one : (opening : Opening) (before others : List Record) (tail rest : List ℕ) (k j : RecvError) (p q : ℕ) → AreGood opening [] others → IsFault opening before tail k p → IsFault opening others rest j q
+longer_one : (opening : Opened) (before others : List Record) (tail rest : List ℕ) (k j : RecvError) (p q : ℕ) → AreGood opening [] others → IsFault opening before tail k p → IsFault opening others rest j q
     → (more : List Record) → others ≡ before ++ more → tail ≡ texts more ++ rest → (k ≡ j) × (length (texts before) + p ≡ length (texts others) + q)
 unfolding texts
 longer_one opening before others tail rest k j p q goods f h [] all left =
@@ -156,21 +156,19 @@ longer_one opening before others tail rest k j p q goods f h [] all left =
 longer_one opening before others tail rest k j p q goods f h (r ∷ more) all left =
     absurd (no_fault_here opening before tail (texts more ++ rest) r (next_good opening [] before more r (rw all at goods)) (left ∙ append_assoc (spelled_record r) (texts more) rest) k p f)
 
-led_one : (opening : Opening) (before others : List Record) (tail rest : List ℕ) (k j : RecvError) (p q : ℕ) → AreGood opening [] before → AreGood opening [] others → IsFault opening before tail k p → IsFault opening others rest j q
+led_one : (opening : Opened) (before others : List Record) (tail rest : List ℕ) (k j : RecvError) (p q : ℕ) → AreGood opening [] before → AreGood opening [] others → IsFault opening before tail k p → IsFault opening others rest j q
     → LongerRecords before others tail rest ⊎ LongerRecords others before rest tail → (k ≡ j) × (length (texts before) + p ≡ length (texts others) + q)
 led_one opening before others tail rest k j p q good goods f h (inl l) = longer_one opening before others tail rest k j p q goods f h l.more l.all l.left
 led_one opening before others tail rest k j p q good goods f h (inr l) = let o = longer_one opening others before rest tail j k q p good h f l.more l.all l.left in (sym o.0, sym o.1)
 
-one_record_fault : (sizes bytes : List ℕ) (k j : RecvError) (at bt : ℕ) → IsRecordFault sizes bytes k at → IsRecordFault sizes bytes j bt → Same k at j bt
-one_record_fault sizes bytes k j at bt f h =
-    let a = header_of-spelled bytes f.opening (texts f.before ++ f.tail) f.front.begins in
-    let b = header_of-spelled bytes h.opening (texts h.before ++ h.tail) h.front.begins in
-    let t = alike h.opening f.opening (texts h.before ++ h.tail) (texts f.before ++ f.tail) (sym b ∙ a) in
+one_record_fault : (base : ℕ) (sizes bytes : List ℕ) (k j : RecvError) (at bt : ℕ) → IsRecordFault base sizes bytes k at → IsRecordFault base sizes bytes j bt → Same k at j bt
+one_record_fault base sizes bytes k j at bt f h =
+    let t = one_opening bytes h.opening f.opening (texts h.before ++ h.tail) (texts f.before ++ f.tail) (h.front.based ∙ sym f.front.based) h.front.begins f.front.begins in
     let goods : AreGood f.opening [] h.before = rw t.0 at h.front.good in
     let fault : IsFault f.opening h.before h.tail j h.place = rw t.0 at h.fault in
     let one = led_one f.opening f.before h.before f.tail h.tail k j f.place h.place f.front.good goods f.fault fault
     (records_led f.before h.before f.tail h.tail (good_spell f.opening [] f.before f.front.good) (good_spell f.opening [] h.before goods) (sym t.1)) in
-    let heads : length (header h.opening) ≡ length (header f.opening) = ap (λ (o : Opening). length (header o)) t.0 in
+    let heads : length (header h.opening) ≡ length (header f.opening) = ap (λ (o : Opened). length (header o)) t.0 in
     (one.0, omega (arith, one.1, heads, f.there, h.there, length-append (header f.opening) (texts f.before), length-append (header h.opening) (texts h.before)))
 
 -- Headers.
@@ -265,7 +263,7 @@ one_shape_fault sizes bytes p f errors.DiskFailed q h = absurd h
 one_shape_fault sizes bytes p f errors.NoMemory q h = absurd h
 one_shape_fault sizes bytes p f errors.AlreadyFailed q h = absurd h
 
-header_length : {bytes x y : List ℕ} {o p : Opening} → Begins bytes o x → Begins bytes p y → length (header o) ≡ length (header p)
+header_length : {bytes x y : List ℕ} {o p : told.Opening} → told.Begins bytes o x → told.Begins bytes p y → length (told.header o) ≡ length (told.header p)
 header_length {o = o} {p = p} a b = omega (arith, length_header o, length_header p, ap (λ (z : List Shape). length (spelled_shapes z)) (header_same a b))
 
 one_mismatch : (sizes bytes : List ℕ) (p : ℕ) → IsMismatch sizes bytes p → (j : RecvError) (q : ℕ) → IsHeaderFault sizes bytes j q → Same errors.ShapeMismatch p j q
@@ -306,8 +304,8 @@ one_header_fault sizes bytes errors.DiskFailed p f = absurd f
 one_header_fault sizes bytes errors.NoMemory p f = absurd f
 one_header_fault sizes bytes errors.AlreadyFailed p f = absurd f
 
-pub one_fault : (sizes bytes : List ℕ) (k j : RecvError) (at bt : ℕ) → Fault sizes bytes k at → Fault sizes bytes j bt → Same k at j bt
-one_fault sizes bytes k j at bt (inl f) (inl h) = one_header_fault sizes bytes k at f j bt h
-one_fault sizes bytes k j at bt (inl f) (inr h) = absurd (no_header_fault sizes bytes h.opening (texts h.before ++ h.tail) h.front.begins h.front.fits k at f)
-one_fault sizes bytes k j at bt (inr f) (inl h) = absurd (no_header_fault sizes bytes f.opening (texts f.before ++ f.tail) f.front.begins f.front.fits j bt h)
-one_fault sizes bytes k j at bt (inr f) (inr h) = one_record_fault sizes bytes k j at bt f h
+pub one_fault : (base : ℕ) (sizes bytes : List ℕ) (k j : RecvError) (at bt : ℕ) → Fault base sizes bytes k at → Fault base sizes bytes j bt → Same k at j bt
+one_fault base sizes bytes k j at bt (inl f) (inl h) = one_header_fault sizes bytes k at f j bt h
+one_fault base sizes bytes k j at bt (inl f) (inr h) = absurd (no_header_fault sizes bytes (said_by h.opening) (texts h.before ++ h.tail) h.front.begins h.front.fits k at f)
+one_fault base sizes bytes k j at bt (inr f) (inl h) = absurd (no_header_fault sizes bytes (said_by f.opening) (texts f.before ++ f.tail) f.front.begins f.front.fits j bt h)
+one_fault base sizes bytes k j at bt (inr f) (inr h) = one_record_fault base sizes bytes k j at bt f h

@@ -3,7 +3,9 @@ use Rattle.std.proofs.Common.{◌≡◌, ℕ, ◌≤◌, inl, inr, List, [], ◌
 use Rattle.std.proofs.lemmas.List.{length-append, length-drop, drop-append-le}
 use Rattle.sha2.specs.Sha256.{sha256}
 use Rattle.sha2.proofs.Facts256.{length-sha256}
-use Rattle.wire.specs.Header.{header, spelled_shapes, Opening, IsVersion}
+use Rattle.wire.specs.Header.{spelled_shapes, IsVersion}
+use Rattle.receiver.specs.Opened.{Opened, header}
+use Rattle.wire.specs.Header as told
 use Rattle.wire.specs.Numbers.{digits}
 use Rattle.wire.specs.Records.{Record}
 use Rattle.wire.specs.Stream.{texts}
@@ -29,13 +31,13 @@ behind x c [] z e le = record { w = x; left = refl; right = sym e }
 behind [] c (b ∷ ys) z e le = absurd (omega (arith, le))
 behind (a ∷ xs) c (b ∷ ys) z e le = behind_more a b xs c ys z (head_same e) (behind xs c ys z (tail_same e) (omega (arith, le)))
 
-opens_on : (opening : Opening) (before : List Record) (tail c : List ℕ) (tag : ℕ) (more other : List ℕ) → Opens opening before tail tag more → more ++ c ≡ other → Opens opening before (tail ++ c) tag other
+opens_on : (opening : Opened) (before : List Record) (tail c : List ℕ) (tag : ℕ) (more other : List ℕ) → Opens opening before tail tag more → more ++ c ≡ other → Opens opening before (tail ++ c) tag other
 opens_on opening before tail c tag more other o e = record { whole = ap (λ (x : List ℕ). x ++ c) o.whole ∙ ap (λ (x : List ℕ). tag ∷ x) e; may = o.may; complete = o.complete }
 
-opens_at : (opening : Opening) (before : List Record) (long tail : List ℕ) (tag : ℕ) (more other : List ℕ) → Opens opening before long tag more → tail ≡ tag ∷ other → Opens opening before tail tag other
+opens_at : (opening : Opened) (before : List Record) (long tail : List ℕ) (tag : ℕ) (more other : List ℕ) → Opens opening before long tag more → tail ≡ tag ∷ other → Opens opening before tail tag other
 opens_at opening before long tail tag more other o e = record { whole = e; may = o.may; complete = o.complete }
 
-stays_here : (opening : Opening) (before : List Record) (tail c : List ℕ) (k : RecvError) (p : ℕ) → IsFault opening before tail k p → IsFault opening before (tail ++ c) k p
+stays_here : (opening : Opened) (before : List Record) (tail c : List ℕ) (k : RecvError) (p : ℕ) → IsFault opening before tail k p → IsFault opening before (tail ++ c) k p
 stays_here opening before tail c errors.BadMagic p h = absurd h
 stays_here opening before tail c errors.BadVersion p h = absurd h
 stays_here opening before tail c errors.BadShape p h = absurd h
@@ -55,7 +57,7 @@ stays_here opening before tail c errors.DiskFailed p h = absurd h
 stays_here opening before tail c errors.NoMemory p h = absurd h
 stays_here opening before tail c errors.AlreadyFailed p h = absurd h
 
-pub holds_here : (opening : Opening) (before : List Record) (tail c : List ℕ) (k : RecvError) (p : ℕ) → p ≤ length tail → IsFault opening before (tail ++ c) k p → IsFault opening before tail k p
+pub holds_here : (opening : Opened) (before : List Record) (tail c : List ℕ) (k : RecvError) (p : ℕ) → p ≤ length tail → IsFault opening before (tail ++ c) k p → IsFault opening before tail k p
 holds_here opening before tail c errors.BadMagic p le h = absurd h
 holds_here opening before tail c errors.BadVersion p le h = absurd h
 holds_here opening before tail c errors.BadShape p le h = absurd h
@@ -118,7 +120,7 @@ header_stays sizes b c errors.BadMagic p h = record { long = omega (arith, h.lon
 header_stays sizes b c errors.BadVersion p h = record { long = omega (arith, h.long, length-append b c); magic = number_at-append 0 4 b c (omega (arith, h.long)) ∙ h.magic; never = λ e. h.never (subst IsVersion (number_at-append 4 4 b c (omega (arith, h.long))) e); there = h.there }
 header_stays sizes b c errors.BadShape p (inl h) = inl (record { pages = h.pages; count = h.count; says = says_on b c h.pages h.count h.says; never = h.never; there = h.there })
 header_stays sizes b c errors.BadShape p (inr h) = inr (record { pages = h.pages; count = h.count; shapes = h.shapes; bad = h.bad; more = h.more ++ c; says = says_on b c h.pages h.count h.says; may = h.may; fewer = h.fewer; sound = h.sound; whole = drop-append-le 16 b c h.says.long ∙ ap (λ (x : List ℕ). x ++ c) h.whole ∙ append_assoc (spelled_shapes h.shapes) (h.bad ++ h.more) c ∙ ap (λ (x : List ℕ). spelled_shapes h.shapes ++ x) (append_assoc h.bad h.more c); never = h.never; there = h.there })
-header_stays sizes b c errors.ShapeMismatch p h = record { opening = h.opening; more = h.more ++ c; begins = record { good = h.begins.good; whole = ap (λ (x : List ℕ). x ++ c) h.begins.whole ∙ append_assoc (header h.opening) h.more c }; never = h.never; there = h.there }
+header_stays sizes b c errors.ShapeMismatch p h = record { opening = h.opening; more = h.more ++ c; begins = record { good = h.begins.good; whole = ap (λ (x : List ℕ). x ++ c) h.begins.whole ∙ append_assoc (told.header h.opening) h.more c }; never = h.never; there = h.there }
 header_stays sizes b c errors.BadTag p h = absurd h
 header_stays sizes b c errors.BadPage p h = absurd h
 header_stays sizes b c errors.BadSector p h = absurd h
@@ -141,7 +143,7 @@ header_holds sizes b c errors.BadShape p le (inr h) =
     let d = behind (drop 16 b) c (spelled_shapes h.shapes ++ h.bad) h.more (sym (drop-append-le 16 b c long) ∙ h.whole ∙ sym (append_assoc (spelled_shapes h.shapes) h.bad h.more)) (omega (arith, le, h.there, length-drop 16 b, length-append (spelled_shapes h.shapes) h.bad)) in
     inr (record { pages = h.pages; count = h.count; shapes = h.shapes; bad = h.bad; more = d.w; says = says_at b c h.pages h.count long h.says; may = h.may; fewer = h.fewer; sound = h.sound; whole = d.left ∙ append_assoc (spelled_shapes h.shapes) h.bad d.w; never = h.never; there = h.there })
 header_holds sizes b c errors.ShapeMismatch p le h =
-    let d = behind b c (header h.opening) h.more h.begins.whole (omega (arith, le, h.there)) in
+    let d = behind b c (told.header h.opening) h.more h.begins.whole (omega (arith, le, h.there)) in
     record { opening = h.opening; more = d.w; begins = record { good = h.begins.good; whole = d.left }; never = h.never; there = h.there }
 header_holds sizes b c errors.BadTag p le h = absurd h
 header_holds sizes b c errors.BadPage p le h = absurd h
@@ -156,8 +158,8 @@ header_holds sizes b c errors.DiskFailed p le h = absurd h
 header_holds sizes b c errors.NoMemory p le h = absurd h
 header_holds sizes b c errors.AlreadyFailed p le h = absurd h
 
-record_stays : (sizes b c : List ℕ) (k : RecvError) (at : ℕ) → IsRecordFault sizes b k at → IsRecordFault sizes (b ++ c) k at
-record_stays sizes b c k at h = record {
+record_stays : (base : ℕ) (sizes b c : List ℕ) (k : RecvError) (at : ℕ) → IsRecordFault base sizes b k at → IsRecordFault base sizes (b ++ c) k at
+record_stays base sizes b c k at h = record {
   opening = h.opening;
   before = h.before;
   tail = h.tail ++ c;
@@ -167,6 +169,7 @@ record_stays sizes b c k at h = record {
       good = h.front.begins.good;
       whole = ap (λ (x : List ℕ). x ++ c) h.front.begins.whole ∙ append_assoc (header h.opening) (texts h.before ++ h.tail) c ∙ ap (λ (x : List ℕ). header h.opening ++ x) (append_assoc (texts h.before) h.tail c);
     };
+    based = h.front.based;
     fits = h.front.fits;
     good = h.front.good;
   };
@@ -174,8 +177,8 @@ record_stays sizes b c k at h = record {
   there = h.there;
 }
 
-record_holds : (sizes b c : List ℕ) (k : RecvError) (at : ℕ) → at ≤ length b → IsRecordFault sizes (b ++ c) k at → IsRecordFault sizes b k at
-record_holds sizes b c k at le h =
+record_holds : (base : ℕ) (sizes b c : List ℕ) (k : RecvError) (at : ℕ) → at ≤ length b → IsRecordFault base sizes (b ++ c) k at → IsRecordFault base sizes b k at
+record_holds base sizes b c k at le h =
     let front = header h.opening ++ texts h.before in
     let d = behind b c front h.tail (h.front.begins.whole ∙ sym (append_assoc (header h.opening) (texts h.before) h.tail)) (omega (arith, le, h.there)) in
     let fault : IsFault h.opening h.before (d.w ++ c) k h.place = rw d.right at h.fault in
@@ -184,15 +187,15 @@ record_holds sizes b c k at le h =
       before = h.before;
       tail = d.w;
       place = h.place;
-      front = record { begins = record { good = h.front.begins.good; whole = d.left ∙ append_assoc (header h.opening) (texts h.before) d.w }; fits = h.front.fits; good = h.front.good };
+      front = record { begins = record { good = h.front.begins.good; whole = d.left ∙ append_assoc (header h.opening) (texts h.before) d.w }; based = h.front.based; fits = h.front.fits; good = h.front.good };
       fault = holds_here h.opening h.before d.w c k h.place (omega (arith, le, h.there, ap length d.left, length-append front d.w)) fault;
       there = h.there;
     }
 
-pub stays : (sizes b c : List ℕ) (k : RecvError) (at : ℕ) → Fault sizes b k at → Fault sizes (b ++ c) k at
-stays sizes b c k at (inl h) = inl (header_stays sizes b c k at h)
-stays sizes b c k at (inr h) = inr (record_stays sizes b c k at h)
+pub stays : (base : ℕ) (sizes b c : List ℕ) (k : RecvError) (at : ℕ) → Fault base sizes b k at → Fault base sizes (b ++ c) k at
+stays base sizes b c k at (inl h) = inl (header_stays sizes b c k at h)
+stays base sizes b c k at (inr h) = inr (record_stays base sizes b c k at h)
 
-pub holds : (sizes b c : List ℕ) (k : RecvError) (at : ℕ) → at ≤ length b → Fault sizes (b ++ c) k at → Fault sizes b k at
-holds sizes b c k at le (inl h) = inl (header_holds sizes b c k at le h)
-holds sizes b c k at le (inr h) = inr (record_holds sizes b c k at le h)
+pub holds : (base : ℕ) (sizes b c : List ℕ) (k : RecvError) (at : ℕ) → at ≤ length b → Fault base sizes (b ++ c) k at → Fault base sizes b k at
+holds base sizes b c k at le (inl h) = inl (header_holds sizes b c k at le h)
+holds base sizes b c k at le (inr h) = inr (record_holds base sizes b c k at le h)

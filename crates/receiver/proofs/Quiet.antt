@@ -8,7 +8,7 @@ use Rattle.receiver.specs.Faults.{MayTag, IsComplete, IsLate, IsPageTag, Opens, 
 use Rattle.receiver.specs.Fed.{Waits}
 use Rattle.receiver.specs.declared.recv_error.RecvError.{RecvError}
 use Rattle.receiver.specs.declared.recv_error.RecvError.TheVariants as errors
-use Rattle.wire.specs.Header.{Opening}
+use Rattle.receiver.specs.Opened.{Opened}
 
 -- No other tag is that of a page.
 pub no_page : (tag : ℕ) → 2 ≤ tag → tag ≤ 5 → ¬ (IsPageTag tag)
@@ -16,7 +16,7 @@ no_page tag low high (inl e) = omega (arith, low, e)
 no_page tag low high (inr e) = omega (arith, high, e)
 
 -- Where a record of its tag may stand, bytes begin with a fault of that tag alone.
-pub quiet : (opening : Opening) (before : List Record) (tail : List ℕ) (tag : ℕ) (more : List ℕ) → Opens opening before tail tag more
+pub quiet : (opening : Opened) (before : List Record) (tail : List ℕ) (tag : ℕ) (more : List ℕ) → Opens opening before tail tag more
     → (IsPageTag tag → (place : ℕ) → ¬ (IsBadPage opening before tail place ⊎ IsLongZeros opening before tail place))
     → (tag ≡ 2 → (place : ℕ) → ¬ (IsBadSector opening before tail place))
     → (tag ≡ 3 → (place : ℕ) → ¬ (IsBadRound opening before tail place))
@@ -44,7 +44,7 @@ quiet opening before tail tag more o p s r d c errors.DiskFailed place h = h
 quiet opening before tail tag more o p s r d c errors.NoMemory place h = h
 quiet opening before tail tag more o p s r d c errors.AlreadyFailed place h = h
 
-nothing_faulty : (opening : Opening) (before : List Record) (tail : List ℕ) → length tail ≡ 0 → (k : RecvError) (place : ℕ) → ¬ (IsFault opening before tail k place)
+nothing_faulty : (opening : Opened) (before : List Record) (tail : List ℕ) → length tail ≡ 0 → (k : RecvError) (place : ℕ) → ¬ (IsFault opening before tail k place)
 nothing_faulty opening before tail none errors.BadMagic place h = h
 nothing_faulty opening before tail none errors.BadVersion place h = h
 nothing_faulty opening before tail none errors.BadShape place h = h
@@ -65,5 +65,5 @@ nothing_faulty opening before tail none errors.NoMemory place h = h
 nothing_faulty opening before tail none errors.AlreadyFailed place h = h
 
 -- No bytes wait.
-pub nothing_waits : (opening : Opening) (before : List Record) (tail : List ℕ) → length tail ≡ 0 → Waits opening before tail
+pub nothing_waits : (opening : Opened) (before : List Record) (tail : List ℕ) → length tail ≡ 0 → Waits opening before tail
 nothing_waits opening before tail none = record { no_record = no_record opening.version tail (nothing_read tail none).none; no_fault = nothing_faulty opening before tail none }

@@ -13,7 +13,7 @@ use Rattle.receiver.specs.Fed.{HasRead}
 use Rattle.receiver.specs.Spots.{disks_before}
 use Rattle.receiver.specs.declared.intake.Intake.{Intake}
 use Rattle.receiver.proofs.Sectors.{disk_below, disk_size, marks_count, marks_length}
-use Rattle.wire.specs.Header.{Opening, layout_in}
+use Rattle.receiver.specs.Opened.{Opened, layout_in}
 
 length-firsts : (first : ℕ) (sizes : List ℕ) → length (firsts_from first sizes) ≡ length sizes
 length-firsts first [] = refl
@@ -38,7 +38,7 @@ pub record IsThere (ds : List DiskState) (i : Intake) (dev n : ℕ) : Type 0 whe
   pub disk : disks_before i.shapes.items dev < length ds
   pub sector : n < get_or (sizes_in ds) (disks_before i.shapes.items dev) 0
 
-there_by : (ds : List DiskState) (front : List ℕ) (opening : Opening) (before : List Record) (i : Intake) (dev n : ℕ) → HasRead ds opening before i front → i.shapes.items ≡ opening.shapes → n < get_or (map sector_count opening.shapes) dev 0 → IsThere ds i dev n
+there_by : (ds : List DiskState) (front : List ℕ) (opening : Opened) (before : List Record) (i : Intake) (dev n : ℕ) → HasRead ds opening before i front → i.shapes.items ≡ opening.shapes → n < get_or (map sector_count opening.shapes) dev 0 → IsThere ds i dev n
 there_by ds front opening before i dev n h are has =
     let low = dev_below opening.shapes dev n has in
     let k = disks_before opening.shapes dev in
@@ -57,5 +57,5 @@ there_by ds front opening before i dev n h are has =
       sector = rw are size;
     }
 
-pub there : (ds : List DiskState) (front : List ℕ) (opening : Opening) (before : List Record) (i : Intake) (dev n : ℕ) → HasRead ds opening before i front → n < get_or (map sector_count opening.shapes) dev 0 → IsThere ds i dev n
+pub there : (ds : List DiskState) (front : List ℕ) (opening : Opened) (before : List Record) (i : Intake) (dev n : ℕ) → HasRead ds opening before i front → n < get_or (map sector_count opening.shapes) dev 0 → IsThere ds i dev n
 there ds front opening before i dev n h has = there_by ds front opening before i dev n h h.shapes_are has

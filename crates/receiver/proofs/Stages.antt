@@ -1,11 +1,11 @@
 -- From one stage to the next.
-use Rattle.std.proofs.Common.{◌≡◌, ◌≢◌, ℕ, ◌+◌, ◌*◌, ◌<◌, ◌≤◌, false, inl, List, [], ◌∷◌, ◌++◌, length, take, drop, map, replicate, refl, sym, ap, ◌∙◌, append_assoc, append-nil, arith}
+use Rattle.std.proofs.Common.{◌≡◌, ◌≢◌, ℕ, ◌+◌, ◌*◌, ◌<◌, ◌≤◌, false, inl, List, [], ◌∷◌, ◌++◌, length, take, drop, map, replicate, refl, sym, ap, subst, ◌∙◌, append_assoc, append-nil, arith}
 use Rattle.std.proofs.lemmas.List.{take_at, length-append, length-drop, length-replicate, take-append-drop, drop-drop}
 use Rattle.std.proofs.Math.Seq.{take-add}
 use Rattle.sha2.specs.Hashers.{Holds256}
 use Rattle.sha2.specs.Sha256.{sha256}
 use Rattle.sha2.specs.declared.Sha256.{Sha256}
-use Rattle.wire.specs.Header.{header, Begins, Opening, layout_in}
+use Rattle.receiver.specs.Opened.{Begins, Opened, header, layout_in, said_by}
 use Rattle.wire.specs.Records.{Record}
 use Rattle.wire.specs.Stream.{texts, rounds}
 use Rattle.blk.specs.Disk.{DiskState}
@@ -33,15 +33,16 @@ new_marks_fit : (sizes : List ℕ) → map length (map (λ n. replicate n false)
 new_marks_fit [] = refl
 new_marks_fit (n ∷ sizes) = rw (length-replicate n false, new_marks_fit sizes) refl
 
-pub new_read : (ds : List DiskState) (bytes rest : List ℕ) (opening : Opening) (i : Intake) → Begins bytes opening rest → sizes_in ds ≡ disk_sizes opening.shapes → length i.ram.bytes ≡ 4096 * opening.pages → i.named ≡ replicate (size_of (layout_in opening)) false → i.rounds ≡ 0
-    → i.version ≡ opening.version → i.shapes.items ≡ opening.shapes → i.devices.items ≡ [] → i.firsts.items ≡ firsts_of (layout_in opening) → i.bad.items ≡ map (λ n. replicate n false) (sizes_in ds) → HasRead ds opening [] i (header opening)
+pub new_read : (ds : List DiskState) (bytes rest : List ℕ) (opening : Opened) (i : Intake) → Begins bytes opening rest → sizes_in ds ≡ disk_sizes opening.shapes → length i.ram.bytes ≡ 4096 * opening.pages → i.named ≡ replicate (size_of (layout_in opening)) false → i.rounds ≡ 0
+    → i.terms.version ≡ opening.version → i.terms.base ≡ opening.base → i.shapes.items ≡ opening.shapes → i.devices.items ≡ [] → i.firsts.items ≡ firsts_of (layout_in opening) → i.bad.items ≡ map (λ n. replicate n false) (sizes_in ds) → HasRead ds opening [] i (header opening)
 unfolding AreGood texts rounds device_records
-new_read ds bytes rest opening i b fits size marks ends version same none firsts bad = record {
+new_read ds bytes rest opening i b fits size marks ends version based same none firsts bad = record {
   head = b.good;
   fits = fits;
   good = tt;
   whole = sym (append-nil (header opening));
   version_is = version;
+  base_is = based;
   shapes_are = same;
   firsts_are = firsts;
   marks_are = rw bad (new_marks_fit (sizes_in ds));
@@ -56,66 +57,66 @@ new_read ds bytes rest opening i b fits size marks ends version same none firsts
   has = rw none tt;
 }
 
-pub head_taken : (held : List ℕ) (opening : Opening) (len : ℕ) → len ≤ length held → Begins held opening (drop len held) → take len held ≡ header opening
+pub head_taken : (held : List ℕ) (opening : Opened) (len : ℕ) → len ≤ length held → Begins held opening (drop len held) → take len held ≡ header opening
 head_taken held opening len le b =
     let size : length (header opening) ≡ len = omega (arith, le, ap length b.whole, length-append (header opening) (drop len held), length-drop len held) in
     ap (take len) b.whole ∙ take_at (header opening) (drop len held) len size
 
-pub mismatch : (sizes held rest : List ℕ) (opening : Opening) → Begins held opening rest → sizes ≢ disk_sizes opening.shapes → (at : ℕ) × Fault sizes held errors.ShapeMismatch at
-mismatch sizes held rest opening b never = (length (header opening), inl (record { opening = opening; more = rest; begins = b; never = never; there = refl }))
+pub mismatch : (base : ℕ) (sizes held rest : List ℕ) (opening : Opened) → Begins held opening rest → sizes ≢ disk_sizes opening.shapes → (at : ℕ) × Fault base sizes held errors.ShapeMismatch at
+mismatch base sizes held rest opening b never = (length (header opening), inl (record { opening = said_by opening; more = rest; begins = b; never = never; there = refl }))
 
-header_told : (sizes held : List ℕ) (e : RecvError) → TellsHead e ((sizes : List ℕ) → (at : ℕ) × IsHeaderFault sizes held e at) → Tells e ((at : ℕ) × Fault sizes held e at)
-header_told sizes held errors.BadMagic f = ((f sizes).0, inl (f sizes).1)
-header_told sizes held errors.BadVersion f = ((f sizes).0, inl (f sizes).1)
-header_told sizes held errors.BadShape f = ((f sizes).0, inl (f sizes).1)
-header_told sizes held errors.ShapeMismatch f = ((f sizes).0, inl (f sizes).1)
-header_told sizes held errors.BadTag f = ((f sizes).0, inl (f sizes).1)
-header_told sizes held errors.BadPage f = ((f sizes).0, inl (f sizes).1)
-header_told sizes held errors.BadSector f = ((f sizes).0, inl (f sizes).1)
-header_told sizes held errors.BadRound f = ((f sizes).0, inl (f sizes).1)
-header_told sizes held errors.BadDevice f = ((f sizes).0, inl (f sizes).1)
-header_told sizes held errors.BadDigest f = ((f sizes).0, inl (f sizes).1)
-header_told sizes held errors.Missing f = ((f sizes).0, inl (f sizes).1)
-header_told sizes held errors.Trailing f = ((f sizes).0, inl (f sizes).1)
-header_told sizes held errors.Truncated f = ((f sizes).0, inl (f sizes).1)
-header_told sizes held errors.DiskFailed f = tt
-header_told sizes held errors.NoMemory f = tt
-header_told sizes held errors.AlreadyFailed f = ((f sizes).0, inl (f sizes).1)
+header_told : (base : ℕ) (sizes held : List ℕ) (e : RecvError) → TellsHead e ((sizes : List ℕ) → (at : ℕ) × IsHeaderFault sizes held e at) → Tells e ((at : ℕ) × Fault base sizes held e at)
+header_told base sizes held errors.BadMagic f = ((f sizes).0, inl (f sizes).1)
+header_told base sizes held errors.BadVersion f = ((f sizes).0, inl (f sizes).1)
+header_told base sizes held errors.BadShape f = ((f sizes).0, inl (f sizes).1)
+header_told base sizes held errors.ShapeMismatch f = ((f sizes).0, inl (f sizes).1)
+header_told base sizes held errors.BadTag f = ((f sizes).0, inl (f sizes).1)
+header_told base sizes held errors.BadPage f = ((f sizes).0, inl (f sizes).1)
+header_told base sizes held errors.BadSector f = ((f sizes).0, inl (f sizes).1)
+header_told base sizes held errors.BadRound f = ((f sizes).0, inl (f sizes).1)
+header_told base sizes held errors.BadDevice f = ((f sizes).0, inl (f sizes).1)
+header_told base sizes held errors.BadDigest f = ((f sizes).0, inl (f sizes).1)
+header_told base sizes held errors.Missing f = ((f sizes).0, inl (f sizes).1)
+header_told base sizes held errors.Trailing f = ((f sizes).0, inl (f sizes).1)
+header_told base sizes held errors.Truncated f = ((f sizes).0, inl (f sizes).1)
+header_told base sizes held errors.DiskFailed f = tt
+header_told base sizes held errors.NoMemory f = tt
+header_told base sizes held errors.AlreadyFailed f = ((f sizes).0, inl (f sizes).1)
 
 never_disk_head : (sizes held : List ℕ) (e : RecvError) → TellsHead e ((sizes : List ℕ) → (at : ℕ) × IsHeaderFault sizes held e at) → e ≢ errors.DiskFailed
 never_disk_head sizes held e f same = let g : (sizes : List ℕ) → (at : ℕ) × IsHeaderFault sizes held errors.DiskFailed at = rw same at f in (g sizes).1
 
-pub header_refused : (ds : List DiskState) (held : List ℕ) (e : RecvError) → TellsHead e ((sizes : List ℕ) → (at : ℕ) × IsHeaderFault sizes held e at) → AreRefused ds ds e × Tells e ((at : ℕ) × Fault (sizes_in ds) held e at)
-header_refused ds held e t = (refused_kept ds e (never_disk_head (sizes_in ds) held e t), header_told (sizes_in ds) held e t)
+pub header_refused : (base : ℕ) (ds : List DiskState) (held : List ℕ) (e : RecvError) → TellsHead e ((sizes : List ℕ) → (at : ℕ) × IsHeaderFault sizes held e at) → AreRefused ds ds e × Tells e ((at : ℕ) × Fault base (sizes_in ds) held e at)
+header_refused base ds held e t = (refused_kept ds e (never_disk_head (sizes_in ds) held e t), header_told base (sizes_in ds) held e t)
 
 -- Records were worked off.
 
-pub now_ended : (ds : List DiskState) (digest : Sha256) (front bytes : List ℕ) (opening : Opening) (i : Intake) (at : ℕ) → at ≡ length bytes → IsEnded ds opening i (front ++ bytes)
-    → IsKnown ds digest (front ++ take at bytes) (drop at bytes) (stages.Ended i)
+pub now_ended : (ds : List DiskState) (digest : Sha256) (front bytes : List ℕ) (opening : Opened) (i : Intake) (at : ℕ) → at ≡ length bytes → IsEnded ds opening i (front ++ bytes)
+    → IsKnown opening.base ds digest (front ++ take at bytes) (drop at bytes) (stages.Ended i)
 now_ended ds digest front bytes opening i at all h =
     let rest : drop at bytes ≡ [] = empty (drop at bytes) (omega (arith, all, length-drop at bytes)) in
     let same : front ++ take at bytes ≡ front ++ bytes = ap (λ (x : List ℕ). front ++ x) (take_all at bytes (omega (arith, all))) in
-    (rest, record { opening = opening; ended = rw same h })
+    (rest, record { opening = opening; based = refl; ended = rw same h })
 
-pub now_reading : (ds : List DiskState) (digest : Sha256) (front held : List ℕ) (opening : Opening) (i : Intake) → Holds256 digest front → IsOpen ds opening i front held → IsKnown ds digest front held (stages.Records i)
-now_reading ds digest front held opening i d h = (d, record { opening = opening; open_at = h })
+pub now_reading : (ds : List DiskState) (digest : Sha256) (front held : List ℕ) (opening : Opened) (i : Intake) → Holds256 digest front → IsOpen ds opening i front held → IsKnown opening.base ds digest front held (stages.Records i)
+now_reading ds digest front held opening i d h = (d, record { opening = opening; based = refl; open_at = h })
 
 -- The records after the header, which has `len` bytes.
 headed : (len at : ℕ) (bytes : List ℕ) → take len bytes ++ take at (drop len bytes) ≡ take (len + at) bytes
 headed len at bytes = sym (take-add len at bytes)
 
-pub behind_header : (old ds : List DiskState) (digest : Sha256) (bytes : List ℕ) (len at : ℕ) (stage : Stage) → AreKept old ds × IsKnown ds digest (take len bytes ++ take at (drop len bytes)) (drop at (drop len bytes)) stage
-    → AreKept old ds × IsKnown ds digest (take (len + at) bytes) (drop (len + at) bytes) stage
-behind_header old ds digest bytes len at stage h =
+pub behind_header : (base : ℕ) (old ds : List DiskState) (digest : Sha256) (bytes : List ℕ) (len at : ℕ) (stage : Stage) → AreKept old ds × IsKnown base ds digest (take len bytes ++ take at (drop len bytes)) (drop at (drop len bytes)) stage
+    → AreKept old ds × IsKnown base ds digest (take (len + at) bytes) (drop (len + at) bytes) stage
+behind_header base old ds digest bytes len at stage h =
     let rest : drop at (drop len bytes) ≡ drop (len + at) bytes = drop-drop at len bytes in
     (h.0, rw (← headed len at bytes, ← rest) h.1)
 
-pub refused_behind : (old ds : List DiskState) (bytes : List ℕ) (len : ℕ) (e : RecvError) → AreRefused old ds e × Tells e ((at : ℕ) × Fault (sizes_in old) (take len bytes ++ drop len bytes) e at) → AreRefused old ds e × Tells e ((at : ℕ) × Fault (sizes_in old) bytes e at)
-refused_behind old ds bytes len e h = rw (take-append-drop len bytes) at h
+pub refused_behind : (base : ℕ) (old ds : List DiskState) (bytes : List ℕ) (len : ℕ) (e : RecvError) → AreRefused old ds e × Tells e ((at : ℕ) × Fault base (sizes_in old) (take len bytes ++ drop len bytes) e at) → AreRefused old ds e × Tells e ((at : ℕ) × Fault base (sizes_in old) bytes e at)
+refused_behind base old ds bytes len e h = rw (take-append-drop len bytes) at h
 
 -- A piece more.
 
-trailing_of : (opening : Opening) (before : List Record) (digest front piece : List ℕ) → IsComplete opening before 5 → front ≡ header opening ++ texts before → 0 < length piece → digest ≡ sha256 front
+trailing_of : (opening : Opened) (before : List Record) (digest front piece : List ℕ) → IsComplete opening before 5 → front ≡ header opening ++ texts before → 0 < length piece → digest ≡ sha256 front
     → IsTrailing opening before ((5 ∷ digest) ++ piece) 34
 trailing_of opening before digest front [] complete e some same = absurd (omega (arith, some))
 trailing_of opening before digest front (byte ∷ more) complete e some same = record {
@@ -129,14 +130,15 @@ trailing_of opening before digest front (byte ∷ more) complete e some same = r
   there = refl;
 }
 
-pub trailing_piece : (ds : List DiskState) (old piece : List ℕ) (i : Intake) → HasCome ds old i → 0 < length piece → AreRefused ds ds errors.Trailing × ((k : ℕ) × Fault (sizes_in ds) (old ++ piece) errors.Trailing k)
-trailing_piece ds old piece i h some =
+pub trailing_piece : (base : ℕ) (ds : List DiskState) (old piece : List ℕ) (i : Intake) → HasCome base ds old i → 0 < length piece → AreRefused ds ds errors.Trailing × ((k : ℕ) × Fault base (sizes_in ds) (old ++ piece) errors.Trailing k)
+trailing_piece base ds old piece i h some =
     let w = h.ended in
     let text : old ≡ w.front ++ (5 ∷ sha256 w.front) = w.whole ∙ ap (λ (x : List ℕ). w.front ++ x) (commit_text (sha256 w.front)) in
     let whole : old ++ piece ≡ w.front ++ ((5 ∷ sha256 w.front) ++ piece) = ap (λ (x : List ℕ). x ++ piece) text ∙ append_assoc w.front (5 ∷ sha256 w.front) piece in
-    (refused_kept ds errors.Trailing (λ same. cc), fault_here (old ++ piece) ((5 ∷ sha256 w.front) ++ piece) errors.Trailing w.read whole (34, trailing_of h.opening w.before (sha256 w.front) w.front piece w.complete w.read.whole some refl))
+    let fault = fault_here (old ++ piece) ((5 ∷ sha256 w.front) ++ piece) errors.Trailing w.read whole (34, trailing_of h.opening w.before (sha256 w.front) w.front piece w.complete w.read.whole some refl) in
+    (refused_kept ds errors.Trailing (λ same. cc), subst (λ (b : ℕ). (k : ℕ) × Fault b (sizes_in ds) (old ++ piece) errors.Trailing k) h.based fault)
 
-pub still_come : (ds : List DiskState) (digest : Sha256) (front bytes : List ℕ) (i : Intake) → HasCome ds front i → length bytes ≡ 0 → IsKnown ds digest (front ++ take 0 bytes) (drop 0 bytes) (stages.Ended i)
-still_come ds digest front bytes i h none =
+pub still_come : (base : ℕ) (ds : List DiskState) (digest : Sha256) (front bytes : List ℕ) (i : Intake) → HasCome base ds front i → length bytes ≡ 0 → IsKnown base ds digest (front ++ take 0 bytes) (drop 0 bytes) (stages.Ended i)
+still_come base ds digest front bytes i h none =
     let same : front ++ take 0 bytes ≡ front = append-nil front in
     (empty bytes none, rw same h)

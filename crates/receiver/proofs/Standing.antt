@@ -7,7 +7,7 @@ use Rattle.std.proofs.Math.Seq.{take-length}
 use Rattle.sha2.specs.Sha256.{sha256}
 use Rattle.sha2.proofs.Facts256.{length-sha256}
 use Rattle.guestmem.specs.Number.{IsBytes}
-use Rattle.wire.specs.Header.{header, Opening}
+use Rattle.receiver.specs.Opened.{header, Opened}
 use Rattle.wire.specs.Numbers.{digits, flag}
 use Rattle.wire.specs.RecordHeads.{BeginsHead, BeginsNoMark, BeginsNoTag, FitsHead, IsHeadCut, body_len, spelled_head}
 use Rattle.wire.specs.Records.{Record, is_zero_page, record_with, spelled_record}
@@ -34,7 +34,7 @@ use Rattle.receiver.proofs.Working.{kept, refused_kept}
 use Rattle.receiver.proofs.Writing.{disk_refused}
 use Rattle.machine.proofs.Numbering.{either_way}
 
-pub opens_at : {opening : Opening} {before : List Record} {tail : List ℕ} {tag : ℕ} {more : List ℕ} (t : ℕ) (x : List ℕ) → Opens opening before tail tag more → tail ≡ t ∷ x → Opens opening before tail t x
+pub opens_at : {opening : Opened} {before : List Record} {tail : List ℕ} {tag : ℕ} {more : List ℕ} (t : ℕ) (x : List ℕ) → Opens opening before tail tag more → tail ≡ t ∷ x → Opens opening before tail t x
 opens_at {tag = tag} {more = more} t x o e =
     let first : tag ≡ t = head_same (sym o.whole ∙ e) in
     let others : more ≡ x = tail_same (sym o.whole ∙ e) in
@@ -52,15 +52,15 @@ not_that_long tail len c long =
     let same : tail ≡ spelled_head c.head ++ [] = sym (append-nil tail) ∙ ap (λ (x : List ℕ). tail ++ x) (sym (empty c.more none)) ∙ sym c.whole ∙ sym (append-nil (spelled_head c.head)) in
     c.none c.head [] c.fits same
 
-cut_device : (opening : Opening) (before : List Record) (tail : List ℕ) (len : ℕ) → IsBytes tail → IsHeadCut tail len → (place : ℕ) → ¬ (IsBadHead opening before tail place ⊎ IsBadBody opening before tail place)
+cut_device : (opening : Opened) (before : List Record) (tail : List ℕ) (len : ℕ) → IsBytes tail → IsHeadCut tail len → (place : ℕ) → ¬ (IsBadHead opening before tail place ⊎ IsBadBody opening before tail place)
 cut_device opening before tail len are c place (inl h) = c.none (heads.Device h.number h.len) h.more (second_low tail _ 4 h.number are h.opens.whole, h.fits) h.opens.whole
 cut_device opening before tail len are c place (inr h) = c.none (heads.Device (devices_in before) (length h.body)) (h.body ++ h.more) (second_low tail _ 4 (devices_in before) are h.opens.whole, omega (arith, h.few)) h.opens.whole
 
-cut_digest : (opening : Opening) (before : List Record) (tail : List ℕ) (len : ℕ) → IsHeadCut tail len → (place : ℕ) → ¬ (IsBadDigest opening before tail place ⊎ IsTrailing opening before tail place)
+cut_digest : (opening : Opened) (before : List Record) (tail : List ℕ) (len : ℕ) → IsHeadCut tail len → (place : ℕ) → ¬ (IsBadDigest opening before tail place ⊎ IsTrailing opening before tail place)
 cut_digest opening before tail len c place (inl h) = c.none heads.Commit (h.digest ++ h.more) tt h.opens.whole
 cut_digest opening before tail len c place (inr h) = c.none heads.Commit (sha256 (header opening ++ texts before) ++ (h.byte ∷ h.more)) tt h.opens.whole
 
-cut_page : (opening : Opening) (before : List Record) (tail : List ℕ) (len : ℕ) → IsHeadCut tail len → (place : ℕ) → ¬ (IsBadPage opening before tail place ⊎ IsLongZeros opening before tail place)
+cut_page : (opening : Opened) (before : List Record) (tail : List ℕ) (len : ℕ) → IsHeadCut tail len → (place : ℕ) → ¬ (IsBadPage opening before tail place ⊎ IsLongZeros opening before tail place)
 cut_page opening before tail len c place (inl h) = cut_named h.names h.opens.whole
   where
     cut_named : IsPageTag h.tag → tail ≡ h.tag ∷ (digits 4 h.number ++ h.more) → ⊥
@@ -68,7 +68,7 @@ cut_page opening before tail len c place (inl h) = cut_named h.names h.opens.who
     cut_named (inr six) e = c.none (heads.ZeroPage h.number) h.more h.fits (e ∙ ap (λ (t : ℕ). t ∷ (digits 4 h.number ++ h.more)) six)
 cut_page opening before tail len c place (inr h) = c.none (heads.Page h.number) (h.bytes ++ h.more) h.fits h.opens.whole
 
-pub cut_waits : (opening : Opening) (before : List Record) (tail : List ℕ) (tag : ℕ) (more : List ℕ) (len : ℕ) → IsBytes tail → Opens opening before tail tag more → IsHeadCut tail len → Waits opening before tail
+pub cut_waits : (opening : Opened) (before : List Record) (tail : List ℕ) (tag : ℕ) (more : List ℕ) (len : ℕ) → IsBytes tail → Opens opening before tail tag more → IsHeadCut tail len → Waits opening before tail
 cut_waits opening before tail tag more len are o c = record {
   no_record = no_record opening.version tail c.none;
   no_fault = quiet opening before tail tag more o
@@ -81,7 +81,7 @@ cut_waits opening before tail tag more len are o c = record {
 
 -- A head that may stand waits for its body.
 
-waits_device : (opening : Opening) (before : List Record) (tail rest : List ℕ) (head : RecordHead) → IsBytes tail → OpensHead opening before tail head rest → MayHead opening before head → length rest < body_len head
+waits_device : (opening : Opened) (before : List Record) (tail rest : List ℕ) (head : RecordHead) → IsBytes tail → OpensHead opening before tail head rest → MayHead opening before head → length rest < body_len head
     → (place : ℕ) → ¬ (IsBadHead opening before tail place ⊎ IsBadBody opening before tail place)
 waits_device opening before tail rest head are o may short place (inl h) =
     let t = one_head head (heads.Device h.number h.len) rest h.more o.fits (second_low tail _ 4 h.number are h.opens.whole, h.fits) (sym o.whole ∙ h.opens.whole) in
@@ -90,7 +90,7 @@ waits_device opening before tail rest head are o may short place (inr h) =
     let t = one_head head (heads.Device (devices_in before) (length h.body)) rest (h.body ++ h.more) o.fits (second_low tail _ 4 (devices_in before) are h.opens.whole, omega (arith, h.few)) (sym o.whole ∙ h.opens.whole) in
     omega (arith, short, ap body_len t.0, ap length t.1, length-append h.body h.more)
 
-waits_digest : (opening : Opening) (before : List Record) (tail rest : List ℕ) (head : RecordHead) → OpensHead opening before tail head rest → length rest < body_len head
+waits_digest : (opening : Opened) (before : List Record) (tail rest : List ℕ) (head : RecordHead) → OpensHead opening before tail head rest → length rest < body_len head
     → (place : ℕ) → ¬ (IsBadDigest opening before tail place ⊎ IsTrailing opening before tail place)
 waits_digest opening before tail rest head o short place (inl h) =
     let t = one_head head heads.Commit rest (h.digest ++ h.more) o.fits tt (sym o.whole ∙ h.opens.whole) in
@@ -101,7 +101,7 @@ waits_digest opening before tail rest head o short place (inr h) =
     omega (arith, short, ap body_len t.0, ap length t.1, length-append sum (h.byte ∷ h.more), length-sha256 (header opening ++ texts before))
 
 -- A page that is there, by either of its heads.
-page_is_there : (opening : Opening) (before : List Record) (tail rest more : List ℕ) (head : RecordHead) (tag n : ℕ) → FitsHead head → tail ≡ spelled_head head ++ rest → MayHead opening before head → n < 2 ^ 32 → IsPageTag tag → tail ≡ tag ∷ (digits 4 n ++ more) → n < opening.pages
+page_is_there : (opening : Opened) (before : List Record) (tail rest more : List ℕ) (head : RecordHead) (tag n : ℕ) → FitsHead head → tail ≡ spelled_head head ++ rest → MayHead opening before head → n < 2 ^ 32 → IsPageTag tag → tail ≡ tag ∷ (digits 4 n ++ more) → n < opening.pages
 page_is_there opening before tail rest more head tag n fits whole may few (inl one) e =
     let t = one_head head (heads.Page n) rest more fits few (sym whole ∙ e ∙ ap (λ (t : ℕ). t ∷ (digits 4 n ++ more)) one) in
     subst (MayHead opening before) t.0 may
@@ -109,7 +109,7 @@ page_is_there opening before tail rest more head tag n fits whole may few (inr s
     let t = one_head head (heads.ZeroPage n) rest more fits few (sym whole ∙ e ∙ ap (λ (t : ℕ). t ∷ (digits 4 n ++ more)) six) in
     subst (MayHead opening before) t.0 may
 
-waits_page : (opening : Opening) (before : List Record) (tail rest : List ℕ) (head : RecordHead) → OpensHead opening before tail head rest → MayHead opening before head → length rest < body_len head
+waits_page : (opening : Opened) (before : List Record) (tail rest : List ℕ) (head : RecordHead) → OpensHead opening before tail head rest → MayHead opening before head → length rest < body_len head
     → (place : ℕ) → ¬ (IsBadPage opening before tail place ⊎ IsLongZeros opening before tail place)
 waits_page opening before tail rest head o may short place (inl h) =
     let low = page_is_there opening before tail rest h.more head h.tag h.number o.fits o.whole may h.fits h.names h.opens.whole in
@@ -118,7 +118,7 @@ waits_page opening before tail rest head o may short place (inr h) =
     let t = one_head head (heads.Page h.number) rest (h.bytes ++ h.more) o.fits h.fits (sym o.whole ∙ h.opens.whole) in
     omega (arith, short, ap body_len t.0, ap length t.1, length-append h.bytes h.more, h.long)
 
-pub body_waits : (opening : Opening) (before : List Record) (tail rest : List ℕ) (head : RecordHead) → IsBytes tail → OpensHead opening before tail head rest → MayHead opening before head → length rest < body_len head → Waits opening before tail
+pub body_waits : (opening : Opened) (before : List Record) (tail rest : List ℕ) (head : RecordHead) → IsBytes tail → OpensHead opening before tail head rest → MayHead opening before head → length rest < body_len head → Waits opening before tail
 body_waits opening before tail rest head are o may short = record {
   no_record = no_body opening.version tail rest head o.fits o.whole short;
   no_fault = quiet opening before tail o.tag o.more o.opens
@@ -139,7 +139,7 @@ at_least : (n pages : ℕ) → (n < pages) ⊎ (pages ≤ n) → ¬ (n < pages) 
 at_least n pages (inl lt) never = absurd (never lt)
 at_least n pages (inr le) never = le
 
-pub head_refused : (opening : Opening) (before : List Record) (tail rest : List ℕ) (head : RecordHead) → OpensHead opening before tail head rest → ¬ (MayHead opening before head) → (place : ℕ) × IsFault opening before tail (refusal_of head) place
+pub head_refused : (opening : Opened) (before : List Record) (tail rest : List ℕ) (head : RecordHead) → OpensHead opening before tail head rest → ¬ (MayHead opening before head) → (place : ℕ) × IsFault opening before tail (refusal_of head) place
 head_refused opening before tail rest (heads.Page n) o never =
     (5, inl (record { tag = 1; number = n; more = rest; names = inl refl; opens = opens_at 1 (digits 4 n ++ rest) o.opens o.whole; fits = o.fits; never = at_least n opening.pages (cases_lt n opening.pages) never; there = refl }))
 head_refused opening before tail rest (heads.Sector d n good) o never =
@@ -152,14 +152,14 @@ head_refused opening before tail rest heads.Commit o never = absurd (never tt)
 head_refused opening before tail rest (heads.ZeroPage n) o never =
     (5, inl (record { tag = 6; number = n; more = rest; names = inr refl; opens = opens_at 6 (digits 4 n ++ rest) o.opens o.whole; fits = o.fits; never = at_least n opening.pages (cases_lt n opening.pages) never; there = refl }))
 
-pub refused_as : (opening : Opening) (before : List Record) (tail rest : List ℕ) (head : RecordHead) (e : RecvError) → OpensHead opening before tail head rest → (e ≡ refusal_of head) × ¬ (MayHead opening before head) → (place : ℕ) × IsFault opening before tail e place
+pub refused_as : (opening : Opened) (before : List Record) (tail rest : List ℕ) (head : RecordHead) (e : RecvError) → OpensHead opening before tail head rest → (e ≡ refusal_of head) × ¬ (MayHead opening before head) → (place : ℕ) × IsFault opening before tail e place
 refused_as opening before tail rest head e o h = rw h.0 (head_refused opening before tail rest head o h.1)
 
-pub mark_refused : (opening : Opening) (before : List Record) (tail : List ℕ) (tag : ℕ) (more : List ℕ) → Opens opening before tail tag more → BeginsNoMark tail → (place : ℕ) × IsFault opening before tail errors.BadSector place
+pub mark_refused : (opening : Opened) (before : List Record) (tail : List ℕ) (tag : ℕ) (more : List ℕ) → Opens opening before tail tag more → BeginsNoMark tail → (place : ℕ) × IsFault opening before tail errors.BadSector place
 mark_refused opening before tail tag more o b =
     (7, record { disk = b.device; number = b.number; mark = b.mark; more = b.more; opens = opens_at 2 (b.device ∷ (digits 4 b.number ++ (b.mark ∷ b.more))) o b.whole; fits = b.fits; never = λ x. omega (arith, x.1, b.never); there = refl })
 
-pub tag_known : (opening : Opening) (before : List Record) (tail : List ℕ) (tag : ℕ) (more : List ℕ) → Opens opening before tail tag more → BeginsNoTag tail → ⊥
+pub tag_known : (opening : Opened) (before : List Record) (tail : List ℕ) (tag : ℕ) (more : List ℕ) → Opens opening before tail tag more → BeginsNoTag tail → ⊥
 tag_known opening before tail tag more o b =
     let opens = opens_at b.tag b.more o b.whole in
     let found = some_head b.tag opens.may.least opens.may.most in
@@ -167,10 +167,10 @@ tag_known opening before tail tag more o b =
 
 -- The bytes of a head, as it was read.
 
-pub found_head : (opening : Opening) (before : List Record) (tail : List ℕ) (tag : ℕ) (more : List ℕ) (head : RecordHead) → Opens opening before tail tag more → BeginsHead tail head → OpensHead opening before tail head (drop (length (spelled_head head)) tail)
+pub found_head : (opening : Opened) (before : List Record) (tail : List ℕ) (tag : ℕ) (more : List ℕ) (head : RecordHead) → Opens opening before tail tag more → BeginsHead tail head → OpensHead opening before tail head (drop (length (spelled_head head)) tail)
 found_head opening before tail tag more head o b = record { tag = tag; more = more; opens = o; fits = b.fits; whole = b.whole }
 
-pub opens_head : (opening : Opening) (before : List Record) (tail : List ℕ) (tag : ℕ) (more rest : List ℕ) (head : RecordHead) → Opens opening before tail tag more → FitsHead head → tail ≡ spelled_head head ++ rest → OpensHead opening before tail head rest
+pub opens_head : (opening : Opened) (before : List Record) (tail : List ℕ) (tag : ℕ) (more rest : List ℕ) (head : RecordHead) → Opens opening before tail tag more → FitsHead head → tail ≡ spelled_head head ++ rest → OpensHead opening before tail head rest
 opens_head opening before tail tag more rest head o fits e = record { tag = tag; more = more; opens = o; fits = fits; whole = e }
 
 pub room_few : (i : Intake) (head : RecordHead) → HasRoom i head → length (spelled_head head) + body_len head ≤ 131078
@@ -191,7 +191,7 @@ long_part parts.End n e some = tt
 pub cut_body : (rest body : List ℕ) (n : ℕ) → body ≡ take n rest → rest ≡ body ++ drop n rest
 cut_body rest body n e = sym (take-append-drop n rest) ∙ ap (λ (x : List ℕ). x ++ drop n rest) (sym e)
 
-pub with_body : {opening : Opening} {before : List Record} {tail rest : List ℕ} {head : RecordHead} (other : List ℕ) → OpensHead opening before tail head rest → rest ≡ other → OpensHead opening before tail head other
+pub with_body : {opening : Opened} {before : List Record} {tail rest : List ℕ} {head : RecordHead} (other : List ℕ) → OpensHead opening before tail head rest → rest ≡ other → OpensHead opening before tail head other
 with_body other o e = rw e at o
 
 -- Records that were taken.
@@ -202,13 +202,13 @@ taken_with tail body more head e many =
     let all : tail ≡ (front ++ body) ++ more = e ∙ sym (append_assoc front body more) in
     ap (take (length front + length body)) all ∙ take_at (front ++ body) more (length front + length body) (length-append front body) ∙ sym (spelled_with head body many)
 
-pub took_with : (old ds : List DiskState) (opening : Opening) (before : List Record) (new : Intake) (front tail body more : List ℕ) (head : RecordHead) → OpensHead opening before tail head (body ++ more) → length body ≡ body_len head → AreKept old ds
+pub took_with : (old ds : List DiskState) (opening : Opened) (before : List Record) (new : Intake) (front tail body more : List ℕ) (head : RecordHead) → OpensHead opening before tail head (body ++ more) → length body ≡ body_len head → AreKept old ds
     → HasRead ds opening (before ++ record_with head body ∷ []) new (front ++ spelled_record (record_with head body)) → After old ds opening before new front tail (Ok (parts.Record (length (spelled_head head) + length body)))
 took_with old ds opening before new front tail body more head o many same read =
     let r = record_with head body in
     (same, (r, subst (λ (x : List ℕ). HasRead ds opening (before ++ r ∷ []) new (front ++ x)) (sym (taken_with tail body more head o.whole many)) read))
 
-bad_body : (opening : Opening) (before : List Record) (tail body more : List ℕ) (d len : ℕ) → OpensHead opening before tail (heads.Device d len) (body ++ more) → MayHead opening before (heads.Device d len) → length body ≡ len → IsNoBody opening d body
+bad_body : (opening : Opened) (before : List Record) (tail body more : List ℕ) (d len : ℕ) → OpensHead opening before tail (heads.Device d len) (body ++ more) → MayHead opening before (heads.Device d len) → length body ≡ len → IsNoBody opening d body
     → (place : ℕ) × (IsBadHead opening before tail place ⊎ IsBadBody opening before tail place)
 bad_body opening before tail body more d len o may many refused =
     let whole : tail ≡ 4 ∷ (devices_in before ∷ (digits 4 (length body) ++ (body ++ more))) = rw (sym may.next, many) o.whole in (
@@ -226,7 +226,7 @@ bad_body opening before tail body more d len o may many refused =
       }),
     )
 
-pub device_refused : (ds : List DiskState) (opening : Opening) (before : List Record) (new : Intake) (front tail body more : List ℕ) (d len : ℕ) (e : RecvError) → OpensHead opening before tail (heads.Device d len) (body ++ more) → MayHead opening before (heads.Device d len)
+pub device_refused : (ds : List DiskState) (opening : Opened) (before : List Record) (new : Intake) (front tail body more : List ℕ) (d len : ℕ) (e : RecvError) → OpensHead opening before tail (heads.Device d len) (body ++ more) → MayHead opening before (heads.Device d len)
     → length body ≡ len → TakingDevice ds opening before new front d body (Err e) → AreRefused ds ds e × Tells e ((place : ℕ) × IsFault opening before tail e place)
 device_refused ds opening before new front tail body more d len errors.BadMagic o may many t = absurd t
 device_refused ds opening before new front tail body more d len errors.BadVersion o may many t = absurd t
@@ -246,7 +246,7 @@ device_refused ds opening before new front tail body more d len errors.NoMemory 
 device_refused ds opening before new front tail body more d len errors.AlreadyFailed o may many t = absurd t
 
 -- A page of zeros that is encoded as another page.
-pub zeros_refused : (ds : List DiskState) (opening : Opening) (before : List Record) (tail body more : List ℕ) (n : ℕ) → OpensHead opening before tail (heads.Page n) (body ++ more) → MayHead opening before (heads.Page n) → length body ≡ 4096
+pub zeros_refused : (ds : List DiskState) (opening : Opened) (before : List Record) (tail body more : List ℕ) (n : ℕ) → OpensHead opening before tail (heads.Page n) (body ++ more) → MayHead opening before (heads.Page n) → length body ≡ 4096
     → ¬ (is_zero_page opening.version body ≡ false) → AreRefused ds ds errors.BadPage × ((place : ℕ) × IsFault opening before tail errors.BadPage place)
 zeros_refused ds opening before tail body more n o may long zeros = (
   refused_kept ds errors.BadPage (λ e. cc),
@@ -272,12 +272,12 @@ zeros_refused ds opening before tail body more n o may long zeros = (
 
 -- What was taken, or refused, of a sector or a device.
 
-pub entered_sector : (old ds : List DiskState) (opening : Opening) (before : List Record) (new : Intake) (front tail body : List ℕ) (head : RecordHead) (r : Result (Unit {0}) RecvError) → Taking old ds opening before new front (record_with head body) r
+pub entered_sector : (old ds : List DiskState) (opening : Opened) (before : List Record) (new : Intake) (front tail body : List ℕ) (head : RecordHead) (r : Result (Unit {0}) RecvError) → Taking old ds opening before new front (record_with head body) r
     → Entered old ds opening before new front tail head body r
 entered_sector old ds opening before new front tail body head (Ok x) t = t
 entered_sector old ds opening before new front tail body head (Err e) t = disk_refused _ old ds e t
 
-pub entered_device : (ds : List DiskState) (opening : Opening) (before : List Record) (new : Intake) (front tail body more : List ℕ) (d len : ℕ) (r : Result (Unit {0}) RecvError) → OpensHead opening before tail (heads.Device d len) (body ++ more)
+pub entered_device : (ds : List DiskState) (opening : Opened) (before : List Record) (new : Intake) (front tail body more : List ℕ) (d len : ℕ) (r : Result (Unit {0}) RecvError) → OpensHead opening before tail (heads.Device d len) (body ++ more)
     → MayHead opening before (heads.Device d len) → length body ≡ len → TakingDevice ds opening before new front d body r → Entered ds ds opening before new front tail (heads.Device d len) body r
 entered_device ds opening before new front tail body more d len (Ok x) o may many t = (kept ds, t)
 entered_device ds opening before new front tail body more d len (Err e) o may many t = device_refused ds opening before new front tail body more d len e o may many t

@@ -5,7 +5,7 @@ use Rattle.std.proofs.lemmas.List.Elements.{All-get_or, All-from_get_or}
 use Rattle.std.specs.List.{AllByRecursion}
 use Rattle.std.proofs.lemmas.List.{length-append, length-replicate}
 use Rattle.wire.specs.DeviceBody.{body, IsBodyOf, IsDeviceOf}
-use Rattle.wire.specs.Header.{header, Opening, layout_in}
+use Rattle.receiver.specs.Opened.{header, Opened, layout_in}
 use Rattle.wire.specs.Records.{Record, page, sector, round_end, device, commit, spelled_record, HasSpelling, IsOf, is_zero_page, page_record, zero_page}
 use Rattle.wire.specs.Stream.{IsEntry, AreNumbered, rounds, texts, shapes_in, record_in}
 use Rattle.guestmem.specs.Zeros.{are_zeros}
@@ -31,8 +31,9 @@ use Rattle.receiver.specs.Good.{AreGood, AreNamed, Follows, devices_in}
 use Rattle.receiver.specs.Faults.{MayTag}
 use Rattle.receiver.specs.Fed.{HasRead, device_records, held_sectors}
 use Rattle.receiver.specs.declared.intake.Intake.{Intake}
+use Rattle.receiver.specs.declared.intake.Terms.{Terms}
 
-pub good-snoc : (opening : Opening) (acc rs : List Record) (r : Record) → AreGood opening acc rs → Follows opening (acc ++ rs) r → AreGood opening acc (rs ++ r ∷ [])
+pub good-snoc : (opening : Opened) (acc rs : List Record) (r : Record) → AreGood opening acc rs → Follows opening (acc ++ rs) r → AreGood opening acc (rs ++ r ∷ [])
 unfolding AreGood
 good-snoc opening acc [] r h f = (rw (append-nil acc) at f, tt)
 good-snoc opening acc (s ∷ rs) r h f =
@@ -54,7 +55,7 @@ count_all v l k (device d b ∷ es) ds h = absurd h.0.stands
 count_all v l k (commit b ∷ es) ds h = count_all v l k es ds h.1
 count_all v l k (zero_page z ∷ es) ds h = count_all v l k es ds h.1
 
-pub devices_are : {ds : List DiskState} {front : List ℕ} {opening : Opening} {before : List Record} {i : Intake} → HasRead ds opening before i front → devices_in before ≡ length i.devices.items
+pub devices_are : {ds : List DiskState} {front : List ℕ} {opening : Opened} {before : List Record} {i : Intake} → HasRead ds opening before i front → devices_in before ≡ length i.devices.items
 devices_are {opening = opening} {before = before} {i = i} h = ap devices_in h.split ∙ count_all opening.version (layout_in opening) 0 h.entries i.devices.items h.each
 
 -- Behind no device all records are entries.
@@ -67,7 +68,7 @@ unfolding device_records
 no_devices entries before [] e n = e ∙ append-nil entries
 no_devices entries before (d ∷ ds) e n = absurd (omega (arith, n))
 
-are_entries : {ds : List DiskState} {front : List ℕ} {opening : Opening} {before : List Record} {i : Intake} → HasRead ds opening before i front → devices_in before ≡ 0 → AreEntries opening.version (layout_in opening) before
+are_entries : {ds : List DiskState} {front : List ℕ} {opening : Opened} {before : List Record} {i : Intake} → HasRead ds opening before i front → devices_in before ≡ 0 → AreEntries opening.version (layout_in opening) before
 are_entries {before = before} {i = i} h none =
     let same : before ≡ h.entries = no_devices h.entries before i.devices.items h.split (sym (devices_are h) ∙ none) in
     rw same (record { each = h.each; numbered = h.numbered })
@@ -82,12 +83,12 @@ no_records before (d ∷ ds) n = absurd (omega (arith, n))
 
 -- What an intake has, and the disks.
 record IsSame (i j : Intake) : Type 0 where
-  version : j.version ≡ i.version
+  terms : j.terms ≡ i.terms
   shapes : j.shapes.items ≡ i.shapes.items
   firsts : j.firsts.items ≡ i.firsts.items
   devices : j.devices.items ≡ i.devices.items
 
-more_entry : (ds ds2 : List DiskState) (front : List ℕ) (opening : Opening) (before : List Record) (i j : Intake) (r : Record) → HasRead ds opening before i front → devices_in before ≡ 0 → Follows opening before r → IsEntry opening.version (layout_in opening) r
+more_entry : (ds ds2 : List DiskState) (front : List ℕ) (opening : Opened) (before : List Record) (i j : Intake) (r : Record) → HasRead ds opening before i front → devices_in before ≡ 0 → Follows opening before r → IsEntry opening.version (layout_in opening) r
     → (AreNumbered 1 before → AreNumbered 1 (before ++ r ∷ [])) → j.rounds ≡ rounds (before ++ r ∷ [])
     → AreTaken opening.version (AreHonestDisks (all_marks_in ds2)) j.ram.bytes (held_sectors opening.shapes ds2 j.bad.items) j.named (layout_in opening) (before ++ r ∷ []) → sizes_in ds2 ≡ sizes_in ds → AreMarksOf ds2 j.bad.items → IsSame i j
     → HasRead ds2 opening (before ++ r ∷ []) j (front ++ spelled_record r)
@@ -99,7 +100,8 @@ more_entry ds ds2 front opening before i j r h none follows entry numbers ends t
       fits = sizes ∙ h.fits;
       good = good-snoc opening [] before r h.good follows;
       whole = texts_more front (header opening) before r h.whole;
-      version_is = same.version ∙ h.version_is;
+      version_is = ap (λ (x : Terms). x.version) same.terms ∙ h.version_is;
+      base_is = ap (λ (x : Terms). x.base) same.terms ∙ h.base_is;
       shapes_are = same.shapes ∙ h.shapes_are;
       firsts_are = same.firsts ∙ h.firsts_are;
       marks_are = marks;
@@ -114,21 +116,21 @@ more_entry ds ds2 front opening before i j r h none follows entry numbers ends t
       has = rw same.devices h.has;
     }
 
-more_page_as : (ds : List DiskState) (front : List ℕ) (opening : Opening) (before : List Record) (i j : Intake) (n : ℕ) (b : List ℕ) (r : Record) → HasRead ds opening before i front → devices_in before ≡ 0
+more_page_as : (ds : List DiskState) (front : List ℕ) (opening : Opened) (before : List Record) (i j : Intake) (n : ℕ) (b : List ℕ) (r : Record) → HasRead ds opening before i front → devices_in before ≡ 0
     → (n < opening.pages → Follows opening before r) → (n < opening.pages → IsEntry opening.version (layout_in opening) r) → (AreNumbered 1 before → AreNumbered 1 (before ++ r ∷ [])) → rounds (before ++ r ∷ []) ≡ rounds before
     → Names r (items.page n) → page_record opening.version n b ≡ r → length b ≡ 4096
-    → 4096 * n + 4096 ≤ length i.ram.bytes → j.ram.bytes ≡ put_page i.ram.bytes n b → j.named ≡ set i.named n true → j.rounds ≡ i.rounds → j.version ≡ i.version → j.shapes.items ≡ i.shapes.items → j.devices.items ≡ i.devices.items → j.firsts.items ≡ i.firsts.items → j.bad.items ≡ i.bad.items
+    → 4096 * n + 4096 ≤ length i.ram.bytes → j.ram.bytes ≡ put_page i.ram.bytes n b → j.named ≡ set i.named n true → j.rounds ≡ i.rounds → j.terms ≡ i.terms → j.shapes.items ≡ i.shapes.items → j.devices.items ≡ i.devices.items → j.firsts.items ≡ i.firsts.items → j.bad.items ≡ i.bad.items
     → HasRead ds opening (before ++ r ∷ []) j (front ++ spelled_record r)
-more_page_as ds front opening before i j n b r h none follows entry numbers counts names is long le ram named ends same_version same_shapes same_devices same_firsts same_bad =
+more_page_as ds front opening before i j n b r h none follows entry numbers counts names is long le ram named ends same_terms same_shapes same_devices same_firsts same_bad =
     let low : n < opening.pages = omega (arith, le, h.taken.ram_size) in
     let T = AreHonestDisks (all_marks_in ds) in
     more_entry ds ds front opening before i j r h none (follows low) (entry low)
     numbers (ends ∙ h.rounds_are ∙ sym counts)
     (rw (ram, named, same_bad) (taken_page opening.version T i.ram.bytes b (held_sectors opening.shapes ds i.bad.items) i.named (layout_in opening) n before r h.taken low le long names is)) refl (rw same_bad h.marks_are)
-    (record { version = same_version; shapes = same_shapes; firsts = same_firsts; devices = same_devices })
+    (record { terms = same_terms; shapes = same_shapes; firsts = same_firsts; devices = same_devices })
 
-pub more_page : (ds : List DiskState) (front : List ℕ) (opening : Opening) (before : List Record) (i j : Intake) (n : ℕ) (b : List ℕ) → HasRead ds opening before i front → devices_in before ≡ 0 → HasSpelling (page n b) → IsOf opening.version (page n b)
-    → 4096 * n + 4096 ≤ length i.ram.bytes → j.ram.bytes ≡ put_page i.ram.bytes n b → j.named ≡ set i.named n true → j.rounds ≡ i.rounds → j.version ≡ i.version → j.shapes.items ≡ i.shapes.items → j.devices.items ≡ i.devices.items → j.firsts.items ≡ i.firsts.items → j.bad.items ≡ i.bad.items
+pub more_page : (ds : List DiskState) (front : List ℕ) (opening : Opened) (before : List Record) (i j : Intake) (n : ℕ) (b : List ℕ) → HasRead ds opening before i front → devices_in before ≡ 0 → HasSpelling (page n b) → IsOf opening.version (page n b)
+    → 4096 * n + 4096 ≤ length i.ram.bytes → j.ram.bytes ≡ put_page i.ram.bytes n b → j.named ≡ set i.named n true → j.rounds ≡ i.rounds → j.terms ≡ i.terms → j.shapes.items ≡ i.shapes.items → j.devices.items ≡ i.devices.items → j.firsts.items ≡ i.firsts.items → j.bad.items ≡ i.bad.items
     → HasRead ds opening (before ++ page n b ∷ []) j (front ++ spelled_record (page n b))
 more_page ds front opening before i j n b h none spells has =
     more_page_as ds front opening before i j n b (page n b) h none (λ low. record { spells = spells; has = has; may = (low, none) }) (λ low. record { spells = spells; has = has; stands = low })
@@ -140,8 +142,8 @@ unfolding are_zeros
 zeros_long zero = refl
 zeros_long (suc n) = zeros_long n
 
-pub more_zeros : (ds : List DiskState) (front : List ℕ) (opening : Opening) (before : List Record) (i j : Intake) (n : ℕ) → HasRead ds opening before i front → devices_in before ≡ 0 → n < 2 ^ 32 → opening.version ≡ 2
-    → 4096 * n + 4096 ≤ length i.ram.bytes → j.ram.bytes ≡ put_page i.ram.bytes n (replicate 4096 0) → j.named ≡ set i.named n true → j.rounds ≡ i.rounds → j.version ≡ i.version → j.shapes.items ≡ i.shapes.items → j.devices.items ≡ i.devices.items → j.firsts.items ≡ i.firsts.items → j.bad.items ≡ i.bad.items
+pub more_zeros : (ds : List DiskState) (front : List ℕ) (opening : Opened) (before : List Record) (i j : Intake) (n : ℕ) → HasRead ds opening before i front → devices_in before ≡ 0 → n < 2 ^ 32 → opening.version ≡ 2
+    → 4096 * n + 4096 ≤ length i.ram.bytes → j.ram.bytes ≡ put_page i.ram.bytes n (replicate 4096 0) → j.named ≡ set i.named n true → j.rounds ≡ i.rounds → j.terms ≡ i.terms → j.shapes.items ≡ i.shapes.items → j.devices.items ≡ i.devices.items → j.firsts.items ≡ i.firsts.items → j.bad.items ≡ i.bad.items
     → HasRead ds opening (before ++ zero_page n ∷ []) j (front ++ spelled_record (zero_page n))
 more_zeros ds front opening before i j n h none few second =
     let b : List ℕ = replicate 4096 0 in
@@ -149,15 +151,15 @@ more_zeros ds front opening before i j n h none few second =
     more_page_as ds front opening before i j n b (zero_page n) h none (λ low. record { spells = few; has = second; may = (low, none) }) (λ low. record { spells = few; has = second; stands = low })
     (numbered_zeros 1 before n) (rounds_zeros before n) (names_zeros n) (as_zeros opening.version n b zeros) (length-replicate {A = ℕ} 4096 0)
 
-pub more_round : (ds : List DiskState) (front : List ℕ) (opening : Opening) (before : List Record) (i j : Intake) (n : ℕ) → HasRead ds opening before i front → devices_in before ≡ 0 → n < 2 ^ 32 → n ≡ i.rounds + 1
-    → j.ram.bytes ≡ i.ram.bytes → j.named ≡ i.named → j.rounds ≡ n → j.version ≡ i.version → j.shapes.items ≡ i.shapes.items → j.devices.items ≡ i.devices.items → j.firsts.items ≡ i.firsts.items → j.bad.items ≡ i.bad.items
+pub more_round : (ds : List DiskState) (front : List ℕ) (opening : Opened) (before : List Record) (i j : Intake) (n : ℕ) → HasRead ds opening before i front → devices_in before ≡ 0 → n < 2 ^ 32 → n ≡ i.rounds + 1
+    → j.ram.bytes ≡ i.ram.bytes → j.named ≡ i.named → j.rounds ≡ n → j.terms ≡ i.terms → j.shapes.items ≡ i.shapes.items → j.devices.items ≡ i.devices.items → j.firsts.items ≡ i.firsts.items → j.bad.items ≡ i.bad.items
     → HasRead ds opening (before ++ round_end n ∷ []) j (front ++ spelled_record (round_end n))
-more_round ds front opening before i j n h none fits next ram named ends same_version same_shapes same_devices same_firsts same_bad =
+more_round ds front opening before i j n h none fits next ram named ends same_terms same_shapes same_devices same_firsts same_bad =
     let is : n ≡ rounds before + 1 = next ∙ ap (λ (x : ℕ). x + 1) h.rounds_are in
     let T = AreHonestDisks (all_marks_in ds) in
     more_entry ds ds front opening before i j (round_end n) h none (record { spells = fits; has = tt; may = (is, none) }) (record { spells = fits; has = tt; stands = tt })
     (λ k. numbered_round 1 before n k (omega (arith, is))) (ends ∙ is ∙ sym (rounds_round before n))
-    (rw (ram, named, same_bad) (taken_round opening.version T i.ram.bytes (held_sectors opening.shapes ds i.bad.items) i.named (layout_in opening) n before h.taken)) refl (rw same_bad h.marks_are) (record { version = same_version; shapes = same_shapes; firsts = same_firsts; devices = same_devices })
+    (rw (ram, named, same_bad) (taken_round opening.version T i.ram.bytes (held_sectors opening.shapes ds i.bad.items) i.named (layout_in opening) n before h.taken)) refl (rw same_bad h.marks_are) (record { terms = same_terms; shapes = same_shapes; firsts = same_firsts; devices = same_devices })
 
 -- A sector, whose disk keeps what it is, and holds it from now on where the disks are trusted.
 numbered_sector : (k : ℕ) (es : List Record) (dev n : ℕ) (o : Sector) → AreNumbered k es → AreNumbered k (es ++ sector dev n o ∷ [])
@@ -169,14 +171,14 @@ numbered_sector k (device d c ∷ es) dev n o h = numbered_sector k es dev n o h
 numbered_sector k (commit c ∷ es) dev n o h = numbered_sector k es dev n o h
 numbered_sector k (zero_page z ∷ es) dev n o h = numbered_sector k es dev n o h
 
-pub more_sector : (ds : List DiskState) (d : DiskState) (front : List ℕ) (opening : Opening) (before : List Record) (i j : Intake) (dev n : ℕ) (o : Sector) (m : List Bool) → HasRead ds opening before i front → devices_in before ≡ 0
+pub more_sector : (ds : List DiskState) (d : DiskState) (front : List ℕ) (opening : Opened) (before : List Record) (i j : Intake) (dev n : ℕ) (o : Sector) (m : List Bool) → HasRead ds opening before i front → devices_in before ≡ 0
     → HasSpelling (sector dev n o) → IsItemIn (layout_in opening) (items.sector dev n)
     → marks_in d ≡ marks_in (get_or ds (disks_before opening.shapes dev) d) → length d.sectors ≡ length (get_or ds (disks_before opening.shapes dev) d).sectors → length m ≡ length (get_or i.bad.items (disks_before opening.shapes dev) [])
     → (IsTrue (get_or ds (disks_before opening.shapes dev) d).honest → sectors_of d.sectors m ≡ set (sectors_of (get_or ds (disks_before opening.shapes dev) d).sectors (get_or i.bad.items (disks_before opening.shapes dev) [])) n o)
     → j.bad.items ≡ set i.bad.items (disks_before opening.shapes dev) m → j.named ≡ set i.named (number_of (layout_in opening) (items.sector dev n)) true
-    → j.ram.bytes ≡ i.ram.bytes → j.rounds ≡ i.rounds → j.version ≡ i.version → j.shapes.items ≡ i.shapes.items → j.devices.items ≡ i.devices.items → j.firsts.items ≡ i.firsts.items
+    → j.ram.bytes ≡ i.ram.bytes → j.rounds ≡ i.rounds → j.terms ≡ i.terms → j.shapes.items ≡ i.shapes.items → j.devices.items ≡ i.devices.items → j.firsts.items ≡ i.firsts.items
     → HasRead (set ds (disks_before opening.shapes dev) d) opening (before ++ sector dev n o ∷ []) j (front ++ spelled_record (sector dev n o))
-more_sector ds d front opening before i j dev n o m h none spells there marks long size content bad named ram ends same_version same_shapes same_devices same_firsts =
+more_sector ds d front opening before i j dev n o m h none spells there marks long size content bad named ram ends same_terms same_shapes same_devices same_firsts =
     let k = disks_before opening.shapes dev in
     let l = layout_in opening in
     let ds2 = set ds k d in
@@ -193,7 +195,7 @@ more_sector ds d front opening before i j dev n o m h none spells there marks lo
     more_entry ds ds2 front opening before i j (sector dev n o) h none (record { spells = spells; has = tt; may = (there, none) }) (record { spells = spells; has = tt; stands = there })
     (numbered_sector 1 before dev n o) (ends ∙ h.rounds_are ∙ sym (rounds_sector before dev n o))
     (rw (ram, named, bad) (taken_item opening.version T U i.ram.bytes i.ram.bytes held held2 i.named l before (sector dev n o) (items.sector dev n) h.taken trust (names_sector dev n o) there refl is others))
-    (sizes_kept ds k d long) (rw bad (marks_set ds i.bad.items k d m h.marks_are (size ∙ marks_length ds i.bad.items k d h.marks_are low ∙ sym long))) (record { version = same_version; shapes = same_shapes; firsts = same_firsts; devices = same_devices })
+    (sizes_kept ds k d long) (rw bad (marks_set ds i.bad.items k d m h.marks_are (size ∙ marks_length ds i.bad.items k d h.marks_are low ∙ sym long))) (record { terms = same_terms; shapes = same_shapes; firsts = same_firsts; devices = same_devices })
 
 -- A device.
 
@@ -232,11 +234,11 @@ next_shape (s ∷ shapes) (suc n) shape others e =
     let m : suc n + 1 ≡ suc (n + 1) = omega arith in
     rw m (ap (λ (x : List Shape). s ∷ x) (next_shape shapes n shape others e))
 
-pub more_device : (ds : List DiskState) (front : List ℕ) (opening : Opening) (others : List Shape) (shape : Shape) (before : List Record) (i j : Intake) (n : ℕ) (raw : List ℕ) (d : DeviceState) → HasRead ds opening before i front
-    → AreNamed (layout_in opening) before → HasSpelling (device n raw) → n ≡ devices_in before → drop n opening.shapes ≡ shape ∷ others → IsBodyOf opening.version shape (4096 * opening.pages) raw d
-    → j.ram.bytes ≡ i.ram.bytes → j.named ≡ i.named → j.rounds ≡ i.rounds → j.version ≡ i.version → j.shapes.items ≡ i.shapes.items → j.firsts.items ≡ i.firsts.items → j.bad.items ≡ i.bad.items → j.devices.items ≡ i.devices.items ++ d ∷ []
+pub more_device : (ds : List DiskState) (front : List ℕ) (opening : Opened) (others : List Shape) (shape : Shape) (before : List Record) (i j : Intake) (n : ℕ) (raw : List ℕ) (d : DeviceState) → HasRead ds opening before i front
+    → AreNamed (layout_in opening) before → HasSpelling (device n raw) → n ≡ devices_in before → drop n opening.shapes ≡ shape ∷ others → IsBodyOf opening.version shape opening.base (4096 * opening.pages) raw d
+    → j.ram.bytes ≡ i.ram.bytes → j.named ≡ i.named → j.rounds ≡ i.rounds → j.terms ≡ i.terms → j.shapes.items ≡ i.shapes.items → j.firsts.items ≡ i.firsts.items → j.bad.items ≡ i.bad.items → j.devices.items ≡ i.devices.items ++ d ∷ []
     → HasRead ds opening (before ++ device n raw ∷ []) j (front ++ spelled_record (device n raw))
-more_device ds front opening others shape before i j n raw d h named spells next here is ram marks ends same_version same_shapes same_firsts same_bad more =
+more_device ds front opening others shape before i j n raw d h named spells next here is ram marks ends same_terms same_shapes same_firsts same_bad more =
     let count : n ≡ length i.devices.items = next ∙ devices_are h in
     let r = device n raw in
     let last : device (0 + length i.devices.items) (body d) ≡ r = rw (is.is) (ap (λ (k : ℕ). device k (body d)) (omega (arith, count))) in
@@ -251,7 +253,8 @@ more_device ds front opening others shape before i j n raw d h named spells next
       fits = h.fits;
       good = good-snoc opening [] before r h.good (record { spells = spells; has = tt; may = record { named = named; next = next; shape = shape; others = others; here = here; state = d; is = is } });
       whole = texts_more front (header opening) before r h.whole;
-      version_is = same_version ∙ h.version_is;
+      version_is = ap (λ (x : Terms). x.version) same_terms ∙ h.version_is;
+      base_is = ap (λ (x : Terms). x.base) same_terms ∙ h.base_is;
       shapes_are = same_shapes ∙ h.shapes_are;
       firsts_are = same_firsts ∙ h.firsts_are;
       marks_are = rw same_bad h.marks_are;
@@ -262,33 +265,33 @@ more_device ds front opening others shape before i j n raw d h named spells next
       rounds_are = ends ∙ h.rounds_are ∙ sym (rounds_device before n raw);
       taken = rw (ram, marks, same_bad) (taken_device opening.version (AreHonestDisks (all_marks_in ds)) i.ram.bytes (held_sectors opening.shapes ds i.bad.items) i.named (layout_in opening) n raw before h.taken);
       devices_are = rw more (shown ∙ ap (λ (k : ℕ). take k opening.shapes) (sym size));
-      sound = rw more (all-snoc (IsSoundDevice (4096 * opening.pages)) i.devices.items d h.sound is.sound);
+      sound = rw more (all-snoc (IsSoundDevice opening.base (4096 * opening.pages)) i.devices.items d h.sound is.sound);
       has = rw more (all-snoc (IsDeviceOf opening.version) i.devices.items d h.has is.has);
     }
 
 -- What may stand next, by the intake.
 
-pub tag_here : {ds : List DiskState} {front : List ℕ} {opening : Opening} {before : List Record} {i : Intake} (a b tag : ℕ) → HasRead ds opening before i front → a ≡ length i.shapes.items → b ≡ length i.devices.items → MayTag i.version a b tag
+pub tag_here : {ds : List DiskState} {front : List ℕ} {opening : Opened} {before : List Record} {i : Intake} (a b tag : ℕ) → HasRead ds opening before i front → a ≡ length i.shapes.items → b ≡ length i.devices.items → MayTag i.terms.version a b tag
     → MayTag opening.version (length opening.shapes) (devices_in before) tag
 tag_here a b tag h e f m =
     let count = ap length h.shapes_are in
     let devices = devices_are h in
     record { least = m.least; most = m.most; early = λ low. omega (arith, f, devices, m.early low); missing = λ four. omega (arith, e, f, count, devices, m.missing four); since = λ six. sym h.version_is ∙ m.since six }
 
-pub tag_there : {ds : List DiskState} {front : List ℕ} {opening : Opening} {before : List Record} {i : Intake} (a b tag : ℕ) → HasRead ds opening before i front → a ≡ length i.shapes.items → b ≡ length i.devices.items
-    → MayTag opening.version (length opening.shapes) (devices_in before) tag → MayTag i.version a b tag
+pub tag_there : {ds : List DiskState} {front : List ℕ} {opening : Opened} {before : List Record} {i : Intake} (a b tag : ℕ) → HasRead ds opening before i front → a ≡ length i.shapes.items → b ≡ length i.devices.items
+    → MayTag opening.version (length opening.shapes) (devices_in before) tag → MayTag i.terms.version a b tag
 tag_there a b tag h e f m =
     let count = ap length h.shapes_are in
     let devices = devices_are h in
     record { least = m.least; most = m.most; early = λ low. omega (arith, f, devices, m.early low); missing = λ four. omega (arith, e, f, count, devices, m.missing four); since = λ six. h.version_is ∙ m.since six }
 
-pub named_all : {ds : List DiskState} {front : List ℕ} {opening : Opening} {before : List Record} {i : Intake} → HasRead ds opening before i front → All (λ (b : Bool). b ≡ true) i.named → AreNamed (layout_in opening) before
+pub named_all : {ds : List DiskState} {front : List ℕ} {opening : Opened} {before : List Record} {i : Intake} → HasRead ds opening before i front → All (λ (b : Bool). b ≡ true) i.named → AreNamed (layout_in opening) before
 named_all {opening = opening} {i = i} h all item has =
     let l = layout_in opening in
     let low = number_below l item has in
     h.taken.marks item has ∙ All-get_or (λ (x : Bool). x ≡ true) i.named (number_of l item) false (omega (arith, low, h.taken.named_size)) all
 
-pub all_named : {ds : List DiskState} {front : List ℕ} {opening : Opening} {before : List Record} {i : Intake} → HasRead ds opening before i front → AreNamed (layout_in opening) before → All (λ (b : Bool). b ≡ true) i.named
+pub all_named : {ds : List DiskState} {front : List ℕ} {opening : Opened} {before : List Record} {i : Intake} → HasRead ds opening before i front → AreNamed (layout_in opening) before → All (λ (b : Bool). b ≡ true) i.named
 all_named {opening = opening} {i = i} h named =
     let l = layout_in opening in
     All-from_get_or (λ (b : Bool). b ≡ true) i.named false

@@ -11,7 +11,7 @@ use Rattle.wire.specs.Records.{Record, commit, spelled_record, HasSpelling, IsOf
 use Rattle.wire.specs.Stream.{IsStream, IsEntry, texts, device_texts, before_commit, opening_in}
 use Rattle.machine.specs.Layout.{Layout, layout_of, pages_of}
 use Rattle.machine.specs.Sound.{IsSoundDevice}
-use Rattle.machine.specs.State.{DeviceState, MachineState}
+use Rattle.machine.specs.State.{DeviceState, MachineState, base_of}
 use Rattle.guestmem.specs.ByteLaws.{IsBytes-drop}
 use Rattle.wire.proofs.Unique.{body_spells, stream_begins, alike}
 use Rattle.wire.proofs.HeaderLemmas.{header_of-spelled}
@@ -23,6 +23,7 @@ use Rattle.receiver.specs.declared.intake.Intake.{Intake}
 use Rattle.receiver.proofs.Aligned.{records_led, LongerRecords, good_spell, next_good}
 use Rattle.receiver.proofs.Knowing.{texts-append, texts_devices, no_other}
 use Rattle.receiver.proofs.Working.{front_of, commit_text}
+use Rattle.receiver.specs.Opened.{Opened, said_by}
 use Rattle.wire.specs.Header.{Opening}
 
 -- A record that has an encoding in this version.
@@ -33,10 +34,10 @@ entries_spell : (v : ℕ) (l : Layout) (es : List Record) → AllByRecursion (Is
 entries_spell v l [] h = tt
 entries_spell v l (r ∷ es) h = ((h.0.spells, h.0.has), entries_spell v l es h.1)
 
-devices_spell : (v ram_len k : ℕ) (ds : List DeviceState) → k + length ds ≤ 256 → AllByRecursion (IsSoundDevice ram_len) ds → AllByRecursion (IsText v) (device_records k ds)
+devices_spell : (v base ram_len k : ℕ) (ds : List DeviceState) → k + length ds ≤ 256 → AllByRecursion (IsSoundDevice base ram_len) ds → AllByRecursion (IsText v) (device_records k ds)
 unfolding device_records
-devices_spell v ram_len k [] low h = tt
-devices_spell v ram_len k (d ∷ ds) low h = ((body_spells ram_len k d (omega (arith, low)) h.0, tt), devices_spell v ram_len (k + 1) ds (omega (arith, low)) h.1)
+devices_spell v base ram_len k [] low h = tt
+devices_spell v base ram_len k (d ∷ ds) low h = ((body_spells ram_len k d (omega (arith, low)) h.0, tt), devices_spell v base ram_len (k + 1) ds (omega (arith, low)) h.1)
 
 both_spell : (v : ℕ) (rs ss : List Record) → AllByRecursion (IsText v) rs → AllByRecursion (IsText v) ss → AllByRecursion (IsText v) (rs ++ ss)
 both_spell v [] ss h k = k
@@ -60,13 +61,13 @@ spell_behind : (v : ℕ) (rs more : List Record) → AllByRecursion (IsText v) (
 spell_behind v [] more h = h
 spell_behind v (r ∷ rs) more h = spell_behind v rs more h.1
 
-not_led_off : (opening : Opening) (before others more : List Record) (tail digest : List ℕ) → AreGood opening [] before → before ≡ others ++ more → ((x : List ℕ) → ¬ (tail ≡ (5 ∷ digest) ++ x)) → 5 ∷ digest ≡ texts more ++ tail → ⊥
+not_led_off : (opening : Opened) (before others more : List Record) (tail digest : List ℕ) → AreGood opening [] before → before ≡ others ++ more → ((x : List ℕ) → ¬ (tail ≡ (5 ∷ digest) ++ x)) → 5 ∷ digest ≡ texts more ++ tail → ⊥
 unfolding texts
 not_led_off opening before others [] tail digest good all other e = other [] (sym e ∙ sym (append-nil (5 ∷ digest)))
 not_led_off opening before others (r ∷ more) tail digest good all other e =
     no_other opening others digest r (texts more ++ tail) (next_good opening [] others more r (rw all at good)) (e ∙ append_assoc (spelled_record r) (texts more) tail)
 
-not_led : (opening : Opening) (before others : List Record) (tail digest : List ℕ) → AreGood opening [] before → AllByRecursion (IsText opening.version) others → BeginsNoRecord opening.version tail → ((x : List ℕ) → ¬ (tail ≡ (5 ∷ digest) ++ x))
+not_led : (opening : Opened) (before others : List Record) (tail digest : List ℕ) → AreGood opening [] before → AllByRecursion (IsText opening.version) others → BeginsNoRecord opening.version tail → ((x : List ℕ) → ¬ (tail ≡ (5 ∷ digest) ++ x))
     → LongerRecords before others tail (5 ∷ digest) ⊎ LongerRecords others before (5 ∷ digest) tail → ⊥
 not_led opening before others tail digest good spell none other (inl l) = not_led_on opening.version l.more tail (5 ∷ digest) none (spell_behind opening.version before l.more (rw l.all at spell)) other l.left
 not_led opening before others tail digest good spell none other (inr l) = not_led_off opening before others l.more tail digest good l.all other l.left
@@ -74,17 +75,17 @@ not_led opening before others tail digest good spell none other (inr l) = not_le
 pub no_stream_head : (held : List ℕ) (m : MachineState) → WaitsHead held → ¬ (IsStream held m)
 no_stream_head held m w s = w.no_header (opening_in s.version (pages_of m) m.devices) _ (stream_begins s.by)
 
-pub no_stream_reading : (ds : List DiskState) (read tail held : List ℕ) (i : Intake) (m : MachineState) → IsBytes held → held ≡ read ++ tail → IsReading ds read tail i → ¬ (IsStream held m)
-no_stream_reading ds read tail held i m are parts r s =
+pub no_stream_reading : (base : ℕ) (ds : List DiskState) (read tail held : List ℕ) (i : Intake) (m : MachineState) → IsBytes held → held ≡ read ++ tail → IsReading base ds read tail i → ¬ (IsStream held m)
+no_stream_reading base ds read tail held i m are parts r s =
     let o = r.open_at in
     let front = front_of held tail o.read parts in
     let opening = opening_in s.version (pages_of m) m.devices in
     let before_all = before_commit s.version (pages_of m) s.entries m.devices in
     let digest = sha256 before_all in
     let others = s.entries ++ device_records 0 m.devices in
-    let a = header_of-spelled held r.opening (texts o.before ++ tail) front.begins in
+    let a = header_of-spelled held (said_by r.opening) (texts o.before ++ tail) front.begins in
     let b = header_of-spelled held opening (texts s.entries ++ (device_texts 0 m.devices ++ spelled_record (commit digest))) (stream_begins s.by) in
-    let t = alike r.opening opening (texts o.before ++ tail) (texts s.entries ++ (device_texts 0 m.devices ++ spelled_record (commit digest))) (sym a ∙ b) in
+    let t = alike (said_by r.opening) opening (texts o.before ++ tail) (texts s.entries ++ (device_texts 0 m.devices ++ spelled_record (commit digest))) (sym a ∙ b) in
     let text : texts others ≡ texts s.entries ++ device_texts 0 m.devices = texts-append s.entries (device_records 0 m.devices) ∙ ap (λ (x : List ℕ). texts s.entries ++ x) (texts_devices 0 m.devices) in
     let same : texts o.before ++ tail ≡ texts others ++ (5 ∷ digest) =
     t.1 ∙ sym (append_assoc (texts s.entries) (device_texts 0 m.devices) (spelled_record (commit digest))) ∙ ap (λ (x : List ℕ). (texts s.entries ++ device_texts 0 m.devices) ++ x) (commit_text digest)
@@ -93,7 +94,7 @@ no_stream_reading ds read tail held i m are parts r s =
     let spells : HasSpelling (commit digest) = (length-sha256 before_all, digest_bytes before_all digest held are whole) in
     let version : s.version ≡ r.opening.version = ap (λ (x : Opening). x.version) (sym t.0) in
     let each : AllByRecursion (IsText s.version) others = both_spell s.version s.entries (device_records 0 m.devices) (entries_spell s.version (layout_of m) s.entries s.by.each)
-    (devices_spell s.version (length m.ram) 0 m.devices (omega (arith, s.by.sound.few_devices)) (recursion_from_All (IsSoundDevice (length m.ram)) m.devices s.by.sound.devices)) in
+    (devices_spell s.version (base_of m.devices) (length m.ram) 0 m.devices (omega (arith, s.by.sound.few_devices)) (recursion_from_All (IsSoundDevice (base_of m.devices) (length m.ram)) m.devices s.by.sound.devices)) in
     let spell : AllByRecursion (IsText r.opening.version) others = subst (λ (v : ℕ). AllByRecursion (IsText v) others) version each in
     not_led r.opening o.before others tail digest o.read.good spell o.waits.no_record
     (λ x e. o.waits.no_record (commit digest) x spells tt (e ∙ ap (λ (y : List ℕ). y ++ x) (sym (commit_text digest))))

@@ -5,13 +5,13 @@ use Rattle.std.proofs.lemmas.List.Elements.{recursion_from_All}
 use Rattle.std.specs.List.{AllByRecursion}
 use Rattle.sha2.specs.Sha256.{sha256}
 use Rattle.wire.specs.DeviceBody.{body, IsDeviceOf}
-use Rattle.wire.specs.Header.{header, Opening, layout_in}
+use Rattle.receiver.specs.Opened.{Opened, header, layout_in, opened}
 use Rattle.wire.specs.Records.{Record, page, sector, round_end, device, commit, zero_page}
 use Rattle.wire.specs.Stream.{IsStream, IsEntry, AreNumbered, texts, rounds, shapes_in, device_texts, before_commit, opening_in}
 use Rattle.machine.specs.Layout.{Layout, layout_of, pages_of}
 use Rattle.machine.specs.Sound.{IsSoundDevice}
 use Rattle.blk.specs.Sectors.{Sector}
-use Rattle.machine.specs.State.{DeviceState, MachineState}
+use Rattle.machine.specs.State.{DeviceState, MachineState, base_of}
 use Rattle.machine.proofs.Numbering.{sound_layout}
 use Rattle.receiver.proofs.Takings.{rounds_page, rounds_round, rounds_sector, rounds_zeros}
 use Rattle.wire.proofs.Unique.{body_spells, length_shapes, stream_begins}
@@ -55,7 +55,7 @@ one_in_device : (d : ℕ) (b : List ℕ) → devices_in (device d b ∷ []) ≡ 
 unfolding devices_in
 one_in_device d b = refl
 
-entries_good : (opening : Opening) (acc es : List Record) → AllByRecursion (IsEntry opening.version (layout_in opening)) es → AreNumbered (rounds acc + 1) es → devices_in acc ≡ 0 → AreGood opening acc es
+entries_good : (opening : Opened) (acc es : List Record) → AllByRecursion (IsEntry opening.version (layout_in opening)) es → AreNumbered (rounds acc + 1) es → devices_in acc ≡ 0 → AreGood opening acc es
 unfolding AreGood
 entries_good opening acc [] h k none = tt
 entries_good opening acc (page n b ∷ es) h k none = (
@@ -77,7 +77,7 @@ entries_good opening acc (zero_page n ∷ es) h k none = (
   entries_good opening (acc ++ zero_page n ∷ []) es h.1 (rw (rounds_zeros acc n) k) (omega (arith, none, devices_in-append acc (zero_page n ∷ []), none_in_zeros n)),
 )
 
-devices_good : (opening : Opening) (k : ℕ) (acc : List Record) (ds : List DeviceState) → AreNamed (layout_in opening) acc → devices_in acc ≡ k → k + length ds ≤ 256 → drop k opening.shapes ≡ shapes_in ds → AllByRecursion (IsSoundDevice (4096 * opening.pages)) ds
+devices_good : (opening : Opened) (k : ℕ) (acc : List Record) (ds : List DeviceState) → AreNamed (layout_in opening) acc → devices_in acc ≡ k → k + length ds ≤ 256 → drop k opening.shapes ≡ shapes_in ds → AllByRecursion (IsSoundDevice opening.base (4096 * opening.pages)) ds
     → AllByRecursion (IsDeviceOf opening.version) ds → AreGood opening acc (device_records k ds)
 unfolding AreGood device_records
 devices_good opening k acc [] named count low here h has = tt
@@ -93,7 +93,7 @@ devices_good opening k acc (d ∷ ds) named count low here h has =
           (omega (arith, count, devices_in-append acc (device k (body d) ∷ []), one_in_device k (body d))) (omega (arith, low)) after h.1 has.1,
     )
 
-good-append : (opening : Opening) (acc rs ss : List Record) → AreGood opening acc rs → AreGood opening (acc ++ rs) ss → AreGood opening acc (rs ++ ss)
+good-append : (opening : Opened) (acc rs ss : List Record) → AreGood opening acc rs → AreGood opening (acc ++ rs) ss → AreGood opening acc (rs ++ ss)
 unfolding AreGood
 good-append opening acc [] ss h k = rw (append-nil acc) at k
 good-append opening acc (r ∷ rs) ss h k =
@@ -113,18 +113,18 @@ unfolding device_records
 count_none v l es h = count_all v l 0 es [] h
 
 -- What a stream opens with.
-abbrev opens_with : {bytes : List ℕ} {m : MachineState} → IsStream bytes m → Opening
-opens_with {m = m} s = opening_in s.version (pages_of m) m.devices
+abbrev opens_with : {bytes : List ℕ} {m : MachineState} → IsStream bytes m → Opened
+opens_with {m = m} s = opened (base_of m.devices) (opening_in s.version (pages_of m) m.devices)
 
 -- Where the good records of a stream end.
-record StreamFront (sizes bytes : List ℕ) (m : MachineState) (s : IsStream bytes m) : Type 0 where
+record StreamFront (base : ℕ) (sizes bytes : List ℕ) (m : MachineState) (s : IsStream bytes m) : Type 0 where
   digest : List ℕ
-  front : IsFront sizes bytes (opens_with s) (s.entries ++ device_records 0 m.devices) (5 ∷ digest)
+  front : IsFront base sizes bytes (opens_with s) (s.entries ++ device_records 0 m.devices) (5 ∷ digest)
   complete : IsComplete (opens_with s) (s.entries ++ device_records 0 m.devices) 5
   digest_is : digest ≡ sha256 (header (opens_with s) ++ texts (s.entries ++ device_records 0 m.devices))
 
-stream_front : (sizes bytes : List ℕ) (m : MachineState) (s : IsStream bytes m) → sizes ≡ disk_sizes (shapes_in m.devices) → StreamFront sizes bytes m s
-stream_front sizes bytes m s fits =
+stream_front : (base : ℕ) (sizes bytes : List ℕ) (m : MachineState) (s : IsStream bytes m) → base_of m.devices ≡ base → sizes ≡ disk_sizes (shapes_in m.devices) → StreamFront base sizes bytes m s
+stream_front base sizes bytes m s based fits =
     let opening = opens_with s in
     let devices = device_records 0 m.devices in
     let all = s.entries ++ devices in
@@ -136,7 +136,7 @@ stream_front sizes bytes m s fits =
     let layout : layout_of m ≡ layout_in opening = sound_layout m s.by.sound in
     let named : AreNamed (layout_in opening) s.entries = λ item has. ap is_some (s.by.last item (rw layout has)) in
     let named_all : AreNamed (layout_in opening) all = λ item has. ap is_some (last_entries item 0 s.entries m.devices) ∙ named item has in
-    let sound : AllByRecursion (IsSoundDevice (4096 * (pages_of m))) m.devices = rw s.by.sound.whole_pages at (recursion_from_All (IsSoundDevice (length m.ram)) m.devices s.by.sound.devices) in
+    let sound : AllByRecursion (IsSoundDevice (base_of m.devices) (4096 * (pages_of m))) m.devices = rw s.by.sound.whole_pages at (recursion_from_All (IsSoundDevice (base_of m.devices) (length m.ram)) m.devices s.by.sound.devices) in
     let has : AllByRecursion (IsDeviceOf s.version) m.devices = recursion_from_All (IsDeviceOf s.version) m.devices s.by.devices in
     let goods : AreGood opening [] s.entries = entries_good opening [] s.entries (rw layout at s.by.each) (rw none_ended s.by.numbered) none_yet in
     let few : 0 + length m.devices ≤ 256 = omega (arith, s.by.sound.few_devices) in
@@ -147,17 +147,17 @@ stream_front sizes bytes m s fits =
     s.by.whole ∙ ap (λ (x : List ℕ). before_all ++ x) (commit_text digest) ∙ ap (λ (x : List ℕ). x ++ (5 ∷ digest)) (sym front) ∙ append_assoc (header opening) (texts all) (5 ∷ digest) in
     record {
       digest = digest;
-      front = record { begins = record { good = b.good; whole = whole }; fits = fits; good = good };
+      front = record { begins = record { good = b.good; whole = whole }; based = based; fits = fits; good = good };
       complete = complete;
       digest_is = ap sha256 (sym front);
     }
 
-pub stream_quiet : (sizes bytes : List ℕ) (m : MachineState) → IsStream bytes m → sizes ≡ disk_sizes (shapes_in m.devices) → NoFault sizes bytes
-stream_quiet sizes bytes m s fits =
+pub stream_quiet : (base : ℕ) (sizes bytes : List ℕ) (m : MachineState) → IsStream bytes m → base_of m.devices ≡ base → sizes ≡ disk_sizes (shapes_in m.devices) → NoFault base sizes bytes
+stream_quiet base sizes bytes m s based fits =
     let opening = opens_with s in
     let all = s.entries ++ device_records 0 m.devices in
-    let f = stream_front sizes bytes m s fits in
-    quiet_front sizes bytes opening all (5 ∷ f.digest) f.front (λ r y g e. no_other opening all f.digest r y g e) (end_quiet opening all f.digest f.complete f.digest_is)
+    let f = stream_front base sizes bytes m s based fits in
+    quiet_front base sizes bytes opening all (5 ∷ f.digest) f.front (λ r y g e. no_other opening all f.digest r y g e) (end_quiet opening all f.digest f.complete f.digest_is)
 
 rounds_entries : (es : List Record) (ds : List DeviceState) → rounds (es ++ device_records 0 ds) ≡ rounds es
 unfolding rounds
@@ -169,9 +169,9 @@ rounds_entries (device d b ∷ es) ds = rounds_entries es ds
 rounds_entries (commit b ∷ es) ds = rounds_entries es ds
 rounds_entries (zero_page z ∷ es) ds = rounds_entries es ds
 
-pub stream_rounds : (sizes bytes : List ℕ) (m : MachineState) (n : ℕ) (s : IsStream bytes m) → sizes ≡ disk_sizes (shapes_in m.devices) → HasRounds sizes bytes n → rounds s.entries ≡ n
-stream_rounds sizes bytes m n s fits h =
+pub stream_rounds : (base : ℕ) (sizes bytes : List ℕ) (m : MachineState) (n : ℕ) (s : IsStream bytes m) → base_of m.devices ≡ base → sizes ≡ disk_sizes (shapes_in m.devices) → HasRounds base sizes bytes n → rounds s.entries ≡ n
+stream_rounds base sizes bytes m n s based fits h =
     let opening = opens_with s in
     let all = s.entries ++ device_records 0 m.devices in
-    let f = stream_front sizes bytes m s fits in
+    let f = stream_front base sizes bytes m s based fits in
     sym (h.some opening all (5 ∷ f.digest) f.front (λ r y g e. no_other opening all f.digest r y g e) ∙ rounds_entries s.entries m.devices)

@@ -6,7 +6,7 @@ use Rattle.sha2.specs.Hashers.{Holds256}
 use Rattle.sha2.specs.Sha256.{sha256}
 use Rattle.sha2.specs.declared.Sha256.{Sha256}
 use Rattle.sha2.proofs.Facts256.{length-sha256}
-use Rattle.wire.specs.Header.{header, Opening}
+use Rattle.receiver.specs.Opened.{header, Opened}
 use Rattle.wire.specs.Records.{Record, commit, spelled_record}
 use Rattle.wire.specs.Stream.{texts}
 use Rattle.blk.specs.Disk.{DiskState}
@@ -86,21 +86,21 @@ refused_kept ds errors.DiskFailed n = absurd (n refl)
 refused_kept ds errors.NoMemory n = record { sizes = refl; marks = refl }
 refused_kept ds errors.AlreadyFailed n = record { sizes = refl; marks = refl }
 
-never_disk : (opening : Opening) (before : List Record) (tail : List ℕ) (e : RecvError) (place : ℕ) → IsFault opening before tail e place → e ≢ errors.DiskFailed
+never_disk : (opening : Opened) (before : List Record) (tail : List ℕ) (e : RecvError) (place : ℕ) → IsFault opening before tail e place → e ≢ errors.DiskFailed
 never_disk opening before tail e place f same = let no : IsFault opening before tail errors.DiskFailed place = rw same at f in no
 
-pub fault_refused : (ds : List DiskState) (opening : Opening) (before : List Record) (tail : List ℕ) (e : RecvError) → (place : ℕ) × IsFault opening before tail e place
+pub fault_refused : (ds : List DiskState) (opening : Opened) (before : List Record) (tail : List ℕ) (e : RecvError) → (place : ℕ) × IsFault opening before tail e place
     → AreRefused ds ds e × Tells e ((place : ℕ) × IsFault opening before tail e place)
 fault_refused ds opening before tail e f = (refused_kept ds e (never_disk opening before tail e f.0 f.1), tells _ e f)
 
 -- Whole good records so far.
-pub record SoFar (old ds : List DiskState) (opening : Opening) (i : Intake) (digest : Sha256) (front : List ℕ) : Type 0 where
+pub record SoFar (old ds : List DiskState) (opening : Opened) (i : Intake) (digest : Sha256) (front : List ℕ) : Type 0 where
   pub before : List Record
   pub same : AreKept old ds
   pub digested : Holds256 digest front
   pub read : HasRead ds opening before i front
 
-pub nothing_yet : (ds : List DiskState) (opening : Opening) (before : List Record) (i : Intake) (digest : Sha256) (front bytes : List ℕ) → Holds256 digest front → HasRead ds opening before i front → SoFar ds ds opening i digest (front ++ take 0 bytes)
+pub nothing_yet : (ds : List DiskState) (opening : Opened) (before : List Record) (i : Intake) (digest : Sha256) (front bytes : List ℕ) → Holds256 digest front → HasRead ds opening before i front → SoFar ds ds opening i digest (front ++ take 0 bytes)
 nothing_yet ds opening before i digest front bytes d h =
     let same : front ++ take 0 bytes ≡ front = append-nil front in
     record { before = before; same = kept ds; digested = rw same d; read = rw same h }
@@ -108,54 +108,58 @@ nothing_yet ds opening before i digest front bytes d h =
 more_taken : (front bytes : List ℕ) (at len : ℕ) → (front ++ take at bytes) ++ take len (drop at bytes) ≡ front ++ take (at + len) bytes
 more_taken front bytes at len = append_assoc front (take at bytes) (take len (drop at bytes)) ∙ ap (λ (x : List ℕ). front ++ x) (sym (take-add at len bytes))
 
-pub one_more : (old ds new : List DiskState) (opening : Opening) (before : List Record) (i : Intake) (digest : Sha256) (front bytes : List ℕ) (at len : ℕ) → AreKept old ds → Holds256 digest ((front ++ take at bytes) ++ take len (drop at bytes))
+pub one_more : (old ds new : List DiskState) (opening : Opened) (before : List Record) (i : Intake) (digest : Sha256) (front bytes : List ℕ) (at len : ℕ) → AreKept old ds → Holds256 digest ((front ++ take at bytes) ++ take len (drop at bytes))
     → AreKept ds new × ((r : Record) × HasRead new opening (before ++ r ∷ []) i ((front ++ take at bytes) ++ take len (drop at bytes))) → SoFar old new opening i digest (front ++ take (at + len) bytes)
 one_more old ds new opening before i digest front bytes at len same d h =
     let P : List ℕ → Type 0 = λ x. Holds256 digest x in
     let Q : List ℕ → Type 0 = λ x. HasRead new opening (before ++ h.1.0 ∷ []) i x in
     record { before = before ++ h.1.0 ∷ []; same = then_kept old ds new same h.0; digested = subst P (more_taken front bytes at len) d; read = subst Q (more_taken front bytes at len) h.1.1 }
 
-pub front_of : {ds : List DiskState} {opening : Opening} {before : List Record} {i : Intake} {front : List ℕ} (bytes tail : List ℕ) → HasRead ds opening before i front → bytes ≡ front ++ tail → IsFront (sizes_in ds) bytes opening before tail
+pub front_of : {ds : List DiskState} {opening : Opened} {before : List Record} {i : Intake} {front : List ℕ} (bytes tail : List ℕ) → HasRead ds opening before i front → bytes ≡ front ++ tail → IsFront opening.base (sizes_in ds) bytes opening before tail
 front_of {opening = opening} {before = before} bytes tail h e = record {
   begins = record { good = h.head; whole = e ∙ ap (λ (x : List ℕ). x ++ tail) h.whole ∙ append_assoc (header opening) (texts before) tail };
+  based = refl;
   fits = h.fits;
   good = h.good;
 }
 
-pub fault_here : {ds : List DiskState} {opening : Opening} {before : List Record} {i : Intake} {front : List ℕ} (bytes tail : List ℕ) (e : RecvError) → HasRead ds opening before i front → bytes ≡ front ++ tail
-    → (place : ℕ) × IsFault opening before tail e place → (at : ℕ) × Fault (sizes_in ds) bytes e at
+pub front_at : {base : ℕ} {sizes bytes : List ℕ} {opening : Opened} {before : List Record} {tail : List ℕ} → opening.base ≡ base → IsFront opening.base sizes bytes opening before tail → IsFront base sizes bytes opening before tail
+front_at {base} {sizes} {bytes} {opening} {before} {tail} based front = subst (λ (b : ℕ). IsFront b sizes bytes opening before tail) based front
+
+pub fault_here : {ds : List DiskState} {opening : Opened} {before : List Record} {i : Intake} {front : List ℕ} (bytes tail : List ℕ) (e : RecvError) → HasRead ds opening before i front → bytes ≡ front ++ tail
+    → (place : ℕ) × IsFault opening before tail e place → (at : ℕ) × Fault opening.base (sizes_in ds) bytes e at
 fault_here {opening = opening} {before = before} bytes tail e h is f =
     (length (header opening ++ texts before) + f.0, inr (record { opening = opening; before = before; tail = tail; place = f.0; front = front_of bytes tail h is; fault = f.1; there = refl }))
 
 pub cut : (front bytes : List ℕ) (at : ℕ) → front ++ bytes ≡ (front ++ take at bytes) ++ drop at bytes
 cut front bytes at = ap (λ (x : List ℕ). front ++ x) (sym (take-append-drop at bytes)) ∙ sym (append_assoc front (take at bytes) (drop at bytes))
 
-pub refused : (old ds new : List DiskState) (opening : Opening) (before : List Record) (i : Intake) (front bytes : List ℕ) (at : ℕ) (e : RecvError) → AreKept old ds → HasRead ds opening before i (front ++ take at bytes)
-    → AreRefused ds new e × Tells e ((place : ℕ) × IsFault opening before (drop at bytes) e place) → AreRefused old new e × Tells e ((k : ℕ) × Fault (sizes_in old) (front ++ bytes) e k)
+pub refused : (old ds new : List DiskState) (opening : Opened) (before : List Record) (i : Intake) (front bytes : List ℕ) (at : ℕ) (e : RecvError) → AreKept old ds → HasRead ds opening before i (front ++ take at bytes)
+    → AreRefused ds new e × Tells e ((place : ℕ) × IsFault opening before (drop at bytes) e place) → AreRefused old new e × Tells e ((k : ℕ) × Fault opening.base (sizes_in old) (front ++ bytes) e k)
 refused old ds new opening before i front bytes at e same h t =
-    (then_refused old ds new e same t.0, tells_more _ _ e (λ f. subst (λ sizes. (k : ℕ) × Fault sizes (front ++ bytes) e k) same.sizes (fault_here (front ++ bytes) (drop at bytes) e h (cut front bytes at) f)) t.1)
+    (then_refused old ds new e same t.0, tells_more _ _ e (λ f. subst (λ sizes. (k : ℕ) × Fault opening.base sizes (front ++ bytes) e k) same.sizes (fault_here (front ++ bytes) (drop at bytes) e h (cut front bytes at) f)) t.1)
 
-pub waiting : (old ds new : List DiskState) (opening : Opening) (before : List Record) (i : Intake) (digest : Sha256) (front tail : List ℕ) → AreKept old ds → Holds256 digest front → AreKept ds new × HasRead new opening before i front × Waits opening before tail
+pub waiting : (old ds new : List DiskState) (opening : Opened) (before : List Record) (i : Intake) (digest : Sha256) (front tail : List ℕ) → AreKept old ds → Holds256 digest front → AreKept ds new × HasRead new opening before i front × Waits opening before tail
     → AreKept old new × Holds256 digest front × IsOpen new opening i front tail
 waiting old ds new opening before i digest front tail same d h = (then_kept old ds new same h.0, d, record { before = before; read = h.1; waits = h.2 })
 
-pub at_end : (old ds : List DiskState) (opening : Opening) (i : Intake) (digest : Sha256) (front bytes : List ℕ) (at : ℕ) → SoFar old ds opening i digest (front ++ take at bytes) → length bytes ≤ at
+pub at_end : (old ds : List DiskState) (opening : Opened) (i : Intake) (digest : Sha256) (front bytes : List ℕ) (at : ℕ) → SoFar old ds opening i digest (front ++ take at bytes) → length bytes ≤ at
     → AreKept old ds × Holds256 digest (front ++ take at bytes) × IsOpen ds opening i (front ++ take at bytes) (drop at bytes)
 at_end old ds opening i digest front bytes at h le = (h.same, h.digested, record { before = h.before; read = h.read; waits = nothing_waits opening h.before (drop at bytes) (omega (arith, le, length-drop at bytes)) })
 
-trailing_by : (opening : Opening) (before : List Record) (tail more : List ℕ) → Opens opening before tail 5 (sha256 (header opening ++ texts before) ++ more) → 33 < length tail → IsTrailing opening before tail 34
+trailing_by : (opening : Opened) (before : List Record) (tail more : List ℕ) → Opens opening before tail 5 (sha256 (header opening ++ texts before) ++ more) → 33 < length tail → IsTrailing opening before tail 34
 trailing_by opening before tail [] o long = absurd (omega (arith, long, ap length o.whole, length-append (sha256 (header opening ++ texts before)) [], length-sha256 (header opening ++ texts before)))
 trailing_by opening before tail (byte ∷ more) o long = record { byte = byte; more = more; opens = o; there = refl }
 
-pub trailing : (old ds new : List DiskState) (opening : Opening) (before : List Record) (i : Intake) (front bytes : List ℕ) (at : ℕ) → AreKept old ds → AreKept ds new × HasRead new opening before i (front ++ take at bytes) × Ends opening before (drop at bytes) → at + 33 < length bytes
-    → AreRefused old new errors.Trailing × ((k : ℕ) × Fault (sizes_in old) (front ++ bytes) errors.Trailing k)
+pub trailing : (old ds new : List DiskState) (opening : Opened) (before : List Record) (i : Intake) (front bytes : List ℕ) (at : ℕ) → AreKept old ds → AreKept ds new × HasRead new opening before i (front ++ take at bytes) × Ends opening before (drop at bytes) → at + 33 < length bytes
+    → AreRefused old new errors.Trailing × ((k : ℕ) × Fault opening.base (sizes_in old) (front ++ bytes) errors.Trailing k)
 trailing old ds new opening before i front bytes at same h long =
     let both = then_kept old ds new same h.0 in (
       record { sizes = both.sizes; marks = both.marks },
-      subst (λ sizes. (k : ℕ) × Fault sizes (front ++ bytes) errors.Trailing k) both.sizes (fault_here (front ++ bytes) (drop at bytes) errors.Trailing h.1 (cut front bytes at) (34, trailing_by opening before (drop at bytes) h.2.more h.2.opens (omega (arith, long, length-drop at bytes)))),
+      subst (λ sizes. (k : ℕ) × Fault opening.base sizes (front ++ bytes) errors.Trailing k) both.sizes (fault_here (front ++ bytes) (drop at bytes) errors.Trailing h.1 (cut front bytes at) (34, trailing_by opening before (drop at bytes) h.2.more h.2.opens (omega (arith, long, length-drop at bytes)))),
     )
 
-ended_by : (opening : Opening) (before : List Record) (tail more : List ℕ) → Opens opening before tail 5 (sha256 (header opening ++ texts before) ++ more) → length tail ≤ 33 → tail ≡ 5 ∷ sha256 (header opening ++ texts before)
+ended_by : (opening : Opened) (before : List Record) (tail more : List ℕ) → Opens opening before tail 5 (sha256 (header opening ++ texts before) ++ more) → length tail ≤ 33 → tail ≡ 5 ∷ sha256 (header opening ++ texts before)
 ended_by opening before tail [] o short = o.whole ∙ ap (λ (x : List ℕ). 5 ∷ x) (append-nil (sha256 (header opening ++ texts before)))
 ended_by opening before tail (byte ∷ more) o short = absurd (omega (arith, short, ap length o.whole, length-append (sha256 (header opening ++ texts before)) (byte ∷ more), length-sha256 (header opening ++ texts before)))
 
@@ -163,7 +167,7 @@ pub commit_text : (digest : List ℕ) → spelled_record (commit digest) ≡ 5 �
 unfolding spelled_record
 commit_text digest = refl
 
-pub ended : (old ds new : List DiskState) (opening : Opening) (before : List Record) (i : Intake) (front bytes : List ℕ) (at : ℕ) → AreKept old ds → AreKept ds new × HasRead new opening before i (front ++ take at bytes) × Ends opening before (drop at bytes) → length bytes ≤ at + 33
+pub ended : (old ds new : List DiskState) (opening : Opened) (before : List Record) (i : Intake) (front bytes : List ℕ) (at : ℕ) → AreKept old ds → AreKept ds new × HasRead new opening before i (front ++ take at bytes) × Ends opening before (drop at bytes) → length bytes ≤ at + 33
     → at + 33 ≡ length bytes → AreKept old new × (at + 33 ≡ length bytes) × IsEnded new opening i (front ++ bytes)
 ended old ds new opening before i front bytes at same h short all =
     let tail = ended_by opening before (drop at bytes) h.2.more h.2.opens (omega (arith, short, length-drop at bytes)) in

@@ -19,7 +19,7 @@ use Rattle.receiver.specs.declared.recv_error.RecvError.{RecvError}
 use Rattle.receiver.specs.declared.recv_error.RecvError.TheVariants as errors
 use Rattle.receiver.proofs.Sectors.{disk_below, marks_kept, marks_length, sizes_kept}
 use Rattle.receiver.proofs.Steps.{more_sector}
-use Rattle.wire.specs.Header.{Opening}
+use Rattle.receiver.specs.Opened.{Opened}
 
 -- A disk among the disks, by its sizes.
 pub size_told : {D : Type 0} (state : D → DiskState) (disks : List D) (k : ℕ) (x : D) (n : ℕ) → n < get_or (sizes_of state disks) k 0 → n < length (state (get_or disks k x)).sectors
@@ -73,12 +73,12 @@ pub disk_refused : (F : Type 0) (a b : List DiskState) (e : RecvError) → (e �
 disk_refused F a b e h = rw h.0 (h.1, tt)
 
 -- One that succeeded.
-pub took_good : {T E : Type 0} (ds : List DiskState) (d : DiskState) (front : List ℕ) (opening : Opening) (before : List Record) (i j : Intake) (dev n : ℕ) (b : List ℕ) (spot : Spot) (u : T) → HasRead ds opening before i front → devices_in before ≡ 0
+pub took_good : {T E : Type 0} (ds : List DiskState) (d : DiskState) (front : List ℕ) (opening : Opened) (before : List Record) (i j : Intake) (dev n : ℕ) (b : List ℕ) (spot : Spot) (u : T) → HasRead ds opening before i front → devices_in before ≡ 0
     → HasSpelling (sector dev n (Some b)) → IsSpotOf opening dev n spot → Writes {E = E} (get_or ds spot.disk d) n b (Ok u) d
     → j.bad.items ≡ set i.bad.items spot.disk (set (get_or i.bad.items spot.disk []) n false) → j.named ≡ set i.named spot.item true
-    → j.ram.bytes ≡ i.ram.bytes → j.rounds ≡ i.rounds → j.version ≡ i.version → j.shapes.items ≡ i.shapes.items → j.devices.items ≡ i.devices.items → j.firsts.items ≡ i.firsts.items
+    → j.ram.bytes ≡ i.ram.bytes → j.rounds ≡ i.rounds → j.terms ≡ i.terms → j.shapes.items ≡ i.shapes.items → j.devices.items ≡ i.devices.items → j.firsts.items ≡ i.firsts.items
     → AreKept ds (set ds spot.disk d) × HasRead (set ds spot.disk d) opening (before ++ sector dev n (Some b) ∷ []) j (front ++ spelled_record (sector dev n (Some b)))
-took_good {E = E} ds d front opening before i j dev n b spot u h none spells at wrote bad named ram ends same_version same_shapes same_devices same_firsts =
+took_good {E = E} ds d front opening before i j dev n b spot u h none spells at wrote bad named ram ends same_terms same_shapes same_devices same_firsts =
     let k = disks_before opening.shapes dev in
     let w : Writes {E = E} (get_or ds k d) n b (Ok u) d = rw at.disk at wrote in
     let low = disk_below opening.shapes ds dev n h.head.sound h.fits at.there in
@@ -88,15 +88,15 @@ took_good {E = E} ds d front opening before i j dev n b spot u h none spells at 
       record { sizes = sizes_kept ds k d w.keeps.size; marks = marks_kept ds k d marks },
       more_sector ds d front opening before i j dev n (Some b) (set (get_or i.bad.items k []) n false) h none spells at.there marks w.keeps.size (simp length-set)
           (λ honest. ap (λ ss. sectors_of ss (set (get_or i.bad.items k []) n false)) (w.set honest) ∙ set_good (get_or ds k d).sectors (get_or i.bad.items k []) n b long)
-          (rw at.disk at bad) (rw at.item at named) ram ends same_version same_shapes same_devices same_firsts,
+          (rw at.disk at bad) (rw at.item at named) ram ends same_terms same_shapes same_devices same_firsts,
     )
 
-pub took_bad : (ds : List DiskState) (front : List ℕ) (opening : Opening) (before : List Record) (i j : Intake) (dev n : ℕ) (spot : Spot) → HasRead ds opening before i front → devices_in before ≡ 0
+pub took_bad : (ds : List DiskState) (front : List ℕ) (opening : Opened) (before : List Record) (i j : Intake) (dev n : ℕ) (spot : Spot) → HasRead ds opening before i front → devices_in before ≡ 0
     → HasSpelling (sector dev n None) → IsSpotOf opening dev n spot
     → j.bad.items ≡ set i.bad.items spot.disk (set (get_or i.bad.items spot.disk []) n true) → j.named ≡ set i.named spot.item true
-    → j.ram.bytes ≡ i.ram.bytes → j.rounds ≡ i.rounds → j.version ≡ i.version → j.shapes.items ≡ i.shapes.items → j.devices.items ≡ i.devices.items → j.firsts.items ≡ i.firsts.items
+    → j.ram.bytes ≡ i.ram.bytes → j.rounds ≡ i.rounds → j.terms ≡ i.terms → j.shapes.items ≡ i.shapes.items → j.devices.items ≡ i.devices.items → j.firsts.items ≡ i.firsts.items
     → HasRead ds opening (before ++ sector dev n None ∷ []) j (front ++ spelled_record (sector dev n None))
-took_bad ds front opening before i j dev n spot h none spells at bad named ram ends same_version same_shapes same_devices same_firsts =
+took_bad ds front opening before i j dev n spot h none spells at bad named ram ends same_terms same_shapes same_devices same_firsts =
     let k = disks_before opening.shapes dev in
     let first : DiskState = record { sectors = []; failures = 0; honest = true; steady = true; is_flushed = true } in
     let d = get_or ds k first in
@@ -107,4 +107,4 @@ took_bad ds front opening before i j dev n spot h none spells at bad named ram e
     subst (λ (x : List DiskState). HasRead x opening (before ++ sector dev n None ∷ []) j (front ++ spelled_record (sector dev n None))) same
     (more_sector ds d front opening before i j dev n None (set (get_or i.bad.items k []) n true) h none spells at.there (ap marks_in (sym again)) (ap (λ (x : DiskState). length x.sectors) (sym again)) (simp length-set)
     (λ honest. set_bad (get_or ds k d).sectors d.sectors (get_or i.bad.items k []) n long (ap (λ (x : DiskState). length x.sectors) (sym again)) (λ p other. ap (λ (x : DiskState). get_or x.sectors p []) (sym again)))
-    (rw at.disk at bad) (rw at.item at named) ram ends same_version same_shapes same_devices same_firsts)
+    (rw at.disk at bad) (rw at.item at named) ram ends same_terms same_shapes same_devices same_firsts)

@@ -4,7 +4,8 @@ use Rattle.std.specs.Prelude.{◌≡◌, ◌≢◌, ◌<◌, ◌≤◌, ◌^◌,
 use Rattle.sha2.specs.Sha256.{sha256}
 use Rattle.guestmem.specs.Number.{number_at}
 use Rattle.wire.specs.DeviceBody.{IsBodyOf}
-use Rattle.wire.specs.Header.{header, spelled_shape, spelled_shapes, Begins, IsVersion, Opening, layout_in}
+use Rattle.wire.specs.Header as told
+use Rattle.wire.specs.Header.{spelled_shape, spelled_shapes, IsVersion}
 use Rattle.wire.specs.Numbers.{digits}
 use Rattle.wire.specs.Records.{Record, is_zero_page}
 use Rattle.wire.specs.ShapeReading.{shape_length}
@@ -15,6 +16,7 @@ use Rattle.machine.specs.Shapes.{disk_sizes}
 use Rattle.machine.specs.Sound.{IsSoundShape}
 use Rattle.machine.specs.State.{DeviceState}
 use Rattle.machine.specs.declared.shape.Shape.{Shape}
+use Rattle.receiver.specs.Opened.{Opened, Begins, header, layout_in}
 use Rattle.receiver.specs.Good.{AreGood, AreNamed, devices_in}
 use Rattle.receiver.specs.declared.recv_error.RecvError.{RecvError}
 use Rattle.receiver.specs.declared.recv_error.RecvError.TheVariants.{BadMagic, BadVersion, BadShape, ShapeMismatch, BadTag, BadPage, BadSector, BadRound, BadDevice, BadDigest, Missing, Trailing}
@@ -41,18 +43,18 @@ pub record MayTag (version count devices tag : ℕ) : Type 0 where
   pub since : tag ≡ 6 → version ≡ 2
 
 -- What must come before a device (tag 4) or the digest (tag 5): each item, and before the digest each device.
-pub record IsComplete (opening : Opening) (before : List Record) (tag : ℕ) : Type 0 where
+pub record IsComplete (opening : Opened) (before : List Record) (tag : ℕ) : Type 0 where
   pub items : AreNamed (layout_in opening) before
   pub devices : tag ≡ 5 → devices_in before ≡ length opening.shapes
 
 -- The bytes begin with a tag, and a record of this tag may come here.
-pub record Opens (opening : Opening) (before : List Record) (tail : List ℕ) (tag : ℕ) (more : List ℕ) : Type 0 where
+pub record Opens (opening : Opened) (before : List Record) (tail : List ℕ) (tag : ℕ) (more : List ℕ) : Type 0 where
   pub whole : tail ≡ tag ∷ more
   pub may : MayTag opening.version (length opening.shapes) (devices_in before) tag
   pub complete : IsLate tag → IsComplete opening before tag
 
 -- BadTag (5), found at the tag.
-pub record IsBadTag (opening : Opening) (before : List Record) (tail : List ℕ) (place : ℕ) : Type 0 where
+pub record IsBadTag (opening : Opened) (before : List Record) (tail : List ℕ) (place : ℕ) : Type 0 where
   pub tag : ℕ
   pub more : List ℕ
   pub whole : tail ≡ tag ∷ more
@@ -60,7 +62,7 @@ pub record IsBadTag (opening : Opening) (before : List Record) (tail : List ℕ)
   pub there : place ≡ 1
 
 -- Missing (11), found at the tag.
-pub record IsMissing (opening : Opening) (before : List Record) (tail : List ℕ) (place : ℕ) : Type 0 where
+pub record IsMissing (opening : Opened) (before : List Record) (tail : List ℕ) (place : ℕ) : Type 0 where
   pub tag : ℕ
   pub more : List ℕ
   pub whole : tail ≡ tag ∷ more
@@ -70,7 +72,7 @@ pub record IsMissing (opening : Opening) (before : List Record) (tail : List ℕ
   pub there : place ≡ 1
 
 -- BadPage (6), found at the end of the number.
-pub record IsBadPage (opening : Opening) (before : List Record) (tail : List ℕ) (place : ℕ) : Type 0 where
+pub record IsBadPage (opening : Opened) (before : List Record) (tail : List ℕ) (place : ℕ) : Type 0 where
   pub tag : ℕ
   pub number : ℕ
   pub more : List ℕ
@@ -81,7 +83,7 @@ pub record IsBadPage (opening : Opening) (before : List Record) (tail : List ℕ
   pub there : place ≡ 5
 
 -- BadPage (6), found at the last byte: the version has another record for a page with these bytes.
-pub record IsLongZeros (opening : Opening) (before : List Record) (tail : List ℕ) (place : ℕ) : Type 0 where
+pub record IsLongZeros (opening : Opened) (before : List Record) (tail : List ℕ) (place : ℕ) : Type 0 where
   pub number : ℕ
   pub bytes : List ℕ
   pub more : List ℕ
@@ -93,7 +95,7 @@ pub record IsLongZeros (opening : Opening) (before : List Record) (tail : List �
   pub there : place ≡ 4101
 
 -- BadSector (7), found at the byte that says whether the sector is good.
-pub record IsBadSector (opening : Opening) (before : List Record) (tail : List ℕ) (place : ℕ) : Type 0 where
+pub record IsBadSector (opening : Opened) (before : List Record) (tail : List ℕ) (place : ℕ) : Type 0 where
   pub disk : ℕ
   pub number : ℕ
   pub mark : ℕ
@@ -104,7 +106,7 @@ pub record IsBadSector (opening : Opening) (before : List Record) (tail : List �
   pub there : place ≡ 7
 
 -- BadRound (8), found at the end of the number.
-pub record IsBadRound (opening : Opening) (before : List Record) (tail : List ℕ) (place : ℕ) : Type 0 where
+pub record IsBadRound (opening : Opened) (before : List Record) (tail : List ℕ) (place : ℕ) : Type 0 where
   pub number : ℕ
   pub more : List ℕ
   pub opens : Opens opening before tail 3 (digits 4 number ++ more)
@@ -118,7 +120,7 @@ pub record IsNextHead (before : List Record) (number len : ℕ) : Type 0 where
   pub few : len ≤ 131072
 
 -- BadDevice (9), found at the end of the length.
-pub record IsBadHead (opening : Opening) (before : List Record) (tail : List ℕ) (place : ℕ) : Type 0 where
+pub record IsBadHead (opening : Opened) (before : List Record) (tail : List ℕ) (place : ℕ) : Type 0 where
   pub number : ℕ
   pub len : ℕ
   pub more : List ℕ
@@ -127,8 +129,9 @@ pub record IsBadHead (opening : Opening) (before : List Record) (tail : List ℕ
   pub never : ¬ (IsNextHead before number len)
   pub there : place ≡ 6
 
--- BadDevice (9), found at the end of the body: no sound device of the shape that is next, which the version has, has this body.
-pub record IsBadBody (opening : Opening) (before : List Record) (tail : List ℕ) (place : ℕ) : Type 0 where
+-- BadDevice (9), found at the end of the body: no device of the shape that is next, which is sound at the machine's base and which the version
+-- has, has this body.
+pub record IsBadBody (opening : Opened) (before : List Record) (tail : List ℕ) (place : ℕ) : Type 0 where
   pub body : List ℕ
   pub more : List ℕ
   pub shape : Shape
@@ -136,11 +139,11 @@ pub record IsBadBody (opening : Opening) (before : List Record) (tail : List ℕ
   pub opens : Opens opening before tail 4 (devices_in before ∷ (digits 4 (length body) ++ (body ++ more)))
   pub few : length body ≤ 131072
   pub here : drop (devices_in before) opening.shapes ≡ shape ∷ others
-  pub never : (d : DeviceState) → ¬ (IsBodyOf opening.version shape (4096 * opening.pages) body d)
+  pub never : (d : DeviceState) → ¬ (IsBodyOf opening.version shape opening.base (4096 * opening.pages) body d)
   pub there : place ≡ 6 + length body
 
 -- BadDigest (10), found at the last byte of the digest.
-pub record IsBadDigest (opening : Opening) (before : List Record) (tail : List ℕ) (place : ℕ) : Type 0 where
+pub record IsBadDigest (opening : Opened) (before : List Record) (tail : List ℕ) (place : ℕ) : Type 0 where
   pub digest : List ℕ
   pub more : List ℕ
   pub opens : Opens opening before tail 5 (digest ++ more)
@@ -149,7 +152,7 @@ pub record IsBadDigest (opening : Opening) (before : List Record) (tail : List �
   pub there : place ≡ 33
 
 -- Trailing (12), found at the first byte after the digest.
-pub record IsTrailing (opening : Opening) (before : List Record) (tail : List ℕ) (place : ℕ) : Type 0 where
+pub record IsTrailing (opening : Opened) (before : List Record) (tail : List ℕ) (place : ℕ) : Type 0 where
   pub byte : ℕ
   pub more : List ℕ
   pub opens : Opens opening before tail 5 (sha256 (header opening ++ texts before) ++ (byte ∷ more))
@@ -157,7 +160,7 @@ pub record IsTrailing (opening : Opening) (before : List Record) (tail : List �
 
 -- The bytes after whole good records begin with this fault. `place` is the number of these bytes up to and including the one at
 -- which it is found.
-abbrev pub IsFault : Opening → List Record → List ℕ → RecvError → ℕ → Type 0
+abbrev pub IsFault : Opened → List Record → List ℕ → RecvError → ℕ → Type 0
 IsFault opening before tail BadTag place = IsBadTag opening before tail place
 IsFault opening before tail BadPage place = IsBadPage opening before tail place ⊎ IsLongZeros opening before tail place
 IsFault opening before tail BadSector place = IsBadSector opening before tail place
@@ -240,11 +243,11 @@ pub record IsBadShape (bytes : List ℕ) (at : ℕ) : Type 0 where
 
 -- ShapeMismatch (4), found at the end of the header.
 pub record IsMismatch (sizes bytes : List ℕ) (at : ℕ) : Type 0 where
-  pub opening : Opening
+  pub opening : told.Opening
   pub more : List ℕ
-  pub begins : Begins bytes opening more
+  pub begins : told.Begins bytes opening more
   pub never : sizes ≢ disk_sizes opening.shapes
-  pub there : at ≡ length (header opening)
+  pub there : at ≡ length (told.header opening)
 
 abbrev pub IsHeaderFault : List ℕ → List ℕ → RecvError → ℕ → Type 0
 IsHeaderFault sizes bytes BadMagic at = IsBadMagic bytes at
@@ -253,21 +256,23 @@ IsHeaderFault sizes bytes BadShape at = IsBadCount bytes at ⊎ IsBadShape bytes
 IsHeaderFault sizes bytes ShapeMismatch at = IsMismatch sizes bytes at
 IsHeaderFault sizes bytes _ at = ⊥
 
--- The bytes begin with a header of a machine with disks of these sizes, then come whole good records, then `tail`.
-pub record IsFront (sizes bytes : List ℕ) (opening : Opening) (before : List Record) (tail : List ℕ) : Type 0 where
+-- The bytes begin with a header of a machine whose RAM begins at `base`, with disks of these sizes, then come whole good records, then
+-- `tail`.
+pub record IsFront (base : ℕ) (sizes bytes : List ℕ) (opening : Opened) (before : List Record) (tail : List ℕ) : Type 0 where
   pub begins : Begins bytes opening (texts before ++ tail)
+  pub based : opening.base ≡ base
   pub fits : sizes ≡ disk_sizes opening.shapes
   pub good : AreGood opening [] before
 
-pub record IsRecordFault (sizes bytes : List ℕ) (k : RecvError) (at : ℕ) : Type 0 where
-  pub opening : Opening
+pub record IsRecordFault (base : ℕ) (sizes bytes : List ℕ) (k : RecvError) (at : ℕ) : Type 0 where
+  pub opening : Opened
   pub before : List Record
   pub tail : List ℕ
   pub place : ℕ
-  pub front : IsFront sizes bytes opening before tail
+  pub front : IsFront base sizes bytes opening before tail
   pub fault : IsFault opening before tail k place
   pub there : at ≡ length (header opening ++ texts before) + place
 
--- For disks of these sizes the bytes have this fault, found at this place.
-abbrev pub Fault : List ℕ → List ℕ → RecvError → ℕ → Type 0
-Fault sizes bytes k at = IsHeaderFault sizes bytes k at ⊎ IsRecordFault sizes bytes k at
+-- For RAM that begins at this address and disks of these sizes the bytes have this fault, found at this place.
+abbrev pub Fault : ℕ → List ℕ → List ℕ → RecvError → ℕ → Type 0
+Fault base sizes bytes k at = IsHeaderFault sizes bytes k at ⊎ IsRecordFault base sizes bytes k at

@@ -5,7 +5,7 @@ use Rattle.sha2.specs.Hashers.{Holds256}
 use Rattle.sha2.specs.Sha256.{sha256}
 use Rattle.sha2.specs.declared.Sha256.{Sha256}
 use Rattle.wire.specs.DeviceBody.{body, IsDeviceOf}
-use Rattle.wire.specs.Header.{header, IsHeader, Opening, layout_in}
+use Rattle.receiver.specs.Opened.{header, IsHeader, Opened, layout_in}
 use Rattle.blk.specs.Disk.{DiskState}
 use Rattle.wire.specs.Records.{Record, device, commit, spelled_record, BeginsNoRecord}
 use Rattle.wire.specs.Stream.{IsEntry, AreNumbered, rounds, shapes_in, texts}
@@ -37,12 +37,13 @@ held_sectors shapes disks bad = dealt_sectors shapes (marked_sectors disks bad)
 
 -- The intake has taken in these bytes, a header and these whole good records, and the disks have the sizes of those of the
 -- devices.
-pub record HasRead (disks : List DiskState) (opening : Opening) (before : List Record) (i : Intake) (front : List ℕ) : Type 0 where
+pub record HasRead (disks : List DiskState) (opening : Opened) (before : List Record) (i : Intake) (front : List ℕ) : Type 0 where
   pub head : IsHeader opening
   pub fits : sizes_in disks ≡ disk_sizes opening.shapes
   pub good : AreGood opening [] before
   pub whole : front ≡ header opening ++ texts before
-  pub version_is : i.version ≡ opening.version
+  pub version_is : i.terms.version ≡ opening.version
+  pub base_is : i.terms.base ≡ opening.base
   pub shapes_are : i.shapes.items ≡ opening.shapes
   pub firsts_are : i.firsts.items ≡ firsts_of (layout_in opening)
   pub marks_are : AreMarksOf disks i.bad.items
@@ -53,7 +54,7 @@ pub record HasRead (disks : List DiskState) (opening : Opening) (before : List R
   pub rounds_are : i.rounds ≡ rounds before
   pub taken : AreTaken opening.version (AreHonestDisks (all_marks_in disks)) i.ram.bytes (held_sectors opening.shapes disks i.bad.items) i.named (layout_in opening) before
   pub devices_are : shapes_in i.devices.items ≡ take (length i.devices.items) opening.shapes
-  pub sound : AllByRecursion (IsSoundDevice (4096 * opening.pages)) i.devices.items
+  pub sound : AllByRecursion (IsSoundDevice opening.base (4096 * opening.pages)) i.devices.items
   pub has : AllByRecursion (IsDeviceOf opening.version) i.devices.items
 
 -- What a refusal means: there is this fault, unless memory was refused or a disk failed.
@@ -63,16 +64,16 @@ Tells DiskFailed F = Unit {0}
 Tells _ F = F
 
 -- The bytes after whole good records begin with no whole record and with no fault.
-pub record Waits (opening : Opening) (before : List Record) (tail : List ℕ) : Type 0 where
+pub record Waits (opening : Opened) (before : List Record) (tail : List ℕ) : Type 0 where
   pub no_record : BeginsNoRecord opening.version tail
   pub no_fault : (k : RecvError) (place : ℕ) → ¬ (IsFault opening before tail k place)
 
 -- The bytes after all records begin with the tag and the digest of all bytes before them.
-pub record Ends (opening : Opening) (before : List Record) (tail : List ℕ) : Type 0 where
+pub record Ends (opening : Opened) (before : List Record) (tail : List ℕ) : Type 0 where
   pub more : List ℕ
   pub opens : Opens opening before tail 5 (sha256 (header opening ++ texts before) ++ more)
 
-abbrev pub Checked : Opening → List Record → ℕ → List ℕ → Result (Unit {0}) RecvError → Type 0
+abbrev pub Checked : Opened → List Record → ℕ → List ℕ → Result (Unit {0}) RecvError → Type 0
 Checked opening before tag more (Ok x) = Opens opening before (tag ∷ more) tag more
 Checked opening before tag more (Err e) = (place : ℕ) × IsFault opening before (tag ∷ more) e place
 
@@ -94,20 +95,20 @@ IsUntouched old new (Ok (parts.Record len)) = new ≡ old
 IsUntouched old new _ = Unit {0}
 
 -- The disks and the intake, after it looked at the bytes that follow those that it has taken in.
-abbrev pub After : List DiskState → List DiskState → Opening → List Record → Intake → List ℕ → List ℕ → Result Part RecvError → Type 0
+abbrev pub After : List DiskState → List DiskState → Opened → List Record → Intake → List ℕ → List ℕ → Result Part RecvError → Type 0
 After old disks opening before new front tail (Ok parts.Wait) = AreKept old disks × HasRead disks opening before new front × Waits opening before tail
 After old disks opening before new front tail (Ok (parts.Record len)) = AreKept old disks × ((r : Record) × HasRead disks opening (before ++ r ∷ []) new (front ++ take len tail))
 After old disks opening before new front tail (Ok parts.End) = AreKept old disks × HasRead disks opening before new front × Ends opening before tail
 After old disks opening before new front tail (Err e) = AreRefused old disks e × Tells e ((place : ℕ) × IsFault opening before tail e place)
 
 -- The intake has taken in the front of the bytes, and waits for more.
-pub record IsOpen (disks : List DiskState) (opening : Opening) (i : Intake) (front tail : List ℕ) : Type 0 where
+pub record IsOpen (disks : List DiskState) (opening : Opened) (i : Intake) (front tail : List ℕ) : Type 0 where
   pub before : List Record
   pub read : HasRead disks opening before i front
   pub waits : Waits opening before tail
 
 -- The intake has taken in a whole stream.
-pub record IsEnded (disks : List DiskState) (opening : Opening) (i : Intake) (bytes : List ℕ) : Type 0 where
+pub record IsEnded (disks : List DiskState) (opening : Opened) (i : Intake) (bytes : List ℕ) : Type 0 where
   pub before : List Record
   pub front : List ℕ
   pub read : HasRead disks opening before i front
@@ -115,7 +116,7 @@ pub record IsEnded (disks : List DiskState) (opening : Opening) (i : Intake) (by
   pub whole : bytes ≡ front ++ spelled_record (commit (sha256 front))
 
 -- The disks, the digest and the intake, after it worked through these bytes, which follow those of `front`, up to `at`.
-abbrev pub Worked : List DiskState → List DiskState → Opening → Intake → Sha256 → List ℕ → List ℕ → Result (ℕ × Bool) RecvError → Type 0
+abbrev pub Worked : List DiskState → List DiskState → Opened → Intake → Sha256 → List ℕ → List ℕ → Result (ℕ × Bool) RecvError → Type 0
 Worked old disks opening new digest front bytes (Ok (at, false)) = AreKept old disks × Holds256 digest (front ++ take at bytes) × IsOpen disks opening new (front ++ take at bytes) (drop at bytes)
 Worked old disks opening new digest front bytes (Ok (at, true)) = AreKept old disks × (at ≡ length bytes) × IsEnded disks opening new (front ++ bytes)
-Worked old disks opening new digest front bytes (Err e) = AreRefused old disks e × Tells e ((at : ℕ) × Fault (sizes_in old) (front ++ bytes) e at)
+Worked old disks opening new digest front bytes (Err e) = AreRefused old disks e × Tells e ((at : ℕ) × Fault opening.base (sizes_in old) (front ++ bytes) e at)

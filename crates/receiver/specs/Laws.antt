@@ -3,7 +3,7 @@ use Rattle.std.specs.Prelude.{◌≡◌, ◌≤◌, ℕ, List, ◌++◌, length}
 use Rattle.wire.specs.Stream.{IsStream, rounds, shapes_in, whole}
 use Rattle.machine.specs.Seen.{Marks}
 use Rattle.machine.specs.Sound.{IsSound}
-use Rattle.machine.specs.State.{MachineState}
+use Rattle.machine.specs.State.{MachineState, base_of}
 use Rattle.machine.specs.Shapes.{disk_sizes}
 use Rattle.receiver.specs.Disks.{IsUnsteady}
 use Rattle.receiver.specs.Receiving.{NoFault, HasRounds, RefusesSlice}
@@ -11,25 +11,25 @@ use Rattle.receiver.specs.Faults.{Fault}
 use Rattle.receiver.specs.declared.recv_error.RecvError.{RecvError}
 use Rattle.receiver.specs.declared.recv_error.RecvError.TheVariants.{DiskFailed, NoMemory}
 
--- A list of bytes has at most one fault, at one place: it is the first.
+-- For RAM that begins at one address, a list of bytes has at most one fault, at one place: it is the first.
 abbrev pub OneFault : Type 0
-OneFault = (sizes bytes : List ℕ) (k j : RecvError) (at bt : ℕ) → Fault sizes bytes k at → Fault sizes bytes j bt → (k ≡ j) × (at ≡ bt)
+OneFault = (base : ℕ) (sizes bytes : List ℕ) (k j : RecvError) (at bt : ℕ) → Fault base sizes bytes k at → Fault base sizes bytes j bt → (k ≡ j) × (at ≡ bt)
 
--- A stream of a machine with disks of these sizes has no fault.
+-- A stream of a machine with disks of these sizes has no fault, where the machine's RAM begins at the address that is named.
 abbrev pub NoFaultInStream : Type 0
-NoFaultInStream = (sizes bytes : List ℕ) (m : MachineState) → IsStream bytes m → sizes ≡ disk_sizes (shapes_in m.devices) → NoFault sizes bytes
+NoFaultInStream = (base : ℕ) (sizes bytes : List ℕ) (m : MachineState) → IsStream bytes m → base_of m.devices ≡ base → sizes ≡ disk_sizes (shapes_in m.devices) → NoFault base sizes bytes
 
 -- A fault in some bytes is a fault, at the same place, in every extension of them.
 abbrev pub FaultsStay : Type 0
-FaultsStay = (sizes b c : List ℕ) (k : RecvError) (at : ℕ) → Fault sizes b k at → Fault sizes (b ++ c) k at
+FaultsStay = (base : ℕ) (sizes b c : List ℕ) (k : RecvError) (at : ℕ) → Fault base sizes b k at → Fault base sizes (b ++ c) k at
 
 -- A fault in some bytes is a fault, at the same place, in every prefix of them that reaches its place.
 abbrev pub FaultsStandEarly : Type 0
-FaultsStandEarly = (sizes b c : List ℕ) (k : RecvError) (at : ℕ) → at ≤ length b → Fault sizes (b ++ c) k at → Fault sizes b k at
+FaultsStandEarly = (base : ℕ) (sizes b c : List ℕ) (k : RecvError) (at : ℕ) → at ≤ length b → Fault base sizes (b ++ c) k at → Fault base sizes b k at
 
 -- The rounds that a stream has (`HasRounds`) are the ends of rounds among its records.
 abbrev pub RoundsOfStream : Type 0
-RoundsOfStream = (sizes bytes : List ℕ) (m : MachineState) (n : ℕ) (s : IsStream bytes m) → sizes ≡ disk_sizes (shapes_in m.devices) → HasRounds sizes bytes n → rounds s.entries ≡ n
+RoundsOfStream = (base : ℕ) (sizes bytes : List ℕ) (m : MachineState) (n : ℕ) (s : IsStream bytes m) → base_of m.devices ≡ base → sizes ≡ disk_sizes (shapes_in m.devices) → HasRounds base sizes bytes n → rounds s.entries ≡ n
 
 -- A refusal because memory was refused, or because a disk failed, where some disk is not steady.
 abbrev pub IsSpoilt : List Marks → RecvError → Type 0
@@ -37,8 +37,8 @@ IsSpoilt marks NoMemory = Unit {0}
 IsSpoilt marks DiskFailed = IsUnsteady marks
 IsSpoilt marks _ = ⊥
 
--- A saved sound machine is received, with disks of the sizes of its own, unless memory is refused or a disk fails, where some
--- disk is not steady. What is received is this machine and no other.
+-- A saved sound machine is received by who names the address at which its RAM begins, with disks of the sizes of its own, unless memory
+-- is refused or a disk fails, where some disk is not steady. What is received is this machine and no other.
 abbrev pub SavedIsReceived : Type 0
-SavedIsReceived = (sizes : List ℕ) (marks : List Marks) (m : MachineState) → IsSound m → sizes ≡ disk_sizes (shapes_in m.devices)
-    → ((e : RecvError) → RefusesSlice sizes marks (whole m) e → IsSpoilt marks e) × ((k : MachineState) → IsStream (whole m) k → k ≡ m)
+SavedIsReceived = (base : ℕ) (sizes : List ℕ) (marks : List Marks) (m : MachineState) → IsSound m → base_of m.devices ≡ base → sizes ≡ disk_sizes (shapes_in m.devices)
+    → ((e : RecvError) → RefusesSlice base sizes marks (whole m) e → IsSpoilt marks e) × ((k : MachineState) → IsStream (whole m) k → base_of k.devices ≡ base → k ≡ m)

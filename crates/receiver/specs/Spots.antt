@@ -12,7 +12,7 @@ use Rattle.receiver.specs.declared.intake.Intake.{Intake}
 use Rattle.receiver.specs.declared.intake.Spot.{Spot}
 use Rattle.receiver.specs.declared.recv_error.RecvError.{RecvError}
 use Rattle.receiver.specs.declared.recv_error.RecvError.TheVariants.{DiskFailed}
-use Rattle.wire.specs.Header.{Opening, layout_in}
+use Rattle.receiver.specs.Opened.{Opened, layout_in}
 
 -- How many of the devices before the index `place` have a disk.
 abbrev pub disks_before : List Shape → ℕ → ℕ
@@ -29,12 +29,12 @@ pub record HasMarks (i : Intake) (number : ℕ) (spot : Spot) : Type 0 where
   pub item : spot.item < length i.named
 
 -- The device has this sector, and `spot` has the index of its disk among all disks and the number of its item.
-pub record IsSpotOf (opening : Opening) (dev number : ℕ) (spot : Spot) : Type 0 where
+pub record IsSpotOf (opening : Opened) (dev number : ℕ) (spot : Spot) : Type 0 where
   pub there : IsItemIn (layout_in opening) (items.sector dev number)
   pub disk : spot.disk ≡ disks_before opening.shapes dev
   pub item : spot.item ≡ number_of (layout_in opening) (items.sector dev number)
 
 -- One more record was taken in, or a disk failed.
-abbrev pub Taking : List DiskState → List DiskState → Opening → List Record → Intake → List ℕ → Record → Result (Unit {0}) RecvError → Type 0
+abbrev pub Taking : List DiskState → List DiskState → Opened → List Record → Intake → List ℕ → Record → Result (Unit {0}) RecvError → Type 0
 Taking old disks opening before new front r (Ok x) = AreKept old disks × HasRead disks opening (before ++ r ∷ []) new (front ++ spelled_record r)
 Taking old disks opening before new front r (Err e) = (e ≡ DiskFailed) × AreRefused old disks DiskFailed

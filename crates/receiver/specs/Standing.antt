@@ -17,10 +17,10 @@ use Rattle.receiver.specs.Fed.{HasRead, Tells}
 use Rattle.receiver.specs.declared.intake.Intake.{Intake}
 use Rattle.receiver.specs.declared.recv_error.RecvError.{RecvError}
 use Rattle.receiver.specs.declared.recv_error.RecvError.TheVariants.{BadPage, BadSector, BadRound, BadDevice, BadDigest, NoMemory}
-use Rattle.wire.specs.Header.{Opening, layout_in}
+use Rattle.receiver.specs.Opened.{Opened, layout_in}
 
 -- The bytes begin with this head, before `rest`, and a record with its tag may come here.
-pub record OpensHead (opening : Opening) (before : List Record) (tail : List ℕ) (head : RecordHead) (rest : List ℕ) : Type 0 where
+pub record OpensHead (opening : Opened) (before : List Record) (tail : List ℕ) (head : RecordHead) (rest : List ℕ) : Type 0 where
   pub tag : ℕ
   pub more : List ℕ
   pub opens : Opens opening before tail tag more
@@ -29,7 +29,7 @@ pub record OpensHead (opening : Opening) (before : List Record) (tail : List ℕ
 
 -- A head that may come here, as far as its fields tell: the page or the sector is there; the round or the device is the next,
 -- and the body is not too long.
-abbrev pub MayHead : Opening → List Record → RecordHead → Type 0
+abbrev pub MayHead : Opened → List Record → RecordHead → Type 0
 MayHead opening before (heads.Page number) = number < opening.pages
 MayHead opening before (heads.Sector dev number good) = IsItemIn (layout_in opening) (items.sector dev number)
 MayHead opening before (heads.RoundEnd number) = number ≡ rounds before + 1
@@ -46,7 +46,7 @@ refusal_of (heads.Device number len) = BadDevice
 refusal_of heads.Commit = BadDigest
 refusal_of (heads.ZeroPage number) = BadPage
 
-abbrev pub Judged : Opening → List Record → RecordHead → Result (Unit {0}) RecvError → Type 0
+abbrev pub Judged : Opened → List Record → RecordHead → Result (Unit {0}) RecvError → Type 0
 Judged opening before head (Ok x) = MayHead opening before head
 Judged opening before head (Err e) = (e ≡ refusal_of head) × ¬ (MayHead opening before head)
 
@@ -59,22 +59,22 @@ HasRoom i (heads.Device number len) = (number < length i.shapes.items) × (len �
 HasRoom i heads.Commit = Unit {0}
 HasRoom i (heads.ZeroPage number) = (4096 * number + 4096 ≤ length i.ram.bytes) × (number < length i.named)
 
--- No sound device of the shape that is next, which the version has, has this body.
-pub record IsNoBody (opening : Opening) (number : ℕ) (body : List ℕ) : Type 0 where
+-- No device of the shape that is next, which is sound at the machine's base and which the version has, has this body.
+pub record IsNoBody (opening : Opened) (number : ℕ) (body : List ℕ) : Type 0 where
   pub shape : Shape
   pub others : List Shape
   pub here : drop number opening.shapes ≡ shape ∷ others
-  pub never : (d : DeviceState) → ¬ (IsBodyOf opening.version shape (4096 * opening.pages) body d)
+  pub never : (d : DeviceState) → ¬ (IsBodyOf opening.version shape opening.base (4096 * opening.pages) body d)
 
 -- One device more was taken in, or its body was refused, or memory.
-abbrev pub TakingDevice : List DiskState → Opening → List Record → Intake → List ℕ → ℕ → List ℕ → Result (Unit {0}) RecvError → Type 0
+abbrev pub TakingDevice : List DiskState → Opened → List Record → Intake → List ℕ → ℕ → List ℕ → Result (Unit {0}) RecvError → Type 0
 TakingDevice disks opening before new front number body (Ok x) = HasRead disks opening (before ++ device number body ∷ []) new (front ++ spelled_record (device number body))
 TakingDevice disks opening before new front number body (Err BadDevice) = IsNoBody opening number body
 TakingDevice disks opening before new front number body (Err NoMemory) = Unit {0}
 TakingDevice disks opening before new front number body (Err _) = ⊥
 
 -- The record that this head and this body make, which begins `tail`, was taken in, or refused.
-abbrev pub Entered : List DiskState → List DiskState → Opening → List Record → Intake → List ℕ → List ℕ → RecordHead → List ℕ → Result (Unit {0}) RecvError → Type 0
+abbrev pub Entered : List DiskState → List DiskState → Opened → List Record → Intake → List ℕ → List ℕ → RecordHead → List ℕ → Result (Unit {0}) RecvError → Type 0
 Entered old disks opening before new front tail head body (Ok x) = AreKept old disks × HasRead disks opening (before ++ record_with head body ∷ []) new (front ++ spelled_record (record_with head body))
 Entered old disks opening before new front tail head body (Err e) = AreRefused old disks e × Tells e ((place : ℕ) × IsFault opening before tail e place)
 

@@ -1,7 +1,7 @@
 //! Records taken one by one from a stream.
 
 ghost use Rattle.std.specs.Prelude.{◌≡◌, ◌≢◌, ◌++◌, ◌+◌, ◌≤◌, ◌<◌, ◌*◌, ◌∷◌, ◌↔◌, [], ℕ, List, All, IsTrue, IfErr, IfOk, IfSome, OnOk, MatchOption, Some, None, Err, count_by, nat_lt, map, take, drop, length, slice_index_or, true};
-ghost use Rattle.wire.specs.Header.{Opening, layout_in};
+ghost use Rattle.receiver.specs.Opened.{Opened, layout_in};
 ghost use Rattle.wire.specs.Records as records;
 ghost use Rattle.sha2.specs.Hashers.{Holds256};
 ghost use Rattle.sha2.specs.Sha256.{sha256};
@@ -35,14 +35,21 @@ use wire::{
     read_head,
 };
 
-/// What was read of a stream: its version, the shapes of its devices, the pages, the marks of the bad sectors of each disk, how
+/// What a stream is read under: its version, and the guest-physical address at which the machine's RAM begins. No record changes them.
+#[derive(Clone, Copy)]
+pub struct Terms {
+    pub version: u32,
+    pub base: u64,
+}
+
+/// What was read of a stream: its terms, the shapes of its devices, the pages, the marks of the bad sectors of each disk, how
 /// many rounds ended, and the devices that arrived so far. The good sectors were written to the disks.
 ///
 /// `named` has a mark for each item, in the order of their numbers, and keeps a count of those that are named. `firsts`
 /// has the item number of the first sector of each device.
 #[derive(Drop)]
 pub struct Intake {
-    pub version: u32,
+    pub terms: Terms,
     pub shapes: Vec<Shape>,
     pub ram: ArrivingRam,
     pub named: BitSet,
@@ -89,10 +96,10 @@ fn is_named(named: &BitSet) -> bool
 /// Checks that a record with this tag may come next.
 fn check_tag(intake: &Intake, tag: u8) -> Result<(), RecvError>
     ensures memory { IfErr result (λ e. e ≢ errors.NoMemory) }
-    ensures checked { (ds : List DiskState) (front more : List ℕ) (opening : Opening) (before : List records.Record) → HasRead ds opening before intake.now front → Checked opening before tag more result }
+    ensures checked { (ds : List DiskState) (front more : List ℕ) (opening : Opened) (before : List records.Record) → HasRead ds opening before intake.now front → Checked opening before tag more result }
 {
     if !may_stand(
-        intake.version,
+        intake.terms.version,
         intake.shapes.len(),
         intake.devices.len(),
         tag,
@@ -119,7 +126,7 @@ fn take_page(intake: &mut Intake, number: u32, bytes: &[u8])
     requires within { 4096 * number + 4096 ≤ length intake.old.ram.bytes }
     requires marked { number < length intake.old.named }
     requires spells { HasSpelling (page number bytes.now) }
-    ensures taken { (ds : List DiskState) (front : List ℕ) (opening : Opening) (before : List records.Record) → HasRead ds opening before intake.old front → devices_in before ≡ 0 → IsOf opening.version (page number bytes.now) → HasRead ds opening (before ++ page number bytes.now ∷ []) intake.new (front ++ spelled_record (page number bytes.now)) }
+    ensures taken { (ds : List DiskState) (front : List ℕ) (opening : Opened) (before : List records.Record) → HasRead ds opening before intake.old front → devices_in before ≡ 0 → IsOf opening.version (page number bytes.now) → HasRead ds opening (before ++ page number bytes.now ∷ []) intake.new (front ++ spelled_record (page number bytes.now)) }
     ensures place { intake.new.ram.place ≡ intake.old.ram.place }
 {
     intake.ram.recall();
@@ -131,7 +138,7 @@ fn take_page(intake: &mut Intake, number: u32, bytes: &[u8])
 fn take_zero_page(intake: &mut Intake, number: u32)
     requires within { 4096 * number + 4096 ≤ length intake.old.ram.bytes }
     requires marked { number < length intake.old.named }
-    ensures taken { (ds : List DiskState) (front : List ℕ) (opening : Opening) (before : List records.Record) → HasRead ds opening before intake.old front → devices_in before ≡ 0 → opening.version ≡ 2 → HasRead ds opening (before ++ zero_page number ∷ []) intake.new (front ++ spelled_record (zero_page number)) }
+    ensures taken { (ds : List DiskState) (front : List ℕ) (opening : Opened) (before : List records.Record) → HasRead ds opening before intake.old front → devices_in before ≡ 0 → opening.version ≡ 2 → HasRead ds opening (before ++ zero_page number ∷ []) intake.new (front ++ spelled_record (zero_page number)) }
     ensures place { intake.new.ram.place ≡ intake.old.ram.place }
 {
     intake.ram.recall();
@@ -152,7 +159,7 @@ fn disks_before(shapes: &[Shape], place: usize) -> usize
 fn find_sector<D: Disk>(intake: &Intake, disks: &[D], dev: u8, number: u32) -> Option<Spot>
     ensures marked { IfSome result (λ spot. HasMarks intake.now number spot) }
     ensures there { IfSome result (λ spot. HasSector (sizes_of D.state disks.now) spot.disk number) }
-    ensures found { (front : List ℕ) (opening : Opening) (before : List records.Record) → HasRead (map D.state disks.now) opening before intake.now front
+    ensures found { (front : List ℕ) (opening : Opened) (before : List records.Record) → HasRead (map D.state disks.now) opening before intake.now front
         → MatchOption result (¬ (IsItemIn (layout_in opening) (items.sector dev number))) (λ spot. IsSpotOf opening dev number spot) }
 {
     let place = dev as usize;
@@ -189,7 +196,7 @@ fn find_sector<D: Disk>(intake: &Intake, disks: &[D], dev: u8, number: u32) -> O
 /// Marks a sector as bad, as its record says.
 fn take_bad(intake: &mut Intake, spot: Spot, dev: u8, number: u32)
     requires { HasMarks intake.old number spot }
-    ensures taken { (ds : List DiskState) (front : List ℕ) (opening : Opening) (before : List records.Record) → HasRead ds opening before intake.old front → devices_in before ≡ 0 → IsSpotOf opening dev number spot
+    ensures taken { (ds : List DiskState) (front : List ℕ) (opening : Opened) (before : List records.Record) → HasRead ds opening before intake.old front → devices_in before ≡ 0 → IsSpotOf opening dev number spot
         → HasRead ds opening (before ++ sector dev number None ∷ []) intake.new (front ++ spelled_record (sector dev number None)) }
     ensures place { intake.new.ram.place ≡ intake.old.ram.place }
 {
@@ -209,7 +216,7 @@ fn take_good<D: Disk>(
     requires marked { HasMarks intake.old number spot }
     requires there { HasSector (sizes_of D.state disks.old) spot.disk number }
     ensures memory { IfErr result (λ e. e ≢ errors.NoMemory) }
-    ensures taking { (front : List ℕ) (opening : Opening) (before : List records.Record) → HasRead (map D.state disks.old) opening before intake.old front → devices_in before ≡ 0 → IsSpotOf opening dev number spot
+    ensures taking { (front : List ℕ) (opening : Opened) (before : List records.Record) → HasRead (map D.state disks.old) opening before intake.old front → devices_in before ≡ 0 → IsSpotOf opening dev number spot
         → Taking (map D.state disks.old) (map D.state disks.new) opening before intake.new front (sector dev number (Some bytes.now)) result }
     ensures place { intake.new.ram.place ≡ intake.old.ram.place }
 {
@@ -233,7 +240,7 @@ fn take_sector<D: Disk>(
 ) -> Result<(), RecvError>
     requires { length body.now ≡ body_len (heads.Sector dev number is_good) }
     ensures memory { IfErr result (λ e. e ≢ errors.NoMemory) }
-    ensures taking { (front : List ℕ) (opening : Opening) (before : List records.Record) → HasRead (map D.state disks.old) opening before intake.old front → devices_in before ≡ 0 → IsItemIn (layout_in opening) (items.sector dev number)
+    ensures taking { (front : List ℕ) (opening : Opened) (before : List records.Record) → HasRead (map D.state disks.old) opening before intake.old front → devices_in before ≡ 0 → IsItemIn (layout_in opening) (items.sector dev number)
         → Taking (map D.state disks.old) (map D.state disks.new) opening before intake.new front (record_with (heads.Sector dev number is_good) body.now) result }
     ensures place { intake.new.ram.place ≡ intake.old.ram.place }
 {
@@ -257,13 +264,14 @@ fn nth(shapes: &[Shape], i: usize) -> Shape
 /// Takes the record of a device.
 fn take_device(alloc: Global, intake: &mut Intake, number: u8, body: &[u8]) -> Result<(), RecvError>
     requires { number < length intake.old.shapes.items }
-    ensures taken { (ds : List DiskState) (front : List ℕ) (opening : Opening) (before : List records.Record) → HasRead ds opening before intake.old front → AreNamed (layout_in opening) before → IsNextHead before number (length body.now)
+    ensures taken { (ds : List DiskState) (front : List ℕ) (opening : Opened) (before : List records.Record) → HasRead ds opening before intake.old front → AreNamed (layout_in opening) before → IsNextHead before number (length body.now)
         → TakingDevice ds opening before intake.new front number body.now result }
     ensures place { intake.new.ram.place ≡ intake.old.ram.place }
 {
     let shape = nth(&intake.shapes, number as usize);
     let ram_len = intake.ram.len();
-    match decode_device(alloc, intake.version, shape, ram_len, body) {
+    let version = intake.terms.version;
+    match decode_device(alloc, version, shape, intake.terms.base, ram_len, body) {
         Ok(state) => {
             let Ok(()) = intake.devices.push(state) else {
                 return Err(RecvError::NoMemory);
@@ -301,7 +309,7 @@ fn is_next(intake: &Intake, number: u8) -> bool
 fn check_head<D: Disk>(intake: &Intake, disks: &[D], head: RecordHead) -> Result<(), RecvError>
     ensures room { OnOk result (HasRoom intake.now head) }
     ensures memory { IfErr result (λ e. e ≢ errors.NoMemory) }
-    ensures judged { (front tail rest : List ℕ) (opening : Opening) (before : List records.Record) → HasRead (map D.state disks.now) opening before intake.now front → OpensHead opening before tail head rest
+    ensures judged { (front tail rest : List ℕ) (opening : Opened) (before : List records.Record) → HasRead (map D.state disks.now) opening before intake.now front → OpensHead opening before tail head rest
         → Judged opening before head result }
 {
     match head {
@@ -348,13 +356,13 @@ fn take_entry<D: Disk>(
     requires room { HasRoom intake.old head }
     requires long { length body.now ≡ body_len head }
     ensures memory { IfErr result (λ e. e ≡ errors.NoMemory → IsDeviceHead head) }
-    ensures entered { (front tail more : List ℕ) (opening : Opening) (before : List records.Record) → HasRead (map D.state disks.old) opening before intake.old front
+    ensures entered { (front tail more : List ℕ) (opening : Opened) (before : List records.Record) → HasRead (map D.state disks.old) opening before intake.old front
         → OpensHead opening before tail head (body.now ++ more) → MayHead opening before head → Entered (map D.state disks.old) (map D.state disks.new) opening before intake.new front tail head body.now result }
     ensures place { intake.new.ram.place ≡ intake.old.ram.place }
 {
     match head {
         RecordHead::Page { number } => {
-            if !has_record(intake.version, head, body) {
+            if !has_record(intake.terms.version, head, body) {
                 return Err(RecvError::BadPage);
             }
             take_page(intake, number, body);
@@ -392,7 +400,7 @@ fn take_record<D: Disk>(
     ensures size { IfOk result (λ part. size_of part ≡ length (spelled_head head) + length body.now) }
     ensures untouched { IsUntouched taken.old taken.new result }
     ensures memory { IfErr result (λ e. e ≡ errors.NoMemory → IsDeviceHead head) }
-    ensures after { (front tail more : List ℕ) (opening : Opening) (before : List records.Record) → Holds256 taken.old front → HasRead (map D.state disks.old) opening before intake.old front
+    ensures after { (front tail more : List ℕ) (opening : Opened) (before : List records.Record) → Holds256 taken.old front → HasRead (map D.state disks.old) opening before intake.old front
         → OpensHead opening before tail head (body.now ++ more) → MayHead opening before head → After (map D.state disks.old) (map D.state disks.new) opening before intake.new front tail result }
     ensures place { intake.new.ram.place ≡ intake.old.ram.place }
 {
@@ -423,7 +431,7 @@ fn take_part<D: Disk>(
     ensures few { IfOk result (λ part. size_of part ≡ 0 → length bytes.now ≤ 131077) }
     ensures untouched { IsUntouched taken.old taken.new result }
     ensures memory { result ≡ Err errors.NoMemory → BeginsDevice bytes.now }
-    ensures after { (front : List ℕ) (opening : Opening) (before : List records.Record) → Holds256 taken.old front → HasRead (map D.state disks.old) opening before intake.old front
+    ensures after { (front : List ℕ) (opening : Opened) (before : List records.Record) → Holds256 taken.old front → HasRead (map D.state disks.old) opening before intake.old front
         → After (map D.state disks.old) (map D.state disks.new) opening before intake.new front bytes.now result }
     ensures place { intake.new.ram.place ≡ intake.old.ram.place }
 {
@@ -461,9 +469,9 @@ pub fn work_off<D: Disk>(
 ) -> Result<(usize, bool), RecvError>
     ensures room { IfOk result (λ x. x.0 ≤ length bytes.now) }
     ensures few { IfOk result (λ x. length bytes.now ≤ 131077 + x.0) }
-    ensures memory { (front : List ℕ) (opening : Opening) (before : List records.Record) → Holds256 taken.old front → HasRead (map D.state disks.old) opening before intake.old front
-        → result ≡ Err errors.NoMemory → HasDevice (sizes_of D.state disks.old) (front ++ bytes.now) (length front) }
-    ensures worked { (front : List ℕ) (opening : Opening) (before : List records.Record) → Holds256 taken.old front → HasRead (map D.state disks.old) opening before intake.old front
+    ensures memory { (front : List ℕ) (opening : Opened) (before : List records.Record) → Holds256 taken.old front → HasRead (map D.state disks.old) opening before intake.old front
+        → result ≡ Err errors.NoMemory → HasDevice opening.base (sizes_of D.state disks.old) (front ++ bytes.now) (length front) }
+    ensures worked { (front : List ℕ) (opening : Opened) (before : List records.Record) → Holds256 taken.old front → HasRead (map D.state disks.old) opening before intake.old front
         → Worked (map D.state disks.old) (map D.state disks.new) opening intake.new taken.new front bytes.now result }
     ensures place { intake.new.ram.place ≡ intake.old.ram.place }
 {

@@ -20,10 +20,14 @@ use std::marker::Model;
 use std::mem;
 use wire::RECORD_MAX;
 
-/// A receiver that is fed a stream of a machine in any pieces.
+/// A receiver that is fed a stream of a machine in any pieces. It knows the guest-physical address at which the machine's RAM begins,
+/// which no stream tells.
 #[derive(Drop)]
 pub struct Receiver<D: Disk> {
     alloc: Global,
+
+    /// The guest-physical address of RAM's first byte.
+    base: u64,
     disks: Vec<D>,
     held: Vec<u8>,
     taken: Sha256,
@@ -43,9 +47,9 @@ impl<D: Disk> Model for Receiver<D> {
 
     ghost Value = { Received };
 
-    ghost view = { λ r. received_by (place_in r.aside r.stage) (map D.state r.disks.items) r.stage r.taken r.held.items };
+    ghost view = { λ r. received_by r.base (place_in r.aside r.stage) (map D.state r.disks.items) r.stage r.taken r.held.items };
 
-    ghost invariant = { λ r. IsReceiver (map D.state r.disks.items) r.taken r.held.items (vec_capacity r.held) r.lacking r.stage };
+    ghost invariant = { λ r. IsReceiver r.base (map D.state r.disks.items) r.taken r.held.items (vec_capacity r.held) r.lacking r.stage };
 }
 
 impl<D: Disk + Drop> Receiver<D> {
@@ -53,6 +57,7 @@ impl<D: Disk + Drop> Receiver<D> {
     ghost use Rattle.machine.specs.First.{dealt_marks};
     ghost use Rattle.machine.specs.Seen.{all_marks, state_of};
     ghost use Rattle.machine.specs.Shapes.{disk_sizes};
+    ghost use Rattle.machine.specs.State.{base_of};
     ghost use Rattle.machine.specs.declared.shape.Shape.{Shape};
     ghost use Rattle.wire.specs.Header.{Begins};
     ghost use Rattle.wire.specs.Stream.{IsStream, shapes_in};
@@ -60,9 +65,23 @@ impl<D: Disk + Drop> Receiver<D> {
     ghost use Rattle.receiver.specs.Disks.{AreHonestDisks, MarksAfter, disk_marks_of, sizes_of};
     ghost use Rattle.receiver.specs.Receiving.{HasBeenFed, HasDevice, NoFault, IsFinish, IsGivenUp, HasRounds, IsWholeFor, TellsNow};
 
-    /// A receiver that was fed nothing, with these disks. It takes no memory.
+    /// A receiver that was fed nothing, with these disks, of a machine whose RAM begins at the address 0. It takes no memory.
     pub fn new(alloc: Global, disks: Vec<D>) -> Receiver<D>
         ensures fed { HasBeenFed result [] }
+        ensures base { result.base ≡ 0 }
+        ensures sizes { result.sizes ≡ sizes_of D.state disks.items }
+        ensures marks { result.marks ≡ disk_marks_of D.state disks.items }
+        ensures disks { result.disks ≡ map D.state disks.items }
+        ensures place { result.place ≡ None }
+    {
+        Receiver::new_at(alloc, disks, 0)
+    }
+
+    /// As `new`, of a machine whose RAM begins at the guest-physical address `base`. Where no RAM of the stream's length may begin
+    /// there, since it is no multiple of a page or the last byte would have no address, each device of a stream is a bad one.
+    pub fn new_at(alloc: Global, disks: Vec<D>, base: u64) -> Receiver<D>
+        ensures fed { HasBeenFed result [] }
+        ensures base { result.base ≡ base }
         ensures sizes { result.sizes ≡ sizes_of D.state disks.items }
         ensures marks { result.marks ≡ disk_marks_of D.state disks.items }
         ensures disks { result.disks ≡ map D.state disks.items }
@@ -70,6 +89,7 @@ impl<D: Disk + Drop> Receiver<D> {
     {
         Receiver {
             alloc,
+            base,
             disks,
             held: Vec::new(alloc),
             taken: Sha256::new(),
@@ -83,6 +103,19 @@ impl<D: Disk + Drop> Receiver<D> {
     /// stream of a machine of another number of pages is refused with `NoMemory`, before a page is written.
     pub fn new_in(alloc: Global, disks: Vec<D>, ram: Ram) -> Receiver<D>
         ensures fed { HasBeenFed result [] }
+        ensures base { result.base ≡ 0 }
+        ensures sizes { result.sizes ≡ sizes_of D.state disks.items }
+        ensures marks { result.marks ≡ disk_marks_of D.state disks.items }
+        ensures disks { result.disks ≡ map D.state disks.items }
+        ensures place { result.place ≡ ram.place }
+    {
+        Receiver::new_in_at(alloc, disks, ram, 0)
+    }
+
+    /// As `new_in`, of a machine whose RAM begins at the guest-physical address `base` (see `new_at`).
+    pub fn new_in_at(alloc: Global, disks: Vec<D>, ram: Ram, base: u64) -> Receiver<D>
+        ensures fed { HasBeenFed result [] }
+        ensures base { result.base ≡ base }
         ensures sizes { result.sizes ≡ sizes_of D.state disks.items }
         ensures marks { result.marks ≡ disk_marks_of D.state disks.items }
         ensures disks { result.disks ≡ map D.state disks.items }
@@ -90,6 +123,7 @@ impl<D: Disk + Drop> Receiver<D> {
     {
         Receiver {
             alloc,
+            base,
             disks,
             held: Vec::new(alloc),
             taken: Sha256::new(),
@@ -99,19 +133,27 @@ impl<D: Disk + Drop> Receiver<D> {
         }
     }
 
+    /// The guest-physical address at which the machine's RAM is to begin.
+    pub fn base(&self) -> u64
+        ensures { result ≡ self.now.base }
+    {
+        self.base
+    }
+
     /// Takes the next piece. The good sectors in it are written to the disks. `DiskFailed` is returned exactly if a
     /// disk failed. After the header `NoMemory` is returned only with the last byte of a device's record.
     pub fn feed(&mut self, piece: &[u8]) -> Result<(), RecvError>
+        ensures base { self.new.base ≡ self.old.base }
         ensures sizes { self.new.sizes ≡ self.old.sizes }
         ensures marks { MarksAfter self.old.marks result self.new.marks }
         ensures fed { OnOk result ((b : List ℕ) → HasBeenFed self.old b → HasBeenFed self.new (b ++ piece.now)) }
-        ensures quiet { OnOk result ((b : List ℕ) → HasBeenFed self.old b → NoFault self.old.sizes (b ++ piece.now)) }
-        ensures told { IfErr result (λ e. (b : List ℕ) → HasBeenFed self.old b → TellsNow self.old.sizes b piece.now e) }
+        ensures quiet { OnOk result ((b : List ℕ) → HasBeenFed self.old b → NoFault self.old.base self.old.sizes (b ++ piece.now)) }
+        ensures told { IfErr result (λ e. (b : List ℕ) → HasBeenFed self.old b → TellsNow self.old.base self.old.sizes b piece.now e) }
         ensures failed { OnErr result (self.new.failed ≡ true) }
         ensures place { self.new.place ≡ self.old.place }
         ensures already { self.old.failed ≡ true → result ≡ Err errors.AlreadyFailed }
         ensures memory { result ≡ Err errors.NoMemory → (b : List ℕ) → HasBeenFed self.old b → (opening : Opening) (rest : List ℕ) → Begins b opening rest
-            → (from : ℕ) → from + length self.old.held ≡ length b → HasDevice self.old.sizes (b ++ piece.now) from }
+            → (from : ℕ) → from + length self.old.held ≡ length b → HasDevice self.old.base self.old.sizes (b ++ piece.now) from }
     {
         if piece.len() < self.lacking {
             self.held.extend_from_slice(piece).unwrap();
@@ -125,16 +167,17 @@ impl<D: Disk + Drop> Receiver<D> {
     /// only held, costs little.
     #[inline(never)]
     fn work_through(&mut self, piece: &[u8]) -> Result<(), RecvError>
+        ensures base { self.new.base ≡ self.old.base }
         ensures sizes { self.new.sizes ≡ self.old.sizes }
         ensures marks { MarksAfter self.old.marks result self.new.marks }
         ensures fed { OnOk result ((b : List ℕ) → HasBeenFed self.old b → HasBeenFed self.new (b ++ piece.now)) }
-        ensures quiet { OnOk result ((b : List ℕ) → HasBeenFed self.old b → NoFault self.old.sizes (b ++ piece.now)) }
-        ensures told { IfErr result (λ e. (b : List ℕ) → HasBeenFed self.old b → TellsNow self.old.sizes b piece.now e) }
+        ensures quiet { OnOk result ((b : List ℕ) → HasBeenFed self.old b → NoFault self.old.base self.old.sizes (b ++ piece.now)) }
+        ensures told { IfErr result (λ e. (b : List ℕ) → HasBeenFed self.old b → TellsNow self.old.base self.old.sizes b piece.now e) }
         ensures failed { OnErr result (self.new.failed ≡ true) }
         ensures place { self.new.place ≡ self.old.place }
         ensures already { self.old.failed ≡ true → result ≡ Err errors.AlreadyFailed }
         ensures memory { result ≡ Err errors.NoMemory → (b : List ℕ) → HasBeenFed self.old b → (opening : Opening) (rest : List ℕ) → Begins b opening rest
-            → (from : ℕ) → from + length self.old.held ≡ length b → HasDevice self.old.sizes (b ++ piece.now) from }
+            → (from : ℕ) → from + length self.old.held ≡ length b → HasDevice self.old.base self.old.sizes (b ++ piece.now) from }
     {
         if is_failed(&self.stage) {
             return Err(RecvError::AlreadyFailed);
@@ -152,6 +195,7 @@ impl<D: Disk + Drop> Receiver<D> {
         let stage = mem::replace(&mut self.stage, Stage::Failed);
         match take_piece(
             self.alloc,
+            self.base,
             &mut self.aside,
             &mut self.disks,
             &mut self.held,
@@ -183,7 +227,7 @@ impl<D: Disk + Drop> Receiver<D> {
     /// How many rounds ended in what was read.
     pub fn rounds(&self) -> u32
         ensures failed { self.now.failed ≡ true → result ≡ 0 }
-        ensures rounds { (b : List ℕ) → HasBeenFed self.now b → HasRounds self.now.sizes b result }
+        ensures rounds { (b : List ℕ) → HasBeenFed self.now b → HasRounds self.now.base self.now.sizes b result }
     {
         rounds_of(&self.stage)
     }
@@ -196,10 +240,11 @@ impl<D: Disk + Drop> Receiver<D> {
     pub fn finish(self) -> Result<Machine<D>, RecvError>
         ensures received { IfOk result (λ m. AreHonestDisks self.marks → (b : List ℕ) → HasBeenFed self b → IsStream b (state_of m)) }
         ensures marks { IfOk result (λ m. all_marks m ≡ dealt_marks (shapes_in (state_of m).devices) self.marks) }
+        ensures based { IfOk result (λ m. base_of (state_of m).devices ≡ self.base) }
         ensures fits { IfOk result (λ m. self.sizes ≡ disk_sizes (shapes_in (state_of m).devices)) }
         ensures refused { IfErr result (λ e. (b : List ℕ) → HasBeenFed self b → IsFinish b e) }
-        ensures whole { OnOk result ((b : List ℕ) → HasBeenFed self b → IsWholeFor self.sizes b) }
-        ensures memory { result ≡ Err errors.NoMemory → (b : List ℕ) → HasBeenFed self b → IsWholeFor self.sizes b }
+        ensures whole { OnOk result ((b : List ℕ) → HasBeenFed self b → IsWholeFor self.base self.sizes b) }
+        ensures memory { result ≡ Err errors.NoMemory → (b : List ℕ) → HasBeenFed self b → IsWholeFor self.base self.sizes b }
         ensures place { IfOk result (λ m. m.memory.place ≡ self.place) }
         ensures already { self.failed ≡ true → result ≡ Err errors.AlreadyFailed }
     {
@@ -213,10 +258,11 @@ impl<D: Disk + Drop> Receiver<D> {
     pub fn finish_or_back(self) -> Result<Machine<D>, (RecvError, Receiver<D>)>
         ensures received { IfOk result (λ m. AreHonestDisks self.marks → (b : List ℕ) → HasBeenFed self b → IsStream b (state_of m)) }
         ensures marks { IfOk result (λ m. all_marks m ≡ dealt_marks (shapes_in (state_of m).devices) self.marks) }
+        ensures based { IfOk result (λ m. base_of (state_of m).devices ≡ self.base) }
         ensures fits { IfOk result (λ m. self.sizes ≡ disk_sizes (shapes_in (state_of m).devices)) }
         ensures refused { IfErr result (λ x. (b : List ℕ) → HasBeenFed self b → IsFinish b x.0) }
-        ensures whole { OnOk result ((b : List ℕ) → HasBeenFed self b → IsWholeFor self.sizes b) }
-        ensures memory { IfErr result (λ x. x.0 ≡ errors.NoMemory → (b : List ℕ) → HasBeenFed self b → IsWholeFor self.sizes b) }
+        ensures whole { OnOk result ((b : List ℕ) → HasBeenFed self b → IsWholeFor self.base self.sizes b) }
+        ensures memory { IfErr result (λ x. x.0 ≡ errors.NoMemory → (b : List ℕ) → HasBeenFed self b → IsWholeFor self.base self.sizes b) }
         ensures already { self.failed ≡ true → IfErr result (λ x. x.0 ≡ errors.AlreadyFailed) }
         ensures goes_on { OnOk result (self.failed ≡ false) }
         ensures back { IfErr result (λ x. IsGivenUp self x.1) }
@@ -225,6 +271,7 @@ impl<D: Disk + Drop> Receiver<D> {
     {
         let Receiver {
             alloc,
+            base,
             disks,
             held: _,
             taken: _,
@@ -236,7 +283,7 @@ impl<D: Disk + Drop> Receiver<D> {
         match stage {
             Stage::Ended(intake) => {
                 let Intake {
-                    version: _,
+                    terms: _,
                     shapes,
                     ram,
                     named: _,
@@ -251,16 +298,19 @@ impl<D: Disk + Drop> Receiver<D> {
                     Ok(machine) => Ok(machine),
                     Err((disks, ram)) => Err((
                         RecvError::NoMemory,
-                        given_up(alloc, disks, Some(ArrivingRam::over(ram))),
+                        given_up(alloc, base, disks, Some(ArrivingRam::over(ram))),
                     )),
                 }
             }
-            Stage::Failed => Err((RecvError::AlreadyFailed, given_up(alloc, disks, aside))),
+            Stage::Failed => Err((
+                RecvError::AlreadyFailed,
+                given_up(alloc, base, disks, aside),
+            )),
             Stage::Records(intake) => Err((
                 RecvError::Truncated,
-                given_up(alloc, disks, Some(intake.ram)),
+                given_up(alloc, base, disks, Some(intake.ram)),
             )),
-            Stage::Head => Err((RecvError::Truncated, given_up(alloc, disks, aside))),
+            Stage::Head => Err((RecvError::Truncated, given_up(alloc, base, disks, aside))),
         }
     }
 
@@ -278,6 +328,7 @@ impl<D: Disk + Drop> Receiver<D> {
     {
         let Receiver {
             alloc: _,
+            base: _,
             disks,
             held: _,
             taken: _,
@@ -298,6 +349,7 @@ impl<D: Disk + Drop> Receiver<D> {
     {
         let Receiver {
             alloc: _,
+            base: _,
             disks,
             held: _,
             taken: _,
@@ -314,7 +366,13 @@ impl<D: Disk + Drop> Receiver<D> {
 }
 
 /// A receiver that was refused, with these disks, and this RAM aside. It takes no memory.
-fn given_up<D: Disk>(alloc: Global, disks: Vec<D>, aside: Option<ArrivingRam>) -> Receiver<D>
+fn given_up<D: Disk>(
+    alloc: Global,
+    base: u64,
+    disks: Vec<D>,
+    aside: Option<ArrivingRam>,
+) -> Receiver<D>
+    ensures base { result.base ≡ base }
     ensures failed { result.failed ≡ true }
     ensures disks { result.disks ≡ map D.state disks.items }
     ensures sizes { result.sizes ≡ sizes_of D.state disks.items }
@@ -323,6 +381,7 @@ fn given_up<D: Disk>(alloc: Global, disks: Vec<D>, aside: Option<ArrivingRam>) -
 {
     Receiver {
         alloc,
+        base,
         disks,
         held: Vec::new(alloc),
         taken: Sha256::new(),

@@ -4,7 +4,7 @@ ghost use Rattle.std.specs.Prelude.{◌≡◌, ◌≤◌, ◌+◌, ◌++◌, ◌
 ghost use Rattle.sha2.specs.Hashers.{Holds256};
 ghost use Rattle.blk.specs.Disk.{DiskState};
 ghost use Rattle.guestmem.specs.declared.limits.TheConstants.{PAGE_SIZE, PAGES_MAX};
-ghost use Rattle.wire.specs.Header.{header, Begins, IsHeader, Opening};
+ghost use Rattle.wire.specs.Header.{header, Begins, IsHeader};
 ghost use Rattle.wire.specs.HeaderReading.{said};
 ghost use Rattle.wire.specs.Records as records;
 ghost use Rattle.machine.specs.Layout.{firsts_of, layout_by, size_of};
@@ -12,11 +12,12 @@ ghost use Rattle.machine.specs.declared.shape.Shape as shapes;
 ghost use Rattle.machine.specs.Shapes.{disk_sizes};
 ghost use Rattle.receiver.specs.Disks.{sizes_in, sizes_of};
 ghost use Rattle.receiver.specs.Fed.{HasRead};
+ghost use Rattle.receiver.specs.Opened.{Opened, opened};
 ghost use Rattle.receiver.specs.declared.recv_error.RecvError.TheVariants as errors;
 ghost use Rattle.receiver.specs.Receiving.{HasDevice, IsKnown, IsPastHead, Stepped, has_failed, place_after, place_aside, place_in};
 
 use crate::heading::read_heading;
-use crate::intake::{Intake, work_off};
+use crate::intake::{Intake, Terms, work_off};
 use crate::recv_error::RecvError;
 use crate::stage::Stage;
 use dirtylog::BitSet;
@@ -83,7 +84,7 @@ fn give_up(intake: Intake, aside: &mut Option<ArrivingRam>)
     ensures { place_aside aside.new ≡ intake.ram.place }
 {
     let Intake {
-        version: _,
+        terms: _,
         shapes: _,
         ram,
         named: _,
@@ -107,9 +108,10 @@ pub fn fail(stage: &mut Stage, aside: &mut Option<ArrivingRam>)
     }
 }
 
-/// An intake that has taken a header. An error leaves the RAM that stands aside where it is.
+/// An intake that has taken a header, of a machine whose RAM begins at `base`. An error leaves the RAM that stands aside where it is.
 fn new_intake<D: Disk>(
     alloc: Global,
+    base: u64,
     aside: &mut Option<ArrivingRam>,
     disks: &[D],
     heading: Header,
@@ -117,7 +119,7 @@ fn new_intake<D: Disk>(
     requires { IsHeader (said heading) }
     ensures place { IfOk result (λ i. i.ram.place ≡ place_aside aside.old) }
     ensures kept { IfErr result (λ e. aside.new ≡ aside.old) }
-    ensures read { IfOk result (λ i. (bytes rest : List ℕ) → Begins bytes (said heading) rest → sizes_of D.state disks.now ≡ disk_sizes heading.shapes.items → HasRead (map D.state disks.now) (said heading) [] i (header (said heading))) }
+    ensures read { IfOk result (λ i. (bytes rest : List ℕ) → Begins bytes (said heading) rest → sizes_of D.state disks.now ≡ disk_sizes heading.shapes.items → HasRead (map D.state disks.now) (opened base (said heading)) [] i (header (said heading))) }
 {
     let Header {
         version,
@@ -131,7 +133,7 @@ fn new_intake<D: Disk>(
     let devices = Vec::new(alloc);
     let ram = ram_of(alloc, aside, pages)?;
     Ok(Intake {
-        version,
+        terms: Terms { version, base },
         shapes,
         ram,
         named,
@@ -155,9 +157,9 @@ fn advance<D: Disk>(
     ensures few { IfOk result (λ x. length bytes.now ≤ 131077 + x.0) }
     ensures past { IfOk result (λ x. IsPastHead x.1) }
     ensures place { place_after aside.new result ≡ intake.ram.place }
-    ensures memory { (front : List ℕ) (opening : Opening) (before : List records.Record) → Holds256 taken.old front → HasRead (map D.state disks.old) opening before intake front
-        → result ≡ Err errors.NoMemory → HasDevice (sizes_of D.state disks.old) (front ++ bytes.now) (length front) }
-    ensures stepped { (front : List ℕ) (opening : Opening) (before : List records.Record) → Holds256 taken.old front → HasRead (map D.state disks.old) opening before intake front → Stepped (map D.state disks.old) (map D.state disks.new) taken.new front bytes.now result }
+    ensures memory { (front : List ℕ) (opening : Opened) (before : List records.Record) → Holds256 taken.old front → HasRead (map D.state disks.old) opening before intake front
+        → result ≡ Err errors.NoMemory → HasDevice opening.base (sizes_of D.state disks.old) (front ++ bytes.now) (length front) }
+    ensures stepped { (front : List ℕ) (opening : Opened) (before : List records.Record) → Holds256 taken.old front → HasRead (map D.state disks.old) opening before intake front → Stepped opening.base (map D.state disks.old) (map D.state disks.new) taken.new front bytes.now result }
 {
     let mut intake = intake;
     match work_off(alloc, &mut intake, disks, taken, bytes) {
@@ -170,9 +172,11 @@ fn advance<D: Disk>(
     }
 }
 
-/// Reads the header, if it is complete, and the complete records after it; returns how many bytes they have.
+/// Reads the header of a machine whose RAM begins at `base`, if it is complete, and the complete records after it; returns how many
+/// bytes they have.
 fn begin<D: Disk>(
     alloc: Global,
+    base: u64,
     aside: &mut Option<ArrivingRam>,
     disks: &mut [D],
     taken: &mut Sha256,
@@ -181,7 +185,7 @@ fn begin<D: Disk>(
     ensures room { IfOk result (λ x. x.0 ≤ length bytes.now) }
     ensures few { IfOk result (λ x. length bytes.now ≤ 131077 + x.0) }
     ensures place { place_after aside.new result ≡ place_aside aside.old }
-    ensures stepped { Holds256 taken.old [] → Stepped (map D.state disks.old) (map D.state disks.new) taken.new [] bytes.now result }
+    ensures stepped { Holds256 taken.old [] → Stepped base (map D.state disks.old) (map D.state disks.new) taken.new [] bytes.now result }
 {
     let heading = match read_heading(alloc, bytes) {
         Ok(Some(heading)) => heading,
@@ -192,7 +196,7 @@ fn begin<D: Disk>(
         return Err(RecvError::ShapeMismatch);
     }
     let len = heading.len;
-    let Ok(intake) = new_intake(alloc, aside, disks, heading) else {
+    let Ok(intake) = new_intake(alloc, base, aside, disks, heading) else {
         return Err(RecvError::NoMemory);
     };
     let (header, rest) = bytes.split_at(len);
@@ -203,9 +207,11 @@ fn begin<D: Disk>(
     }
 }
 
-/// Takes what is complete at the front of the bytes, which follow those that were worked off; returns how many bytes it has.
+/// Takes what is complete at the front of the bytes, which follow those that were worked off; returns how many bytes it has. The
+/// machine's RAM begins at `base`.
 pub fn step<D: Disk>(
     alloc: Global,
+    base: u64,
     aside: &mut Option<ArrivingRam>,
     disks: &mut [D],
     taken: &mut Sha256,
@@ -216,11 +222,11 @@ pub fn step<D: Disk>(
     ensures few { IfOk result (λ x. length bytes.now ≤ 131077 + x.0) }
     ensures past { IsPastHead stage → IfOk result (λ x. IsPastHead x.1) }
     ensures place { place_after aside.new result ≡ place_in aside.old stage }
-    ensures memory { (front held : List ℕ) → IsKnown (map D.state disks.old) taken.old front held stage → IsPastHead stage → result ≡ Err errors.NoMemory → HasDevice (sizes_of D.state disks.old) (front ++ bytes.now) (length front) }
-    ensures stepped { (front held : List ℕ) → IsKnown (map D.state disks.old) taken.old front held stage → Stepped (map D.state disks.old) (map D.state disks.new) taken.new front bytes.now result }
+    ensures memory { (front held : List ℕ) → IsKnown base (map D.state disks.old) taken.old front held stage → IsPastHead stage → result ≡ Err errors.NoMemory → HasDevice base (sizes_of D.state disks.old) (front ++ bytes.now) (length front) }
+    ensures stepped { (front held : List ℕ) → IsKnown base (map D.state disks.old) taken.old front held stage → Stepped base (map D.state disks.old) (map D.state disks.new) taken.new front bytes.now result }
 {
     match stage {
-        Stage::Head => begin(alloc, aside, disks, taken, bytes),
+        Stage::Head => begin(alloc, base, aside, disks, taken, bytes),
         Stage::Records(intake) => advance(alloc, aside, intake, disks, taken, bytes),
         Stage::Ended(intake) => {
             if !bytes.is_empty() {

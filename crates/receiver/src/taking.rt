@@ -32,6 +32,7 @@ fn drop_front(bytes: &mut Vec<u8>, count: usize)
 /// Takes bytes after which nothing is held. Those of complete records are not copied into the buffer.
 fn take_apart<D: Disk>(
     alloc: Global,
+    base: u64,
     aside: &mut Option<ArrivingRam>,
     disks: &mut [D],
     held: &mut Vec<u8>,
@@ -46,10 +47,10 @@ fn take_apart<D: Disk>(
     ensures shorter { OnOk result (length held.new.items ≤ length held.old.items + length bytes.now) }
     ensures past { IsPastHead stage → IfOk result (λ next. IsPastHead next) }
     ensures place { place_took aside.new result ≡ place_in aside.old stage }
-    ensures memory { (front : List ℕ) → IsKnown (map D.state disks.old) taken.old front held.old.items stage → IsPastHead stage → result ≡ Err errors.NoMemory → HasDevice (sizes_of D.state disks.old) (front ++ (held.old.items ++ bytes.now)) (length front) }
-    ensures took { (front : List ℕ) → IsKnown (map D.state disks.old) taken.old front held.old.items stage → Took (map D.state disks.old) (map D.state disks.new) taken.new (front ++ (held.old.items ++ bytes.now)) held.new.items result }
+    ensures memory { (front : List ℕ) → IsKnown base (map D.state disks.old) taken.old front held.old.items stage → IsPastHead stage → result ≡ Err errors.NoMemory → HasDevice base (sizes_of D.state disks.old) (front ++ (held.old.items ++ bytes.now)) (length front) }
+    ensures took { (front : List ℕ) → IsKnown base (map D.state disks.old) taken.old front held.old.items stage → Took base (map D.state disks.old) (map D.state disks.new) taken.new (front ++ (held.old.items ++ bytes.now)) held.new.items result }
 {
-    match step(alloc, aside, disks, taken, bytes, stage) {
+    match step(alloc, base, aside, disks, taken, bytes, stage) {
         Ok((count, stage)) => {
             let (_, rest) = bytes.split_at(count);
             held.extend_from_slice(rest).unwrap();
@@ -62,6 +63,7 @@ fn take_apart<D: Disk>(
 /// Takes bytes that follow those that are held.
 fn take_behind<D: Disk>(
     alloc: Global,
+    base: u64,
     aside: &mut Option<ArrivingRam>,
     disks: &mut [D],
     held: &mut Vec<u8>,
@@ -75,11 +77,11 @@ fn take_behind<D: Disk>(
     ensures shorter { OnOk result (length held.new.items ≤ length held.old.items + length bytes.now) }
     ensures past { IsPastHead stage → IfOk result (λ next. IsPastHead next) }
     ensures place { place_took aside.new result ≡ place_in aside.old stage }
-    ensures memory { (front : List ℕ) → IsKnown (map D.state disks.old) taken.old front held.old.items stage → IsPastHead stage → result ≡ Err errors.NoMemory → HasDevice (sizes_of D.state disks.old) (front ++ (held.old.items ++ bytes.now)) (length front) }
-    ensures took { (front : List ℕ) → IsKnown (map D.state disks.old) taken.old front held.old.items stage → Took (map D.state disks.old) (map D.state disks.new) taken.new (front ++ (held.old.items ++ bytes.now)) held.new.items result }
+    ensures memory { (front : List ℕ) → IsKnown base (map D.state disks.old) taken.old front held.old.items stage → IsPastHead stage → result ≡ Err errors.NoMemory → HasDevice base (sizes_of D.state disks.old) (front ++ (held.old.items ++ bytes.now)) (length front) }
+    ensures took { (front : List ℕ) → IsKnown base (map D.state disks.old) taken.old front held.old.items stage → Took base (map D.state disks.old) (map D.state disks.new) taken.new (front ++ (held.old.items ++ bytes.now)) held.new.items result }
 {
     held.extend_from_slice(bytes).unwrap();
-    match step(alloc, aside, disks, taken, held, stage) {
+    match step(alloc, base, aside, disks, taken, held, stage) {
         Ok((count, stage)) => {
             drop_front(held, count);
             Ok(stage)
@@ -121,6 +123,7 @@ fn next_len(held: &[u8], len: usize) -> usize
 /// Takes the next piece.
 pub fn take_piece<D: Disk>(
     alloc: Global,
+    base: u64,
     aside: &mut Option<ArrivingRam>,
     disks: &mut [D],
     held: &mut Vec<u8>,
@@ -135,14 +138,14 @@ pub fn take_piece<D: Disk>(
     ensures shorter { OnOk result (length held.new.items ≤ length held.old.items + length piece.now) }
     ensures past { IsPastHead stage → IfOk result (λ next. IsPastHead next) }
     ensures place { place_took aside.new result ≡ place_in aside.old stage }
-    ensures memory { (front : List ℕ) → IsKnown (map D.state disks.old) taken.old front held.old.items stage → IsPastHead stage → result ≡ Err errors.NoMemory → HasDevice (sizes_of D.state disks.old) (front ++ (held.old.items ++ piece.now)) (length front) }
-    ensures took { (front : List ℕ) → IsKnown (map D.state disks.old) taken.old front held.old.items stage → Took (map D.state disks.old) (map D.state disks.new) taken.new (front ++ (held.old.items ++ piece.now)) held.new.items result }
+    ensures memory { (front : List ℕ) → IsKnown base (map D.state disks.old) taken.old front held.old.items stage → IsPastHead stage → result ≡ Err errors.NoMemory → HasDevice base (sizes_of D.state disks.old) (front ++ (held.old.items ++ piece.now)) (length front) }
+    ensures took { (front : List ℕ) → IsKnown base (map D.state disks.old) taken.old front held.old.items stage → Took base (map D.state disks.old) (map D.state disks.new) taken.new (front ++ (held.old.items ++ piece.now)) held.new.items result }
 {
     let mut stage = stage;
     let mut rest = piece;
     while !rest.is_empty() {
         let (bytes, after) = rest.split_at(next_len(held, rest.len()));
-        match take_next(alloc, aside, disks, held, taken, stage, bytes) {
+        match take_next(alloc, base, aside, disks, held, taken, stage, bytes) {
             Ok(next) => stage = next,
             Err(error) => return Err(error),
         }
@@ -154,6 +157,7 @@ pub fn take_piece<D: Disk>(
 /// Takes bytes that fit into the buffer, or any number if nothing is held.
 fn take_next<D: Disk>(
     alloc: Global,
+    base: u64,
     aside: &mut Option<ArrivingRam>,
     disks: &mut [D],
     held: &mut Vec<u8>,
@@ -168,11 +172,11 @@ fn take_next<D: Disk>(
     ensures shorter { OnOk result (length held.new.items ≤ length held.old.items + length bytes.now) }
     ensures past { IsPastHead stage → IfOk result (λ next. IsPastHead next) }
     ensures place { place_took aside.new result ≡ place_in aside.old stage }
-    ensures memory { (front : List ℕ) → IsKnown (map D.state disks.old) taken.old front held.old.items stage → IsPastHead stage → result ≡ Err errors.NoMemory → HasDevice (sizes_of D.state disks.old) (front ++ (held.old.items ++ bytes.now)) (length front) }
-    ensures took { (front : List ℕ) → IsKnown (map D.state disks.old) taken.old front held.old.items stage → Took (map D.state disks.old) (map D.state disks.new) taken.new (front ++ (held.old.items ++ bytes.now)) held.new.items result }
+    ensures memory { (front : List ℕ) → IsKnown base (map D.state disks.old) taken.old front held.old.items stage → IsPastHead stage → result ≡ Err errors.NoMemory → HasDevice base (sizes_of D.state disks.old) (front ++ (held.old.items ++ bytes.now)) (length front) }
+    ensures took { (front : List ℕ) → IsKnown base (map D.state disks.old) taken.old front held.old.items stage → Took base (map D.state disks.old) (map D.state disks.new) taken.new (front ++ (held.old.items ++ bytes.now)) held.new.items result }
 {
     if held.is_empty() {
-        return take_apart(alloc, aside, disks, held, taken, stage, bytes);
+        return take_apart(alloc, base, aside, disks, held, taken, stage, bytes);
     }
-    take_behind(alloc, aside, disks, held, taken, stage, bytes)
+    take_behind(alloc, base, aside, disks, held, taken, stage, bytes)
 }

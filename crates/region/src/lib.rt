@@ -9,14 +9,18 @@
 //!   the same bytes (`specs/Slot`). All bytes 0 are a slot of no bytes.
 //! - Neither can be dropped, and only one of no bytes is consumed by `gone`. So a function that has a region or a slot gives it back,
 //!   puts it into a value of its own, or says by `forget` that the bytes are the caller's again.
+//! - `KeptRegion` is a region that a value keeps which can be dropped: then the bytes are the caller's again, as they are, and a clause
+//!   of its drop says so.
 //! - The caller's part, which nothing checks: the bytes are at the address, may be read and written, and are nobody else's until the
 //!   region is given back.
 //!
 //! It uses nothing but std.
 #![tactic(auto)]
 
+mod kept_region;
 mod region;
 mod slot;
 
+pub use kept_region::KeptRegion;
 pub use region::Region;
 pub use slot::Slot;

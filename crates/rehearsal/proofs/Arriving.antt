@@ -7,7 +7,7 @@ use Rattle.machine.specs.Outcome.{Outcome, outcome_of}
 use Rattle.machine.specs.Run.{IsRun}
 use Rattle.machine.specs.Seen.{AreHonest, Marks, Seen, all_marks, state_of}
 use Rattle.machine.specs.Shapes.{disk_sizes}
-use Rattle.machine.specs.State.{MachineState}
+use Rattle.machine.specs.State.{MachineState, base_of}
 use Rattle.machine.specs.declared.reply.Reply.{Reply}
 use Rattle.machine.proofs.Agreeing.{runs_same}
 use Rattle.machine.proofs.Dealing.{dealt_all}
@@ -35,35 +35,35 @@ mismatched machine source events sizes marks replies bytes g never = record {
 }
 
 -- What a refusal tells of a stream whose disks fit.
-refusal : (sizes : List ℕ) (marks : List Marks) (bytes : List ℕ) (machine source : Seen) (e : RecvError) → DoFit sizes machine → NoFault sizes bytes → IsStream bytes (state_of source) → RefusesSlice sizes marks bytes e → TellsWhy sizes marks machine e
-refusal sizes marks bytes machine source errors.NoMemory fits quiet stream h = fits
-refusal sizes marks bytes machine source errors.DiskFailed fits quiet stream h = (fits, h)
-refusal sizes marks bytes machine source errors.Truncated fits quiet stream h = absurd (h.1 (state_of source) stream)
-refusal sizes marks bytes machine source errors.ShapeMismatch fits quiet stream h = absurd (quiet errors.ShapeMismatch h.0 h.1)
-refusal sizes marks bytes machine source errors.BadMagic fits quiet stream h = absurd (quiet errors.BadMagic h.0 h.1)
-refusal sizes marks bytes machine source errors.BadVersion fits quiet stream h = absurd (quiet errors.BadVersion h.0 h.1)
-refusal sizes marks bytes machine source errors.BadShape fits quiet stream h = absurd (quiet errors.BadShape h.0 h.1)
-refusal sizes marks bytes machine source errors.BadTag fits quiet stream h = absurd (quiet errors.BadTag h.0 h.1)
-refusal sizes marks bytes machine source errors.BadPage fits quiet stream h = absurd (quiet errors.BadPage h.0 h.1)
-refusal sizes marks bytes machine source errors.BadSector fits quiet stream h = absurd (quiet errors.BadSector h.0 h.1)
-refusal sizes marks bytes machine source errors.BadRound fits quiet stream h = absurd (quiet errors.BadRound h.0 h.1)
-refusal sizes marks bytes machine source errors.BadDevice fits quiet stream h = absurd (quiet errors.BadDevice h.0 h.1)
-refusal sizes marks bytes machine source errors.BadDigest fits quiet stream h = absurd (quiet errors.BadDigest h.0 h.1)
-refusal sizes marks bytes machine source errors.Missing fits quiet stream h = absurd (quiet errors.Missing h.0 h.1)
-refusal sizes marks bytes machine source errors.Trailing fits quiet stream h = absurd (quiet errors.Trailing h.0 h.1)
-refusal sizes marks bytes machine source errors.AlreadyFailed fits quiet stream h = absurd (quiet errors.AlreadyFailed h.0 h.1)
+refusal : (base : ℕ) (sizes : List ℕ) (marks : List Marks) (bytes : List ℕ) (machine source : Seen) (e : RecvError) → DoFit sizes machine → NoFault base sizes bytes → IsStream bytes (state_of source) → RefusesSlice base sizes marks bytes e → TellsWhy sizes marks machine e
+refusal base sizes marks bytes machine source errors.NoMemory fits quiet stream h = fits
+refusal base sizes marks bytes machine source errors.DiskFailed fits quiet stream h = (fits, h)
+refusal base sizes marks bytes machine source errors.Truncated fits quiet stream h = absurd (h.1 (state_of source) stream)
+refusal base sizes marks bytes machine source errors.ShapeMismatch fits quiet stream h = absurd (quiet errors.ShapeMismatch h.0 h.1)
+refusal base sizes marks bytes machine source errors.BadMagic fits quiet stream h = absurd (quiet errors.BadMagic h.0 h.1)
+refusal base sizes marks bytes machine source errors.BadVersion fits quiet stream h = absurd (quiet errors.BadVersion h.0 h.1)
+refusal base sizes marks bytes machine source errors.BadShape fits quiet stream h = absurd (quiet errors.BadShape h.0 h.1)
+refusal base sizes marks bytes machine source errors.BadTag fits quiet stream h = absurd (quiet errors.BadTag h.0 h.1)
+refusal base sizes marks bytes machine source errors.BadPage fits quiet stream h = absurd (quiet errors.BadPage h.0 h.1)
+refusal base sizes marks bytes machine source errors.BadSector fits quiet stream h = absurd (quiet errors.BadSector h.0 h.1)
+refusal base sizes marks bytes machine source errors.BadRound fits quiet stream h = absurd (quiet errors.BadRound h.0 h.1)
+refusal base sizes marks bytes machine source errors.BadDevice fits quiet stream h = absurd (quiet errors.BadDevice h.0 h.1)
+refusal base sizes marks bytes machine source errors.BadDigest fits quiet stream h = absurd (quiet errors.BadDigest h.0 h.1)
+refusal base sizes marks bytes machine source errors.Missing fits quiet stream h = absurd (quiet errors.Missing h.0 h.1)
+refusal base sizes marks bytes machine source errors.Trailing fits quiet stream h = absurd (quiet errors.Trailing h.0 h.1)
+refusal base sizes marks bytes machine source errors.AlreadyFailed fits quiet stream h = absurd (quiet errors.AlreadyFailed h.0 h.1)
 
 -- Disks that fit the machine fit it at the stop.
 still_fit : (sizes : List ℕ) (machine source : Seen) → IsSameShape (state_of machine) (state_of source) → DoFit sizes machine → sizes ≡ disk_sizes (shapes_in (state_of source).devices)
 still_fit sizes machine source same fits = fits ∙ ap disk_sizes (sym same.devices)
 
-pub refused : (machine source : Seen) (events : List LiveEvent) (sizes : List ℕ) (marks : List Marks) (replies : List LiveReply) (bytes : List ℕ) (e : RecvError) → IsSent machine events source replies bytes → DoFit sizes machine → RefusesSlice sizes marks bytes e → IsRefused machine events sizes marks source replies e
-refused machine source events sizes marks replies bytes e g fits told = record {
+pub refused : (machine source : Seen) (events : List LiveEvent) (base : ℕ) (sizes : List ℕ) (marks : List Marks) (replies : List LiveReply) (bytes : List ℕ) (e : RecvError) → IsSent machine events source replies bytes → DoFit sizes machine → base ≡ base_of (state_of source).devices → RefusesSlice base sizes marks bytes e → IsRefused machine events sizes marks source replies e
+refused machine source events base sizes marks replies bytes e g fits based told = record {
   stops = g.stops;
   answered = g.answered;
   mismatch = λ never. absurd (never fits);
-  unsteady = λ is. (let P : RecvError → Type 0 = λ x. RefusesSlice sizes marks bytes x in subst P is told);
-  why = λ honest. refusal sizes marks bytes machine source e fits (stream_quiet sizes bytes (state_of source) (g.stream honest) (still_fit sizes machine source (g.answered.shape honest) fits)) (g.stream honest) told;
+  unsteady = λ is. (let P : RecvError → Type 0 = λ x. RefusesSlice base sizes marks bytes x in subst P is told);
+  why = λ honest. refusal base sizes marks bytes machine source e fits (stream_quiet base sizes bytes (state_of source) (g.stream honest) (sym based) (still_fit sizes machine source (g.answered.shape honest) fits)) (g.stream honest) told;
 }
 
 -- A machine over honest disks is one with honest disks.
@@ -77,12 +77,12 @@ arrives_honest machine marks over honest =
 
 -- Both machines went on.
 pub arrival : (machine at_stop source as_arrived arrived : Seen) (events : List LiveEvent) (sizes : List ℕ) (marks : List Marks) (bytes : List ℕ) (played replies : List LiveReply) (arrived_replies : List Reply) → IsSent machine events at_stop played bytes → DoFit sizes machine
-    → (AreHonestDisks marks → IsStream bytes (state_of as_arrived)) → all_marks as_arrived ≡ dealt_marks (shapes_in (state_of as_arrived).devices) marks
+    → (AreHonestDisks marks → IsStream bytes (state_of as_arrived)) → base_of (state_of as_arrived).devices ≡ base_of (state_of at_stop).devices → all_marks as_arrived ≡ dealt_marks (shapes_in (state_of as_arrived).devices) marks
     → GoesOn at_stop (remaining events played) played replies source → HasPlayed as_arrived (remaining events played) arrived_replies arrived
     → IsArrival machine events sizes marks source arrived replies arrived_replies
-arrival machine at_stop source as_arrived arrived events sizes marks bytes played replies arrived_replies g fits received over goes p =
+arrival machine at_stop source as_arrived arrived events sizes marks bytes played replies arrived_replies g fits received based over goes p =
     let es = remaining events played in
-    let start : AreHonest machine → AreHonestDisks marks → state_of as_arrived ≡ state_of at_stop = λ honest disks. one_machine bytes (state_of as_arrived) (state_of at_stop) (received disks) (g.stream honest) in
+    let start : AreHonest machine → AreHonestDisks marks → state_of as_arrived ≡ state_of at_stop = λ honest disks. one_machine bytes (state_of as_arrived) (state_of at_stop) (received disks) (g.stream honest) based in
     let run_one : AreHonest machine → IsRun (state_of at_stop) es (map outcome_of goes.rest) goes.rest (state_of source) = λ honest. goes.played.run (g.answered.honest honest) in
     let P : MachineState → Type 0 = λ m. IsRun m es (map outcome_of arrived_replies) arrived_replies (state_of arrived) in
     let run_two : AreHonest machine → AreHonestDisks marks → IsRun (state_of at_stop) es (map outcome_of arrived_replies) arrived_replies (state_of arrived) = λ honest disks. subst P (start honest disks) (p.run (arrives_honest as_arrived marks over disks)) in
@@ -116,8 +116,8 @@ refused_with machine source events sizes marks replies error (Arrived s a rs qs)
 refused_with machine source events sizes marks replies error (NotStopped s rs) is g = absurd is
 
 pub arrived_with : {D E : Type 0} (machine at_stop as_arrived : Seen) (events : List LiveEvent) (sizes : List ℕ) (marks : List Marks) (bytes : List ℕ) (played : List LiveReply) (result : Rehearsal D E) → IsSent machine events at_stop played bytes → DoFit sizes machine
-    → (AreHonestDisks marks → IsStream bytes (state_of as_arrived)) → all_marks as_arrived ≡ dealt_marks (shapes_in (state_of as_arrived).devices) marks
+    → (AreHonestDisks marks → IsStream bytes (state_of as_arrived)) → base_of (state_of as_arrived).devices ≡ base_of (state_of at_stop).devices → all_marks as_arrived ≡ dealt_marks (shapes_in (state_of as_arrived).devices) marks
     → GoOn at_stop played as_arrived events result → IsRehearsal machine events sizes marks result
-arrived_with machine at_stop as_arrived events sizes marks bytes played (Arrived s a rs qs) g fits received over is = arrival machine at_stop s as_arrived a events sizes marks bytes played rs.items qs.items g fits received over is.0 is.1
-arrived_with machine at_stop as_arrived events sizes marks bytes played (Refused s rs e) g fits received over is = absurd is
-arrived_with machine at_stop as_arrived events sizes marks bytes played (NotStopped s rs) g fits received over is = absurd is
+arrived_with machine at_stop as_arrived events sizes marks bytes played (Arrived s a rs qs) g fits received based over is = arrival machine at_stop s as_arrived a events sizes marks bytes played rs.items qs.items g fits received based over is.0 is.1
+arrived_with machine at_stop as_arrived events sizes marks bytes played (Refused s rs e) g fits received based over is = absurd is
+arrived_with machine at_stop as_arrived events sizes marks bytes played (NotStopped s rs) g fits received based over is = absurd is

@@ -41,8 +41,8 @@ takings_stay_moving m h out writer taken more s g held count honest =
     }
 
 pub arrived_is_moved : ArrivedIsMoved
-arrived_is_moved m h out taken s r arrived g sound honest empty stopped trusted fed gives =
+arrived_is_moved m h out taken s r arrived g sound honest empty stopped based trusted fed gives =
     let w = taken_are_whole m h out taken s g sound (sym g.follows.phase ∙ stopped) in
     let same : taken ++ s.out.held ≡ w.stream = w.whole honest ∙ ap (λ (b : List ℕ). b ++ w.stream) empty in
     let P : List ℕ → Type 0 = λ b. IsStream b (now s) in
-    one_machine (taken ++ s.out.held) (state_of arrived) (now s) (gives trusted (taken ++ s.out.held) fed) (subst P (sym same) w.is_stream)
+    one_machine (taken ++ s.out.held) (state_of arrived) (now s) (gives.stream trusted (taken ++ s.out.held) fed) (subst P (sym same) w.is_stream) (gives.based ∙ sym based)

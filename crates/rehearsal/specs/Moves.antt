@@ -4,7 +4,7 @@ use Rattle.std.specs.Prelude.{◌≡◌, ◌++◌, ℕ, List, [], IsTrue}
 use Rattle.sha2.specs.Hashers.{Holds256}
 use Rattle.machine.specs.Seen.{AreHonest, Seen, state_of}
 use Rattle.machine.specs.Sound.{IsSound}
-use Rattle.machine.specs.State.{MachineState}
+use Rattle.machine.specs.State.{MachineState, base_of}
 use Rattle.receiver.specs.Disks.{AreHonestDisks}
 use Rattle.receiver.specs.Receiving.{HasBeenFed, Received}
 use Rattle.sender.specs.Follows.{Relates}
@@ -29,12 +29,13 @@ abbrev pub TakingsStayMoving : Type 0
 TakingsStayMoving = (m : MachineState) (h : History) (out writer : SinkState) (taken more : List ℕ) (s : LiveSeen) → IsMoving m h out taken s
     → s.out.held ≡ more ++ writer.held → writer.failures ≡ s.out.failures → writer.honest ≡ s.out.honest → IsMoving m h out (taken ++ more) (record s { out = writer })
 
--- A receiver that was finished gave this machine.
-abbrev pub GivesMachine : Received → Seen → Type 0
-GivesMachine r arrived = AreHonestDisks r.marks → (b : List ℕ) → HasBeenFed r b → IsStream b (state_of arrived)
+-- A receiver that was finished gave this machine. Its RAM begins at the address that the receiver was told.
+pub record GivesMachine (r : Received) (arrived : Seen) : Type 0 where
+  pub stream : AreHonestDisks r.marks → (b : List ℕ) → HasBeenFed r b → IsStream b (state_of arrived)
+  pub based : base_of (state_of arrived).devices ≡ r.base
 
--- Once a stop answered Ok, a receiver over honest disks that was fed what was taken and what was left, in any pieces, gives the
--- machine that was stopped. The writer was honest and held nothing at first.
+-- Once a stop answered Ok, a receiver over honest disks that was told where RAM begins, and was fed what was taken and what was
+-- left, in any pieces, gives the machine that was stopped. The writer was honest and held nothing at first.
 abbrev pub ArrivedIsMoved : Type 0
 ArrivedIsMoved = (m : MachineState) (h : History) (out : SinkState) (taken : List ℕ) (s : LiveSeen) (r : Received) (arrived : Seen) → IsMoving m h out taken s → IsSound m → IsTrue out.honest → out.held ≡ []
-    → s.phase ≡ phases.Stopped → AreHonestDisks r.marks → HasBeenFed r (taken ++ s.out.held) → GivesMachine r arrived → state_of arrived ≡ now s
+    → s.phase ≡ phases.Stopped → base_of (now s).devices ≡ r.base → AreHonestDisks r.marks → HasBeenFed r (taken ++ s.out.held) → GivesMachine r arrived → state_of arrived ≡ now s

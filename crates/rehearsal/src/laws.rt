@@ -15,7 +15,7 @@ pub fn takings_stay_moving()
     ensures { TakingsStayMoving }
 {}
 
-/// What arrives of a stopped machine, in any pieces, is this machine.
+/// What arrives of a stopped machine, in any pieces, is this machine, where the receiver was told the address at which its RAM begins.
 pub fn arrived_is_moved()
     ensures { ArrivedIsMoved }
 {}

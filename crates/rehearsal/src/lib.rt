@@ -17,10 +17,13 @@
 //!   runs from there, and with the same outcomes their replies are the same and they are equal.
 //! - In all three the replies up to the stop are those of a `replay`: its promises hold of them, over a writer in memory.
 //!
+//! All of this holds wherever the machine's RAM begins: the receiver is told the address at which that of the machine at the stop does.
+//!
 //! That there is a stream between the two machines is not in the contract, which speaks of machines: a test shows it, over a disk
 //! that keeps the list of its writes.
 //!
-//! `laws` says of a host that makes the calls itself that what arrives is the machine that it stopped (`specs/Moves`),
+//! `laws` says of a host that makes the calls itself that what arrives is the machine that it stopped, where the receiver was told where
+//! its RAM begins (`specs/Moves`),
 //! and of a host whose disks are `MemDisk`s that they are honest and steady for as long as its machine lives (`specs/InMemory`).
 //!
 //! It uses `sender` and `receiver`.

@@ -3,6 +3,7 @@
 ghost use Rattle.std.specs.Prelude.{◌≡◌, ◌≤◌, [], IfErr, IfOk, IfSome, length, vec_capacity};
 ghost use Rattle.machine.specs.First.{dealt_marks};
 ghost use Rattle.machine.specs.Seen.{all_marks, state_of};
+ghost use Rattle.machine.specs.State.{base_of};
 ghost use Rattle.receiver.specs.Disks.{AreHonestDisks, disk_marks_of, sizes_of};
 ghost use Rattle.receiver.specs.Receiving.{RefusesSlice};
 ghost use Rattle.wire.specs.Stream.{IsStream, shapes_in};
@@ -91,7 +92,7 @@ pub fn rehearse<D: Disk + Drop, E: Disk + Drop>(
     if !fits {
         return sent.refused(RecvError::ShapeMismatch);
     }
-    match receive_in_pieces(alloc, &sent.bytes, disks, cuts) {
+    match receive_in_pieces(alloc, sent.source.base(), &sent.bytes, disks, cuts) {
         Ok(arrived) => sent.go_on(arrived, events),
         Err(error) => sent.refused(error),
     }
@@ -221,19 +222,21 @@ fn is_stopped(reply: &LiveReply) -> bool
     }
 }
 
-/// The machine whose stream the bytes are, fed in pieces of these sizes. A cut that is greater than what is left takes
+/// The machine whose RAM begins at the address `base` and whose stream the bytes are, fed in pieces of these sizes. A cut that is greater than what is left takes
 /// what is left; what the cuts leave is one piece.
 fn receive_in_pieces<E: Disk + Drop>(
     alloc: Global,
+    base: u64,
     bytes: &[u8],
     disks: Vec<E>,
     cuts: &[usize],
 ) -> Result<Machine<E>, RecvError>
     ensures received { IfOk result (λ m. AreHonestDisks (disk_marks_of E.state disks.items) → IsStream bytes.now (state_of m)) }
     ensures marks { IfOk result (λ m. all_marks m ≡ dealt_marks (shapes_in (state_of m).devices) (disk_marks_of E.state disks.items)) }
-    ensures refused { IfErr result (λ e. RefusesSlice (sizes_of E.state disks.items) (disk_marks_of E.state disks.items) bytes.now e) }
+    ensures based { IfOk result (λ m. base_of (state_of m).devices ≡ base) }
+    ensures refused { IfErr result (λ e. RefusesSlice base (sizes_of E.state disks.items) (disk_marks_of E.state disks.items) bytes.now e) }
 {
-    let mut receiver = Receiver::new(alloc, disks);
+    let mut receiver = Receiver::new_at(alloc, disks, base);
     let mut rest = bytes;
     for cut in cuts {
         let (piece, others) = rest.split_at((*cut).min(rest.len()));

@@ -29,9 +29,9 @@ use books::{Book, Scenario};
 use std::io::Write;
 use std::{env, fs};
 
-fn show(rt: &HostRuntime, folder: &str, book: &Book, scenario: &Scenario) -> Result<()> {
+fn show(rt: &HostRuntime, folder: &str, book: &Book, scenario: &Scenario, base: u64) -> Result<()> {
     match folder {
-        "scripts" => playing::play_scenario(rt.alloc(), book, scenario),
+        "scripts" => playing::play_scenario(rt.alloc(), book, scenario, base),
         "migrations" => migration::show(rt.alloc(), book, scenario),
         "rehearsals" => rehearsed::show(rt.alloc(), book, scenario),
         "streams" => stream::show(rt.alloc(), scenario.lines()),
@@ -39,14 +39,17 @@ fn show(rt: &HostRuntime, folder: &str, book: &Book, scenario: &Scenario) -> Res
     }
 }
 
-/// Shows the scenarios of the book in this file.
-fn show_book(rt: &HostRuntime, file: &str) -> Result<()> {
+/// Shows the scenarios of the book in this file. Behind an `@` stands the address at which RAM begins for its scripts, where that is
+/// not 0, by its hexadecimal digits.
+fn show_book(rt: &HostRuntime, word: &str) -> Result<()> {
+    let (file, digits) = word.split_once('@').unwrap_or((word, "0"));
+    let base = u64::from_str_radix(digits, 16)?;
     let (folder, _) = file.split_once('/').context("a book is in a folder")?;
     let text = fs::read_to_string(rt, file)?;
     let book = Book::read(rt.alloc(), text.as_str())?;
     for scenario in book.scenarios() {
-        show(rt, folder, &book, scenario).context(scenario.name())?;
-        println!(rt; "{file}: {}", scenario.name())?;
+        show(rt, folder, &book, scenario, base).context(scenario.name())?;
+        println!(rt; "{word}: {}", scenario.name())?;
     }
     Ok(())
 }

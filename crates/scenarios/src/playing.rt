@@ -11,9 +11,9 @@ use std::io::Write;
 use std::str;
 use traces::{Trace, parse, parse_events, write_guest_reply};
 
-/// Plays a scenario of a book of scripts.
-pub fn play_scenario(alloc: Global, book: &Book, scenario: &Scenario) -> Result<()> {
-    let script = book.script(alloc, scenario)?;
+/// Plays a scenario of a book of scripts, on a machine whose RAM begins at the address `base`.
+pub fn play_scenario(alloc: Global, book: &Book, scenario: &Scenario, base: u64) -> Result<()> {
+    let script = book.script_at(alloc, scenario, base)?;
     let _machine = play(alloc, &script)?;
     Ok(())
 }
@@ -27,22 +27,40 @@ pub fn play(alloc: Global, script: &Script) -> Result<Machine<TestDisk>> {
         begin_line: _,
     } = parse(alloc, script.trace())?;
     let disks = disks_of(alloc, script, shapes.as_slice())?;
-    let mut machine = Machine::new(alloc, pages, shapes.as_slice(), disks)?;
-    let events = guest_events(alloc, events)?;
+    let mut machine = match Machine::new_at(alloc, script.base(), pages, shapes.as_slice(), disks) {
+        Ok(machine) => machine,
+        Err((error, _disks)) => return Err(error.into()),
+    };
+    let events = guest_events(alloc, events, script.base())?;
     agrees(alloc, &mut machine, script, events.as_slice())?;
     Ok(machine)
 }
 
-/// The events of a trace without a migration.
-fn guest_events(alloc: Global, events: Vec<LiveEvent>) -> Result<Vec<Event>> {
+/// The events of a trace without a migration, for RAM that begins at the address `base`.
+fn guest_events(alloc: Global, events: Vec<LiveEvent>, base: u64) -> Result<Vec<Event>> {
     let mut guest = Vec::new(alloc);
     for event in events {
         match event {
-            LiveEvent::Guest(event) => guest.push(event)?,
+            LiveEvent::Guest(event) => guest.push(shifted(event, base))?,
             _ => bail!("a line of a migration"),
         }
     }
     Ok(guest)
+}
+
+/// An event of a RAM that begins at the address 0, where RAM begins at the address `base`. Addresses are shifted modulo 2^64.
+fn shifted(event: Event, base: u64) -> Event {
+    match event {
+        Event::MemRead { addr, len } => Event::MemRead {
+            addr: addr.wrapping_add(base),
+            len,
+        },
+        Event::MemWrite { addr, bytes } => Event::MemWrite {
+            addr: addr.wrapping_add(base),
+            bytes,
+        },
+        other => other,
+    }
 }
 
 /// Plays lines of events on a given machine. The replies must be as they say.

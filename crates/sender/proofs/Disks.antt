@@ -29,7 +29,7 @@ few_in (Block sectors read_only id) sound = omega (arith, sound.few)
 few_in Console sound = omega arith
 few_in Entropy sound = omega arith
 
-few_at : (bytes : ℕ) (ds : List DeviceState) (dev : ℕ) (other : Shape) → All (IsSoundDevice bytes) ds → dev < length ds → sector_count (get_or (map (λ (d : DeviceState). made_as d.kind) ds) dev other) ≤ 4294967295
+few_at : {base : ℕ} (bytes : ℕ) (ds : List DeviceState) (dev : ℕ) (other : Shape) → All (IsSoundDevice base bytes) ds → dev < length ds → sector_count (get_or (map (λ (d : DeviceState). made_as d.kind) ds) dev other) ≤ 4294967295
 few_at bytes [] dev other are below = absurd (omega (arith, below))
 few_at bytes (d ∷ ds) zero other are below = few_in (made_as d.kind) (are 0 d (omega arith)).shape
 few_at bytes (d ∷ ds) (suc dev) other are below = few_at bytes ds dev other (λ k e h. are (suc k) e (omega (arith, h))) (omega (arith, below))

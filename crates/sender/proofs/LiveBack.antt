@@ -15,6 +15,7 @@ use Rattle.guestmem.proofs.GivenBack.{whole_page}
 use Rattle.guestmem.proofs.Told.{told_pages}
 use Rattle.machine.specs.Applied.{IsAppliedLogged}
 use Rattle.machine.specs.Effect.{items_of}
+use Rattle.machine.specs.Parked.{page_address}
 use Rattle.machine.specs.Layout.{firsts_of, layout_of, number_in, size_of}
 use Rattle.machine.specs.Seen.{DeviceSeen}
 use Rattle.machine.specs.State.{MachineState}
@@ -30,7 +31,7 @@ use Rattle.sender.specs.Dirty.{set_once, set_order}
 use Rattle.sender.specs.Follows.{Relates}
 use Rattle.sender.specs.History.{History, guest_events, text, then_came}
 use Rattle.sender.specs.LiveState.{LiveSeen, now}
-use Rattle.sender.specs.Parked.{AreServed, BackGoesOn, IsLiveParked, KeepsWord, LiveBackFollows, LiveBackIsServed, LiveParkedSeen, live_back, page_writes, with_pages}
+use Rattle.sender.specs.Parked.{AreServed, BackGoesOn, IsLiveParked, KeepsWord, LiveBackFollows, LiveBackIsServed, LiveParkedSeen, live_back, page_writes, with_pages, live_base}
 use Rattle.sender.specs.Stopping.{HasPlaces}
 use Rattle.sender.specs.declared.event.LiveEvent.TheVariants.{Guest}
 use Rattle.sender.specs.declared.event.LiveReply.TheVariants as r
@@ -72,20 +73,20 @@ record IsReady (l : LiveSeen) (bytes pages : List ℕ) : Type 0 where
   long : length bytes ≡ length l.machine.memory.bytes
   are : IsBytes bytes
 
-abbrev write_of : List ℕ → ℕ → Event
-write_of bytes n = MemWrite (4096 * n) (page_of bytes n)
+abbrev write_of : LiveSeen → List ℕ → ℕ → Event
+write_of l bytes n = MemWrite (page_address l.machine n) (page_of bytes n)
 
-logged : (l : LiveSeen) (bytes : List ℕ) (n : ℕ) (pages : List ℕ) → IsReady l bytes (n ∷ pages) → IsAppliedLogged (taking (firsts_of (layout_of (now l)))) l.machine l.dirty (write_of bytes n) Done (with_page l bytes n).machine (set l.dirty n true)
+logged : (l : LiveSeen) (bytes : List ℕ) (n : ℕ) (pages : List ℕ) → IsReady l bytes (n ∷ pages) → IsAppliedLogged (taking (firsts_of (layout_of (now l)))) l.machine l.dirty (write_of l bytes n) Done (with_page l bytes n).machine (set l.dirty n true)
 logged l bytes n pages ready =
     let firsts = firsts_of (layout_of (now l)) in
     let here : n < length l.machine.memory.versions = ready.below 0 0 (omega arith) in
     let size : length (page_of bytes n) ≡ 4096 = whole_page bytes n (omega (arith, here, ready.memory.pages, ready.long)) in
     page_logged {L = List Bool} (taking firsts) l.machine l.dirty (set l.dirty n true) bytes n ready.places.sound ready.memory here ready.long ready.are (one_told firsts l.dirty n (page_of bytes n) size)
 
-served : (l : LiveSeen) (bytes : List ℕ) (n : ℕ) (pages : List ℕ) → IsReady l bytes (n ∷ pages) → Serves l (Guest (write_of bytes n)) (r.Guest Done) (with_page l bytes n)
+served : (l : LiveSeen) (bytes : List ℕ) (n : ℕ) (pages : List ℕ) → IsReady l bytes (n ∷ pages) → Serves l (Guest (write_of l bytes n)) (r.Guest Done) (with_page l bytes n)
 served l bytes n pages ready =
     let h = logged l bytes n pages ready in
-    rw (guest_free l.phase (write_of bytes n) ready.goes) (record {
+    rw (guest_free l.phase (write_of l bytes n) ready.goes) (record {
       is_applied = h.is_applied;
       dirty = h.logged ∙ all_taken (firsts_of (layout_of (now l))) l.dirty (items_of h.is_applied.effect);
       rest = refl;
@@ -110,21 +111,21 @@ ready_still l bytes n pages ready =
       are = ready.are;
     }
 
-all_served : (l : LiveSeen) (bytes pages : List ℕ) → IsReady l bytes pages → AreServed l (page_writes pages bytes) (with_all l bytes pages)
+all_served : (l : LiveSeen) (bytes pages : List ℕ) → IsReady l bytes pages → AreServed l (page_writes (live_base l) pages bytes) (with_all l bytes pages)
 all_served l bytes [] ready = refl
 all_served l bytes (n ∷ pages) ready = (with_page l bytes n, served l bytes n pages ready, all_served (with_page l bytes n) bytes pages (ready_still l bytes n pages ready))
 
-all_related : (m : MachineState) (h : History) (out : SinkState) (l : LiveSeen) (bytes pages : List ℕ) → Relates m h out l → IsReady l bytes pages → BackGoesOn m h out (page_writes pages bytes) (with_all l bytes pages)
+all_related : (m : MachineState) (h : History) (out : SinkState) (l : LiveSeen) (bytes pages : List ℕ) → Relates m h out l → IsReady l bytes pages → BackGoesOn m h out (page_writes (live_base l) pages bytes) (with_all l bytes pages)
 unfolding texts
 all_related m h out l bytes [] rel ready = record { history = h; relates = rel; came = sym (append-nil (guest_events h)); text_is = refl }
 all_related m h out l bytes (n ∷ pages) rel ready =
-    let e = write_of bytes n in
+    let e = write_of l bytes n in
     let gone = relates_on m h out (Guest e) (r.Guest Done) l (with_page l bytes n) rel ready.places (served l bytes n pages ready) in
     let rest = all_related m (then_came h (Guest e) (r.Guest Done) gone.effect) out (with_page l bytes n) bytes pages gone.relates (ready_still l bytes n pages ready) in
     record {
       history = rest.history;
       relates = rest.relates;
-      came = rest.came ∙ append_assoc (guest_events h) (e ∷ []) (page_writes pages bytes);
+      came = rest.came ∙ append_assoc (guest_events h) (e ∷ []) (page_writes (live_base l) pages bytes);
       text_is = rest.text_is ∙ append-nil (text m h);
     }
 
@@ -152,8 +153,8 @@ module _ (l : LiveSeen) (p : LiveParkedSeen) (before after : Region) (pages : Li
 
 pub live_back_is_served : LiveBackIsServed
 live_back_is_served l p before after pages places mem goes lent word =
-    subst (λ (x : LiveSeen). AreServed l (page_writes pages after.content) x) (is_back l p before after pages places mem goes lent word) (all_served l after.content pages (ready l p before after pages places mem goes lent word))
+    subst (λ (x : LiveSeen). AreServed l (page_writes (live_base l) pages after.content) x) (is_back l p before after pages places mem goes lent word) (all_served l after.content pages (ready l p before after pages places mem goes lent word))
 
 pub live_back_follows : LiveBackFollows
 live_back_follows m h out l p before after pages rel places mem goes lent word =
-    subst (λ (x : LiveSeen). BackGoesOn m h out (page_writes pages after.content) x) (is_back l p before after pages places mem goes lent word) (all_related m h out l after.content pages rel (ready l p before after pages places mem goes lent word))
+    subst (λ (x : LiveSeen). BackGoesOn m h out (page_writes (live_base l) pages after.content) x) (is_back l p before after pages places mem goes lent word) (all_related m h out l after.content pages rel (ready l p before after pages places mem goes lent word))

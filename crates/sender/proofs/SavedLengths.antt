@@ -14,7 +14,7 @@ use Rattle.machine.specs.Shapes.{made_as}
 use Rattle.machine.specs.EffectLaws.{sector_on}
 use Rattle.machine.specs.Layout.{pages_of}
 use Rattle.machine.specs.Sound.{IsSound, IsSoundDevice, IsSoundShape}
-use Rattle.machine.specs.State.{DeviceState, MachineState}
+use Rattle.machine.specs.State.{DeviceState, MachineState, base_of}
 use Rattle.machine.specs.Step.{disk_of, disk_or_none}
 use Rattle.machine.proofs.At.{whole_disk}
 use Rattle.wire.specs.Header.{header, opening_of}
@@ -102,8 +102,8 @@ disk_told m dev sectors bad h =
     omega (arith, text, long, counted, h.all, h.are_bad, size, few_bad m dev sectors bad h)
 
 -- The devices, one by one.
-pub device_is_sound : (m : MachineState) (n : ℕ) (d : DeviceState) → IsSound m → slice_get m.devices n ≡ Some d → IsSoundDevice (length m.ram) d
-device_is_sound m n d sound is = subst (IsSoundDevice (length m.ram)) (get_or_from_slice_get m.devices n d d is) (sound.devices n d (slice_get_within m.devices n d is))
+pub device_is_sound : (m : MachineState) (n : ℕ) (d : DeviceState) → IsSound m → slice_get m.devices n ≡ Some d → IsSoundDevice (base_of m.devices) (length m.ram) d
+device_is_sound m n d sound is = subst (IsSoundDevice (base_of m.devices) (length m.ram)) (get_or_from_slice_get m.devices n d d is) (sound.devices n d (slice_get_within m.devices n d is))
 
 pub shapes_are_sound : (m : MachineState) → IsSound m → All IsSoundShape (shapes_in m.devices)
 shapes_are_sound m sound = All-map IsSoundShape (λ (d : DeviceState). made_as d.kind) m.devices (λ k d below. (sound.devices k d below).shape)

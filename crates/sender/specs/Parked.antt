@@ -1,5 +1,5 @@
 -- What contracts see of a machine that is being migrated, and whose RAM is lent.
-use Rattle.std.specs.Prelude.{◌≡◌, ◌≢◌, ℕ, ◌*◌, ◌/◌, ◌<◌, ◌≤◌, ◌^◌, ◌++◌, List, [], ◌∷◌, Bool, true, false, length, map, slice_index, slice_set}
+use Rattle.std.specs.Prelude.{◌≡◌, ◌≢◌, ℕ, ◌+◌, ◌*◌, ◌/◌, ◌<◌, ◌≤◌, ◌^◌, ◌++◌, List, [], ◌∷◌, Bool, true, false, length, map, slice_index, slice_set}
 use Rattle.dirtylog.specs.Members.{has}
 use Rattle.region.specs.Address.{address}
 use Rattle.region.specs.declared.region.Region.{Region}
@@ -11,7 +11,7 @@ use Rattle.guestmem.specs.Page.{page_of}
 use Rattle.guestmem.specs.declared.limits.TheConstants.{PAGE_SIZE}
 use Rattle.machine.specs.Layout.{Layout, firsts_of, size_of}
 use Rattle.machine.specs.Parked.{IsParked, ParkedSeen, back_with}
-use Rattle.machine.specs.State.{MachineState}
+use Rattle.machine.specs.State.{MachineState, base_of}
 use Rattle.machine.specs.declared.event.Event.{Event}
 use Rattle.machine.specs.declared.event.Event.TheVariants.{MemWrite}
 use Rattle.machine.specs.declared.reply.Reply.TheVariants.{Done}
@@ -19,7 +19,7 @@ use Rattle.wire.specs.Sinks.{SinkState}
 use Rattle.sender.specs.Calls.{Serves}
 use Rattle.sender.specs.Follows.{Relates}
 use Rattle.sender.specs.History.{History, guest_events, text}
-use Rattle.sender.specs.LiveState.{LiveSeen}
+use Rattle.sender.specs.LiveState.{LiveSeen, now}
 use Rattle.sender.specs.Stopping.{HasPlaces, RoundFits}
 use Rattle.sender.specs.declared.event.LiveEvent.TheVariants.{Guest}
 use Rattle.sender.specs.declared.event.LiveReply.TheVariants as r
@@ -63,10 +63,14 @@ with_pages dirty (n ∷ pages) = with_pages (slice_set dirty n true) pages
 abbrev pub live_back : LiveParkedSeen → Memory → List ℕ → LiveSeen
 live_back p m pages = record { machine = back_with p.parked m; phase = p.phase; due = p.due; dirty = with_pages p.dirty pages; digest = p.digest; out = p.out }
 
--- The guest's writes of these pages, whole, one after another.
-abbrev pub page_writes : List ℕ → List ℕ → List Event
-page_writes [] bytes = []
-page_writes (n ∷ pages) bytes = MemWrite (PAGE_SIZE * n) (page_of bytes n) ∷ page_writes pages bytes
+-- The guest's writes of these pages, whole, one after another, where RAM begins at this base.
+abbrev pub page_writes : ℕ → List ℕ → List ℕ → List Event
+page_writes base [] bytes = []
+page_writes base (n ∷ pages) bytes = MemWrite (base + PAGE_SIZE * n) (page_of bytes n) ∷ page_writes base pages bytes
+
+-- The base of a machine that may be sent.
+abbrev pub live_base : LiveSeen → ℕ
+live_base l = base_of (now l).devices
 
 -- These events of the guest were served, one after another, and done.
 abbrev pub AreServed : LiveSeen → List Event → LiveSeen → Type 0
@@ -84,7 +88,7 @@ pub record KeepsWord (before after : Region) (count : ℕ) (pages : List ℕ) : 
 -- Where the caller keeps its word, the machine is as if the guest had written these pages by calls of it.
 abbrev pub LiveBackIsServed : Type 0
 LiveBackIsServed = (l : LiveSeen) (p : LiveParkedSeen) (before after : Region) (pages : List ℕ) → HasPlaces l → IsMemory l.machine.memory → l.phase ≢ phases.Stopped → IsLiveParked l before p → KeepsWord before after (length p.parked.versions) pages
-    → AreServed l (page_writes pages after.content) (live_back p (given_back after.content (address after) p.parked.versions pages) pages)
+    → AreServed l (page_writes (live_base l) pages after.content) (live_back p (given_back after.content (address after) p.parked.versions pages) pages)
 
 -- The history goes on by these events of the guest, and nothing is written meanwhile.
 pub record BackGoesOn (m : MachineState) (h : History) (out : SinkState) (events : List Event) (new : LiveSeen) : Type 0 where
@@ -97,4 +101,4 @@ pub record BackGoesOn (m : MachineState) (h : History) (out : SinkState) (events
 abbrev pub LiveBackFollows : Type 0
 LiveBackFollows = (m : MachineState) (h : History) (out : SinkState) (l : LiveSeen) (p : LiveParkedSeen) (before after : Region) (pages : List ℕ) → Relates m h out l → HasPlaces l → IsMemory l.machine.memory → l.phase ≢ phases.Stopped
     → IsLiveParked l before p → KeepsWord before after (length p.parked.versions) pages
-    → BackGoesOn m h out (page_writes pages after.content) (live_back p (given_back after.content (address after) p.parked.versions pages) pages)
+    → BackGoesOn m h out (page_writes (live_base l) pages after.content) (live_back p (given_back after.content (address after) p.parked.versions pages) pages)

@@ -3,6 +3,7 @@ use Rattle.std.proofs.lemmas.Bool.{MatchBool-at_true}
 use Rattle.std.proofs.lemmas.List.{same_from_push, get_or_at}
 use Rattle.std.proofs.lemmas.List.Elements.{All-push}
 use Rattle.chains.specs.CaseLaws.{where_true}
+use Rattle.guestmem.specs.Address.{index_of}
 use Rattle.chains.specs.declared.descriptor.Descriptor.{Descriptor}
 use Rattle.chains.specs.declared.chain.Chain.{Chain}
 use Rattle.chains.specs.declared.walked.Walked.{Walked}
@@ -16,22 +17,22 @@ use Rattle.chains.specs.Held.{AreSound, AreHeld, EndGives}
 use Rattle.splitring.specs.Walk.{IsNoneSound, AreGathered, AreBeforeTable, IsLongBehind, IsMadeOf, FollowGives, FindGives}
 use Rattle.splitring.proofs.Spelled.{spelled_replaced, spelled_plain}
 
-made_of : (ram : List ℕ) (size : ℕ) (all : List Descriptor) (c : Chain) → AreHeld (length ram) all c → length all ≤ size → EndGives c Listed → IsMadeOf ram size all c
-made_of ram size all c h few small = record {
+made_of : (base : ℕ) (ram : List ℕ) (size : ℕ) (all : List Descriptor) (c : Chain) → AreHeld base (length ram) all c → length all ≤ size → EndGives c Listed → IsMadeOf base ram size all c
+made_of base ram size all c h few small = record {
   whole = record { few = few; inside = h.sound.inside; in_order = h.sound.in_order; total = omega (arith, h.total) };
   readable = h.readable;
   writable = h.writable;
 }
 
-sound_whole : (ram : List ℕ) (size : ℕ) (all : List Descriptor) → IsWhole ram size all → AreSound (length ram) all
-sound_whole ram size all w = record { inside = w.inside; in_order = w.in_order }
+sound_whole : (base : ℕ) (ram : List ℕ) (size : ℕ) (all : List Descriptor) → IsWhole base ram size all → AreSound base (length ram) all
+sound_whole base ram size all w = record { inside = w.inside; in_order = w.in_order }
 
-too_large : (ram : List ℕ) (size : ℕ) (all : List Descriptor) (c : Chain) → AreHeld (length ram) all c → EndGives c Missing → IsWhole ram size all → ⊥
-too_large ram size all c h large w = omega (arith, h.total, w.total)
+too_large : (base : ℕ) (ram : List ℕ) (size : ℕ) (all : List Descriptor) (c : Chain) → AreHeld base (length ram) all c → EndGives c Missing → IsWhole base ram size all → ⊥
+too_large base ram size all c h large w = omega (arith, h.total, w.total)
 
 -- A list of which none is indirect stands for itself.
-itself : (ram : List ℕ) (has_indirect : Bool) (front : List Descriptor) (last : Descriptor) → ArePlain front → last.is_indirect ≡ false → IsReplaced ram has_indirect (front ++ last ∷ []) (front ++ last ∷ [])
-itself ram has_indirect front last plain last_plain = record {
+itself : (base : ℕ) (ram : List ℕ) (has_indirect : Bool) (front : List Descriptor) (last : Descriptor) → ArePlain front → last.is_indirect ≡ false → IsReplaced base ram has_indirect (front ++ last ∷ []) (front ++ last ∷ [])
+itself base ram has_indirect front last plain last_plain = record {
   front = front;
   last = last;
   parts = refl;
@@ -40,29 +41,29 @@ itself ram has_indirect front last plain last_plain = record {
 }
 
 -- The list of a table, all of whose descriptors are gathered.
-pub followed_end : (ram : List ℕ) (has_indirect : Bool) (size room : ℕ) (front : List Descriptor) (last : Descriptor) (c : Chain) (gives : Walked) → has_indirect ≡ true → IsTable ram last
-    → length front + room ≡ size → AreGathered ram last.addr (last.len / 16) 0 room front c → EndGives c gives → FollowGives ram has_indirect size front last c gives
-followed_end ram has_indirect size room front last c Listed feature table left g end =
+pub followed_end : (base : ℕ) (ram : List ℕ) (has_indirect : Bool) (size room : ℕ) (front : List Descriptor) (last : Descriptor) (c : Chain) (gives : Walked) → has_indirect ≡ true → IsTable base ram last
+    → length front + room ≡ size → AreGathered base ram (index_of base last.addr) (last.len / 16) 0 room front c → EndGives c gives → FollowGives base ram has_indirect size front last c gives
+followed_end base ram has_indirect size room front last c Listed feature table left g end =
     let inner = g.front ++ g.last ∷ [] in
     let few : length (front ++ inner) ≤ size = omega (arith, length-append front inner, length-append g.front (g.last ∷ []), g.few) in
     record {
       all = front ++ inner;
       feature = feature;
       from_table = record { table = table; inner = inner; linked = g.linked; plain = All-push (λ (d : Descriptor). d.is_indirect ≡ false) g.front g.last g.plain g.last_plain; parts = refl };
-      made = made_of ram size (front ++ inner) c g.held few end;
+      made = made_of base ram size (front ++ inner) c g.held few end;
     }
-followed_end ram has_indirect size room front last c Missing feature table left g end = λ all p t whole.
+followed_end base ram has_indirect size room front last c Missing feature table left g end = λ all p t whole.
     let inner = g.front ++ g.last ∷ [] in
-    let same : t.inner ≡ inner = linked_same ram last.addr (last.len / 16) 0 t.inner inner t.linked g.linked in
+    let same : t.inner ≡ inner = linked_same ram (index_of base last.addr) (last.len / 16) 0 t.inner inner t.linked g.linked in
     let is : all ≡ front ++ inner = t.parts ∙ ap (λ (ds : List Descriptor). front ++ ds) same in
-    too_large ram size (front ++ inner) c g.held end (rw is at whole)
-followed_end ram has_indirect size room front last c NoMemory feature table left g end = absurd end
+    too_large base ram size (front ++ inner) c g.held end (rw is at whole)
+followed_end base ram has_indirect size room front last c NoMemory feature table left g end = absurd end
 
 -- Where an entry of the table names a table, there is no chain.
-pub none_in_table : (ram : List ℕ) (has_indirect : Bool) (size room : ℕ) (front : List Descriptor) (last named : Descriptor) (c new : Chain)
-    → AreBeforeTable ram last.addr (last.len / 16) 0 room front named c → FollowGives ram has_indirect size front last new Missing
-none_in_table ram has_indirect size room front last named c new b all p t whole =
-    let same : t.inner ≡ b.front ++ named ∷ [] = linked_same ram last.addr (last.len / 16) 0 t.inner (b.front ++ named ∷ []) t.linked b.linked in
+pub none_in_table : (base : ℕ) (ram : List ℕ) (has_indirect : Bool) (size room : ℕ) (front : List Descriptor) (last named : Descriptor) (c new : Chain)
+    → AreBeforeTable base ram (index_of base last.addr) (last.len / 16) 0 room front named c → FollowGives base ram has_indirect size front last new Missing
+none_in_table base ram has_indirect size room front last named c new b all p t whole =
+    let same : t.inner ≡ b.front ++ named ∷ [] = linked_same ram (index_of base last.addr) (last.len / 16) 0 t.inner (b.front ++ named ∷ []) t.linked b.linked in
     let plain : ArePlain (b.front ++ named ∷ []) = rw same at t.plain in
     let below : length b.front < length (b.front ++ named ∷ []) = omega (arith, length-append b.front (named ∷ [])) in
     let here : named.is_indirect ≡ false = rw (get_or_at b.front named [] named (length b.front) refl) at (plain (length b.front) named below) in
@@ -70,16 +71,16 @@ none_in_table ram has_indirect size room front last named c new b all p t whole 
     absurd (cc)
 
 -- Nor where its list breaks a rule.
-pub none_followed : (ram : List ℕ) (has_indirect : Bool) (size room : ℕ) (front : List Descriptor) (last : Descriptor) (new : Chain) → length front + room ≡ size
-    → IsNoneSound ram last.addr (last.len / 16) 0 room front → FollowGives ram has_indirect size front last new Missing
-none_followed ram has_indirect size room front last new left none all p t whole =
-    let some : 1 ≤ length t.inner = linked_some ram last.addr (last.len / 16) 0 t.inner t.linked in
+pub none_followed : (base : ℕ) (ram : List ℕ) (has_indirect : Bool) (size room : ℕ) (front : List Descriptor) (last : Descriptor) (new : Chain) → length front + room ≡ size
+    → IsNoneSound base ram (index_of base last.addr) (last.len / 16) 0 room front → FollowGives base ram has_indirect size front last new Missing
+none_followed base ram has_indirect size room front last new left none all p t whole =
+    let some : 1 ≤ length t.inner = linked_some ram (index_of base last.addr) (last.len / 16) 0 t.inner t.linked in
     let few : length t.inner ≤ room = omega (arith, ap length t.parts, length-append front t.inner, whole.few) in
-    let sound : AreSound (length ram) all = sound_whole ram size all whole in
+    let sound : AreSound base (length ram) all = sound_whole base ram size all whole in
     none t.inner t.inner t.linked (spelled_plain t.inner some t.plain) few (rw t.parts at sound)
 
 -- The list of a queue, none of which is indirect, all of whose descriptors are gathered.
-pub found_end : (ram : List ℕ) (q : RingState) (first : ℕ) (c : Chain) (gives : Walked) → first ≡ head ram q → AreGathered ram q.descriptors q.size first q.size [] c
+pub found_end : (ram : List ℕ) (q : RingState) (first : ℕ) (c : Chain) (gives : Walked) → first ≡ head ram q → AreGathered q.base ram q.descriptors q.size first q.size [] c
     → EndGives c gives → FindGives ram q c gives
 found_end ram q first c Listed is g end =
     let few : length (g.front ++ g.last ∷ []) ≤ q.size = omega (arith, length-append g.front (g.last ∷ []), g.few) in
@@ -87,19 +88,19 @@ found_end ram q first c Listed is g end =
       direct = g.front ++ g.last ∷ [];
       all = g.front ++ g.last ∷ [];
       linked = rw is at g.linked;
-      replaced = itself ram q.has_indirect g.front g.last g.plain g.last_plain;
-      made = made_of ram q.size (g.front ++ g.last ∷ []) c g.held few end;
+      replaced = itself q.base ram q.has_indirect g.front g.last g.plain g.last_plain;
+      made = made_of q.base ram q.size (g.front ++ g.last ∷ []) c g.held few end;
     }
 found_end ram q first c Missing is g end = λ direct all linked r whole.
     let list = g.front ++ g.last ∷ [] in
     let same : direct ≡ list = linked_same ram q.descriptors q.size (head ram q) direct list linked (rw is at g.linked) in
-    let also : all ≡ list = replaced_same ram q.has_indirect list all list (rw same at r) (itself ram q.has_indirect g.front g.last g.plain g.last_plain) in
-    too_large ram q.size list c g.held end (rw also at whole)
+    let also : all ≡ list = replaced_same q.base ram q.has_indirect list all list (rw same at r) (itself q.base ram q.has_indirect g.front g.last g.plain g.last_plain) in
+    too_large q.base ram q.size list c g.held end (rw also at whole)
 found_end ram q first c NoMemory is g end = absurd end
 
 -- What it gives to go on in a table is what a search gives.
-pub found_table : (ram : List ℕ) (q : RingState) (first : ℕ) (last : Descriptor) (c new : Chain) (gives : Walked) → first ≡ head ram q → (b : AreBeforeTable ram q.descriptors q.size first q.size [] last c)
-    → FollowGives ram q.has_indirect q.size b.front last new gives → FindGives ram q new gives
+pub found_table : (ram : List ℕ) (q : RingState) (first : ℕ) (last : Descriptor) (c new : Chain) (gives : Walked) → first ≡ head ram q → (b : AreBeforeTable q.base ram q.descriptors q.size first q.size [] last c)
+    → FollowGives q.base ram q.has_indirect q.size b.front last new gives → FindGives ram q new gives
 found_table ram q first last c new Listed is b f = record {
   direct = b.front ++ last ∷ [];
   all = f.all;
@@ -109,7 +110,7 @@ found_table ram q first last c new Listed is b f = record {
     last = last;
     parts = refl;
     plain = b.plain;
-    whole = where_true last.is_indirect ((q.has_indirect ≡ true) × IsFromTable ram b.front last f.all) (f.all ≡ b.front ++ last ∷ []) b.named (f.feature, f.from_table);
+    whole = where_true last.is_indirect ((q.has_indirect ≡ true) × IsFromTable q.base ram b.front last f.all) (f.all ≡ b.front ++ last ∷ []) b.named (f.feature, f.from_table);
   };
   made = f.made;
 }
@@ -117,7 +118,7 @@ found_table ram q first last c new Missing is b f = λ direct all linked r whole
     let same : direct ≡ b.front ++ last ∷ [] = linked_same ram q.descriptors q.size (head ram q) direct (b.front ++ last ∷ []) linked (rw is at b.linked) in
     let parts = same_from_push r.front b.front r.last last (sym r.parts ∙ same) in
     let whole_is = rw (parts.1, parts.0) at r.whole in
-    let t = MatchBool-at_true ((q.has_indirect ≡ true) × IsFromTable ram b.front last all) (all ≡ direct) b.named whole_is in
+    let t = MatchBool-at_true ((q.has_indirect ≡ true) × IsFromTable q.base ram b.front last all) (all ≡ direct) b.named whole_is in
     f all t.0 t.1 whole
 found_table ram q first last c new NoMemory is b f =
     let size = length-append b.front f.behind.row in
@@ -140,9 +141,9 @@ found_table ram q first last c new NoMemory is b f =
     }
 
 -- Where the list breaks a rule, there is no chain.
-pub none_found : (ram : List ℕ) (q : RingState) (first : ℕ) (new : Chain) → first ≡ head ram q → IsNoneSound ram q.descriptors q.size first q.size [] → FindGives ram q new Missing
+pub none_found : (ram : List ℕ) (q : RingState) (first : ℕ) (new : Chain) → first ≡ head ram q → IsNoneSound q.base ram q.descriptors q.size first q.size [] → FindGives ram q new Missing
 none_found ram q first new is none direct all linked r whole =
-    none direct all (rw is linked) (spelled_replaced ram q.has_indirect direct all r) whole.few (sound_whole ram q.size all whole)
+    none direct all (rw is linked) (spelled_replaced q.base ram q.has_indirect direct all r) whole.few (sound_whole q.base ram q.size all whole)
 
 -- A row for which memory was refused is long.
 pub long_found : (ram : List ℕ) (q : RingState) (first : ℕ) → first ≡ head ram q → IsLongBehind ram q.descriptors q.size first q.size [] → IsLongSplit ram q

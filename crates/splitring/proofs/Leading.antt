@@ -69,16 +69,16 @@ linked_first ram table entries index d is (x ∷ e ∷ es) h = (e ∷ es, ap (λ
 
 -- The first so many of the list that begins at an entry are walked: it goes on from an index, and a chain holds them behind
 -- others.
-pub record IsWalked (ram : List ℕ) (table entries first : ℕ) (before : List Descriptor) (c : Chain) (count next : ℕ) : Type 0 where
+pub record IsWalked (base : ℕ) (ram : List ℕ) (table entries first : ℕ) (before : List Descriptor) (c : Chain) (count next : ℕ) : Type 0 where
   pub walked : List Descriptor
   pub count_is : length walked ≡ count
   pub leads : Leads ram table entries first walked next
   pub plain : ArePlain walked
-  pub held : AreHeld (length ram) (before ++ walked) c
+  pub held : AreHeld base (length ram) (before ++ walked) c
 
 -- None yet.
-pub walked_none : (ram : List ℕ) (table entries first : ℕ) (before : List Descriptor) (c : Chain) → AreHeld (length ram) before c → IsWalked ram table entries first before c 0 first
-walked_none ram table entries first before c h = record {
+pub walked_none : (base : ℕ) (ram : List ℕ) (table entries first : ℕ) (before : List Descriptor) (c : Chain) → AreHeld base (length ram) before c → IsWalked base ram table entries first before c 0 first
+walked_none base ram table entries first before c h = record {
   walked = [];
   count_is = refl;
   leads = leads_start ram table entries first;
@@ -87,10 +87,10 @@ walked_none ram table entries first before c h = record {
 }
 
 -- One more, that has a next one.
-pub walked_more : (ram : List ℕ) (table entries first : ℕ) (before : List Descriptor) (c new : Chain) (count next : ℕ) (d : Descriptor) (w : IsWalked ram table entries first before c count next)
-    → next < entries → d ≡ descriptor_at false ram table next → d.is_indirect ≡ false → d.has_next ≡ true → AreHeld (length ram) ((before ++ w.walked) ++ d ∷ []) new
-    → IsWalked ram table entries first before new (count + 1) d.next
-walked_more ram table entries first before c new count next d w below is plain more held = record {
+pub walked_more : (base : ℕ) (ram : List ℕ) (table entries first : ℕ) (before : List Descriptor) (c new : Chain) (count next : ℕ) (d : Descriptor) (w : IsWalked base ram table entries first before c count next)
+    → next < entries → d ≡ descriptor_at false ram table next → d.is_indirect ≡ false → d.has_next ≡ true → AreHeld base (length ram) ((before ++ w.walked) ++ d ∷ []) new
+    → IsWalked base ram table entries first before new (count + 1) d.next
+walked_more base ram table entries first before c new count next d w below is plain more held = record {
   walked = w.walked ++ d ∷ [];
   count_is = omega (arith, length-append w.walked (d ∷ []), w.count_is);
   leads = leads_more ram table entries first next w.walked d w.leads below is more;
@@ -99,23 +99,23 @@ walked_more ram table entries first before c new count next d w below is plain m
 }
 
 -- An index past the table.
-pub walked_past : (ram : List ℕ) (table entries first room : ℕ) (before : List Descriptor) (c : Chain) (count next : ℕ) → IsWalked ram table entries first before c count next → entries ≤ next
-    → IsNoneSound ram table entries first room before
-walked_past ram table entries first room before c count next w beyond direct all h s few sound = let a = w.leads.only direct h in past ram table entries next beyond a.0 a.2
+pub walked_past : (base : ℕ) (ram : List ℕ) (table entries first room : ℕ) (before : List Descriptor) (c : Chain) (count next : ℕ) → IsWalked base ram table entries first before c count next → entries ≤ next
+    → IsNoneSound base ram table entries first room before
+walked_past base ram table entries first room before c count next w beyond direct all h s few sound = let a = w.leads.only direct h in past ram table entries next beyond a.0 a.2
 
 -- No room for another one.
-pub walked_full : (ram : List ℕ) (table entries first room : ℕ) (before : List Descriptor) (c : Chain) (count next : ℕ) → IsWalked ram table entries first before c count next → room ≤ count
-    → IsNoneSound ram table entries first room before
-walked_full ram table entries first room before c count next w full direct all h s few sound =
+pub walked_full : (base : ℕ) (ram : List ℕ) (table entries first room : ℕ) (before : List Descriptor) (c : Chain) (count next : ℕ) → IsWalked base ram table entries first before c count next → room ≤ count
+    → IsNoneSound base ram table entries first room before
+walked_full base ram table entries first room before c count next w full direct all h s few sound =
     let a = w.leads.only direct h in
     let one : 1 ≤ length a.0 = linked_some ram table entries next a.0 a.2 in
     let longer : length direct ≤ length all = spelled_longer direct all s in
     omega (arith, ap length a.1, length-append w.walked a.0, w.count_is)
 
 -- An indirect one that has a next one.
-pub walked_indirect : (ram : List ℕ) (table entries first room : ℕ) (before : List Descriptor) (c : Chain) (count next : ℕ) (d : Descriptor) → IsWalked ram table entries first before c count next
-    → d ≡ descriptor_at false ram table next → d.is_indirect ≡ true → d.has_next ≡ true → IsNoneSound ram table entries first room before
-walked_indirect ram table entries first room before c count next d w is named more direct all h s few sound =
+pub walked_indirect : (base : ℕ) (ram : List ℕ) (table entries first room : ℕ) (before : List Descriptor) (c : Chain) (count next : ℕ) (d : Descriptor) → IsWalked base ram table entries first before c count next
+    → d ≡ descriptor_at false ram table next → d.is_indirect ≡ true → d.has_next ≡ true → IsNoneSound base ram table entries first room before
+walked_indirect base ram table entries first room before c count next d w is named more direct all h s few sound =
     let a = w.leads.only direct h in
     let b = first_is ram table entries next d is more a.0 a.2 in
     let one : 1 ≤ length b.0 = linked_some ram table entries d.next b.0 b.2 in
@@ -124,10 +124,10 @@ walked_indirect ram table entries first room before c count next d w is named mo
     absurd (cc)
 
 -- One that breaks a rule.
-pub walked_broken : (ram : List ℕ) (table entries first room : ℕ) (before : List Descriptor) (c : Chain) (count next : ℕ) (d : Descriptor) (w : IsWalked ram table entries first before c count next)
-    → d ≡ descriptor_at false ram table next → d.is_indirect ≡ false → ((rest : List Descriptor) → AreSound (length ram) ((before ++ w.walked) ++ d ∷ rest) → ⊥)
-    → IsNoneSound ram table entries first room before
-walked_broken ram table entries first room before c count next d w is plain broken direct all h s few sound =
+pub walked_broken : (base : ℕ) (ram : List ℕ) (table entries first room : ℕ) (before : List Descriptor) (c : Chain) (count next : ℕ) (d : Descriptor) (w : IsWalked base ram table entries first before c count next)
+    → d ≡ descriptor_at false ram table next → d.is_indirect ≡ false → ((rest : List Descriptor) → AreSound base (length ram) ((before ++ w.walked) ++ d ∷ rest) → ⊥)
+    → IsNoneSound base ram table entries first room before
+walked_broken base ram table entries first room before c count next d w is plain broken direct all h s few sound =
     let a = w.leads.only direct h in
     let b = linked_first ram table entries next d is a.0 a.2 in
     let parts : direct ≡ w.walked ++ d ∷ b.0 = a.1 ∙ ap (λ (ys : List Descriptor). w.walked ++ ys) b.1 in
@@ -136,9 +136,9 @@ walked_broken ram table entries first room before c count next d w is plain brok
     broken more.0 (rw whole at sound)
 
 -- One for which memory was refused.
-pub walked_long : (ram : List ℕ) (table entries first room : ℕ) (before : List Descriptor) (c : Chain) (count next : ℕ) (d : Descriptor) (w : IsWalked ram table entries first before c count next)
+pub walked_long : (base : ℕ) (ram : List ℕ) (table entries first room : ℕ) (before : List Descriptor) (c : Chain) (count next : ℕ) (d : Descriptor) (w : IsWalked base ram table entries first before c count next)
     → next < entries → d ≡ descriptor_at false ram table next → count < room → SHORT_CHAIN_MAX ≤ length (before ++ w.walked) → IsLongBehind ram table entries first room before
-walked_long ram table entries first room before c count next d w below is some long =
+walked_long base ram table entries first room before c count next d w below is some long =
     let size = length-append w.walked (d ∷ []) in
     let both = length-append before w.walked in
     record {
@@ -149,10 +149,10 @@ walked_long ram table entries first room before c count next d w below is some l
     }
 
 -- The last one.
-pub walked_last : (ram : List ℕ) (table entries first room : ℕ) (before : List Descriptor) (c new : Chain) (count next : ℕ) (d : Descriptor) (w : IsWalked ram table entries first before c count next)
-    → next < entries → d ≡ descriptor_at false ram table next → count < room → d.is_indirect ≡ false → d.has_next ≡ false → AreHeld (length ram) ((before ++ w.walked) ++ d ∷ []) new
-    → AreGathered ram table entries first room before new
-walked_last ram table entries first room before c new count next d w below is some plain last held = record {
+pub walked_last : (base : ℕ) (ram : List ℕ) (table entries first room : ℕ) (before : List Descriptor) (c new : Chain) (count next : ℕ) (d : Descriptor) (w : IsWalked base ram table entries first before c count next)
+    → next < entries → d ≡ descriptor_at false ram table next → count < room → d.is_indirect ≡ false → d.has_next ≡ false → AreHeld base (length ram) ((before ++ w.walked) ++ d ∷ []) new
+    → AreGathered base ram table entries first room before new
+walked_last base ram table entries first room before c new count next d w below is some plain last held = record {
   front = w.walked;
   last = d;
   linked = w.leads.completes (d ∷ []) (below, is, last);
@@ -163,9 +163,9 @@ walked_last ram table entries first room before c new count next d w below is so
 }
 
 -- The last one, where it names a table.
-pub walked_table : (ram : List ℕ) (table entries first room : ℕ) (before : List Descriptor) (c : Chain) (count next : ℕ) (d : Descriptor) → IsWalked ram table entries first before c count next
-    → next < entries → d ≡ descriptor_at false ram table next → count < room → d.is_indirect ≡ true → d.has_next ≡ false → AreBeforeTable ram table entries first room before d c
-walked_table ram table entries first room before c count next d w below is some named last = record {
+pub walked_table : (base : ℕ) (ram : List ℕ) (table entries first room : ℕ) (before : List Descriptor) (c : Chain) (count next : ℕ) (d : Descriptor) → IsWalked base ram table entries first before c count next
+    → next < entries → d ≡ descriptor_at false ram table next → count < room → d.is_indirect ≡ true → d.has_next ≡ false → AreBeforeTable base ram table entries first room before d c
+walked_table base ram table entries first room before c count next d w below is some named last = record {
   front = w.walked;
   linked = w.leads.completes (d ∷ []) (below, is, last);
   few = omega (arith, w.count_is);

@@ -3,6 +3,7 @@ use Rattle.std.proofs.Common.{Bool, true, false, ◌≡◌, ℕ, ◌/◌, ◌<�
 use Rattle.std.specs.Bool.{MatchBool}
 use Rattle.std.proofs.lemmas.List.{get_or_at, get_or_append_left}
 use Rattle.std.proofs.lemmas.List.Elements.{All-same}
+use Rattle.guestmem.specs.Address.{index_of}
 use Rattle.chains.specs.declared.descriptor.Descriptor.{Descriptor}
 use Rattle.chains.specs.Whole.{ArePlain}
 use Rattle.chains.specs.SplitChain.{IsFromTable, IsReplaced}
@@ -51,19 +52,19 @@ spelled_next direct all ds d rest s parts some = next_by direct all ds d rest s 
 pub spelled_longer : (direct all : List Descriptor) → IsSpelled direct all → length direct ≤ length all
 spelled_longer direct all s = omega (arith, ap length s.parts, length-append s.front (s.last ∷ []), ap length s.is, length-append s.front s.tail, s.some)
 
-replaced_by : (ram : List ℕ) (has_indirect named : Bool) (direct all front : List Descriptor) (last : Descriptor) → last.is_indirect ≡ named → direct ≡ front ++ last ∷ [] → ArePlain front
-    → MatchBool named ((has_indirect ≡ true) × IsFromTable ram front last all) (all ≡ direct) → IsSpelled direct all
-replaced_by ram has_indirect true direct all front last named parts plain (p, t) = record {
+replaced_by : (base : ℕ) (ram : List ℕ) (has_indirect named : Bool) (direct all front : List Descriptor) (last : Descriptor) → last.is_indirect ≡ named → direct ≡ front ++ last ∷ [] → ArePlain front
+    → MatchBool named ((has_indirect ≡ true) × IsFromTable base ram front last all) (all ≡ direct) → IsSpelled direct all
+replaced_by base ram has_indirect true direct all front last named parts plain (p, t) = record {
   front = front;
   last = last;
   tail = t.inner;
   parts = parts;
   plain = plain;
   is = t.parts;
-  some = linked_some ram last.addr (last.len / 16) 0 t.inner t.linked;
+  some = linked_some ram (index_of base last.addr) (last.len / 16) 0 t.inner t.linked;
   same = λ r. absurd (cc);
 }
-replaced_by ram has_indirect false direct all front last named parts plain same = record {
+replaced_by base ram has_indirect false direct all front last named parts plain same = record {
   front = front;
   last = last;
   tail = last ∷ [];
@@ -75,8 +76,8 @@ replaced_by ram has_indirect false direct all front last named parts plain same 
 }
 
 -- A list with its table in it.
-pub spelled_replaced : (ram : List ℕ) (has_indirect : Bool) (direct all : List Descriptor) → IsReplaced ram has_indirect direct all → IsSpelled direct all
-spelled_replaced ram has_indirect direct all r = replaced_by ram has_indirect r.last.is_indirect direct all r.front r.last refl r.parts r.plain r.whole
+pub spelled_replaced : (base : ℕ) (ram : List ℕ) (has_indirect : Bool) (direct all : List Descriptor) → IsReplaced base ram has_indirect direct all → IsSpelled direct all
+spelled_replaced base ram has_indirect direct all r = replaced_by base ram has_indirect r.last.is_indirect direct all r.front r.last refl r.parts r.plain r.whole
 
 last_of : (d : Descriptor) (ds : List Descriptor) → (front : List Descriptor) × (last : Descriptor) × (d ∷ ds ≡ front ++ last ∷ [])
 last_of d [] = ([], d, refl)

@@ -6,7 +6,8 @@
 //!
 //! # What the layers above may rely on
 //! The contracts are those of the trait, over the definitions of `chains` (`SplitChain` and `Publish` among its specs). `new` makes
-//! the ring of a ready queue under the driver's features, at the positions given.
+//! the ring of a ready queue under the driver's features, in a RAM with the base given, at the positions given. Buffers and tables are
+//! named by their guest-physical addresses, and one that begins below the base is malformed, as is one that passes the end of RAM.
 //!
 //! Looking for a chain decodes at most one descriptor more than there are slots, whatever RAM holds: a walk stops after as many as
 //! there are slots, and a table gets the room that the descriptors before the one that names it left. That is the clause `few` of

@@ -53,7 +53,7 @@ pub(crate) fn find(
     let size = core.size;
     let (table, entries) = (core.descriptors, size as u32);
     match walk(
-        ram, decoder, table, entries, first, size, true, chain, &mut last,
+        core.base, ram, decoder, table, entries, first, size, true, chain, &mut last,
     ) {
         Stop::Ended => ended(chain),
         Stop::Table => follow(core, decoder, ram, &last, chain),
@@ -72,20 +72,22 @@ fn follow(
 ) -> Walked
     requires room { segment_count chain.old < core.now.size }
     requires fits { Fits decoder.old ram.now }
-    ensures gives { (front : List Descriptor) → AreHeld (length ram.now.bytes) front chain.old → FollowGives ram.now.bytes (has_bit core.now.features INDIRECT_DESC) core.now.size front last.now chain.new result }
+    ensures gives { (front : List Descriptor) → AreHeld core.now.base (length ram.now.bytes) front chain.old → FollowGives core.now.base ram.now.bytes (has_bit core.now.features INDIRECT_DESC) core.now.size front last.now chain.new result }
     ensures fits { Fits decoder.new ram.now }
     ensures few { decoder.new.decoded + segment_count chain.old ≤ decoder.old.decoded + core.now.size }
     ensures rises { decoder.old.decoded ≤ decoder.new.decoded }
 {
     // INDIRECT without the feature, or a table that `is_table` refuses.
-    if !core.has_indirect() || !is_table(last, ram) {
+    if !core.has_indirect() || !is_table(last, core.base, ram) {
         return Walked::Missing;
     }
     let room = core.size - (chain.readable.len() + chain.writable.len()) as u16;
-    let (table, entries) = (last.addr, last.len / DESCRIPTOR_SIZE as u32);
+    // The index in RAM of the table, whose address is as the guest wrote it.
+    let table = last.addr - core.base;
+    let entries = last.len / DESCRIPTOR_SIZE as u32;
     let mut named = NO_DESCRIPTOR;
     match walk(
-        ram, decoder, table, entries, 0, room, false, chain, &mut named,
+        core.base, ram, decoder, table, entries, 0, room, false, chain, &mut named,
     ) {
         Stop::Ended => ended(chain),
         // INDIRECT inside the table.

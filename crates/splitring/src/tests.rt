@@ -15,8 +15,12 @@ use std::test::Fail;
 /// The features VERSION_1 and INDIRECT_DESC.
 const FEATURES: u64 = 0x1_1000_0000;
 
-/// A new ring of some slots, whose three areas are in page 0.
-fn ring_of(alloc: Global, ram: &Ram, size: u32) -> SplitRing
+/// The base of a RAM that does not begin at the address 0.
+const BASE: u64 = 0x8000_0000;
+
+/// A new ring of some slots, whose three areas are in page 0 of a RAM with this base.
+fn ring_of(alloc: Global, ram: &Ram, base: u64, size: u32) -> SplitRing
+    requires low { base ≤ BASE }
     requires some { 1 ≤ size }
     requires few { size ≤ 16 }
     ensures areas { HasAreas (length ram.now.bytes) result.state }
@@ -25,13 +29,13 @@ fn ring_of(alloc: Global, ram: &Ram, size: u32) -> SplitRing
     ram.recall();
     let queue = Queue {
         size,
-        descriptors: 0,
-        driver: 0x200,
-        device: 0x300,
+        descriptors: base,
+        driver: base + 0x200,
+        device: base + 0x300,
         is_ready: true,
         is_notified: true,
     };
-    SplitRing::new(alloc, &queue, FEATURES, Positions::FIRST)
+    SplitRing::new(alloc, &queue, FEATURES, base, Positions::FIRST)
 }
 
 /// Writes where a test says. The RAM is a later one, so what the ring keeps fits it.
@@ -64,6 +68,17 @@ fn look(ring: &mut SplitRing, ram: &Ram) -> Result<(usize, u64, u32, u64), NoMem
     }
 }
 
+/// Whether a look finds that the driver broke a rule.
+fn is_malformed(ring: &mut SplitRing, ram: &Ram) -> Result<bool, NoMemory>
+    requires areas { HasAreas (length ram.now.bytes) ring.old.state }
+    requires fits { Fits ring.old.decoder ram.now }
+    ensures areas { HasAreas (length ram.now.bytes) ring.new.state }
+    ensures fits { Fits ring.new.decoder ram.now }
+{
+    let next = ring.next(ram)?;
+    Ok(matches!(&next, Next::Malformed))
+}
+
 /// Descriptor 0 is one byte to be written at 0x800, and the driver has made its chain available.
 fn one_buffer(ring: &SplitRing, ram: &mut Ram)
     requires areas { HasAreas (length ram.old.bytes) ring.now.state }
@@ -76,6 +91,36 @@ fn one_buffer(ring: &SplitRing, ram: &mut Ram)
         ram,
         0,
         &[0, 8, 0, 0, 0, 0, 0, 0, 1, 0, 0, 0, 2, 0, 0, 0],
+    );
+    store(ring, ram, 0x200, &[0, 0, 1, 0, 0, 0]);
+}
+
+/// Descriptor 0 is one byte to be written at index 0x800 of RAM, descriptor 1 names a table at index 0x900, whose first entry is
+/// one byte to be written at index 0xa00, and the driver has made their chain available. `high` is the fourth byte of each address:
+/// that of the base of RAM.
+fn one_table(ring: &SplitRing, ram: &mut Ram, high: u8)
+    requires areas { HasAreas (length ram.old.bytes) ring.now.state }
+    requires fits { Fits ring.now.decoder ram.old }
+    ensures areas { HasAreas (length ram.new.bytes) ring.now.state }
+    ensures fits { Fits ring.now.decoder ram.new }
+{
+    store(
+        ring,
+        ram,
+        0,
+        &[0, 8, 0, high, 0, 0, 0, 0, 1, 0, 0, 0, 3, 0, 1, 0],
+    );
+    store(
+        ring,
+        ram,
+        16,
+        &[0, 9, 0, high, 0, 0, 0, 0, 32, 0, 0, 0, 4, 0, 0, 0],
+    );
+    store(
+        ring,
+        ram,
+        0x900,
+        &[0, 10, 0, high, 0, 0, 0, 0, 1, 0, 0, 0, 2, 0, 0, 0],
     );
     store(ring, ram, 0x200, &[0, 0, 1, 0, 0, 0]);
 }
@@ -97,7 +142,7 @@ fn sixteen() -> [u8; 256] {
 #[test]
 fn kept_until_the_page_is_written(rt: HostRuntime) -> Result<(), Fail> {
     let mut ram = Ram::new(rt.alloc(), 2)?;
-    let mut ring = ring_of(rt.alloc(), &ram, 1);
+    let mut ring = ring_of(rt.alloc(), &ram, 0, 1);
     one_buffer(&ring, &mut ram);
     assert_eq!(rt; look(&mut ring, &ram)?, (1, 0x800, 1, 1));
     assert_eq!(rt; look(&mut ring, &ram)?, (1, 0x800, 1, 1));
@@ -114,7 +159,7 @@ fn kept_until_the_page_is_written(rt: HostRuntime) -> Result<(), Fail> {
 #[test]
 fn never_used_at_the_greatest_version(rt: HostRuntime) -> Result<(), Fail> {
     let mut ram = Ram::with_version(rt.alloc(), 1, u64::MAX - 1)?;
-    let mut ring = ring_of(rt.alloc(), &ram, 1);
+    let mut ring = ring_of(rt.alloc(), &ram, 0, 1);
     one_buffer(&ring, &mut ram);
     assert_eq!(rt; look(&mut ring, &ram)?, (1, 0x800, 1, 1));
     store(&ring, &mut ram, 8, &[2, 0, 0, 0]);
@@ -127,7 +172,7 @@ fn never_used_at_the_greatest_version(rt: HostRuntime) -> Result<(), Fail> {
 #[test]
 fn sixteen_are_kept(rt: HostRuntime) -> Result<(), Fail> {
     let mut ram = Ram::new(rt.alloc(), 2)?;
-    let mut ring = ring_of(rt.alloc(), &ram, 16);
+    let mut ring = ring_of(rt.alloc(), &ram, 0, 16);
     store(&ring, &mut ram, 0, &sixteen());
     store(&ring, &mut ram, 0x200, &[0, 0, 1, 0, 0, 0]);
     assert_eq!(rt; look(&mut ring, &ram)?, (16, 0x800, 1, 16));
@@ -140,30 +185,44 @@ fn sixteen_are_kept(rt: HostRuntime) -> Result<(), Fail> {
 #[test]
 fn tables_are_decoded_again(rt: HostRuntime) -> Result<(), Fail> {
     let mut ram = Ram::new(rt.alloc(), 2)?;
-    let mut ring = ring_of(rt.alloc(), &ram, 2);
-    store(
-        &ring,
-        &mut ram,
-        0,
-        &[0, 8, 0, 0, 0, 0, 0, 0, 1, 0, 0, 0, 3, 0, 1, 0],
-    );
-    store(
-        &ring,
-        &mut ram,
-        16,
-        &[0, 9, 0, 0, 0, 0, 0, 0, 32, 0, 0, 0, 4, 0, 0, 0],
-    );
-    store(
-        &ring,
-        &mut ram,
-        0x900,
-        &[0, 10, 0, 0, 0, 0, 0, 0, 1, 0, 0, 0, 2, 0, 0, 0],
-    );
-    store(&ring, &mut ram, 0x200, &[0, 0, 1, 0, 0, 0]);
+    let mut ring = ring_of(rt.alloc(), &ram, 0, 2);
+    one_table(&ring, &mut ram, 0);
     assert_eq!(rt; look(&mut ring, &ram)?, (2, 0x800, 1, 3));
     assert_eq!(rt; look(&mut ring, &ram)?, (2, 0x800, 1, 4));
     // The first entry of the table names the second one, for which there is no slot.
     store(&ring, &mut ram, 0x90c, &[3, 0, 1, 0]);
     assert_eq!(rt; look(&mut ring, &ram)?, (0, 0, 0, 7));
+    Ok(())
+}
+
+/// Over a RAM that begins at a base the addresses are as much greater, and all else is as over one that begins at 0.
+#[test]
+fn a_base_moves_addresses_alone(rt: HostRuntime) -> Result<(), Fail> {
+    let mut ram = Ram::new(rt.alloc(), 2)?;
+    let mut ring = ring_of(rt.alloc(), &ram, BASE, 2);
+    one_table(&ring, &mut ram, 0x80);
+    assert_eq!(rt; look(&mut ring, &ram)?, (2, 0x8000_0800, 1, 3));
+    assert_eq!(rt; look(&mut ring, &ram)?, (2, 0x8000_0800, 1, 4));
+    // Addresses without the base lie outside RAM.
+    one_table(&ring, &mut ram, 0);
+    assert!(rt; is_malformed(&mut ring, &ram)?);
+    Ok(())
+}
+
+/// A buffer whose first byte lies below the base is outside RAM, though its second one is the first of RAM.
+#[test]
+fn below_the_base_is_malformed(rt: HostRuntime) -> Result<(), Fail> {
+    let mut ram = Ram::new(rt.alloc(), 1)?;
+    let mut ring = ring_of(rt.alloc(), &ram, BASE, 1);
+    store(
+        &ring,
+        &mut ram,
+        0,
+        &[0xff, 0xff, 0xff, 0x7f, 0, 0, 0, 0, 2, 0, 0, 0, 2, 0, 0, 0],
+    );
+    store(&ring, &mut ram, 0x200, &[0, 0, 1, 0, 0, 0]);
+    assert!(rt; is_malformed(&mut ring, &ram)?);
+    store(&ring, &mut ram, 0, &[0, 0, 0, 0x80]);
+    assert_eq!(rt; look(&mut ring, &ram)?, (1, BASE, 2, 2));
     Ok(())
 }

@@ -11,10 +11,11 @@ use chains::{Chain, DESCRIPTOR_SIZE, Decoder, Descriptor, Walked, add};
 use guestmem::Ram;
 
 /// Adds to a chain the buffers of the list that begins at entry `first` of a table, up to one that names a table, which it
-/// hands out as `last`. It stops at a descriptor that breaks a rule, and after `room` of them. No more are decoded than `room`,
+/// hands out as `last`. The table lies at the index `table` in RAM, whose base is `base`. It stops at a descriptor that breaks a rule, and after `room` of them. No more are decoded than `room`,
 /// nor, where the last one names a table, than are added and that one. `is_own` says that the table is the queue's own.
 #[inline(always)]
 pub(crate) fn walk(
+    base: u64,
     ram: &Ram,
     decoder: &mut Decoder,
     table: u64,
@@ -29,7 +30,7 @@ pub(crate) fn walk(
     requires aligned { is_own ≡ true → table % DESCRIPTOR_SIZE ≡ 0 }
     requires fits { Fits decoder.old ram.now }
     requires few { segment_count chain.old ≤ 65536 }
-    ensures gives { (before : List Descriptor) → AreHeld (length ram.now.bytes) before chain.old → WalkGives ram.now.bytes table entries first room before chain.new last.new result }
+    ensures gives { (before : List Descriptor) → AreHeld base (length ram.now.bytes) before chain.old → WalkGives base ram.now.bytes table entries first room before chain.new last.new result }
     ensures fits { Fits decoder.new ram.now }
     ensures few { decoder.new.decoded ≤ decoder.old.decoded + room }
     ensures each { WhereTable result (decoder.new.decoded + segment_count chain.old ≤ decoder.old.decoded + segment_count chain.new + 1) }
@@ -52,7 +53,7 @@ pub(crate) fn walk(
             *last = descriptor;
             return Stop::Table;
         }
-        match add(&descriptor, len, chain) {
+        match add(&descriptor, base, len, chain) {
             Walked::Listed => {}
             Walked::Missing => return Stop::Missing,
             Walked::NoMemory => return Stop::NoMemory,

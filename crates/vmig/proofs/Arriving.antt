@@ -19,48 +19,48 @@ front_fed r front fed = record { more = []; fed = subst (λ (b : List ℕ). HasB
 pub fed_on : (r : Received) (front more piece : List ℕ) → HasBeenFed r ((front ++ more) ++ piece) → IsFedOn r front
 fed_on r front more piece fed = record { more = more ++ piece; fed = subst (λ (b : List ℕ). HasBeenFed r b) (append_assoc front more piece) fed }
 
-pub fed_quietly : (r : Received) (front more piece : List ℕ) → HasBeenFed r ((front ++ more) ++ piece) → NoFault r.sizes ((front ++ more) ++ piece) → IsFedQuietly r front
+pub fed_quietly : (r : Received) (front more piece : List ℕ) → HasBeenFed r ((front ++ more) ++ piece) → NoFault r.base r.sizes ((front ++ more) ++ piece) → IsFedQuietly r front
 fed_quietly r front more piece fed quiet = record {
   more = more ++ piece;
   fed = subst (λ (b : List ℕ). HasBeenFed r b) (append_assoc front more piece) fed;
-  quiet = subst (λ (b : List ℕ). NoFault r.sizes b) (append_assoc front more piece) quiet;
+  quiet = subst (λ (b : List ℕ). NoFault r.base r.sizes b) (append_assoc front more piece) quiet;
 }
 
 -- The front is refused.
-pub front_refused : (stream front sizes : List ℕ) (marks new : List Marks) (e : RecvError) (fault : Fault)
-    → fault ≡ stream_fault e → MarksRefused marks e new → TellsNow sizes [] front e → TellsOfRest stream front sizes marks fault
-front_refused stream front sizes marks new e fault is m t = inr (record {
+pub front_refused : (stream front : List ℕ) (base : ℕ) (sizes : List ℕ) (marks new : List Marks) (e : RecvError) (fault : Fault)
+    → fault ≡ stream_fault e → MarksRefused marks e new → TellsNow base sizes [] front e → TellsOfRest stream front base sizes marks fault
+front_refused stream front base sizes marks new e fault is m t = inr (record {
   more = [];
   refusal = e;
-  refused = subst (λ (b : List ℕ). RefusesSlice sizes marks b e) (sym (append-nil front)) (slice_told sizes marks new front e m (told_at_once sizes front e t));
+  refused = subst (λ (b : List ℕ). RefusesSlice base sizes marks b e) (sym (append-nil front)) (slice_told base sizes marks new front e m (told_at_once base sizes front e t));
   is = is;
 })
 
 -- A piece is refused.
-told_so_far : (sizes b piece : List ℕ) (e : RecvError) → TellsNow sizes b piece e → TellsFault sizes (b ++ piece) e
-told_so_far sizes b piece e t =
-    tells_more ((at : ℕ) × (length b < at) × StreamFault sizes (b ++ piece) e at) ((at : ℕ) × StreamFault sizes (b ++ piece) e at) e (λ x. (x.0, x.2)) t
+told_so_far : (base : ℕ) (sizes b piece : List ℕ) (e : RecvError) → TellsNow base sizes b piece e → TellsFault base sizes (b ++ piece) e
+told_so_far base sizes b piece e t =
+    tells_more ((at : ℕ) × (length b < at) × StreamFault base sizes (b ++ piece) e at) ((at : ℕ) × StreamFault base sizes (b ++ piece) e at) e (λ x. (x.0, x.2)) t
 
-pub piece_refused : (stream front more piece sizes : List ℕ) (marks new : List Marks) (e : RecvError) (fault : Fault)
-    → fault ≡ stream_fault e → MarksRefused marks e new → TellsNow sizes (front ++ more) piece e → TellsOfRest stream front sizes marks fault
-piece_refused stream front more piece sizes marks new e fault is m t = inr (record {
+pub piece_refused : (stream front more piece : List ℕ) (base : ℕ) (sizes : List ℕ) (marks new : List Marks) (e : RecvError) (fault : Fault)
+    → fault ≡ stream_fault e → MarksRefused marks e new → TellsNow base sizes (front ++ more) piece e → TellsOfRest stream front base sizes marks fault
+piece_refused stream front more piece base sizes marks new e fault is m t = inr (record {
   more = more ++ piece;
   refusal = e;
-  refused = subst (λ (b : List ℕ). RefusesSlice sizes marks b e) (append_assoc front more piece) (slice_told sizes marks new ((front ++ more) ++ piece) e m (told_so_far sizes (front ++ more) piece e t));
+  refused = subst (λ (b : List ℕ). RefusesSlice base sizes marks b e) (append_assoc front more piece) (slice_told base sizes marks new ((front ++ more) ++ piece) e m (told_so_far base sizes (front ++ more) piece e t));
   is = is;
 })
 
 -- All of it was fed, and it is no whole stream.
-pub end_refused : (stream front more sizes : List ℕ) (marks : List Marks) (e : RecvError) (fault : Fault)
-    → fault ≡ stream_fault e → IsFinish (front ++ more) e → NoFault sizes (front ++ more) → TellsOfRest stream front sizes marks fault
-end_refused stream front more sizes marks e fault is h quiet = inr (record {
+pub end_refused : (stream front more : List ℕ) (base : ℕ) (sizes : List ℕ) (marks : List Marks) (e : RecvError) (fault : Fault)
+    → fault ≡ stream_fault e → IsFinish (front ++ more) e → NoFault base sizes (front ++ more) → TellsOfRest stream front base sizes marks fault
+end_refused stream front more base sizes marks e fault is h quiet = inr (record {
   more = more;
   refusal = e;
-  refused = slice_cut sizes marks (front ++ more) e h quiet;
+  refused = slice_cut base sizes marks (front ++ more) e h quiet;
   is = is;
 })
 
 -- A fault that tells of a front and the rest tells of all of it.
-pub of_arrival : (stream front sizes : List ℕ) (marks : List Marks) (fault : Fault) → TellsOfRest stream front sizes marks fault → TellsOfArrival stream sizes marks fault
+pub of_arrival : (stream front sizes : List ℕ) (marks : List Marks) (fault : Fault) → TellsOfRest stream front 0 sizes marks fault → TellsOfArrival stream sizes marks fault
 of_arrival stream front sizes marks fault (inl file) = inl file
 of_arrival stream front sizes marks fault (inr told) = inr (record { bytes = front ++ told.more; refusal = told.refusal; refused = told.refused; is = told.is })

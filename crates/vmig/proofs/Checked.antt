@@ -30,7 +30,7 @@ front_sized front more opening rest disks b are = inl (record {
 })
 
 pub rest_told : (stream front : List ℕ) (opening : Opening) (rest : List ℕ) (disks : List (List (List ℕ))) (fault : Fault) → Begins front opening rest → disks ≡ zero_disks opening.shapes
-    → TellsOfRest stream front (sizes_of memory_state disks) (disk_marks_of memory_state disks) fault → TellsOfChecked stream fault
+    → TellsOfRest stream front 0 (sizes_of memory_state disks) (disk_marks_of memory_state disks) fault → TellsOfChecked stream fault
 rest_told stream front opening rest disks fault b are (inl file) = inl file
 rest_told stream front opening rest disks fault b are (inr told) = inr (
   front ++ told.more,
@@ -38,7 +38,7 @@ rest_told stream front opening rest disks fault b are (inr told) = inr (
     sizes = map length disks;
     fit = front_sized front told.more opening rest disks b are;
     refusal = told.refusal;
-    refused = refused_steadily disks (front ++ told.more) told.refusal told.refused;
+    refused = refused_steadily 0 disks (front ++ told.more) told.refusal told.refused;
     is = told.is;
   }),
 )
@@ -58,7 +58,7 @@ told_of_line named m pages devices rounds old new fault come p d told begun = in
     record {
       ending = None;
       output = checked_line pages devices rounds;
-      asked = record { machine = m; rounds = rounds; received = come.received; spelled = rw (p, d) refl };
+      asked = record { machine = m; rounds = rounds; received = come.received; based = come.based; spelled = rw (p, d) refl };
       begun = begun;
     },
   )),

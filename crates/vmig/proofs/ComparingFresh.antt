@@ -146,10 +146,10 @@ pub tells_memory : (c : Contents) (shapes : List Shape) (fault : Fault) → shap
 tells_memory c shapes fault of none is = tells c shapes fault of (memory_by (new_refusal c.pages shapes (disk_sizes shapes)) fault none is)
 
 -- Its disks fit, whatever it then answers.
-pub first_shapes : (ram_len : ℕ) (shapes : List Shape) → map (λ (d : DeviceState). made_as d.kind) (map (first_device ram_len) shapes) ≡ shapes
-first_shapes ram_len [] = refl
-first_shapes ram_len (shape ∷ shapes) =
-    ap (λ first. first ∷ map (λ (d : DeviceState). made_as d.kind) (map (first_device ram_len) shapes)) (first_as shape) ∙ ap (λ xs. shape ∷ xs) (first_shapes ram_len shapes)
+pub first_shapes : (base ram_len : ℕ) (shapes : List Shape) → map (λ (d : DeviceState). made_as d.kind) (map (first_device base ram_len) shapes) ≡ shapes
+first_shapes base ram_len [] = refl
+first_shapes base ram_len (shape ∷ shapes) =
+    ap (λ first. first ∷ map (λ (d : DeviceState). made_as d.kind) (map (first_device base ram_len) shapes)) (first_as shape) ∙ ap (λ xs. shape ∷ xs) (first_shapes base ram_len shapes)
 
 -- A rehearsal of it over such disks.
 pub is_rehearsed : {D E : Type 0} (c : Contents) (machine : Seen) (shapes : List Shape) (events : List LiveEvent) (disks : List (List (List ℕ))) (rehearsal : Rehearsal D E) → IsFresh c machine → shapes ≡ c.shapes → events ≡ c.events → disks ≡ zero_disks shapes

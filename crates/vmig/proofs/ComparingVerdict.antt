@@ -24,7 +24,7 @@ use Rattle.vmig.specs.declared.comparing.Verdict.TheVariants as verdicts
 
 -- The machine keeps the shapes of its trace, so its disks fit.
 fits_fresh : (c : Contents) (machine : Seen) → IsFresh c machine → DoFit (disk_sizes c.shapes) machine
-fits_fresh c machine fresh = sym (ap (λ (m : MachineState). disk_sizes (shapes_in m.devices)) fresh.state ∙ ap disk_sizes (first_shapes _ c.shapes))
+fits_fresh c machine fresh = sym (ap (λ (m : MachineState). disk_sizes (shapes_in m.devices)) fresh.state ∙ ap disk_sizes (first_shapes _ _ c.shapes))
 
 only_memory : (sizes : List ℕ) (marks : List Marks) (machine : Seen) (e : RecvError) → DoFit sizes machine → AreSteady marks → TellsWhy sizes marks machine e → e ≡ errors.NoMemory
 only_memory sizes marks machine errors.NoMemory fits are why = refl

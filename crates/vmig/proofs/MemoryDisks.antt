@@ -26,23 +26,23 @@ never_unsteady : (disks : List (List (List ℕ))) → ¬ (IsUnsteady (disk_marks
 never_unsteady disks h = let is : true ≡ false = sym ((reliable disks).steady h.disk) ∙ h.unsteady in cc
 
 -- What a refusal tells with such disks it tells with disks that never fail.
-pub refused_steadily : (disks : List (List (List ℕ))) (bytes : List ℕ) (e : RecvError) → RefusesSlice (sizes_of memory_state disks) (disk_marks_of memory_state disks) bytes e → RefusesSlice (map length disks) [] bytes e
-refused_steadily disks bytes errors.NoMemory h = tt
-refused_steadily disks bytes errors.DiskFailed h = absurd (never_unsteady disks h)
-refused_steadily disks bytes errors.Truncated h = rw (sizes_are disks) at h
-refused_steadily disks bytes errors.BadMagic h = rw (sizes_are disks) at h
-refused_steadily disks bytes errors.BadVersion h = rw (sizes_are disks) at h
-refused_steadily disks bytes errors.BadShape h = rw (sizes_are disks) at h
-refused_steadily disks bytes errors.ShapeMismatch h = rw (sizes_are disks) at h
-refused_steadily disks bytes errors.BadTag h = rw (sizes_are disks) at h
-refused_steadily disks bytes errors.BadPage h = rw (sizes_are disks) at h
-refused_steadily disks bytes errors.BadSector h = rw (sizes_are disks) at h
-refused_steadily disks bytes errors.BadRound h = rw (sizes_are disks) at h
-refused_steadily disks bytes errors.BadDevice h = rw (sizes_are disks) at h
-refused_steadily disks bytes errors.BadDigest h = rw (sizes_are disks) at h
-refused_steadily disks bytes errors.Missing h = rw (sizes_are disks) at h
-refused_steadily disks bytes errors.Trailing h = rw (sizes_are disks) at h
-refused_steadily disks bytes errors.AlreadyFailed h = rw (sizes_are disks) at h
+pub refused_steadily : (base : ℕ) (disks : List (List (List ℕ))) (bytes : List ℕ) (e : RecvError) → RefusesSlice base (sizes_of memory_state disks) (disk_marks_of memory_state disks) bytes e → RefusesSlice base (map length disks) [] bytes e
+refused_steadily base disks bytes errors.NoMemory h = tt
+refused_steadily base disks bytes errors.DiskFailed h = absurd (never_unsteady disks h)
+refused_steadily base disks bytes errors.Truncated h = rw (sizes_are disks) at h
+refused_steadily base disks bytes errors.BadMagic h = rw (sizes_are disks) at h
+refused_steadily base disks bytes errors.BadVersion h = rw (sizes_are disks) at h
+refused_steadily base disks bytes errors.BadShape h = rw (sizes_are disks) at h
+refused_steadily base disks bytes errors.ShapeMismatch h = rw (sizes_are disks) at h
+refused_steadily base disks bytes errors.BadTag h = rw (sizes_are disks) at h
+refused_steadily base disks bytes errors.BadPage h = rw (sizes_are disks) at h
+refused_steadily base disks bytes errors.BadSector h = rw (sizes_are disks) at h
+refused_steadily base disks bytes errors.BadRound h = rw (sizes_are disks) at h
+refused_steadily base disks bytes errors.BadDevice h = rw (sizes_are disks) at h
+refused_steadily base disks bytes errors.BadDigest h = rw (sizes_are disks) at h
+refused_steadily base disks bytes errors.Missing h = rw (sizes_are disks) at h
+refused_steadily base disks bytes errors.Trailing h = rw (sizes_are disks) at h
+refused_steadily base disks bytes errors.AlreadyFailed h = rw (sizes_are disks) at h
 
 -- The disks of shapes, and of one more.
 abbrev zero_disk : ℕ → List (List ℕ)

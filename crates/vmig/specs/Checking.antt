@@ -2,7 +2,7 @@
 use Rattle.std.specs.Prelude.{◌≡◌, ◌⊎◌, ◌/◌, ℕ, List, [], length, map, replicate}
 use Rattle.guestmem.specs.declared.limits.TheConstants.{PAGE_SIZE}
 use Rattle.machine.specs.Shapes.{disk_sizes}
-use Rattle.machine.specs.State.{MachineState}
+use Rattle.machine.specs.State.{MachineState, base_of}
 use Rattle.machine.specs.declared.shape.Shape.{Shape}
 use Rattle.receiver.specs.Receiving.{IsReceived, RefusesSlice}
 use Rattle.receiver.specs.declared.recv_error.RecvError.{RecvError}
@@ -16,17 +16,19 @@ use Rattle.vmig.specs.declared.fault.Fault.TheVariants.{NoMemory}
 abbrev pub zero_disks : List Shape → List (List (List ℕ))
 zero_disks shapes = map (λ size. replicate size (replicate 512 0)) (disk_sizes shapes)
 
--- The bytes are the stream of a machine, and this is its line.
+-- The bytes are the stream of a machine whose RAM begins at the address 0, and this is its line.
 pub record IsStreamLine (bytes line : List ℕ) : Type 0 where
   pub machine : MachineState
   pub rounds : ℕ
   pub received : IsReceived bytes machine rounds
+  pub based : base_of machine.devices ≡ 0
   pub spelled : line ≡ checked_line (length machine.ram / PAGE_SIZE) (length machine.devices) rounds
 
--- The machine of some stream, in which `n` rounds ended. No contract says what the file of a stream holds.
+-- The machine of some stream, whose RAM begins at the address 0, in which `n` rounds ended. No contract says what the file of a stream holds.
 pub record HasCome (machine : MachineState) (n : ℕ) : Type 0 where
   pub bytes : List ℕ
   pub received : IsReceived bytes machine n
+  pub based : base_of machine.devices ≡ 0
 
 -- The header of a machine with disks of these sizes.
 pub record TellsSizes (bytes sizes : List ℕ) : Type 0 where
@@ -47,13 +49,13 @@ pub record TellsNone (bytes sizes : List ℕ) : Type 0 where
 abbrev pub AreSizesOf : List ℕ → List ℕ → Type 0
 AreSizesOf bytes sizes = TellsSizes bytes sizes ⊎ TellsNone bytes sizes
 
--- What a fault says of bytes, for a machine whose disks have the sizes that the header gives and never fail: its number names
+-- What a fault says of bytes, for a machine whose RAM begins at the address 0 and whose disks have the sizes that the header gives and never fail: its number names
 -- the first fault in the bytes, or they are an incomplete stream; or memory was refused.
 pub record TellsOfBytes (bytes : List ℕ) (fault : Fault) : Type 0 where
   pub sizes : List ℕ
   pub fit : AreSizesOf bytes sizes
   pub refusal : RecvError
-  pub refused : RefusesSlice sizes [] bytes refusal
+  pub refused : RefusesSlice 0 sizes [] bytes refusal
   pub is : fault ≡ stream_fault refusal
 
 abbrev pub TellsOfStream : List ℕ → Fault → Type 0

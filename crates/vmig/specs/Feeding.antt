@@ -2,7 +2,7 @@
 -- a front of them, and those after it.
 use Rattle.std.specs.Prelude.{◌≡◌, ◌⊎◌, ℕ, List, ◌++◌}
 use Rattle.machine.specs.Seen.{Marks}
-use Rattle.machine.specs.State.{MachineState}
+use Rattle.machine.specs.State.{MachineState, base_of}
 use Rattle.receiver.specs.Receiving.{HasBeenFed, IsReceived, NoFault, Received, RefusesSlice}
 use Rattle.receiver.specs.declared.recv_error.RecvError.{RecvError}
 use Rattle.vmig.specs.Faults.{TellsOfFile, stream_fault}
@@ -17,21 +17,23 @@ pub record IsFedOn (r : Received) (front : List ℕ) : Type 0 where
 pub record IsFedQuietly (r : Received) (front : List ℕ) : Type 0 where
   pub more : List ℕ
   pub fed : HasBeenFed r (front ++ more)
-  pub quiet : NoFault r.sizes (front ++ more)
+  pub quiet : NoFault r.base r.sizes (front ++ more)
 
--- The front and what follows it are the stream of this machine, in which `n` rounds ended.
+-- The front and what follows it are the stream of this machine, whose RAM begins at the address 0, in which `n` rounds ended.
 pub record IsReceivedOn (front : List ℕ) (m : MachineState) (n : ℕ) : Type 0 where
   pub more : List ℕ
   pub received : IsReceived (front ++ more) m n
+  pub based : base_of m.devices ≡ 0
 
--- What a fault says of bytes with this front, received over disks of these sizes and marks: they are refused.
-pub record TellsOfBytesOn (front sizes : List ℕ) (marks : List Marks) (fault : Fault) : Type 0 where
+-- What a fault says of bytes with this front, received for RAM that begins at this address and over disks of these sizes and marks:
+-- they are refused.
+pub record TellsOfBytesOn (front : List ℕ) (base : ℕ) (sizes : List ℕ) (marks : List Marks) (fault : Fault) : Type 0 where
   pub more : List ℕ
   pub refusal : RecvError
-  pub refused : RefusesSlice sizes marks (front ++ more) refusal
+  pub refused : RefusesSlice base sizes marks (front ++ more) refusal
   pub is : fault ≡ stream_fault refusal
 
 -- What a fault says of the stream in the file of this name, whose front was read: the file could not be read, or the stream is
 -- refused; or memory was.
-abbrev pub TellsOfRest : List ℕ → List ℕ → List ℕ → List Marks → Fault → Type 0
-TellsOfRest stream front sizes marks fault = TellsOfFile stream fault ⊎ TellsOfBytesOn front sizes marks fault
+abbrev pub TellsOfRest : List ℕ → List ℕ → ℕ → List ℕ → List Marks → Fault → Type 0
+TellsOfRest stream front base sizes marks fault = TellsOfFile stream fault ⊎ TellsOfBytesOn front base sizes marks fault

@@ -3,7 +3,7 @@ use Rattle.std.specs.Prelude.{◌≡◌, ◌⊎◌, ℕ, List, [], ◌∷◌, le
 use Rattle.machine.specs.Outcome.{outcome_of}
 use Rattle.machine.specs.Run.{IsRun}
 use Rattle.machine.specs.Seen.{Marks}
-use Rattle.machine.specs.State.{MachineState}
+use Rattle.machine.specs.State.{MachineState, base_of}
 use Rattle.machine.specs.declared.event.Event.{Event}
 use Rattle.machine.specs.declared.reply.Reply.{Reply}
 use Rattle.receiver.specs.Receiving.{RefusesSlice}
@@ -15,10 +15,11 @@ use Rattle.wire.specs.Stream.{IsStream}
 use Rattle.vmig.specs.Faults.{TellsOfFile, stream_fault, trace_fault}
 use Rattle.vmig.specs.declared.fault.Fault.{Fault}
 
--- The machine of some stream. No contract says what the file of a stream holds.
+-- The machine of some stream, whose RAM begins at the address 0. No contract says what the file of a stream holds.
 pub record HasArrived (machine : MachineState) : Type 0 where
   pub bytes : List ℕ
   pub stream : IsStream bytes machine
+  pub based : base_of machine.devices ≡ 0
 
 -- These are the replies of such a machine to the events, each event with the outcome of its reply.
 pub record AreResumed (events : List Event) (replies : List Reply) : Type 0 where
@@ -55,11 +56,11 @@ pub record TellsOfEvents (text : List ℕ) (fault : Fault) : Type 0 where
   pub refused : RefusesEvents text refusal
   pub is : fault ≡ trace_fault refusal
 
--- What a fault says of some bytes that were received over disks of these sizes and marks: they are refused.
+-- What a fault says of some bytes that were received for RAM that begins at the address 0, over disks of these sizes and marks: they are refused.
 pub record TellsOfPieces (sizes : List ℕ) (marks : List Marks) (fault : Fault) : Type 0 where
   pub bytes : List ℕ
   pub refusal : RecvError
-  pub refused : RefusesSlice sizes marks bytes refusal
+  pub refused : RefusesSlice 0 sizes marks bytes refusal
   pub is : fault ≡ stream_fault refusal
 
 -- What a fault says of the stream in the file of this name: it could not be read, or it is refused; or memory was.

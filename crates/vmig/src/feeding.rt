@@ -42,7 +42,7 @@ pub fn read_front<'a, F: Read>(
     Err(Fault::File(name))
 }
 
-/// Receives the machine of a stream, with these disks, and tells how many rounds ended in it. The first `count` bytes of the piece
+/// Receives the machine of a stream, whose RAM begins at the address 0, with these disks, and tells how many rounds ended in it. The first `count` bytes of the piece
 /// are the front of the stream, and the file has the rest.
 pub fn receive_rest<'a, F: Read, D: Disk + Drop>(
     alloc: Global,
@@ -55,7 +55,7 @@ pub fn receive_rest<'a, F: Read, D: Disk + Drop>(
     requires { count ≤ length piece.old }
     ensures received { IfOk result (λ x. AreHonestDisks (disk_marks_of D.state disks.items) → IsReceivedOn (take count piece.old) (state_of x.0) x.1) }
     ensures marks { IfOk result (λ x. all_marks x.0 ≡ dealt_marks (shapes_in (state_of x.0).devices) (disk_marks_of D.state disks.items)) }
-    ensures failed { IfErr result (TellsOfRest name.entry.now (take count piece.old) (sizes_of D.state disks.items) (disk_marks_of D.state disks.items)) }
+    ensures failed { IfErr result (TellsOfRest name.entry.now (take count piece.old) 0 (sizes_of D.state disks.items) (disk_marks_of D.state disks.items)) }
 {
     let mut receiver = Receiver::new(alloc, disks);
     receiver.feed(&piece[..count])?;
@@ -74,10 +74,11 @@ fn feed_rest<'a, F: Read, D: Disk + Drop>(
     piece: &mut [u8],
     receiver: &mut Receiver<D>,
 ) -> Result<(), Fault<'a>>
+    ensures base { receiver.new.base ≡ receiver.old.base }
     ensures sizes { receiver.new.sizes ≡ receiver.old.sizes }
     ensures marks { OnOk result (receiver.new.marks ≡ receiver.old.marks) }
     ensures quiet { OnOk result ((front : List ℕ) → IsFedOn receiver.old front → IsFedQuietly receiver.new front) }
-    ensures failed { IfErr result (λ fault. (front : List ℕ) → IsFedOn receiver.old front → TellsOfRest name.entry.now front receiver.old.sizes receiver.old.marks fault) }
+    ensures failed { IfErr result (λ fault. (front : List ℕ) → IsFedOn receiver.old front → TellsOfRest name.entry.now front receiver.old.base receiver.old.sizes receiver.old.marks fault) }
 {
     for _ in 0..u64::MAX {
         if feed_piece(file, name, piece, receiver)? {
@@ -94,11 +95,12 @@ fn feed_piece<'a, F: Read, D: Disk + Drop>(
     piece: &mut [u8],
     receiver: &mut Receiver<D>,
 ) -> Result<bool, Fault<'a>>
+    ensures base { receiver.new.base ≡ receiver.old.base }
     ensures sizes { receiver.new.sizes ≡ receiver.old.sizes }
     ensures marks { OnOk result (receiver.new.marks ≡ receiver.old.marks) }
     ensures goes_on { OnOk result ((front : List ℕ) → IsFedOn receiver.old front → IsFedOn receiver.new front) }
     ensures quiet { IfOk result (λ ended. ended ≡ true → (front : List ℕ) → IsFedOn receiver.old front → IsFedQuietly receiver.new front) }
-    ensures failed { IfErr result (λ fault. (front : List ℕ) → IsFedOn receiver.old front → TellsOfRest name.entry.now front receiver.old.sizes receiver.old.marks fault) }
+    ensures failed { IfErr result (λ fault. (front : List ℕ) → IsFedOn receiver.old front → TellsOfRest name.entry.now front receiver.old.base receiver.old.sizes receiver.old.marks fault) }
 {
     let count = match file.read(piece) {
         Ok(count) => count,

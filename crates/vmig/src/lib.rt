@@ -1,12 +1,12 @@
 //! All that an embedder needs, from one crate, and the program `vmig` as a library.
 //!
 //! Machines, their events and their replies are those of `machine`; `Live`, `replay`, `save` and `saved_len` are those of `sender`,
-//! and `Receiver` and `receive` those of `receiver`, over the sinks and records of `wire`; `rehearse` is that of `rehearsal`, and
+//! and `Receiver`, `receive` and `receive_at` those of `receiver`, over the sinks and records of `wire`; `rehearse` is that of `rehearsal`, and
 //! `parse`, `write_reply` and what belongs to them are those of `traces`.
 //! The functions of `laws` are the laws of all of these.
 //!
 //! `execute` is the whole program: its words, the files that they name, what it prints and its exit status. The crate
-//! `vmig_program` is `main` alone.
+//! `vmig_program` is `main` alone. The RAM of its machines begins at the address 0: no word of it, and no line of a trace, names another.
 //!
 //! What the layer above may rely on: `execute` returns 2 exactly where the words are none of the program's command lines, and 0
 //! only where it wrote the lines of the replies of a machine to a trace, or the line of a stream, and nothing to standard
@@ -45,10 +45,10 @@ pub use fault_writer::FaultWriter;
 pub use guestmem::{ACCESS_MAX, NoMemory, PAGE_SIZE, PAGES_MAX, Ram, RamError, Touched, is_zero};
 pub use machine::{
     Bytes, DEVICES_MAX, DeviceState, Disk, DiskFault, Event, FaultDisk, FileDisk, Kind, Machine,
-    MemDisk, NewError, Refusal, Reply, SECTOR_SIZE, SECTORS_MAX, Shape, Stepped, Work,
+    MemDisk, NewError, Refusal, Reply, SECTOR_SIZE, SECTORS_MAX, Shape, Stepped, Work, is_base,
 };
 pub use program::execute;
-pub use receiver::{Receiver, RecvError, read_heading, receive};
+pub use receiver::{Receiver, RecvError, read_heading, receive, receive_at};
 pub use rehearsal::{Rehearsal, rehearse};
 pub use sender::{
     CopyAnswer, End, Item, Live, LiveEvent, LiveReply, MigError, Phase, Remaining, Replay, Stopped,

@@ -9,7 +9,7 @@ pub fed_full : (k after : Option KeptSeen) (piece : List ℕ) → is_some k ≡ 
 fed_full None after piece is same = inr (refl, same)
 fed_full (Some m) after piece is same = absurd (true≢false is)
 
-pub fed_first : (k after : Option KeptSeen) (m next : KeptSeen) (piece : List ℕ) (status : ℕ) → is_some k ≡ false → m ≡ own (Arriving nothing_fed) → after ≡ Some next
+pub fed_first : (k after : Option KeptSeen) (m next : KeptSeen) (piece : List ℕ) (status : ℕ) → is_some k ≡ false → m ≡ own (Arriving (nothing_fed 0)) → after ≡ Some next
     → next ≡ record m { state = next.state; admission = next.admission } → FeedsKept m.admission m.state piece status next.admission next.state → Fed k piece status after
 fed_first None after m next piece status is first becomes kind does =
     inl (subst (λ (x : KeptSeen). DoesFed x piece status after) first (record { next = next.state; admission = next.admission; is_next = becomes ∙ ap Some kind; does = does }))

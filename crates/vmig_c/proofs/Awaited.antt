@@ -7,7 +7,7 @@ use Rattle.std.proofs.lemmas.Option.{slice_get-map}
 use Rattle.machine.specs.First.{dealt_marks}
 use Rattle.machine.specs.Seen.{DeviceSeen, Marks, Seen, all_marks, marks_at, no_marks, state_of}
 use Rattle.machine.specs.Shapes.{disk_sizes}
-use Rattle.machine.specs.State.{MachineState}
+use Rattle.machine.specs.State.{MachineState, base_of}
 use Rattle.machine.specs.Layout.{pages_of}
 use Rattle.wire.specs.Header.{Begins, Opening, header}
 use Rattle.wire.proofs.PartLengths.{length_header}
@@ -20,8 +20,9 @@ use Rattle.receiver.specs.declared.recv_error.RecvError.TheVariants.{BadMagic, B
 use Rattle.receiver.proofs.Heads.{no_header_fault}
 use Rattle.receiver.proofs.Prefixes.{header_stays, stays}
 use Rattle.receiver.specs.Faults.{Fault, IsHeaderFault}
+use Rattle.receiver.specs.Opened.{said_by}
 use Rattle.vmig_c.specs.ArrivalSeen.{ArrivalSeen, AtHead, AtBody, Refused}
-use Rattle.vmig_c.specs.Awaited.{AreSteady, CountsRounds, GoesOnWith, IsClosed, HasArrived, HasCome, IsFaulty, IsFed, IsFedTo, TellsEnd, TellsOf, TellsWhy, awaited_by}
+use Rattle.vmig_c.specs.Awaited.{AreSteady, CountsRounds, GoesOnWith, IsClosed, HasArrived, HasCome, IsFaulty, IsFed, IsFedTo, TellsEnd, TellsOf, TellsWhy, awaited_base, awaited_by}
 use Rattle.vmig_c.specs.declared.arrival.Progress.{Progress}
 use Rattle.vmig_c.specs.Headed.{AreFitting, HasHeader, HasNoHeader}
 use Rattle.vmig_c.specs.Plain.{mem_state}
@@ -56,38 +57,38 @@ pub never_failed : (r : Received) (new : List Marks) (e : RecvError) → AreStea
 never_failed r new e steady h is = no_failure r new steady (subst (λ (x : RecvError). MarksRefused r.marks x new) is h)
 
 -- What a refusal of a receiver tells.
-told : (sizes b piece : List ℕ) (e : RecvError) → AreFitting (b ++ piece) sizes → TellsNow sizes b piece e → ¬ (e ≡ DiskFailed) → TellsWhy (b ++ piece) e
-told sizes b piece NoMemory fit t never = tt
-told sizes b piece DiskFailed fit t never = absurd (never refl)
-told sizes b piece BadMagic fit t never = record { sizes = sizes; fit = fit; at = t.0; fault = t.2 }
-told sizes b piece BadVersion fit t never = record { sizes = sizes; fit = fit; at = t.0; fault = t.2 }
-told sizes b piece BadShape fit t never = record { sizes = sizes; fit = fit; at = t.0; fault = t.2 }
-told sizes b piece ShapeMismatch fit t never = record { sizes = sizes; fit = fit; at = t.0; fault = t.2 }
-told sizes b piece BadTag fit t never = record { sizes = sizes; fit = fit; at = t.0; fault = t.2 }
-told sizes b piece BadPage fit t never = record { sizes = sizes; fit = fit; at = t.0; fault = t.2 }
-told sizes b piece BadSector fit t never = record { sizes = sizes; fit = fit; at = t.0; fault = t.2 }
-told sizes b piece BadRound fit t never = record { sizes = sizes; fit = fit; at = t.0; fault = t.2 }
-told sizes b piece BadDevice fit t never = record { sizes = sizes; fit = fit; at = t.0; fault = t.2 }
-told sizes b piece BadDigest fit t never = record { sizes = sizes; fit = fit; at = t.0; fault = t.2 }
-told sizes b piece Missing fit t never = record { sizes = sizes; fit = fit; at = t.0; fault = t.2 }
-told sizes b piece Trailing fit t never = record { sizes = sizes; fit = fit; at = t.0; fault = t.2 }
-told sizes b piece Truncated fit t never = record { sizes = sizes; fit = fit; at = t.0; fault = t.2 }
-told sizes b piece AlreadyFailed fit t never = record { sizes = sizes; fit = fit; at = t.0; fault = t.2 }
+told : (base : ℕ) (sizes b piece : List ℕ) (e : RecvError) → AreFitting (b ++ piece) sizes → TellsNow base sizes b piece e → ¬ (e ≡ DiskFailed) → TellsWhy base (b ++ piece) e
+told base sizes b piece NoMemory fit t never = tt
+told base sizes b piece DiskFailed fit t never = absurd (never refl)
+told base sizes b piece BadMagic fit t never = record { sizes = sizes; fit = fit; at = t.0; fault = t.2 }
+told base sizes b piece BadVersion fit t never = record { sizes = sizes; fit = fit; at = t.0; fault = t.2 }
+told base sizes b piece BadShape fit t never = record { sizes = sizes; fit = fit; at = t.0; fault = t.2 }
+told base sizes b piece ShapeMismatch fit t never = record { sizes = sizes; fit = fit; at = t.0; fault = t.2 }
+told base sizes b piece BadTag fit t never = record { sizes = sizes; fit = fit; at = t.0; fault = t.2 }
+told base sizes b piece BadPage fit t never = record { sizes = sizes; fit = fit; at = t.0; fault = t.2 }
+told base sizes b piece BadSector fit t never = record { sizes = sizes; fit = fit; at = t.0; fault = t.2 }
+told base sizes b piece BadRound fit t never = record { sizes = sizes; fit = fit; at = t.0; fault = t.2 }
+told base sizes b piece BadDevice fit t never = record { sizes = sizes; fit = fit; at = t.0; fault = t.2 }
+told base sizes b piece BadDigest fit t never = record { sizes = sizes; fit = fit; at = t.0; fault = t.2 }
+told base sizes b piece Missing fit t never = record { sizes = sizes; fit = fit; at = t.0; fault = t.2 }
+told base sizes b piece Trailing fit t never = record { sizes = sizes; fit = fit; at = t.0; fault = t.2 }
+told base sizes b piece Truncated fit t never = record { sizes = sizes; fit = fit; at = t.0; fault = t.2 }
+told base sizes b piece AlreadyFailed fit t never = record { sizes = sizes; fit = fit; at = t.0; fault = t.2 }
 
 -- A receiver whose header was read is fed a piece.
 pub more_steady : (r next : Received) → AreSteady r → next.sizes ≡ r.sizes → next.marks ≡ r.marks → AreSteady next
 more_steady r next steady sizes marks = rw (sizes, marks) steady
 
-more_come : (r next : Received) (piece b : List ℕ) → next.sizes ≡ r.sizes → ((b : List ℕ) → HasBeenFed r b → HasBeenFed next (b ++ piece)) → ((b : List ℕ) → HasBeenFed r b → NoFault r.sizes (b ++ piece)) → HasCome (AtBody r) b → GoesOnWith (b ++ piece) (AtBody next)
-more_come r next piece b sizes fed quiet h =
+more_come : (r next : Received) (piece b : List ℕ) → next.base ≡ r.base → next.sizes ≡ r.sizes → ((b : List ℕ) → HasBeenFed r b → HasBeenFed next (b ++ piece)) → ((b : List ℕ) → HasBeenFed r b → NoFault r.base r.sizes (b ++ piece)) → HasCome (AtBody r) b → GoesOnWith (b ++ piece) (AtBody next)
+more_come r next piece b base sizes fed quiet h =
     let header : HasHeader (b ++ piece) next.sizes = rw sizes (longer b piece r.sizes h.1) in
-    record { come = (fed b h.0, header); fit = inl header; quiet = rw sizes (quiet b h.0) }
+    record { come = (fed b h.0, header); fit = inl header; quiet = rw (base, sizes) (quiet b h.0) }
 
-pub more_fed : (r next : Received) (piece : List ℕ) → next.sizes ≡ r.sizes → ((b : List ℕ) → HasBeenFed r b → HasBeenFed next (b ++ piece)) → ((b : List ℕ) → HasBeenFed r b → NoFault r.sizes (b ++ piece)) → IsFed (AtBody r) piece (AtBody next)
-more_fed r next piece sizes fed quiet = record { went_on = tt; goes_on = λ b h. more_come r next piece b sizes fed quiet h; place = tt }
+pub more_fed : (r next : Received) (piece : List ℕ) → next.base ≡ r.base → next.sizes ≡ r.sizes → ((b : List ℕ) → HasBeenFed r b → HasBeenFed next (b ++ piece)) → ((b : List ℕ) → HasBeenFed r b → NoFault r.base r.sizes (b ++ piece)) → IsFed (AtBody r) piece (AtBody next)
+more_fed r next piece base sizes fed quiet = record { went_on = tt; goes_on = λ b h. more_come r next piece b base sizes fed quiet h; base = base; place = tt }
 
-pub more_refused : (r : Received) (new : List Marks) (piece : List ℕ) (e : RecvError) → AreSteady r → MarksRefused r.marks e new → ((b : List ℕ) → HasBeenFed r b → TellsNow r.sizes b piece e) → TellsOf (AtBody r) piece e
-more_refused r new piece e steady marks tells = λ b h. told r.sizes b piece e (inl (longer b piece r.sizes h.1)) (tells b h.0) (never_failed r new e steady marks)
+pub more_refused : (r : Received) (new : List Marks) (piece : List ℕ) (e : RecvError) → AreSteady r → MarksRefused r.marks e new → ((b : List ℕ) → HasBeenFed r b → TellsNow r.base r.sizes b piece e) → TellsOf (AtBody r) piece e
+more_refused r new piece e steady marks tells = λ b h. told r.base r.sizes b piece e (inl (longer b piece r.sizes h.1)) (tells b h.0) (never_failed r new e steady marks)
 
 -- The rest of a piece that completed the header.
 pub cut_piece : (held all piece front rest : List ℕ) (few : ℕ) → all ≡ held ++ front → front ≡ take few piece → rest ≡ drop few piece → all ++ rest ≡ held ++ piece
@@ -98,27 +99,33 @@ pub rest_taken : (result : Result Progress RecvError) (r : Received) (front rest
 rest_taken (Ok next) r front rest bytes begun all h = subst (λ (b : List ℕ). GoesOnWith b (awaited_by next)) all (h.goes_on front begun.come)
 rest_taken (Err e) r front rest bytes begun all h = tt
 
-pub rest_refused : (result : Result Progress RecvError) (r : Received) (front rest bytes : List ℕ) → GoesOnWith front (AtBody r) → front ++ rest ≡ bytes → IfErr result (λ e. TellsOf (AtBody r) rest e) → IfErr result (λ e. TellsWhy bytes e)
-rest_refused (Ok next) r front rest bytes begun all h = tt
-rest_refused (Err e) r front rest bytes begun all h = subst (λ (b : List ℕ). TellsWhy b e) all (h front begun.come)
+pub rest_refused : (result : Result Progress RecvError) (base : ℕ) (r : Received) (front rest bytes : List ℕ) → r.base ≡ base → GoesOnWith front (AtBody r) → front ++ rest ≡ bytes → IfErr result (λ e. TellsOf (AtBody r) rest e) → IfErr result (λ e. TellsWhy base bytes e)
+rest_refused (Ok next) base r front rest bytes is begun all h = tt
+rest_refused (Err e) base r front rest bytes is begun all h = subst (λ (n : ℕ). TellsWhy n bytes e) is (subst (λ (b : List ℕ). TellsWhy r.base b e) all (h front begun.come))
+
+pub rest_based : (result : Result Progress RecvError) (base : ℕ) (r : Received) (rest : List ℕ) → r.base ≡ base → IfOk result (λ next. IsFed (AtBody r) rest (awaited_by next)) → IfOk result (λ next. awaited_base (awaited_by next) ≡ base)
+rest_based (Ok next) base r rest is h = h.base ∙ is
+rest_based (Err e) base r rest is h = tt
 
 -- A new receiver is fed all bytes.
-pub all_fed : (r next : Received) (bytes sizes : List ℕ) → HasBeenFed r [] → r.sizes ≡ sizes → next.sizes ≡ r.sizes → AreSteady r → next.marks ≡ r.marks → ((b : List ℕ) → HasBeenFed r b → HasBeenFed next (b ++ bytes)) → ((b : List ℕ) → HasBeenFed r b → NoFault r.sizes (b ++ bytes)) → IsFedTo sizes bytes next
-all_fed r next bytes sizes first are same steady marks fed quiet = record {
+pub all_fed : (base : ℕ) (r next : Received) (bytes sizes : List ℕ) → HasBeenFed r [] → r.base ≡ base → next.base ≡ r.base → r.sizes ≡ sizes → next.sizes ≡ r.sizes → AreSteady r → next.marks ≡ r.marks → ((b : List ℕ) → HasBeenFed r b → HasBeenFed next (b ++ bytes))
+    → ((b : List ℕ) → HasBeenFed r b → NoFault r.base r.sizes (b ++ bytes)) → IsFedTo base sizes bytes next
+all_fed base r next bytes sizes first based alike are same steady marks fed quiet = record {
   fed = fed [] first;
+  base_is = alike ∙ based;
   sizes_are = same ∙ are;
   steady = rw (same, marks) steady;
-  quiet = rw (← are) (quiet [] first);
+  quiet = rw (← based, ← are) (quiet [] first);
 }
 
-pub all_refused : (r : Received) (new : List Marks) (bytes sizes : List ℕ) (e : RecvError) → HasBeenFed r [] → r.sizes ≡ sizes → AreSteady r → AreFitting bytes sizes → MarksRefused r.marks e new → ((b : List ℕ) → HasBeenFed r b → TellsNow r.sizes b bytes e) → TellsWhy bytes e
-all_refused r new bytes sizes e first are steady fit marks tells = told r.sizes [] bytes e (rw are fit) (tells [] first) (never_failed r new e steady marks)
+pub all_refused : (base : ℕ) (r : Received) (new : List Marks) (bytes sizes : List ℕ) (e : RecvError) → HasBeenFed r [] → r.base ≡ base → r.sizes ≡ sizes → AreSteady r → AreFitting bytes sizes → MarksRefused r.marks e new → ((b : List ℕ) → HasBeenFed r b → TellsNow r.base r.sizes b bytes e) → TellsWhy base bytes e
+all_refused base r new bytes sizes e first based are steady fit marks tells = subst (λ (n : ℕ). TellsWhy n bytes e) based (told r.base r.sizes [] bytes e (rw are fit) (tells [] first) (never_failed r new e steady marks))
 
 -- The header was found, or not.
-pub begun_coming : (r : Received) (bytes : List ℕ) (opening : Opening) (rest : List ℕ) → Begins bytes opening rest → IsFedTo (disk_sizes opening.shapes) bytes r → GoesOnWith bytes (AtBody r)
-begun_coming r bytes opening rest begins h =
+pub begun_coming : (base : ℕ) (r : Received) (bytes : List ℕ) (opening : Opening) (rest : List ℕ) → Begins bytes opening rest → IsFedTo base (disk_sizes opening.shapes) bytes r → GoesOnWith bytes (AtBody r)
+begun_coming base r bytes opening rest begins h =
     let header : HasHeader bytes r.sizes = record { opening = opening; rest = rest; begins = begins; sizes_are = h.sizes_are } in
-    record { come = (h.fed, header); fit = inl header; quiet = rw (h.sizes_are) (h.quiet) }
+    record { come = (h.fed, header); fit = inl header; quiet = rw (h.base_is, h.sizes_are) (h.quiet) }
 
 pub fits_header : (bytes : List ℕ) (opening : Opening) (rest : List ℕ) → Begins bytes opening rest → AreFitting bytes (disk_sizes opening.shapes)
 fits_header bytes opening rest begins = inl (record { opening = opening; rest = rest; begins = begins; sizes_are = refl })
@@ -131,80 +138,81 @@ headless bytes none m s =
     let front : List ℕ = texts s.entries ++ device_texts 0 m.devices in
     none opening _ (record { good = pages_limits s.version m s.by.known s.by.sound; whole = s.by.whole ∙ append_assoc head front _ })
 
-pub head_ends : (held : List ℕ) → HasNoHeader held → TellsEnd (AtHead held) Truncated
-head_ends held none = λ b is m. headless b (subst HasNoHeader (sym is) none) m
+pub head_ends : (base : ℕ) (held : List ℕ) → HasNoHeader held → TellsEnd (AtHead base held) Truncated
+head_ends base held none = λ b is m. headless b (subst HasNoHeader (sym is) none) m
 
 -- The end of a stream whose header was read.
 pub honest_marks : (sizes : List ℕ) → AreHonestDisks (map (λ (n : ℕ). no_marks) sizes)
 honest_marks sizes = All-map (λ (k : Marks). IsTrue k.honest) (λ (n : ℕ). no_marks) sizes (λ k n below. refl)
 
-pub arrived : (r : Received) (m : Seen) → AreSteady r → (AreHonestDisks r.marks → (b : List ℕ) → HasBeenFed r b → IsStream b (state_of m)) → all_marks m ≡ dealt_marks (shapes_in (state_of m).devices) r.marks → HasArrived (AtBody r) m
-arrived r m steady received marks =
+pub arrived : (r : Received) (m : Seen) → AreSteady r → (AreHonestDisks r.marks → (b : List ℕ) → HasBeenFed r b → IsStream b (state_of m)) → all_marks m ≡ dealt_marks (shapes_in (state_of m).devices) r.marks → base_of (state_of m).devices ≡ r.base → HasArrived (AtBody r) m
+arrived r m steady received marks based =
     let shapes = shapes_in (state_of m).devices in
     let over : all_marks m ≡ dealt_marks shapes (map (λ (n : ℕ). no_marks) r.sizes) = marks ∙ ap (λ (l : List Marks). dealt_marks shapes l) steady in
     record {
       went_on = tt;
       stream = λ b h. received (rw steady (honest_marks r.sizes)) b h.0;
+      base = based;
       place = tt;
       plain = as_many no_marks (λ (d : DeviceSeen). d.marks) m.devices shapes (over ∙ alike shapes r.sizes);
     }
 
 pub arrived_if : (r : Received) (result : Result Seen RecvError) → AreSteady r → IfOk result (λ m. AreHonestDisks r.marks → (b : List ℕ) → HasBeenFed r b → IsStream b (state_of m))
-    → IfOk result (λ m. all_marks m ≡ dealt_marks (shapes_in (state_of m).devices) r.marks) → IfOk result (λ m. HasArrived (AtBody r) m)
-arrived_if r (Ok m) steady received marks = arrived r m steady received marks
-arrived_if r (Err e) steady received marks = tt
+    → IfOk result (λ m. all_marks m ≡ dealt_marks (shapes_in (state_of m).devices) r.marks) → IfOk result (λ m. base_of (state_of m).devices ≡ r.base) → IfOk result (λ m. HasArrived (AtBody r) m)
+arrived_if r (Ok m) steady received marks based = arrived r m steady received marks based
+arrived_if r (Err e) steady received marks based = tt
 
 pub not_arrived_if : (r : Received) (result : Result Seen RecvError) → IfErr result (λ e. (b : List ℕ) → HasBeenFed r b → IsFinish b e) → IfErr result (λ e. TellsEnd (AtBody r) e × IsClosed (AtBody r) Refused)
 not_arrived_if r (Ok m) why = tt
 not_arrived_if r (Err e) why = (λ b h. why b h.0, refl)
 
 -- Rounds.
-pub body_counts : (r : Received) (n : ℕ) → ((b : List ℕ) → HasBeenFed r b → HasRounds r.sizes b n) → CountsRounds (AtBody r) n
+pub body_counts : (r : Received) (n : ℕ) → ((b : List ℕ) → HasBeenFed r b → HasRounds r.base r.sizes b n) → CountsRounds (AtBody r) n
 body_counts r n rounds = λ b h. rounds b h.0
 
-pub head_counts : (held : List ℕ) → HasNoHeader held → CountsRounds (AtHead held) 0
-head_counts held none = λ b is. record { none = λ _. refl; some = λ opening before tail front last. absurd (subst HasNoHeader (sym is) none opening _ front.begins) }
+pub head_counts : (base : ℕ) (held : List ℕ) → HasNoHeader held → CountsRounds (AtHead base held) 0
+head_counts base held none = λ b is. record { none = λ _. refl; some = λ opening before tail front last. absurd (subst HasNoHeader (sym is) none (said_by opening) _ front.begins) }
 
 -- A header that is not whole.
-pub head_goes_on : (held : List ℕ) (r : Received) → HasNoHeader held → IsFedTo [] held r → GoesOnWith held (AtHead held)
-head_goes_on held r none h = record { come = refl; fit = inr none; quiet = h.quiet }
+pub head_goes_on : (base : ℕ) (held : List ℕ) (r : Received) → HasNoHeader held → IsFedTo base [] held r → GoesOnWith held (AtHead base held)
+head_goes_on base held r none h = record { come = refl; fit = inr none; quiet = h.quiet }
 
-pub head_fed : (held piece : List ℕ) (next : ArrivalSeen) → GoesOnWith (held ++ piece) next → IsFed (AtHead held) piece next
-head_fed held piece next h = record { went_on = tt; goes_on = λ b is. subst (λ (x : List ℕ). GoesOnWith (x ++ piece) next) (sym is) h; place = tt }
+pub head_fed : (base : ℕ) (held piece : List ℕ) (next : ArrivalSeen) → awaited_base next ≡ base → GoesOnWith (held ++ piece) next → IsFed (AtHead base held) piece next
+head_fed base held piece next based h = record { went_on = tt; goes_on = λ b is. subst (λ (x : List ℕ). GoesOnWith (x ++ piece) next) (sym is) h; base = based; place = tt }
 
-pub head_refused : (held piece : List ℕ) (e : RecvError) → TellsWhy (held ++ piece) e → TellsOf (AtHead held) piece e
-head_refused held piece e h = λ b is. subst (λ (x : List ℕ). TellsWhy (x ++ piece) e) (sym is) h
+pub head_refused : (base : ℕ) (held piece : List ℕ) (e : RecvError) → TellsWhy base (held ++ piece) e → TellsOf (AtHead base held) piece e
+head_refused base held piece e h = λ b is. subst (λ (x : List ℕ). TellsWhy base (x ++ piece) e) (sym is) h
 
 pub empty_head : (opening : Opening) (rest : List ℕ) → ¬ (Begins [] opening rest)
 empty_head opening rest begins = omega (arith, ap (λ (l : List ℕ). length l) begins.whole, length-append (header opening) rest, length_header opening)
 
 -- A fault in bytes that begin with a header is one of all longer bytes.
-faulty_longer : (bytes rest sizes : List ℕ) (e : RecvError) → HasHeader bytes sizes → IsFaulty bytes e → IsFaulty (bytes ++ rest) e
-faulty_longer bytes rest sizes e header f = elim f.fit as (λ _. IsFaulty (bytes ++ rest) e) [
-  | inl h ↦ record { sizes = f.sizes; fit = inl (longer bytes rest f.sizes h); at = f.at; fault = stays f.sizes bytes rest e f.at f.fault }
+faulty_longer : (base : ℕ) (bytes rest sizes : List ℕ) (e : RecvError) → HasHeader bytes sizes → IsFaulty base bytes e → IsFaulty base (bytes ++ rest) e
+faulty_longer base bytes rest sizes e header f = elim f.fit as (λ _. IsFaulty base (bytes ++ rest) e) [
+  | inl h ↦ record { sizes = f.sizes; fit = inl (longer bytes rest f.sizes h); at = f.at; fault = stays base f.sizes bytes rest e f.at f.fault }
   | inr none ↦ absurd (none header.opening header.rest header.begins)
 ]
 
-pub told_longer : (bytes rest sizes : List ℕ) (e : RecvError) → HasHeader bytes sizes → TellsWhy bytes e → TellsWhy (bytes ++ rest) e
-told_longer bytes rest sizes NoMemory header t = tt
-told_longer bytes rest sizes BadMagic header t = faulty_longer bytes rest sizes BadMagic header t
-told_longer bytes rest sizes BadVersion header t = faulty_longer bytes rest sizes BadVersion header t
-told_longer bytes rest sizes BadShape header t = faulty_longer bytes rest sizes BadShape header t
-told_longer bytes rest sizes ShapeMismatch header t = faulty_longer bytes rest sizes ShapeMismatch header t
-told_longer bytes rest sizes BadTag header t = faulty_longer bytes rest sizes BadTag header t
-told_longer bytes rest sizes BadPage header t = faulty_longer bytes rest sizes BadPage header t
-told_longer bytes rest sizes BadSector header t = faulty_longer bytes rest sizes BadSector header t
-told_longer bytes rest sizes BadRound header t = faulty_longer bytes rest sizes BadRound header t
-told_longer bytes rest sizes BadDevice header t = faulty_longer bytes rest sizes BadDevice header t
-told_longer bytes rest sizes BadDigest header t = faulty_longer bytes rest sizes BadDigest header t
-told_longer bytes rest sizes Missing header t = faulty_longer bytes rest sizes Missing header t
-told_longer bytes rest sizes Trailing header t = faulty_longer bytes rest sizes Trailing header t
-told_longer bytes rest sizes Truncated header t = faulty_longer bytes rest sizes Truncated header t
-told_longer bytes rest sizes DiskFailed header t = faulty_longer bytes rest sizes DiskFailed header t
-told_longer bytes rest sizes AlreadyFailed header t = faulty_longer bytes rest sizes AlreadyFailed header t
+pub told_longer : (base : ℕ) (bytes rest sizes : List ℕ) (e : RecvError) → HasHeader bytes sizes → TellsWhy base bytes e → TellsWhy base (bytes ++ rest) e
+told_longer base bytes rest sizes NoMemory header t = tt
+told_longer base bytes rest sizes BadMagic header t = faulty_longer base bytes rest sizes BadMagic header t
+told_longer base bytes rest sizes BadVersion header t = faulty_longer base bytes rest sizes BadVersion header t
+told_longer base bytes rest sizes BadShape header t = faulty_longer base bytes rest sizes BadShape header t
+told_longer base bytes rest sizes ShapeMismatch header t = faulty_longer base bytes rest sizes ShapeMismatch header t
+told_longer base bytes rest sizes BadTag header t = faulty_longer base bytes rest sizes BadTag header t
+told_longer base bytes rest sizes BadPage header t = faulty_longer base bytes rest sizes BadPage header t
+told_longer base bytes rest sizes BadSector header t = faulty_longer base bytes rest sizes BadSector header t
+told_longer base bytes rest sizes BadRound header t = faulty_longer base bytes rest sizes BadRound header t
+told_longer base bytes rest sizes BadDevice header t = faulty_longer base bytes rest sizes BadDevice header t
+told_longer base bytes rest sizes BadDigest header t = faulty_longer base bytes rest sizes BadDigest header t
+told_longer base bytes rest sizes Missing header t = faulty_longer base bytes rest sizes Missing header t
+told_longer base bytes rest sizes Trailing header t = faulty_longer base bytes rest sizes Trailing header t
+told_longer base bytes rest sizes Truncated header t = faulty_longer base bytes rest sizes Truncated header t
+told_longer base bytes rest sizes DiskFailed header t = faulty_longer base bytes rest sizes DiskFailed header t
+told_longer base bytes rest sizes AlreadyFailed header t = faulty_longer base bytes rest sizes AlreadyFailed header t
 
-pub told_of_all : (bytes : List ℕ) (e : RecvError) → ((rest : List ℕ) → TellsWhy (bytes ++ rest) e) → TellsWhy bytes e
-told_of_all bytes e t = rw append-nil at (t [])
+pub told_of_all : (base : ℕ) (bytes : List ℕ) (e : RecvError) → ((rest : List ℕ) → TellsWhy base (bytes ++ rest) e) → TellsWhy base bytes e
+told_of_all base bytes e t = rw append-nil at (t [])
 
 -- A fault in bytes that begin with no header is one of all longer bytes.
 other_sizes : (sizes others bytes : List ℕ) (e : RecvError) (at : ℕ) → HasNoHeader bytes → IsHeaderFault sizes bytes e at → IsHeaderFault others bytes e at
@@ -225,34 +233,34 @@ other_sizes sizes others bytes DiskFailed at none h = absurd h
 other_sizes sizes others bytes NoMemory at none h = absurd h
 other_sizes sizes others bytes AlreadyFailed at none h = absurd h
 
-in_header : (sizes others bytes : List ℕ) (e : RecvError) (at : ℕ) → HasNoHeader bytes → Fault sizes bytes e at → IsHeaderFault others bytes e at
-in_header sizes others bytes e at none (inl h) = other_sizes sizes others bytes e at none h
-in_header sizes others bytes e at none (inr h) = absurd (none h.opening _ h.front.begins)
+in_header : (base : ℕ) (sizes others bytes : List ℕ) (e : RecvError) (at : ℕ) → HasNoHeader bytes → Fault base sizes bytes e at → IsHeaderFault others bytes e at
+in_header base sizes others bytes e at none (inl h) = other_sizes sizes others bytes e at none h
+in_header base sizes others bytes e at none (inr h) = absurd (none (said_by h.opening) _ h.front.begins)
 
-still_headless : (sizes bytes rest : List ℕ) (e : RecvError) (at : ℕ) → HasNoHeader bytes → Fault sizes bytes e at → HasNoHeader (bytes ++ rest)
-still_headless sizes bytes rest e at none f opening more begins =
-    no_header_fault (disk_sizes opening.shapes) (bytes ++ rest) opening more begins refl e at (header_stays (disk_sizes opening.shapes) bytes rest e at (in_header sizes (disk_sizes opening.shapes) bytes e at none f))
+still_headless : (base : ℕ) (sizes bytes rest : List ℕ) (e : RecvError) (at : ℕ) → HasNoHeader bytes → Fault base sizes bytes e at → HasNoHeader (bytes ++ rest)
+still_headless base sizes bytes rest e at none f opening more begins =
+    no_header_fault (disk_sizes opening.shapes) (bytes ++ rest) opening more begins refl e at (header_stays (disk_sizes opening.shapes) bytes rest e at (in_header base sizes (disk_sizes opening.shapes) bytes e at none f))
 
-faulty_headless : (bytes rest : List ℕ) (e : RecvError) → HasNoHeader bytes → IsFaulty bytes e → IsFaulty (bytes ++ rest) e
-faulty_headless bytes rest e none f = record { sizes = f.sizes; fit = inr (still_headless f.sizes bytes rest e f.at none f.fault); at = f.at; fault = stays f.sizes bytes rest e f.at f.fault }
+faulty_headless : (base : ℕ) (bytes rest : List ℕ) (e : RecvError) → HasNoHeader bytes → IsFaulty base bytes e → IsFaulty base (bytes ++ rest) e
+faulty_headless base bytes rest e none f = record { sizes = f.sizes; fit = inr (still_headless base f.sizes bytes rest e f.at none f.fault); at = f.at; fault = stays base f.sizes bytes rest e f.at f.fault }
 
-pub told_headless : (bytes rest : List ℕ) (e : RecvError) → HasNoHeader bytes → TellsWhy bytes e → TellsWhy (bytes ++ rest) e
-told_headless bytes rest BadMagic none t = faulty_headless bytes rest BadMagic none t
-told_headless bytes rest BadVersion none t = faulty_headless bytes rest BadVersion none t
-told_headless bytes rest BadShape none t = faulty_headless bytes rest BadShape none t
-told_headless bytes rest ShapeMismatch none t = faulty_headless bytes rest ShapeMismatch none t
-told_headless bytes rest BadTag none t = faulty_headless bytes rest BadTag none t
-told_headless bytes rest BadPage none t = faulty_headless bytes rest BadPage none t
-told_headless bytes rest BadSector none t = faulty_headless bytes rest BadSector none t
-told_headless bytes rest BadRound none t = faulty_headless bytes rest BadRound none t
-told_headless bytes rest BadDevice none t = faulty_headless bytes rest BadDevice none t
-told_headless bytes rest BadDigest none t = faulty_headless bytes rest BadDigest none t
-told_headless bytes rest Missing none t = faulty_headless bytes rest Missing none t
-told_headless bytes rest Trailing none t = faulty_headless bytes rest Trailing none t
-told_headless bytes rest Truncated none t = faulty_headless bytes rest Truncated none t
-told_headless bytes rest DiskFailed none t = faulty_headless bytes rest DiskFailed none t
-told_headless bytes rest NoMemory none t = tt
-told_headless bytes rest AlreadyFailed none t = faulty_headless bytes rest AlreadyFailed none t
+pub told_headless : (base : ℕ) (bytes rest : List ℕ) (e : RecvError) → HasNoHeader bytes → TellsWhy base bytes e → TellsWhy base (bytes ++ rest) e
+told_headless base bytes rest BadMagic none t = faulty_headless base bytes rest BadMagic none t
+told_headless base bytes rest BadVersion none t = faulty_headless base bytes rest BadVersion none t
+told_headless base bytes rest BadShape none t = faulty_headless base bytes rest BadShape none t
+told_headless base bytes rest ShapeMismatch none t = faulty_headless base bytes rest ShapeMismatch none t
+told_headless base bytes rest BadTag none t = faulty_headless base bytes rest BadTag none t
+told_headless base bytes rest BadPage none t = faulty_headless base bytes rest BadPage none t
+told_headless base bytes rest BadSector none t = faulty_headless base bytes rest BadSector none t
+told_headless base bytes rest BadRound none t = faulty_headless base bytes rest BadRound none t
+told_headless base bytes rest BadDevice none t = faulty_headless base bytes rest BadDevice none t
+told_headless base bytes rest BadDigest none t = faulty_headless base bytes rest BadDigest none t
+told_headless base bytes rest Missing none t = faulty_headless base bytes rest Missing none t
+told_headless base bytes rest Trailing none t = faulty_headless base bytes rest Trailing none t
+told_headless base bytes rest Truncated none t = faulty_headless base bytes rest Truncated none t
+told_headless base bytes rest DiskFailed none t = faulty_headless base bytes rest DiskFailed none t
+told_headless base bytes rest NoMemory none t = tt
+told_headless base bytes rest AlreadyFailed none t = faulty_headless base bytes rest AlreadyFailed none t
 
 -- A result has one error.
 pub one_error : {A E : Type 0} (r : Result A E) (x y : E) → r ≡ Err x → r ≡ Err y → x ≡ y

@@ -42,22 +42,22 @@ pub stepped_some : (k after : Option KeptSeen) (m next : KeptSeen) (dev pick sta
 stepped_some k after m next dev pick status number n buf new_buf is becomes kind steps =
     subst (λ (o : Option KeptSeen). Stepped o dev pick status number n buf new_buf after) is (record { next = next.state; is_next = becomes ∙ ap Some kind; steps = steps })
 
-pub make_used : (k after : Option KeptSeen) (pages : ℕ) (shapes : List DeviceShape) → is_some k ≡ true → after ≡ k → Makes k pages shapes 9 after
-make_used None after pages shapes is same = absurd (true≢false (sym is))
-make_used (Some m) after pages shapes is same = (refl, same)
+pub make_used : (base : ℕ) (k after : Option KeptSeen) (pages : ℕ) (shapes : List DeviceShape) → is_some k ≡ true → after ≡ k → Makes base k pages shapes 9 after
+make_used base None after pages shapes is same = absurd (true≢false (sym is))
+make_used base (Some m) after pages shapes is same = (refl, same)
 
-pub make_beyond : (k after : Option KeptSeen) (pages : ℕ) (shapes : List DeviceShape) → is_some k ≡ false → are_beyond_limits pages shapes ≡ true → after ≡ k → Makes k pages shapes 12 after
-make_beyond None after pages shapes is beyond same = rw beyond (refl, same)
-make_beyond (Some m) after pages shapes is beyond same = absurd (true≢false is)
+pub make_beyond : (base : ℕ) (k after : Option KeptSeen) (pages : ℕ) (shapes : List DeviceShape) → is_some k ≡ false → are_beyond_limits pages shapes ≡ true → after ≡ k → Makes base k pages shapes 12 after
+make_beyond base None after pages shapes is beyond same = rw beyond (refl, same)
+make_beyond base (Some m) after pages shapes is beyond same = absurd (true≢false is)
 
-pub make_full : (k after : Option KeptSeen) (pages : ℕ) (shapes : List DeviceShape) → is_some k ≡ false → are_beyond_limits pages shapes ≡ false → after ≡ k → Makes k pages shapes 10 after
-make_full None after pages shapes is within same = rw within (inr (record { status_is = refl; same = same }))
-make_full (Some m) after pages shapes is within same = absurd (true≢false is)
+pub make_full : (base : ℕ) (k after : Option KeptSeen) (pages : ℕ) (shapes : List DeviceShape) → is_some k ≡ false → are_beyond_limits pages shapes ≡ false → after ≡ k → Makes base k pages shapes 10 after
+make_full base None after pages shapes is within same = rw within (inr (record { status_is = refl; same = same }))
+make_full base (Some m) after pages shapes is within same = absurd (true≢false is)
 
-pub make_done : (k after : Option KeptSeen) (m : KeptSeen) (pages : ℕ) (shapes : List DeviceShape) → is_some k ≡ false → are_beyond_limits pages shapes ≡ false
-    → after ≡ Some m → KeepsMade pages (shapes_of shapes) m → Makes k pages shapes 0 after
-make_done None after m pages shapes is within becomes made = rw within (inl (record { kept = m; is_there = becomes; is_made = made; status_is = refl }))
-make_done (Some old) after m pages shapes is within becomes made = absurd (true≢false is)
+pub make_done : (base : ℕ) (k after : Option KeptSeen) (m : KeptSeen) (pages : ℕ) (shapes : List DeviceShape) → is_some k ≡ false → are_beyond_limits pages shapes ≡ false
+    → after ≡ Some m → KeepsMade base pages (shapes_of shapes) m → Makes base k pages shapes 0 after
+make_done base None after m pages shapes is within becomes made = rw within (inl (record { kept = m; is_there = becomes; is_made = made; status_is = refl }))
+make_done base (Some old) after m pages shapes is within becomes made = absurd (true≢false is)
 
 pub saved_none : (k after : Option KeptSeen) (n : ℕ) (buf : List ℕ) → is_some k ≡ false → after ≡ k → Saved k 8 n n buf buf after
 saved_none None after n buf is same = (refl, refl, refl, same)

@@ -10,7 +10,7 @@ use Rattle.blk.specs.Sectors.{Sector}
 use Rattle.machine.proofs.Numbering.{has_item}
 use Rattle.machine.specs.Applied.{ReadsSector}
 use Rattle.machine.specs.EffectLaws.{HasItem, sector_on, sectors_on}
-use Rattle.machine.specs.First.{dealt_marks, first_machine}
+use Rattle.machine.specs.First.{dealt_marks, first_machine_at}
 use Rattle.machine.specs.Seen.{DeviceSeen, Marks, Seen, all_marks, marks_at, no_marks, state_of}
 use Rattle.machine.specs.Shapes.{disk_size_of, disk_sizes, or_zero, sector_count, made_as}
 use Rattle.machine.specs.Sound.{IsSound}
@@ -26,28 +26,28 @@ use Rattle.vmig_c.proofs.Plain.{as_many, plain_at}
 use Rattle.vmig_c.proofs.Streams.{same_seen}
 use Rattle.vmig_c.proofs.Zeros.{alike}
 
-pub with_used : (k after : Option KeptSeen) (pages : ℕ) (shapes : List DeviceShape) (images : List ℕ) → is_some k ≡ true → after ≡ k → MakesWith k pages shapes images 9 after
-with_used None after pages shapes images is same = absurd (true≢false (sym is))
-with_used (Some m) after pages shapes images is same = (refl, same)
+pub with_used : (base : ℕ) (k after : Option KeptSeen) (pages : ℕ) (shapes : List DeviceShape) (images : List ℕ) → is_some k ≡ true → after ≡ k → MakesWith base k pages shapes images 9 after
+with_used base None after pages shapes images is same = absurd (true≢false (sym is))
+with_used base (Some m) after pages shapes images is same = (refl, same)
 
-pub with_beyond : (k after : Option KeptSeen) (pages : ℕ) (shapes : List DeviceShape) (images : List ℕ) → is_some k ≡ false → are_beyond_limits pages shapes ≡ true → after ≡ k → MakesWith k pages shapes images 12 after
-with_beyond None after pages shapes images is beyond same = rw beyond (refl, same)
-with_beyond (Some m) after pages shapes images is beyond same = absurd (true≢false is)
+pub with_beyond : (base : ℕ) (k after : Option KeptSeen) (pages : ℕ) (shapes : List DeviceShape) (images : List ℕ) → is_some k ≡ false → are_beyond_limits pages shapes ≡ true → after ≡ k → MakesWith base k pages shapes images 12 after
+with_beyond base None after pages shapes images is beyond same = rw beyond (refl, same)
+with_beyond base (Some m) after pages shapes images is beyond same = absurd (true≢false is)
 
-pub with_others : (k after : Option KeptSeen) (pages : ℕ) (shapes : List DeviceShape) (images : List ℕ) → is_some k ≡ false → are_beyond_limits pages shapes ≡ false
-    → (length images == image_size (shapes_of shapes)) ≡ false → after ≡ k → MakesWith k pages shapes images 15 after
-with_others None after pages shapes images is within other same = rw (within, other) (refl, same)
-with_others (Some m) after pages shapes images is within other same = absurd (true≢false is)
+pub with_others : (base : ℕ) (k after : Option KeptSeen) (pages : ℕ) (shapes : List DeviceShape) (images : List ℕ) → is_some k ≡ false → are_beyond_limits pages shapes ≡ false
+    → (length images == image_size (shapes_of shapes)) ≡ false → after ≡ k → MakesWith base k pages shapes images 15 after
+with_others base None after pages shapes images is within other same = rw (within, other) (refl, same)
+with_others base (Some m) after pages shapes images is within other same = absurd (true≢false is)
 
-pub with_full : (k after : Option KeptSeen) (pages : ℕ) (shapes : List DeviceShape) (images : List ℕ) → is_some k ≡ false → are_beyond_limits pages shapes ≡ false
-    → (length images == image_size (shapes_of shapes)) ≡ true → after ≡ k → MakesWith k pages shapes images 10 after
-with_full None after pages shapes images is within fits same = rw (within, fits) (inr (record { status_is = refl; same = same }))
-with_full (Some m) after pages shapes images is within fits same = absurd (true≢false is)
+pub with_full : (base : ℕ) (k after : Option KeptSeen) (pages : ℕ) (shapes : List DeviceShape) (images : List ℕ) → is_some k ≡ false → are_beyond_limits pages shapes ≡ false
+    → (length images == image_size (shapes_of shapes)) ≡ true → after ≡ k → MakesWith base k pages shapes images 10 after
+with_full base None after pages shapes images is within fits same = rw (within, fits) (inr (record { status_is = refl; same = same }))
+with_full base (Some m) after pages shapes images is within fits same = absurd (true≢false is)
 
-pub with_done : (k after : Option KeptSeen) (m : KeptSeen) (pages : ℕ) (shapes : List DeviceShape) (images : List ℕ) → is_some k ≡ false → are_beyond_limits pages shapes ≡ false
-    → (length images == image_size (shapes_of shapes)) ≡ true → after ≡ Some m → KeepsMadeWith pages (shapes_of shapes) images m → MakesWith k pages shapes images 0 after
-with_done None after m pages shapes images is within fits becomes made = rw (within, fits) (inl (record { kept = m; is_there = becomes; is_made = made; status_is = refl }))
-with_done (Some old) after m pages shapes images is within fits becomes made = absurd (true≢false is)
+pub with_done : (base : ℕ) (k after : Option KeptSeen) (m : KeptSeen) (pages : ℕ) (shapes : List DeviceShape) (images : List ℕ) → is_some k ≡ false → are_beyond_limits pages shapes ≡ false
+    → (length images == image_size (shapes_of shapes)) ≡ true → after ≡ Some m → KeepsMadeWith base pages (shapes_of shapes) images m → MakesWith base k pages shapes images 0 after
+with_done base None after m pages shapes images is within fits becomes made = rw (within, fits) (inl (record { kept = m; is_there = becomes; is_made = made; status_is = refl }))
+with_done base (Some old) after m pages shapes images is within fits becomes made = absurd (true≢false is)
 
 pub sector_none : (k after : Option KeptSeen) (dev n : ℕ) (buf : List ℕ) → is_some k ≡ false → after ≡ k → SectorRead k dev n 8 buf buf after
 sector_none None after dev n buf is same = record { status_is = refl; buf_same = refl; same = same }
@@ -114,10 +114,10 @@ sector_more disk next image n sectors size below so_far is =
     ∙ ap (λ (i : ℕ). take i image) (sym end)
 
 -- The first machine over disks that hold the images.
-pub made_with : (pages : ℕ) (shapes : List Shape) (images : List ℕ) (disks : List (List (List ℕ))) (m : Seen) → AreImages images (disk_sizes shapes) disks
-    → state_of m ≡ first_machine pages shapes (map (λ (d : List (List ℕ)). map Some d) disks)
-    → all_marks m ≡ dealt_marks shapes (map (λ (d : List (List ℕ)). no_marks) disks) → IsSound (state_of m) → IsMadeWith pages shapes images m
-made_with pages shapes images disks m are first marks sound = record {
+pub made_with : (base : ℕ) (pages : ℕ) (shapes : List Shape) (images : List ℕ) (disks : List (List (List ℕ))) (m : Seen) → AreImages images (disk_sizes shapes) disks
+    → state_of m ≡ first_machine_at base pages shapes (map (λ (d : List (List ℕ)). map Some d) disks)
+    → all_marks m ≡ dealt_marks shapes (map (λ (d : List (List ℕ)). no_marks) disks) → IsSound (state_of m) → IsMadeWith base pages shapes images m
+made_with base pages shapes images disks m are first marks sound = record {
   disks = disks;
   are = are;
   first = first;

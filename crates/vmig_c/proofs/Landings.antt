@@ -8,6 +8,7 @@ use Rattle.std.proofs.lemmas.List.Elements.{All-drop, All-map, All-take}
 use Rattle.blk.specs.Disk.{DiskState}
 use Rattle.machine.specs.Seen.{Marks, Seen, all_marks, no_marks, state_of}
 use Rattle.machine.specs.First.{dealt_marks}
+use Rattle.machine.specs.State.{base_of}
 use Rattle.wire.specs.Stream.{IsStream, shapes_in}
 use Rattle.receiver.specs.Disks.{AreHonestDisks, MarksAfter, MarksRefused, disk_marks_of, sizes_of}
 use Rattle.receiver.specs.Receiving.{HasBeenFed, IsGivenUp, NoFault, Received, TellsNow}
@@ -38,24 +39,25 @@ sectors_are (i ∷ disks) = ap (λ (l : List (List (List ℕ))). i.content ∷ l
 pub first_steady : (r : Received) (disks : List Image) → r.sizes ≡ sizes_of image_state disks → r.marks ≡ disk_marks_of image_state disks → AreSteady r
 first_steady r disks sizes marks = rw (sizes, marks) (image_marks disks)
 
-pub first_awaited : (r : Received) (disks : List Image) (place : Option Ptr) → HasBeenFed r [] → r.sizes ≡ sizes_of image_state disks → r.disks ≡ map image_state disks → r.place ≡ place
-    → IsAwaitedAt place (contents disks) (Over r)
-first_awaited r disks place fed sizes are there =
-    record { fed = fed; sizes_are = sizes ∙ image_sizes disks; disks_are = ap (map (λ (d : DiskState). d.sectors)) are ∙ sectors_are disks; place_is = there }
+pub first_awaited : (base : ℕ) (r : Received) (disks : List Image) (place : Option Ptr) → HasBeenFed r [] → r.base ≡ base → r.sizes ≡ sizes_of image_state disks → r.disks ≡ map image_state disks → r.place ≡ place
+    → IsAwaitedAt base place (contents disks) (Over r)
+first_awaited base r disks place fed based sizes are there =
+    record { fed = fed; base_is = based; sizes_are = sizes ∙ image_sizes disks; disks_are = ap (map (λ (d : DiskState). d.sectors)) are ∙ sectors_are disks; place_is = there }
 
 -- A receiver over images is fed a piece.
 not_true : (b : Bool) → ¬ (b ≡ true) → b ≡ false
 not_true true not = absurd (not refl)
 not_true false not = refl
 
-pub fed_over : (r next : Received) (piece : List ℕ) → ¬ (r.failed ≡ true) → next.sizes ≡ r.sizes → ((b : List ℕ) → HasBeenFed r b → HasBeenFed next (b ++ piece)) → ((b : List ℕ) → HasBeenFed r b → NoFault r.sizes (b ++ piece)) → next.place ≡ r.place → IsFed (Over r) piece (Over next)
-fed_over r next piece fine sizes fed quiet place = record {
+pub fed_over : (r next : Received) (piece : List ℕ) → ¬ (r.failed ≡ true) → next.base ≡ r.base → next.sizes ≡ r.sizes → ((b : List ℕ) → HasBeenFed r b → HasBeenFed next (b ++ piece)) → ((b : List ℕ) → HasBeenFed r b → NoFault r.base r.sizes (b ++ piece)) → next.place ≡ r.place → IsFed (Over r) piece (Over next)
+fed_over r next piece fine base sizes fed quiet place = record {
   went_on = not_true r.failed fine;
-  goes_on = λ b h. record { come = fed b h; fit = tt; quiet = rw sizes (quiet b h) };
+  goes_on = λ b h. record { come = fed b h; fit = tt; quiet = rw (base, sizes) (quiet b h) };
+  base = base;
   place = place;
 }
 
-pub told_over : (r next : Received) (piece : List ℕ) (e : RecvError) → AreSteady r → next.sizes ≡ r.sizes → next.failed ≡ true → MarksRefused r.marks e next.marks → (r.failed ≡ true → e ≡ AlreadyFailed) → ((b : List ℕ) → HasBeenFed r b → TellsNow r.sizes b piece e)
+pub told_over : (r next : Received) (piece : List ℕ) (e : RecvError) → AreSteady r → next.sizes ≡ r.sizes → next.failed ≡ true → MarksRefused r.marks e next.marks → (r.failed ≡ true → e ≡ AlreadyFailed) → ((b : List ℕ) → HasBeenFed r b → TellsNow r.base r.sizes b piece e)
     → TellsOf (Over r) piece e × IsClosed (Over r) (Over next)
 told_over r next piece e steady sizes failed marks already tells = (record { already = already; why = tells; steady = never_failed r next.marks e steady marks }, (failed, sizes))
 
@@ -89,20 +91,20 @@ steady_after r next (Err e) steady sizes marks = refused_steady r next e steady 
 not_ok : {A : Type 0} (x : A) (e : RecvError) → ¬ (◌≡◌ {A = Result A RecvError} (Ok x) (Err e))
 not_ok x e is = cc
 
-pub fed_if : {A : Type 0} (r next : Received) (piece : List ℕ) (result : Result A RecvError) → (r.failed ≡ true → result ≡ Err AlreadyFailed) → next.sizes ≡ r.sizes → OnOk result ((b : List ℕ) → HasBeenFed r b → HasBeenFed next (b ++ piece))
-    → OnOk result ((b : List ℕ) → HasBeenFed r b → NoFault r.sizes (b ++ piece)) → next.place ≡ r.place → IfOk result (λ x. IsFed (Over r) piece (Over next))
-fed_if r next piece (Ok x) already sizes fed quiet place = fed_over r next piece (λ failed. not_ok x AlreadyFailed (already failed)) sizes fed quiet place
-fed_if r next piece (Err e) already sizes fed quiet place = tt
+pub fed_if : {A : Type 0} (r next : Received) (piece : List ℕ) (result : Result A RecvError) → (r.failed ≡ true → result ≡ Err AlreadyFailed) → next.base ≡ r.base → next.sizes ≡ r.sizes → OnOk result ((b : List ℕ) → HasBeenFed r b → HasBeenFed next (b ++ piece))
+    → OnOk result ((b : List ℕ) → HasBeenFed r b → NoFault r.base r.sizes (b ++ piece)) → next.place ≡ r.place → IfOk result (λ x. IsFed (Over r) piece (Over next))
+fed_if r next piece (Ok x) already base sizes fed quiet place = fed_over r next piece (λ failed. not_ok x AlreadyFailed (already failed)) base sizes fed quiet place
+fed_if r next piece (Err e) already base sizes fed quiet place = tt
 
 pub told_if : {A : Type 0} (r next : Received) (piece : List ℕ) (result : Result A RecvError) → AreSteady r → next.sizes ≡ r.sizes → OnErr result (next.failed ≡ true) → MarksAfter r.marks result next.marks → (r.failed ≡ true → result ≡ Err AlreadyFailed)
-    → IfErr result (λ e. (b : List ℕ) → HasBeenFed r b → TellsNow r.sizes b piece e) → IfErr result (λ e. TellsOf (Over r) piece e × IsClosed (Over r) (Over next))
+    → IfErr result (λ e. (b : List ℕ) → HasBeenFed r b → TellsNow r.base r.sizes b piece e) → IfErr result (λ e. TellsOf (Over r) piece e × IsClosed (Over r) (Over next))
 told_if r next piece (Ok x) steady sizes failed marks already tells = tt
 told_if r next piece (Err e) steady sizes failed marks already tells = told_over r next piece e steady sizes failed marks (λ f. one_error (Err e) e AlreadyFailed refl (already f)) tells
 
 -- The slots.
 pub slots_for : (a : ArrivalSeen) (images : List Image) (refusal : Option ℕ) → IsOver a → refusal ≡ slots_refusal (length (awaited_sizes a)) images → refusal ≡ arriving_refusal a images
 slots_for (Over r) images refusal over is = is
-slots_for (AtHead held) images refusal over is = absurd over
+slots_for (AtHead base held) images refusal over is = absurd over
 slots_for (AtBody r) images refusal over is = absurd over
 slots_for Refused images refusal over is = absurd over
 
@@ -114,7 +116,7 @@ slots_free (Over r) disks images count of many none is =
       count = length-take-le count images (omega (arith, is, many, asks.1)) ∙ is;
       empty = All-take (λ (i : Image). i.content ≡ []) count images (none_at images asks.0);
     }
-slots_free (AtHead held) disks images count of many none is = absurd of
+slots_free (AtHead base held) disks images count of many none is = absurd of
 slots_free (AtBody r) disks images count of many none is = absurd of
 slots_free Refused disks images count of many none is = absurd of
 
@@ -129,16 +131,16 @@ gave_up (Over r) disks images count of many none is =
       empty = All-map (λ (c : List (List ℕ)). c ≡ []) (λ (i : Image). i.content) (drop count images) (All-drop (λ (i : Image). i.content ≡ []) count images (none_at images asks.0));
       count = length-append disks (drop count images) ∙ (let left : length (drop count images) ≡ length images - count = length-drop count images in omega (arith, left, few, is));
     }
-gave_up (AtHead held) disks images count of many none is = absurd of
+gave_up (AtHead base held) disks images count of many none is = absurd of
 gave_up (AtBody r) disks images count of many none is = absurd of
 gave_up Refused disks images count of many none is = absurd of
 
 -- The end.
 pub arrived_over : (r : Received) (m : Seen) → AreSteady r → r.failed ≡ false → (AreHonestDisks r.marks → (b : List ℕ) → HasBeenFed r b → IsStream b (state_of m)) → all_marks m ≡ dealt_marks (shapes_in (state_of m).devices) r.marks
-    → m.memory.place ≡ r.place → HasArrived (Over r) m
-arrived_over r m steady fine received marks place =
-    let a : HasArrived (AtBody r) m = arrived r m steady received marks in
-    record { went_on = fine; stream = λ b h. received (rw steady (honest_marks r.sizes)) b h; plain = a.plain; place = place }
+    → base_of (state_of m).devices ≡ r.base → m.memory.place ≡ r.place → HasArrived (Over r) m
+arrived_over r m steady fine received marks based place =
+    let a : HasArrived (AtBody r) m = arrived r m steady received marks based in
+    record { went_on = fine; stream = λ b h. received (rw steady (honest_marks r.sizes)) b h; base = based; plain = a.plain; place = place }
 
 pub given_up_steady : (r next : Received) → AreSteady r → IsGivenUp r next → AreSteady next
 given_up_steady r next steady h = more_steady r next steady h.sizes h.marks

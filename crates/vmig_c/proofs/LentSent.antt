@@ -1,12 +1,15 @@
 -- The migration of a machine out of a handle, while its RAM is lent.
-use Rattle.std.proofs.Common.{◌≡◌, ◌≢◌, false, [], ◌++◌, sym, ap, ◌∙◌, subst, take, drop, length, true≢false}
+use Rattle.std.proofs.Common.{◌≡◌, ◌≢◌, ℕ, List, false, [], ◌++◌, sym, ap, ◌∙◌, map, subst, take, drop, length, true≢false}
 use Rattle.std.specs.Prelude.{Some, min}
 use Rattle.region.specs.Address.{address}
 use Rattle.region.specs.declared.region.Region.{Region}
 use Rattle.guestmem.specs.Lent.{given_back}
+use Rattle.machine.specs.Seen.{DeviceSeen}
+use Rattle.machine.specs.State.{base_of}
 use Rattle.sender.specs.Follows.{Relates}
 use Rattle.sender.specs.LiveState.{LiveSeen}
-use Rattle.sender.specs.Parked.{IsLiveParked, LiveParkedSeen, live_back}
+use Rattle.sender.specs.History.{guest_events}
+use Rattle.sender.specs.Parked.{IsLiveParked, LiveParkedSeen, live_back, live_base, page_writes}
 use Rattle.sender.specs.Stopping.{HasPlaces}
 use Rattle.sender.specs.declared.phase.Phase.{Phase}
 use Rattle.sender.specs.declared.phase.Phase.TheVariants as phases
@@ -15,7 +18,7 @@ use Rattle.wire.specs.Sinks.{SinkState, over_writer}
 use Rattle.vmig_c.specs.Lent.{IsLiveLoan}
 use Rattle.vmig_c.specs.Migrated.{HasTaken}
 use Rattle.vmig_c.specs.Mirror.{is_closed}
-use Rattle.vmig_c.specs.Sent.{LentComesBackSent, LentTakingsStaySent}
+use Rattle.vmig_c.specs.Sent.{LentComesBackSent, LentTakingsStaySent, lent_base}
 use Rattle.vmig_c.proofs.Sent.{takings_stay_sent}
 
 -- The same with another writer.
@@ -33,6 +36,10 @@ parked_still l before p o h = record { parked = h.parked; rest = ap (λ (x : Liv
 
 loan_still : (l : LiveSeen) (before : Region) (p : LiveParkedSeen) (o : SinkState) → IsLiveLoan l before p → IsLiveLoan (live_with l o) before (parked_with p o)
 loan_still l before p o h = record { parked = parked_still l before p o h.parked; places = places_with l o h.places; sound = h.sound }
+
+-- The address at which RAM begins is the lender's.
+base_is : (l : LiveSeen) (before : Region) (p : LiveParkedSeen) → IsLiveParked l before p → live_base l ≡ lent_base p
+base_is l before p h = ap (λ (ds : List DeviceSeen). base_of (map (λ (d : DeviceSeen). d.state) ds)) (sym h.parked.devices_are)
 
 -- The writer is the lender's.
 writer_is : (l : LiveSeen) (before : Region) (p : LiveParkedSeen) → IsLiveParked l before p → p.out ≡ l.out
@@ -69,6 +76,6 @@ lent_comes_back_sent m h taken before after pages p is word =
     record {
       history = more.history;
       is_sent = subst (λ (w : SinkState). Relates m more.history (over_writer (Some []) 0 false) (live_back (parked_with p (record w { held = taken ++ w.held })) memory pages)) (sym same) more.relates;
-      came = more.came;
+      came = subst (λ (b : ℕ). guest_events more.history ≡ guest_events h ++ page_writes b pages after.content) (base_is l before p is.loan.parked) more.came;
       text_is = more.text_is;
     }

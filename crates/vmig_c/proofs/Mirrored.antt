@@ -10,12 +10,15 @@ use Rattle.guestmem.specs.Later.{IsLater}
 use Rattle.guestmem.specs.Memory.{IsMemory, Memory}
 use Rattle.guestmem.specs.Page.{page_of}
 use Rattle.guestmem.specs.PageLaws.{page_of_same}
-use Rattle.guestmem.specs.Write.{put_at, refusal_of}
+use Rattle.guestmem.specs.Address.{access_refusal, index_of}
+use Rattle.guestmem.specs.Write.{put_at}
 use Rattle.guestmem.specs.WriteLaws.{put_at_set_all}
 use Rattle.guestmem.specs.Writes.{byte_writes, set_all}
 use Rattle.machine.specs.Applied.{IsApplied}
 use Rattle.machine.specs.Effect.{Effect, applied}
-use Rattle.machine.specs.Seen.{Seen}
+use Rattle.machine.specs.Parked.{page_address}
+use Rattle.machine.specs.Seen.{Seen, state_of}
+use Rattle.machine.specs.State.{base_of}
 use Rattle.machine.specs.Step.{write_ram}
 use Rattle.machine.specs.declared.event.Event.TheVariants.{MemWrite}
 use Rattle.machine.specs.declared.reply.Reply.{Reply}
@@ -163,10 +166,11 @@ set_by None addr ram bytes reply effect told reply_is effect_is = rw effect_is r
 set_by (Some ram_error.OutOfRam) addr ram bytes reply effect told reply_is effect_is = let is = rw reply_is at told in absurd (omega (arith, is))
 set_by (Some ram_error.TooLong) addr ram bytes reply effect told reply_is effect_is = let is = rw reply_is at told in absurd (omega (arith, is))
 
-set_in : (m next : Seen) (addr : ℕ) (bytes : List ℕ) → Written m addr bytes next → next.memory.bytes ≡ set_all m.memory.bytes (byte_writes addr bytes)
+set_in : (m next : Seen) (addr : ℕ) (bytes : List ℕ) → Written m addr bytes next → next.memory.bytes ≡ set_all m.memory.bytes (byte_writes (index_of (base_of (state_of m).devices) addr) bytes)
 set_in m next addr bytes w =
+    let base = base_of (state_of m).devices in
     ap (λ s. s.ram) (w.applied.changed tt)
-    ∙ set_by (refusal_of (length m.memory.bytes) addr (length bytes)) addr m.memory.bytes bytes w.reply w.applied.effect w.status w.applied.has.reply_is w.applied.has.effect_is
+    ∙ set_by (access_refusal base (length m.memory.bytes) addr (length bytes)) (index_of base addr) m.memory.bytes bytes w.reply w.applied.effect w.status w.applied.has.reply_is w.applied.has.effect_is
 
 pub page_put : (old bytes : List ℕ) (n : ℕ) → length bytes ≡ 4096 → 4096 * n + 4096 ≤ length old → page_of (put_at old (4096 * n) bytes) n ≡ bytes
 page_put old bytes n size inside =
@@ -178,15 +182,17 @@ page_put old bytes n size inside =
     ∙ take_at bytes rest 4096 size
 
 -- The page that was handed in is the machine's.
-page_in : (m next : Seen) (n : ℕ) (ram : List ℕ) → 4096 * n + 4096 ≤ length m.memory.bytes → length m.memory.bytes ≤ length ram → Written m (4096 * n) (page_of ram n) next → page_of ram n ≡ page_of next.memory.bytes n
+page_in : (m next : Seen) (n : ℕ) (ram : List ℕ) → 4096 * n + 4096 ≤ length m.memory.bytes → length m.memory.bytes ≤ length ram → Written m (page_address m n) (page_of ram n) next → page_of ram n ≡ page_of next.memory.bytes n
 page_in m next n ram inside long w =
+    let here : index_of (base_of (state_of m).devices) (page_address m n) ≡ 4096 * n = omega arith in
+    let set : next.memory.bytes ≡ set_all m.memory.bytes (byte_writes (4096 * n) (page_of ram n)) = subst (λ (k : ℕ). next.memory.bytes ≡ set_all m.memory.bytes (byte_writes k (page_of ram n))) here (set_in m next (page_address m n) (page_of ram n) w) in
     let size : length (page_of ram n) ≡ 4096 = whole_page ram n (omega (arith, inside, long)) in
     let fits : 4096 * n + length (page_of ram n) ≤ length m.memory.bytes = omega (arith, size, inside) in
-    sym (ap (λ (l : List ℕ). page_of l n) (set_in m next (4096 * n) (page_of ram n) w ∙ sym (put_at_set_all m.memory.bytes (4096 * n) (page_of ram n) fits)) ∙ page_put m.memory.bytes (page_of ram n) n size inside)
+    sym (ap (λ (l : List ℕ). page_of l n) (set ∙ sym (put_at_set_all m.memory.bytes (4096 * n) (page_of ram n) fits)) ∙ page_put m.memory.bytes (page_of ram n) n size inside)
 
 -- What a push of one page leaves of the mirror: that page is mirrored, and each other that was.
 pushed_here : (m next : Seen) (n : ℕ) (ram seen : List ℕ) → 4096 * n + 4096 ≤ length m.memory.bytes → length m.memory.bytes ≤ length ram → n < length seen
-    → Written m (4096 * n) (page_of ram n) next → MirrorsPage next.memory ram (slice_set seen n (slice_index next.memory.versions n)) n
+    → Written m (page_address m n) (page_of ram n) next → MirrorsPage next.memory ram (slice_set seen n (slice_index next.memory.versions n)) n
 pushed_here m next n ram seen inside long room w =
     let here : slice_index (slice_set seen n (slice_index next.memory.versions n)) n ≡ slice_index next.memory.versions n = get_or-set_same seen n (slice_index next.memory.versions n) 0 room in
     record {
@@ -205,7 +211,7 @@ pushed_else m next n j ram seen other later was =
     }
 
 pushed_by : (b : Bool) (m next : Seen) (n j : ℕ) (ram seen : List ℕ) → (j == n) ≡ b → 4096 * n + 4096 ≤ length m.memory.bytes → length m.memory.bytes ≤ length ram → n < length seen
-    → Written m (4096 * n) (page_of ram n) next → ((j == n) ≡ false → MirrorsPage m.memory ram seen j)
+    → Written m (page_address m n) (page_of ram n) next → ((j == n) ≡ false → MirrorsPage m.memory ram seen j)
     → MirrorsPage next.memory ram (slice_set seen n (slice_index next.memory.versions n)) j
 pushed_by true m next n j ram seen is inside long room w other =
     let same : j ≡ n = grind (arith, nat_tests) in
@@ -243,7 +249,7 @@ pushed_all k next [] ram seen new_seen sound long room are others pushed =
 pushed_all k next (p ∷ pages) ram seen new_seen sound long room are others pushed =
     let mid : State = pushed.0 in
     let one : IsPushed k p ram seen pushed.1 mid = pushed.2 in
-    let w : Written (machine_in k) (4096 * p) (page_of ram p) (machine_in mid) = written_in k mid (4096 * p) (page_of ram p) one.written in
+    let w : Written (machine_in k) (page_address (machine_in k) p) (page_of ram p) (machine_in mid) = written_in k mid (page_address (machine_in k) p) (page_of ram p) one.written in
     let later : IsLater (memory_in k) (memory_in mid) = w.applied.later in
     let here : p < length (memory_in k).versions = is_page p (length (memory_in k).versions) (both_left (nat_lt p (length (memory_in k).versions)) (are_pages (length (memory_in k).versions) pages) are) in
     let rest : are_pages (length (memory_in mid).versions) pages ≡ true = rw (later.versions) (both_right (nat_lt p (length (memory_in k).versions)) (are_pages (length (memory_in k).versions) pages) are) in

@@ -82,9 +82,9 @@ stopped_is_whole m h taken l is sound stopped =
     subst P (sym (w.whole refl)) w.is_stream
 
 pub arrived_is_sent : ArrivedIsSent
-arrived_is_sent m h taken l r arrived is sound stopped come there =
-    one_machine (taken ++ l.out.held) (state_of arrived) (now l) (there.stream (taken ++ l.out.held) come) (stopped_is_whole m h taken l is sound stopped)
+arrived_is_sent m h taken l r arrived is sound stopped come based there =
+    one_machine (taken ++ l.out.held) (state_of arrived) (now l) (there.stream (taken ++ l.out.held) come) (stopped_is_whole m h taken l is sound stopped) (there.base ∙ based)
 
 pub received_is_sent : ReceivedIsSent
-received_is_sent m h taken l received rounds is sound stopped there =
-    one_machine (taken ++ l.out.held) (state_of received) (now l) there.received.stream (stopped_is_whole m h taken l is sound stopped)
+received_is_sent m h taken l received rounds is sound stopped zero there =
+    one_machine (taken ++ l.out.held) (state_of received) (now l) there.received.stream (stopped_is_whole m h taken l is sound stopped) (there.base ∙ sym zero)

@@ -19,6 +19,7 @@ use Rattle.std.proofs.lemmas.List.{length-replicate}
 use Rattle.std.proofs.lemmas.List.Elements.{All-map}
 use Rattle.blk.specs.Disk.{DiskState}
 use Rattle.machine.specs.First.{dealt_marks, marks_in}
+use Rattle.machine.specs.State.{base_of}
 use Rattle.machine.specs.Shapes.{disk_sizes}
 use Rattle.wire.specs.Header.{Begins}
 use Rattle.wire.specs.HeaderReading.{said}
@@ -118,11 +119,11 @@ plain_disks [] = refl
 plain_disks (d ∷ disks) = ap (λ (l : List Marks). no_marks ∷ l) (plain_disks disks)
 
 pub was_received : (bytes : List ℕ) (disks : List (List (List ℕ))) (m : Seen) (n : ℕ) → (AreHonestDisks (disk_marks_of mem_state disks) → IsReceived bytes (state_of m) n)
-    → all_marks m ≡ dealt_marks (shapes_in (state_of m).devices) (disk_marks_of mem_state disks) → IsReceivedAs bytes m n
-was_received bytes disks m n received marks =
+    → all_marks m ≡ dealt_marks (shapes_in (state_of m).devices) (disk_marks_of mem_state disks) → base_of (state_of m).devices ≡ 0 → IsReceivedAs bytes m n
+was_received bytes disks m n received marks based =
     let shapes = shapes_in (state_of m).devices in
     let over : all_marks m ≡ dealt_marks shapes (map (λ (d : List (List ℕ)). no_marks) disks) = marks ∙ ap (λ (l : List Marks). dealt_marks shapes l) (plain_disks disks) in
-    record { received = received (honest_disks disks); plain = as_many no_marks (λ (d : DeviceSeen). d.marks) m.devices shapes (over ∙ alike shapes disks) }
+    record { received = received (honest_disks disks); base = based; plain = as_many no_marks (λ (d : DeviceSeen). d.marks) m.devices shapes (over ∙ alike shapes disks) }
 
 steady_disks : (disks : List (List (List ℕ))) (k : ℕ) → (marks_at (disk_marks_of mem_state disks) k).steady ≡ true
 steady_disks disks k = rw (plain_disks disks, slice_get-map (λ (d : List (List ℕ)). no_marks) disks k) (of_found (slice_get disks k))
@@ -131,16 +132,16 @@ no_mismatch : (bytes sizes : List ℕ) (at : ℕ) → AreFitting bytes sizes →
 no_mismatch bytes sizes at (inl h) is = no_header_fault sizes bytes h.opening h.rest h.begins h.sizes_are ShapeMismatch at is
 no_mismatch bytes sizes at (inr none) is = none is.opening is.more is.begins
 
-not_mismatched : (bytes sizes : List ℕ) (at : ℕ) → AreFitting bytes sizes → ¬ (Fault sizes bytes ShapeMismatch at)
+not_mismatched : (bytes sizes : List ℕ) (at : ℕ) → AreFitting bytes sizes → ¬ (Fault 0 sizes bytes ShapeMismatch at)
 not_mismatched bytes sizes at fit (inl is) = no_mismatch bytes sizes at fit is
 not_mismatched bytes sizes at fit (inr is) = is.fault
 
-not_failed_before : (bytes sizes : List ℕ) (at : ℕ) → ¬ (Fault sizes bytes AlreadyFailed at)
+not_failed_before : (bytes sizes : List ℕ) (at : ℕ) → ¬ (Fault 0 sizes bytes AlreadyFailed at)
 not_failed_before bytes sizes at (inl is) = is
 not_failed_before bytes sizes at (inr is) = is.fault
 
 is_possible : (bytes : List ℕ) (disks : List (List (List ℕ))) (error : RecvError) → AreFitting bytes (sizes_of mem_state disks)
-    → RefusesSlice (sizes_of mem_state disks) (disk_marks_of mem_state disks) bytes error → IsPossible error
+    → RefusesSlice 0 (sizes_of mem_state disks) (disk_marks_of mem_state disks) bytes error → IsPossible error
 is_possible bytes disks ShapeMismatch fit refuses = not_mismatched bytes (sizes_of mem_state disks) refuses.0 fit refuses.1
 is_possible bytes disks AlreadyFailed fit refuses = not_failed_before bytes (sizes_of mem_state disks) refuses.0 refuses.1
 is_possible bytes disks DiskFailed fit refuses = absurd (true≢false (sym (steady_disks disks refuses.disk) ∙ refuses.unsteady))
@@ -159,7 +160,7 @@ is_possible bytes disks Truncated fit refuses = tt
 is_possible bytes disks NoMemory fit refuses = tt
 
 pub was_refused : (bytes : List ℕ) (disks : List (List (List ℕ))) (error : RecvError) (status : ℕ) → AreFitting bytes (sizes_of mem_state disks)
-    → RefusesSlice (sizes_of mem_state disks) (disk_marks_of mem_state disks) bytes error → status ≡ refusal_status error → RefusedBy bytes status
+    → RefusesSlice 0 (sizes_of mem_state disks) (disk_marks_of mem_state disks) bytes error → status ≡ refusal_status error → RefusedBy bytes status
 was_refused bytes disks error status fit refuses is =
     inl (record { error = error; disks = disks; fit = fit; refuses = refuses; possible = is_possible bytes disks error fit refuses; status_is = is })
 

@@ -57,7 +57,7 @@ pub record DoesFed (k : KeptSeen) (piece : List ℕ) (status : ℕ) (after : Opt
 
 -- A piece was fed to the contents of a handle. If the handle is empty, a machine begins to arrive, unless memory is refused.
 abbrev pub Fed : Option KeptSeen → List ℕ → ℕ → Option KeptSeen → Type 0
-Fed None piece status after = DoesFed (own (Arriving nothing_fed)) piece status after ⊎ ((status ≡ no_memory) × (after ≡ None))
+Fed None piece status after = DoesFed (own (Arriving (nothing_fed 0))) piece status after ⊎ ((status ≡ no_memory) × (after ≡ None))
 Fed (Some k) piece status after = DoesFed k piece status after
 
 -- The machine has arrived.

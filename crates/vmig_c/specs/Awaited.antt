@@ -2,6 +2,7 @@
 use denote.RawPtr.{Ptr}
 use Rattle.std.specs.Prelude.{◌≡◌, ◌≢◌, ℕ, ◌+◌, List, [], ◌++◌, map, Option, true, false}
 use Rattle.machine.specs.Seen.{Seen, no_marks, state_of}
+use Rattle.machine.specs.State.{base_of}
 use Rattle.receiver.specs.Codes.{recv_code_of}
 use Rattle.receiver.specs.Faults.{Fault}
 use Rattle.receiver.specs.Receiving.{HasBeenFed, HasRounds, IsFinish, NoFault, Received, TellsNow}
@@ -14,9 +15,9 @@ use Rattle.vmig_c.specs.Plain.{ArePlain}
 use Rattle.vmig_c.specs.declared.arrival.Progress.{Progress}
 use Rattle.vmig_c.specs.declared.arrival.Progress.TheVariants.{Head, Body, Failed}
 
--- Nothing was fed.
-abbrev pub nothing_fed : ArrivalSeen
-nothing_fed = AtHead []
+-- Nothing was fed, and RAM will begin at this address.
+abbrev pub nothing_fed : ℕ → ArrivalSeen
+nothing_fed base = AtHead base []
 
 -- The stream was refused: no more is taken, and there will be no machine.
 abbrev pub refused_for_good : ArrivalSeen
@@ -24,44 +25,52 @@ refused_for_good = Refused
 
 -- What contracts see.
 abbrev pub awaited_by : Progress → ArrivalSeen
-awaited_by (Head held) = AtHead held.items
+awaited_by (Head base held) = AtHead base held.items
 awaited_by (Body r) = AtBody r
 awaited_by Failed = Refused
 
 -- The header is incomplete.
 abbrev pub IsAtHead : ArrivalSeen → Type 0
-IsAtHead (AtHead held) = Unit {0}
+IsAtHead (AtHead base held) = Unit {0}
 IsAtHead (AtBody r) = ⊥
 IsAtHead Refused = ⊥
 IsAtHead (Over r) = ⊥
 
 -- These are all bytes that were fed, and there was no refusal. Once the header was read, the disks are of the sizes that it says.
 abbrev pub HasCome : ArrivalSeen → List ℕ → Type 0
-HasCome (AtHead held) bytes = bytes ≡ held
+HasCome (AtHead base held) bytes = bytes ≡ held
 HasCome (AtBody r) bytes = HasBeenFed r bytes × HasHeader bytes r.sizes
 HasCome Refused bytes = ⊥
 HasCome (Over r) bytes = HasBeenFed r bytes
 
 -- The sizes of the disks: until the header is whole there is none, but for images.
 abbrev pub awaited_sizes : ArrivalSeen → List ℕ
-awaited_sizes (AtHead held) = []
+awaited_sizes (AtHead base held) = []
 awaited_sizes (AtBody r) = r.sizes
 awaited_sizes Refused = []
 awaited_sizes (Over r) = r.sizes
+
+-- The address at which RAM will begin.
+abbrev pub awaited_base : ArrivalSeen → ℕ
+awaited_base (AtHead base held) = base
+awaited_base (AtBody r) = r.base
+awaited_base Refused = 0
+awaited_base (Over r) = r.base
 
 -- The disks lie in memory: none ever failed, or will.
 abbrev pub AreSteady : Received → Type 0
 AreSteady r = r.marks ≡ map (λ size. no_marks) r.sizes
 
--- A receiver over disks in memory of these sizes was fed these bytes, and there is no fault in them.
-pub record IsFedTo (sizes bytes : List ℕ) (r : Received) : Type 0 where
+-- A receiver of a machine with this base, over disks in memory of these sizes, was fed these bytes, and there is no fault in them.
+pub record IsFedTo (base : ℕ) (sizes bytes : List ℕ) (r : Received) : Type 0 where
   pub fed : HasBeenFed r bytes
+  pub base_is : r.base ≡ base
   pub sizes_are : r.sizes ≡ sizes
   pub steady : AreSteady r
-  pub quiet : NoFault sizes bytes
+  pub quiet : NoFault base sizes bytes
 
 abbrev pub IsComing : Progress → Type 0
-IsComing (Head held) = HasNoHeader held.items
+IsComing (Head base held) = HasNoHeader held.items
 IsComing (Body r) = AreSteady r
 IsComing Failed = Unit {0}
 
@@ -80,7 +89,7 @@ AreFittingFor a bytes = AreFitting bytes (awaited_sizes a)
 pub record GoesOnWith (bytes : List ℕ) (a : ArrivalSeen) : Type 0 where
   pub come : HasCome a bytes
   pub fit : AreFittingFor a bytes
-  pub quiet : NoFault (awaited_sizes a) bytes
+  pub quiet : NoFault (awaited_base a) (awaited_sizes a) bytes
 
 -- There was no refusal.
 abbrev pub IsOpen : ArrivalSeen → Type 0
@@ -118,31 +127,32 @@ LiesThere a m = Unit {0}
 pub record IsFed (a : ArrivalSeen) (piece : List ℕ) (next : ArrivalSeen) : Type 0 where
   pub went_on : IsOpen a
   pub goes_on : (b : List ℕ) → HasCome a b → GoesOnWith (b ++ piece) next
+  pub base : awaited_base next ≡ awaited_base a
   pub place : HasSamePlace a next
 
--- There is a fault in the bytes, for disks of the sizes that the header says.
-pub record IsFaulty (bytes : List ℕ) (error : RecvError) : Type 0 where
+-- There is a fault in the bytes, for RAM that begins at `base` and disks of the sizes that the header says.
+pub record IsFaulty (base : ℕ) (bytes : List ℕ) (error : RecvError) : Type 0 where
   pub sizes : List ℕ
   pub fit : AreFitting bytes sizes
   pub at : ℕ
-  pub fault : Fault sizes bytes error at
+  pub fault : Fault base sizes bytes error at
 
 -- Why bytes are refused: memory was refused, or there is a fault in them.
-abbrev pub TellsWhy : List ℕ → RecvError → Type 0
-TellsWhy bytes NoMemory = Unit {0}
-TellsWhy bytes error = IsFaulty bytes error
+abbrev pub TellsWhy : ℕ → List ℕ → RecvError → Type 0
+TellsWhy base bytes NoMemory = Unit {0}
+TellsWhy base bytes error = IsFaulty base bytes error
 
 -- Why a piece is refused over images: as their receiver tells it, and never because a disk failed.
 pub record IsToldOver (r : Received) (piece : List ℕ) (error : RecvError) : Type 0 where
   pub already : r.failed ≡ true → error ≡ AlreadyFailed
-  pub why : (b : List ℕ) → HasBeenFed r b → TellsNow r.sizes b piece error
+  pub why : (b : List ℕ) → HasBeenFed r b → TellsNow r.base r.sizes b piece error
   pub steady : error ≢ DiskFailed
 
 -- Why a piece is refused: a refusal came before, or all bytes up to the end of the piece are refused.
 abbrev pub TellsOf : ArrivalSeen → List ℕ → RecvError → Type 0
 TellsOf Refused piece error = error ≡ AlreadyFailed
 TellsOf (Over r) piece error = IsToldOver r piece error
-TellsOf a piece error = (b : List ℕ) → HasCome a b → TellsWhy (b ++ piece) error
+TellsOf a piece error = (b : List ℕ) → HasCome a b → TellsWhy (awaited_base a) (b ++ piece) error
 
 -- Why no machine is made of all bytes: a refusal came before, or memory was refused, or they are not yet the stream of a
 -- machine.
@@ -151,18 +161,19 @@ TellsEnd Refused error = error ≡ AlreadyFailed
 TellsEnd (Over r) error = (r.failed ≡ true → error ≡ AlreadyFailed) × ((b : List ℕ) → HasBeenFed r b → IsFinish b error)
 TellsEnd a error = (b : List ℕ) → HasCome a b → IsFinish b error
 
--- The bytes are the stream of this machine. Its disks lie in memory.
+-- The bytes are the stream of this machine, whose RAM begins where it was to. Its disks lie in memory.
 pub record HasArrived (a : ArrivalSeen) (m : Seen) : Type 0 where
   pub went_on : IsOpen a
   pub stream : (b : List ℕ) → HasCome a b → IsStream b (state_of m)
+  pub base : base_of (state_of m).devices ≡ awaited_base a
   pub place : LiesThere a m
   pub plain : ArePlain m
 
 -- This number of rounds ended in the bytes so far; after a refusal it is 0.
 abbrev pub CountsRounds : ArrivalSeen → ℕ → Type 0
 CountsRounds Refused n = n ≡ 0
-CountsRounds (Over r) n = (r.failed ≡ true → n ≡ 0) × ((b : List ℕ) → HasBeenFed r b → HasRounds r.sizes b n)
-CountsRounds a n = (b : List ℕ) → HasCome a b → HasRounds (awaited_sizes a) b n
+CountsRounds (Over r) n = (r.failed ≡ true → n ≡ 0) × ((b : List ℕ) → HasBeenFed r b → HasRounds r.base r.sizes b n)
+CountsRounds a n = (b : List ℕ) → HasCome a b → HasRounds (awaited_base a) (awaited_sizes a) b n
 
 -- The status of a piece, or an end, that is refused: it always names the stream's refusal, also if memory was refused, since
 -- nothing is taken after it.

@@ -1,5 +1,6 @@
 -- One call for all machines that will arrive: what its struct names says in whose memory, and within which limits.
 use Rattle.std.specs.Prelude.{◌≡◌, ◌⊎◌, ℕ, ◌==◌, ◌&&◌, not, if◌then◌else◌, Bool, true, false, [], length, Option, Some, None}
+use Rattle.machine.specs.First.{is_base}
 use Rattle.region.specs.Empty.{empty_slot}
 use Rattle.region.specs.declared.slot.Slot.{Slot}
 use Rattle.vmig_c.specs.AdmissionSeen.{Pending}
@@ -10,7 +11,7 @@ use Rattle.vmig_c.specs.Lent.{place_of}
 use Rattle.vmig_c.specs.Mapping.{AreTaken, contents}
 use Rattle.vmig_c.specs.OverRam.{is_ram}
 use Rattle.vmig_c.specs.Setup.{are_known}
-use Rattle.vmig_c.specs.Status.{bad_ram, done, in_use, no_memory, not_known}
+use Rattle.vmig_c.specs.Status.{bad_ram, bad_shape, done, in_use, no_memory, not_known}
 use Rattle.vmig_c.specs.declared.admission.Limits.{Limits}
 use Rattle.vmig_c.specs.declared.setup.Expected.{Expected}
 
@@ -24,29 +25,31 @@ has_images expected = not (length expected.images.now == 0)
 abbrev pub limits_of : Expected → Limits
 limits_of expected = record { pages = expected.most_pages; sectors = expected.most_sectors }
 
--- Why no machine will arrive, apart from memory being refused: what is asked for is not known, or the memory is no RAM.
+-- Why no machine will arrive, apart from memory being refused: what is asked for is not known, or the memory is no RAM, or RAM may not
+-- begin at its base.
 abbrev pub arrival_refusal_of : Expected → Option ℕ
 arrival_refusal_of expected =
     if not (are_known expected.version expected.reserved) then Some not_known
     else if has_ram expected && not (is_ram (length expected.ram.content)) then Some bad_ram
+    else if not (is_base expected.base (length expected.ram.content)) then Some bad_shape
     else None
 
 abbrev pub arrival_refusal : Option KeptSeen → Expected → Option ℕ
 arrival_refusal (Some k) expected = Some in_use
 arrival_refusal None expected = arrival_refusal_of expected
 
--- Nothing was fed, and both RAM and disks will be memory of the library.
-abbrev pub StandsFresh : State → Type 0
-StandsFresh state = state ≡ Arriving nothing_fed
+-- Nothing was fed, RAM will begin at this address, and both RAM and disks will be memory of the library.
+abbrev pub StandsFresh : ℕ → State → Type 0
+StandsFresh base state = state ≡ Arriving (nothing_fed base)
 
-abbrev pub KeepsFresh : KeptSeen → Type 0
-KeepsFresh k = (k.is_mapped ≡ false) × StandsFresh k.state
+abbrev pub KeepsFresh : ℕ → KeptSeen → Type 0
+KeepsFresh base k = (k.is_mapped ≡ false) × StandsFresh base k.state
 
 -- By whether it names RAM, and images: in whose memory the machine will be.
 abbrev pub KeepsExpected : Bool → Bool → Expected → KeptSeen → Type 0
-KeepsExpected false false expected k = KeepsFresh k
-KeepsExpected false true expected k = KeepsAwaited (contents expected.images.now) k
-KeepsExpected true images expected k = KeepsAwaitedAt (Some (place_of expected.ram)) (contents expected.images.now) k
+KeepsExpected false false expected k = KeepsFresh expected.base k
+KeepsExpected false true expected k = KeepsAwaited expected.base (contents expected.images.now) k
+KeepsExpected true images expected k = KeepsAwaitedAt expected.base (Some (place_of expected.ram)) (contents expected.images.now) k
 
 -- What is left of RAM.
 abbrev pub ram_left : Bool → Slot → Slot

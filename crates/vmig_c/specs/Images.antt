@@ -4,7 +4,7 @@ use Rattle.std.specs.List.{concat, flat_map}
 use Rattle.blk.specs.Disk.{AreSectors}
 use Rattle.blk.specs.Sectors.{Sector}
 use Rattle.machine.specs.EffectLaws.{sector_on, sectors_on}
-use Rattle.machine.specs.First.{first_machine}
+use Rattle.machine.specs.First.{first_machine_at}
 use Rattle.machine.specs.Refusal.{code_of}
 use Rattle.machine.specs.Seen.{Seen, state_of}
 use Rattle.machine.specs.Shapes.{disk_size_of, disk_sizes, sector_count, made_as}
@@ -34,24 +34,24 @@ pub record AreImages (images sizes : List ℕ) (disks : List (List (List ℕ))) 
   pub bytes : flat_map concat disks ≡ images
 
 -- The new machine of these pages and devices, over these disks.
-pub record IsMadeWith (pages : ℕ) (shapes : List Shape) (images : List ℕ) (m : Seen) : Type 0 where
+pub record IsMadeWith (base : ℕ) (pages : ℕ) (shapes : List Shape) (images : List ℕ) (m : Seen) : Type 0 where
   pub disks : List (List (List ℕ))
   pub are : AreImages images (disk_sizes shapes) disks
-  pub first : state_of m ≡ first_machine pages shapes (map (λ d. map Some d) disks)
+  pub first : state_of m ≡ first_machine_at base pages shapes (map (λ d. map Some d) disks)
   pub plain : ArePlain m
   pub sound : IsSound (state_of m)
 
-abbrev pub StandsMadeWith : ℕ → List Shape → List ℕ → State → Type 0
-StandsMadeWith pages shapes images (Still m) = IsMadeWith pages shapes images m
-StandsMadeWith pages shapes images _ = ⊥
+abbrev pub StandsMadeWith : ℕ → ℕ → List Shape → List ℕ → State → Type 0
+StandsMadeWith base pages shapes images (Still m) = IsMadeWith base pages shapes images m
+StandsMadeWith base pages shapes images _ = ⊥
 
-abbrev pub KeepsMadeWith : ℕ → List Shape → List ℕ → KeptSeen → Type 0
-KeepsMadeWith pages shapes images k = (k.is_mapped ≡ false) × StandsMadeWith pages shapes images k.state
+abbrev pub KeepsMadeWith : ℕ → ℕ → List Shape → List ℕ → KeptSeen → Type 0
+KeepsMadeWith base pages shapes images k = (k.is_mapped ≡ false) × StandsMadeWith base pages shapes images k.state
 
-pub record HasMadeWith (pages : ℕ) (shapes : List DeviceShape) (images : List ℕ) (status : ℕ) (after : Option KeptSeen) : Type 0 where
+pub record HasMadeWith (base : ℕ) (pages : ℕ) (shapes : List DeviceShape) (images : List ℕ) (status : ℕ) (after : Option KeptSeen) : Type 0 where
   pub kept : KeptSeen
   pub is_there : after ≡ Some kept
-  pub is_made : KeepsMadeWith pages (shapes_of shapes) images kept
+  pub is_made : KeepsMadeWith base pages (shapes_of shapes) images kept
   pub status_is : status ≡ done
 
 -- Why no machine is made, apart from memory being refused. The images are checked last.
@@ -59,13 +59,13 @@ abbrev pub image_refusal : Option ℕ → List DeviceShape → ℕ → Option �
 image_refusal (Some refusal) shapes bytes = Some refusal
 image_refusal None shapes bytes = if bytes == image_size (shapes_of shapes) then None else Some bad_images
 
-abbrev pub MakesWithBy : Option ℕ → Option KeptSeen → ℕ → List DeviceShape → List ℕ → ℕ → Option KeptSeen → Type 0
-MakesWithBy (Some refusal) old pages shapes images status after = (status ≡ refusal) × (after ≡ old)
-MakesWithBy None old pages shapes images status after = HasMadeWith pages shapes images status after ⊎ HasNoMemory old status after
+abbrev pub MakesWithBy : ℕ → Option ℕ → Option KeptSeen → ℕ → List DeviceShape → List ℕ → ℕ → Option KeptSeen → Type 0
+MakesWithBy base (Some refusal) old pages shapes images status after = (status ≡ refusal) × (after ≡ old)
+MakesWithBy base None old pages shapes images status after = HasMadeWith base pages shapes images status after ⊎ HasNoMemory old status after
 
 -- A machine was made over disks that hold the images, or the status says why not, and nothing changed.
-abbrev pub MakesWith : Option KeptSeen → ℕ → List DeviceShape → List ℕ → ℕ → Option KeptSeen → Type 0
-MakesWith old pages shapes images status after = MakesWithBy (image_refusal (make_refusal old pages shapes) shapes (length images)) old pages shapes images status after
+abbrev pub MakesWith : ℕ → Option KeptSeen → ℕ → List DeviceShape → List ℕ → ℕ → Option KeptSeen → Type 0
+MakesWith base old pages shapes images status after = MakesWithBy base (image_refusal (make_refusal old pages shapes) shapes (length images)) old pages shapes images status after
 
 -- Why a read of a sector is refused, if it is.
 abbrev pub disk_refusal : Option ℕ → ℕ → ℕ → Option ℕ

@@ -12,29 +12,30 @@ use Rattle.vmig_c.specs.Plain.{mem_state}
 abbrev pub image_state : Image → DiskState
 image_state i = mem_state i.content
 
--- Nothing was fed, the disks hold these sectors, and RAM will lie in this place, if one is known.
-pub record IsFreshOver (place : Option Ptr) (sectors : List (List (List ℕ))) (r : Received) : Type 0 where
+-- Nothing was fed, RAM will begin at this address, the disks hold these sectors, and RAM will lie in this place, if one is known.
+pub record IsFreshOver (base : ℕ) (place : Option Ptr) (sectors : List (List (List ℕ))) (r : Received) : Type 0 where
   pub fed : HasBeenFed r []
+  pub base_is : r.base ≡ base
   pub sizes_are : r.sizes ≡ map length sectors
   pub disks_are : map (λ d. d.sectors) r.disks ≡ sectors
   pub place_is : r.place ≡ place
 
-abbrev pub IsAwaitedAt : Option Ptr → List (List (List ℕ)) → ArrivalSeen → Type 0
-IsAwaitedAt place sectors (Over r) = IsFreshOver place sectors r
-IsAwaitedAt place sectors _ = ⊥
+abbrev pub IsAwaitedAt : ℕ → Option Ptr → List (List (List ℕ)) → ArrivalSeen → Type 0
+IsAwaitedAt base place sectors (Over r) = IsFreshOver base place sectors r
+IsAwaitedAt base place sectors _ = ⊥
 
 -- The disks of an arrival hold these sectors.
 abbrev pub AreDisksOf : ArrivalSeen → List (List (List ℕ)) → Type 0
 AreDisksOf (Over r) sectors = map (λ d. d.sectors) r.disks ≡ sectors
 AreDisksOf _ sectors = ⊥
 
-abbrev pub StandsAwaited : Option Ptr → List (List (List ℕ)) → State → Type 0
-StandsAwaited place sectors (Arriving a) = IsAwaitedAt place sectors a
-StandsAwaited place sectors _ = ⊥
+abbrev pub StandsAwaited : ℕ → Option Ptr → List (List (List ℕ)) → State → Type 0
+StandsAwaited base place sectors (Arriving a) = IsAwaitedAt base place sectors a
+StandsAwaited base place sectors _ = ⊥
 
-abbrev pub KeepsAwaitedAt : Option Ptr → List (List (List ℕ)) → KeptSeen → Type 0
-KeepsAwaitedAt place sectors k = (k.is_mapped ≡ true) × StandsAwaited place sectors k.state
+abbrev pub KeepsAwaitedAt : ℕ → Option Ptr → List (List (List ℕ)) → KeptSeen → Type 0
+KeepsAwaitedAt base place sectors k = (k.is_mapped ≡ true) × StandsAwaited base place sectors k.state
 
 -- Its RAM will lie in memory of the library.
-abbrev pub KeepsAwaited : List (List (List ℕ)) → KeptSeen → Type 0
-KeepsAwaited sectors k = KeepsAwaitedAt None sectors k
+abbrev pub KeepsAwaited : ℕ → List (List (List ℕ)) → KeptSeen → Type 0
+KeepsAwaited base sectors k = KeepsAwaitedAt base None sectors k

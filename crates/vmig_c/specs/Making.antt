@@ -2,7 +2,7 @@
 use Rattle.std.specs.Prelude.{◌≡◌, ◌⊎◌, ℕ, ◌==◌, ◌||◌, ◌&&◌, not, nat_lt, Bool, true, false, List, [], ◌∷◌, length, map, replicate, Option, Some, None, if◌then◌else◌}
 use Rattle.guestmem.specs.declared.limits.TheConstants.{PAGES_MAX}
 use Rattle.blk.specs.Sectors.{Sector}
-use Rattle.machine.specs.First.{first_machine}
+use Rattle.machine.specs.First.{first_machine_at}
 use Rattle.machine.specs.Seen.{Seen, state_of}
 use Rattle.machine.specs.Shapes.{disk_sizes, is_beyond}
 use Rattle.machine.specs.Sound.{IsSound}
@@ -47,23 +47,23 @@ abbrev pub zero_sectors : ℕ → List Sector
 zero_sectors count = replicate count (Some (replicate 512 0))
 
 -- The new machine of these pages and devices, over disks of zeros.
-pub record IsMade (pages : ℕ) (shapes : List Shape) (m : Seen) : Type 0 where
-  pub first : state_of m ≡ first_machine pages shapes (map zero_sectors (disk_sizes shapes))
+pub record IsMade (base : ℕ) (pages : ℕ) (shapes : List Shape) (m : Seen) : Type 0 where
+  pub first : state_of m ≡ first_machine_at base pages shapes (map zero_sectors (disk_sizes shapes))
   pub plain : ArePlain m
   pub sound : IsSound (state_of m)
 
 -- It is not being migrated, and its disks lie in memory of the library.
-abbrev pub StandsMade : ℕ → List Shape → State → Type 0
-StandsMade pages shapes (Still m) = IsMade pages shapes m
-StandsMade pages shapes _ = ⊥
+abbrev pub StandsMade : ℕ → ℕ → List Shape → State → Type 0
+StandsMade base pages shapes (Still m) = IsMade base pages shapes m
+StandsMade base pages shapes _ = ⊥
 
-abbrev pub KeepsMade : ℕ → List Shape → KeptSeen → Type 0
-KeepsMade pages shapes k = (k.is_mapped ≡ false) × StandsMade pages shapes k.state
+abbrev pub KeepsMade : ℕ → ℕ → List Shape → KeptSeen → Type 0
+KeepsMade base pages shapes k = (k.is_mapped ≡ false) × StandsMade base pages shapes k.state
 
-pub record HasMade (pages : ℕ) (shapes : List DeviceShape) (status : ℕ) (after : Option KeptSeen) : Type 0 where
+pub record HasMade (base : ℕ) (pages : ℕ) (shapes : List DeviceShape) (status : ℕ) (after : Option KeptSeen) : Type 0 where
   pub kept : KeptSeen
   pub is_there : after ≡ Some kept
-  pub is_made : KeepsMade pages (shapes_of shapes) kept
+  pub is_made : KeepsMade base pages (shapes_of shapes) kept
   pub status_is : status ≡ done
 
 -- Memory was refused, and nothing changed.
@@ -71,10 +71,10 @@ pub record HasNoMemory (old : Option KeptSeen) (status : ℕ) (after : Option Ke
   pub status_is : status ≡ no_memory
   pub same : after ≡ old
 
-abbrev pub MakesBy : Option ℕ → Option KeptSeen → ℕ → List DeviceShape → ℕ → Option KeptSeen → Type 0
-MakesBy (Some refusal) old pages shapes status after = (status ≡ refusal) × (after ≡ old)
-MakesBy None old pages shapes status after = HasMade pages shapes status after ⊎ HasNoMemory old status after
+abbrev pub MakesBy : ℕ → Option ℕ → Option KeptSeen → ℕ → List DeviceShape → ℕ → Option KeptSeen → Type 0
+MakesBy base (Some refusal) old pages shapes status after = (status ≡ refusal) × (after ≡ old)
+MakesBy base None old pages shapes status after = HasMade base pages shapes status after ⊎ HasNoMemory old status after
 
 -- A machine was made, or the status says why not, and nothing changed.
-abbrev pub Makes : Option KeptSeen → ℕ → List DeviceShape → ℕ → Option KeptSeen → Type 0
-Makes old pages shapes status after = MakesBy (make_refusal old pages shapes) old pages shapes status after
+abbrev pub Makes : ℕ → Option KeptSeen → ℕ → List DeviceShape → ℕ → Option KeptSeen → Type 0
+Makes base old pages shapes status after = MakesBy base (make_refusal old pages shapes) old pages shapes status after

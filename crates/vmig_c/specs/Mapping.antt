@@ -1,6 +1,6 @@
 -- Machines whose disks lie in memory of the caller.
 use Rattle.std.specs.Prelude.{◌≡◌, ◌⊎◌, ℕ, if◌then◌else◌, true, List, [], All, length, map, Option, Some, None}
-use Rattle.machine.specs.First.{are_same, first_machine}
+use Rattle.machine.specs.First.{are_same, first_machine_at}
 use Rattle.machine.specs.Seen.{Seen, state_of}
 use Rattle.machine.specs.Shapes.{disk_sizes}
 use Rattle.machine.specs.Sound.{IsSound}
@@ -25,23 +25,23 @@ pub record AreTaken (old new : List Image) : Type 0 where
   pub empty : All (λ i. i.content ≡ []) new
 
 -- The new machine of these pages and devices, over disks of these sectors.
-pub record IsMapped (pages : ℕ) (shapes : List Shape) (disks : List (List (List ℕ))) (m : Seen) : Type 0 where
-  pub first : state_of m ≡ first_machine pages shapes (map (map Some) disks)
+pub record IsMapped (base : ℕ) (pages : ℕ) (shapes : List Shape) (disks : List (List (List ℕ))) (m : Seen) : Type 0 where
+  pub first : state_of m ≡ first_machine_at base pages shapes (map (map Some) disks)
   pub plain : ArePlain m
   pub sound : IsSound (state_of m)
 
 -- It is not being migrated, and its disks lie in memory of the caller.
-abbrev pub StandsMapped : ℕ → List Shape → List (List (List ℕ)) → State → Type 0
-StandsMapped pages shapes disks (Still m) = IsMapped pages shapes disks m
-StandsMapped pages shapes disks _ = ⊥
+abbrev pub StandsMapped : ℕ → ℕ → List Shape → List (List (List ℕ)) → State → Type 0
+StandsMapped base pages shapes disks (Still m) = IsMapped base pages shapes disks m
+StandsMapped base pages shapes disks _ = ⊥
 
-abbrev pub KeepsMapped : ℕ → List Shape → List (List (List ℕ)) → KeptSeen → Type 0
-KeepsMapped pages shapes disks k = (k.is_mapped ≡ true) × StandsMapped pages shapes disks k.state
+abbrev pub KeepsMapped : ℕ → ℕ → List Shape → List (List (List ℕ)) → KeptSeen → Type 0
+KeepsMapped base pages shapes disks k = (k.is_mapped ≡ true) × StandsMapped base pages shapes disks k.state
 
-pub record HasMapped (pages : ℕ) (shapes : List DeviceShape) (images new_images : List Image) (status : ℕ) (after : Option KeptSeen) : Type 0 where
+pub record HasMapped (base : ℕ) (pages : ℕ) (shapes : List DeviceShape) (images new_images : List Image) (status : ℕ) (after : Option KeptSeen) : Type 0 where
   pub kept : KeptSeen
   pub is_there : after ≡ Some kept
-  pub is_made : KeepsMapped pages (shapes_of shapes) (contents images) kept
+  pub is_made : KeepsMapped base pages (shapes_of shapes) (contents images) kept
   pub taken : AreTaken images new_images
   pub status_is : status ≡ done
 
@@ -56,10 +56,10 @@ abbrev pub mapped_refusal : Option ℕ → List DeviceShape → List Image → O
 mapped_refusal (Some refusal) shapes images = Some refusal
 mapped_refusal None shapes images = if are_same (disk_sizes (shapes_of shapes)) (counts images) then None else Some bad_images
 
-abbrev pub MapsBy : Option ℕ → Option KeptSeen → ℕ → List DeviceShape → List Image → List Image → ℕ → Option KeptSeen → Type 0
-MapsBy (Some refusal) old pages shapes images new_images status after = IsUnmade refusal old images new_images status after
-MapsBy None old pages shapes images new_images status after = HasMapped pages shapes images new_images status after ⊎ IsUnmade no_memory old images new_images status after
+abbrev pub MapsBy : ℕ → Option ℕ → Option KeptSeen → ℕ → List DeviceShape → List Image → List Image → ℕ → Option KeptSeen → Type 0
+MapsBy base (Some refusal) old pages shapes images new_images status after = IsUnmade refusal old images new_images status after
+MapsBy base None old pages shapes images new_images status after = HasMapped base pages shapes images new_images status after ⊎ IsUnmade no_memory old images new_images status after
 
 -- A machine was made over disks in the images, which were taken, or the status says why not.
-abbrev pub Maps : Option KeptSeen → ℕ → List DeviceShape → List Image → List Image → ℕ → Option KeptSeen → Type 0
-Maps old pages shapes images new_images status after = MapsBy (mapped_refusal (make_refusal old pages shapes) shapes images) old pages shapes images new_images status after
+abbrev pub Maps : ℕ → Option KeptSeen → ℕ → List DeviceShape → List Image → List Image → ℕ → Option KeptSeen → Type 0
+Maps base old pages shapes images new_images status after = MapsBy base (mapped_refusal (make_refusal old pages shapes) shapes images) old pages shapes images new_images status after

@@ -1,10 +1,10 @@
 -- A caller who keeps the guest's RAM in memory of its own, and mirrors it into the machine: whole pages are handed in and out,
 -- and a list of the caller holds the version at which it had each page.
-use Rattle.std.specs.Prelude.{◌≡◌, ℕ, ◌*◌, ◌-◌, ◌^◌, ◌<◌, ◌≤◌, ◌==◌, ◌&&◌, ◌||◌, ◌++◌, not, nat_lt, if◌then◌else◌, Bool, true, false, List, [], ◌∷◌, Option, Some, None, length, take, drop, slice_index, slice_set}
-use Rattle.guestmem.specs.declared.limits.TheConstants.{PAGE_SIZE}
+use Rattle.std.specs.Prelude.{◌≡◌, ℕ, ◌-◌, ◌^◌, ◌<◌, ◌≤◌, ◌==◌, ◌&&◌, ◌||◌, ◌++◌, not, nat_lt, if◌then◌else◌, Bool, true, false, List, [], ◌∷◌, Option, Some, None, length, take, drop, slice_index, slice_set}
 use Rattle.guestmem.specs.Memory.{IsMemory, Memory}
 use Rattle.guestmem.specs.Page.{page_of}
 use Rattle.machine.specs.Applied.{IsApplied}
+use Rattle.machine.specs.Parked.{page_address}
 use Rattle.machine.specs.Refusal.{code_of}
 use Rattle.machine.specs.Seen.{Seen}
 use Rattle.machine.specs.declared.event.Event.{Event}
@@ -78,7 +78,7 @@ push_refusal k pages bytes entries =
 
 -- A page was handed in: the guest wrote it whole, and its version after that is noted.
 pub record IsPushed (k : State) (n : ℕ) (ram seen new_seen : List ℕ) (next : State) : Type 0 where
-  pub written : TellsSo k (MemWrite (PAGE_SIZE * n) (page_of ram n)) done next
+  pub written : TellsSo k (MemWrite (page_address (machine_in k) n) (page_of ram n)) done next
   pub noted : new_seen ≡ slice_set seen n (slice_index (memory_in next).versions n)
 
 -- Pages were handed in one after another.

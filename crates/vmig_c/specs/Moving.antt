@@ -1,6 +1,7 @@
 -- Machines as bytes.
 use Rattle.std.specs.Prelude.{◌≡◌, ◌⊎◌, ℕ, ◌+◌, nat_lt, Bool, true, false, List, ◌++◌, length, drop, Option, Some, None}
 use Rattle.machine.specs.Seen.{Seen, state_of}
+use Rattle.machine.specs.State.{base_of}
 use Rattle.sender.specs.LiveState.{LiveSeen}
 use Rattle.wire.specs.Stream.{whole}
 use Rattle.receiver.specs.Codes.{recv_code_of}
@@ -66,9 +67,10 @@ abbrev pub Saved : Option KeptSeen → ℕ → ℕ → ℕ → List ℕ → List
 Saved None status len old_len buf new_buf after = (status ≡ no_machine) × (len ≡ old_len) × (new_buf ≡ buf) × (after ≡ None)
 Saved (Some k) status len old_len buf new_buf after = HasSaved k status len old_len buf new_buf after
 
--- The bytes are a stream of this machine, in which n rounds ended. Its disks lie in memory.
+-- The bytes are a stream of this machine, in which n rounds ended. Its RAM begins at address 0, and its disks lie in memory.
 pub record IsReceivedAs (bytes : List ℕ) (m : Seen) (n : ℕ) : Type 0 where
   pub received : IsReceived bytes (state_of m) n
+  pub base : base_of (state_of m).devices ≡ 0
   pub plain : ArePlain m
 
 abbrev pub StandsReceived : List ℕ → State → ℕ → Type 0
@@ -95,7 +97,7 @@ pub record IsRefused (bytes : List ℕ) (status : ℕ) : Type 0 where
   pub error : RecvError
   pub disks : List (List (List ℕ))
   pub fit : AreFitting bytes (sizes_of mem_state disks)
-  pub refuses : RefusesSlice (sizes_of mem_state disks) (disk_marks_of mem_state disks) bytes error
+  pub refuses : RefusesSlice 0 (sizes_of mem_state disks) (disk_marks_of mem_state disks) bytes error
   pub possible : IsPossible error
   pub status_is : status ≡ refusal_status error
 

@@ -4,7 +4,7 @@ use Rattle.region.specs.Empty.{empty_slot}
 use Rattle.region.specs.declared.slot.Slot.{Slot}
 use Rattle.guestmem.specs.declared.limits.TheConstants.{PAGE_SIZE, PAGES_MAX}
 use Rattle.blk.specs.Sectors.{Sector}
-use Rattle.machine.specs.First.{are_same, machine_over}
+use Rattle.machine.specs.First.{are_same, machine_over_at}
 use Rattle.machine.specs.Seen.{Seen, state_of}
 use Rattle.machine.specs.Shapes.{disk_sizes}
 use Rattle.machine.specs.Sound.{IsSound}
@@ -33,24 +33,24 @@ has_images [] = false
 has_images images = true
 
 -- The new machine of these devices whose RAM is the bytes in the slot, and lies where they lie.
-pub record IsMadeOver (ram : Slot) (shapes : List Shape) (disks : List (List Sector)) (m : Seen) : Type 0 where
-  pub first : state_of m ≡ machine_over ram.content shapes disks
+pub record IsMadeOver (base : ℕ) (ram : Slot) (shapes : List Shape) (disks : List (List Sector)) (m : Seen) : Type 0 where
+  pub first : state_of m ≡ machine_over_at base ram.content shapes disks
   pub place : m.memory.place ≡ Some (place_of ram)
   pub plain : ArePlain m
   pub sound : IsSound (state_of m)
 
-abbrev pub StandsOver : Slot → List Shape → List (List Sector) → State → Type 0
-StandsOver ram shapes disks (Still m) = IsMadeOver ram shapes disks m
-StandsOver ram shapes disks _ = ⊥
+abbrev pub StandsOver : ℕ → Slot → List Shape → List (List Sector) → State → Type 0
+StandsOver base ram shapes disks (Still m) = IsMadeOver base ram shapes disks m
+StandsOver base ram shapes disks _ = ⊥
 
 -- It is not being migrated, and its disks lie in memory of the caller where there are images.
-abbrev pub KeepsOver : Slot → List Shape → List Image → KeptSeen → Type 0
-KeepsOver ram shapes images k = (k.is_mapped ≡ has_images images) × StandsOver ram shapes (first_disks shapes images) k.state
+abbrev pub KeepsOver : ℕ → Slot → List Shape → List Image → KeptSeen → Type 0
+KeepsOver base ram shapes images k = (k.is_mapped ≡ has_images images) × StandsOver base ram shapes (first_disks shapes images) k.state
 
-pub record HasMadeOver (ram new_ram : Slot) (shapes : List DeviceShape) (images new_images : List Image) (status : ℕ) (after : Option KeptSeen) : Type 0 where
+pub record HasMadeOver (base : ℕ) (ram new_ram : Slot) (shapes : List DeviceShape) (images new_images : List Image) (status : ℕ) (after : Option KeptSeen) : Type 0 where
   pub kept : KeptSeen
   pub is_there : after ≡ Some kept
-  pub is_made : KeepsOver ram (shapes_of shapes) images kept
+  pub is_made : KeepsOver base ram (shapes_of shapes) images kept
   pub ram_taken : new_ram ≡ empty_slot
   pub taken : AreTaken images new_images
   pub status_is : status ≡ done
@@ -79,33 +79,33 @@ abbrev pub over_refusal : Option KeptSeen → ℕ → List DeviceShape → List 
 over_refusal (Some m) bytes shapes images = Some in_use
 over_refusal None bytes shapes images = over_refusal_of bytes shapes images
 
-abbrev pub MakesOverBy : Option ℕ → Option KeptSeen → Slot → Slot → List DeviceShape → List Image → List Image → ℕ → Option KeptSeen → Type 0
-MakesOverBy (Some refusal) old ram new_ram shapes images new_images status after = IsUnmadeOver refusal old ram new_ram images new_images status after
-MakesOverBy None old ram new_ram shapes images new_images status after =
-    HasMadeOver ram new_ram shapes images new_images status after ⊎ IsUnmadeOver no_memory old ram new_ram images new_images status after
+abbrev pub MakesOverBy : ℕ → Option ℕ → Option KeptSeen → Slot → Slot → List DeviceShape → List Image → List Image → ℕ → Option KeptSeen → Type 0
+MakesOverBy base (Some refusal) old ram new_ram shapes images new_images status after = IsUnmadeOver refusal old ram new_ram images new_images status after
+MakesOverBy base None old ram new_ram shapes images new_images status after =
+    HasMadeOver base ram new_ram shapes images new_images status after ⊎ IsUnmadeOver no_memory old ram new_ram images new_images status after
 
 -- A machine was made whose RAM lies in the memory of the slot, which was taken, or the status says why not.
-abbrev pub MakesOver : Option KeptSeen → Slot → Slot → List DeviceShape → List Image → List Image → ℕ → Option KeptSeen → Type 0
-MakesOver old ram new_ram shapes images new_images status after =
-    MakesOverBy (over_refusal old (length ram.content) shapes images) old ram new_ram shapes images new_images status after
+abbrev pub MakesOver : ℕ → Option KeptSeen → Slot → Slot → List DeviceShape → List Image → List Image → ℕ → Option KeptSeen → Type 0
+MakesOver base old ram new_ram shapes images new_images status after =
+    MakesOverBy base (over_refusal old (length ram.content) shapes images) old ram new_ram shapes images new_images status after
 
 -- As above, over disks that hold the contents: their sectors one after another, in memory of the library.
-pub record IsMadeOverWith (ram : Slot) (shapes : List Shape) (contents : List ℕ) (m : Seen) : Type 0 where
+pub record IsMadeOverWith (base : ℕ) (ram : Slot) (shapes : List Shape) (contents : List ℕ) (m : Seen) : Type 0 where
   pub disks : List (List (List ℕ))
   pub are : AreImages contents (disk_sizes shapes) disks
-  pub made : IsMadeOver ram shapes (map (λ d. map Some d) disks) m
+  pub made : IsMadeOver base ram shapes (map (λ d. map Some d) disks) m
 
-abbrev pub StandsOverWith : Slot → List Shape → List ℕ → State → Type 0
-StandsOverWith ram shapes contents (Still m) = IsMadeOverWith ram shapes contents m
-StandsOverWith ram shapes contents _ = ⊥
+abbrev pub StandsOverWith : ℕ → Slot → List Shape → List ℕ → State → Type 0
+StandsOverWith base ram shapes contents (Still m) = IsMadeOverWith base ram shapes contents m
+StandsOverWith base ram shapes contents _ = ⊥
 
-abbrev pub KeepsOverWith : Slot → List Shape → List ℕ → KeptSeen → Type 0
-KeepsOverWith ram shapes contents k = (k.is_mapped ≡ false) × StandsOverWith ram shapes contents k.state
+abbrev pub KeepsOverWith : ℕ → Slot → List Shape → List ℕ → KeptSeen → Type 0
+KeepsOverWith base ram shapes contents k = (k.is_mapped ≡ false) × StandsOverWith base ram shapes contents k.state
 
-pub record HasMadeOverWith (ram new_ram : Slot) (shapes : List DeviceShape) (contents : List ℕ) (status : ℕ) (after : Option KeptSeen) : Type 0 where
+pub record HasMadeOverWith (base : ℕ) (ram new_ram : Slot) (shapes : List DeviceShape) (contents : List ℕ) (status : ℕ) (after : Option KeptSeen) : Type 0 where
   pub kept : KeptSeen
   pub is_there : after ≡ Some kept
-  pub is_made : KeepsOverWith ram (shapes_of shapes) contents kept
+  pub is_made : KeepsOverWith base ram (shapes_of shapes) contents kept
   pub ram_taken : new_ram ≡ empty_slot
   pub status_is : status ≡ done
 
@@ -127,13 +127,13 @@ abbrev pub over_with_refusal : Option KeptSeen → ℕ → List DeviceShape → 
 over_with_refusal (Some m) bytes shapes count = Some in_use
 over_with_refusal None bytes shapes count = over_with_refusal_of bytes shapes count
 
-abbrev pub MakesOverWithBy : Option ℕ → Option KeptSeen → Slot → Slot → List DeviceShape → List ℕ → ℕ → Option KeptSeen → Type 0
-MakesOverWithBy (Some refusal) old ram new_ram shapes contents status after = IsUnmadeIn refusal old ram new_ram status after
-MakesOverWithBy None old ram new_ram shapes contents status after =
-    HasMadeOverWith ram new_ram shapes contents status after ⊎ IsUnmadeIn no_memory old ram new_ram status after
+abbrev pub MakesOverWithBy : ℕ → Option ℕ → Option KeptSeen → Slot → Slot → List DeviceShape → List ℕ → ℕ → Option KeptSeen → Type 0
+MakesOverWithBy base (Some refusal) old ram new_ram shapes contents status after = IsUnmadeIn refusal old ram new_ram status after
+MakesOverWithBy base None old ram new_ram shapes contents status after =
+    HasMadeOverWith base ram new_ram shapes contents status after ⊎ IsUnmadeIn no_memory old ram new_ram status after
 
 -- A machine was made whose RAM lies in the memory of the slot, which was taken, and whose disks hold the contents, or the status says
 -- why not.
-abbrev pub MakesOverWith : Option KeptSeen → Slot → Slot → List DeviceShape → List ℕ → ℕ → Option KeptSeen → Type 0
-MakesOverWith old ram new_ram shapes contents status after =
-    MakesOverWithBy (over_with_refusal old (length ram.content) shapes (length contents)) old ram new_ram shapes contents status after
+abbrev pub MakesOverWith : ℕ → Option KeptSeen → Slot → Slot → List DeviceShape → List ℕ → ℕ → Option KeptSeen → Type 0
+MakesOverWith base old ram new_ram shapes contents status after =
+    MakesOverWithBy base (over_with_refusal old (length ram.content) shapes (length contents)) old ram new_ram shapes contents status after

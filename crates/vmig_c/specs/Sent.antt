@@ -1,14 +1,14 @@
 -- The migration of a machine out of a handle, from its first call on: its history, and the bytes that C has taken. What C has
 -- taken, followed by what waits, is all that a machine that is being migrated has written. So after a stop it is the whole
 -- stream of the machine, and what is made of it on the other side is the machine.
-use Rattle.std.specs.Prelude.{◌≡◌, ◌≢◌, ◌++◌, ℕ, List, [], Some, false, length, take}
+use Rattle.std.specs.Prelude.{◌≡◌, ◌≢◌, ◌++◌, ℕ, List, [], Some, false, length, map, take}
 use Rattle.region.specs.Address.{address}
 use Rattle.region.specs.declared.region.Region.{Region}
 use Rattle.guestmem.specs.Lent.{given_back}
 use Rattle.machine.specs.Effect.{Effect}
 use Rattle.machine.specs.Seen.{AreHonest, Seen, state_of}
 use Rattle.machine.specs.Sound.{IsSound}
-use Rattle.machine.specs.State.{MachineState}
+use Rattle.machine.specs.State.{MachineState, base_of}
 use Rattle.machine.specs.declared.event.Event.{Event}
 use Rattle.machine.specs.declared.event.Event.TheVariants.{Step}
 use Rattle.machine.specs.declared.reply.Reply.TheVariants.{DiskFailed}
@@ -16,7 +16,7 @@ use Rattle.sender.specs.Calls.{Serves}
 use Rattle.sender.specs.Follows.{Relates}
 use Rattle.sender.specs.History.{History, guest_events, has_fault, nothing, phase_of, text, then_came}
 use Rattle.sender.specs.LiveState.{LiveSeen, now}
-use Rattle.sender.specs.Parked.{KeepsWord, LiveParkedSeen, live_back, page_writes}
+use Rattle.sender.specs.Parked.{KeepsWord, LiveParkedSeen, live_back, live_base, page_writes}
 use Rattle.sender.specs.Stopping.{HasPlaces}
 use Rattle.sender.specs.Taking.{untaken}
 use Rattle.sender.specs.Unsynced.{FailsLiveFlush}
@@ -28,7 +28,7 @@ use Rattle.sender.specs.declared.phase.Phase.TheVariants as phases
 use Rattle.wire.specs.Sinks.{over_writer}
 use Rattle.wire.specs.Stream.{IsStream}
 use Rattle.vmig_c.specs.ArrivalSeen.{ArrivalSeen}
-use Rattle.vmig_c.specs.Awaited.{HasArrived, HasCome}
+use Rattle.vmig_c.specs.Awaited.{HasArrived, HasCome, awaited_base}
 use Rattle.vmig_c.specs.Lent.{IsLiveLoan}
 use Rattle.vmig_c.specs.Migrated.{HasTaken, HasTakenLent, IsFresh}
 use Rattle.vmig_c.specs.Mirror.{is_closed}
@@ -79,21 +79,27 @@ pub record GoesOnSent (m : MachineState) (h : History) (taken : List ℕ) (event
   pub came : guest_events history ≡ guest_events h ++ events
   pub text_is : text m history ≡ text m h
 
+-- The address at which RAM begins, while it is lent.
+abbrev pub lent_base : LiveParkedSeen → ℕ
+lent_base p = base_of (map (λ d. d.state) p.parked.devices)
+
 -- RAM that is given back by a caller that keeps its word is as if the guest had written the named pages by calls of the machine: so
 -- the history goes on by these writes.
 abbrev pub LentComesBackSent : Type 0
 LentComesBackSent = (m : MachineState) (h : History) (taken : List ℕ) (before after : Region) (pages : List ℕ) (p : LiveParkedSeen) → IsSentLent m h taken before p → KeepsWord before after (length p.parked.versions) pages
-    → GoesOnSent m h taken (page_writes pages after.content) (live_back p (given_back after.content (address after) p.parked.versions pages) pages)
+    → GoesOnSent m h taken (page_writes (lent_base p) pages after.content) (live_back p (given_back after.content (address after) p.parked.versions pages) pages)
 
 -- After a stop, what was taken, followed by what waits, is the stream of the machine.
 abbrev pub StoppedIsWhole : Type 0
 StoppedIsWhole = (m : MachineState) (h : History) (taken : List ℕ) (l : LiveSeen) → IsSent m h taken l → IsSound m → phase_of h ≡ phases.Stopped → IsStream (taken ++ l.out.held) (now l)
 
--- What arrives, or is received, of these bytes is the machine.
+-- What arrives of these bytes is the machine, where its RAM was to begin at the address where the machine's begins: a stream does not
+-- say where RAM begins.
 abbrev pub ArrivedIsSent : Type 0
-ArrivedIsSent = (m : MachineState) (h : History) (taken : List ℕ) (l : LiveSeen) (r : ArrivalSeen) (arrived : Seen) → IsSent m h taken l → IsSound m → phase_of h ≡ phases.Stopped → HasCome r (taken ++ l.out.held) → HasArrived r arrived
+ArrivedIsSent = (m : MachineState) (h : History) (taken : List ℕ) (l : LiveSeen) (r : ArrivalSeen) (arrived : Seen) → IsSent m h taken l → IsSound m → phase_of h ≡ phases.Stopped → HasCome r (taken ++ l.out.held) → awaited_base r ≡ live_base l → HasArrived r arrived
     → state_of arrived ≡ now l
 
+-- The same of what is received, whose RAM begins at address 0.
 abbrev pub ReceivedIsSent : Type 0
-ReceivedIsSent = (m : MachineState) (h : History) (taken : List ℕ) (l : LiveSeen) (received : Seen) (rounds : ℕ) → IsSent m h taken l → IsSound m → phase_of h ≡ phases.Stopped → IsReceivedAs (taken ++ l.out.held) received rounds
+ReceivedIsSent = (m : MachineState) (h : History) (taken : List ℕ) (l : LiveSeen) (received : Seen) (rounds : ℕ) → IsSent m h taken l → IsSound m → phase_of h ≡ phases.Stopped → live_base l ≡ 0 → IsReceivedAs (taken ++ l.out.held) received rounds
     → state_of received ≡ now l

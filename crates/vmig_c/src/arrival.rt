@@ -1,10 +1,10 @@
 //! A machine whose stream arrives in pieces.
 
-ghost use Rattle.std.specs.Prelude.{◌++◌, ℕ, List, IfErr, IfOk, MatchOption};
+ghost use Rattle.std.specs.Prelude.{◌≡◌, ◌++◌, ℕ, List, IfErr, IfOk, MatchOption};
 ghost use Rattle.machine.specs.Shapes.{disk_sizes};
 ghost use Rattle.receiver.specs.Disks.{sizes_of};
 ghost use Rattle.vmig_c.specs.ArrivalSeen.{AtBody};
-ghost use Rattle.vmig_c.specs.Awaited.{AreSteady, GoesOnWith, IsComing, IsFed, IsFedTo, TellsOf, TellsWhy, awaited_by};
+ghost use Rattle.vmig_c.specs.Awaited.{AreSteady, GoesOnWith, IsComing, IsFed, IsFedTo, TellsOf, TellsWhy, awaited_base, awaited_by};
 ghost use Rattle.vmig_c.specs.Headed.{AreFitting, HasNoHeader};
 ghost use Rattle.vmig_c.specs.Plain.{mem_state};
 
@@ -25,8 +25,8 @@ const HEADER_MAX: usize = FRONT_LEN + DEVICES_MAX * SHAPE_MAX;
 /// How far a machine that arrives has come.
 #[derive(Drop)]
 pub enum Progress {
-    /// The header is incomplete: these are the bytes so far.
-    Head(Vec<u8>),
+    /// The header is incomplete: the address at which RAM will begin, and the bytes so far.
+    Head(u64, Vec<u8>),
 
     /// The header was read, and the disks are of its sizes.
     Body(Receiver<MemDisk>),
@@ -58,14 +58,14 @@ impl Arrival {
     ghost use Rattle.std.specs.Prelude.{◌≡◌, IfErr, IfOk};
     ghost use Rattle.vmig_c.specs.Awaited.{CountsRounds, HasArrived, HasSameDisks, IsAtHead, IsClosed, IsFed, TellsEnd, TellsOf, nothing_fed, refused_for_good};
 
-    /// An arrival that was fed nothing yet. It takes no memory.
+    /// An arrival that was fed nothing yet, of a machine whose RAM will begin at the address `base`. It takes no memory.
     #[tactic(auto, using(crate::proofs::Awaited::empty_head))]
-    pub(crate) fn new(alloc: Global) -> Arrival
-        ensures { result ≡ nothing_fed }
+    pub(crate) fn new(alloc: Global, base: u64) -> Arrival
+        ensures { result ≡ nothing_fed base }
     {
         Arrival {
             alloc,
-            progress: Progress::Head(Vec::new(alloc)),
+            progress: Progress::Head(base, Vec::new(alloc)),
         }
     }
 
@@ -92,7 +92,7 @@ impl Arrival {
                     Err(error)
                 }
             },
-            Progress::Head(_) => self.feed_head(piece),
+            Progress::Head(..) => self.feed_head(piece),
             Progress::Failed => Err(RecvError::AlreadyFailed),
         }
     }
@@ -104,10 +104,10 @@ impl Arrival {
         ensures fed { IfOk result (λ x. IsFed self.old piece.now self.new) }
         ensures refused { IfErr result (λ e. TellsOf self.old piece.now e × IsClosed self.old self.new) }
     {
-        let Progress::Head(held) = mem::replace(&mut self.progress, Progress::Failed) else {
+        let Progress::Head(base, held) = mem::replace(&mut self.progress, Progress::Failed) else {
             unreachable!()
         };
-        match take_head(self.alloc, held, piece) {
+        match take_head(self.alloc, base, held, piece) {
             Ok(progress) => {
                 self.progress = progress;
                 Ok(())
@@ -123,7 +123,7 @@ impl Arrival {
     {
         match &self.progress {
             Progress::Body(receiver) => receiver.rounds(),
-            Progress::Head(_) | Progress::Failed => 0,
+            Progress::Head(..) | Progress::Failed => 0,
         }
     }
 
@@ -135,7 +135,7 @@ impl Arrival {
     {
         let Arrival { alloc: _, progress } = self;
         match progress {
-            Progress::Head(_) => Err(RecvError::Truncated),
+            Progress::Head(..) => Err(RecvError::Truncated),
             Progress::Body(receiver) => receiver.finish(),
             Progress::Failed => Err(RecvError::AlreadyFailed),
         }
@@ -158,10 +158,11 @@ fn take_body(receiver: Receiver<MemDisk>, piece: &[u8]) -> Result<Progress, Recv
 
 /// Takes the next piece of a stream whose header is incomplete. Of a piece that completes it, only the bytes that may belong to
 /// the header are copied.
-fn take_head(alloc: Global, held: Vec<u8>, piece: &[u8]) -> Result<Progress, RecvError>
+fn take_head(alloc: Global, base: u64, held: Vec<u8>, piece: &[u8]) -> Result<Progress, RecvError>
     ensures coming { IfOk result (λ next. IsComing next) }
+    ensures base { IfOk result (λ next. awaited_base (awaited_by next) ≡ base) }
     ensures goes_on { IfOk result (λ next. GoesOnWith (held.items ++ piece.now) (awaited_by next)) }
-    ensures refused { IfErr result (λ e. TellsWhy (held.items ++ piece.now) e) }
+    ensures refused { IfErr result (λ e. TellsWhy base (held.items ++ piece.now) e) }
 {
     let mut held = held;
     let few = piece.len().min(HEADER_MAX.saturating_sub(held.len()));
@@ -169,44 +170,50 @@ fn take_head(alloc: Global, held: Vec<u8>, piece: &[u8]) -> Result<Progress, Rec
     if held.extend_from_slice(front).is_err() {
         return Err(RecvError::NoMemory);
     }
-    match headed(alloc, &held) {
+    match headed(alloc, base, &held) {
         Ok(Some(receiver)) => take_body(receiver, rest),
-        Ok(None) => go_on_headless(alloc, held, rest),
+        Ok(None) => go_on_headless(alloc, base, held, rest),
         Err(error) => Err(error),
     }
 }
 
 /// Takes the rest of a piece behind bytes that begin with no header. It is copied only if nothing is wrong with them.
 #[tactic(auto, using(crate::proofs::Awaited::head_goes_on))]
-fn go_on_headless(alloc: Global, held: Vec<u8>, rest: &[u8]) -> Result<Progress, RecvError>
+fn go_on_headless(
+    alloc: Global,
+    base: u64,
+    held: Vec<u8>,
+    rest: &[u8],
+) -> Result<Progress, RecvError>
     requires { HasNoHeader held.items }
     ensures coming { IfOk result (λ next. IsComing next) }
+    ensures base { IfOk result (λ next. awaited_base (awaited_by next) ≡ base) }
     ensures goes_on { IfOk result (λ next. GoesOnWith (held.items ++ rest.now) (awaited_by next)) }
-    ensures refused { IfErr result (λ e. TellsWhy (held.items ++ rest.now) e) }
+    ensures refused { IfErr result (λ e. TellsWhy base (held.items ++ rest.now) e) }
 {
-    if let Err(error) = fed(alloc, Vec::new(alloc), &held) {
+    if let Err(error) = fed(alloc, base, Vec::new(alloc), &held) {
         return Err(error);
     }
     if rest.is_empty() {
-        return Ok(Progress::Head(held));
+        return Ok(Progress::Head(base, held));
     }
     let mut held = held;
     if held.extend_from_slice(rest).is_err() {
         return Err(RecvError::NoMemory);
     }
-    begin(alloc, held)
+    begin(alloc, base, held)
 }
 
 /// A receiver that was fed the bytes, if they begin with a header.
-fn headed(alloc: Global, bytes: &[u8]) -> Result<Option<Receiver<MemDisk>>, RecvError>
-    ensures begun { IfOk result (λ found. MatchOption found (HasNoHeader bytes.now) (λ r. GoesOnWith bytes.now (AtBody r) × AreSteady r)) }
-    ensures refused { IfErr result (λ e. (rest : List ℕ) → TellsWhy (bytes.now ++ rest) e) }
+fn headed(alloc: Global, base: u64, bytes: &[u8]) -> Result<Option<Receiver<MemDisk>>, RecvError>
+    ensures begun { IfOk result (λ found. MatchOption found (HasNoHeader bytes.now) (λ r. (r.base ≡ base) × GoesOnWith bytes.now (AtBody r) × AreSteady r)) }
+    ensures refused { IfErr result (λ e. (rest : List ℕ) → TellsWhy base (bytes.now ++ rest) e) }
 {
     let Ok(found) = decode_header(alloc, bytes) else {
         return Err(RecvError::NoMemory);
     };
     match found {
-        Some(header) => match begun(alloc, &header.shapes, bytes) {
+        Some(header) => match begun(alloc, base, &header.shapes, bytes) {
             Ok(receiver) => Ok(Some(receiver)),
             Err(error) => Err(error),
         },
@@ -216,15 +223,16 @@ fn headed(alloc: Global, bytes: &[u8]) -> Result<Option<Receiver<MemDisk>>, Recv
 
 /// Decodes the header. While it is incomplete, a receiver without disks checks the bytes so far.
 #[tactic(auto, using(crate::proofs::Awaited::head_goes_on))]
-fn begin(alloc: Global, held: Vec<u8>) -> Result<Progress, RecvError>
+fn begin(alloc: Global, base: u64, held: Vec<u8>) -> Result<Progress, RecvError>
     ensures coming { IfOk result (λ next. IsComing next) }
+    ensures base { IfOk result (λ next. awaited_base (awaited_by next) ≡ base) }
     ensures goes_on { IfOk result (λ next. GoesOnWith held.items (awaited_by next)) }
-    ensures refused { IfErr result (λ e. TellsWhy held.items e) }
+    ensures refused { IfErr result (λ e. TellsWhy base held.items e) }
 {
-    match headed(alloc, &held) {
+    match headed(alloc, base, &held) {
         Ok(Some(receiver)) => Ok(Progress::Body(receiver)),
-        Ok(None) => match fed(alloc, Vec::new(alloc), &held) {
-            Ok(_receiver) => Ok(Progress::Head(held)),
+        Ok(None) => match fed(alloc, base, Vec::new(alloc), &held) {
+            Ok(_receiver) => Ok(Progress::Head(base, held)),
             Err(error) => Err(error),
         },
         Err(error) => Err(error),
@@ -232,23 +240,33 @@ fn begin(alloc: Global, held: Vec<u8>) -> Result<Progress, RecvError>
 }
 
 /// A receiver over disks of zeros for these devices, which was fed the bytes.
-fn begun(alloc: Global, shapes: &[Shape], bytes: &[u8]) -> Result<Receiver<MemDisk>, RecvError>
-    ensures begun { IfOk result (λ r. IsFedTo (disk_sizes shapes.now) bytes.now r) }
-    ensures refused { AreFitting bytes.now (disk_sizes shapes.now) → IfErr result (λ e. TellsWhy bytes.now e) }
+fn begun(
+    alloc: Global,
+    base: u64,
+    shapes: &[Shape],
+    bytes: &[u8],
+) -> Result<Receiver<MemDisk>, RecvError>
+    ensures begun { IfOk result (λ r. IsFedTo base (disk_sizes shapes.now) bytes.now r) }
+    ensures refused { AreFitting bytes.now (disk_sizes shapes.now) → IfErr result (λ e. TellsWhy base bytes.now e) }
 {
     let Ok(disks) = zero_disks(alloc, shapes) else {
         return Err(RecvError::NoMemory);
     };
-    fed(alloc, disks, bytes)
+    fed(alloc, base, disks, bytes)
 }
 
 /// A receiver over these disks, which was fed the bytes.
 #[tactic(auto, using(crate::proofs::Awaited::all_fed, crate::proofs::Awaited::all_refused, crate::proofs::Awaited::memory_disks))]
-fn fed(alloc: Global, disks: Vec<MemDisk>, bytes: &[u8]) -> Result<Receiver<MemDisk>, RecvError>
-    ensures fed { IfOk result (λ r. IsFedTo (sizes_of mem_state disks.items) bytes.now r) }
-    ensures refused { AreFitting bytes.now (sizes_of mem_state disks.items) → IfErr result (λ e. TellsWhy bytes.now e) }
+fn fed(
+    alloc: Global,
+    base: u64,
+    disks: Vec<MemDisk>,
+    bytes: &[u8],
+) -> Result<Receiver<MemDisk>, RecvError>
+    ensures fed { IfOk result (λ r. IsFedTo base (sizes_of mem_state disks.items) bytes.now r) }
+    ensures refused { AreFitting bytes.now (sizes_of mem_state disks.items) → IfErr result (λ e. TellsWhy base bytes.now e) }
 {
-    let mut receiver = Receiver::new(alloc, disks);
+    let mut receiver = Receiver::new_at(alloc, disks, base);
     match receiver.feed(bytes) {
         Ok(()) => Ok(receiver),
         Err(error) => Err(error),

@@ -23,7 +23,7 @@ pub(crate) fn feed_first(alloc: Global, machine: &mut Handle, piece: &[u8]) -> u
     requires { IsNone machine.old.machine }
     ensures { Fed machine.old.machine piece.now result machine.new.machine }
 {
-    let arriving = Kept::new(alloc, Contents::Arriving(Arrival::new(alloc)));
+    let arriving = Kept::new(alloc, Contents::Arriving(Arrival::new(alloc, 0)));
     let Ok(boxed) = Box::new(alloc, arriving) else {
         return NO_MEMORY;
     };

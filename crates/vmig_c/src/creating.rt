@@ -30,9 +30,23 @@ pub(crate) fn make_from(alloc: Global, setup: &mut Setup, machine: &mut Handle) 
         return make_in_own_ram(alloc, setup, machine);
     }
     if setup.contents.is_empty() {
-        return make_over(alloc, &mut setup.ram, setup.shapes, setup.images, machine);
+        return make_over(
+            alloc,
+            setup.base,
+            &mut setup.ram,
+            setup.shapes,
+            setup.images,
+            machine,
+        );
     }
-    make_over_with(alloc, &mut setup.ram, setup.shapes, setup.contents, machine)
+    make_over_with(
+        alloc,
+        setup.base,
+        &mut setup.ram,
+        setup.shapes,
+        setup.contents,
+        machine,
+    )
 }
 
 /// Makes a machine whose RAM is zeros in memory of the library.
@@ -43,23 +57,38 @@ fn make_in_own_ram(alloc: Global, setup: &mut Setup, machine: &mut Handle) -> u3
     ensures slots { setup.new.images.ghost_name ≡ setup.old.images.ghost_name }
 {
     if !is_none(setup.images) {
-        return make_mapped(alloc, setup.pages, setup.shapes, setup.images, machine);
+        return make_mapped(
+            alloc,
+            setup.base,
+            setup.pages,
+            setup.shapes,
+            setup.images,
+            machine,
+        );
     }
     if !setup.contents.is_empty() {
-        return make_with(alloc, setup.pages, setup.shapes, setup.contents, machine);
+        return make_with(
+            alloc,
+            setup.base,
+            setup.pages,
+            setup.shapes,
+            setup.contents,
+            machine,
+        );
     }
-    make_zeros(alloc, setup.pages, setup.shapes, machine)
+    make_zeros(alloc, setup.base, setup.pages, setup.shapes, machine)
 }
 
-/// Makes a machine of `pages` pages of zeros and of these devices, whose disks are zeros in memory.
+/// Makes a machine of `pages` pages of zeros from the address `base` on and of these devices, whose disks are zeros in memory.
 #[tactic(auto, using(crate::proofs::ByHandle::make_used, crate::proofs::ByHandle::make_beyond, crate::proofs::ByHandle::make_full, crate::proofs::ByHandle::make_done))]
 pub(crate) fn make_zeros(
     alloc: Global,
+    base: u64,
     pages: u32,
     shapes: &[DeviceShape],
     machine: &mut Handle,
 ) -> u32
-    ensures { Makes machine.old.machine pages shapes.now result machine.new.machine }
+    ensures { Makes base machine.old.machine pages shapes.now result machine.new.machine }
 {
     if machine.is_made() {
         return IN_USE;
@@ -67,7 +96,7 @@ pub(crate) fn make_zeros(
     if are_beyond_limits(pages, shapes) {
         return BAD_SHAPE;
     }
-    let Ok(made) = machine_of(alloc, pages, shapes) else {
+    let Ok(made) = machine_of(alloc, base, pages, shapes) else {
         return NO_MEMORY;
     };
     mem::replace(machine, Handle::of(made)).gone();
@@ -78,12 +107,13 @@ pub(crate) fn make_zeros(
 #[tactic(auto, using(crate::proofs::Imaging::with_used, crate::proofs::Imaging::with_beyond, crate::proofs::Imaging::with_others, crate::proofs::Imaging::with_full, crate::proofs::Imaging::with_done))]
 fn make_with(
     alloc: Global,
+    base: u64,
     pages: u32,
     shapes: &[DeviceShape],
     contents: &[u8],
     machine: &mut Handle,
 ) -> u32
-    ensures { MakesWith machine.old.machine pages shapes.now contents.now result machine.new.machine }
+    ensures { MakesWith base machine.old.machine pages shapes.now contents.now result machine.new.machine }
 {
     if machine.is_made() {
         return IN_USE;
@@ -94,7 +124,7 @@ fn make_with(
     if !are_images(contents.len(), shapes) {
         return BAD_IMAGES;
     }
-    let Ok(made) = machine_with(alloc, pages, shapes, contents) else {
+    let Ok(made) = machine_with(alloc, base, pages, shapes, contents) else {
         return NO_MEMORY;
     };
     mem::replace(machine, Handle::of(made)).gone();
@@ -106,12 +136,13 @@ fn make_with(
 #[tactic(auto, using(crate::proofs::MappingImages::maps_used, crate::proofs::MappingImages::maps_beyond, crate::proofs::MappingImages::maps_others, crate::proofs::MappingImages::maps_full, crate::proofs::MappingImages::maps_done))]
 fn make_mapped(
     alloc: Global,
+    base: u64,
     pages: u32,
     shapes: &[DeviceShape],
     images: &mut [Image],
     machine: &mut Handle,
 ) -> u32
-    ensures { Maps machine.old.machine pages shapes.now images.old images.new result machine.new.machine }
+    ensures { Maps base machine.old.machine pages shapes.now images.old images.new result machine.new.machine }
 {
     if machine.is_made() {
         return IN_USE;
@@ -122,7 +153,7 @@ fn make_mapped(
     if !are_counted(images, shapes) {
         return BAD_IMAGES;
     }
-    let Ok(made) = machine_over(alloc, pages, shapes, images) else {
+    let Ok(made) = machine_over(alloc, base, pages, shapes, images) else {
         return NO_MEMORY;
     };
     mem::replace(machine, Handle::of(made)).gone();
@@ -134,12 +165,13 @@ fn make_mapped(
 #[tactic(auto, using(crate::proofs::OverRam::over_used, crate::proofs::OverRam::over_beyond, crate::proofs::OverRam::over_full, crate::proofs::OverRam::over_done))]
 fn make_over(
     alloc: Global,
+    base: u64,
     ram: &mut Slot,
     shapes: &[DeviceShape],
     images: &mut [Image],
     machine: &mut Handle,
 ) -> u32
-    ensures { MakesOver machine.old.machine ram.old ram.new shapes.now images.old images.new result machine.new.machine }
+    ensures { MakesOver base machine.old.machine ram.old ram.new shapes.now images.old images.new result machine.new.machine }
 {
     if machine.is_made() {
         return IN_USE;
@@ -147,7 +179,7 @@ fn make_over(
     if let Some(status) = over_refusal(ram, shapes, images) {
         return status;
     }
-    let Ok(made) = machine_in_ram(alloc, ram, shapes, images) else {
+    let Ok(made) = machine_in_ram(alloc, base, ram, shapes, images) else {
         return NO_MEMORY;
     };
     mem::replace(machine, Handle::of(made)).gone();
@@ -158,12 +190,13 @@ fn make_over(
 #[tactic(auto, using(crate::proofs::OverContents::with_used, crate::proofs::OverContents::with_refused, crate::proofs::OverContents::with_full, crate::proofs::OverContents::with_done))]
 fn make_over_with(
     alloc: Global,
+    base: u64,
     ram: &mut Slot,
     shapes: &[DeviceShape],
     contents: &[u8],
     machine: &mut Handle,
 ) -> u32
-    ensures { MakesOverWith machine.old.machine ram.old ram.new shapes.now contents.now result machine.new.machine }
+    ensures { MakesOverWith base machine.old.machine ram.old ram.new shapes.now contents.now result machine.new.machine }
 {
     if machine.is_made() {
         return IN_USE;
@@ -171,7 +204,7 @@ fn make_over_with(
     if let Some(status) = over_with_refusal(ram, shapes, contents.len()) {
         return status;
     }
-    let Ok(made) = machine_over_contents(alloc, ram, shapes, contents) else {
+    let Ok(made) = machine_over_contents(alloc, base, ram, shapes, contents) else {
         return NO_MEMORY;
     };
     mem::replace(machine, Handle::of(made)).gone();

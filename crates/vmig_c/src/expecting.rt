@@ -31,20 +31,26 @@ pub(crate) fn awaited(alloc: Global, expected: &mut Expected) -> Result<Box<Kept
         sectors: expected.most_sectors,
     };
     if !expected.ram.is_none() {
-        return landing_in(alloc, limits, &mut expected.ram, expected.images);
+        return landing_in(
+            alloc,
+            expected.base,
+            limits,
+            &mut expected.ram,
+            expected.images,
+        );
     }
     if !is_none(expected.images) {
-        return landing_over(alloc, limits, expected.images);
+        return landing_over(alloc, expected.base, limits, expected.images);
     }
-    fresh(alloc, limits)
+    fresh(alloc, expected.base, limits)
 }
 
 /// An arrival whose RAM and disks will be memory of the library.
-fn fresh(alloc: Global, limits: Limits) -> Result<Box<Kept>, NoMemory>
-    ensures fresh { IfOk result (λ k. KeepsFresh k.value) }
+fn fresh(alloc: Global, base: u64, limits: Limits) -> Result<Box<Kept>, NoMemory>
+    ensures fresh { IfOk result (λ k. KeepsFresh base k.value) }
     ensures limits { IfOk result (λ k. k.value.admission ≡ seen.Pending limits []) }
 {
-    let contents = Contents::Arriving(Arrival::new(alloc));
+    let contents = Contents::Arriving(Arrival::new(alloc, base));
     let boxed = Box::new(alloc, Kept::within(alloc, contents, limits))?;
     Ok(boxed)
 }

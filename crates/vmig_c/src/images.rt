@@ -54,16 +54,17 @@ pub(crate) fn count_in(shape: Shape) -> u64
 /// is out of memory.
 pub(crate) fn machine_with(
     alloc: Global,
+    base: u64,
     pages: u32,
     shapes: &[DeviceShape],
     images: &[u8],
 ) -> Result<Box<Kept>, NoMemory>
     requires { length images.now ≡ image_size (shapes_of shapes.now) }
-    ensures { IfOk result (λ k. KeepsMadeWith pages (shapes_of shapes.now) images.now k.value) }
+    ensures { IfOk result (λ k. KeepsMadeWith base pages (shapes_of shapes.now) images.now k.value) }
 {
     let shapes = shapes_of(alloc, shapes)?;
     let disks = image_disks(alloc, &shapes, images)?;
-    let Ok(machine) = Machine::new(alloc, pages, &shapes, disks) else {
+    let Ok(machine) = Machine::new_at(alloc, base, pages, &shapes, disks) else {
         return Err(NoMemory);
     };
     let boxed = Box::new(alloc, Kept::new(alloc, Contents::Still(machine)))?;

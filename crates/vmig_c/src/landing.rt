@@ -39,21 +39,22 @@ impl Landing {
     ghost use Rattle.vmig_c.specs.Landing.{AreDisksOf, IsAwaitedAt};
     ghost use Rattle.vmig_c.specs.Mapping.{contents};
 
-    /// An arrival over these disks that was fed nothing yet. It takes no memory.
-    fn new(alloc: Global, disks: Vec<MappedDisk>) -> Landing
-        ensures { IsAwaitedAt None (contents disks.items) result }
+    /// An arrival over these disks that was fed nothing yet, of a machine whose RAM will begin at the address `base`. It takes no
+    /// memory.
+    fn new(alloc: Global, base: u64, disks: Vec<MappedDisk>) -> Landing
+        ensures { IsAwaitedAt base None (contents disks.items) result }
     {
         Landing {
-            receiver: Receiver::new(alloc, disks),
+            receiver: Receiver::new_at(alloc, disks, base),
         }
     }
 
     /// As `new`, into this RAM.
-    pub(crate) fn new_in(alloc: Global, disks: Vec<MappedDisk>, ram: Ram) -> Landing
-        ensures { IsAwaitedAt ram.place (contents disks.items) result }
+    pub(crate) fn new_in(alloc: Global, base: u64, disks: Vec<MappedDisk>, ram: Ram) -> Landing
+        ensures { IsAwaitedAt base ram.place (contents disks.items) result }
     {
         Landing {
-            receiver: Receiver::new_in(alloc, disks, ram),
+            receiver: Receiver::new_in_at(alloc, disks, ram, base),
         }
     }
 
@@ -107,20 +108,21 @@ impl Landing {
 /// The box is made before an image is taken.
 pub(crate) fn landing_over(
     alloc: Global,
+    base: u64,
     limits: Limits,
     images: &mut [Image],
 ) -> Result<Box<Kept>, NoMemory>
-    ensures made { IfOk result (λ k. KeepsAwaited (contents images.old) k.value) }
+    ensures made { IfOk result (λ k. KeepsAwaited base (contents images.old) k.value) }
     ensures limits { IfOk result (λ k. k.value.admission ≡ seen.Pending limits []) }
     ensures taken { IfOk result (λ k. AreTaken images.old images.new) }
     ensures refused { IfErr result (λ e. images.new ≡ images.old) }
 {
     let mut boxed = Box::new(
         alloc,
-        Kept::new(alloc, Contents::Arriving(Arrival::new(alloc))),
+        Kept::new(alloc, Contents::Arriving(Arrival::new(alloc, base))),
     )?;
     let disks = mapped_disks(alloc, images)?;
-    let landing = Contents::ArrivingMapped(Landing::new(alloc, disks));
+    let landing = Contents::ArrivingMapped(Landing::new(alloc, base, disks));
     *boxed = Kept::within(alloc, landing, limits);
     Ok(boxed)
 }

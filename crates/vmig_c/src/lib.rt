@@ -132,7 +132,7 @@ pub extern "C" fn vmig_version() -> u32
     VERSION
 }
 
-/// Makes a machine of `pages` pages of zeros and of these devices, whose disks are zeros in memory.
+/// Makes a machine of `pages` pages of zeros from the address 0 on and of these devices, whose disks are zeros in memory.
 #[unsafe(no_mangle)]
 pub extern "C" fn vmig_make(
     alloc: Global,
@@ -140,9 +140,9 @@ pub extern "C" fn vmig_make(
     shapes: &[DeviceShape],
     machine: &mut Handle,
 ) -> u32
-    ensures { Makes machine.old.machine pages shapes.now result machine.new.machine }
+    ensures { Makes 0 machine.old.machine pages shapes.now result machine.new.machine }
 {
-    make_zeros(alloc, pages, shapes, machine)
+    make_zeros(alloc, 0, pages, shapes, machine)
 }
 
 /// Makes a machine as the setup says. RAM and images that it names are taken; where it is refused all is as it was.

@@ -31,18 +31,19 @@ fn are_plain(shapes: &[DeviceShape]) -> bool
     true
 }
 
-/// A machine in a box, over disks of zeros. The limits were tested, so it fails only if it is out of memory.
+/// A machine in a box, over disks of zeros. The base and the limits were tested, so it fails only if it is out of memory.
 #[tactic(auto, using(crate::proofs::Zeros::made))]
 pub(crate) fn machine_of(
     alloc: Global,
+    base: u64,
     pages: u32,
     shapes: &[DeviceShape],
 ) -> Result<Box<Kept>, NoMemory>
-    ensures { IfOk result (λ k. KeepsMade pages (shapes_of shapes.now) k.value) }
+    ensures { IfOk result (λ k. KeepsMade base pages (shapes_of shapes.now) k.value) }
 {
     let shapes = shapes_of(alloc, shapes)?;
     let disks = zero_disks(alloc, &shapes)?;
-    let Ok(machine) = Machine::new(alloc, pages, &shapes, disks) else {
+    let Ok(machine) = Machine::new_at(alloc, base, pages, &shapes, disks) else {
         return Err(NoMemory);
     };
     let boxed = Box::new(alloc, Kept::new(alloc, Contents::Still(machine)))?;

@@ -38,21 +38,22 @@ pub(crate) fn are_counted(images: &mut [Image], shapes: &[DeviceShape]) -> bool
 /// only if it is out of memory: then the images are as they were. The box is made before an image is taken.
 pub(crate) fn machine_over(
     alloc: Global,
+    base: u64,
     pages: u32,
     shapes: &[DeviceShape],
     images: &mut [Image],
 ) -> Result<Box<Kept>, NoMemory>
-    ensures made { IfOk result (λ k. KeepsMapped pages (shapes_of shapes.now) (contents images.old) k.value) }
+    ensures made { IfOk result (λ k. KeepsMapped base pages (shapes_of shapes.now) (contents images.old) k.value) }
     ensures taken { IfOk result (λ k. AreTaken images.old images.new) }
     ensures refused { IfErr result (λ e. images.new ≡ images.old) }
 {
     let shapes = shapes_of(alloc, shapes)?;
     let mut boxed = Box::new(
         alloc,
-        Kept::new(alloc, Contents::Arriving(Arrival::new(alloc))),
+        Kept::new(alloc, Contents::Arriving(Arrival::new(alloc, 0))),
     )?;
     let disks = mapped_disks(alloc, images)?;
-    match Machine::new_or_back(alloc, pages, &shapes, disks) {
+    match Machine::new_at(alloc, base, pages, &shapes, disks) {
         Ok(machine) => {
             *boxed = Kept::new(alloc, Contents::StillMapped(machine));
             Ok(boxed)

@@ -38,7 +38,7 @@ pub(crate) fn begin(alloc: Global, kept: &mut Kept) -> u32
 pub(crate) fn taken_out(alloc: Global, contents: &mut Contents) -> Contents
     ensures { result ≡ contents.old }
 {
-    mem::replace(contents, Contents::Arriving(Arrival::new(alloc)))
+    mem::replace(contents, Contents::Arriving(Arrival::new(alloc, 0)))
 }
 
 fn begun(alloc: Global, old: Contents) -> (Contents, u32)

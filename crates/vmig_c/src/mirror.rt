@@ -125,9 +125,11 @@ fn push_page<D: Disk>(machine: &mut Machine<D>, n: u32, ram: &[u8], seen: &mut [
     ensures bytes { length machine.new.memory.bytes ≡ length machine.old.memory.bytes }
     ensures versions { length machine.new.memory.versions ≡ length machine.old.memory.versions }
 {
+    let _shapes = machine.shapes();
     machine.ram().recall();
     let at = PAGE_SIZE * n as usize;
-    let _done = machine.write_ram(at as u64, &ram[at..at + PAGE_SIZE]);
+    let base = machine.base();
+    let _done = machine.write_ram(base + at as u64, &ram[at..at + PAGE_SIZE]);
     seen[n as usize] = machine.ram().version(n as u64);
 }
 
@@ -156,7 +158,8 @@ fn push_live_page<D: Disk>(live: &mut Moving<D>, n: u32, ram: &[u8], seen: &mut 
     live.recall();
     live.machine().ram().recall();
     let at = PAGE_SIZE * n as usize;
-    let _done = live.write_ram(at as u64, &ram[at..at + PAGE_SIZE]);
+    let base = live.machine().base();
+    let _done = live.write_ram(base + at as u64, &ram[at..at + PAGE_SIZE]);
     seen[n as usize] = live.machine().ram().version(n as u64);
 }
 

@@ -80,35 +80,37 @@ pub(crate) fn is_ram(ram: &mut Slot) -> bool
 /// zeros where there is none. All was tested, so it fails only if it is out of memory: then slot and images are as they were.
 pub(crate) fn machine_in_ram(
     alloc: Global,
+    base: u64,
     ram: &mut Slot,
     shapes: &[DeviceShape],
     images: &mut [Image],
 ) -> Result<Box<Kept>, NoMemory>
-    ensures made { IfOk result (λ k. KeepsOver ram.old (shapes_of shapes.now) images.old k.value) }
+    ensures made { IfOk result (λ k. KeepsOver base ram.old (shapes_of shapes.now) images.old k.value) }
     ensures ram { IfOk result (λ k. ram.new ≡ empty_slot) }
     ensures taken { IfOk result (λ k. AreTaken images.old images.new) }
     ensures same { IfErr result (λ e. ram.new ≡ ram.old) }
     ensures refused { IfErr result (λ e. images.new ≡ images.old) }
 {
     if images.is_empty() {
-        return machine_over_zeros(alloc, ram, shapes);
+        return machine_over_zeros(alloc, base, ram, shapes);
     }
-    machine_over_images(alloc, ram, shapes, images)
+    machine_over_images(alloc, base, ram, shapes, images)
 }
 
 fn machine_over_zeros(
     alloc: Global,
+    base: u64,
     ram: &mut Slot,
     shapes: &[DeviceShape],
 ) -> Result<Box<Kept>, NoMemory>
-    ensures made { IfOk result (λ k. KeepsOver ram.old (shapes_of shapes.now) [] k.value) }
+    ensures made { IfOk result (λ k. KeepsOver base ram.old (shapes_of shapes.now) [] k.value) }
     ensures ram { IfOk result (λ k. ram.new ≡ empty_slot) }
     ensures same { IfErr result (λ e. ram.new ≡ ram.old) }
 {
     let shapes = shapes_of(alloc, shapes)?;
     let disks = zero_disks(alloc, &shapes)?;
     let boxed = stand_in(alloc)?;
-    match Machine::new_over(alloc, taken_ram(ram), &shapes, disks) {
+    match Machine::new_over_at(alloc, base, taken_ram(ram), &shapes, disks) {
         Ok(machine) => Ok(filled(boxed, Kept::new(alloc, Contents::Still(machine)))),
         Err((_, _disks, region)) => {
             put_back(region, ram);
@@ -120,19 +122,20 @@ fn machine_over_zeros(
 /// As above, whose disks hold the contents.
 pub(crate) fn machine_over_contents(
     alloc: Global,
+    base: u64,
     ram: &mut Slot,
     shapes: &[DeviceShape],
     contents: &[u8],
 ) -> Result<Box<Kept>, NoMemory>
     requires { length contents.now ≡ image_size (shapes_of shapes.now) }
-    ensures made { IfOk result (λ k. KeepsOverWith ram.old (shapes_of shapes.now) contents.now k.value) }
+    ensures made { IfOk result (λ k. KeepsOverWith base ram.old (shapes_of shapes.now) contents.now k.value) }
     ensures ram { IfOk result (λ k. ram.new ≡ empty_slot) }
     ensures same { IfErr result (λ e. ram.new ≡ ram.old) }
 {
     let shapes = shapes_of(alloc, shapes)?;
     let disks = image_disks(alloc, &shapes, contents)?;
     let boxed = stand_in(alloc)?;
-    match Machine::new_over(alloc, taken_ram(ram), &shapes, disks) {
+    match Machine::new_over_at(alloc, base, taken_ram(ram), &shapes, disks) {
         Ok(machine) => Ok(filled(boxed, Kept::new(alloc, Contents::Still(machine)))),
         Err((_, _disks, region)) => {
             put_back(region, ram);
@@ -143,12 +146,13 @@ pub(crate) fn machine_over_contents(
 
 fn machine_over_images(
     alloc: Global,
+    base: u64,
     ram: &mut Slot,
     shapes: &[DeviceShape],
     images: &mut [Image],
 ) -> Result<Box<Kept>, NoMemory>
     requires { has_images images.old ≡ true }
-    ensures made { IfOk result (λ k. KeepsOver ram.old (shapes_of shapes.now) images.old k.value) }
+    ensures made { IfOk result (λ k. KeepsOver base ram.old (shapes_of shapes.now) images.old k.value) }
     ensures ram { IfOk result (λ k. ram.new ≡ empty_slot) }
     ensures taken { IfOk result (λ k. AreTaken images.old images.new) }
     ensures same { IfErr result (λ e. ram.new ≡ ram.old) }
@@ -157,7 +161,7 @@ fn machine_over_images(
     let shapes = shapes_of(alloc, shapes)?;
     let boxed = stand_in(alloc)?;
     let disks = mapped_disks(alloc, images)?;
-    match Machine::new_over(alloc, taken_ram(ram), &shapes, disks) {
+    match Machine::new_over_at(alloc, base, taken_ram(ram), &shapes, disks) {
         Ok(machine) => Ok(filled(boxed, Kept::new(alloc, Contents::StillMapped(machine)))),
         Err((_, disks, region)) => {
             give_back(disks, images);
@@ -171,12 +175,13 @@ fn machine_over_images(
 /// out of memory: then slot and images are as they were.
 pub(crate) fn landing_in(
     alloc: Global,
+    base: u64,
     limits: Limits,
     ram: &mut Slot,
     images: &mut [Image],
 ) -> Result<Box<Kept>, NoMemory>
     requires { is_ram (length ram.old.content) ≡ true }
-    ensures made { IfOk result (λ k. KeepsAwaitedAt (Some (place_of ram.old)) (contents images.old) k.value) }
+    ensures made { IfOk result (λ k. KeepsAwaitedAt base (Some (place_of ram.old)) (contents images.old) k.value) }
     ensures limits { IfOk result (λ k. k.value.admission ≡ seen.Pending limits []) }
     ensures ram { IfOk result (λ k. ram.new ≡ empty_slot) }
     ensures taken { IfOk result (λ k. AreTaken images.old images.new) }
@@ -187,7 +192,7 @@ pub(crate) fn landing_in(
     let disks = mapped_disks(alloc, images)?;
     match Ram::over(alloc, taken_ram(ram)) {
         Ok(memory) => {
-            let landing = Landing::new_in(alloc, disks, memory);
+            let landing = Landing::new_in(alloc, base, disks, memory);
             let kept = Kept::within(alloc, Contents::ArrivingMapped(landing), limits);
             Ok(filled(boxed, kept))
         }
@@ -203,7 +208,7 @@ pub(crate) fn landing_in(
 fn stand_in(alloc: Global) -> Result<Box<Kept>, NoMemory> {
     let boxed = Box::new(
         alloc,
-        Kept::new(alloc, Contents::Arriving(Arrival::new(alloc))),
+        Kept::new(alloc, Contents::Arriving(Arrival::new(alloc, 0))),
     )?;
     Ok(boxed)
 }

@@ -1,14 +1,15 @@
 //! How C asks for a machine: for one that is made, and for one that arrives.
 
 ghost use Rattle.std.specs.Prelude.{◌≡◌, ◌==◌, length};
-ghost use Rattle.vmig_c.specs.Setup.{are_known, are_others, setup_refusal_of};
+ghost use Rattle.vmig_c.specs.Setup.{are_known, are_others, ram_bytes, setup_refusal_of};
 ghost use Rattle.vmig_c.specs.Expected.{arrival_refusal_of};
 ghost use Rattle.vmig_c.specs.Unmapping.{are_none};
 
 use crate::device_shape::DeviceShape;
 use crate::over_ram::is_ram;
-use crate::status::{BAD_IMAGES, BAD_RAM, NOT_KNOWN};
+use crate::status::{BAD_IMAGES, BAD_RAM, BAD_SHAPE, NOT_KNOWN};
 use guestmem::PAGE_SIZE;
+use machine::is_base;
 use mapped_disk::Image;
 use region::Slot;
 
@@ -36,8 +37,11 @@ pub struct Setup<'a, 'i> {
     /// The memory that RAM is, with the bytes that are there. Where it has no bytes, RAM is zeros in memory of the library.
     pub ram: Slot,
 
+    /// The guest-physical address at which RAM begins.
+    pub base: u64,
+
     /// Zeros, until a later version asks for more by them.
-    pub reserved: [u64; 4],
+    pub reserved: [u64; 3],
 }
 
 /// How a machine arrives.
@@ -59,8 +63,11 @@ pub struct Expected<'i> {
     /// The memory that its RAM will be. Where it has no bytes, RAM will be memory of the library.
     pub ram: Slot,
 
+    /// The guest-physical address at which RAM begins.
+    pub base: u64,
+
     /// Zeros, until a later version asks for more by them.
-    pub reserved: [u64; 4],
+    pub reserved: [u64; 3],
 }
 
 /// Why no machine is made, whatever the devices are, if so.
@@ -74,8 +81,12 @@ pub(crate) fn setup_refusal(setup: &mut Setup) -> Option<u32>
     if !setup.contents.is_empty() && !is_none(setup.images) {
         return Some(BAD_IMAGES);
     }
-    if are_others(setup.pages, setup.ram.len()) {
+    let bytes = setup.ram.len();
+    if are_others(setup.pages, bytes) {
         return Some(BAD_RAM);
+    }
+    if !is_base(setup.base, ram_bytes(setup.pages, bytes)) {
+        return Some(BAD_SHAPE);
     }
     None
 }
@@ -90,6 +101,9 @@ pub(crate) fn arrival_refusal(expected: &mut Expected) -> Option<u32>
     }
     if !expected.ram.is_none() && !is_ram(&mut expected.ram) {
         return Some(BAD_RAM);
+    }
+    if !is_base(expected.base, expected.ram.len() as u64) {
+        return Some(BAD_SHAPE);
     }
     None
 }
@@ -118,6 +132,16 @@ fn are_none(words: &[u64]) -> bool
         }
     }
     true
+}
+
+/// The bytes of RAM: those of the caller's memory, or of so many pages, where there is none.
+fn ram_bytes(pages: u32, bytes: usize) -> u64
+    ensures { result ≡ ram_bytes pages bytes }
+{
+    if bytes != 0 {
+        return bytes as u64;
+    }
+    PAGE_SIZE as u64 * pages as u64
 }
 
 /// Whether RAM of the caller has these bytes, and another number of pages.

@@ -79,7 +79,7 @@ flag_byte : (b : Bool) → flag b < 256
 flag_byte true = omega arith
 flag_byte false = omega arith
 
-queue_fits : (ram_len : ℕ) (packed : Bool) (c : Common) (q : Queue) (p : Positions) → IsSoundQueue ram_len c q → HasPositions packed q p → Fit queue_widths (queue_numbers q p)
+queue_fits : {base : ℕ} (ram_len : ℕ) (packed : Bool) (c : Common) (q : Queue) (p : Positions) → IsSoundQueue base ram_len c q → HasPositions packed q p → Fit queue_widths (queue_numbers q p)
 queue_fits ram_len packed c q p sound placed = (
   sound.fits.size,
   (
@@ -107,11 +107,11 @@ FitQueues [] [] = Unit {0}
 FitQueues (q ∷ qs) (p ∷ ps) = Fit queue_widths (queue_numbers q p) × FitQueues qs ps
 FitQueues qs ps = ⊥
 
-queues_fit : (ram_len : ℕ) (packed : Bool) (c : Common) (qs : List Queue) (ps : List Positions) → AllByRecursion (IsSoundQueue ram_len c) qs → HavePositions packed qs ps → FitQueues qs ps
-queues_fit ram_len packed c [] [] sound placed = tt
-queues_fit ram_len packed c [] (p ∷ ps) sound placed = absurd placed
-queues_fit ram_len packed c (q ∷ qs) [] sound placed = absurd placed
-queues_fit ram_len packed c (q ∷ qs) (p ∷ ps) sound placed = (queue_fits ram_len packed c q p sound.0 placed.0, queues_fit ram_len packed c qs ps sound.1 placed.1)
+queues_fit : (base ram_len : ℕ) (packed : Bool) (c : Common) (qs : List Queue) (ps : List Positions) → AllByRecursion (IsSoundQueue base ram_len c) qs → HavePositions packed qs ps → FitQueues qs ps
+queues_fit base ram_len packed c [] [] sound placed = tt
+queues_fit base ram_len packed c [] (p ∷ ps) sound placed = absurd placed
+queues_fit base ram_len packed c (q ∷ qs) [] sound placed = absurd placed
+queues_fit base ram_len packed c (q ∷ qs) (p ∷ ps) sound placed = (queue_fits ram_len packed c q p sound.0 placed.0, queues_fit base ram_len packed c qs ps sound.1 placed.1)
 
 pub length-queues_in : (n : ℕ) (bytes : List ℕ) → length (queues_in n bytes) ≡ n
 unfolding queues_in
@@ -204,16 +204,16 @@ front_written n bytes are form =
 
 -- What is read was spelled so.
 
-body_written : (ram_len : ℕ) (s : Shape) (bytes : List ℕ) (o : Kind) → IsBytes bytes → HasFront (queues_of s) bytes → kind_in s (drop (26 + 36 * queues_of s) bytes) ≡ Some o → bytes ≡ body (device_of ram_len s bytes o)
-body_written ram_len s bytes o are form read =
+body_written : (base ram_len : ℕ) (s : Shape) (bytes : List ℕ) (o : Kind) → IsBytes bytes → HasFront (queues_of s) bytes → kind_in s (drop (26 + 36 * queues_of s) bytes) ≡ Some o → bytes ≡ body (device_of base ram_len s bytes o)
+body_written base ram_len s bytes o are form read =
     let size = 26 + 36 * queues_of s in
     front_written (queues_of s) bytes are form
     ∙ ap (front_text (common_of bytes) (queues_in (queues_of s) (drop 26 bytes)) (positions_in (queues_of s) (drop 26 bytes))) (kind_written s (drop size bytes) o (IsBytes-drop size bytes are) read)
 
 -- The parts that were read, in place of where they stand.
-pub read_device : (ram_len : ℕ) (s : Shape) (bytes : List ℕ) (o : Kind) (c : Common) (qs : List Queue) (ps : List Positions)
-    → common_of bytes ≡ c → queues_in (queues_of s) (drop 26 bytes) ≡ qs → positions_in (queues_of s) (drop 26 bytes) ≡ ps → device_of ram_len s bytes o ≡ saved_device ram_len o c qs ps
-read_device ram_len s bytes o c qs ps e f g = rw (e, f, g) refl
+pub read_device : (base ram_len : ℕ) (s : Shape) (bytes : List ℕ) (o : Kind) (c : Common) (qs : List Queue) (ps : List Positions)
+    → common_of bytes ≡ c → queues_in (queues_of s) (drop 26 bytes) ≡ qs → positions_in (queues_of s) (drop 26 bytes) ≡ ps → device_of base ram_len s bytes o ≡ saved_device base ram_len o c qs ps
+read_device base ram_len s bytes o c qs ps e f g = rw (e, f, g) refl
 
 -- The parts of a sound device fit their fields.
 record DeviceFits (d : DeviceState) : Type 0 where
@@ -221,89 +221,89 @@ record DeviceFits (d : DeviceState) : Type 0 where
   pub queues : FitQueues d.registers.queues d.positions
   pub kind : ReadsKind d.kind
 
-device_fits : (ram_len : ℕ) (d : DeviceState) → IsSoundDevice ram_len d → DeviceFits d
+device_fits : {base : ℕ} (ram_len : ℕ) (d : DeviceState) → IsSoundDevice base ram_len d → DeviceFits d
 device_fits ram_len d sound =
     let r = d.registers in
     record {
       common = common_fits r.offered r.common sound.registers.common;
-      queues = queues_fit r.ram_len (is_packed_by r.common) r.common r.queues d.positions (recursion_from_All (IsSoundQueue r.ram_len r.common) r.queues sound.registers.queues) sound.positions;
-      kind = kind_reads ram_len r d.kind sound.shape sound.registers sound.ram_len sound.kind;
+      queues = queues_fit r.ram_base r.ram_len (is_packed_by r.common) r.common r.queues d.positions (recursion_from_All (IsSoundQueue r.ram_base r.ram_len r.common) r.queues sound.registers.queues) sound.positions;
+      kind = kind_reads ram_len r d.kind sound.shape sound.registers sound.kind;
     }
 
-same_device : (d e : DeviceState) → d.kind ≡ e.kind → d.registers.device_id ≡ e.registers.device_id → d.registers.offered ≡ e.registers.offered → d.registers.ram_len ≡ e.registers.ram_len
+same_device : (d e : DeviceState) → d.kind ≡ e.kind → d.registers.device_id ≡ e.registers.device_id → d.registers.offered ≡ e.registers.offered → d.registers.ram_base ≡ e.registers.ram_base → d.registers.ram_len ≡ e.registers.ram_len
     → d.registers.common ≡ e.registers.common → d.registers.queues ≡ e.registers.queues → d.positions ≡ e.positions → d ≡ e
-same_device d e kind id offered ram_len common queues positions =
+same_device d e kind id offered ram_base ram_len common queues positions =
     let same : ◌≡◌ {A = DeviceState}
-    (record { kind = d.kind; registers = record { device_id = d.registers.device_id; offered = d.registers.offered; ram_len = d.registers.ram_len; common = d.registers.common; queues = d.registers.queues }; positions = d.positions })
-    (record { kind = e.kind; registers = record { device_id = e.registers.device_id; offered = e.registers.offered; ram_len = e.registers.ram_len; common = e.registers.common; queues = e.registers.queues }; positions = e.positions })
-    = rw (kind, id, offered, ram_len, common, queues, positions) refl in
+    (record { kind = d.kind; registers = record { device_id = d.registers.device_id; offered = d.registers.offered; ram_base = d.registers.ram_base; ram_len = d.registers.ram_len; common = d.registers.common; queues = d.registers.queues }; positions = d.positions })
+    (record { kind = e.kind; registers = record { device_id = e.registers.device_id; offered = e.registers.offered; ram_base = e.registers.ram_base; ram_len = e.registers.ram_len; common = e.registers.common; queues = e.registers.queues }; positions = e.positions })
+    = rw (kind, id, offered, ram_base, ram_len, common, queues, positions) refl in
     same
 
 -- A sound device is as it was saved.
-as_saved : (ram_len : ℕ) (d : DeviceState) → IsSoundDevice ram_len d → saved_device ram_len d.kind d.registers.common d.registers.queues d.positions ≡ d
-as_saved ram_len d sound =
-    same_device (saved_device ram_len d.kind d.registers.common d.registers.queues d.positions) d refl (sym sound.device_id) (sym sound.offered) (sym sound.ram_len) refl refl refl
+as_saved : {base : ℕ} (ram_len : ℕ) (d : DeviceState) → IsSoundDevice base ram_len d → saved_device base ram_len d.kind d.registers.common d.registers.queues d.positions ≡ d
+as_saved {base} ram_len d sound =
+    same_device (saved_device base ram_len d.kind d.registers.common d.registers.queues d.positions) d refl (sym sound.device_id) (sym sound.offered) (sym sound.ram_base) (sym sound.ram_len) refl refl refl
 
 -- What the body of a sound device reads as.
-pub record ReadsAs (ram_len : ℕ) (text : List ℕ) (d : DeviceState) : Type 0 where
+pub record ReadsAs (base ram_len : ℕ) (text : List ℕ) (d : DeviceState) : Type 0 where
   pub form : HasFront (queues_of (made_as d.kind)) text
   pub kind : kind_in (made_as d.kind) (drop (26 + 36 * queues_of (made_as d.kind)) text) ≡ Some d.kind
-  pub device : device_of ram_len (made_as d.kind) text d.kind ≡ d
+  pub device : device_of base ram_len (made_as d.kind) text d.kind ≡ d
 
-body_front : (ram_len : ℕ) (d : DeviceState) → IsSoundDevice ram_len d → ReadsFront (queues_of (made_as d.kind)) (body d) d.registers.common d.registers.queues d.positions (kind_text d.kind)
+body_front : {base : ℕ} (ram_len : ℕ) (d : DeviceState) → IsSoundDevice base ram_len d → ReadsFront (queues_of (made_as d.kind)) (body d) d.registers.common d.registers.queues d.positions (kind_text d.kind)
 body_front ram_len d sound =
     let fits = device_fits ram_len d sound in
     front_reads (queues_of (made_as d.kind)) d.registers.common d.registers.queues d.positions (kind_text d.kind) sound.queues fits.common fits.queues
 
-pub body_reads_as : (ram_len : ℕ) (d : DeviceState) → IsSoundDevice ram_len d → ReadsAs ram_len (body d) d
-body_reads_as ram_len d sound =
+pub body_reads_as : {base : ℕ} (ram_len : ℕ) (d : DeviceState) → IsSoundDevice base ram_len d → ReadsAs base ram_len (body d) d
+body_reads_as {base} ram_len d sound =
     let front = body_front ram_len d sound in
     record {
       form = front.form;
       kind = ap (kind_in (made_as d.kind)) front.rest_is ∙ (device_fits ram_len d sound).kind.read;
-      device = read_device ram_len (made_as d.kind) (body d) d.kind _ _ _ front.common front.queues front.positions ∙ as_saved ram_len d sound;
+      device = read_device base ram_len (made_as d.kind) (body d) d.kind _ _ _ front.common front.queues front.positions ∙ as_saved ram_len d sound;
     }
 
 -- The answers of the reader.
 
-pub no_front : (version : ℕ) (shape : Shape) (ram_len : ℕ) (bytes : List ℕ) → ¬ (HasFront (queues_of shape) bytes) → (d : DeviceState) → ¬ (IsBodyOf version shape ram_len bytes d)
-no_front version shape ram_len bytes never d is =
+pub no_front : (version : ℕ) (shape : Shape) (base ram_len : ℕ) (bytes : List ℕ) → ¬ (HasFront (queues_of shape) bytes) → (d : DeviceState) → ¬ (IsBodyOf version shape base ram_len bytes d)
+no_front version shape base ram_len bytes never d is =
     never (subst (HasFront (queues_of shape)) (sym is.is) (subst (λ (s : Shape). HasFront (queues_of s) (body d)) is.shape_is (body_reads_as ram_len d is.sound).form))
 
 -- What such a body tells of the common registers is the device's.
-common_told : (version : ℕ) (shape : Shape) (ram_len : ℕ) (bytes : List ℕ) (d : DeviceState) → IsBodyOf version shape ram_len bytes d → common_of bytes ≡ d.registers.common
-common_told version shape ram_len bytes d is = ap common_of is.is ∙ ap (λ (x : DeviceState). x.registers.common) (body_reads_as ram_len d is.sound).device
+common_told : (version : ℕ) (shape : Shape) (base ram_len : ℕ) (bytes : List ℕ) (d : DeviceState) → IsBodyOf version shape base ram_len bytes d → common_of bytes ≡ d.registers.common
+common_told version shape base ram_len bytes d is = ap common_of is.is ∙ ap (λ (x : DeviceState). x.registers.common) (body_reads_as ram_len d is.sound).device
 
-pub not_had : (version : ℕ) (shape : Shape) (ram_len : ℕ) (bytes : List ℕ) → ¬ (version ≡ 1 → has_zeroes shape (common_of bytes) ≡ false) → (d : DeviceState) → ¬ (IsBodyOf version shape ram_len bytes d)
-not_had version shape ram_len bytes never d is =
+pub not_had : (version : ℕ) (shape : Shape) (base ram_len : ℕ) (bytes : List ℕ) → ¬ (version ≡ 1 → has_zeroes shape (common_of bytes) ≡ false) → (d : DeviceState) → ¬ (IsBodyOf version shape base ram_len bytes d)
+not_had version shape base ram_len bytes never d is =
     never
-    (λ first. ap (has_zeroes shape) (common_told version shape ram_len bytes d is) ∙ ap (λ (s : Shape). has_zeroes s d.registers.common) (sym is.shape_is) ∙ is.has first)
+    (λ first. ap (has_zeroes shape) (common_told version shape base ram_len bytes d is) ∙ ap (λ (s : Shape). has_zeroes s d.registers.common) (sym is.shape_is) ∙ is.has first)
 
 -- What such a body tells beside its registers and its queues is the device's kind.
-kind_told : (version : ℕ) (shape : Shape) (ram_len : ℕ) (bytes : List ℕ) (d : DeviceState) → IsBodyOf version shape ram_len bytes d → kind_in shape (drop (26 + 36 * queues_of shape) bytes) ≡ Some d.kind
-kind_told version shape ram_len bytes d is =
+kind_told : (version : ℕ) (shape : Shape) (base ram_len : ℕ) (bytes : List ℕ) (d : DeviceState) → IsBodyOf version shape base ram_len bytes d → kind_in shape (drop (26 + 36 * queues_of shape) bytes) ≡ Some d.kind
+kind_told version shape base ram_len bytes d is =
     rw is.is (subst (λ (s : Shape). kind_in s (drop (26 + 36 * queues_of s) (body d)) ≡ Some d.kind) is.shape_is (body_reads_as ram_len d is.sound).kind)
 
-pub no_kind : (version : ℕ) (shape : Shape) (ram_len : ℕ) (bytes : List ℕ) → kind_in shape (drop (26 + 36 * queues_of shape) bytes) ≡ None → (d : DeviceState) → ¬ (IsBodyOf version shape ram_len bytes d)
-no_kind version shape ram_len bytes none d is = let told = kind_told version shape ram_len bytes d is in cc
+pub no_kind : (version : ℕ) (shape : Shape) (base ram_len : ℕ) (bytes : List ℕ) → kind_in shape (drop (26 + 36 * queues_of shape) bytes) ≡ None → (d : DeviceState) → ¬ (IsBodyOf version shape base ram_len bytes d)
+no_kind version shape base ram_len bytes none d is = let told = kind_told version shape base ram_len bytes d is in cc
 
-device_told : (version : ℕ) (shape : Shape) (ram_len : ℕ) (bytes : List ℕ) (d : DeviceState) (o : Kind) → IsBodyOf version shape ram_len bytes d → kind_in shape (drop (26 + 36 * queues_of shape) bytes) ≡ Some o → device_of ram_len shape bytes o ≡ d
-device_told version shape ram_len bytes d o is read =
-    let same : o ≡ d.kind = same_found o d.kind (sym read ∙ kind_told version shape ram_len bytes d is) in
-    ap (device_of ram_len shape bytes) same
-    ∙ ap (λ (s : Shape). device_of ram_len s bytes d.kind) (sym is.shape_is)
-    ∙ ap (λ (x : List ℕ). device_of ram_len (made_as d.kind) x d.kind) is.is
+device_told : (version : ℕ) (shape : Shape) (base ram_len : ℕ) (bytes : List ℕ) (d : DeviceState) (o : Kind) → IsBodyOf version shape base ram_len bytes d → kind_in shape (drop (26 + 36 * queues_of shape) bytes) ≡ Some o → device_of base ram_len shape bytes o ≡ d
+device_told version shape base ram_len bytes d o is read =
+    let same : o ≡ d.kind = same_found o d.kind (sym read ∙ kind_told version shape base ram_len bytes d is) in
+    ap (device_of base ram_len shape bytes) same
+    ∙ ap (λ (s : Shape). device_of base ram_len s bytes d.kind) (sym is.shape_is)
+    ∙ ap (λ (x : List ℕ). device_of base ram_len (made_as d.kind) x d.kind) is.is
     ∙ (body_reads_as ram_len d is.sound).device
 
-pub not_sound : (version : ℕ) (shape : Shape) (ram_len : ℕ) (bytes : List ℕ) (o : Kind) → kind_in shape (drop (26 + 36 * queues_of shape) bytes) ≡ Some o → ¬ (IsSoundDevice ram_len (device_of ram_len shape bytes o)) → (d : DeviceState)
-    → ¬ (IsBodyOf version shape ram_len bytes d)
-not_sound version shape ram_len bytes o read never d is = never (subst (IsSoundDevice ram_len) (sym (device_told version shape ram_len bytes d o is read)) is.sound)
+pub not_sound : (version : ℕ) (shape : Shape) (base ram_len : ℕ) (bytes : List ℕ) (o : Kind) → kind_in shape (drop (26 + 36 * queues_of shape) bytes) ≡ Some o → ¬ (IsSoundDevice base ram_len (device_of base ram_len shape bytes o)) → (d : DeviceState)
+    → ¬ (IsBodyOf version shape base ram_len bytes d)
+not_sound version shape base ram_len bytes o read never d is = never (subst (IsSoundDevice base ram_len) (sym (device_told version shape base ram_len bytes d o is read)) is.sound)
 
-pub is_body : (version : ℕ) (shape : Shape) (ram_len : ℕ) (bytes : List ℕ) (o : Kind) → IsBytes bytes → HasFront (queues_of shape) bytes → kind_in shape (drop (26 + 36 * queues_of shape) bytes) ≡ Some o
-    → IsSoundDevice ram_len (device_of ram_len shape bytes o) → (version ≡ 1 → has_zeroes shape (common_of bytes) ≡ false) → IsBodyOf version shape ram_len bytes (device_of ram_len shape bytes o)
-is_body version shape ram_len bytes o are form read sound has =
+pub is_body : (version : ℕ) (shape : Shape) (base ram_len : ℕ) (bytes : List ℕ) (o : Kind) → IsBytes bytes → HasFront (queues_of shape) bytes → kind_in shape (drop (26 + 36 * queues_of shape) bytes) ≡ Some o
+    → IsSoundDevice base ram_len (device_of base ram_len shape bytes o) → (version ≡ 1 → has_zeroes shape (common_of bytes) ≡ false) → IsBodyOf version shape base ram_len bytes (device_of base ram_len shape bytes o)
+is_body version shape base ram_len bytes o are form read sound has =
     let made = kind_made shape (drop (26 + 36 * queues_of shape) bytes) o read in
-    record { shape_is = made; sound = sound; has = λ first. ap (λ s. has_zeroes s (common_of bytes)) made ∙ has first; is = body_written ram_len shape bytes o are form read }
+    record { shape_is = made; sound = sound; has = λ first. ap (λ s. has_zeroes s (common_of bytes)) made ∙ has first; is = body_written base ram_len shape bytes o are form read }
 
 -- Version 2 has every device.
 second_has : (d : DeviceState) → IsDeviceOf 2 d
@@ -313,11 +313,11 @@ pub second_has_all : (ds : List DeviceState) → All (IsDeviceOf 2) ds
 second_has_all ds k d below first = absurd (omega (arith, first))
 
 -- One body is of one sound device, and it is short.
-pub one_body : (ram_len : ℕ) (d e : DeviceState) → made_as d.kind ≡ made_as e.kind → IsSoundDevice ram_len d → IsSoundDevice ram_len e → body d ≡ body e → d ≡ e
-one_body ram_len d e shape sound other same =
-    sym (device_told 2 (made_as e.kind) ram_len (body e) d e.kind (record { shape_is = shape; sound = sound; has = second_has d; is = sym same }) (body_reads_as ram_len e other).kind) ∙ (body_reads_as ram_len e other).device
+pub one_body : {base : ℕ} (ram_len : ℕ) (d e : DeviceState) → made_as d.kind ≡ made_as e.kind → IsSoundDevice base ram_len d → IsSoundDevice base ram_len e → body d ≡ body e → d ≡ e
+one_body {base} ram_len d e shape sound other same =
+    sym (device_told 2 (made_as e.kind) base ram_len (body e) d e.kind (record { shape_is = shape; sound = sound; has = second_has d; is = sym same }) (body_reads_as ram_len e other).kind) ∙ (body_reads_as ram_len e other).device
 
-pub body_is_short : (ram_len : ℕ) (d : DeviceState) → IsSoundDevice ram_len d → length (body d) ≤ 131072
+pub body_is_short : {base : ℕ} (ram_len : ℕ) (d : DeviceState) → IsSoundDevice base ram_len d → length (body d) ≤ 131072
 body_is_short ram_len d sound = omega (arith, (body_front ram_len d sound).long, sound.queues, sound.registers.few, (device_fits ram_len d sound).kind.short)
 
 common_bytes : (c : Common) → Fit common_widths (common_numbers c) → IsBytes (common_text c)
@@ -334,7 +334,7 @@ queues_bytes [] (p ∷ ps) fits i = absurd fits
 queues_bytes (q ∷ qs) [] fits i = absurd fits
 queues_bytes (q ∷ qs) (p ∷ ps) fits i = IsBytes-append (queue_text q p) (queues_text qs ps) (queue_bytes q p fits.0) (queues_bytes qs ps fits.1) i
 
-pub body_bytes : (ram_len : ℕ) (d : DeviceState) → IsSoundDevice ram_len d → IsBytes (body d)
+pub body_bytes : {base : ℕ} (ram_len : ℕ) (d : DeviceState) → IsSoundDevice base ram_len d → IsBytes (body d)
 body_bytes ram_len d sound =
     let fits = device_fits ram_len d sound in
     let c = d.registers.common in

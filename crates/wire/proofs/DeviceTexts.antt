@@ -16,7 +16,7 @@ device_texts-snoc number (t ∷ ds) d =
     let n : number + length (t ∷ ds) ≡ number + 1 + length ds = omega arith in
     rw (n, device_texts-snoc (number + 1) ds d) (sym (append_assoc (spelled_record (device number (body t))) (device_texts (number + 1) ds) (spelled_record (device (number + 1 + length ds) (body d)))))
 
-pub sound-snoc : (ram_len : ℕ) (ds : List DeviceState) (d : DeviceState) → AllByRecursion (IsSoundDevice ram_len) ds → IsSoundDevice ram_len d → AllByRecursion (IsSoundDevice ram_len) (ds ++ d ∷ [])
+pub sound-snoc : {base : ℕ} (ram_len : ℕ) (ds : List DeviceState) (d : DeviceState) → AllByRecursion (IsSoundDevice base ram_len) ds → IsSoundDevice base ram_len d → AllByRecursion (IsSoundDevice base ram_len) (ds ++ d ∷ [])
 sound-snoc ram_len [] d h k = (k, tt)
 sound-snoc ram_len (t ∷ ds) d h k = (h.0, sound-snoc ram_len ds d h.1 k)
 

@@ -1,5 +1,5 @@
 -- What only a kind of device has: what is spelled is read, and what is read was spelled.
-use Rattle.std.proofs.Common.{◌≡◌, ℕ, suc, ◌+◌, ◌*◌, ◌^◌, ◌<◌, ◌≤◌, List, [], ◌∷◌, ◌++◌, length, take, drop, nat_lt, not, ◌||◌, Bool, true, false, cond, Option, Some, None, refl, sym, ap, subst, ◌∙◌, append-nil, arith, eqb}
+use Rattle.std.proofs.Common.{◌≡◌, ℕ, suc, ◌+◌, ◌*◌, ◌≤◌, List, [], ◌∷◌, ◌++◌, length, take, drop, nat_lt, not, ◌||◌, Bool, true, false, cond, Option, Some, None, refl, sym, ap, subst, ◌∙◌, append-nil, arith, eqb}
 use Rattle.std.proofs.lemmas.Bool.{eqb-true, eq-eqb, ltb-false, le-ltb}
 use Rattle.std.proofs.lemmas.List.{take-append-drop, drop_at, length-append, length-drop}
 use Rattle.std.proofs.lemmas.Option.{get_or_from_slice_get, slice_get_within}
@@ -218,20 +218,19 @@ kind_written Console bytes o are e = console_written bytes o are e
 kind_written Entropy bytes o are e = pool_written bytes o are e
 
 -- The requests of a device's first queue.
-queue_requests : (len sectors : ℕ) (read_only : Bool) (id : List ℕ) (r : Registers) (rs : List Request) (found : Option Queue) → queue_at r 0 ≡ found → sectors ≤ 2097152 → IsSoundRegisters r → r.ram_len ≡ len
-    → IsSomeAnd found (λ q. AreRequestsOf len (is_packed_by r.common) q (with_features sectors read_only id r.common.features) rs) → RequestsFit rs
-queue_requests len sectors read_only id r rs None at few sound ram_len are = absurd are
-queue_requests len sectors read_only id r rs (Some q) at few sound ram_len are =
-    let queue : IsSoundQueue r.ram_len r.common q = rw (get_or_from_slice_get r.queues 0 q q at) at (sound.queues 0 q (slice_get_within r.queues 0 q at)) in
-    let low : len < 2 ^ 64 = omega (arith, sound.ram_len, ram_len) in
-    requests_fit len (is_packed_by r.common) q r.common (with_features sectors read_only id r.common.features) rs low few (rw ram_len at queue) are
+queue_requests : (base len sectors : ℕ) (read_only : Bool) (id : List ℕ) (r : Registers) (rs : List Request) (found : Option Queue) → queue_at r 0 ≡ found → sectors ≤ 2097152 → IsSoundRegisters r
+    → IsSomeAnd found (λ q. AreRequestsOf base len (is_packed_by r.common) q (with_features sectors read_only id r.common.features) rs) → RequestsFit rs
+queue_requests base len sectors read_only id r rs None at few sound are = absurd are
+queue_requests base len sectors read_only id r rs (Some q) at few sound are =
+    let queue : IsSoundQueue r.ram_base r.ram_len r.common q = rw (get_or_from_slice_get r.queues 0 q q at) at (sound.queues 0 q (slice_get_within r.queues 0 q at)) in
+    requests_fit base len (is_packed_by r.common) q r.common (with_features sectors read_only id r.common.features) rs few queue are
 
-pub kind_reads : (len : ℕ) (r : Registers) (k : Kind) → IsSoundShape (made_as k) → IsSoundRegisters r → r.ram_len ≡ len → IsSoundKind len r k → ReadsKind k
-kind_reads len r (kinds.Network mac frames) shape sound ram_len are = frames_own mac frames are
-kind_reads len r (kinds.Block sectors read_only id rs) shape sound ram_len are =
-    requests_own sectors read_only id rs (queue_requests len sectors read_only id r rs (queue_at r 0) refl shape.few sound ram_len are)
-kind_reads len r (kinds.Console size held) shape sound ram_len are = console_own size held are
-kind_reads len r (kinds.Entropy pool) shape sound ram_len are = pool_own pool are
+pub kind_reads : (len : ℕ) (r : Registers) (k : Kind) → IsSoundShape (made_as k) → IsSoundRegisters r → IsSoundKind len r k → ReadsKind k
+kind_reads len r (kinds.Network mac frames) shape sound are = frames_own mac frames are
+kind_reads len r (kinds.Block sectors read_only id rs) shape sound are =
+    requests_own sectors read_only id rs (queue_requests r.ram_base len sectors read_only id r rs (queue_at r 0) refl shape.few sound are)
+kind_reads len r (kinds.Console size held) shape sound are = console_own size held are
+kind_reads len r (kinds.Entropy pool) shape sound are = pool_own pool are
 
 -- What is read is of the shape that was asked for.
 all_made : {A : Type 0} (has : List A → Kind) (shape : Shape) → ((things : List A) → made_as (has things) ≡ shape) → (found : Option (List A × List ℕ)) (o : Kind) → all_of has found ≡ Some o → made_as o ≡ shape

@@ -29,5 +29,5 @@ pub length_zero_page : (n : ℕ) → length (spelled_record (zero_page n)) ≡ 5
 unfolding spelled_record
 length_zero_page n = refl
 
-pub short_body : (d : DeviceState) → (ram_len : ℕ) × IsSoundDevice ram_len d → length (body d) ≤ 131072
-short_body d h = body_is_short h.0 d h.1
+pub short_body : (d : DeviceState) → (base : ℕ) × (ram_len : ℕ) × IsSoundDevice base ram_len d → length (body d) ≤ 131072
+short_body d h = body_is_short h.1 d h.2

@@ -4,6 +4,7 @@ use Rattle.std.proofs.lemmas.List.{length-append}
 use Rattle.std.proofs.lemmas.List.Elements.{recursion_from_All}
 use Rattle.std.specs.Bool.{MatchBool}
 use Rattle.std.specs.List.{AllByRecursion}
+use Rattle.guestmem.specs.Address.{IsWithin}
 use Rattle.chains.specs.Places.{addresses, places}
 use Rattle.chains.specs.PlaceLaws.{length_addresses}
 use Rattle.chains.specs.declared.segs.Seg.{Seg}
@@ -22,12 +23,12 @@ use Rattle.blk.specs.Sound.{AreRequestsOf}
 use Rattle.wire.specs.RequestText.{kind_number}
 use Rattle.wire.proofs.RequestLemmas.{FitsSeg, FitsRequest, few_kinds, few_verdicts}
 
-segs_fit : (len : ℕ) (ss : List Seg) → len < 2 ^ 64 → AllByRecursion (λ (s : Seg). s.addr + s.len ≤ len) ss → length (places ss) < 2 ^ 32 → AllByRecursion FitsSeg ss
-segs_fit len [] low inside total = tt
-segs_fit len (s ∷ ss) low inside total =
+segs_fit : (base len : ℕ) (ss : List Seg) → AllByRecursion (λ (s : Seg). IsWithin base len s.addr s.len) ss → length (places ss) < 2 ^ 32 → AllByRecursion FitsSeg ss
+segs_fit base len [] low total = tt
+segs_fit base len (s ∷ ss) low total =
     let size = length-append (addresses s.addr s.len) (places ss) in
     let first = length_addresses s.addr s.len in
-    ((omega (arith, inside.0, low), (omega (arith, total, size, first), tt)), segs_fit len ss low inside.1 (omega (arith, total, size, first)))
+    ((low.0.exists, (omega (arith, total, size, first), tt)), segs_fit base len ss low.1 (omega (arith, total, size, first)))
 
 may_end : (v : Verdict) (done units : ℕ) → MayEnd v done units → done ≤ units
 may_end Good done units h = h
@@ -51,8 +52,8 @@ work_fits Flush readable writable shape v first units done few h = small_work fi
 work_fits GetId readable writable shape v first units done few h = small_work first units done (omega (arith, h.2, h.3)) h.1
 work_fits Zero readable writable shape v first units done few h = small_work first units done (omega (arith, few, h.3)) (may_end v done units h.0)
 
-pub request_fits : (len size : ℕ) (is_packed : Bool) (shape : BlockShape) (r : Request) → len < 2 ^ 64 → size ≤ 256 → shape.sectors ≤ 2097152 → IsSoundRequest len is_packed size shape r → FitsRequest r
-request_fits len size is_packed shape r low few capacity h =
+pub request_fits : (base len size : ℕ) (is_packed : Bool) (shape : BlockShape) (r : Request) → size ≤ 256 → shape.sectors ≤ 2097152 → IsSoundRequest base len is_packed size shape r → FitsRequest r
+request_fits base len size is_packed shape r few capacity h =
     let work = work_fits r.kind (length (places r.readable)) (length (places r.writable)) shape r.verdict r.first r.units r.done capacity h.work in
     let kind : kind_number r.kind < 256 = omega (arith, few_kinds r.kind) in
     let verdict : verdict_byte r.verdict < 256 = omega (arith, few_verdicts r.verdict) in
@@ -60,8 +61,8 @@ request_fits len size is_packed shape r low few capacity h =
     let writable : length r.writable < 2 ^ 16 = omega (arith, h.few, few) in
     record {
       head = (h.id_fits, (omega (arith, h.slots, few), (kind, (verdict, (work.first_fits, (work.units_fit, (work.done_fits, (readable, (writable, tt)))))))));
-      readable = segs_fit len r.readable low (recursion_from_All (λ (s : Seg). s.addr + s.len ≤ len) r.readable h.readable) (omega (arith, h.total));
-      writable = segs_fit len r.writable low (recursion_from_All (λ (s : Seg). s.addr + s.len ≤ len) r.writable h.writable) (omega (arith, h.total));
+      readable = segs_fit base len r.readable (recursion_from_All (λ (s : Seg). IsWithin base len s.addr s.len) r.readable h.readable) (omega (arith, h.total));
+      writable = segs_fit base len r.writable (recursion_from_All (λ (s : Seg). IsWithin base len s.addr s.len) r.writable h.writable) (omega (arith, h.total));
     }
 
 abbrev pub HasFewSegments : Request → Type 0
@@ -73,23 +74,23 @@ pub record RequestsFit (rs : List Request) : Type 0 where
   pub each : AllByRecursion FitsRequest rs
   pub short : AllByRecursion HasFewSegments rs
 
-each_fits : (len size : ℕ) (is_packed : Bool) (shape : BlockShape) (rs : List Request) → len < 2 ^ 64 → size ≤ 256 → shape.sectors ≤ 2097152 → AllByRecursion (IsSoundRequest len is_packed size shape) rs → AllByRecursion FitsRequest rs
-each_fits len size is_packed shape [] low few capacity h = tt
-each_fits len size is_packed shape (r ∷ rs) low few capacity h = (request_fits len size is_packed shape r low few capacity h.0, each_fits len size is_packed shape rs low few capacity h.1)
+each_fits : (base len size : ℕ) (is_packed : Bool) (shape : BlockShape) (rs : List Request) → size ≤ 256 → shape.sectors ≤ 2097152 → AllByRecursion (IsSoundRequest base len is_packed size shape) rs → AllByRecursion FitsRequest rs
+each_fits base len size is_packed shape [] few capacity h = tt
+each_fits base len size is_packed shape (r ∷ rs) few capacity h = (request_fits base len size is_packed shape r few capacity h.0, each_fits base len size is_packed shape rs few capacity h.1)
 
-each_short : (len size : ℕ) (is_packed : Bool) (shape : BlockShape) (rs : List Request) → size ≤ 256 → AllByRecursion (IsSoundRequest len is_packed size shape) rs → AllByRecursion HasFewSegments rs
-each_short len size is_packed shape [] few h = tt
-each_short len size is_packed shape (r ∷ rs) few h = (omega (arith, h.0.few, few), each_short len size is_packed shape rs few h.1)
+each_short : (base len size : ℕ) (is_packed : Bool) (shape : BlockShape) (rs : List Request) → size ≤ 256 → AllByRecursion (IsSoundRequest base len is_packed size shape) rs → AllByRecursion HasFewSegments rs
+each_short base len size is_packed shape [] few h = tt
+each_short base len size is_packed shape (r ∷ rs) few h = (omega (arith, h.0.few, few), each_short base len size is_packed shape rs few h.1)
 
 -- Where there are requests, the queue is ready, so it has at most 256 slots.
-fit_by : (len : ℕ) (is_packed : Bool) (q : Queue) (c : Common) (shape : BlockShape) (rs : List Request) (is_ready : Bool) → q.is_ready ≡ is_ready → len < 2 ^ 64 → shape.sectors ≤ 2097152 → IsSoundQueue len c q
-    → length rs ≤ 8 → AllByRecursion (IsSoundRequest len is_packed q.size shape) rs → MatchBool is_ready (Unit {0}) (rs ≡ []) → RequestsFit rs
-fit_by len is_packed q c shape rs true ready low capacity queue few sound where_ready =
+fit_by : {r_base r_len : ℕ} (base len : ℕ) (is_packed : Bool) (q : Queue) (c : Common) (shape : BlockShape) (rs : List Request) (is_ready : Bool) → q.is_ready ≡ is_ready → shape.sectors ≤ 2097152 → IsSoundQueue r_base r_len c q
+    → length rs ≤ 8 → AllByRecursion (IsSoundRequest base len is_packed q.size shape) rs → MatchBool is_ready (Unit {0}) (rs ≡ []) → RequestsFit rs
+fit_by base len is_packed q c shape rs true ready capacity queue few sound where_ready =
     let size : q.size ≤ 256 = (queue.ready ready).few in
-    record { few = few; each = each_fits len q.size is_packed shape rs low size capacity sound; short = each_short len q.size is_packed shape rs size sound }
-fit_by len is_packed q c shape rs false ready low capacity queue few sound where_ready =
+    record { few = few; each = each_fits base len q.size is_packed shape rs size capacity sound; short = each_short base len q.size is_packed shape rs size sound }
+fit_by base len is_packed q c shape rs false ready capacity queue few sound where_ready =
     subst RequestsFit (sym where_ready) (record { few = omega arith; each = tt; short = tt })
 
-pub requests_fit : (len : ℕ) (is_packed : Bool) (q : Queue) (c : Common) (shape : BlockShape) (rs : List Request) → len < 2 ^ 64 → shape.sectors ≤ 2097152 → IsSoundQueue len c q → AreRequestsOf len is_packed q shape rs → RequestsFit rs
-requests_fit len is_packed q c shape rs low capacity queue are =
-    fit_by len is_packed q c shape rs q.is_ready refl low capacity queue are.few (recursion_from_All (IsSoundRequest len is_packed q.size shape) rs are.sound) are.where_ready
+pub requests_fit : {r_base r_len : ℕ} (base len : ℕ) (is_packed : Bool) (q : Queue) (c : Common) (shape : BlockShape) (rs : List Request) → shape.sectors ≤ 2097152 → IsSoundQueue r_base r_len c q → AreRequestsOf base len is_packed q shape rs → RequestsFit rs
+requests_fit base len is_packed q c shape rs capacity queue are =
+    fit_by base len is_packed q c shape rs q.is_ready refl capacity queue are.few (recursion_from_All (IsSoundRequest base len is_packed q.size shape) rs are.sound) are.where_ready

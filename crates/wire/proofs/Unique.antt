@@ -1,5 +1,5 @@
 -- One stream has one machine.
-use Rattle.std.proofs.Common.{◌≡◌, ℕ, zero, suc, ◌+◌, ◌*◌, ◌<◌, ◌≤◌, List, [], ◌∷◌, ◌++◌, length, map, take, drop, slice_get, Option, Some, None, refl, sym, ap, ◌∙◌, append_assoc, append-nil, arith}
+use Rattle.std.proofs.Common.{◌≡◌, ℕ, zero, suc, ◌+◌, ◌*◌, ◌<◌, ◌≤◌, List, [], ◌∷◌, ◌++◌, length, map, take, drop, slice_get, Option, Some, None, refl, sym, ap, subst, ◌∙◌, append_assoc, append-nil, arith}
 use Rattle.std.proofs.lemmas.List.{length-append, length-drop, length-map, length-take}
 use Rattle.std.proofs.lemmas.List.Elements.{All-map, recursion_from_All}
 use Rattle.std.proofs.Math.Seq.{take-length, take-add}
@@ -16,7 +16,7 @@ use Rattle.machine.specs.Layout.{Layout, IsItemIn, layout_of, pages_of}
 use Rattle.machine.specs.Shapes.{sector_count, made_as}
 use Rattle.machine.specs.Sound.{IsSound, IsSoundDevice, IsSoundShape}
 use Rattle.machine.proofs.Numbering.{in_layout}
-use Rattle.machine.specs.State.{DeviceState, MachineState}
+use Rattle.machine.specs.State.{DeviceState, MachineState, base_of}
 use Rattle.wire.specs.Stream.{IsStream, IsStreamBy, IsEntry, shapes_in, content_of, record_in, last_named, opening_in, rounds, texts, device_texts, before_commit}
 use Rattle.machine.specs.declared.shape.Shape.{Shape}
 use Rattle.wire.proofs.Bodies.{body_is_short, body_bytes, one_body}
@@ -62,7 +62,7 @@ unfolding texts
 none_more v l [] x y h e = (refl, cc)
 none_more v l (r ∷ rs) x y h e = absurd (not_device v l r (texts rs ++ (4 ∷ y)) x h.0 (sym (append_assoc (spelled_record r) (texts rs) (4 ∷ y)) ∙ sym e))
 
-pub body_spells : (ram_len number : ℕ) (d : DeviceState) → number < 256 → IsSoundDevice ram_len d → HasSpelling (device number (body d))
+pub body_spells : {base : ℕ} (ram_len number : ℕ) (d : DeviceState) → number < 256 → IsSoundDevice base ram_len d → HasSpelling (device number (body d))
 body_spells ram_len number d low sound = (low, omega (arith, body_is_short ram_len d sound), body_bytes ram_len d sound)
 
 -- What begins as the records of devices, and goes on as those of devices of which the first have the same shapes, has these
@@ -78,7 +78,7 @@ shape_first e = (cc, cc)
 bodies_alike : (i j : ℕ) (a b : List ℕ) → device i a ≡ device j b → a ≡ b
 bodies_alike i j a b e = cc
 
-first_device_alike : (ram_len number : ℕ) (s t : DeviceState) (x y : List ℕ) → number < 256 → made_as s.kind ≡ made_as t.kind → IsSoundDevice ram_len s → IsSoundDevice ram_len t
+first_device_alike : {base : ℕ} (ram_len number : ℕ) (s t : DeviceState) (x y : List ℕ) → number < 256 → made_as s.kind ≡ made_as t.kind → IsSoundDevice base ram_len s → IsSoundDevice base ram_len t
     → spelled_record (device number (body s)) ++ x ≡ spelled_record (device number (body t)) ++ y → (s ≡ t) × (x ≡ y)
 first_device_alike ram_len number s t x y low kinds h k e =
     let o = one_record (device number (body s)) (device number (body t)) x y (body_spells ram_len number s low h) (body_spells ram_len number t low k) e in
@@ -89,15 +89,15 @@ one_more_led number s t ss ts x y same ih =
     let n : number + length (s ∷ ss) ≡ number + 1 + length ss = omega arith in
     record { more = ih.more; all = cons_same (sym same) ih.all; left = rw n ih.left }
 
-pub devices_lead : (ram_len number : ℕ) (ss ts : List DeviceState) (hs : List Shape) (x y : List ℕ) → number + length ts ≤ 256 → AllByRecursion (IsSoundDevice ram_len) ss → AllByRecursion (IsSoundDevice ram_len) ts
+pub devices_lead : (base ram_len number : ℕ) (ss ts : List DeviceState) (hs : List Shape) (x y : List ℕ) → number + length ts ≤ 256 → AllByRecursion (IsSoundDevice base ram_len) ss → AllByRecursion (IsSoundDevice base ram_len) ts
     → shapes_in ts ≡ shapes_in ss ++ hs → device_texts number ss ++ x ≡ device_texts number ts ++ y → LeadsDevices number ss ts x y
 unfolding device_texts
-devices_lead ram_len number [] ts hs x y low h k shapes e = let n : number + 0 ≡ number = omega arith in record { more = ts; all = refl; left = rw n e }
-devices_lead ram_len number (s ∷ ss) [] hs x y low h k shapes e = absurd cc
-devices_lead ram_len number (s ∷ ss) (t ∷ ts) hs x y low h k shapes e =
+devices_lead base ram_len number [] ts hs x y low h k shapes e = let n : number + 0 ≡ number = omega arith in record { more = ts; all = refl; left = rw n e }
+devices_lead base ram_len number (s ∷ ss) [] hs x y low h k shapes e = absurd cc
+devices_lead base ram_len number (s ∷ ss) (t ∷ ts) hs x y low h k shapes e =
     let o = first_device_alike ram_len number s t (device_texts (number + 1) ss ++ x) (device_texts (number + 1) ts ++ y) (omega (arith, low)) (shape_first shapes).0 h.0 k.0
     (sym (append_assoc (spelled_record (device number (body s))) (device_texts (number + 1) ss) x) ∙ e ∙ append_assoc (spelled_record (device number (body t))) (device_texts (number + 1) ts) y) in
-    one_more_led number s t ss ts x y o.0 (devices_lead ram_len (number + 1) ss ts hs x y (omega (arith, low)) h.1 k.1 (shape_first shapes).1 o.1)
+    one_more_led number s t ss ts x y o.0 (devices_lead base ram_len (number + 1) ss ts hs x y (omega (arith, low)) h.1 k.1 (shape_first shapes).1 o.1)
 
 pub length_shapes : (ss : List DeviceState) → length (shapes_in ss) ≡ length ss
 length_shapes ss = simp length-map
@@ -151,11 +151,13 @@ pub none_from_length : {A : Type 0} (xs more : List A) (n : ℕ) → length (xs 
 none_from_length xs [] n e = refl
 none_from_length xs (y ∷ ys) n e = absurd (omega (arith, e, length-append xs (y ∷ ys)))
 
-pub record SameParts (v w p q : ℕ) (es fs : List Record) (ss ts : List DeviceState) : Type 0 where
+-- Two streams of the same bytes have the same version, pages, records and shapes, and go on alike with their devices.
+pub record SameParts (m n : MachineState) (v w : ℕ) (es fs : List Record) (ca cb : List ℕ) : Type 0 where
   pub version : v ≡ w
-  pub pages : p ≡ q
+  pub pages : pages_of m ≡ pages_of n
   pub entries : es ≡ fs
-  pub devices : ss ≡ ts
+  pub shapes : shapes_in m.devices ≡ shapes_in n.devices
+  pub rest : device_texts 0 m.devices ++ ca ≡ device_texts 0 n.devices ++ cb
 
 -- what begins as entries and goes on to a device, in both cases, has the same entries and goes on alike
 ends_none : (es fs : List Record) (u v x y : List ℕ) → u ≡ 4 ∷ x → v ≡ 4 ∷ y → (more : List Record) → fs ≡ es ++ more → (more ≡ []) × (x ≡ y) → (fs ≡ es) × (u ≡ v)
@@ -171,46 +173,52 @@ ends_alike a b k l es fs u v x y h i eu ev e = ends_led b l es fs u v x y eu ev 
 devices_led : (ss ts : List DeviceState) (x y : List ℕ) → LeadsDevices 0 ss ts x y → length ss ≡ length ts → ts ≡ ss
 devices_led ss ts x y d count = d.all ∙ ap (λ (z : List DeviceState). ss ++ z) (none_from_length ss d.more 0 (ap length (sym d.all) ∙ sym count)) ∙ append-nil ss
 
-devices_alike : (ram_len : ℕ) (ss ts : List DeviceState) (x y : List ℕ) → length ts ≤ 16 → All (IsSoundDevice ram_len) ss → All (IsSoundDevice ram_len) ts
+devices_alike : {base : ℕ} (ram_len : ℕ) (ss ts : List DeviceState) (x y : List ℕ) → length ts ≤ 16 → All (IsSoundDevice base ram_len) ss → All (IsSoundDevice base ram_len) ts
     → shapes_in ss ≡ shapes_in ts → device_texts 0 ss ++ x ≡ device_texts 0 ts ++ y → ts ≡ ss
-devices_alike ram_len ss ts x y few h k shapes e =
+devices_alike {base} ram_len ss ts x y few h k shapes e =
     devices_led ss ts x y
-    (devices_lead ram_len 0 ss ts [] x y (omega (arith, few)) (recursion_from_All (IsSoundDevice ram_len) ss h) (recursion_from_All (IsSoundDevice ram_len) ts k) (sym shapes ∙ sym (append-nil (shapes_in ss))) e)
+    (devices_lead base ram_len 0 ss ts [] x y (omega (arith, few)) (recursion_from_All (IsSoundDevice base ram_len) ss h) (recursion_from_All (IsSoundDevice base ram_len) ts k) (sym shapes ∙ sym (append-nil (shapes_in ss))) e)
     (sym (length_shapes ss) ∙ ap length shapes ∙ length_shapes ts)
 
 same_sizes : (a b p q : ℕ) → p ≡ q → a ≡ 4096 * p → b ≡ 4096 * q → b ≡ a
 same_sizes a b p q e f g = g ∙ ap (λ (x : ℕ). 4096 * x) (sym e) ∙ sym f
 
-parts_from_ends : (v w : ℕ) (bytes : List ℕ) (m n : MachineState) (es fs : List Record) (ca cb : List ℕ) → IsStreamBy v bytes m es → IsStreamBy w bytes n fs → v ≡ w → pages_of m ≡ pages_of n → shapes_in m.devices ≡ shapes_in n.devices
-    → length n.ram ≡ length m.ram → (fs ≡ es) × (device_texts 0 m.devices ++ ca ≡ device_texts 0 n.devices ++ cb) → SameParts v w (pages_of m) (pages_of n) es fs m.devices n.devices
-parts_from_ends v w bytes m n es fs ca cb a b same e f size o = record {
-  version = same;
-  pages = e;
-  entries = sym o.0;
-  devices = sym (devices_alike (length m.ram) m.devices n.devices ca cb b.sound.few_devices a.sound.devices (rw size at b.sound.devices) f o.1);
-}
-
 parts_from_texts : (v w : ℕ) (bytes : List ℕ) (m n : MachineState) (es fs : List Record) (ca cb : List ℕ) → IsStreamBy v bytes m es → IsStreamBy w bytes n fs
     → (opening_in v (pages_of m) m.devices ≡ opening_in w (pages_of n) n.devices) × (texts es ++ (device_texts 0 m.devices ++ ca) ≡ texts fs ++ (device_texts 0 n.devices ++ cb))
-    → SameParts v w (pages_of m) (pages_of n) es fs m.devices n.devices
+    → SameParts m n v w es fs ca cb
 parts_from_texts v w bytes m n es fs ca cb a b t =
     let fa = device_first m.devices ca a.sound.some_devices in
     let fb = device_first n.devices cb b.sound.some_devices in
-    let pages : pages_of m ≡ pages_of n = ap (λ (o : Opening). o.pages) t.0 in
-    parts_from_ends v w bytes m n es fs ca cb a b (ap (λ (o : Opening). o.version) t.0) pages (ap (λ (o : Opening). o.shapes) t.0)
-    (same_sizes (length m.ram) (length n.ram) (pages_of m) (pages_of n) pages a.sound.whole_pages b.sound.whole_pages)
-    (ends_alike v w (layout_of m) (layout_of n) es fs (device_texts 0 m.devices ++ ca) (device_texts 0 n.devices ++ cb) fa.0 fb.0 a.each b.each fa.1 fb.1 t.1)
+    let ends = ends_alike v w (layout_of m) (layout_of n) es fs (device_texts 0 m.devices ++ ca) (device_texts 0 n.devices ++ cb) fa.0 fb.0 a.each b.each fa.1 fb.1 t.1 in
+    record {
+      version = ap (λ (o : Opening). o.version) t.0;
+      pages = ap (λ (o : Opening). o.pages) t.0;
+      entries = sym ends.0;
+      shapes = ap (λ (o : Opening). o.shapes) t.0;
+      rest = ends.1;
+    }
 
-pub same_parts : (v w : ℕ) (bytes : List ℕ) (m n : MachineState) (es fs : List Record) → IsStreamBy v bytes m es → IsStreamBy w bytes n fs → SameParts v w (pages_of m) (pages_of n) es fs m.devices n.devices
+abbrev end_of : ℕ → MachineState → List Record → List ℕ
+end_of v m es = spelled_record (commit (sha256 (before_commit v (pages_of m) es m.devices)))
+
+pub same_parts : (v w : ℕ) (bytes : List ℕ) (m n : MachineState) (es fs : List Record) → IsStreamBy v bytes m es → IsStreamBy w bytes n fs → SameParts m n v w es fs (end_of v m es) (end_of w n fs)
 same_parts v w bytes m n es fs a b =
-    let ca = spelled_record (commit (sha256 (before_commit v (pages_of m) es m.devices))) in
-    let cb = spelled_record (commit (sha256 (before_commit w (pages_of n) fs n.devices))) in
+    let ca = end_of v m es in
+    let cb = end_of w n fs in
     let oa = opening_in v (pages_of m) m.devices in
     let ob = opening_in w (pages_of n) n.devices in
     parts_from_texts v w bytes m n es fs ca cb a b
     (alike oa ob (texts es ++ (device_texts 0 m.devices ++ ca)) (texts fs ++ (device_texts 0 n.devices ++ cb))
     (sym (header_of-spelled bytes oa (texts es ++ (device_texts 0 m.devices ++ ca)) (stream_begins a))
     ∙ header_of-spelled bytes ob (texts fs ++ (device_texts 0 n.devices ++ cb)) (stream_begins b)))
+
+-- At one base the devices are the same too.
+same_devices : {v w : ℕ} {es fs : List Record} {ca cb : List ℕ} (m n : MachineState) → IsSound m → IsSound n → base_of m.devices ≡ base_of n.devices → SameParts m n v w es fs ca cb → m.devices ≡ n.devices
+same_devices {ca = ca} {cb = cb} m n h k based s =
+    let size : length n.ram ≡ length m.ram = same_sizes (length m.ram) (length n.ram) (pages_of m) (pages_of n) s.pages h.whole_pages k.whole_pages in
+    let at_one : All (IsSoundDevice (base_of m.devices) (length m.ram)) n.devices =
+    subst (λ (b : ℕ). All (IsSoundDevice b (length m.ram)) n.devices) (sym based) (subst (λ (l : ℕ). All (IsSoundDevice (base_of n.devices) l) n.devices) size k.devices) in
+    sym (devices_alike (length m.ram) m.devices n.devices ca cb k.few_devices h.devices at_one s.shapes s.rest)
 
 -- What the last records say is the machine.
 content_told : (v : ℕ) (m n : MachineState) (dev k : ℕ) → record_in v m.ram m.disks (sector_item dev k) ≡ record_in v n.ram n.disks (sector_item dev k) → content_of (sector_on (slice_get m.disks dev) k) ≡ content_of (sector_on (slice_get n.disks dev) k)
@@ -252,22 +260,23 @@ told_alike v w bytes m n es fs i a b f e has too = some_same (a.last i has) (ap 
 sizes_alike : (m n : MachineState) → IsSound m → IsSound n → m.devices ≡ n.devices → map length m.disks ≡ map length n.disks
 sizes_alike m n h k e = h.disks ∙ ap (map (λ (d : DeviceState). sector_count (made_as d.kind))) e ∙ sym k.disks
 
-from_parts : (bytes : List ℕ) (m n : MachineState) (a : IsStream bytes m) (b : IsStream bytes n) → SameParts a.version b.version (pages_of m) (pages_of n) a.entries b.entries m.devices n.devices → m ≡ n
-from_parts bytes m n a b s =
+from_parts : {ca cb : List ℕ} (bytes : List ℕ) (m n : MachineState) (a : IsStream bytes m) (b : IsStream bytes n) → base_of m.devices ≡ base_of n.devices → SameParts m n a.version b.version a.entries b.entries ca cb → m ≡ n
+from_parts bytes m n a b based s =
     let p = pages_of m in
     let v = a.version in
     let size : length n.ram ≡ 4096 * p = b.by.sound.whole_pages ∙ ap (λ (x : ℕ). 4096 * x) (sym s.pages) in
-    let sizes = sizes_alike m n a.by.sound b.by.sound s.devices in
+    let devices = same_devices m n a.by.sound b.by.sound based s in
+    let sizes = sizes_alike m n a.by.sound b.by.sound devices in
     machine_same m n
     (ram_same p m.ram n.ram a.by.sound.whole_pages size (λ k lt. page_told v m n p k a.by.sound.whole_pages size lt
     (told_alike v b.version bytes m n a.entries b.entries (page_item k) a.by b.by s.version s.entries lt (omega (arith, lt, s.pages)))))
-    s.devices
+    devices
     (disks_same m.disks n.disks sizes (λ dev k content there.
     let within = in_layout m (sector_item dev k) a.by.sound.whole_pages (content, there) in
     content_told v m n dev k (told_alike v b.version bytes m n a.entries b.entries (sector_item dev k) a.by b.by s.version s.entries within (rw sizes at within))))
 
-pub one_machine : (bytes : List ℕ) (m n : MachineState) → IsStream bytes m → IsStream bytes n → m ≡ n
-one_machine bytes m n a b = from_parts bytes m n a b (same_parts a.version b.version bytes m n a.entries b.entries a.by b.by)
+pub one_machine : (bytes : List ℕ) (m n : MachineState) → IsStream bytes m → IsStream bytes n → base_of m.devices ≡ base_of n.devices → m ≡ n
+one_machine bytes m n a b based = from_parts bytes m n a b based (same_parts a.version b.version bytes m n a.entries b.entries a.by b.by)
 
 pub one_count : (bytes : List ℕ) (m n : MachineState) (a : IsStream bytes m) (b : IsStream bytes n) → rounds a.entries ≡ rounds b.entries
 one_count bytes m n a b = ap rounds (same_parts a.version b.version bytes m n a.entries b.entries a.by b.by).entries

@@ -15,7 +15,7 @@ use Rattle.machine.specs.EffectLaws.{sector_on}
 use Rattle.machine.specs.Layout.{Layout, IsItemIn, layout_of, item_at, size_of}
 use Rattle.machine.specs.Shapes.{sector_count, made_as}
 use Rattle.machine.specs.Sound.{IsSound, IsSoundDevice, IsSoundShape}
-use Rattle.machine.specs.State.{DeviceState, MachineState}
+use Rattle.machine.specs.State.{DeviceState, MachineState, base_of}
 use Rattle.machine.specs.declared.shape.Shape.{Shape}
 use Rattle.machine.specs.declared.shape.Shape.TheVariants.{Net, Block, Console, Entropy}
 use Rattle.machine.proofs.Numbering.{either_way, has_item, item_there}
@@ -104,10 +104,10 @@ few_sectors (Block sectors read_only id) n good below = omega (arith, good.few, 
 few_sectors Console n good below = omega (arith, below)
 few_sectors Entropy n good below = omega (arith, below)
 
-few_counts : (ram_len : ℕ) (ds : List DeviceState) (dev n : ℕ) → AllByRecursion (IsSoundDevice ram_len) ds → n < get_or (map (λ (d : DeviceState). sector_count (made_as d.kind)) ds) dev 0 → (dev < length ds) × (n < 2 ^ 32)
-few_counts ram_len [] dev n sound below = absurd (omega (arith, below))
-few_counts ram_len (d ∷ ds) zero n sound below = (omega arith, few_sectors (made_as d.kind) n sound.0.shape below)
-few_counts ram_len (d ∷ ds) (suc dev) n sound below = let h = few_counts ram_len ds dev n sound.1 below in (omega (arith, h.0), h.1)
+few_counts : (base ram_len : ℕ) (ds : List DeviceState) (dev n : ℕ) → AllByRecursion (IsSoundDevice base ram_len) ds → n < get_or (map (λ (d : DeviceState). sector_count (made_as d.kind)) ds) dev 0 → (dev < length ds) × (n < 2 ^ 32)
+few_counts base ram_len [] dev n sound below = absurd (omega (arith, below))
+few_counts base ram_len (d ∷ ds) zero n sound below = (omega arith, few_sectors (made_as d.kind) n sound.0.shape below)
+few_counts base ram_len (d ∷ ds) (suc dev) n sound below = let h = few_counts base ram_len ds dev n sound.1 below in (omega (arith, h.0), h.1)
 
 whole_sector_by : (disks : List (List Sector)) (found : Option (List Sector)) (dev n : ℕ) (content : Sector) → All (All IsWhole) disks → slice_get disks dev ≡ found → sector_on found n ≡ Some content → IsWhole content
 whole_sector_by disks None dev n content all is there = cc
@@ -121,7 +121,7 @@ sector_spells dev n (Some bytes) low few whole = (low, few, whole.size, whole.by
 
 is_sector_entry : (v : ℕ) (m : MachineState) (dev n : ℕ) → IsSound m → IsItemIn (layout_of m) (items.sector dev n) → IsEntry v (layout_of m) (record_in v m.ram m.disks (items.sector dev n))
 is_sector_entry v m dev n sound within =
-    let few = few_counts (length m.ram) m.devices dev n (recursion_from_All (IsSoundDevice (length m.ram)) m.devices sound.devices) (rw sound.disks at within) in
+    let few = few_counts (base_of m.devices) (length m.ram) m.devices dev n (recursion_from_All (IsSoundDevice (base_of m.devices) (length m.ram)) m.devices sound.devices) (rw sound.disks at within) in
     let has = has_item m (items.sector dev n) sound.whole_pages within in
     let whole = whole_sector_by m.disks (slice_get m.disks dev) dev n has.0 sound.sectors refl has.1 in
     rw has.1 (record { spells = sector_spells dev n has.0 (omega (arith, few.0, sound.few_devices)) few.1 whole; has = tt; stands = within })

@@ -117,13 +117,13 @@ kind_in (Block sectors read_only id) bytes = block_kind_in sectors read_only id 
 kind_in Console bytes = console_kind_in bytes
 kind_in Entropy bytes = entropy_kind_in bytes
 
--- The device of this shape, in a machine with `ram_len` bytes of RAM, whose common registers and queues are encoded in the
+-- The device of this shape, in a machine with `ram_len` bytes of RAM from the address `base` on, whose common registers and queues are encoded in the
 -- first of these bytes, and whose kind, with its state, is `kind_is`.
-abbrev pub device_of : ℕ → Shape → List ℕ → Kind → DeviceState
-device_of ram_len shape bytes kind_is =
-    saved_device ram_len kind_is (common_of bytes) (queues_in (queues_of shape) (drop 26 bytes)) (positions_in (queues_of shape) (drop 26 bytes))
+abbrev pub device_of : ℕ → ℕ → Shape → List ℕ → Kind → DeviceState
+device_of base ram_len shape bytes kind_is =
+    saved_device base ram_len kind_is (common_of bytes) (queues_in (queues_of shape) (drop 26 bytes)) (positions_in (queues_of shape) (drop 26 bytes))
 
 -- What an error says of the bytes: with `BadBody` they are the body of no such device; `NoMemory` says nothing of them.
-abbrev pub RefusesBody : ℕ → Shape → ℕ → List ℕ → DecodeError → Type 0
-RefusesBody version shape ram_len bytes BadBody = (d : DeviceState) → ¬ (IsBodyOf version shape ram_len bytes d)
-RefusesBody version shape ram_len bytes NoMemory = Unit {0}
+abbrev pub RefusesBody : ℕ → Shape → ℕ → ℕ → List ℕ → DecodeError → Type 0
+RefusesBody version shape base ram_len bytes BadBody = (d : DeviceState) → ¬ (IsBodyOf version shape base ram_len bytes d)
+RefusesBody version shape base ram_len bytes NoMemory = Unit {0}

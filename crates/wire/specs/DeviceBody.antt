@@ -83,10 +83,11 @@ has_zeroes _ c = false
 abbrev pub IsDeviceOf : ℕ → DeviceState → Type 0
 IsDeviceOf version d = version ≡ 1 → has_zeroes (made_as d.kind) d.registers.common ≡ false
 
--- The bytes are the body of this device in a version: the device has this shape, is sound in a machine with `ram_len` bytes of RAM,
--- and the version has it.
-pub record IsBodyOf (version : ℕ) (shape : Shape) (ram_len : ℕ) (bytes : List ℕ) (d : DeviceState) : Type 0 where
+-- The bytes are the body of this device in a version: the device has this shape, is sound in a machine with `ram_len` bytes of RAM
+-- from the address `base` on, and the version has it. The bytes do not tell the base: the same ones may be the body of a device at
+-- another base.
+pub record IsBodyOf (version : ℕ) (shape : Shape) (base ram_len : ℕ) (bytes : List ℕ) (d : DeviceState) : Type 0 where
   pub shape_is : made_as d.kind ≡ shape
-  pub sound : IsSoundDevice ram_len d
+  pub sound : IsSoundDevice base ram_len d
   pub has : IsDeviceOf version d
   pub is : bytes ≡ body d

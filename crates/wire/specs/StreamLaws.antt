@@ -4,7 +4,7 @@ use Rattle.wire.specs.DeviceBody.{IsDeviceOf}
 use Rattle.wire.specs.Header.{IsVersion}
 use Rattle.wire.specs.Records.{Record, HasSpelling, spelled_record}
 use Rattle.machine.specs.Sound.{IsSound}
-use Rattle.machine.specs.State.{MachineState}
+use Rattle.machine.specs.State.{MachineState, base_of}
 use Rattle.wire.specs.Stream.{IsStream, IsStreamBy, records_in, rounds, whole, whole_in}
 use Rattle.machine.specs.Layout.{layout_of, size_of}
 
@@ -13,11 +13,12 @@ use Rattle.machine.specs.Layout.{layout_of, size_of}
 abbrev pub OneRecord : Type 0
 OneRecord = (r s : Record) (x y : List ℕ) → HasSpelling r → HasSpelling s → spelled_record r ++ x ≡ spelled_record s ++ y → (r ≡ s) × (x ≡ y)
 
--- A stream determines its machine, whatever its version.
+-- A stream and the address at which RAM begins determine the machine, whatever the stream's version. A stream does not tell that
+-- address: the same bytes may be a stream of machines at several.
 abbrev pub OneMachine : Type 0
-OneMachine = (bytes : List ℕ) (m k : MachineState) → IsStream bytes m → IsStream bytes k → m ≡ k
+OneMachine = (bytes : List ℕ) (m k : MachineState) → IsStream bytes m → IsStream bytes k → base_of m.devices ≡ base_of k.devices → m ≡ k
 
--- A stream determines the number of rounds that ended in it.
+-- A stream determines the number of rounds that ended in it, at whatever addresses RAM begins.
 abbrev pub OneCount : Type 0
 OneCount = (bytes : List ℕ) (m k : MachineState) (a : IsStream bytes m) (b : IsStream bytes k) → rounds a.entries ≡ rounds b.entries
 

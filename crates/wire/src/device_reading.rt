@@ -19,23 +19,25 @@ use blk::{BlockShape, Requests, WRITE_ZEROES, is_block_shape};
 use chains::{Position, Positions};
 use console::recall_console;
 use guestmem::recall_bytes;
-use machine::{DeviceState, Kind, Shape, offered};
+use machine::{DeviceState, Kind, Shape, is_base, offered};
 use mmio::{
     Common, FEATURES_OK, QUEUE_COUNT_MAX, Queue, RING_PACKED, is_sound_common, is_sound_queue,
 };
 use std::alloc::Global;
 
-/// Decodes the body of a device of this shape, in a stream of this version of a machine with `ram_len` bytes of RAM. `BadBody` if the
-/// bytes are the body of no sound device of this shape, or of one that the version does not have.
+/// Decodes the body of a device of this shape, in a stream of this version of a machine with `ram_len` bytes of RAM from the
+/// guest-physical address `base` on. `BadBody` if the bytes are the body of no device of this shape that is sound there, or of one
+/// that the version does not have. Where no RAM of that length may begin at the base, no device is sound.
 pub fn decode_device(
     alloc: Global,
     version: u32,
     shape: Shape,
+    base: u64,
     ram_len: u64,
     body: &[u8],
 ) -> Result<DeviceState, DecodeError>
-    ensures read { IfOk result (λ d. IsBodyOf version shape ram_len body.now d) }
-    ensures refused { IfErr result (λ e. RefusesBody version shape ram_len body.now e) }
+    ensures read { IfOk result (λ d. IsBodyOf version shape base ram_len body.now d) }
+    ensures refused { IfErr result (λ e. RefusesBody version shape base ram_len body.now e) }
 {
     let count = queue_count(shape);
     if !has_front(count, body) {
@@ -52,10 +54,18 @@ pub fn decode_device(
         return Err(DecodeError::BadBody);
     };
     let queues = &queues[..count];
-    if !is_sound_device(ram_len, shape, &common, queues, &positions[..count], &kind) {
+    if !is_sound_device(
+        base,
+        ram_len,
+        shape,
+        &common,
+        queues,
+        &positions[..count],
+        &kind,
+    ) {
         return Err(DecodeError::BadBody);
     }
-    Ok(DeviceState::restored(ram_len, common, queues, positions, kind))
+    Ok(DeviceState::restored(base, ram_len, common, queues, positions, kind))
 }
 
 /// How many queues a device of this shape has.
@@ -142,8 +152,10 @@ fn queues_at(count: usize, rest: &[u8]) -> ([Queue; QUEUE_COUNT_MAX], [Positions
     ([queue, queue_at(after)], [positions, positions_at(after)])
 }
 
-/// Whether a device of this shape may have these registers, queues, positions and this kind.
+/// Whether a device of this shape may have these registers, queues, positions and this kind, in a machine with `ram_len` bytes of RAM
+/// from the address `base` on. No device may where no RAM of that length may begin there.
 fn is_sound_device(
+    base: u64,
     ram_len: u64,
     shape: Shape,
     common: &Common,
@@ -155,13 +167,14 @@ fn is_sound_device(
     requires count { length queues.now ≡ queues_of shape }
     requires few { length queues.now ≤ QUEUE_COUNT_MAX }
     requires each { length positions.now ≡ length queues.now }
-    ensures { IsTrue result ↔ IsSoundDevice ram_len (saved_device ram_len kind.now common.now queues.now positions.now) }
+    ensures { IsTrue result ↔ IsSoundDevice base ram_len (saved_device base ram_len kind.now common.now queues.now positions.now) }
 {
-    is_sound_shape(shape)
+    is_base(base, ram_len)
+        && is_sound_shape(shape)
         && is_sound_common(offered(shape), common)
-        && are_sound_queues(ram_len, common, queues)
+        && are_sound_queues(base, ram_len, common, queues)
         && have_positions(is_packed(common), queues, positions)
-        && is_sound_kind(ram_len, common, queues, kind)
+        && is_sound_kind(base, ram_len, common, queues, kind)
 }
 
 /// Whether a device may be made as this.
@@ -178,18 +191,18 @@ fn is_sound_shape(shape: Shape) -> bool
     }
 }
 
-/// Whether each queue is sound, with these registers and this length of RAM.
-fn are_sound_queues(ram_len: u64, common: &Common, queues: &[Queue]) -> bool
-    ensures { IsTrue result ↔ All (IsSoundQueue ram_len common.now) queues.now }
+/// Whether each queue is sound, with these registers and this base and length of RAM.
+fn are_sound_queues(base: u64, ram_len: u64, common: &Common, queues: &[Queue]) -> bool
+    ensures { IsTrue result ↔ All (IsSoundQueue base ram_len common.now) queues.now }
 {
     queues
         .iter()
-        .all(|queue| is_sound_queue(ram_len, common, queue))
+        .all(|queue| is_sound_queue(base, ram_len, common, queue))
 }
 
 /// Whether a device with these registers and queues may have this kind, with its state.
-fn is_sound_kind(ram_len: u64, common: &Common, queues: &[Queue], kind: &Kind) -> bool
-    ensures { IsTrue result ↔ IsSoundKind ram_len (saved_device ram_len kind.now common.now queues.now []).registers kind.now }
+fn is_sound_kind(base: u64, ram_len: u64, common: &Common, queues: &[Queue], kind: &Kind) -> bool
+    ensures { IsTrue result ↔ IsSoundKind ram_len (saved_device base ram_len kind.now common.now queues.now []).registers kind.now }
 {
     match kind {
         Kind::Network { inbox, .. } => {
@@ -203,7 +216,7 @@ fn is_sound_kind(ram_len: u64, common: &Common, queues: &[Queue], kind: &Kind) -
             requests,
         } => {
             let shape = BlockShape::new(*sectors, *read_only, *id, common.features);
-            are_requests_of(ram_len, is_packed(common), queues, &shape, requests)
+            are_requests_of(base, ram_len, is_packed(common), queues, &shape, requests)
         }
         Kind::Console { size, held } => {
             recall_console(size, held);
@@ -218,16 +231,17 @@ fn is_sound_kind(ram_len: u64, common: &Common, queues: &[Queue], kind: &Kind) -
 
 /// Whether a block device with these queues may have these requests outstanding.
 fn are_requests_of(
+    base: u64,
     ram_len: u64,
     is_packed: bool,
     queues: &[Queue],
     shape: &BlockShape,
     requests: &Requests,
 ) -> bool
-    ensures { IsTrue result ↔ IsSomeAnd (slice_get queues.now 0) (λ q. AreRequestsOf ram_len is_packed q shape.now requests.now) }
+    ensures { IsTrue result ↔ IsSomeAnd (slice_get queues.now 0) (λ q. AreRequestsOf base ram_len is_packed q shape.now requests.now) }
 {
     match queues {
-        [first, ..] => requests.are_of(ram_len, is_packed, first, shape),
+        [first, ..] => requests.are_of(base, ram_len, is_packed, first, shape),
         [] => false,
     }
 }

@@ -7,7 +7,7 @@ pub fn no_record_begins_another()
     ensures { OneRecord }
 {}
 
-/// A stream encodes one machine at most, whatever its version.
+/// A stream encodes one machine at most whose RAM begins at a given address, whatever its version.
 pub fn a_stream_has_one_machine()
     ensures { OneMachine }
 {}

@@ -69,7 +69,7 @@ pub fn page_len(bytes: &[u8; 4096]) -> u64
 
 /// The length of the record of a device.
 pub fn device_len(state: &DeviceState) -> u64
-    requires sound { (ram_len : ℕ) × IsSoundDevice ram_len state.now }
+    requires sound { (base : ℕ) × (ram_len : ℕ) × IsSoundDevice base ram_len state.now }
     ensures len { (number : ℕ) → result ≡ length (spelled_record (device number (body state.now))) }
     ensures short { result ≤ 131078 }
 {

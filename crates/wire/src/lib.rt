@@ -3,21 +3,23 @@
 //! A stream is a header, the pages, the sectors and the ends of rounds in any order, each device once, and the digest
 //! of all that comes before it. `specs/Stream` says which bytes are a stream of which machine; it uses `specs/Header`,
 //! `specs/Records` and `specs/DeviceBody` (how each part is encoded; requests and frames in `specs/RequestText` and
-//! `specs/FrameText`), and the machine's own `Sound` (which machines there are). How parts are decoded is defined
+//! `specs/FrameText`), and the machine's own `Sound` (which machines there are). Addresses stand in a stream as the guest wrote them,
+//! and the address at which RAM begins does not: who reads a device names it. How parts are decoded is defined
 //! separately (`specs/HeaderReading`, `specs/ShapeReading`, `specs/BodyReading`, `specs/RequestReading`,
 //! `specs/FrameReading`), and is proved to be the inverse of the encoding.
 //!
 //! # What the layers above may rely on
 //! - Each `encode_` function adds the encoding of its part to an honest sink; each `write_` function does the same, and
 //!   a `Tally`, such as a digest, takes the same bytes; each `decode_` function succeeds exactly on an encoding at the
-//!   front, and `decode_device` on a body that is all of the bytes, of a device that the version has, out of memory aside.
+//!   front, and `decode_device` on a body that is all of the bytes, of a device that is sound at the base that is named and that the
+//!   version has, out of memory aside.
 //! - The trait `Sink`: the bytes held, a count of failures modulo 2^64, whether it is honest, and whether it is
 //!   flushed: it is if the last call was a flush that succeeded (`specs/Sinks`). A page and a good sector go to it in
 //!   one call each.
 //! - Two versions of the stream are read, 2 is written. They differ in how a page of zeros is encoded, and in that version 1 has no
 //!   block device whose driver accepted WRITE_ZEROES, so no request to clear sectors; and in nothing else. A page has one
 //!   encoding in each.
-//! - `laws`: no encoding of a record is a prefix of another's; a stream has one machine, one number of rounds and one version;
+//! - `laws`: no encoding of a record is a prefix of another's; a stream has one machine of each base, one number of rounds and one version;
 //!   a sound machine has a stream in each version that has its devices, as version 2 has all, and the whole stream of it is one.
 //!
 //! It uses `machine`, whose devices and shapes these are. The digest is `sha2`'s, whose contract says that it is the one of

@@ -14,7 +14,7 @@ use crate::event::Event;
 use crate::machine::Machine;
 use crate::reply::{Refusal, Reply};
 use blk::Disk;
-use guestmem::{Bytes, NoLog, NoMemory, TouchLog};
+use guestmem::{Bytes, NoLog, NoMemory, TouchLog, access_refusal};
 
 impl<D: Disk> Machine<D> {
     /// Applies one event, and returns the reply. After `NoMemory` and `Refused` nothing has changed.
@@ -76,16 +76,15 @@ impl<D: Disk> Machine<D> {
     fn read_bytes(&self, addr: u64, len: u32) -> Reply
         ensures { IsApplied self.now (events.MemRead addr len) result self.now }
     {
-        if let Some(error) = self.ram.refusal(addr, len as usize) {
+        let base = self.base();
+        if let Some(error) = access_refusal(base, self.ram.len(), addr, len as usize) {
             return Reply::Refused(Refusal::from(error));
         }
         let Ok(mut bytes) = vec![in self.alloc; 0u8; len as usize] else {
             return Reply::NoMemory;
         };
-        match self.ram.read(addr, &mut bytes) {
-            Ok(()) => Reply::Bytes(Bytes::from_vec(bytes)),
-            Err(error) => Reply::Refused(Refusal::from(error)),
-        }
+        self.ram.get(addr - base, &mut bytes);
+        Reply::Bytes(Bytes::from_vec(bytes))
     }
 }
 

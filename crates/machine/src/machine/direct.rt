@@ -22,7 +22,7 @@ use crate::reply::{Refusal, Reply};
 use crate::stepped::Stepped;
 use blk::Disk;
 use console::ConsoleSize;
-use guestmem::{NoLog, TouchLog, recall_bytes};
+use guestmem::{NoLog, TouchLog, access_refusal, recall_bytes};
 use mmio::QUEUE_COUNT_MAX;
 
 impl<D: Disk> Machine<D> {
@@ -71,19 +71,21 @@ impl<D: Disk> Machine<D> {
         })
     }
 
-    /// The guest reads RAM from an address on into the whole buffer. It takes no memory. A refusal leaves the buffer as it
-    /// was.
+    /// The guest reads RAM from a guest-physical address on into the whole buffer. It takes no memory. A refusal leaves the buffer as
+    /// it was.
     pub fn read_ram(&self, addr: u64, buf: &mut [u8]) -> Result<(), Refusal>
         ensures applied { IsApplied self.now (events.MemRead addr (length buf.old)) (bytes_reply result buf.new) self.now }
         ensures err { OnErr result (buf.new ≡ buf.old) }
     {
-        match self.ram.read(addr, buf) {
-            Ok(()) => Ok(()),
-            Err(error) => Err(Refusal::from(error)),
+        let base = self.base();
+        if let Some(error) = access_refusal(base, self.ram.len(), addr, buf.len()) {
+            return Err(Refusal::from(error));
         }
+        self.ram.get(addr - base, buf);
+        Ok(())
     }
 
-    /// The guest writes bytes into RAM from an address on.
+    /// The guest writes bytes into RAM from a guest-physical address on.
     pub fn write_ram(&mut self, addr: u64, bytes: &[u8]) -> Result<(), Refusal>
         ensures { IsApplied self.old (events.MemWrite addr bytes.now) (done_reply result) self.new }
     {
@@ -131,11 +133,12 @@ impl<D: Disk> Machine<D> {
         requires may { MayItems L.may log.old (state_of self.old) }
         ensures { IsAppliedLogged L.after self.old log.old (events.MemWrite addr bytes.now) (done_reply result) self.new log.new }
     {
-        if let Some(error) = self.ram.refusal(addr, bytes.len()) {
+        let base = self.base();
+        if let Some(error) = access_refusal(base, self.ram.len(), addr, bytes.len()) {
             return Err(Refusal::from(error));
         }
         recall_bytes(bytes);
-        self.ram.put(addr, bytes, log);
+        self.ram.put(addr - base, bytes, log);
         Ok(())
     }
 

@@ -9,6 +9,7 @@ ghost use Rattle.machine.specs.Seen.{state_of};
 ghost use Rattle.machine.specs.Lines.{lines_of};
 ghost use Rattle.machine.specs.Shapes.{made_as};
 ghost use Rattle.machine.specs.Sound.{IsSound};
+ghost use Rattle.machine.specs.State.{base_of};
 ghost use Rattle.machine.specs.Step.{disk_of};
 ghost use Rattle.machine.specs.declared.machine.TheConstants.{DEVICES_MAX};
 
@@ -85,11 +86,30 @@ impl<D: Disk> Machine<D> {
         devices
     }
 
-    /// The RAM.
+    /// The guest-physical address at which RAM begins.
+    #[inline(always)]
+    pub fn base(&self) -> u64
+        ensures { result ≡ base_of (state_of self.now).devices }
+    {
+        base_of(self.devices.as_slice())
+    }
+
+    /// The RAM, whose bytes are numbered from 0.
     pub fn ram(&self) -> &Ram
         ensures { result.now ≡ self.now.memory }
     {
         &self.ram
+    }
+}
+
+/// The guest-physical address at which RAM begins, as the registers of these devices know it.
+#[inline(always)]
+pub(crate) fn base_of<D: Disk>(devices: &[Device<D>]) -> u64
+    ensures { result ≡ base_of (map (λ d. d.state) devices.now) }
+{
+    match devices {
+        [] => 0,
+        [first, ..] => first.state().registers().ram_base(),
     }
 }
 

@@ -1,13 +1,14 @@
 //! Machines that are made, or were saved.
 
-ghost use Rattle.std.specs.Prelude.{◌≡◌, ◌≤◌, length, map, All, Err, None, Some, IfOk, IfErr, IfSome};
+ghost use Rattle.std.specs.Prelude.{◌≡◌, ◌*◌, ◌≤◌, ◌↔◌, IsTrue, length, map, All, Err, None, Some, IfOk, IfErr, IfSome};
 ghost use Rattle.blk.specs.Disk.{AreSectors};
 ghost use Rattle.region.specs.Address.{address};
 ghost use Rattle.machine.specs.Parts.{ArePartsFor, machine_of};
+ghost use Rattle.guestmem.specs.declared.limits.TheConstants.{PAGE_SIZE};
 ghost use Rattle.machine.specs.Seen.{state_of, all_marks};
 ghost use Rattle.machine.specs.Shapes.{first_device, is_beyond, made_as};
-ghost use Rattle.machine.specs.First.{AreMarksOf, HasBytes, are_beyond, dealt_marks, first_machine, good_marks, machine_over, marked_sectors, marks_in, saved_machine, new_refusal, over_refusal};
-ghost use Rattle.machine.specs.Sound.{IsSound};
+ghost use Rattle.machine.specs.First.{AreMarksOf, HasBytes, are_beyond, dealt_marks, first_machine, good_marks, machine_over, marked_sectors, marks_in, saved_machine, is_base, machine_over_at, first_machine_at, new_refusal, new_refusal_at, over_refusal, over_refusal_at};
+ghost use Rattle.machine.specs.Sound.{IsBase, IsSound};
 ghost use Rattle.machine.specs.declared.new_error.NewError.TheVariants as new_error;
 
 use crate::fitting::are_disks_of;
@@ -59,11 +60,33 @@ impl<D: Disk + Drop> Machine<D> {
         ensures refused { IfSome (new_refusal ram_pages shapes.now (map (λ d. length (D.state d).sectors) disks.items)) (λ error. result ≡ Err (error, disks)) }
         ensures memory { new_refusal ram_pages shapes.now (map (λ d. length (D.state d).sectors) disks.items) ≡ None → IfErr result (λ x. x.0 ≡ new_error.NoMemory) }
     {
+        Machine::new_at(alloc, 0, ram_pages, shapes, disks)
+    }
+
+    /// As `new_or_back`, with RAM from the guest-physical address `base` on. `BadShape` is told also of a base that is no multiple of
+    /// 4,096, and of one with which RAM would reach past the last address.
+    pub fn new_at(
+        alloc: Global,
+        base: u64,
+        ram_pages: u32,
+        shapes: &[Shape],
+        disks: Vec<D>,
+    ) -> Result<Machine<D>, (NewError, Vec<D>)>
+        ensures made { IfOk result (λ m. state_of m ≡ first_machine_at base ram_pages shapes.now (map (λ d. map Some (D.state d).sectors) disks.items)) }
+        ensures marks { IfOk result (λ m. all_marks m ≡ dealt_marks shapes.now (map (λ d. marks_in (D.state d)) disks.items)) }
+        ensures sound { IfOk result (λ m. IsSound (state_of m)) }
+        ensures back { IfErr result (λ x. x.1.items ≡ disks.items) }
+        ensures refused { IfSome (new_refusal_at base ram_pages shapes.now (map (λ d. length (D.state d).sectors) disks.items)) (λ error. result ≡ Err (error, disks)) }
+        ensures memory { new_refusal_at base ram_pages shapes.now (map (λ d. length (D.state d).sectors) disks.items) ≡ None → IfErr result (λ x. x.0 ≡ new_error.NoMemory) }
+    {
+        if !is_base(base, PAGE_SIZE as u64 * ram_pages as u64) {
+            return Err((NewError::BadShape, disks));
+        }
         if let Some(error) = refusal(ram_pages as usize, shapes, disks.as_slice()) {
             return Err((error, disks));
         }
         // All memory is got before the first disk is moved out of its list.
-        match first_parts(alloc, ram_pages, shapes, disks.as_slice()) {
+        match first_parts(alloc, base, ram_pages, shapes, disks.as_slice()) {
             Ok(parts) => Ok(parts.with_disks(disks)),
             Err(NoMemory) => Err((NewError::NoMemory, disks)),
         }
@@ -86,10 +109,33 @@ impl<D: Disk + Drop> Machine<D> {
         ensures refused { IfSome (over_refusal (length region.content) shapes.now (map (λ d. length (D.state d).sectors) disks.items)) (λ error. result ≡ Err (error, disks, region)) }
         ensures memory { over_refusal (length region.content) shapes.now (map (λ d. length (D.state d).sectors) disks.items) ≡ None → IfErr result (λ x. x.0 ≡ new_error.NoMemory) }
     {
+        Machine::new_over_at(alloc, 0, region, shapes, disks)
+    }
+
+    /// As `new_over`, with RAM from the guest-physical address `base` on. `BadShape` is told also of a base as in `new_at`.
+    pub fn new_over_at(
+        alloc: Global,
+        base: u64,
+        region: Region,
+        shapes: &[Shape],
+        disks: Vec<D>,
+    ) -> Result<Machine<D>, (NewError, Vec<D>, Region)>
+        ensures made { IfOk result (λ m. state_of m ≡ machine_over_at base region.content shapes.now (map (λ d. map Some (D.state d).sectors) disks.items)) }
+        ensures place { IfOk result (λ m. m.memory.place ≡ Some (address region)) }
+        ensures marks { IfOk result (λ m. all_marks m ≡ dealt_marks shapes.now (map (λ d. marks_in (D.state d)) disks.items)) }
+        ensures sound { IfOk result (λ m. IsSound (state_of m)) }
+        ensures disks { IfErr result (λ x. x.1.items ≡ disks.items) }
+        ensures region { IfErr result (λ x. x.2 ≡ region) }
+        ensures refused { IfSome (over_refusal_at base (length region.content) shapes.now (map (λ d. length (D.state d).sectors) disks.items)) (λ error. result ≡ Err (error, disks, region)) }
+        ensures memory { over_refusal_at base (length region.content) shapes.now (map (λ d. length (D.state d).sectors) disks.items) ≡ None → IfErr result (λ x. x.0 ≡ new_error.NoMemory) }
+    {
+        if !is_base(base, region.len() as u64) {
+            return Err((NewError::BadShape, disks, region));
+        }
         if let Some(error) = refusal_over(region.len(), shapes, disks.as_slice()) {
             return Err((error, disks, region));
         }
-        match parts_over(alloc, region, shapes, disks.as_slice()) {
+        match parts_over(alloc, base, region, shapes, disks.as_slice()) {
             Ok(parts) => Ok(parts.with_disks(disks)),
             Err(region) => Err((NewError::NoMemory, disks, region)),
         }
@@ -171,24 +217,35 @@ fn refusal_over<D: Disk>(bytes: usize, shapes: &[Shape], disks: &[D]) -> Option<
     refusal(bytes / PAGE_SIZE, shapes, disks)
 }
 
+/// Whether RAM of so many bytes may begin at a guest-physical address: a multiple of a page, with no byte past the last address.
+pub fn is_base(base: u64, bytes: u64) -> bool
+    ensures value { result ≡ is_base base bytes }
+    ensures facts { IsTrue result ↔ IsBase base bytes }
+{
+    // The address of the last byte, and no sum that may be 2^64.
+    base % PAGE_SIZE as u64 == 0 && (bytes == 0 || bytes - 1 <= u64::MAX - base)
+}
+
 /// The parts of a new machine for these disks, whose RAM is over a region. Its only error is out of memory, and gives the region
 /// back.
 fn parts_over<D: Disk + Drop>(
     alloc: Global,
+    base: u64,
     region: Region,
     shapes: &[Shape],
     disks: &[D],
 ) -> Result<Parts<D>, Region>
-    requires { over_refusal (length region.content) shapes.now (map (λ d. length (D.state d).sectors) disks.now) ≡ None }
+    requires base { IsBase base (length region.content) }
+    requires refusal { over_refusal (length region.content) shapes.now (map (λ d. length (D.state d).sectors) disks.now) ≡ None }
     ensures parts { IfOk result (λ parts. ArePartsFor (map D.state disks.now) parts) }
-    ensures made { IfOk result (λ parts. machine_of parts (map D.state disks.now) ≡ machine_over region.content shapes.now (map (λ d. map Some (D.state d).sectors) disks.now)) }
+    ensures made { IfOk result (λ parts. machine_of parts (map D.state disks.now) ≡ machine_over_at base region.content shapes.now (map (λ d. map Some (D.state d).sectors) disks.now)) }
     ensures shapes { IfOk result (λ parts. parts.shapes ≡ shapes.now) }
     ensures place { IfOk result (λ parts. parts.place ≡ Some (address region)) }
     ensures back { IfErr result (λ r. r ≡ region) }
 {
     recall_all(shapes);
     recall_bytes(region.as_slice());
-    let Ok(states) = new_states(alloc, shapes, region.len() as u64) else {
+    let Ok(states) = new_states(alloc, shapes, base, region.len() as u64) else {
         return Err(region);
     };
     let Ok(bad) = good_marks(alloc, disks) else {
@@ -203,18 +260,20 @@ fn parts_over<D: Disk + Drop>(
 /// The parts of a new machine for these disks. Its only error is out of memory.
 fn first_parts<D: Disk + Drop>(
     alloc: Global,
+    base: u64,
     ram_pages: u32,
     shapes: &[Shape],
     disks: &[D],
 ) -> Result<Parts<D>, NoMemory>
-    requires { new_refusal ram_pages shapes.now (map (λ d. length (D.state d).sectors) disks.now) ≡ None }
+    requires base { IsBase base (PAGE_SIZE * ram_pages) }
+    requires refusal { new_refusal ram_pages shapes.now (map (λ d. length (D.state d).sectors) disks.now) ≡ None }
     ensures parts { IfOk result (λ parts. ArePartsFor (map D.state disks.now) parts) }
-    ensures made { IfOk result (λ parts. machine_of parts (map D.state disks.now) ≡ first_machine ram_pages shapes.now (map (λ d. map Some (D.state d).sectors) disks.now)) }
+    ensures made { IfOk result (λ parts. machine_of parts (map D.state disks.now) ≡ first_machine_at base ram_pages shapes.now (map (λ d. map Some (D.state d).sectors) disks.now)) }
     ensures shapes { IfOk result (λ parts. parts.shapes ≡ shapes.now) }
 {
     recall_all(shapes);
     let ram = Ram::new(alloc, ram_pages)?;
-    let states = new_states(alloc, shapes, ram.len())?;
+    let states = new_states(alloc, shapes, base, ram.len())?;
     let bad = good_marks(alloc, disks)?;
     let shapes = Vec::from_slice(alloc, shapes)?;
     match Parts::new(alloc, ram, shapes, states, bad) {
@@ -235,12 +294,17 @@ fn good_marks<D: Disk>(alloc: Global, disks: &[D]) -> Result<Vec<BitSet>, NoMemo
     Ok(bad)
 }
 
-fn new_states(alloc: Global, shapes: &[Shape], ram_len: u64) -> Result<Vec<DeviceState>, NoMemory>
-    ensures { IfOk result (λ states. states.items ≡ map (first_device ram_len) shapes.now) }
+fn new_states(
+    alloc: Global,
+    shapes: &[Shape],
+    ram_base: u64,
+    ram_len: u64,
+) -> Result<Vec<DeviceState>, NoMemory>
+    ensures { IfOk result (λ states. states.items ≡ map (first_device ram_base ram_len) shapes.now) }
 {
     let mut states = Vec::with_capacity(alloc, shapes.len())?;
     for shape in shapes {
-        let state = DeviceState::new(alloc, *shape, ram_len)?;
+        let state = DeviceState::new(alloc, *shape, ram_base, ram_len)?;
         states.push_reserved(state);
     }
     Ok(states)

@@ -12,7 +12,7 @@ use crate::state::DeviceState;
 impl DeviceState {
     /// The first pick, from this one on, with which the device has something to do.
     pub(crate) fn first_pick(&self, from: u8) -> Option<u8>
-        requires sound { (len : ℕ) × IsSoundDevice len self.now }
+        requires sound { (len : ℕ) × IsSoundDevice self.now.registers.ram_base len self.now }
         ensures { result ≡ find (has_work_with self.now) (picks_from from) }
     {
         for pick in from..self.picks() {
@@ -25,7 +25,7 @@ impl DeviceState {
 
     /// Past the last pick that can name a queue or an outstanding request.
     fn picks(&self) -> u8
-        requires sound { (len : ℕ) × IsSoundDevice len self.now }
+        requires sound { (len : ℕ) × IsSoundDevice self.now.registers.ram_base len self.now }
         ensures { (pick : ℕ) → result ≤ pick → has_work_with self.now pick ≡ false }
     {
         let queues = self.registers.queues().len();
@@ -39,7 +39,7 @@ impl DeviceState {
 
     /// Whether the device has something to do with this pick.
     fn has_work_with(&self, pick: u8) -> bool
-        requires sound { (len : ℕ) × IsSoundDevice len self.now }
+        requires sound { (len : ℕ) × IsSoundDevice self.now.registers.ram_base len self.now }
         ensures { result ≡ has_work_with self.now pick }
     {
         self.looks_with(pick) || self.advances(pick)
@@ -47,7 +47,7 @@ impl DeviceState {
 
     /// Whether a step with this pick looks at a queue.
     fn looks_with(&self, pick: u8) -> bool
-        requires sound { (len : ℕ) × IsSoundDevice len self.now }
+        requires sound { (len : ℕ) × IsSoundDevice self.now.registers.ram_base len self.now }
         ensures { result ≡ is_some (looked_at self.now pick) }
     {
         let queues = self.registers.queues();

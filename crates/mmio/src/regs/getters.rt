@@ -21,6 +21,13 @@ impl Regs {
         self.offered
     }
 
+    /// The guest-physical address of RAM's first byte, as it was told when the registers were made.
+    pub fn ram_base(&self) -> u64
+        ensures { result ≡ self.now.ram_base }
+    {
+        self.ram_base
+    }
+
     /// The status bits.
     pub fn status(&self) -> u8
         ensures { result ≡ self.now.common.status }

@@ -54,7 +54,10 @@ impl Regs {
             );
             return Effect::Disabled(selected);
         }
-        if value == 1 && !queue.is_ready && may_be_ready(self.ram_len, &common, &queue) {
+        if value == 1
+            && !queue.is_ready
+            && may_be_ready(self.ram_base, self.ram_len, &common, &queue)
+        {
             self.set_queue(
                 selected,
                 Queue {

@@ -20,7 +20,7 @@ impl Regs {
     /// Replaces the registers of one queue. The caller makes sure that the new ones are sound.
     pub(super) fn set_queue(&mut self, number: u8, queue: Queue)
         requires below { number < length self.old.queues }
-        requires sound { IsSoundQueue self.old.ram_len self.old.common queue }
+        requires sound { IsSoundQueue self.old.ram_base self.old.ram_len self.old.common queue }
         ensures value { self.new ≡ with_queue self.old number queue }
         ensures there { queue_at self.new number ≡ Some queue }
     {

@@ -2,6 +2,7 @@ use Rattle.std.proofs.Common.{◌≡◌, ◌+◌, ◌-◌, ◌<◌, ◌++◌, �
 use Rattle.std.proofs.lemmas.Bool.{eqb-false}
 use Rattle.std.proofs.lemmas.List.{drop_all}
 use Rattle.std.proofs.Math.Seq.{drop-nil}
+use Rattle.guestmem.specs.Address.{index_of}
 use Rattle.guestmem.specs.LaterLaws.{later_trans}
 use Rattle.guestmem.specs.RisesLaws.{rises_none}
 use Rattle.guestmem.specs.WriteLaws.{set_all-append}
@@ -38,16 +39,17 @@ loop-seg-preserved g c =
     let parts : c.loop-seg.rest.now ≡ front ++ back = sym (rw (c.split_at.ensures.front, c.split_at.ensures.back) (take-append-drop c.min-count.result c.loop-seg.rest.now)) in
     let count : length front ≡ c.min-count.result = c.split_at.ensures.front_len in
     let rest : length back ≡ length c.loop-seg.rest.now - c.min-count.result = rw c.split_at.ensures.back (length-drop c.min-count.result c.loop-seg.rest.now) in
-    let writes = segment_writes c.args.segs.now c.loop-seg.seg-index c.loop-seg.skip none c.loop-seg.rest.now front back c.loop-seg-test.true (omega arith) parts (omega arith)
+    let within = c.requires.inside c.loop-seg.seg-index none c.loop-seg-test.true in
+    let writes = segment_writes c.args.base c.args.segs.now c.loop-seg.seg-index c.loop-seg.skip none c.loop-seg.rest.now front back c.loop-seg-test.true within.above (omega arith) parts (omega arith)
     (λ (h : length front < seg.len - c.loop-seg.skip). rw c.split_at.ensures.back (drop_all c.min-count.result c.loop-seg.rest.now (omega arith))) in
     record {
       room = omega (arith, c.loop-seg.invariant.room);
       size = c.put-in-loop-seg.ensures.size ∙ c.loop-seg.invariant.size;
       later = later_trans _ _ _ c.loop-seg.invariant.later c.put-in-loop-seg.ensures.later;
       may = c.put-in-loop-seg.ensures.may;
-      bytes = rw c.put-in-loop-seg.ensures.bytes (sym (set_all-append c.loop-seg.ram.bytes (byte_writes (seg.addr + c.loop-seg.skip) front) (place_writes (places (drop (c.loop-seg.seg-index + 1) c.args.segs.now)) back)) ∙ (rw writes at c.loop-seg.invariant.bytes));
-      log = rw c.put-in-loop-seg.ensures.log (sym (after_touched g.L.TouchLog.after c.loop-seg.log (byte_writes (seg.addr + c.loop-seg.skip) front) (place_writes (places (drop (c.loop-seg.seg-index + 1) c.args.segs.now)) back)) ∙ (rw writes at c.loop-seg.invariant.log));
-      rises = λ new more. (rw writes at c.loop-seg.invariant.rises) new (rises_touched (byte_writes (seg.addr + c.loop-seg.skip) front) (place_writes (places (drop (c.loop-seg.seg-index + 1) c.args.segs.now)) back) c.loop-seg.ram c.put-in-loop-seg.new.self new c.put-in-loop-seg.ensures.rises more);
+      bytes = rw c.put-in-loop-seg.ensures.bytes (sym (set_all-append c.loop-seg.ram.bytes (byte_writes (index_of c.args.base seg.addr + c.loop-seg.skip) front) (place_writes c.args.base (places (drop (c.loop-seg.seg-index + 1) c.args.segs.now)) back)) ∙ (rw writes at c.loop-seg.invariant.bytes));
+      log = rw c.put-in-loop-seg.ensures.log (sym (after_touched g.L.TouchLog.after c.loop-seg.log (byte_writes (index_of c.args.base seg.addr + c.loop-seg.skip) front) (place_writes c.args.base (places (drop (c.loop-seg.seg-index + 1) c.args.segs.now)) back)) ∙ (rw writes at c.loop-seg.invariant.log));
+      rises = λ new more. (rw writes at c.loop-seg.invariant.rises) new (rises_touched (byte_writes (index_of c.args.base seg.addr + c.loop-seg.skip) front) (place_writes c.args.base (places (drop (c.loop-seg.seg-index + 1) c.args.segs.now)) back) c.loop-seg.ram c.put-in-loop-seg.new.self new c.put-in-loop-seg.ensures.rises more);
     }
 
 pub returns-clause-bytes : goal.returns-clause-bytes
@@ -69,16 +71,16 @@ pub returns-then-bytes-segs-clause-bytes : goal.returns-then-bytes-segs-clause-b
 returns-then-bytes-segs-clause-bytes g c =
     let zero : c.args.at ≡ 0 = omega arith in
     let some : 0 < length c.args.segs.now = omega (arith, eqb-false (length c.args.segs.now) 0 (sym c.is_empty.ensures ∙ c.if-not-is_empty.true)) in
-    rw (zero, first_writes c.args.segs.now (record { addr = 0; len = 0 }) c.args.bytes.now some c.if-bytes-segs.true) c.put.ensures.bytes
+    rw (zero, first_writes c.args.base c.args.segs.now (record { addr = 0; len = 0 }) c.args.bytes.now some (c.requires.inside 0 (record { addr = 0; len = 0 }) some).above c.if-bytes-segs.true) c.put.ensures.bytes
 
 pub returns-then-bytes-segs-clause-log : goal.returns-then-bytes-segs-clause-log
 returns-then-bytes-segs-clause-log g c =
     let zero : c.args.at ≡ 0 = omega arith in
     let some : 0 < length c.args.segs.now = omega (arith, eqb-false (length c.args.segs.now) 0 (sym c.is_empty.ensures ∙ c.if-not-is_empty.true)) in
-    rw (zero, first_writes c.args.segs.now (record { addr = 0; len = 0 }) c.args.bytes.now some c.if-bytes-segs.true) c.put.ensures.log
+    rw (zero, first_writes c.args.base c.args.segs.now (record { addr = 0; len = 0 }) c.args.bytes.now some (c.requires.inside 0 (record { addr = 0; len = 0 }) some).above c.if-bytes-segs.true) c.put.ensures.log
 
 pub returns-then-bytes-segs-clause-rises : goal.returns-then-bytes-segs-clause-rises
 returns-then-bytes-segs-clause-rises g c =
     let zero : c.args.at ≡ 0 = omega arith in
     let some : 0 < length c.args.segs.now = omega (arith, eqb-false (length c.args.segs.now) 0 (sym c.is_empty.ensures ∙ c.if-not-is_empty.true)) in
-    rw (zero, first_writes c.args.segs.now (record { addr = 0; len = 0 }) c.args.bytes.now some c.if-bytes-segs.true) c.put.ensures.rises
+    rw (zero, first_writes c.args.base c.args.segs.now (record { addr = 0; len = 0 }) c.args.bytes.now some (c.requires.inside 0 (record { addr = 0; len = 0 }) some).above c.if-bytes-segs.true) c.put.ensures.rises

@@ -13,8 +13,8 @@ invariant-loop-seg g l = record {
   size : length l.ram.bytes ≡ length l.fn.ram.bytes;
   later : IsLater l.fn.ram l.ram;
   may : MayPages g.L.TouchLog.may l.log (length l.ram.bytes);
-  bytes : set_all l.ram.bytes (place_writes (drop l.skip (places (drop l.seg-index l.segs))) l.rest) ≡ set_all l.fn.ram.bytes (place_writes (drop l.fn.at (places l.segs)) l.fn.bytes);
-  log : after_all g.L.TouchLog.after l.log (touched (place_writes (drop l.skip (places (drop l.seg-index l.segs))) l.rest))
-      ≡ after_all g.L.TouchLog.after l.fn.log (touched (place_writes (drop l.fn.at (places l.segs)) l.fn.bytes));
-  rises : (new : Memory) → Rises (touched (place_writes (drop l.skip (places (drop l.seg-index l.segs))) l.rest)) l.ram new → Rises (touched (place_writes (drop l.fn.at (places l.segs)) l.fn.bytes)) l.fn.ram new;
+  bytes : set_all l.ram.bytes (place_writes l.fn.base (drop l.skip (places (drop l.seg-index l.segs))) l.rest) ≡ set_all l.fn.ram.bytes (place_writes l.fn.base (drop l.fn.at (places l.segs)) l.fn.bytes);
+  log : after_all g.L.TouchLog.after l.log (touched (place_writes l.fn.base (drop l.skip (places (drop l.seg-index l.segs))) l.rest))
+      ≡ after_all g.L.TouchLog.after l.fn.log (touched (place_writes l.fn.base (drop l.fn.at (places l.segs)) l.fn.bytes));
+  rises : (new : Memory) → Rises (touched (place_writes l.fn.base (drop l.skip (places (drop l.seg-index l.segs))) l.rest)) l.ram new → Rises (touched (place_writes l.fn.base (drop l.fn.at (places l.segs)) l.fn.bytes)) l.fn.ram new;
 }

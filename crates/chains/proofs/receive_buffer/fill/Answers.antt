@@ -9,13 +9,13 @@ use Rattle.chains.proofs.receive_buffer.fill.Goals as goal
 
 -- The second part was put, if it has bytes.
 second : (g : Over) (c : goal.After-publish g)
-    → AreMade g.L.TouchLog.after (place_writes (take (length c.args.back.now) (drop (length c.args.front.now) (places c.args.chain.now.writable))) c.args.back.now) c.copy_in.new.ram c.if-not-is_empty.ram c.copy_in.new.log c.if-not-is_empty.log
+    → AreMade g.L.TouchLog.after (place_writes (g.R.Ring.state c.args.ring.now).base (take (length c.args.back.now) (drop (length c.args.front.now) (places c.args.chain.now.writable))) c.args.back.now) c.copy_in.new.ram c.if-not-is_empty.ram c.copy_in.new.log c.if-not-is_empty.log
 second g c =
-    elim c.if-not-is_empty.branch as (λ _. AreMade g.L.TouchLog.after (place_writes (take (length c.args.back.now) (drop (length c.args.front.now) (places c.args.chain.now.writable))) c.args.back.now) c.copy_in.new.ram c.if-not-is_empty.ram c.copy_in.new.log c.if-not-is_empty.log) [
-      | then-not-is_empty w ↦ (let made = rw c.as_slice-segs.ensures at w.copy_in-then-not-is_empty.ensures in
+    elim c.if-not-is_empty.branch as (λ _. AreMade g.L.TouchLog.after (place_writes (g.R.Ring.state c.args.ring.now).base (take (length c.args.back.now) (drop (length c.args.front.now) (places c.args.chain.now.writable))) c.args.back.now) c.copy_in.new.ram c.if-not-is_empty.ram c.copy_in.new.log c.if-not-is_empty.log) [
+      | then-not-is_empty w ↦ (let made = rw (c.as_slice-segs.ensures, c.base-base.ensures) at w.copy_in-then-not-is_empty.ensures in
           rw (w.ram-is, w.log-is) (record { bytes = made.bytes; told = made.log; rises = made.rises }))
       | else-not-is_empty w ↦ (let none : length c.args.back.now ≡ 0 = eqb-true (length c.args.back.now) 0 (sym c.is_empty.ensures ∙ w.if-not-is_empty.false) in
-          rw (w.ram-is, w.log-is) (none_made g.L.TouchLog.after (drop (length c.args.front.now) (places c.args.chain.now.writable)) c.args.back.now c.copy_in.new.ram c.copy_in.new.log none))
+          rw (w.ram-is, w.log-is) (none_made g.L.TouchLog.after (g.R.Ring.state c.args.ring.now).base (drop (length c.args.front.now) (places c.args.chain.now.writable)) c.args.back.now c.copy_in.new.ram c.copy_in.new.log none))
     ]
 
 pub returns-clause-bytes : goal.returns-clause-bytes
@@ -25,9 +25,9 @@ returns-clause-bytes g c =
     let back = c.args.back.now in
     let len = length front + length back in
     let last = published (after_take (g.R.Ring.state c.args.ring.now) c.args.chain.now.slots) c.args.chain.now.id c.args.chain.now.slots len (nat_lt 0 len) in
-    let us = place_writes (take (length front) (drop 0 at)) front in
-    let vs = place_writes (take (length back) (drop (length front) at)) back in
-    rw (length-append front back, parts_then at front back last (omega arith), ← set_three c.args.ram.now.bytes us vs last) (search (rules, (second g c).bytes))
+    let us = place_writes (g.R.Ring.state c.args.ring.now).base (take (length front) (drop 0 at)) front in
+    let vs = place_writes (g.R.Ring.state c.args.ring.now).base (take (length back) (drop (length front) at)) back in
+    rw (length-append front back, parts_then (g.R.Ring.state c.args.ring.now).base at front back last (omega arith), ← set_three c.args.ram.now.bytes us vs last) (search (rules, (second g c).bytes))
 
 pub returns-clause-log : goal.returns-clause-log
 returns-clause-log g c =
@@ -36,9 +36,9 @@ returns-clause-log g c =
     let back = c.args.back.now in
     let len = length front + length back in
     let last = published (after_take (g.R.Ring.state c.args.ring.now) c.args.chain.now.slots) c.args.chain.now.id c.args.chain.now.slots len (nat_lt 0 len) in
-    let us = place_writes (take (length front) (drop 0 at)) front in
-    let vs = place_writes (take (length back) (drop (length front) at)) back in
-    rw (length-append front back, parts_then at front back last (omega arith), ← told_three g.L.TouchLog.after c.args.log.now us vs last) (search (rules, (second g c).told))
+    let us = place_writes (g.R.Ring.state c.args.ring.now).base (take (length front) (drop 0 at)) front in
+    let vs = place_writes (g.R.Ring.state c.args.ring.now).base (take (length back) (drop (length front) at)) back in
+    rw (length-append front back, parts_then (g.R.Ring.state c.args.ring.now).base at front back last (omega arith), ← told_three g.L.TouchLog.after c.args.log.now us vs last) (search (rules, (second g c).told))
 
 pub returns-clause-rises : goal.returns-clause-rises
 returns-clause-rises g c =
@@ -47,7 +47,7 @@ returns-clause-rises g c =
     let back = c.args.back.now in
     let len = length front + length back in
     let last = published (after_take (g.R.Ring.state c.args.ring.now) c.args.chain.now.slots) c.args.chain.now.id c.args.chain.now.slots len (nat_lt 0 len) in
-    let us = place_writes (take (length front) (drop 0 at)) front in
-    let vs = place_writes (take (length back) (drop (length front) at)) back in
-    rw (length-append front back, parts_then at front back last (omega arith))
-    (rises_three us vs last c.args.ram.now c.copy_in.new.ram c.if-not-is_empty.ram c.publish.new.ram (rw c.as_slice-segs.ensures at c.copy_in.ensures.rises) (second g c).rises (search rules))
+    let us = place_writes (g.R.Ring.state c.args.ring.now).base (take (length front) (drop 0 at)) front in
+    let vs = place_writes (g.R.Ring.state c.args.ring.now).base (take (length back) (drop (length front) at)) back in
+    rw (length-append front back, parts_then (g.R.Ring.state c.args.ring.now).base at front back last (omega arith))
+    (rises_three us vs last c.args.ram.now c.copy_in.new.ram c.if-not-is_empty.ram c.publish.new.ram (rw (c.as_slice-segs.ensures, c.base-base.ensures) at c.copy_in.ensures.rises) (second g c).rises (search rules))

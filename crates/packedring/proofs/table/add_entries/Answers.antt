@@ -7,7 +7,7 @@ use Rattle.packedring.proofs.table.add_entries.Goals as goal
 
 pub loop-index-init : goal.loop-index-init
 loop-index-init c = record {
-  held = held_none _ c.args.chain.now c.requires.none_readable c.requires.none_writable;
+  held = held_none _ _ c.args.chain.now c.requires.none_readable c.requires.none_writable;
   count = rw (c.requires.none_readable, c.requires.none_writable) refl;
   fits = c.requires.fits;
   few = omega arith;

@@ -6,7 +6,7 @@ use Rattle.packedring.proofs.table.add_entries.Given as goal
 
 abbrev pub invariant-loop-index : goal.invariant-loop-index
 invariant-loop-index l = record {
-  held : AreHeld (length l.ram.bytes) (entries_from l.ram.bytes l.table 0 l.index) l.chain;
+  held : AreHeld l.base (length l.ram.bytes) (entries_from l.ram.bytes l.table 0 l.index) l.chain;
   count : segment_count l.chain ≡ l.index;
   fits : Fits l.decoder l.ram;
   few : l.decoder.decoded ≤ l.fn.decoder.decoded + l.index;

@@ -4,13 +4,13 @@ use Rattle.wire.specs.Records.{Record}
 use Rattle.receiver.specs.Fed.{HasRead}
 use Rattle.receiver.proofs.Working.{SoFar}
 use Rattle.receiver.proofs.intake.work_off.Given as goal
-use Rattle.wire.specs.Header.{Opening}
+use Rattle.receiver.specs.Opened.{Opened}
 
 abbrev pub invariant-loop-at : goal.invariant-loop-at
 invariant-loop-at g l = record {
   room : l.at ≤ length l.bytes;
   place : l.intake.ram.place ≡ l.fn.intake.ram.place;
-  read : (front : List ℕ) (opening : Opening) (before : List Record) → Holds256 l.fn.taken front → HasRead (map g.D.Disk.state l.fn.disks) opening before l.fn.intake front
+  read : (front : List ℕ) (opening : Opened) (before : List Record) → Holds256 l.fn.taken front → HasRead (map g.D.Disk.state l.fn.disks) opening before l.fn.intake front
       → SoFar (map g.D.Disk.state l.fn.disks) (map g.D.Disk.state l.disks) opening l.intake l.taken (front ++ take l.at l.bytes);
 }
 

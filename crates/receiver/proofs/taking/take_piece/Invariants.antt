@@ -11,8 +11,8 @@ invariant-loop-rest g l = record {
   shorter : length l.held.items + length l.rest ≤ length l.fn.held.items + length l.piece;
   past : IsPastHead l.fn.stage → IsPastHead l.stage;
   place : place_in l.aside l.stage ≡ place_in l.fn.aside l.fn.stage;
-  partly : (front : List ℕ) → IsKnown (map g.D.Disk.state l.fn.disks) l.fn.taken front l.fn.held.items l.fn.stage
-      → IsPartly (map g.D.Disk.state l.fn.disks) (map g.D.Disk.state l.disks) l.taken (front ++ (l.fn.held.items ++ l.piece)) l.held.items l.rest l.stage;
+  partly : (front : List ℕ) → IsKnown l.base (map g.D.Disk.state l.fn.disks) l.fn.taken front l.fn.held.items l.fn.stage
+      → IsPartly l.base (map g.D.Disk.state l.fn.disks) (map g.D.Disk.state l.disks) l.taken (front ++ (l.fn.held.items ++ l.piece)) l.held.items l.rest l.stage;
 }
 
 abbrev pub decreases-loop-rest : goal.decreases-loop-rest

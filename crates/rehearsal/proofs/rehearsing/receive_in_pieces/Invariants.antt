@@ -5,6 +5,7 @@ use Rattle.rehearsal.proofs.rehearsing.receive_in_pieces.Given as goal
 
 abbrev pub invariant-loop-cut : goal.invariant-loop-cut
 invariant-loop-cut g l = record {
+  base : l.receiver.base ≡ l.fn.base;
   sizes : l.receiver.sizes ≡ sizes_of g.E.Disk.state l.fn.disks.items;
   marks : l.receiver.marks ≡ disk_marks_of g.E.Disk.state l.fn.disks.items;
   fed : IsFed l.receiver l.bytes l.rest;

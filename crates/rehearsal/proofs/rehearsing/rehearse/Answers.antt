@@ -20,7 +20,7 @@ returns-in-Err-receive_in_pieces g c =
     let marks = disk_marks_of g.E.Disk.state c.args.disks.items in
     let decided = rw c.shapes.ensures.shapes at (rw c.deref.ensures.value at c.are_disks_of-fits.ensures.fit) in
     refused_with c.args.machine c.in-Ok.sent.source c.args.events.now sizes marks c.in-Ok.sent.replies.items c.in-Err-receive_in_pieces.error c.refused-in-Err-receive_in_pieces.result c.refused-in-Err-receive_in_pieces.ensures
-    (refused c.args.machine c.in-Ok.sent.source c.args.events.now sizes marks c.in-Ok.sent.replies.items c.in-Ok.sent.bytes.items c.in-Err-receive_in_pieces.error c.in-Ok.ensures.sent (decided.0 c.if-not-fits.false)
+    (refused c.args.machine c.in-Ok.sent.source c.args.events.now c.base.result sizes marks c.in-Ok.sent.replies.items c.in-Ok.sent.bytes.items c.in-Err-receive_in_pieces.error c.in-Ok.ensures.sent (decided.0 c.if-not-fits.false) c.base.ensures
     (rw c.deref-2.ensures.value at c.in-Err-receive_in_pieces.ensures.refused))
 
 pub returns-in-Ok-receive_in_pieces : goal.returns-in-Ok-receive_in_pieces
@@ -28,4 +28,4 @@ returns-in-Ok-receive_in_pieces g c =
     let sizes = sizes_of g.E.Disk.state c.args.disks.items in
     let decided = rw c.shapes.ensures.shapes at (rw c.deref.ensures.value at c.are_disks_of-fits.ensures.fit) in
     arrived_with c.args.machine c.in-Ok.sent.source c.in-Ok-receive_in_pieces.arrived c.args.events.now sizes (disk_marks_of g.E.Disk.state c.args.disks.items) c.in-Ok.sent.bytes.items c.in-Ok.sent.replies.items c.go_on.result c.in-Ok.ensures.sent
-    (decided.0 c.if-not-fits.false) (rw c.deref-2.ensures.value at c.in-Ok-receive_in_pieces.ensures.received) c.in-Ok-receive_in_pieces.ensures.marks c.go_on.ensures
+    (decided.0 c.if-not-fits.false) (rw c.deref-2.ensures.value at c.in-Ok-receive_in_pieces.ensures.received) (c.in-Ok-receive_in_pieces.ensures.based ∙ c.base.ensures) c.in-Ok-receive_in_pieces.ensures.marks c.go_on.ensures

@@ -2,7 +2,7 @@ use Rattle.std.proofs.Common.{[], length, ap, sym, ◌∙◌, arith}
 use Rattle.std.proofs.lemmas.List.{length-map}
 use Rattle.machine.specs.Shapes.{made_as}
 use Rattle.machine.specs.Seen.{state_of}
-use Rattle.machine.specs.State.{DeviceState}
+use Rattle.machine.specs.State.{DeviceState, base_of}
 use Rattle.wire.proofs.Saving.{no_devices}
 use Rattle.sender.proofs.SavedLengths.{device_is_sound, one_device}
 use Rattle.sender.proofs.measuring.devices_len.Goals as goal
@@ -22,7 +22,7 @@ loop-number-init g c =
 pub device_len-len-requires : goal.device_len-len-requires
 device_len-len-requires g c =
     let m = state_of c.args.machine.now in
-    record { sound = (length m.ram, device_is_sound m c.loop-number.number c.state.result.now c.loop-number.invariant.sound c.state.ensures) }
+    record { sound = (base_of m.devices, length m.ram, device_is_sound m c.loop-number.number c.state.result.now c.loop-number.invariant.sound c.state.ensures) }
 
 pub loop-number-preserved : goal.loop-number-preserved
 loop-number-preserved g c =

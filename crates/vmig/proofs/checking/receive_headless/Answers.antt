@@ -10,6 +10,6 @@ returns-in_err-received-clause-failed c =
       sizes = map length c.new-none.result.items;
       fit = inr (record { no_header = c.requires; none = rw c.new-none.ensures.items refl });
       refusal = _;
-      refused = refused_steadily c.new-none.result.items c.args.bytes.now _ c.in_err-received.ensures.refused;
+      refused = refused_steadily 0 c.new-none.result.items c.args.bytes.now _ c.in_err-received.ensures.refused;
       is = told.2;
     }))

@@ -16,4 +16,4 @@ returns-in_err-machine-clause-failed g c =
 pub returns-clause-arrived : goal.returns-clause-arrived
 returns-clause-arrived g c = λ honest.
     let arrived = c.in_ok-machine.ensures.received honest in
-    record { bytes = _ ++ arrived.more; stream = arrived.received.stream }
+    record { bytes = _ ++ arrived.more; stream = arrived.received.stream; based = arrived.based }

@@ -9,7 +9,7 @@ pub returns-in-Ok-begun-clause-begun : goal.returns-in-Ok-begun-clause-begun
 returns-in-Ok-begun-clause-begun c =
     let found = rw c.in-Some.is at c.in-Ok.ensures in
     let fed = rw c.deref.ensures.value at c.in-Ok-begun.ensures.begun in
-    (begun_coming c.in-Ok-begun.receiver c.args.bytes.now (said c.in-Some.header) _ found.1 fed, fed.steady)
+    (fed.base_is, begun_coming c.args.base c.in-Ok-begun.receiver c.args.bytes.now (said c.in-Some.header) _ found.1 fed, fed.steady)
 
 pub returns-in-Some-clause-refused : goal.returns-in-Some-clause-refused
 returns-in-Some-clause-refused c = λ rest.
@@ -18,4 +18,4 @@ returns-in-Some-clause-refused c = λ rest.
     let bytes = c.args.bytes.now in
     let shapes = c.in-Some.header.shapes.items in
     let header : HasHeader bytes (disk_sizes shapes) = record { opening = said c.in-Some.header; rest = _; begins = found.1; sizes_are = refl } in
-    told_longer bytes rest (disk_sizes shapes) c.in-Err.error header (refused (fits_header bytes (said c.in-Some.header) _ found.1))
+    told_longer c.args.base bytes rest (disk_sizes shapes) c.in-Err.error header (refused (fits_header bytes (said c.in-Some.header) _ found.1))

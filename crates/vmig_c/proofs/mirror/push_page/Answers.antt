@@ -1,8 +1,20 @@
-use Rattle.std.proofs.Common.{◌≡◌, ◌*◌, ◌+◌, ◌≤◌, ap, arith, length}
+use Rattle.std.proofs.Common.{◌≡◌, ◌*◌, ◌+◌, ◌≤◌, ◌<◌, ◌^◌, ℕ, ap, arith, length}
 use Rattle.std.specs.Prelude.{slice_index, slice_set}
 use Rattle.guestmem.specs.Memory.{IsMemory}
+use Rattle.machine.specs.Seen.{state_of}
+use Rattle.machine.specs.State.{base_of}
 use Rattle.vmig_c.proofs.Mirroring.{page_slice, pushed_still}
+use Rattle.vmig_c.proofs.PageAddresses.{address_fits}
 use Rattle.vmig_c.proofs.mirror.push_page.Goals as goal
+
+pub overflow_add-base : goal.overflow_add-base
+overflow_add-base g c =
+    let n = c.args.n in
+    let m = c.args.machine.now in
+    let sound : IsMemory m.memory = rw c.ram.ensures at c.recall.ensures.sound in
+    let inside : 4096 * n + 4096 ≤ length m.memory.bytes = omega (arith, sound.pages, c.requires.page) in
+    let fits : base_of (state_of m).devices + 4096 * n < 2 ^ 64 = address_fits m n c.shapes-shapes.ensures.sound inside in
+    omega (arith, fits, c.base-base.ensures)
 
 pub returns-clause-pushed : goal.returns-clause-pushed
 returns-clause-pushed g c =
@@ -12,4 +24,4 @@ returns-clause-pushed g c =
     let sound : IsMemory m.memory = rw c.ram.ensures at c.recall.ensures.sound in
     let inside : 4096 * n + 4096 ≤ length m.memory.bytes = omega (arith, sound.pages, c.requires.page) in
     let noted : c.version.result ≡ slice_index next.memory.versions n = rw c.ram-2.ensures at c.version.ensures in
-    pushed_still m next n _ c.args.ram.now c.args.seen.now _ c.write_ram-done.result c.write_ram-done.ensures (page_slice c.args.ram.now n) inside c.requires.bytes (ap (slice_set c.args.seen.now n) noted)
+    pushed_still m next n _ _ c.args.ram.now c.args.seen.now _ c.write_ram-done.result c.shapes-shapes.ensures.sound (ap (λ (b : ℕ). b + 4096 * n) c.base-base.ensures) c.write_ram-done.ensures (page_slice c.args.ram.now n) inside c.requires.bytes (ap (slice_set c.args.seen.now n) noted)

@@ -8,7 +8,7 @@ pub returns-in-Ok-new-clause-received : goal.returns-in-Ok-new-clause-received
 returns-in-Ok-new-clause-received c =
     let bytes = c.args.bytes.now in
     let got = c.in-Ok-receive in
-    let received : IsReceivedAs bytes got.machine got.rounds = was_received bytes c.in-Ok.disks.items got.machine got.rounds got.ensures.received got.ensures.marks in
+    let received : IsReceivedAs bytes got.machine got.rounds = was_received bytes c.in-Ok.disks.items got.machine got.rounds got.ensures.received got.ensures.marks got.ensures.based in
     subst (λ (k : KeptSeen). KeepsReceived bytes k got.rounds) (sym (c.in-Ok-new.ensures.ok ∙ c.new.ensures)) (refl, received)
 
 pub returns-clause-refused : goal.returns-clause-refused

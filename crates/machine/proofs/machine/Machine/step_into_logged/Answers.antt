@@ -1,4 +1,4 @@
-use Rattle.std.proofs.Common.{refl, arith}
+use Rattle.std.proofs.Common.{length, refl, arith}
 use Rattle.guestmem.specs.Item.{sector}
 use Rattle.guestmem.specs.LaterLaws.{later_same}
 use Rattle.guestmem.specs.RisesLaws.{touches_none}
@@ -7,7 +7,7 @@ use Rattle.machine.specs.declared.reply.Refusal.TheVariants as refusals
 use Rattle.machine.specs.declared.reply.Reply.TheVariants as replies
 use Rattle.machine.specs.Stepped.{reply_in}
 use Rattle.machine.proofs.Keeping.{rings_stepped}
-use Rattle.machine.proofs.At.{IsAt, applied_logged, has_disk, has_sector, held_worked, missing_step, sound_device, worked}
+use Rattle.machine.proofs.At.{IsAt, applied_logged, has_disk, has_sector, held_worked, missing_step, own_base, sound_device, worked}
 use Rattle.machine.proofs.machine.Machine.step_into_logged.Goals as goal
 
 pub returns-then-number-len : goal.returns-then-number-len
@@ -20,7 +20,7 @@ returns-then-number-len g c =
 pub step-requires-clause-sound : goal.step-requires-clause-sound
 step-requires-clause-sound g c =
     let i = c.self.inside in
-    sound_device i.ram i.devices.items c.args.dev c.index_mut-device.result.now (record { below = omega arith; is = c.index_mut-device.ensures.value }) c.self.invariant.0.sound
+    own_base (length i.ram.bytes) c.index_mut-device.result.now.state (sound_device i.ram i.devices.items c.args.dev c.index_mut-device.result.now (record { below = omega arith; is = c.index_mut-device.ensures.value }) c.self.invariant.0.sound)
 
 pub step-requires-clause-capacity : goal.step-requires-clause-capacity
 step-requires-clause-capacity g c =

@@ -8,9 +8,9 @@ pub returns-in-Ok : goal.returns-in-Ok
 returns-in-Ok g c =
     let p : PartsSeen = record { ram = c.in_ok-ram.ram.bytes; place = c.in_ok-ram.ram.place; shapes = c.in_ok-shapes.shapes.items; states = c.in_ok-states.states.items; bad = c.in_ok-bad.bad.items } in
     let zeros : p.ram ≡ replicate (4096 * c.args.ram_pages) 0 = search rules in
-    let first : p.states ≡ map (first_device (length p.ram)) c.args.shapes.now = rw c.len.ensures at c.in_ok-states.ensures in
-    let are : AreFirst g.D.Disk.state c.args.ram_pages c.args.shapes.now c.args.disks.now p =
-    are_first g.D.Disk.state c.args.ram_pages c.args.shapes.now c.args.disks.now p c.requires c.recall_all.ensures c.in_ok-bad.ensures.whole zeros c.in_ok-shapes.ensures.items first c.in_ok-bad.ensures.good in
+    let first : p.states ≡ map (first_device c.args.base (length p.ram)) c.args.shapes.now = rw c.len.ensures at c.in_ok-states.ensures in
+    let are : AreFirst g.D.Disk.state c.args.base c.args.ram_pages c.args.shapes.now c.args.disks.now p =
+    are_first g.D.Disk.state c.args.base c.args.ram_pages c.args.shapes.now c.args.disks.now p c.requires.refusal c.requires.base c.recall_all.ensures c.in_ok-bad.ensures.whole zeros c.in_ok-shapes.ensures.items first c.in_ok-bad.ensures.good in
     record {
       parts = rw c.in-Ok.ensures.made are.parts;
       made = rw c.in-Ok.ensures.made are.made;

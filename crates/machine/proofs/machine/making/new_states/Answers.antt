@@ -13,5 +13,5 @@ loop-shape-preserved c =
     record {
       room = omega arith;
       count = omega arith;
-      first = rw (more, map-append (first_device c.args.ram_len) (take i shapes) (shape ∷ []), c.push_reserved.ensures.items, ← c.loop-shape.invariant.first, c.in_ok-state.ensures) refl;
+      first = rw (more, map-append (first_device c.args.ram_base c.args.ram_len) (take i shapes) (shape ∷ []), c.push_reserved.ensures.items, ← c.loop-shape.invariant.first, c.in_ok-state.ensures) refl;
     }

@@ -7,5 +7,5 @@ abbrev pub invariant-loop-shape : goal.invariant-loop-shape
 invariant-loop-shape l = record {
   room : length l.shapes ≤ vec_capacity l.states;
   count : vec_len l.states ≡ l.shape-index;
-  first : l.states.items ≡ map (first_device l.ram_len) (take l.shape-index l.shapes);
+  first : l.states.items ≡ map (first_device l.ram_base l.ram_len) (take l.shape-index l.shapes);
 }

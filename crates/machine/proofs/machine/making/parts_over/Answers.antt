@@ -11,18 +11,18 @@ pub returns-clause-parts : goal.returns-clause-parts
 returns-clause-parts g c =
     let bytes = c.args.region.content in
     let p : PartsSeen = record { ram = bytes; place = Some (address c.args.region); shapes = c.in-Ok-from_slice.shapes.items; states = c.in-Ok.states.items; bad = c.in-Ok-good_marks.bad.items } in
-    let pages = has_pages (length bytes) c.args.shapes.now (map (λ d. length (g.D.Disk.state d).sectors) c.args.disks.now) c.requires in
-    let first : p.states ≡ map (first_device (length bytes)) c.args.shapes.now = rw c.len.ensures.count at c.in-Ok.ensures in
+    let pages = has_pages (length bytes) c.args.shapes.now (map (λ d. length (g.D.Disk.state d).sectors) c.args.disks.now) c.requires.refusal in
+    let first : p.states ≡ map (first_device c.args.base (length bytes)) c.args.shapes.now = rw c.len.ensures.count at c.in-Ok.ensures in
     let numbers : IsBytes bytes = rw c.as_slice.ensures at c.recall_bytes.ensures in
-    let are = are_over g.D.Disk.state (length bytes / 4096) bytes c.args.shapes.now c.args.disks.now p pages.none pages.whole numbers c.recall_all.ensures c.in-Ok-good_marks.ensures.whole refl c.in-Ok-from_slice.ensures.items first c.in-Ok-good_marks.ensures.good in
+    let are = are_over g.D.Disk.state c.args.base (length bytes / 4096) bytes c.args.shapes.now c.args.disks.now p pages.none c.requires.base pages.whole numbers c.recall_all.ensures c.in-Ok-good_marks.ensures.whole refl c.in-Ok-from_slice.ensures.items first c.in-Ok-good_marks.ensures.good in
     IfOk-weaker c.over.result (λ parts. parts ≡ p) _ (λ parts is. rw is are.parts) c.over.ensures.made
 
 pub returns-clause-made : goal.returns-clause-made
 returns-clause-made g c =
     let bytes = c.args.region.content in
     let p : PartsSeen = record { ram = bytes; place = Some (address c.args.region); shapes = c.in-Ok-from_slice.shapes.items; states = c.in-Ok.states.items; bad = c.in-Ok-good_marks.bad.items } in
-    let pages = has_pages (length bytes) c.args.shapes.now (map (λ d. length (g.D.Disk.state d).sectors) c.args.disks.now) c.requires in
-    let first : p.states ≡ map (first_device (length bytes)) c.args.shapes.now = rw c.len.ensures.count at c.in-Ok.ensures in
+    let pages = has_pages (length bytes) c.args.shapes.now (map (λ d. length (g.D.Disk.state d).sectors) c.args.disks.now) c.requires.refusal in
+    let first : p.states ≡ map (first_device c.args.base (length bytes)) c.args.shapes.now = rw c.len.ensures.count at c.in-Ok.ensures in
     let numbers : IsBytes bytes = rw c.as_slice.ensures at c.recall_bytes.ensures in
-    let are = are_over g.D.Disk.state (length bytes / 4096) bytes c.args.shapes.now c.args.disks.now p pages.none pages.whole numbers c.recall_all.ensures c.in-Ok-good_marks.ensures.whole refl c.in-Ok-from_slice.ensures.items first c.in-Ok-good_marks.ensures.good in
+    let are = are_over g.D.Disk.state c.args.base (length bytes / 4096) bytes c.args.shapes.now c.args.disks.now p pages.none c.requires.base pages.whole numbers c.recall_all.ensures c.in-Ok-good_marks.ensures.whole refl c.in-Ok-from_slice.ensures.items first c.in-Ok-good_marks.ensures.good in
     IfOk-weaker c.over.result (λ parts. parts ≡ p) _ (λ parts is. rw is are.made) c.over.ensures.made

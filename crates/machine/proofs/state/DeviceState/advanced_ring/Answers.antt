@@ -4,5 +4,5 @@ use Rattle.machine.proofs.state.DeviceState.advanced_ring.Goals as goal
 pub renew-requires : goal.renew-requires
 renew-requires c =
     let i = c.self.inside in
-    (made_advanced c.requires.sound.0 i.kind i.registers i.positions c.args.pick c.queues.result.now c.features-features.result (rw (← c.self.view_is) at c.requires.sound.1) c.queues.ensures.value c.in-len1-up.len_at_least
-    (rw (← c.self.view_is) at c.if-not-advances.ensures) c.features-features.ensures).may
+    (made_advanced c.requires.sound.0 i.kind i.registers i.positions c.args.pick c.queues.result.now c.features-features.result c.ram_base-base.result (rw (← c.self.view_is) at c.requires.sound.1) c.queues.ensures.value c.in-len1-up.len_at_least
+    (rw (← c.self.view_is) at c.if-not-advances.ensures) c.features-features.ensures c.ram_base-base.ensures).may

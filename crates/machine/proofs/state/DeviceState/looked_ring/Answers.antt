@@ -4,12 +4,12 @@ use Rattle.machine.proofs.state.DeviceState.looked_ring.Goals as goal
 pub renew-requires : goal.renew-requires
 renew-requires c =
     let i = c.self.inside in
-    (made_ring c.requires.sound.0 i.kind i.registers i.positions c.args.pick c.queues-queues.result.now c.features-features.result (rw (← c.self.view_is) at c.requires.sound.1) c.queues-queues.ensures.value c.if-number-queues.false
-    (rw (← c.self.view_is) at c.if-not-looks.ensures) c.features-features.ensures).may
+    (made_ring c.requires.sound.0 i.kind i.registers i.positions c.args.pick c.queues-queues.result.now c.features-features.result c.ram_base-base.result (rw (← c.self.view_is) at c.requires.sound.1) c.queues-queues.ensures.value c.if-number-queues.false
+    (rw (← c.self.view_is) at c.if-not-looks.ensures) c.features-features.ensures c.ram_base-base.ensures).may
 
 pub returns-clause-ring : goal.returns-clause-ring
 returns-clause-ring c =
     let i = c.self.inside in
     λ _. rw (← c.self.view_is, c.renew.ensures.ring)
-    (made_look c.requires.sound.0 i.kind i.registers i.positions c.args.pick c.queues-queues.result.now c.features-features.result (rw (← c.self.view_is) at c.requires.sound.1) c.queues-queues.ensures.value c.if-number-queues.false
-    (rw (← c.self.view_is) at c.if-not-looks.ensures) c.features-features.ensures)
+    (made_look c.requires.sound.0 i.kind i.registers i.positions c.args.pick c.queues-queues.result.now c.features-features.result c.ram_base-base.result (rw (← c.self.view_is) at c.requires.sound.1) c.queues-queues.ensures.value c.if-number-queues.false
+    (rw (← c.self.view_is) at c.if-not-looks.ensures) c.features-features.ensures c.ram_base-base.ensures)

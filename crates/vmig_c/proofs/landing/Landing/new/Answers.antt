@@ -3,7 +3,7 @@ use Rattle.vmig_c.proofs.Landings.{first_awaited, first_steady}
 use Rattle.vmig_c.proofs.landing.Landing.new.Goals as goal
 
 pub invariant_of-result : goal.invariant_of-result
-invariant_of-result c = first_steady c.new.result c.args.disks.items c.new.ensures.sizes c.new.ensures.marks
+invariant_of-result c = first_steady c.new_at.result c.args.disks.items c.new_at.ensures.sizes c.new_at.ensures.marks
 
 pub returns : goal.returns
-returns c = first_awaited c.new.result c.args.disks.items None c.new.ensures.fed c.new.ensures.sizes c.new.ensures.disks c.new.ensures.place
+returns c = first_awaited c.args.base c.new_at.result c.args.disks.items None c.new_at.ensures.fed c.new_at.ensures.base c.new_at.ensures.sizes c.new_at.ensures.disks c.new_at.ensures.place
