@@ -139,7 +139,7 @@
  *     ram_write, push, input,
  *     resize                      NO_MACHINE   NO_MACHINE         done          done             STOPPED         LENT
  *   ram_read, pull, must_sync     NO_MACHINE   NO_MACHINE         done          done             done            LENT
- *   size, device                  NO_MACHINE   NO_MACHINE         done          done             done            done
+ *   size, base, device            NO_MACHINE   NO_MACHINE         done          done             done            done
  *   lend                          NO_MACHINE   NO_MACHINE         done          done             STOPPED         LENT
  *   give_back, give_back_marked,
  *     give_back_all               NO_MACHINE   NO_MACHINE         NOT_LENT      NOT_LENT         NOT_LENT        done
@@ -552,6 +552,11 @@ uint32_t vmig_sync_failed(vmig_machine *machine, uint8_t dev, uint8_t pick);
 /* How many pages of RAM and how many devices the machine has, also one that is being sent or was stopped. The machine is as it was.
  * VMIG_NO_MACHINE. */
 uint32_t vmig_size(vmig_machine *machine, uint32_t *pages, uint32_t *devices);
+
+/* The guest-physical address at which the RAM of the machine begins: that of its vmig_setup or vmig_arrival, or 0. The machine is as it
+ * was.
+ * VMIG_NO_MACHINE. */
+uint32_t vmig_base(vmig_machine *machine, uint64_t *base);
 
 /* What the device of a number was made as. *shape is as it was if it is refused. The machine is as it was.
  * VMIG_NO_MACHINE, VMIG_NO_DEVICE. */

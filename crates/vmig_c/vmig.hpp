@@ -133,6 +133,7 @@ public:
     status must_sync(std::uint8_t dev, std::uint8_t pick) { return status{vmig_must_sync(&held, dev, pick)}; }
     status sync_failed(std::uint8_t dev, std::uint8_t pick) { return status{vmig_sync_failed(&held, dev, pick)}; }
     status size(std::uint32_t *pages, std::uint32_t *devices) { return status{vmig_size(&held, pages, devices)}; }
+    status base(std::uint64_t *base) { return status{vmig_base(&held, base)}; }
     status device(std::uint8_t dev, vmig_shape *shape) { return status{vmig_device(&held, dev, shape)}; }
     status saved_len(std::size_t *len) { return status{vmig_saved_len(&held, len)}; }
     status save(std::uint8_t *buf, std::size_t size, std::size_t *len) { return status{vmig_save(&held, buf, size, len)}; }
@@ -177,6 +178,7 @@ public:
 
     std::uint16_t lines() { return held.lines(); }
     status size(std::uint32_t *pages, std::uint32_t *devices) { return held.size(pages, devices); }
+    status base(std::uint64_t *base) { return held.base(base); }
     status device(std::uint8_t dev, vmig_shape *shape) { return held.device(dev, shape); }
     status take(std::uint8_t *buf, std::size_t size, std::size_t *got) { return held.take(buf, size, got); }
 

@@ -25,6 +25,14 @@ static uint32_t arrive_at(uint64_t base, vmig_machine *m)
     return vmig_arrive(&arrival, m);
 }
 
+static uint64_t base_of(vmig_machine *m)
+{
+    uint64_t base = 77;
+
+    expect("base", vmig_base(m, &base), VMIG_OK);
+    return base;
+}
+
 /* A base is a multiple of a page, and no byte of RAM is past the last address. */
 static void bases(void)
 {
@@ -33,6 +41,7 @@ static void bases(void)
     expect("within a page", make_at(BASE + 512, 1, &m), VMIG_BAD_SHAPE);
     expect("past the last address", make_at(LAST_PAGE, 2, &m), VMIG_BAD_SHAPE);
     expect("up to the last address", make_at(LAST_PAGE, 1, &m), VMIG_OK);
+    expect("the first address", base_of(&m), LAST_PAGE);
     put(&m, LAST_PAGE + PAGE - 1, 0x5a, 1);
     expect("the last byte", get(&m, UINT64_MAX, 1), 0x5a);
     vmig_free(&m);
@@ -124,6 +133,7 @@ static void moves(vmig_machine *source)
     expect("arrive", arrive_at(BASE, &target), VMIG_OK);
     expect("feed", vmig_feed(&target, stream, len), VMIG_OK);
     expect("finish", vmig_finish(&target), VMIG_OK);
+    expect("its base", base_of(&target), BASE);
     expect("its RAM", get(&target, BASE + DATA, 4), 0x64636261);
     expect("its driver goes on", ask_at(&target, BASE + DATA + 4, 2), VMIG_COMPLETED);
     expect("its bytes", get(&target, BASE + DATA + 4, 4), 0x68676665);

@@ -59,6 +59,7 @@ static uint32_t next_work(vmig_machine *m) { uint8_t dev = 0, pick = 0; return v
 static uint32_t input(vmig_machine *m) { uint32_t kept; return vmig_input(m, 0, bytes, 1, &kept); }
 static uint32_t resize(vmig_machine *m) { return vmig_resize(m, 0, 1, 1); }
 static uint32_t sector_read(vmig_machine *m) { return vmig_sector_read(m, 1, 0, bytes, sizeof bytes); }
+static uint32_t base(vmig_machine *m) { uint64_t first; return vmig_base(m, &first); }
 static uint32_t size(vmig_machine *m) { uint32_t pages, devices; return vmig_size(m, &pages, &devices); }
 static uint32_t must_sync(vmig_machine *m) { return vmig_must_sync(m, 1, 1); }
 static uint32_t sync_failed(vmig_machine *m) { return vmig_sync_failed(m, 1, 1); }
@@ -106,6 +107,7 @@ static const Row ROWS[] = {
     {"vmig_give_back_all", give_back_all,
      {VMIG_NO_MACHINE, VMIG_NO_MACHINE, VMIG_NOT_LENT, VMIG_NOT_LENT, VMIG_NOT_LENT, VMIG_OK, VMIG_OK}},
     {"vmig_size", size, {VMIG_NO_MACHINE, VMIG_NO_MACHINE, VMIG_OK, VMIG_OK, VMIG_OK, VMIG_OK, VMIG_OK}},
+    {"vmig_base", base, {VMIG_NO_MACHINE, VMIG_NO_MACHINE, VMIG_OK, VMIG_OK, VMIG_OK, VMIG_OK, VMIG_OK}},
     {"vmig_device", device, {VMIG_NO_MACHINE, VMIG_NO_MACHINE, VMIG_OK, VMIG_OK, VMIG_OK, VMIG_OK, VMIG_OK}},
     {"vmig_must_sync", must_sync, {VMIG_NO_MACHINE, VMIG_NO_MACHINE, VMIG_OK, VMIG_OK, VMIG_OK, VMIG_LENT, VMIG_LENT}},
     {"vmig_sync_failed", sync_failed,

@@ -124,6 +124,7 @@ void lends(const std::vector<std::uint8_t> &stream)
 int main()
 {
     std::uint32_t rounds = 0, pages = 0, devices = 0;
+    std::uint64_t base = 77;
     machine first = console_that_prints("hello");
     std::vector<std::uint8_t> stream = stream_of(first);
     machine second = std::move(first);
@@ -141,6 +142,7 @@ int main()
     lends(stream);
     second = std::move(arrived);
     expect("moved over", second.size(&pages, &devices), status::ok);
+    expect("its base", second.base(&base) == status::ok && base == 0);
     expect("version", vmig::version() == VMIG_VERSION_NUMBER);
     stream[stream.size() / 2] ^= 1;
     expect("damaged", arrived.receive(stream.data(), stream.size(), &rounds), status::stream_bad_digest);

@@ -89,7 +89,7 @@ fn lend() -> Result<(), Error> {
 
     let mut lent = machine.lend()?;
     lent.ram_mut()[0x6000] = 8;
-    assert_eq!((lent.size(), lent.lines()), ((16, 1), 0));
+    assert_eq!((lent.size(), lent.base(), lent.lines()), ((16, 1), 0, 0));
     let lent = lent.give_back(&[16]).err().expect("no such page").value;
     assert_eq!(lent.ram()[0x5000], 9);
     let mut machine = lent.give_back(&[6])?.lend()?.give_back_marked(&[1 << 6])?;

@@ -54,6 +54,11 @@ impl Lent {
         self.machine.size()
     }
 
+    /// The guest-physical address at which its RAM begins.
+    pub fn base(&mut self) -> u64 {
+        self.machine.base()
+    }
+
     /// What a device was made as.
     pub fn device(&mut self, dev: u8) -> Result<Device, Error> {
         self.machine.device(dev)

@@ -113,6 +113,13 @@ impl Machine {
         (pages, devices)
     }
 
+    /// The guest-physical address at which its RAM begins.
+    pub fn base(&mut self) -> u64 {
+        let mut base = 0;
+        unsafe { raw::vmig_base(&mut self.held, &mut base) };
+        base
+    }
+
     /// What a device was made as.
     pub fn device(&mut self, dev: u8) -> Result<Device, Error> {
         let mut shape = raw::Shape::default();

@@ -193,6 +193,7 @@ unsafe extern "C" {
     pub fn vmig_must_sync(machine: *mut Machine, dev: u8, pick: u8) -> u32;
     pub fn vmig_sync_failed(machine: *mut Machine, dev: u8, pick: u8) -> u32;
     pub fn vmig_size(machine: *mut Machine, pages: *mut u32, devices: *mut u32) -> u32;
+    pub fn vmig_base(machine: *mut Machine, base: *mut u64) -> u32;
     pub fn vmig_device(machine: *mut Machine, dev: u8, shape: *mut Shape) -> u32;
     pub fn vmig_stream_size(bytes: *const u8, len: usize, pages: *mut u32, devices: *mut u32) -> u32;
     pub fn vmig_stream_device(bytes: *const u8, len: usize, dev: u8, shape: *mut Shape) -> u32;

@@ -1,10 +1,10 @@
 -- What a machine is, as C is told.
-use Rattle.std.specs.Prelude.{◌≡◌, ℕ, length, map, replicate, if◌then◌else◌, Option, Some, None, slice_get}
+use Rattle.std.specs.Prelude.{◌≡◌, ℕ, List, length, map, replicate, if◌then◌else◌, Option, Some, None, slice_get}
 use Rattle.machine.specs.Layout.{pages_of}
 use Rattle.machine.specs.Parked.{ParkedSeen}
 use Rattle.machine.specs.Seen.{state_of}
 use Rattle.machine.specs.Shapes.{made_as}
-use Rattle.machine.specs.State.{MachineState}
+use Rattle.machine.specs.State.{MachineState, DeviceState, base_of}
 use Rattle.machine.specs.declared.shape.Shape.{Shape}
 use Rattle.machine.specs.declared.shape.Shape.TheVariants.{Net, Block, Console, Entropy}
 use Rattle.vmig_c.specs.Kept.{KeptSeen, State, Still, Moving, Arriving, Lent, parked_in}
@@ -45,6 +45,22 @@ SizesKept (Lent x) status pages old_pages devices old_devices = IsSizedLent (par
 abbrev pub Sizes : Option KeptSeen → ℕ → ℕ → ℕ → ℕ → ℕ → Type 0
 Sizes None status pages old_pages devices old_devices = IsNotSized status pages old_pages devices old_devices
 Sizes (Some k) status pages old_pages devices old_devices = SizesKept k.state status pages old_pages devices old_devices
+
+-- The guest-physical address at which the RAM of a machine of these devices begins was told.
+pub record IsBased (devices : List DeviceState) (status base : ℕ) : Type 0 where
+  pub status_is : status ≡ done
+  pub base_is : base ≡ base_of devices
+
+-- As above, for what a handle holds. What arrives is no machine yet.
+abbrev pub BasesKept : State → ℕ → ℕ → ℕ → Type 0
+BasesKept (Still m) status base old = IsBased (state_of m).devices status base
+BasesKept (Moving l) status base old = IsBased (state_of l.machine).devices status base
+BasesKept (Arriving r) status base old = (status ≡ no_machine) × (base ≡ old)
+BasesKept (Lent x) status base old = IsBased (map (λ d. d.state) (parked_in x).devices) status base
+
+abbrev pub Bases : Option KeptSeen → ℕ → ℕ → ℕ → Type 0
+Bases None status base old = (status ≡ no_machine) × (base ≡ old)
+Bases (Some k) status base old = BasesKept k.state status base old
 
 -- A device is told by what it was made as, if there is one.
 abbrev pub Tells : Option Shape → ℕ → DeviceShape → DeviceShape → Type 0

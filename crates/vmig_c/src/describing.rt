@@ -1,9 +1,9 @@
 //! What the machine of a handle is.
 
-ghost use Rattle.std.specs.Prelude.{◌≡◌, slice_get};
+ghost use Rattle.std.specs.Prelude.{◌≡◌, map, slice_get};
 ghost use Rattle.machine.specs.Seen.{state_of};
 ghost use Rattle.vmig_c.specs.Kept.{loan_of, parked_in};
-ghost use Rattle.vmig_c.specs.Described.{DescribesKept, IsSized, IsSizedLent, SizesKept, Tells, TellsOf};
+ghost use Rattle.vmig_c.specs.Described.{BasesKept, DescribesKept, IsBased, IsSized, IsSizedLent, SizesKept, Tells, TellsOf};
 
 use crate::device_shape::DeviceShape;
 use crate::kept::{Kept, by_state};
@@ -38,6 +38,32 @@ fn lent_size_told(loan: &Loan, pages: &mut u32, devices: &mut u32) -> u32
 {
     *pages = loan.pages() as u32;
     *devices = loan.shapes().len() as u32;
+    DONE
+}
+
+/// The guest-physical address at which the RAM of the machine of a handle begins.
+pub(crate) fn base_kept(kept: &Kept, base: &mut u64) -> u32
+    ensures { BasesKept kept.now.state result base.new base.old }
+{
+    by_state!(&kept.contents;
+        still(machine) => base_told(machine, base),
+        moving(live) => base_told(live.machine(), base),
+        lent(loan) => lent_base_told(loan, base),
+    )
+}
+
+fn base_told<D: Disk>(machine: &Machine<D>, base: &mut u64) -> u32
+    ensures { IsBased (state_of machine.now).devices result base.new }
+{
+    *base = machine.base();
+    DONE
+}
+
+/// As above, while its RAM is lent.
+fn lent_base_told(loan: &Loan, base: &mut u64) -> u32
+    ensures { IsBased (map (λ d. d.state) (parked_in (loan_of loan.now)).devices) result base.new }
+{
+    *base = loan.base();
     DONE
 }
 

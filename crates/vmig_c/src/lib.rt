@@ -47,7 +47,7 @@ ghost use Rattle.std.specs.Prelude.{◌≡◌, None};
 ghost use Rattle.machine.specs.declared.event.Event.TheVariants as events;
 ghost use Rattle.vmig_c.specs.Announced.{Announces, AnnouncesDevice};
 ghost use Rattle.vmig_c.specs.Arriving.{Counted, Fed, Finished};
-ghost use Rattle.vmig_c.specs.Described.{Describes, Sizes};
+ghost use Rattle.vmig_c.specs.Described.{Bases, Describes, Sizes};
 ghost use Rattle.vmig_c.specs.Durable.{Failed, sync_told};
 ghost use Rattle.vmig_c.specs.Expected.{Expects};
 ghost use Rattle.vmig_c.specs.Images.{SectorRead};
@@ -99,7 +99,7 @@ mod working;
 use announcing::{announced_device, announced_size};
 use arriving::{feed, feed_first, finish, rounds};
 use creating::{make_from, make_zeros};
-use describing::{describe_kept, size_kept};
+use describing::{base_kept, describe_kept, size_kept};
 pub use device_shape::DeviceShape;
 use expecting::awaited;
 pub use handle::Handle;
@@ -472,6 +472,19 @@ pub extern "C" fn vmig_size(machine: &mut Handle, pages: &mut u32, devices: &mut
         return NO_MACHINE;
     }
     size_kept(machine.get_mut(), pages, devices)
+}
+
+/// The guest-physical address at which the machine's RAM begins. It takes no memory.
+#[unsafe(no_mangle)]
+#[tactic(auto, using(crate::proofs::Descriptions::based_none, crate::proofs::Descriptions::based_some))]
+pub extern "C" fn vmig_base(machine: &mut Handle, base: &mut u64) -> u32
+    ensures based { Bases machine.old.machine result base.new base.old }
+    ensures same { machine.new.machine ≡ machine.old.machine }
+{
+    if !machine.is_made() {
+        return NO_MACHINE;
+    }
+    base_kept(machine.get_mut(), base)
 }
 
 /// What a device of the machine was made as. It takes no memory.

@@ -33,6 +33,7 @@ impl Loan {
     ghost use Rattle.std.specs.Prelude.{◌≡◌, ◌≤◌, length, map};
     ghost use Rattle.guestmem.specs.declared.limits.TheConstants.{PAGES_MAX};
     ghost use Rattle.machine.specs.Shapes.{made_as};
+    ghost use Rattle.machine.specs.State.{base_of};
     ghost use Rattle.machine.specs.declared.machine.TheConstants.{DEVICES_MAX};
     ghost use Rattle.vmig_c.specs.Kept.{is_loan_mapped, loan_of, parked_in};
     ghost use Rattle.vmig_c.specs.Kept as states;
@@ -56,6 +57,18 @@ impl Loan {
             Loan::Moving(live) => live.parked().pages(),
             Loan::StillMapped(parked) => parked.pages(),
             Loan::MovingMapped(live) => live.parked().pages(),
+        }
+    }
+
+    /// The guest-physical address at which its RAM begins.
+    pub(crate) fn base(&self) -> u64
+        ensures { result ≡ base_of (map (λ d. d.state) (parked_in (loan_of self.now)).devices) }
+    {
+        match self {
+            Loan::Still(parked) => parked.base(),
+            Loan::Moving(live) => live.parked().base(),
+            Loan::StillMapped(parked) => parked.base(),
+            Loan::MovingMapped(live) => live.parked().base(),
         }
     }
 

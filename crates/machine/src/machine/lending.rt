@@ -8,13 +8,14 @@ ghost use Rattle.guestmem.specs.declared.limits.TheConstants.{PAGE_SIZE, PAGES_M
 ghost use Rattle.machine.specs.Lines.{lines_of};
 ghost use Rattle.machine.specs.Parked.{IsParked, back_with};
 ghost use Rattle.machine.specs.Shapes.{made_as};
+ghost use Rattle.machine.specs.State.{base_of};
 ghost use Rattle.machine.specs.declared.machine.TheConstants.{DEVICES_MAX};
 
 use crate::any_ring::AnyRing;
 use crate::device::Device;
 use crate::forgetting::forget_all;
 use crate::machine::Machine;
-use crate::machine::getters::lines_of;
+use crate::machine::getters::{base_of, lines_of};
 use crate::shape::Shape;
 use blk::Disk;
 use guestmem::{ParkedRam, TouchLog};
@@ -93,6 +94,13 @@ impl<D: Disk> Parked<D> {
         ensures few { result ≤ PAGES_MAX }
     {
         self.ram.pages()
+    }
+
+    /// The guest-physical address at which RAM begins.
+    pub fn base(&self) -> u64
+        ensures { result ≡ base_of (map (λ d. d.state) self.now.devices) }
+    {
+        base_of(self.devices.as_slice())
     }
 
     /// The interrupt lines, as they were when the RAM was lent (`Machine::lines`).
