@@ -42,6 +42,12 @@ state_of queue features base positions = record {
   used = positions.used;
 }
 
+-- No area of a queue begins below this base.
+pub record AreAbove (base : ℕ) (queue : Queue) : Type 0 where
+  pub descriptors : base ≤ queue.descriptors
+  pub driver : base ≤ queue.driver
+  pub device : base ≤ queue.device
+
 -- A ring may have this state: it has from 1 to QUEUE_SIZE_MAX slots, and if it is packed both positions are slots of it.
 pub record MayRing (q : RingState) : Type 0 where
   pub some : 1 ≤ q.size

@@ -12,6 +12,7 @@ use guestmem::{Ram, TouchLog};
 
 /// Fills the buffer with the bytes of the concatenated segments, from offset `at` on. The segments lie inside RAM, which has
 /// this base, and have at least `at + buf.len()` bytes. It takes no memory.
+#[inline(always)]
 pub fn copy_out(ram: &Ram, base: u64, segs: &[Seg], at: u64, buf: &mut [u8])
     requires inside { AreSegmentsInside base (length ram.now.bytes) segs.now }
     requires room { at + length buf.old ≤ length (places segs.now) }
@@ -23,6 +24,16 @@ pub fn copy_out(ram: &Ram, base: u64, segs: &[Seg], at: u64, buf: &mut [u8])
         ram.get(segs[0].addr - base, buf);
         return;
     }
+    copy_out_of_many(ram, base, segs, at, buf);
+}
+
+/// As `copy_out`, segment by segment.
+fn copy_out_of_many(ram: &Ram, base: u64, segs: &[Seg], at: u64, buf: &mut [u8])
+    requires inside { AreSegmentsInside base (length ram.now.bytes) segs.now }
+    requires room { at + length buf.old ≤ length (places segs.now) }
+    ensures { buf.new ≡ take (length buf.old) (drop at (read_places base ram.now.bytes (places segs.now))) }
+{
+    ram.recall();
     let mut skip = at;
     let mut filled = 0;
     for seg in segs {

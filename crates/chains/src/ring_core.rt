@@ -2,7 +2,7 @@
 
 ghost use Rattle.std.specs.Prelude.{◌≡◌, ◌≤◌};
 ghost use Rattle.mmio.specs.declared.constants.TheConstants.{QUEUE_SIZE_MAX};
-ghost use Rattle.chains.specs.State.{state_of, has_bit, MayRing};
+ghost use Rattle.chains.specs.State.{state_of, has_bit, AreAbove, MayRing};
 
 use crate::position::{Position, Positions};
 use mmio::{EVENT_IDX, INDIRECT_DESC, Queue, RING_PACKED};
@@ -61,10 +61,35 @@ impl RingCore {
             features,
             base,
             size: queue.size as u16,
-            // An area of a ready queue is not below the base.
+            // An area of a queue that is not ready may lie anywhere.
             descriptors: queue.descriptors.saturating_sub(base),
             driver: queue.driver.saturating_sub(base),
             device: queue.device.saturating_sub(base),
+            taking: positions.taking,
+            used: positions.used,
+        }
+    }
+
+    /// As `new`, of a queue whose areas do not begin below the base: a ready queue is such a one.
+    pub fn of_ready(
+        alloc: Global,
+        queue: &Queue,
+        features: u64,
+        base: u64,
+        positions: Positions,
+    ) -> RingCore
+        requires may { MayRing (state_of queue.now features base positions) }
+        requires above { AreAbove base queue.now }
+        ensures { core_state (has_bit features RING_PACKED) result ≡ state_of queue.now features base positions }
+    {
+        RingCore {
+            alloc,
+            features,
+            base,
+            size: queue.size as u16,
+            descriptors: queue.descriptors - base,
+            driver: queue.driver - base,
+            device: queue.device - base,
             taking: positions.taking,
             used: positions.used,
         }

@@ -13,7 +13,7 @@ use Rattle.mmio.specs.QueueReady.{IsInside, MayBeReady}
 use Rattle.mmio.specs.declared.common.Common.{Common}
 use Rattle.mmio.specs.declared.queue.Queue.{Queue}
 use Rattle.mmio.proofs.StayingSound.{queue_sound}
-use Rattle.chains.specs.State.{RingState, state_of, has_bit, MayRing, HasAreas, IsArea}
+use Rattle.chains.specs.State.{RingState, state_of, has_bit, AreAbove, MayRing, HasAreas, IsArea}
 use Rattle.chains.specs.Publish.{after_take, after_publish, gone_on, after_chain}
 use Rattle.chains.specs.declared.position.Position.{Position}
 use Rattle.chains.specs.declared.position.Positions.{Positions}
@@ -120,6 +120,22 @@ ready_ring len d pick queue p sound there placed ready =
     let may : MayBeReady d.registers.ram_base len d.registers.common queue = rw sound.ram_len at ((queue_sound d.registers pick queue there sound.registers).ready ready) in
     ring_by d.registers.ram_base len d.registers.common queue p (has d.registers.common.features (2 ^ 34)) refl (packed_same d.registers.common.features) whole may ready
     (have_at (is_packed_by d.registers.common) d.registers.queues d.positions pick queue p sound.positions there placed)
+
+-- Its areas are not below the base.
+above_by : (base len : ℕ) (c : Common) (q : Queue) (packed : Bool) → has c.features (2 ^ 34) ≡ packed → MayBeReady base len c q → AreAbove base q
+above_by base len c q true is may =
+    let areas = may.packed (eqb-true _ _ is) in
+    record { descriptors = areas.descriptors.within.above; driver = areas.driver.within.above; device = areas.device.within.above }
+above_by base len c q false is may =
+    let areas = may.split (eqb-false _ _ is) in
+    record { descriptors = areas.descriptors.within.above; driver = areas.driver.within.above; device = areas.device.within.above }
+
+pub above_ready : {base : ℕ} (len : ℕ) (d : DeviceState) (number : ℕ) (at queue : Queue) → IsSoundDevice base len d → slice_get d.registers.queues number ≡ Some at → at.is_ready ≡ true → slice_get d.registers.queues number ≡ Some queue
+    → AreAbove d.registers.ram_base queue
+above_ready len d number at queue sound there ready is =
+    let may : MayBeReady d.registers.ram_base len d.registers.common at = rw sound.ram_len at ((queue_sound d.registers number at there sound.registers).ready ready) in
+    let same : at ≡ queue = cc in
+    subst (λ (q : Queue). AreAbove d.registers.ram_base q) same (above_by d.registers.ram_base len d.registers.common at (has d.registers.common.features (2 ^ 34)) refl may)
 
 pub looked_ring : {base : ℕ} (len : ℕ) (d : DeviceState) (pick : ℕ) (q : RingState) → IsSoundDevice base len d → IsLookedAt d pick q → IsLookedRing len q
 looked_ring len d pick q sound h = rw h.is (ready_ring len d pick h.queue h.positions sound h.there h.placed h.ready)

@@ -14,7 +14,7 @@ use Rattle.mmio.specs.Interrupts.{used_raised}
 use Rattle.mmio.specs.State.{Registers, first_queue, queue_at, with_common}
 use Rattle.mmio.specs.declared.queue.Queue.{Queue}
 use Rattle.chains.specs.declared.looking.Wanted.{Wanted}
-use Rattle.chains.specs.State.{RingState, state_of}
+use Rattle.chains.specs.State.{AreAbove, RingState, state_of}
 use Rattle.chains.specs.declared.next.Next.{Next}
 use Rattle.chains.specs.declared.next.Next.TheVariants as next
 use Rattle.chains.specs.declared.position.Positions.{Positions}
@@ -34,7 +34,7 @@ use Rattle.blk.proofs.Given.{given_itself, none_set}
 use Rattle.machine.proofs.Advancing.{advanced_is}
 use Rattle.machine.proofs.Answering.{answered}
 use Rattle.machine.proofs.Looking.{looked_is, some_looked}
-use Rattle.machine.proofs.Rings.{IsLookedRing, looked_ring, positions_long, ready_ring}
+use Rattle.machine.proofs.Rings.{IsLookedRing, above_ready, looked_ring, positions_long, ready_ring}
 use Rattle.machine.proofs.Staying.{beside, outstanding}
 
 -- A device as it is held.
@@ -55,6 +55,16 @@ made_ring len kind r held pick qs features at sound same below looking feature b
     let long : length d.positions ≡ length r.queues = positions_long _ r.queues d.positions sound.positions in
     let is = some_looked d pick first_queue no_positions held there refl long looking_here in
     rw (same, feature, based) (looked_ring len d pick (state_of (get_or r.queues pick first_queue) r.common.features r.ram_base (get_or held pick no_positions)) sound (looked_is d pick _ is))
+
+pub made_above : {base : ℕ} (len : ℕ) (kind : Kind) (r : Registers) (held : List Positions) (pick : ℕ) (qs : List Queue) (at : ℕ) → IsSoundDevice base len (held_device kind r held) → qs ≡ r.queues → pick < length qs
+    → true ≡ looks (held_device kind r held) pick (get_or qs pick first_queue) → at ≡ r.ram_base → AreAbove at (get_or qs pick first_queue)
+made_above len kind r held pick qs at sound same below looking based =
+    let d = held_device kind r held in
+    let there : pick < length r.queues = omega (arith, below, ap length same) in
+    let looking_here = rw same at looking in
+    let long : length d.positions ≡ length r.queues = positions_long _ r.queues d.positions sound.positions in
+    let look = looked_is d pick _ (some_looked d pick first_queue no_positions held there refl long looking_here) in
+    rw (same, based) (above_ready len d pick look.queue (get_or r.queues pick first_queue) sound look.there look.ready (slice_get-get_or r.queues pick first_queue there))
 
 pub made_look : {base : ℕ} (len : ℕ) (kind : Kind) (r : Registers) (held : List Positions) (pick : ℕ) (qs : List Queue) (features at : ℕ) → IsSoundDevice base len (held_device kind r held) → qs ≡ r.queues → pick < length qs
     → true ≡ looks (held_device kind r held) pick (get_or qs pick first_queue) → features ≡ r.common.features → at ≡ r.ram_base
@@ -129,6 +139,14 @@ pub made_advanced : {base : ℕ} (len : ℕ) (kind : Kind) (r : Registers) (held
     → IsLookedRing len (state_of (get_or qs 0 first_queue) features at (get_or held 0 no_positions))
 made_advanced len kind r held pick qs features at sound is some all feature based =
     advanced_ring len (held_device kind r held) pick _ sound (some_advanced len kind r held pick qs features at sound is some all feature based)
+
+pub advanced_above : {base : ℕ} (len : ℕ) (kind : Kind) (r : Registers) (held : List Positions) (pick : ℕ) (qs : List Queue) (features at : ℕ) → IsSoundDevice base len (held_device kind r held) → qs ≡ r.queues → 1 ≤ length qs → true ≡ advances (held_device kind r held) pick → features ≡ r.common.features → at ≡ r.ram_base
+    → AreAbove at (get_or qs 0 first_queue)
+advanced_above len kind r held pick qs features at sound is some all feature based =
+    let d = held_device kind r held in
+    let below : 0 < length r.queues = omega (arith, ap length is, some) in
+    let look = advanced_is len d pick _ sound (some_advanced len kind r held pick qs features at sound is some all feature based) in
+    rw (is, based) (above_ready len d 0 look.queue (get_or r.queues 0 first_queue) sound look.there look.ready (slice_get-get_or r.queues 0 first_queue below))
 
 -- A device without a disk has no sectors.
 pub none_whole : AreWhole []

@@ -4,13 +4,12 @@ ghost use Rattle.std.specs.Prelude.{◌≡◌, ◌<◌, true, false};
 ghost use Rattle.chains.specs.RingCore.{core_state};
 ghost use Rattle.guestmem.specs.Memory.{Memory};
 ghost use Rattle.chains.specs.Decoder.{Fits};
-ghost use Rattle.chains.specs.State.{state_of, has_bit, MayRing};
+ghost use Rattle.chains.specs.State.{state_of, has_bit, AreAbove, MayRing};
 ghost use Rattle.mmio.specs.declared.constants.TheConstants.{RING_PACKED};
 ghost use Rattle.machine.specs.Rings.{emptied};
 ghost use Rattle.machine.specs.AnyRing.{ring_in, decoder_in, is_packed_in};
 
-use chains::{Chain, NextKind, Positions, Ring, RingCore};
-use guestmem::{Ram, TouchLog};
+use chains::{Positions, RingCore};
 use mmio::{Queue, RING_PACKED};
 use packedring::PackedRing;
 use splitring::SplitRing;
@@ -49,7 +48,8 @@ impl AnyRing {
         base: u64,
         positions: Positions,
     )
-        requires { MayRing (state_of queue.now features base positions) }
+        requires may { MayRing (state_of queue.now features base positions) }
+        requires above { AreAbove base queue.now }
         ensures ring { ring_in self.new ≡ state_of queue.now features base positions }
         ensures kept { is_packed_in self.old ≡ has_bit features RING_PACKED → decoder_in self.new ≡ decoder_in self.old }
         ensures fits { (ram : Memory) → Fits (decoder_in self.old) ram → Fits (decoder_in self.new) ram }
@@ -57,10 +57,10 @@ impl AnyRing {
         let is_packed = features & RING_PACKED != 0;
         match self {
             AnyRing::Split(ring) if !is_packed => {
-                ring.renew(RingCore::new(alloc, queue, features, base, positions));
+                ring.renew(RingCore::of_ready(alloc, queue, features, base, positions));
             }
             AnyRing::Packed(ring) if is_packed => {
-                ring.renew(RingCore::new(alloc, queue, features, base, positions));
+                ring.renew(RingCore::of_ready(alloc, queue, features, base, positions));
             }
             _ => self.turn(alloc, queue, features, base, positions),
         }
@@ -90,78 +90,6 @@ impl AnyRing {
         match self {
             AnyRing::Split(ring) => ring.forget(),
             AnyRing::Packed(ring) => ring.forget(),
-        }
-    }
-}
-
-impl Ring for AnyRing {
-    ghost state = { ring_in };
-
-    ghost decoder = { decoder_in };
-
-    fn alloc(&self) -> Global {
-        match self {
-            AnyRing::Split(ring) => ring.alloc(),
-            AnyRing::Packed(ring) => ring.alloc(),
-        }
-    }
-
-    #[inline(always)]
-    fn next_into(&mut self, ram: &Ram, chain: &mut Chain) -> NextKind {
-        match self {
-            AnyRing::Split(ring) => ring.next_into(ram, chain),
-            AnyRing::Packed(ring) => ring.next_into(ram, chain),
-        }
-    }
-
-    fn base(&self) -> u64 {
-        match self {
-            AnyRing::Split(ring) => ring.base(),
-            AnyRing::Packed(ring) => ring.base(),
-        }
-    }
-
-    fn take(&mut self, chain: &Chain) {
-        match self {
-            AnyRing::Split(ring) => ring.take(chain),
-            AnyRing::Packed(ring) => ring.take(chain),
-        }
-    }
-
-    #[inline(always)]
-    fn publish<L: TouchLog>(
-        &mut self,
-        id: u16,
-        slots: u16,
-        len: u32,
-        wrote: bool,
-        ram: &mut Ram,
-        log: &mut L,
-    ) -> bool {
-        match self {
-            AnyRing::Split(ring) => ring.publish(id, slots, len, wrote, ram, log),
-            AnyRing::Packed(ring) => ring.publish(id, slots, len, wrote, ram, log),
-        }
-    }
-
-    fn note_empty<L: TouchLog>(&mut self, ram: &mut Ram, log: &mut L) {
-        match self {
-            AnyRing::Split(ring) => ring.note_empty(ram, log),
-            AnyRing::Packed(ring) => ring.note_empty(ram, log),
-        }
-    }
-
-    fn decoded(&self) -> u64 {
-        match self {
-            AnyRing::Split(ring) => ring.decoded(),
-            AnyRing::Packed(ring) => ring.decoded(),
-        }
-    }
-
-    fn positions(&self) -> Positions {
-        match self {
-            AnyRing::Split(ring) => ring.positions(),
-            AnyRing::Packed(ring) => ring.positions(),
         }
     }
 }

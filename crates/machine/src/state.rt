@@ -260,6 +260,31 @@ impl DeviceState {
         ensures later { IsLater ram.old ram.new }
         ensures fits { Fits (decoder_in ring.new) ram.new }
     {
+        match ring {
+            AnyRing::Split(ring) => self.look_in(alloc, pick, ring, sent, ram, log),
+            AnyRing::Packed(ring) => self.look_in(alloc, pick, ring, sent, ram, log),
+        }
+    }
+
+    /// As `look`, with the ring in its layout.
+    fn look_in<R: Ring, L: TouchLog>(
+        &mut self,
+        alloc: Global,
+        pick: u8,
+        ring: &mut R,
+        sent: &mut Vec<u8>,
+        ram: &mut Ram,
+        log: &mut L,
+    ) -> Stepped
+        requires sound { IsSoundDevice self.old.registers.ram_base (length ram.old.bytes) self.old }
+        requires looked { looked_at self.old pick ≡ Some (R.state ring.old) }
+        requires fits { Fits (R.decoder ring.old) ram.old }
+        requires there { pick < length self.old.registers.queues }
+        requires may { MayPages L.may log.old (length ram.old.bytes) }
+        ensures looked { IsLookedStep (Touches L.after log.old log.new ram.old ram.new) ram.old.bytes self.old pick (R.state ring.old) (reply_in result sent.new.items) ram.new.bytes self.new }
+        ensures later { IsLater ram.old ram.new }
+        ensures fits { Fits (R.decoder ring.new) ram.new }
+    {
         let features = self.registers.features();
         match self.kind.serve(alloc, features, pick, ring, sent, ram, log) {
             Ok(answered) => {
@@ -291,6 +316,33 @@ impl DeviceState {
         ensures kept { (sent : List ℕ) → IsKept sectors.old (is_failure (reply_in result sent)) sectors.new }
         ensures later { IsLater ram.old ram.new }
         ensures fits { Fits (decoder_in ring.new) ram.new }
+    {
+        match ring {
+            AnyRing::Split(ring) => self.advance_in(device, pick, ring, sectors, ram, log),
+            AnyRing::Packed(ring) => self.advance_in(device, pick, ring, sectors, ram, log),
+        }
+    }
+
+    /// As `advance`, with the ring in its layout.
+    fn advance_in<R: Ring, D: Disk, L: TouchLog>(
+        &mut self,
+        device: u8,
+        pick: u8,
+        ring: &mut R,
+        sectors: &mut Sectors<D>,
+        ram: &mut Ram,
+        log: &mut L,
+    ) -> Stepped
+        requires sound { IsSoundDevice self.old.registers.ram_base (length ram.old.bytes) self.old }
+        requires capacity { length sectors.old.content ≡ sector_count (made_as self.old.kind) }
+        requires advanced { advanced_at self.old pick ≡ Some (R.state ring.old) }
+        requires fits { Fits (R.decoder ring.old) ram.old }
+        requires may { MayPages L.may log.old (length ram.old.bytes) }
+        requires may_sectors { MaySectors L.may log.old device (length sectors.old.content) }
+        ensures advanced { (sent : List ℕ) → IsAdvancedStep (Touches L.after log.old log.new ram.old ram.new) device sectors.old.honest ram.old.bytes sectors.old.content self.old pick (R.state ring.old) (reply_in result sent) ram.new.bytes sectors.new.content self.new }
+        ensures kept { (sent : List ℕ) → IsKept sectors.old (is_failure (reply_in result sent)) sectors.new }
+        ensures later { IsLater ram.old ram.new }
+        ensures fits { Fits (R.decoder ring.new) ram.new }
     {
         let k = pick as usize - 1;
         let features = self.registers.features();

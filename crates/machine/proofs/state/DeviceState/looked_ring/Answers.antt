@@ -1,8 +1,8 @@
-use Rattle.machine.proofs.Stepping.{made_look, made_ring}
+use Rattle.machine.proofs.Stepping.{made_above, made_look, made_ring}
 use Rattle.machine.proofs.state.DeviceState.looked_ring.Goals as goal
 
-pub renew-requires : goal.renew-requires
-renew-requires c =
+pub renew-requires-clause-may : goal.renew-requires-clause-may
+renew-requires-clause-may c =
     let i = c.self.inside in
     (made_ring c.requires.sound.0 i.kind i.registers i.positions c.args.pick c.queues-queues.result.now c.features-features.result c.ram_base-base.result (rw (← c.self.view_is) at c.requires.sound.1) c.queues-queues.ensures.value c.if-number-queues.false
     (rw (← c.self.view_is) at c.if-not-looks.ensures) c.features-features.ensures c.ram_base-base.ensures).may
@@ -13,3 +13,9 @@ returns-clause-ring c =
     λ _. rw (← c.self.view_is, c.renew.ensures.ring)
     (made_look c.requires.sound.0 i.kind i.registers i.positions c.args.pick c.queues-queues.result.now c.features-features.result c.ram_base-base.result (rw (← c.self.view_is) at c.requires.sound.1) c.queues-queues.ensures.value c.if-number-queues.false
     (rw (← c.self.view_is) at c.if-not-looks.ensures) c.features-features.ensures c.ram_base-base.ensures)
+
+pub renew-requires-clause-above : goal.renew-requires-clause-above
+renew-requires-clause-above c =
+    let i = c.self.inside in
+    made_above c.requires.sound.0 i.kind i.registers i.positions c.args.pick c.queues-queues.result.now c.ram_base-base.result (rw (← c.self.view_is) at c.requires.sound.1) c.queues-queues.ensures.value c.if-number-queues.false
+    (rw (← c.self.view_is) at c.if-not-looks.ensures) c.ram_base-base.ensures

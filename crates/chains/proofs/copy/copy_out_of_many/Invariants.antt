@@ -1,6 +1,6 @@
 use Rattle.std.proofs.Common.{◌≡◌, ◌+◌, ◌-◌, ◌≤◌, ◌++◌, length, take, drop}
 use Rattle.chains.specs.Places.{places, read_places}
-use Rattle.chains.proofs.copy.copy_out.Given as goal
+use Rattle.chains.proofs.copy.copy_out_of_many.Given as goal
 
 abbrev pub invariant-loop-seg : goal.invariant-loop-seg
 invariant-loop-seg l = record {
