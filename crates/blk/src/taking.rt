@@ -33,6 +33,7 @@ pub enum Taken {
 impl Requests {
     /// Takes the next request of the queue, where there is room for one: its header is read now, and its segments are
     /// kept. Its only error is out of memory for the chain, and then nothing has changed.
+    #[inline(never)]
     pub fn take<R: Ring, L: TouchLog>(
         &mut self,
         alloc: Global,

@@ -113,19 +113,18 @@ read_more base ram buf piece wanted segs i skip filled count d below within insi
     rw (front, left, append_assoc, read, is) (ap (λ (xs : List ℕ). take filled buf ++ xs) (sym parts) ∙ so_far)
 
 -- Bytes that the first segment holds are one run of writes.
-pub first_writes : (base : ℕ) (segs : List Seg) (d : Seg) (bytes : List ℕ) → 0 < length segs → base ≤ (get_or segs 0 d).addr → length bytes ≤ (get_or segs 0 d).len
-    → place_writes base (take (length bytes) (drop 0 (places segs))) bytes ≡ byte_writes (index_of base (get_or segs 0 d).addr) bytes
-first_writes base [] d bytes some above few = absurd (omega arith)
-first_writes base (seg ∷ segs) d bytes some above few =
-    let run = run_writes base seg.addr seg.len (places segs) bytes [] above few (λ _. refl) in
-    place_writes_take base (places (seg ∷ segs)) bytes ∙ (rw (append-nil, no_bytes, append-nil) at run)
+pub first_writes : (base : ℕ) (segs : List Seg) (at : ℕ) (d : Seg) (bytes : List ℕ) → 0 < length segs → base ≤ (get_or segs 0 d).addr → at + length bytes ≤ (get_or segs 0 d).len
+    → place_writes base (take (length bytes) (drop at (places segs))) bytes ≡ byte_writes (index_of base (get_or segs 0 d).addr + at) bytes
+first_writes base segs at d bytes some above few =
+    let whole : bytes ≡ bytes ++ [] = rw append-nil refl in
+    let run = segment_writes base segs 0 at d bytes bytes [] some above (omega (arith, few)) whole (omega (arith, few)) (λ _. refl) in
+    place_writes_take base (drop at (places segs)) bytes ∙ (rw (no_bytes, append-nil) at run)
 
--- The first bytes of segments, of which the first has enough, are one run.
-pub first_bytes : (base : ℕ) (ram : List ℕ) (segs : List Seg) (d : Seg) (m : ℕ) → 0 < length segs → m ≤ (get_or segs 0 d).len → IsWithin base (length ram) (get_or segs 0 d).addr (get_or segs 0 d).len
-    → take m (drop 0 (read_places base ram (places segs))) ≡ take m (drop (index_of base (get_or segs 0 d).addr) ram)
-first_bytes base ram segs d m some few inside =
-    let parts = segment_bytes base ram segs 0 0 m d some (omega arith) inside in
-    let all : min m ((get_or segs 0 d).len - 0) ≡ m = omega arith in
+-- Bytes that the first segment has are one run.
+pub first_bytes : (base : ℕ) (ram : List ℕ) (segs : List Seg) (at : ℕ) (d : Seg) (m : ℕ) → 0 < length segs → at + m ≤ (get_or segs 0 d).len → IsWithin base (length ram) (get_or segs 0 d).addr (get_or segs 0 d).len
+    → take m (drop at (read_places base ram (places segs))) ≡ take m (drop (index_of base (get_or segs 0 d).addr + at) ram)
+first_bytes base ram segs at d m some few inside =
+    let parts = segment_bytes base ram segs 0 at m d some (omega (arith, few)) inside in
+    let all : min m ((get_or segs 0 d).len - at) ≡ m = omega (arith, few) in
     let none : m - m ≡ 0 = omega arith in
-    let start : index_of base (get_or segs 0 d).addr + 0 ≡ index_of base (get_or segs 0 d).addr = omega arith in
-    rw (all, none, start, append-nil) at parts
+    rw (all, none, append-nil) at parts

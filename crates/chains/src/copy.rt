@@ -1,11 +1,12 @@
 //! The bytes of segments.
 
-ghost use Rattle.std.specs.Prelude.{◌≡◌, ◌+◌, ◌*◌, ◌<◌, ◌≤◌, ◌^◌, length, take, drop};
+ghost use Rattle.std.specs.Prelude.{◌≡◌, ◌+◌, ◌*◌, ◌<◌, ◌≤◌, ◌^◌, IsTrue, length, take, drop, slice_index_or};
 ghost use Rattle.guestmem.specs.Item.{after_all, MayPages};
 ghost use Rattle.guestmem.specs.Rises.{Rises};
 ghost use Rattle.guestmem.specs.Writes.{set_all, touched};
 ghost use Rattle.chains.specs.Frame.{HasServed};
 ghost use Rattle.chains.specs.Places.{places, read_places, place_writes, AreSegmentsInside};
+ghost use Rattle.chains.specs.declared.segs.Seg.{Seg};
 
 use crate::segs::Seg;
 use guestmem::{Ram, TouchLog};
@@ -20,8 +21,8 @@ pub fn copy_out(ram: &Ram, base: u64, segs: &[Seg], at: u64, buf: &mut [u8])
 {
     ram.recall();
     // Most messages lie in one segment.
-    if at == 0 && !segs.is_empty() && buf.len() <= segs[0].len as usize {
-        ram.get(segs[0].addr - base, buf);
+    if holds(segs, at, buf.len()) {
+        ram.get(segs[0].addr - base + at, buf);
         return;
     }
     copy_out_of_many(ram, base, segs, at, buf);
@@ -71,8 +72,8 @@ pub fn copy_in<L: TouchLog>(
 {
     ram.recall();
     // Most messages lie in one segment.
-    if at == 0 && !segs.is_empty() && bytes.len() <= segs[0].len as usize {
-        ram.put(segs[0].addr - base, bytes, log);
+    if holds(segs, at, bytes.len()) {
+        ram.put(segs[0].addr - base + at, bytes, log);
         return;
     }
     let mut skip = at;
@@ -89,4 +90,17 @@ pub fn copy_in<L: TouchLog>(
         rest = back;
         skip = 0;
     }
+}
+
+/// Whether `count` bytes from offset `at` on lie in the first segment.
+#[inline(always)]
+fn holds(segs: &[Seg], at: u64, count: usize) -> bool
+    ensures some { IsTrue result → 0 < length segs.now }
+    ensures fits { IsTrue result → (d : Seg) → at + count ≤ (slice_index_or segs.now 0 d).len }
+{
+    if segs.is_empty() {
+        return false;
+    }
+    let len = segs[0].len as u64;
+    at <= len && count as u64 <= len - at
 }

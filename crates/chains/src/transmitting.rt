@@ -51,6 +51,7 @@ pub enum Transmitted {
 /// Reads the message of the next chain of a ring into a buffer, and publishes the chain. The buffer is cut or grows to the message,
 /// and where nothing is sent it may hold anything. The only error is out of memory, for the chain or for a buffer that has to grow, and
 /// then RAM, ring and log are as they were.
+#[inline(never)]
 pub fn transmit<R: Ring, L: TouchLog>(
     alloc: Global,
     ring: &mut R,
@@ -101,6 +102,7 @@ fn read_message(
 }
 
 /// Publishes a chain whose message was read. The result is whether an interrupt is due.
+#[inline(always)]
 fn hand_back<R: Ring, L: TouchLog>(ring: &mut R, chain: &Chain, ram: &mut Ram, log: &mut L) -> bool
     requires ready { MayServe L.may (length ram.old.bytes) (R.state ring.old) log.old }
     requires bounded { IsBounded (length ram.old.bytes) (R.state ring.old) chain.now }

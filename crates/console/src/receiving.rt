@@ -33,7 +33,7 @@ pub enum Received {
 
 /// Gives the first of the bytes held to the next chain, as many as it takes, and publishes it. Its only error is out of
 /// memory for the chain, and then nothing has changed.
-#[inline(always)]
+#[inline(never)]
 pub fn receive<R: Ring, L: TouchLog>(
     alloc: Global,
     ring: &mut R,
@@ -58,6 +58,7 @@ pub fn receive<R: Ring, L: TouchLog>(
 }
 
 /// Writes the first of the bytes held into a chain, and publishes it.
+#[inline(always)]
 #[tactic(auto, unfolding(crate::specs::Receive::give))]
 fn give<R: Ring, L: TouchLog>(
     ring: &mut R,

@@ -111,6 +111,7 @@ impl<D: Disk> Device<D> {
         self.state.fail_flush(pick)
     }
 
+    #[inline(always)]
     pub(crate) fn step<L: TouchLog>(
         &mut self,
         alloc: Global,

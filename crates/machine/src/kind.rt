@@ -212,6 +212,7 @@ impl Kind {
 
     /// Serves the queue `number`. The bytes of a message that it sends go into the buffer. Its only error is out of memory, and then
     /// nothing has changed.
+    #[inline(always)]
     pub(crate) fn serve<R: Ring, L: TouchLog>(
         &mut self,
         alloc: Global,

@@ -185,6 +185,7 @@ impl DeviceState {
 
     /// Does one piece of the device's work, with the sectors of its disk. `device` is the number under which these are
     /// reported to the log.
+    #[inline(always)]
     pub(crate) fn step<D: Disk, L: TouchLog>(
         &mut self,
         alloc: Global,
@@ -217,6 +218,7 @@ impl DeviceState {
     }
 
     /// Does one piece of the work of a device that has no disk.
+    #[inline(always)]
     pub(crate) fn step_without_disk<L: TouchLog>(
         &mut self,
         alloc: Global,
@@ -242,6 +244,7 @@ impl DeviceState {
     }
 
     /// Looks at the next chain of a queue.
+    #[inline(always)]
     fn look<L: TouchLog>(
         &mut self,
         alloc: Global,
@@ -267,6 +270,7 @@ impl DeviceState {
     }
 
     /// As `look`, with the ring in its layout.
+    #[inline(always)]
     fn look_in<R: Ring, L: TouchLog>(
         &mut self,
         alloc: Global,
@@ -297,6 +301,7 @@ impl DeviceState {
     }
 
     /// Advances an outstanding request by one unit, or ends it.
+    #[inline(always)]
     fn advance<D: Disk, L: TouchLog>(
         &mut self,
         device: u8,
@@ -324,6 +329,7 @@ impl DeviceState {
     }
 
     /// As `advance`, with the ring in its layout.
+    #[inline(always)]
     fn advance_in<R: Ring, D: Disk, L: TouchLog>(
         &mut self,
         device: u8,
@@ -355,6 +361,7 @@ impl DeviceState {
     }
 
     /// Makes the ring the one on which the request of a pick is published, and says whether there is such a request.
+    #[inline(always)]
     fn advanced_ring(&self, alloc: Global, pick: u8, ring: &mut AnyRing) -> bool
         requires sound { (len : ℕ) × IsSoundDevice self.now.registers.ram_base len self.now }
         ensures ring { result ≡ true → advanced_at self.now pick ≡ Some (ring_in ring.new) }
@@ -381,6 +388,7 @@ impl DeviceState {
     }
 
     /// Makes the ring the one that a step with this pick looks at, and says whether it looks at one.
+    #[inline(always)]
     fn looked_ring(&self, alloc: Global, pick: u8, ring: &mut AnyRing) -> bool
         requires sound { (len : ℕ) × IsSoundDevice self.now.registers.ram_base len self.now }
         ensures ring { result ≡ true → looked_at self.now pick ≡ Some (ring_in ring.new) }

@@ -39,6 +39,7 @@ pub enum Received {
 
 /// Gives a header, followed by the oldest frame, to the next chain, and publishes it. Its only error is out of memory for
 /// the chain, and then nothing has changed.
+#[inline(never)]
 pub fn receive<R: Ring, L: TouchLog>(
     alloc: Global,
     ring: &mut R,
@@ -65,6 +66,7 @@ pub fn receive<R: Ring, L: TouchLog>(
 
 /// Writes a header, followed by the oldest frame, into a chain, and publishes it. Where the frame does not fit, it is
 /// dropped.
+#[inline(always)]
 #[tactic(auto, unfolding(crate::specs::Receive::give, crate::specs::Header::header))]
 fn give_first<R: Ring, L: TouchLog>(
     ring: &mut R,

@@ -1,5 +1,4 @@
 use Rattle.std.proofs.Common.{◌≡◌, ◌+◌, ◌-◌, ◌<◌, ◌++◌, ◌∙◌, length, drop, get_or, refl, sym, arith, length-drop, take-append-drop}
-use Rattle.std.proofs.lemmas.Bool.{eqb-false}
 use Rattle.std.proofs.lemmas.List.{drop_all}
 use Rattle.std.proofs.Math.Seq.{drop-nil}
 use Rattle.guestmem.specs.Address.{index_of}
@@ -67,20 +66,20 @@ returns-clause-rises g c =
     let end = drop_all c.loop-seg.seg-index c.args.segs.now (omega arith) in
     rw place_writes_take ((rw (end, drop-nil) at c.loop-seg.invariant.rises) c.loop-seg.ram (rises_none c.loop-seg.ram c.loop-seg.ram refl))
 
-pub returns-then-bytes-segs-clause-bytes : goal.returns-then-bytes-segs-clause-bytes
-returns-then-bytes-segs-clause-bytes g c =
-    let zero : c.args.at ≡ 0 = omega arith in
-    let some : 0 < length c.args.segs.now = omega (arith, eqb-false (length c.args.segs.now) 0 (sym c.is_empty.ensures ∙ c.if-not-is_empty.true)) in
-    rw (zero, first_writes c.args.base c.args.segs.now (record { addr = 0; len = 0 }) c.args.bytes.now some (c.requires.inside 0 (record { addr = 0; len = 0 }) some).above c.if-bytes-segs.true) c.put.ensures.bytes
+pub returns-then-holds-clause-bytes : goal.returns-then-holds-clause-bytes
+returns-then-holds-clause-bytes g c =
+    let none : Seg = record { addr = 0; len = 0 } in
+    let some = c.holds.ensures.some c.if-holds.true in
+    rw (first_writes c.args.base c.args.segs.now c.args.at none c.args.bytes.now some (c.requires.inside 0 none some).above (c.holds.ensures.fits c.if-holds.true none)) c.put.ensures.bytes
 
-pub returns-then-bytes-segs-clause-log : goal.returns-then-bytes-segs-clause-log
-returns-then-bytes-segs-clause-log g c =
-    let zero : c.args.at ≡ 0 = omega arith in
-    let some : 0 < length c.args.segs.now = omega (arith, eqb-false (length c.args.segs.now) 0 (sym c.is_empty.ensures ∙ c.if-not-is_empty.true)) in
-    rw (zero, first_writes c.args.base c.args.segs.now (record { addr = 0; len = 0 }) c.args.bytes.now some (c.requires.inside 0 (record { addr = 0; len = 0 }) some).above c.if-bytes-segs.true) c.put.ensures.log
+pub returns-then-holds-clause-log : goal.returns-then-holds-clause-log
+returns-then-holds-clause-log g c =
+    let none : Seg = record { addr = 0; len = 0 } in
+    let some = c.holds.ensures.some c.if-holds.true in
+    rw (first_writes c.args.base c.args.segs.now c.args.at none c.args.bytes.now some (c.requires.inside 0 none some).above (c.holds.ensures.fits c.if-holds.true none)) c.put.ensures.log
 
-pub returns-then-bytes-segs-clause-rises : goal.returns-then-bytes-segs-clause-rises
-returns-then-bytes-segs-clause-rises g c =
-    let zero : c.args.at ≡ 0 = omega arith in
-    let some : 0 < length c.args.segs.now = omega (arith, eqb-false (length c.args.segs.now) 0 (sym c.is_empty.ensures ∙ c.if-not-is_empty.true)) in
-    rw (zero, first_writes c.args.base c.args.segs.now (record { addr = 0; len = 0 }) c.args.bytes.now some (c.requires.inside 0 (record { addr = 0; len = 0 }) some).above c.if-bytes-segs.true) c.put.ensures.rises
+pub returns-then-holds-clause-rises : goal.returns-then-holds-clause-rises
+returns-then-holds-clause-rises g c =
+    let none : Seg = record { addr = 0; len = 0 } in
+    let some = c.holds.ensures.some c.if-holds.true in
+    rw (first_writes c.args.base c.args.segs.now c.args.at none c.args.bytes.now some (c.requires.inside 0 none some).above (c.holds.ensures.fits c.if-holds.true none)) c.put.ensures.rises
