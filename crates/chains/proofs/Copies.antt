@@ -1,4 +1,4 @@
-use Rattle.std.proofs.Common.{◌≡◌, ℕ, ◌+◌, ◌-◌, ◌≤◌, ◌<◌, List, [], ◌∷◌, ◌++◌, length, take, drop, min, get_or, slice_index, refl, ap, sym, ◌∙◌, arith, inl, inr, length-append, length-drop, length-take-le, append-nil, append_assoc}
+use Rattle.std.proofs.Common.{◌≡◌, ℕ, ◌+◌, ◌-◌, ◌≤◌, ◌<◌, List, [], ◌++◌, length, take, drop, min, get_or, slice_index, refl, ap, sym, ◌∙◌, arith, inl, inr, length-append, length-drop, length-take-le, append-nil, append_assoc}
 use Rattle.std.proofs.lemmas.Bool.{cases_lt}
 use Rattle.std.proofs.lemmas.List.{drop_more, take-take, take-append-le, map-append}
 use Rattle.std.specs.List.{drop-map}

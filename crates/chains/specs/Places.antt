@@ -1,4 +1,4 @@
-use Rattle.std.specs.Prelude.{ℕ, zero, suc, ◌+◌, ◌≤◌, List, [], ◌∷◌, ◌++◌, All, map, slice_index}
+use Rattle.std.specs.Prelude.{ℕ, zero, suc, ◌+◌, List, [], ◌∷◌, ◌++◌, All, map, slice_index}
 use Rattle.guestmem.specs.Address.{IsWithin, index_of}
 use Rattle.guestmem.specs.Writes.{Write}
 use Rattle.chains.specs.declared.segs.Seg.{Seg}

@@ -1,4 +1,4 @@
-use Rattle.std.proofs.Common.{refl, rules, arith}
+use Rattle.std.proofs.Common.{refl, rules}
 use Rattle.chains.proofs.Held.{held_writable, held_readable, out_of_order}
 use Rattle.chains.proofs.adding.add.Goals as goal
 

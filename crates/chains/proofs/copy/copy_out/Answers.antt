@@ -1,4 +1,4 @@
-use Rattle.std.proofs.Common.{◌≡◌, ◌∙◌, sym}
+use Rattle.std.proofs.Common.{◌∙◌, sym}
 use Rattle.chains.specs.declared.segs.Seg.{Seg}
 use Rattle.chains.proofs.Copies.{first_bytes}
 use Rattle.chains.proofs.copy.copy_out.Goals as goal

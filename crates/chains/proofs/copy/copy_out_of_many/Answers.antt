@@ -1,4 +1,4 @@
-use Rattle.std.proofs.Common.{◌≡◌, ◌+◌, ◌-◌, ◌<◌, ◌≤◌, length, take, drop, get_or, arith, length-drop, length-take-le}
+use Rattle.std.proofs.Common.{◌≡◌, ◌+◌, ◌-◌, length, take, drop, get_or, arith, length-drop, length-take-le}
 use Rattle.guestmem.specs.Address.{IsWithin, index_of}
 use Rattle.chains.specs.declared.segs.Seg.{Seg}
 use Rattle.chains.proofs.Copies.{length_here, passed_bytes, read_more, length-put_mid}
