@@ -445,6 +445,7 @@ fn is_due(advanced: Advanced) -> bool
 }
 
 /// Reports to the driver by the registers how a queue was served, and returns the reply to the step.
+#[inline(always)]
 fn tell(registers: &mut Regs, pick: u8, answered: Answered) -> Stepped
     requires { pick < length registers.old.queues }
     ensures reply { (sent : List ℕ) → reply_in result sent ≡ reply_of (served_in answered sent) }
@@ -467,6 +468,7 @@ fn tell(registers: &mut Regs, pick: u8, answered: Answered) -> Stepped
 }
 
 /// Raises the used-buffer interrupt if it is due.
+#[inline(always)]
 fn raise_if(registers: &mut Regs, is_due: bool)
     ensures { registers.new ≡ (if is_due then with_common registers.old (used_raised registers.old.common) else registers.old) }
 {
