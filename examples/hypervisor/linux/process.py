@@ -17,8 +17,10 @@ class Process:
         pipe = subprocess.PIPE
         self.process = subprocess.Popen([str(word) for word in words], stdin=pipe, stdout=pipe, stderr=pipe, bufsize=0)
         atexit.register(self.process.kill)
-        for stream, kept in (self.process.stdout, self.out), (self.process.stderr, self.error):
-            threading.Thread(target=self.keep, args=(stream, kept), daemon=True).start()
+        streams = (self.process.stdout, self.out), (self.process.stderr, self.error)
+        self.readers = [threading.Thread(target=self.keep, args=both, daemon=True) for both in streams]
+        for reader in self.readers:
+            reader.start()
 
     @staticmethod
     def keep(stream, kept):
@@ -34,7 +36,11 @@ class Process:
     def wait_for(self, text, kept, seconds=120):
         end = time.monotonic() + seconds
         while text.encode() not in kept:
-            if time.monotonic() > end or (self.process.poll() is not None and text.encode() not in kept):
+            has_ended = self.process.poll() is not None
+            if has_ended:
+                for reader in self.readers:
+                    reader.join()
+            if time.monotonic() > end or (has_ended and text.encode() not in kept):
                 sys.exit(f"no '{text}' in: {kept[-2000:].decode(errors='replace')} {self.error.decode()}")
             time.sleep(0.01)
 
