@@ -23,10 +23,11 @@ pub struct Seg {
 /// no more needs no memory.
 #[derive(Drop)]
 pub struct Segs {
-    list: SmallVec<Seg, SHORT_CHAIN_MAX>,
-
-    /// How many they are. The list could tell, but not without a look at how it is kept.
+    /// How many they are. The list could tell, but not without a look at how it is kept. It does not stand beside the total: two
+    /// numbers side by side are added to as one vector, which takes longer.
     count: usize,
+
+    list: SmallVec<Seg, SHORT_CHAIN_MAX>,
 
     /// The bytes of all of them.
     total: u64,
@@ -51,8 +52,8 @@ impl Segs {
         ensures { result ≡ [] }
     {
         Segs {
-            list: SmallVec::new(alloc),
             count: 0,
+            list: SmallVec::new(alloc),
             total: 0,
         }
     }

@@ -34,22 +34,23 @@ pub(crate) fn walk(
     ensures few { decoder.new.decoded ≤ decoder.old.decoded + core.now.size }
     ensures rises { decoder.old.decoded ≤ decoder.new.decoded }
 {
+    let (base, table, size) = (core.base, core.descriptors, core.size);
     let len = ram.len();
     let mut place = core.taking.place;
     let mut descriptor = first;
-    for step in 0..core.size {
-        match add(&descriptor, core.base, len, chain) {
+    for step in 0..size {
+        match add(&descriptor, base, len, chain) {
             Walked::Listed => {}
             Walked::Missing => return Walked::Missing,
             Walked::NoMemory => return Walked::NoMemory,
         }
         if !descriptor.has_next {
             chain.id = descriptor.id;
-            chain.slots = step + 1;
+            chain.slots = (chain.readable.len() + chain.writable.len()) as u16;
             return ended(chain);
         }
-        place = slot_after(place, core.size);
-        descriptor = decoder.read(ram, true, core.descriptors, place, true);
+        place = slot_after(place, size);
+        descriptor = decoder.read(ram, true, table, place, true);
         // INDIRECT after another descriptor.
         if descriptor.is_indirect {
             return Walked::Missing;

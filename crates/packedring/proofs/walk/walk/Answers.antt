@@ -1,4 +1,4 @@
-use Rattle.std.proofs.Common.{true, refl, rules, arith}
+use Rattle.std.proofs.Common.{◌≡◌, ◌+◌, true, refl, rules, arith}
 use Rattle.chains.specs.RingCore.{core_state}
 use Rattle.packedring.proofs.Finding.{walked_none, walked_more, walked_named, walked_broken, walked_full, walked_long, walked_last}
 use Rattle.packedring.proofs.walk.walk.Goals as goal
@@ -30,8 +30,10 @@ returns-in-NoMemory-clause-gives c =
 pub returns-then-not-descriptor-clause-gives : goal.returns-then-not-descriptor-clause-gives
 returns-then-not-descriptor-clause-gives c =
     let i = c.loop-step.invariant in
-    walked_last _ (core_state true c.args.core.now) c.loop-step.chain c.add.new.chain _ _ c.loop-step.descriptor c.ended.result i.walked i.here c.loop-step-test.true i.last_plain (search rules)
-    (rw c.len-len.ensures at (c.in-Listed.ensures.gives i.walked.walked (rw c.len-len.ensures i.walked.held))) c.ended.ensures
+    let slots : c.len.result + c.len-then-not-descriptor.result ≡ c.loop-step.step + 1 = omega (arith, i.count, c.in-Listed.ensures.count, c.len.ensures, c.len-then-not-descriptor.ensures) in
+    rw slots
+    (walked_last _ (core_state true c.args.core.now) c.loop-step.chain c.add.new.chain _ _ c.loop-step.descriptor c.ended.result i.walked i.here c.loop-step-test.true i.last_plain (search rules)
+    (rw c.len-len.ensures at (c.in-Listed.ensures.gives i.walked.walked (rw c.len-len.ensures i.walked.held))) c.ended.ensures)
 
 pub returns-then-descriptor-clause-gives : goal.returns-then-descriptor-clause-gives
 returns-then-descriptor-clause-gives c =
