@@ -47,8 +47,11 @@ pub fn add(descriptor: &Descriptor, base: u64, len: u64, chain: &mut Chain) -> W
 pub fn ended(chain: &Chain) -> Walked
     ensures { EndGives chain.now result }
 {
-    let readable = chain.readable.total_len();
-    if readable < 1 << 32 && chain.writable.total_len() < (1 << 32) - readable {
+    let bytes = chain
+        .readable
+        .total_len()
+        .saturating_add(chain.writable.total_len());
+    if bytes < 1 << 32 {
         return Walked::Listed;
     }
     Walked::Missing

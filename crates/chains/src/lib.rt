@@ -31,7 +31,7 @@
 //! - `copy_out` and `copy_in` read and write the bytes of the concatenated segments in a RAM with a base, from an offset on; where segments overlap the
 //!   later byte wins; the log takes in exactly the pages written, and the versions of exactly these rise.
 //! - `fill(ring, chain, front, back, ram, log)` gives bytes to a chain: they go to its first writable bytes, and the chain is
-//!   published with their count.
+//!   published with their count. `fill_mostly_front` does the same, for a caller whose `back` is empty more often than not.
 //! - `look(ring, wanted, chain, ram, log)` is the look of every device: it finds the ring empty, which is noted, or malformed, or
 //!   fills in a chain that the device can use, by what it has `Wanted`. A chain that it cannot use is malformed for it.
 //! - `transmit(alloc, ring, form, ram, log)` is `transmit_step` over any `Ring`: it reads the message of the next chain, which a
@@ -97,7 +97,7 @@ pub use looking::{Wanted, look};
 pub use next::Next;
 pub use next_kind::NextKind;
 pub use position::{Position, Positions};
-pub use receive_buffer::fill;
+pub use receive_buffer::{fill, fill_mostly_front};
 pub use ring::Ring;
 pub use ring_core::RingCore;
 pub use segs::{Seg, Segs};

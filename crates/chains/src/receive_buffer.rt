@@ -47,3 +47,53 @@ pub fn fill<R: Ring, L: TouchLog>(
     let len = (front.len() + back.len()) as u32;
     ring.publish(chain.id, chain.slots, len, len > 0, ram, log)
 }
+
+/// Does what `fill` does, for a caller whose back slice is empty more often than not: the code for two slices is a call of its own.
+#[inline(always)]
+pub fn fill_mostly_front<R: Ring, L: TouchLog>(
+    ring: &mut R,
+    chain: &Chain,
+    front: &[u8],
+    back: &[u8],
+    ram: &mut Ram,
+    log: &mut L,
+) -> bool
+    requires ready { MayServe L.may (length ram.old.bytes) (R.state ring.old) log.old }
+    requires bounded { IsBounded (length ram.old.bytes) (R.state ring.old) chain.now }
+    requires room { length front.now + length back.now ≤ length (places chain.now.writable) }
+    ensures bytes { ram.new.bytes ≡ set_all ram.old.bytes (filled (R.state ring.old) chain.now (front.now ++ back.now)) }
+    ensures log { log.new ≡ after_all L.after log.old (touched (filled (R.state ring.old) chain.now (front.now ++ back.now))) }
+    ensures rises { Rises (touched (filled (R.state ring.old) chain.now (front.now ++ back.now))) ram.old ram.new }
+    ensures after { HasServed L.may ram.old ram.new log.new }
+    ensures decoder { R.decoder ring.new ≡ R.decoder ring.old }
+    ensures state { R.state ring.new ≡ after_publish (after_take (R.state ring.old) chain.now.slots) chain.now.slots }
+    ensures due { result ≡ is_interrupt_due (after_take (R.state ring.old) chain.now.slots) chain.now.slots ram.new.bytes }
+{
+    if back.is_empty() {
+        return fill(ring, chain, front, &[], ram, log);
+    }
+    fill_both(ring, chain, front, back, ram, log)
+}
+
+#[inline(never)]
+fn fill_both<R: Ring, L: TouchLog>(
+    ring: &mut R,
+    chain: &Chain,
+    front: &[u8],
+    back: &[u8],
+    ram: &mut Ram,
+    log: &mut L,
+) -> bool
+    requires ready { MayServe L.may (length ram.old.bytes) (R.state ring.old) log.old }
+    requires bounded { IsBounded (length ram.old.bytes) (R.state ring.old) chain.now }
+    requires room { length front.now + length back.now ≤ length (places chain.now.writable) }
+    ensures bytes { ram.new.bytes ≡ set_all ram.old.bytes (filled (R.state ring.old) chain.now (front.now ++ back.now)) }
+    ensures log { log.new ≡ after_all L.after log.old (touched (filled (R.state ring.old) chain.now (front.now ++ back.now))) }
+    ensures rises { Rises (touched (filled (R.state ring.old) chain.now (front.now ++ back.now))) ram.old ram.new }
+    ensures after { HasServed L.may ram.old ram.new log.new }
+    ensures decoder { R.decoder ring.new ≡ R.decoder ring.old }
+    ensures state { R.state ring.new ≡ after_publish (after_take (R.state ring.old) chain.now.slots) chain.now.slots }
+    ensures due { result ≡ is_interrupt_due (after_take (R.state ring.old) chain.now.slots) chain.now.slots ram.new.bytes }
+{
+    fill(ring, chain, front, back, ram, log)
+}

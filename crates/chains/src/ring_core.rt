@@ -56,18 +56,14 @@ impl RingCore {
         requires { MayRing (state_of queue.now features base positions) }
         ensures { core_state (has_bit features RING_PACKED) result ≡ state_of queue.now features base positions }
     {
-        RingCore {
-            alloc,
-            features,
-            base,
-            size: queue.size as u16,
-            // An area of a queue that is not ready may lie anywhere.
-            descriptors: queue.descriptors.saturating_sub(base),
-            driver: queue.driver.saturating_sub(base),
-            device: queue.device.saturating_sub(base),
-            taking: positions.taking,
-            used: positions.used,
-        }
+        // An area of a queue that is not ready may lie anywhere: one below the base is taken to begin there.
+        let queue = Queue {
+            descriptors: queue.descriptors.max(base),
+            driver: queue.driver.max(base),
+            device: queue.device.max(base),
+            ..*queue
+        };
+        RingCore::of_ready(alloc, &queue, features, base, positions)
     }
 
     /// As `new`, of a queue whose areas do not begin below the base: a ready queue is such a one.

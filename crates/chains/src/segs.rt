@@ -130,13 +130,33 @@ fn push(list: &mut SmallVec<Seg, SHORT_CHAIN_MAX>, count: usize, seg: Seg) -> Re
         list.push_reserved(seg);
         return Ok(());
     }
-    push_far(list, seg)
+    push_far(list, count, seg)
 }
 
-/// Adds a segment at the end of a list that may have to grow.
+/// Does what `push` does, for a list whose inline places are filled. Memory is asked for only where there is no room left.
 #[cold]
 #[inline(never)]
-fn push_far(list: &mut SmallVec<Seg, SHORT_CHAIN_MAX>, seg: Seg) -> Result<(), NoMemory>
+fn push_far(
+    list: &mut SmallVec<Seg, SHORT_CHAIN_MAX>,
+    count: usize,
+    seg: Seg,
+) -> Result<(), NoMemory>
+    requires count { count ≡ length list.old.items }
+    ensures ok { OnOk result (list.new.items ≡ list.old.items ++ seg ∷ []) }
+    ensures err { OnErr result (list.new ≡ list.old) }
+    ensures capacity { list.old.capacity ≤ list.new.capacity }
+{
+    if count < list.capacity() {
+        list.push_reserved(seg);
+        return Ok(());
+    }
+    push_grown(list, seg)
+}
+
+/// Adds a segment at the end of a list that has to grow.
+#[cold]
+#[inline(never)]
+fn push_grown(list: &mut SmallVec<Seg, SHORT_CHAIN_MAX>, seg: Seg) -> Result<(), NoMemory>
     ensures ok { OnOk result (list.new.items ≡ list.old.items ++ seg ∷ []) }
     ensures err { OnErr result (list.new ≡ list.old) }
     ensures capacity { list.old.capacity ≤ list.new.capacity }

@@ -13,7 +13,7 @@ pub fn is_within(base: u64, len: u64, address: u64, count: u64) -> bool
     ensures value { result ≡ is_within base len address count }
     ensures facts { IsTrue result ↔ IsWithin base len address count }
 {
-    address >= base && address - base <= len && count <= len - (address - base)
+    address >= base && count <= len && address - base <= len - count
 }
 
 /// Why an access of `count` bytes at a guest-physical address is refused, in a RAM of `len` bytes that begins at the address `base`, if

@@ -38,7 +38,7 @@ pub(crate) fn walk(
     let len = ram.len();
     let mut place = core.taking.place;
     let mut descriptor = first;
-    for step in 0..size {
+    for _step in 0..size {
         match add(&descriptor, base, len, chain) {
             Walked::Listed => {}
             Walked::Missing => return Walked::Missing,

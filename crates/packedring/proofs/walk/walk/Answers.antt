@@ -30,7 +30,7 @@ returns-in-NoMemory-clause-gives c =
 pub returns-then-not-descriptor-clause-gives : goal.returns-then-not-descriptor-clause-gives
 returns-then-not-descriptor-clause-gives c =
     let i = c.loop-step.invariant in
-    let slots : c.len.result + c.len-then-not-descriptor.result ≡ c.loop-step.step + 1 = omega (arith, i.count, c.in-Listed.ensures.count, c.len.ensures, c.len-then-not-descriptor.ensures) in
+    let slots : c.len.result + c.len-then-not-descriptor.result ≡ c.loop-step._step + 1 = omega (arith, i.count, c.in-Listed.ensures.count, c.len.ensures, c.len-then-not-descriptor.ensures) in
     rw slots
     (walked_last _ (core_state true c.args.core.now) c.loop-step.chain c.add.new.chain _ _ c.loop-step.descriptor c.ended.result i.walked i.here c.loop-step-test.true i.last_plain (search rules)
     (rw c.len-len.ensures at (c.in-Listed.ensures.gives i.walked.walked (rw c.len-len.ensures i.walked.held))) c.ended.ensures)
