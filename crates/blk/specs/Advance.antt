@@ -1,10 +1,10 @@
 -- The step that advances a request, or ends it (VIRTIO 1.2, 5.2.6).
-use Rattle.std.specs.Prelude.{◌≡◌, ℕ, ◌+◌, ◌-◌, ◌*◌, ◌==◌, Bool, IsTrue, true, List, [], ◌∷◌, ◌++◌, take, drop, length, slice_set, slice_get, Option, Some, None, if◌then◌else◌}
+use Rattle.std.specs.Prelude.{◌≡◌, ℕ, ◌+◌, ◌*◌, ◌==◌, Bool, IsTrue, true, List, [], ◌∷◌, ◌++◌, length, slice_set, slice_get, Option, Some, None, if◌then◌else◌}
 use Rattle.std.specs.List.{remove}
 use Rattle.guestmem.specs.Item.{Item}
 use Rattle.guestmem.specs.Writes.{Write, set_all, touched}
 use Rattle.chains.specs.State.{RingState}
-use Rattle.chains.specs.Places.{places, place_writes}
+use Rattle.chains.specs.Places.{places, last_place, place_writes}
 use Rattle.chains.specs.Publish.{published, is_interrupt_due, after_publish}
 use Rattle.blk.specs.Sectors.{IsGiven, Sector}
 use Rattle.blk.specs.Request.{verdict_byte, is_open}
@@ -35,7 +35,7 @@ used_len r =
 
 -- The verdict is written to the last writable place, in a RAM with this base.
 abbrev pub verdict_writes : ℕ → Request → List Write
-verdict_writes base r = place_writes base (take 1 (drop (length (places r.writable) - 1) (places r.writable))) (verdict_byte r.verdict ∷ [])
+verdict_writes base r = place_writes base (last_place r.writable) (verdict_byte r.verdict ∷ [])
 
 -- The verdict is written, and then the chain is published as one that the device wrote into: it wrote the verdict at least.
 unfoldable pub end_writes : RingState → Request → List Write

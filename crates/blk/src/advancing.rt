@@ -19,7 +19,7 @@ use crate::request::{Kind, Request};
 use crate::requests::Requests;
 use crate::sectors::Sectors;
 use crate::shape::{BlockShape, ID_SIZE};
-use chains::{Ring, copy_in};
+use chains::{Ring, copy_in_last};
 use guestmem::{Ram, TouchLog};
 
 /// How advancing a request went.
@@ -115,7 +115,7 @@ fn complete<R: Ring, L: TouchLog>(
     let count = request.writable.total_len();
     let segs = request.writable.as_slice();
     let base = ring.base();
-    copy_in(ram, base, segs, count - 1, &[request.verdict.byte()], log);
+    copy_in_last(ram, base, segs, request.verdict.byte(), log);
     let len = used_len(request, count);
     let is_due = ring.publish(request.id, request.slots, len, true, ram, log);
     Advanced::Completed { len, is_due }

@@ -1,6 +1,6 @@
-use Rattle.std.proofs.Common.{◌≡◌, ℕ, ◌+◌, ◌-◌, ◌≤◌, ◌<◌, List, [], ◌++◌, length, take, drop, min, get_or, slice_index, refl, ap, sym, ◌∙◌, arith, inl, inr, length-append, length-drop, length-take-le, append-nil, append_assoc}
+use Rattle.std.proofs.Common.{◌≡◌, ℕ, ◌+◌, ◌-◌, ◌≤◌, ◌<◌, List, [], ◌∷◌, ◌++◌, length, take, drop, min, get_or, slice_index, refl, ap, sym, ◌∙◌, arith, inl, inr, length-append, length-drop, length-take-le, append-nil, append_assoc}
 use Rattle.std.proofs.lemmas.Bool.{cases_lt}
-use Rattle.std.proofs.lemmas.List.{drop_more, take-take, take-append-le, map-append}
+use Rattle.std.proofs.lemmas.List.{drop_more, take_more, take-take, take-append-le, map-append}
 use Rattle.std.specs.List.{drop-map}
 use Rattle.std.proofs.lemmas.Slice.{take-put_mid}
 use Rattle.std.proofs.Math.Seq.{drop-append_seam, drop-append-add, take-append-add}
@@ -8,8 +8,8 @@ use borrow.Rule.Slice.PartMut.{put_mid, same_len_mid}
 use Rattle.guestmem.specs.Address.{IsWithin, index_of}
 use Rattle.guestmem.specs.Writes.{byte_writes}
 use Rattle.chains.specs.declared.segs.Seg.{Seg}
-use Rattle.chains.specs.Places.{addresses, places, read_places, place_writes}
-use Rattle.chains.specs.PlaceLaws.{length_addresses, addresses_add, read_addresses, place_writes_take, no_bytes, run_writes}
+use Rattle.chains.specs.Places.{addresses, places, last_place, read_places, place_writes}
+use Rattle.chains.specs.PlaceLaws.{length_addresses, addresses_add, places_append, read_addresses, place_writes_take, no_bytes, run_writes}
 
 -- The places from a segment on are its own, and then those of the segments behind it.
 places_here : (segs : List Seg) (i : ℕ) (d : Seg) → i < length segs → places (drop i segs) ≡ addresses (get_or segs i d).addr (get_or segs i d).len ++ places (drop (i + 1) segs)
@@ -128,3 +128,31 @@ first_bytes base ram segs at d m some few inside =
     let all : min m ((get_or segs 0 d).len - at) ≡ m = omega (arith, few) in
     let none : m - m ≡ 0 = omega arith in
     rw (all, none, append-nil) at parts
+
+-- The places of the segments before one and its own are those of all up to it.
+places_up_to : (segs : List Seg) (i : ℕ) (d : Seg) → i < length segs → places (take (i + 1) segs) ≡ places (take i segs) ++ (addresses (get_or segs i d).addr (get_or segs i d).len ++ [])
+places_up_to segs i d below = ap places (take_more segs i d below) ∙ places_append (take i segs) (get_or segs i d ∷ [])
+
+-- An empty segment has no place.
+pub empty_last : (segs : List Seg) (i : ℕ) (d : Seg) → i < length segs → (get_or segs i d).len ≡ 0 → places (take i segs) ≡ places (take (i + 1) segs)
+empty_last segs i d below none = sym (places_up_to segs i d below ∙ rw none (append-nil (places (take i segs))))
+
+-- Where the segments behind one have no place, the last place is its last byte.
+pub last_is : (segs : List Seg) (i : ℕ) (d : Seg) → i < length segs → places (take (i + 1) segs) ≡ places segs → 1 ≤ (get_or segs i d).len → last_place segs ≡ ((get_or segs i d).addr + ((get_or segs i d).len - 1)) ∷ []
+last_is segs i d below same some =
+    let seg = get_or segs i d in
+    let front = places (take i segs) in
+    let own = addresses seg.addr seg.len ++ [] in
+    let all : places segs ≡ front ++ own = sym same ∙ places_up_to segs i d below in
+    let long : length (places segs) - 1 ≡ length front + (seg.len - 1) = rw (all, length-append front own, append-nil, length_addresses) (omega (arith, some)) in
+    let one : seg.len - (seg.len - 1) ≡ 1 = omega (arith, some) in
+    let rest : drop (length (places segs) - 1) (places segs) ≡ addresses (seg.addr + (seg.len - 1)) 1 ++ [] =
+    rw (long, all) (drop-append-add front own (seg.len - 1) ∙ drop_within seg.addr seg.len (seg.len - 1) [] (omega arith) ∙ rw one refl) in
+    ap (take 1) rest
+
+-- So a byte that is written there is one run of writes.
+pub last_writes : (base : ℕ) (segs : List Seg) (i : ℕ) (d : Seg) → i < length segs → places (take (i + 1) segs) ≡ places segs → 1 ≤ (get_or segs i d).len → base ≤ (get_or segs i d).addr
+    → (byte : ℕ) → place_writes base (last_place segs) (byte ∷ []) ≡ byte_writes (index_of base (get_or segs i d).addr + ((get_or segs i d).len - 1)) (byte ∷ [])
+last_writes base segs i d below same some above byte =
+    let at : index_of base ((get_or segs i d).addr + ((get_or segs i d).len - 1)) ≡ index_of base (get_or segs i d).addr + ((get_or segs i d).len - 1) = omega (arith, above) in
+    rw (last_is segs i d below same some, at) refl

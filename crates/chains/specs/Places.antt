@@ -1,4 +1,4 @@
-use Rattle.std.specs.Prelude.{ℕ, zero, suc, ◌+◌, List, [], ◌∷◌, ◌++◌, All, map, slice_index}
+use Rattle.std.specs.Prelude.{ℕ, zero, suc, ◌+◌, ◌-◌, List, [], ◌∷◌, ◌++◌, All, map, length, take, drop, slice_index}
 use Rattle.guestmem.specs.Address.{IsWithin, index_of}
 use Rattle.guestmem.specs.Writes.{Write}
 use Rattle.chains.specs.declared.segs.Seg.{Seg}
@@ -13,6 +13,10 @@ addresses address (suc count) = address ∷ addresses (address + 1) count
 abbrev pub places : List Seg → List ℕ
 places [] = []
 places (seg ∷ segs) = addresses seg.addr seg.len ++ places segs
+
+-- The last place of segments, as a list, which is empty where they have none.
+abbrev pub last_place : List Seg → List ℕ
+last_place segs = take 1 (drop (length (places segs) - 1) (places segs))
 
 -- What reading these places returns, in a RAM with this base: the byte at each, in order.
 abbrev pub read_places : ℕ → List ℕ → List ℕ → List ℕ

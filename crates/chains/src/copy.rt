@@ -1,11 +1,11 @@
 //! The bytes of segments.
 
-ghost use Rattle.std.specs.Prelude.{◌≡◌, ◌+◌, ◌*◌, ◌<◌, ◌≤◌, ◌^◌, IsTrue, length, take, drop, slice_index_or};
+ghost use Rattle.std.specs.Prelude.{ℕ, ◌≡◌, ◌∷◌, [], ◌+◌, ◌*◌, ◌<◌, ◌≤◌, ◌^◌, IsTrue, length, take, drop, slice_index_or};
 ghost use Rattle.guestmem.specs.Item.{after_all, MayPages};
 ghost use Rattle.guestmem.specs.Rises.{Rises};
-ghost use Rattle.guestmem.specs.Writes.{set_all, touched};
+ghost use Rattle.guestmem.specs.Writes.{byte_writes, set_all, touched};
 ghost use Rattle.chains.specs.Frame.{HasServed};
-ghost use Rattle.chains.specs.Places.{places, read_places, place_writes, AreSegmentsInside};
+ghost use Rattle.chains.specs.Places.{places, last_place, read_places, place_writes, AreSegmentsInside};
 ghost use Rattle.chains.specs.declared.segs.Seg.{Seg};
 
 use crate::segs::Seg;
@@ -90,6 +90,41 @@ pub fn copy_in<L: TouchLog>(
         rest = back;
         skip = 0;
     }
+}
+
+/// Writes a byte to the last place of the segments, as `copy_in` does. Its page is reported to the log. The segments lie inside RAM,
+/// which has this base, and have a byte. It looks at no segment but the last, and at empty ones behind the byte. It takes no memory.
+#[inline(always)]
+pub fn copy_in_last<L: TouchLog>(ram: &mut Ram, base: u64, segs: &[Seg], byte: u8, log: &mut L)
+    requires inside { AreSegmentsInside base (length ram.old.bytes) segs.now }
+    requires some { 1 ≤ length (places segs.now) }
+    requires may { MayPages L.may log.old (length ram.old.bytes) }
+    ensures bytes { ram.new.bytes ≡ set_all ram.old.bytes (place_writes base (last_place segs.now) (byte ∷ [])) }
+    ensures log { log.new ≡ after_all L.after log.old (touched (place_writes base (last_place segs.now) (byte ∷ []))) }
+    ensures rises { Rises (touched (place_writes base (last_place segs.now) (byte ∷ []))) ram.old ram.new }
+    ensures after { HasServed L.may ram.old ram.new log.new }
+{
+    ram.put_in_page(last_byte(ram, base, segs), &[byte], log);
+}
+
+/// Where in RAM the last byte of segments that have one is.
+#[inline(always)]
+fn last_byte(ram: &Ram, base: u64, segs: &[Seg]) -> u64
+    requires inside { AreSegmentsInside base (length ram.now.bytes) segs.now }
+    requires some { 1 ≤ length (places segs.now) }
+    ensures inside { result < length ram.now.bytes }
+    ensures last { (byte : ℕ) → place_writes base (last_place segs.now) (byte ∷ []) ≡ byte_writes result (byte ∷ []) }
+{
+    ram.recall();
+    let mut left = segs.len();
+    while left > 0 {
+        left -= 1;
+        let seg = segs[left];
+        if seg.len > 0 {
+            return seg.addr - base + (seg.len as u64 - 1);
+        }
+    }
+    0
 }
 
 /// Whether `count` bytes from offset `at` on lie in the first segment.

@@ -28,8 +28,9 @@
 //!   queue are indexes in RAM (`specs/State`).
 //!
 //! And on these functions:
-//! - `copy_out` and `copy_in` read and write the bytes of the concatenated segments in a RAM with a base, from an offset on; where segments overlap the
-//!   later byte wins; the log takes in exactly the pages written, and the versions of exactly these rise.
+//! - `copy_out` and `copy_in` read and write the bytes of the concatenated segments in a RAM with a base, from an offset on; where
+//!   segments overlap the later byte wins; the log takes in exactly the pages written, and the versions of exactly these rise.
+//!   `copy_in_last` writes a byte to the last place of segments, with a look at the last of them alone.
 //! - `fill(ring, chain, front, back, ram, log)` gives bytes to a chain: they go to its first writable bytes, and the chain is
 //!   published with their count. `fill_mostly_front` does the same, for a caller whose `back` is empty more often than not.
 //! - `look(ring, wanted, chain, ram, log)` is the look of every device: it finds the ring empty, which is noted, or malformed, or
@@ -89,7 +90,7 @@ mod walked;
 
 pub use adding::{add, ended};
 pub use chain::Chain;
-pub use copy::{copy_in, copy_out};
+pub use copy::{copy_in, copy_in_last, copy_out};
 pub use decoder::{Decoder, Kept, PLACES};
 pub use descriptor::{DESCRIPTOR_SIZE, Descriptor, is_table};
 pub use limits::SHORT_CHAIN_MAX;

@@ -1,14 +1,11 @@
 //! Chains into which a device writes.
 
-ghost use Rattle.std.specs.Prelude.{◌≡◌, ◌≤◌, ◌<◌, ◌+◌, ◌^◌, ◌++◌, length};
-ghost use Rattle.guestmem.specs.Item.{after_all};
-ghost use Rattle.guestmem.specs.Rises.{Rises};
-ghost use Rattle.guestmem.specs.Writes.{set_all, touched};
+ghost use Rattle.std.specs.Prelude.{◌≡◌, ◌≤◌, ◌+◌, ◌++◌, length};
+ghost use Rattle.guestmem.specs.Rises.{Touches};
 ghost use Rattle.chains.specs.Frame.{MayServe, HasServed};
 ghost use Rattle.chains.specs.Places.{places};
-ghost use Rattle.chains.specs.Publish.{is_interrupt_due, after_take, after_publish};
 ghost use Rattle.chains.specs.Ring.{IsBounded};
-ghost use Rattle.chains.specs.ReceiveBuffer.{filled};
+ghost use Rattle.chains.specs.ReceiveBuffer.{IsFilled};
 
 use crate::chain::Chain;
 use crate::copy::copy_in;
@@ -29,13 +26,9 @@ pub fn fill<R: Ring, L: TouchLog>(
     requires ready { MayServe L.may (length ram.old.bytes) (R.state ring.old) log.old }
     requires bounded { IsBounded (length ram.old.bytes) (R.state ring.old) chain.now }
     requires room { length front.now + length back.now ≤ length (places chain.now.writable) }
-    ensures bytes { ram.new.bytes ≡ set_all ram.old.bytes (filled (R.state ring.old) chain.now (front.now ++ back.now)) }
-    ensures log { log.new ≡ after_all L.after log.old (touched (filled (R.state ring.old) chain.now (front.now ++ back.now))) }
-    ensures rises { Rises (touched (filled (R.state ring.old) chain.now (front.now ++ back.now))) ram.old ram.new }
+    ensures filled { IsFilled (Touches L.after log.old log.new ram.old ram.new) ram.old.bytes (R.state ring.old) chain.now (front.now ++ back.now) result ram.new.bytes (R.state ring.new) }
     ensures after { HasServed L.may ram.old ram.new log.new }
     ensures decoder { R.decoder ring.new ≡ R.decoder ring.old }
-    ensures state { R.state ring.new ≡ after_publish (after_take (R.state ring.old) chain.now.slots) chain.now.slots }
-    ensures due { result ≡ is_interrupt_due (after_take (R.state ring.old) chain.now.slots) chain.now.slots ram.new.bytes }
 {
     let base = ring.base();
     let segs = chain.writable.as_slice();
@@ -61,22 +54,19 @@ pub fn fill_mostly_front<R: Ring, L: TouchLog>(
     requires ready { MayServe L.may (length ram.old.bytes) (R.state ring.old) log.old }
     requires bounded { IsBounded (length ram.old.bytes) (R.state ring.old) chain.now }
     requires room { length front.now + length back.now ≤ length (places chain.now.writable) }
-    ensures bytes { ram.new.bytes ≡ set_all ram.old.bytes (filled (R.state ring.old) chain.now (front.now ++ back.now)) }
-    ensures log { log.new ≡ after_all L.after log.old (touched (filled (R.state ring.old) chain.now (front.now ++ back.now))) }
-    ensures rises { Rises (touched (filled (R.state ring.old) chain.now (front.now ++ back.now))) ram.old ram.new }
+    ensures filled { IsFilled (Touches L.after log.old log.new ram.old ram.new) ram.old.bytes (R.state ring.old) chain.now (front.now ++ back.now) result ram.new.bytes (R.state ring.new) }
     ensures after { HasServed L.may ram.old ram.new log.new }
     ensures decoder { R.decoder ring.new ≡ R.decoder ring.old }
-    ensures state { R.state ring.new ≡ after_publish (after_take (R.state ring.old) chain.now.slots) chain.now.slots }
-    ensures due { result ≡ is_interrupt_due (after_take (R.state ring.old) chain.now.slots) chain.now.slots ram.new.bytes }
 {
     if back.is_empty() {
         return fill(ring, chain, front, &[], ram, log);
     }
-    fill_both(ring, chain, front, back, ram, log)
+    fill_apart(ring, chain, front, back, ram, log)
 }
 
+/// Does what `fill` does, as a call of its own.
 #[inline(never)]
-fn fill_both<R: Ring, L: TouchLog>(
+fn fill_apart<R: Ring, L: TouchLog>(
     ring: &mut R,
     chain: &Chain,
     front: &[u8],
@@ -87,13 +77,9 @@ fn fill_both<R: Ring, L: TouchLog>(
     requires ready { MayServe L.may (length ram.old.bytes) (R.state ring.old) log.old }
     requires bounded { IsBounded (length ram.old.bytes) (R.state ring.old) chain.now }
     requires room { length front.now + length back.now ≤ length (places chain.now.writable) }
-    ensures bytes { ram.new.bytes ≡ set_all ram.old.bytes (filled (R.state ring.old) chain.now (front.now ++ back.now)) }
-    ensures log { log.new ≡ after_all L.after log.old (touched (filled (R.state ring.old) chain.now (front.now ++ back.now))) }
-    ensures rises { Rises (touched (filled (R.state ring.old) chain.now (front.now ++ back.now))) ram.old ram.new }
+    ensures filled { IsFilled (Touches L.after log.old log.new ram.old ram.new) ram.old.bytes (R.state ring.old) chain.now (front.now ++ back.now) result ram.new.bytes (R.state ring.new) }
     ensures after { HasServed L.may ram.old ram.new log.new }
     ensures decoder { R.decoder ring.new ≡ R.decoder ring.old }
-    ensures state { R.state ring.new ≡ after_publish (after_take (R.state ring.old) chain.now.slots) chain.now.slots }
-    ensures due { result ≡ is_interrupt_due (after_take (R.state ring.old) chain.now.slots) chain.now.slots ram.new.bytes }
 {
     fill(ring, chain, front, back, ram, log)
 }

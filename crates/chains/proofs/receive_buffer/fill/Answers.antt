@@ -18,8 +18,8 @@ second g c =
           rw (w.ram-is, w.log-is) (none_made g.L.TouchLog.after (g.R.Ring.state c.args.ring.now).base (drop (length c.args.front.now) (places c.args.chain.now.writable)) c.args.back.now c.copy_in.new.ram c.copy_in.new.log none))
     ]
 
-pub returns-clause-bytes : goal.returns-clause-bytes
-returns-clause-bytes g c =
+pub returns-clause-filled : goal.returns-clause-filled
+returns-clause-filled g c =
     let at = places c.args.chain.now.writable in
     let front = c.args.front.now in
     let back = c.args.back.now in
@@ -27,27 +27,13 @@ returns-clause-bytes g c =
     let last = published (after_take (g.R.Ring.state c.args.ring.now) c.args.chain.now.slots) c.args.chain.now.id c.args.chain.now.slots len (nat_lt 0 len) in
     let us = place_writes (g.R.Ring.state c.args.ring.now).base (take (length front) (drop 0 at)) front in
     let vs = place_writes (g.R.Ring.state c.args.ring.now).base (take (length back) (drop (length front) at)) back in
-    rw (length-append front back, parts_then (g.R.Ring.state c.args.ring.now).base at front back last (omega arith), ← set_three c.args.ram.now.bytes us vs last) (search (rules, (second g c).bytes))
-
-pub returns-clause-log : goal.returns-clause-log
-returns-clause-log g c =
-    let at = places c.args.chain.now.writable in
-    let front = c.args.front.now in
-    let back = c.args.back.now in
-    let len = length front + length back in
-    let last = published (after_take (g.R.Ring.state c.args.ring.now) c.args.chain.now.slots) c.args.chain.now.id c.args.chain.now.slots len (nat_lt 0 len) in
-    let us = place_writes (g.R.Ring.state c.args.ring.now).base (take (length front) (drop 0 at)) front in
-    let vs = place_writes (g.R.Ring.state c.args.ring.now).base (take (length back) (drop (length front) at)) back in
-    rw (length-append front back, parts_then (g.R.Ring.state c.args.ring.now).base at front back last (omega arith), ← told_three g.L.TouchLog.after c.args.log.now us vs last) (search (rules, (second g c).told))
-
-pub returns-clause-rises : goal.returns-clause-rises
-returns-clause-rises g c =
-    let at = places c.args.chain.now.writable in
-    let front = c.args.front.now in
-    let back = c.args.back.now in
-    let len = length front + length back in
-    let last = published (after_take (g.R.Ring.state c.args.ring.now) c.args.chain.now.slots) c.args.chain.now.id c.args.chain.now.slots len (nat_lt 0 len) in
-    let us = place_writes (g.R.Ring.state c.args.ring.now).base (take (length front) (drop 0 at)) front in
-    let vs = place_writes (g.R.Ring.state c.args.ring.now).base (take (length back) (drop (length front) at)) back in
-    rw (length-append front back, parts_then (g.R.Ring.state c.args.ring.now).base at front back last (omega arith))
-    (rises_three us vs last c.args.ram.now c.copy_in.new.ram c.if-not-is_empty.ram c.publish.new.ram (rw (c.as_slice-segs.ensures, c.base-base.ensures) at c.copy_in.ensures.rises) (second g c).rises (search rules))
+    let parts = parts_then (g.R.Ring.state c.args.ring.now).base at front back last (omega arith) in
+    record {
+      due_is = search rules;
+      ram_is = rw (length-append front back, parts, ← set_three c.args.ram.now.bytes us vs last) (search (rules, (second g c).bytes));
+      ring_is = search rules;
+      items_are = record {
+        log_is = rw (length-append front back, parts, ← told_three g.L.TouchLog.after c.args.log.now us vs last) (search (rules, (second g c).told));
+        rises = rw (length-append front back, parts) (rises_three us vs last c.args.ram.now c.copy_in.new.ram c.if-not-is_empty.ram c.publish.new.ram (rw (c.as_slice-segs.ensures, c.base-base.ensures) at c.copy_in.ensures.rises) (second g c).rises (search rules));
+      };
+    }
