@@ -6,7 +6,6 @@ use Rattle.guestmem.specs.Writes.{Write, set_all, touched}
 use Rattle.guestmem.specs.WriteLaws.{set_all-append}
 use Rattle.guestmem.specs.Memory.{Memory}
 use Rattle.guestmem.specs.Rises.{Rises}
-use Rattle.guestmem.specs.RisesLaws.{rises_none}
 use Rattle.chains.specs.EffectLaws.{after_touched, rises_touched}
 use Rattle.chains.specs.PlaceLaws.{place_writes_take}
 use Rattle.chains.specs.Places.{place_writes}
@@ -36,14 +35,3 @@ told_three after log us vs ws = rw (after_touched after log (us ++ vs) ws, after
 -- Versions that rise in exactly the pages of three lists of writes in turn.
 pub rises_three : (us vs ws : List Write) (first second third last : Memory) → Rises (touched us) first second → Rises (touched vs) second third → Rises (touched ws) third last → Rises (touched ((us ++ vs) ++ ws)) first last
 rises_three us vs ws first second third last h k l = rises_touched (us ++ vs) ws first third last (rises_touched us vs first second third h k) l
-
--- These writes were made, and told to the log.
-pub record AreMade {L : Type 0} (after : L → Item → L) (ws : List Write) (old new : Memory) (log new_log : L) : Type 0 where
-  pub bytes : new.bytes ≡ set_all old.bytes ws
-  pub told : new_log ≡ after_all after log (touched ws)
-  pub rises : Rises (touched ws) old new
-
--- Where there are no bytes, none is made.
-pub none_made : {L : Type 0} (after : L → Item → L) (base : ℕ) (at bytes : List ℕ) (m : Memory) (log : L) → length bytes ≡ 0 → AreMade after (place_writes base (take (length bytes) at) bytes) m m log log
-none_made after base at [] m log none = record { bytes = refl; told = refl; rises = rises_none m m refl }
-none_made after base at (b ∷ bytes) m log none = absurd (omega (arith, none))

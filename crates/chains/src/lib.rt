@@ -31,8 +31,8 @@
 //! - `copy_out` and `copy_in` read and write the bytes of the concatenated segments in a RAM with a base, from an offset on; where
 //!   segments overlap the later byte wins; the log takes in exactly the pages written, and the versions of exactly these rise.
 //!   `copy_in_last` writes a byte to the last place of segments, with a look at the last of them alone.
-//! - `fill(ring, chain, front, back, ram, log)` gives bytes to a chain: they go to its first writable bytes, and the chain is
-//!   published with their count. `fill_mostly_front` does the same, for a caller whose `back` is empty more often than not.
+//! - `fill(ring, chain, bytes, ram, log)` gives bytes to a chain: they go to its first writable bytes, and the chain is published
+//!   with their count. `fill_in_parts` does the same with the bytes of two slices, one after the other.
 //! - `look(ring, wanted, chain, ram, log)` is the look of every device: it finds the ring empty, which is noted, or malformed, or
 //!   fills in a chain that the device can use, by what it has `Wanted`. A chain that it cannot use is malformed for it.
 //! - `transmit(alloc, ring, form, ram, log)` is `transmit_step` over any `Ring`: it reads the message of the next chain, which a
@@ -98,7 +98,7 @@ pub use looking::{Wanted, look};
 pub use next::Next;
 pub use next_kind::NextKind;
 pub use position::{Position, Positions};
-pub use receive_buffer::{fill, fill_mostly_front};
+pub use receive_buffer::{fill, fill_in_parts};
 pub use ring::Ring;
 pub use ring_core::RingCore;
 pub use segs::{Seg, Segs};

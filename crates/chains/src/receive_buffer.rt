@@ -12,10 +12,56 @@ use crate::copy::copy_in;
 use crate::ring::Ring;
 use guestmem::{Ram, TouchLog};
 
-/// Gives bytes to the chain that `Ring::next` found: two slices, one after the other, go to its first writable bytes.
-/// The chain is taken, and published with the count of these bytes. The result is whether an interrupt is due.
+/// Gives bytes to the chain that `Ring::next` found: they go to its first writable bytes. The chain is taken, and published
+/// with their count. The result is whether an interrupt is due.
 #[inline(always)]
 pub fn fill<R: Ring, L: TouchLog>(
+    ring: &mut R,
+    chain: &Chain,
+    bytes: &[u8],
+    ram: &mut Ram,
+    log: &mut L,
+) -> bool
+    requires ready { MayServe L.may (length ram.old.bytes) (R.state ring.old) log.old }
+    requires bounded { IsBounded (length ram.old.bytes) (R.state ring.old) chain.now }
+    requires room { length bytes.now ≤ length (places chain.now.writable) }
+    ensures filled { IsFilled (Touches L.after log.old log.new ram.old ram.new) ram.old.bytes (R.state ring.old) chain.now bytes.now result ram.new.bytes (R.state ring.new) }
+    ensures after { HasServed L.may ram.old ram.new log.new }
+    ensures decoder { R.decoder ring.new ≡ R.decoder ring.old }
+{
+    copy_in(ram, ring.base(), chain.writable.as_slice(), 0, bytes, log);
+    ring.take(chain);
+    let count = bytes.len() as u32;
+    ring.publish(chain.id, chain.slots, count, count > 0, ram, log)
+}
+
+/// Gives the bytes of two slices, one after the other, as `fill` gives those of one. The back slice is empty more often than
+/// not, so the code for two is a call of its own.
+#[inline(always)]
+pub fn fill_in_parts<R: Ring, L: TouchLog>(
+    ring: &mut R,
+    chain: &Chain,
+    front: &[u8],
+    back: &[u8],
+    ram: &mut Ram,
+    log: &mut L,
+) -> bool
+    requires ready { MayServe L.may (length ram.old.bytes) (R.state ring.old) log.old }
+    requires bounded { IsBounded (length ram.old.bytes) (R.state ring.old) chain.now }
+    requires room { length front.now + length back.now ≤ length (places chain.now.writable) }
+    ensures filled { IsFilled (Touches L.after log.old log.new ram.old ram.new) ram.old.bytes (R.state ring.old) chain.now (front.now ++ back.now) result ram.new.bytes (R.state ring.new) }
+    ensures after { HasServed L.may ram.old ram.new log.new }
+    ensures decoder { R.decoder ring.new ≡ R.decoder ring.old }
+{
+    if back.is_empty() {
+        return fill(ring, chain, front, ram, log);
+    }
+    fill_both(ring, chain, front, back, ram, log)
+}
+
+/// Does what `fill_in_parts` does, with a copy for each slice.
+#[inline(never)]
+fn fill_both<R: Ring, L: TouchLog>(
     ring: &mut R,
     chain: &Chain,
     front: &[u8],
@@ -33,53 +79,8 @@ pub fn fill<R: Ring, L: TouchLog>(
     let base = ring.base();
     let segs = chain.writable.as_slice();
     copy_in(ram, base, segs, 0, front, log);
-    if !back.is_empty() {
-        copy_in(ram, base, segs, front.len() as u64, back, log);
-    }
+    copy_in(ram, base, segs, front.len() as u64, back, log);
     ring.take(chain);
     let len = (front.len() + back.len()) as u32;
     ring.publish(chain.id, chain.slots, len, len > 0, ram, log)
-}
-
-/// Does what `fill` does, for a caller whose back slice is empty more often than not: the code for two slices is a call of its own.
-#[inline(always)]
-pub fn fill_mostly_front<R: Ring, L: TouchLog>(
-    ring: &mut R,
-    chain: &Chain,
-    front: &[u8],
-    back: &[u8],
-    ram: &mut Ram,
-    log: &mut L,
-) -> bool
-    requires ready { MayServe L.may (length ram.old.bytes) (R.state ring.old) log.old }
-    requires bounded { IsBounded (length ram.old.bytes) (R.state ring.old) chain.now }
-    requires room { length front.now + length back.now ≤ length (places chain.now.writable) }
-    ensures filled { IsFilled (Touches L.after log.old log.new ram.old ram.new) ram.old.bytes (R.state ring.old) chain.now (front.now ++ back.now) result ram.new.bytes (R.state ring.new) }
-    ensures after { HasServed L.may ram.old ram.new log.new }
-    ensures decoder { R.decoder ring.new ≡ R.decoder ring.old }
-{
-    if back.is_empty() {
-        return fill(ring, chain, front, &[], ram, log);
-    }
-    fill_apart(ring, chain, front, back, ram, log)
-}
-
-/// Does what `fill` does, as a call of its own.
-#[inline(never)]
-fn fill_apart<R: Ring, L: TouchLog>(
-    ring: &mut R,
-    chain: &Chain,
-    front: &[u8],
-    back: &[u8],
-    ram: &mut Ram,
-    log: &mut L,
-) -> bool
-    requires ready { MayServe L.may (length ram.old.bytes) (R.state ring.old) log.old }
-    requires bounded { IsBounded (length ram.old.bytes) (R.state ring.old) chain.now }
-    requires room { length front.now + length back.now ≤ length (places chain.now.writable) }
-    ensures filled { IsFilled (Touches L.after log.old log.new ram.old ram.new) ram.old.bytes (R.state ring.old) chain.now (front.now ++ back.now) result ram.new.bytes (R.state ring.new) }
-    ensures after { HasServed L.may ram.old ram.new log.new }
-    ensures decoder { R.decoder ring.new ≡ R.decoder ring.old }
-{
-    fill(ring, chain, front, back, ram, log)
 }

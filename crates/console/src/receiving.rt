@@ -8,7 +8,7 @@ ghost use Rattle.chains.specs.LongQueue.{IsLongQueue};
 ghost use Rattle.console.specs.Receive.{give, IsAfter, IsReceived};
 
 use crate::host_bytes::HostBytes;
-use chains::{Chain, NextKind, Ring, Wanted, fill_mostly_front, look};
+use chains::{Chain, NextKind, Ring, Wanted, fill_in_parts, look};
 use guestmem::{NoMemory, Ram, TouchLog};
 use std::alloc::Global;
 
@@ -79,7 +79,7 @@ fn give<R: Ring, L: TouchLog>(
     let (front, back) = held.as_slices();
     let first = front.len().min(count);
     let (front, back) = (&front[..first], &back[..count - first]);
-    let is_due = fill_mostly_front(ring, chain, front, back, ram, log);
+    let is_due = fill_in_parts(ring, chain, front, back, ram, log);
     held.take_out(count);
     let len = count as u32;
     Received::Completed { len, is_due }

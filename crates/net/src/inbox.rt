@@ -27,7 +27,8 @@ impl Model for Inbox {
 }
 
 impl Inbox {
-    ghost use Rattle.std.specs.Prelude.{◌≡◌, ◌≤◌, ◌<◌, ◌==◌, nat_lt, not, [], length, drop, All, IfOk, slice_get, Some};
+    ghost use Rattle.std.specs.Prelude.{◌≡◌, ◌≤◌, ◌<◌, ◌==◌, nat_lt, not, ℕ, List, [], ◌++◌, length, drop, All, IfOk, slice_get, Some};
+    ghost use Rattle.net.specs.Header.{header};
     ghost use Rattle.net.specs.Inbox.{IsFrame, kept_of, frames_with};
 
     /// No frames. Its only error is out of memory.
@@ -91,6 +92,17 @@ impl Inbox {
     {
         match self.frames.get(number) {
             Some(frame) => frame.as_slice(),
+            None => &[],
+        }
+    }
+
+    /// The header that the guest gets before a frame, and the oldest frame.
+    pub(crate) fn first_with_header(&self) -> &[u8]
+        requires { 0 < length self.now }
+        ensures { (frame : List ℕ) → slice_get self.now 0 ≡ Some frame → result.now ≡ header ++ frame }
+    {
+        match self.frames.get(0) {
+            Some(frame) => frame.with_header(),
             None => &[],
         }
     }

@@ -8,7 +8,6 @@ ghost use Rattle.chains.specs.Ring.{IsBounded};
 ghost use Rattle.chains.specs.LongQueue.{IsLongQueue};
 ghost use Rattle.net.specs.Receive.{give_first, IsAfter, IsReceived};
 
-use crate::header::{HEADER, HEADER_SIZE};
 use crate::inbox::Inbox;
 use chains::{Chain, NextKind, Ring, Wanted, fill, look};
 use guestmem::{NoMemory, Ram, TouchLog};
@@ -83,13 +82,13 @@ fn give_first<R: Ring, L: TouchLog>(
     ensures after { HasServed L.may ram.old ram.new log.new }
     ensures decoder { R.decoder ring.new ≡ R.decoder ring.old }
 {
-    let frame = inbox.frame(0);
-    let len = HEADER_SIZE + frame.len();
+    let frame = inbox.first_with_header();
+    let len = frame.len();
     if chain.writable.total_len() < len as u64 {
         inbox.remove_first();
         return Received::Dropped;
     }
-    let is_due = fill(ring, chain, &HEADER, frame, ram, log);
+    let is_due = fill(ring, chain, frame, ram, log);
     inbox.remove_first();
     Received::Completed {
         len: len as u32,
