@@ -1,3 +1,4 @@
 pub mod Spelled
 pub mod Leading
 pub mod Found
+pub mod Masks

@@ -18,6 +18,7 @@
 #![tactic(auto)]
 
 mod ring;
+mod slot;
 mod stop;
 mod table;
 mod walk;

@@ -9,6 +9,7 @@ ghost use Rattle.chains.specs.SplitChain.{available_index};
 ghost use Rattle.chains.specs.Publish.{is_split_due};
 ghost use Rattle.byteorder.specs.Endian.{little_bytes};
 
+use crate::slot::slot_of;
 use crate::table::find;
 use byteorder::{ByteOrder, LittleEndian};
 use chains::{Chain, Decoder, Next, NextKind, Positions, Ring, RingCore, Walked};
@@ -118,7 +119,7 @@ impl SplitRing {
         if available.wrapping_sub(core.taking.place) > core.size {
             return Walked::Missing;
         }
-        let slot = core.taking.place % core.size;
+        let slot = slot_of(core.taking.place, core.size);
         let head = ram.u16_at(core.driver + RING + HEAD_SIZE * slot as u64);
         match find(core, &mut self.decoder, ram, head, chain) {
             Walked::Listed => {}
@@ -188,7 +189,7 @@ impl Ring for SplitRing {
         log: &mut L,
     ) -> bool {
         ram.recall();
-        let slot = self.core.used.place % self.core.size;
+        let slot = slot_of(self.core.used.place, self.core.size);
         let element = self.core.device + RING + ELEMENT_SIZE * slot as u64;
         ram.put(element, &element_bytes(id, len), log);
         let next = self.core.used.place.wrapping_add(1);
