@@ -2,6 +2,7 @@ pub mod Disk
 pub mod FaultDisk
 pub mod FileDisk
 pub mod Flush
+pub mod Durable
 pub mod Sectors
 pub mod Request
 pub mod Shape

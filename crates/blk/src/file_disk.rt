@@ -1,6 +1,6 @@
 //! A disk in a file.
 
-ghost use Rattle.std.specs.Prelude.{◌≡◌, ◌<◌, ◌*◌, ◌^◌, IfOk, is_ok};
+ghost use Rattle.std.specs.Prelude.{◌≡◌, ◌<◌, ◌*◌, ◌^◌, ◌||◌, IfOk, false, is_ok, not, true};
 ghost use Rattle.guestmem.specs.Failures.{counted};
 
 use crate::disk::{Disk, DiskFault, SECTOR_SIZE};
@@ -12,7 +12,7 @@ use std::rt::Files;
 /// A disk in a file: sector n is its bytes from `512 * n` on. It keeps no copy of them.
 ///
 /// What a file holds between two calls is not known to a proof, so it is said to be neither honest nor steady. A call of
-/// the file that fails is a failure of the disk.
+/// the file that fails is a failure of the disk. A flush that failed is for good: each later one fails too, and does not call the file.
 #[derive(Drop)]
 pub struct FileDisk<F: Drop> {
     file: F,
@@ -22,8 +22,34 @@ pub struct FileDisk<F: Drop> {
     /// Whether the file was synchronized after its last write.
     is_flushed: bool,
 
+    syncing: Syncing,
+
     /// The sector at which the file's position is, where that is known. A call that begins there needs no seek.
     next: Option<u64>,
+}
+
+/// Whether a file may still be brought to its storage.
+///
+/// The system tells of data that did not reach the storage once: the call that follows may succeed, and the data is lost all the same. So
+/// once a call failed, none that follows is believed.
+#[derive(Drop)]
+struct Syncing {
+    is_lost: bool,
+}
+
+impl Syncing {
+    /// Brings what was written to the storage, unless that failed once.
+    fn bring<F: OpenFile>(&mut self, file: &F) -> io::Result<()>
+        ensures lasts { self.old.is_lost ≡ true → is_ok result ≡ false }
+        ensures kept { self.new.is_lost ≡ (self.old.is_lost || not (is_ok result)) }
+    {
+        if self.is_lost {
+            return Err(io::Error::from(ErrorKind::Other));
+        }
+        let outcome = file.sync_data();
+        self.is_lost = outcome.is_err();
+        outcome
+    }
 }
 
 impl<F: Drop> Model for FileDisk<F> {
@@ -54,6 +80,7 @@ impl<F: Read + Write + Seek + OpenFile + Drop> FileDisk<F> {
             count: len / SECTOR_SIZE as u64,
             failures: 0,
             is_flushed: false,
+            syncing: Syncing { is_lost: false },
             next: None,
         })
     }
@@ -141,7 +168,7 @@ impl<F: Read + Write + Seek + OpenFile + Drop> Disk for FileDisk<F> {
     }
 
     fn flush(&mut self) -> Result<(), DiskFault> {
-        let outcome = self.file.sync_data();
+        let outcome = self.syncing.bring(&self.file);
         self.is_flushed = outcome.is_ok();
         self.told(outcome)
     }

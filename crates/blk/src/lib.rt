@@ -24,6 +24,9 @@
 //!   sound and sectors whole, whatever the disk does.
 //! - `Requests::fail_flush(k)` makes an outstanding flush as one whose disk failed, and calls no disk (`specs/Flush`): for a host that
 //!   could not bring the bytes of the disk to the file that holds them.
+//! - `Requests::must_sync(k, features)` says whether what was written has to be durable before the next step of a request: that step
+//!   makes a flush, or it ends a write of a driver that did not accept the feature FLUSH (`specs/Durable`). `advance` flushes the disk
+//!   for the first, and never for the second, which is the host's part.
 //! - `Requests::are_sound` tests what every outstanding request keeps in a RAM with this base, for requests that come from elsewhere.
 //! - `Sectors::next_bad` names the least bad sector from one on, and `Sectors::read_good` reads one that is not bad, with no look
 //!   at the marks.
@@ -36,6 +39,7 @@
 
 mod advancing;
 mod disk;
+mod durable;
 mod fault_disk;
 mod file_disk;
 mod flushing;
@@ -51,6 +55,7 @@ mod task;
 
 pub use advancing::Advanced;
 pub use disk::{Disk, DiskFault, SECTOR_SIZE};
+pub use durable::SyncOwed;
 pub use fault_disk::FaultDisk;
 pub use file_disk::FileDisk;
 pub use mem_disk::MemDisk;

@@ -1,0 +1,66 @@
+//! When what a driver wrote has to be durable (VIRTIO 1.2, 5.2.6.2).
+
+ghost use Rattle.std.specs.Prelude.{◌≡◌, slice_get};
+ghost use Rattle.blk.specs.Durable.{ends_write, is_write, owed_at, owed_by, owed_if};
+
+use crate::request::{Kind, Request, Verdict};
+use crate::requests::Requests;
+use crate::shape::FLUSH;
+
+/// Whether what was written to a disk has to be durable before a step, and why.
+#[derive(Clone, Copy, Debug, PartialEq, Eq)]
+pub enum SyncOwed {
+    /// It need not be.
+    Nothing,
+
+    /// The step flushes the disk, since the driver asked for it. It flushes by itself: `Requests::advance` calls the disk.
+    Flush,
+
+    /// The step ends a write, or a clearing, of a driver that did not accept the feature FLUSH. Such a driver takes it for durable from
+    /// then on. No step flushes the disk for it: that is the host's part, before this step.
+    EndOfWrite,
+}
+
+impl Requests {
+    /// Whether what was written to the disk has to be durable before the next step of the k-th outstanding request, from 0, whose driver
+    /// accepted these features.
+    pub fn must_sync(&self, k: usize, features: u64) -> SyncOwed
+        ensures { result ≡ owed_at features self.now k }
+    {
+        if k >= self.list.len() {
+            return SyncOwed::Nothing;
+        }
+        owed_by(&self.list[k], features)
+    }
+}
+
+fn owed_by(request: &Request, features: u64) -> SyncOwed
+    ensures { result ≡ owed_by features request.now }
+{
+    if request.flushes() {
+        return SyncOwed::Flush;
+    }
+    if ends_write(request, features) {
+        return SyncOwed::EndOfWrite;
+    }
+    SyncOwed::Nothing
+}
+
+/// Whether the next step of the request ends a write of a driver that did not accept FLUSH.
+fn ends_write(request: &Request, features: u64) -> bool
+    ensures { result ≡ ends_write features request.now }
+{
+    let Verdict::Good = request.verdict else {
+        return false;
+    };
+    request.done == request.units && is_write(request.kind) && features & FLUSH != FLUSH
+}
+
+fn is_write(kind: Kind) -> bool
+    ensures { result ≡ is_write kind }
+{
+    match kind {
+        Kind::Out | Kind::Zero => true,
+        Kind::In | Kind::Flush | Kind::GetId | Kind::Refused => false,
+    }
+}
