@@ -31,15 +31,27 @@ static void send_two(vmig_machine *m, uint32_t count)
 /* The interrupt lines as the guest has them. */
 static uint16_t lines;
 
-/* What a host does after each kick and each input. The bound is for a guest that gives its devices work without end. */
+/* Brings the disk of a device to its file, by msync where it is mapped: 0 where that goes well. This host has no disk. */
+static int bring(uint8_t dev)
+{
+    (void)dev;
+    return 0;
+}
+
+/* What a host does after each kick and each input, in turn from where it was. A step that is not made keeps no other waiting: those after
+ * it are made, and the turn ends where it alone is left. The bound is for a guest that gives its devices work without end. */
 static void do_work(vmig_machine *m)
 {
-    uint8_t dev = 0, pick = 0;
-    uint32_t len = 0;
+    static uint8_t dev, pick;
+    uint32_t len = 0, waiting = UINT32_MAX;
 
     for (int i = 0; i < 1000 && vmig_next_work(m, &dev, &pick) == VMIG_WORK; i++) {
-        uint32_t status = vmig_step(m, dev, pick, buf, sizeof buf, &len);
-        if (status < 64) break;
+        uint32_t place = (uint32_t)dev << 8 | pick, status;
+        if (place == waiting) return;
+        if (vmig_must_sync(m, dev, pick) == VMIG_SYNC && bring(dev) != 0) status = vmig_sync_failed(m, dev, pick);
+        else status = vmig_step(m, dev, pick, buf, sizeof buf, &len);
+        if (status >= 64 && status != VMIG_SYNC_FAILED) waiting = UINT32_MAX;
+        else if (waiting == UINT32_MAX) waiting = place;
         if (status == VMIG_SENT) hand_on(buf, len);
         lines = vmig_lines(m);
     }

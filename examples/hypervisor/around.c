@@ -10,7 +10,7 @@
 #include "terminal.h"
 
 /* A guest that waits looks around this often, for a signal may have come before the wait. */
-enum { FRAMES_A_TURN = 64, WAIT_MS_MAX = 20, ENTROPY_PIECE = 256, STATUS_REGISTER = 0x070, DRIVER_OK = 4 };
+enum { FRAMES_A_TURN = 64, WAIT_MS_MAX = 20, STATUS_REGISTER = 0x070, DRIVER_OK = 4 };
 
 /* Whether the guest's driver drives a device. What comes before that waits, or is lost. */
 static int is_driven(struct host *h, unsigned device)
@@ -104,16 +104,25 @@ void take_input(struct host *h)
     h->input_waits = 0;
 }
 
-void fill_pool(struct host *h)
+void fill_pool(struct host *h, uint32_t taken)
 {
-    uint8_t bytes[ENTROPY_PIECE];
-    uint32_t kept;
+    uint8_t bytes[POOL];
+    uint32_t kept = 0, missing;
 
-    do {
-        kept = 0;
-        if (getrandom(bytes, sizeof bytes, 0) != (ssize_t)sizeof bytes) fail("the host gives no random bytes");
-        vmig_input(&h->machine, ENTROPY, bytes, sizeof bytes, &kept);
-    } while (kept == sizeof bytes);
+    h->pool -= taken < h->pool ? taken : h->pool;
+    missing = POOL - h->pool;
+    if (getrandom(bytes, missing, 0) != (ssize_t)missing) fail("the host gives no random bytes");
+    vmig_input(&h->machine, ENTROPY, bytes, missing, &kept);
+    h->pool += kept;
+}
+
+void announce(struct host *h)
+{
+    vmig_shape shape;
+
+    if (h->wire < 0) return;
+    must(vmig_device(&h->machine, (uint8_t)h->devices.network, &shape), "vmig_device");
+    network_announce(h->wire, shape.mac);
 }
 
 void hand_on(struct host *h, unsigned device, const uint8_t *bytes, size_t length)

@@ -1,6 +1,4 @@
 /* The loop: the guest runs on RAM that is lent to it, and what it comes out for is done. docs/host-loop.md quotes it. */
-#include <errno.h>
-#include <string.h>
 #include "host.h"
 #include "memory.h"
 #include "say.h"
@@ -8,6 +6,9 @@
 
 /* The steps of one turn: a guest can give its devices work without end. */
 enum { STEPS_A_TURN = 1000 };
+
+/* The place of no step, where others are the device and the pick. */
+#define NO_PLACE UINT32_MAX
 
 /* The guest runs until it comes out, and looks around where its slice is over or it waits. Whether the board answered what it came out
  * for; else it came out for a register of a virtio device. */
@@ -42,25 +43,26 @@ static void access_register(struct host *h)
 }
 
 /* The next step of a device. Before one that makes a flush, or ends a write that its driver then takes for durable, the disk is brought to
- * its file. Where that fails the guest's flush ends with an error. Such a write is done already, so there the guest is stopped. */
+ * its file. Where that failed, now or before, the guest's flush ends with an error. Such a write cannot fail any more: the guest ends. */
 static uint32_t make_step(struct host *h, uint8_t *sent, size_t size, uint32_t *len)
 {
-    const struct disk *disk = devices_disk(&h->devices, h->dev);
+    struct disk *disk = devices_disk(&h->devices, h->dev);
     uint32_t status;
 
     if (disk == NULL || vmig_must_sync(&h->machine, h->dev, h->pick) != VMIG_SYNC || disk_bring(disk))
-        return vmig_step(&h->machine, h->dev, h->pick, sent, size, len);
-    say("%s: %s", disk->name, strerror(errno));
-    status = vmig_sync_failed(&h->machine, h->dev, h->pick);
-    if (status == VMIG_NO_FLUSH) fail("%s: it cannot be written", disk->name);
+        status = vmig_step(&h->machine, h->dev, h->pick, sent, size, len);
+    else if ((status = vmig_sync_failed(&h->machine, h->dev, h->pick)) == VMIG_DISK_FAILED)
+        say("each flush of this disk fails from now on: move the guest soon, or end it");
+    if (status == VMIG_SYNC_FAILED || status == VMIG_DISK_LOST) fail("the guest ends: it would take what is lost for durable");
     return status;
 }
 
-/* The devices do their work. What is more than a turn has waits for the next one. */
+/* The devices do their work, in turn from where they were. A step that is refused memory keeps no other waiting: those after it are made,
+ * and the turn ends where it alone is left. What is more than a turn has waits for the next one. */
 static void do_work(struct host *h)
 {
     static uint8_t sent[VMIG_SENT_MAX];
-    uint32_t len = 0;
+    uint32_t len = 0, refused = NO_PLACE;
 
     h->steps_wait = 1;
     for (int i = 0; i < STEPS_A_TURN; i++) {
@@ -68,10 +70,14 @@ static void do_work(struct host *h)
             h->steps_wait = 0;
             return;
         }
-        uint32_t status = make_step(h, sent, sizeof sent, &len);
-        if (status < 64) fail("vmig_step: %s", vmig_status_name(status));
+        uint32_t place = (uint32_t)h->dev << 8 | h->pick, status;
+        if (place == refused) return;
+        status = make_step(h, sent, sizeof sent, &len);
+        if (status < 64 && status != VMIG_NO_MEMORY) fail("vmig_step: %s", vmig_status_name(status));
+        if (status >= 64) refused = NO_PLACE;
+        else if (refused == NO_PLACE) refused = place;
         if (status == VMIG_SENT) hand_on(h, h->dev, sent, len);
-        if (status == VMIG_COMPLETED && h->dev == ENTROPY) fill_pool(h);
+        if (status == VMIG_COMPLETED && h->dev == ENTROPY) fill_pool(h, len);
         h->statistics.steps++;
     }
 }
@@ -111,11 +117,12 @@ void host_run(struct host *h)
     terminal_take();
     open_wire(h);
     enter_library(h);
-    fill_pool(h);
+    fill_pool(h, 0);
     do_work(h);
     set_lines(h);
     must(vmig_lend(&h->machine, &h->ram), "vmig_lend");
     leave_library(h);
+    if (h->options.listen != NULL) announce(h);
     h->left = SLICE;
     while (!h->has_ended && !h->is_gone && !operator_words.ends) turn(h);
     if (operator_words.ends) say("ended by its operator");

@@ -78,6 +78,7 @@ static const char *begin_move(struct host *h)
         return OUT_OF_MEMORY;
     }
     memory_empty_log(&h->processor.memory);
+    line_be_patient(&h->move.line);
     h->move.is_on = 1;
     h->move.round = 1;
     h->move.round_is_sent = 0;
@@ -166,6 +167,7 @@ static int keep(struct host *h)
     say("move: if it does not run there, SIGUSR2 or Ctrl-A c continues it here; else end this program");
     if (!wait_for_word()) return 0;
     open_wire(h);
+    announce(h);
     return continue_here(h, "by the word of the operator");
 }
 
@@ -179,6 +181,7 @@ static int finish_move(struct host *h)
     stop_clock(h);
     why = send_rest(h);
     if (why != NULL) return continue_here(h, why);
+    line_hurry(l);
     if (!line_send(l, GO, NULL, 0) || !line_receive(l) || l->type != RUNS) return keep(h);
     line_close(l);
     h->is_gone = 1;

@@ -78,6 +78,7 @@ static const char *take_all(struct host *h, struct arrival *a)
     struct line *l = &h->move.line;
     uint32_t status;
 
+    line_be_patient(l);
     do {
         const char *why = line_receive(l) ? take_frame(h, a) : "the line is broken";
 
@@ -116,6 +117,7 @@ void host_receive(struct host *h)
     if (why == NULL) why = take_all(h, &a);
     if (why != NULL) refuse(h, why);
     say("move: all is here");
+    line_hurry(l);
     if (!line_send(l, READY, NULL, 0) || !line_receive(l) || l->type != GO) keep();
     else if (line_send(l, RUNS, NULL, 0)) say("move: the guest runs here");
     else say("move: the guest runs here; the source did not hear so");

@@ -1,4 +1,5 @@
-/* The other end of a guest's wire: `echo OWN,PEER` answers each frame with the same frame, each byte of its payload one more. */
+/* The other end of a guest's wire: `echo OWN,PEER` answers each frame with the same frame, each byte of its payload one more. It prints
+ * the address of each card that announces itself, which it does not answer. */
 #include <stdint.h>
 #include "../network.h"
 #include "../say.h"
@@ -7,7 +8,7 @@
 #include <stdio.h>
 #include <stdlib.h>
 
-enum { PAYLOAD = 22 };
+enum { SOURCE = 6, KIND = 12, PAYLOAD = 22 };
 
 void fail(const char *format, ...)
 {
@@ -17,6 +18,13 @@ void fail(const char *format, ...)
     vfprintf(stderr, format, values);
     va_end(values);
     exit(1);
+}
+
+static void print_address(const uint8_t *at)
+{
+    for (int i = 0; i < 6; i++) printf("%02x", at[i]);
+    printf("\n");
+    fflush(stdout);
 }
 
 int main(int count, char **words)
@@ -29,6 +37,10 @@ int main(int count, char **words)
     for (;;) {
         size_t length = network_receive(wire.fd, frame);
 
+        if (length > KIND + 1 && frame[KIND] == 0x80 && frame[KIND + 1] == 0x35) {
+            print_address(frame + SOURCE);
+            continue;
+        }
         for (size_t i = PAYLOAD; i < length; i++) frame[i]++;
         if (length > 0) network_send(wire.fd, frame, length);
         else poll(&wire, 1, -1);
