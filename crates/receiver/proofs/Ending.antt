@@ -44,18 +44,18 @@ not_whole_reading base ds read tail bytes i are parts r h =
 
 -- A receiver that has not read the digest was fed no whole stream, and one that has was.
 pub not_whole_taken : (base : ℕ) (ds : List DiskState) (digest : Sha256) (bytes held : List ℕ) (stage : Stage) → IsBytes bytes → has_ended stage ≡ false → IsTaken base ds digest bytes held stage → ¬ (IsWholeFor base (sizes_in ds) bytes)
-not_whole_taken base ds digest bytes held stages.Head are no t h =
+not_whole_taken base ds digest bytes held stages.Head are not_yet t h =
     let same : bytes ≡ held = t.whole ∙ ap (λ (x : List ℕ). x ++ held) t.known.0 in
     not_whole_head base (sizes_in ds) held t.known.2 (rw same at h)
-not_whole_taken base ds digest bytes held (stages.Records i) are no t h = not_whole_reading base ds t.front held bytes i are t.whole t.known.1 h
-not_whole_taken base ds digest bytes held (stages.Ended i) are no t h = absurd cc
-not_whole_taken base ds digest bytes held stages.Failed are no t h = t.known
+not_whole_taken base ds digest bytes held (stages.Records i) are not_yet t h = not_whole_reading base ds t.front held bytes i are t.whole t.known.1 h
+not_whole_taken base ds digest bytes held (stages.Ended i) are not_yet t h = absurd cc
+not_whole_taken base ds digest bytes held stages.Failed are not_yet t h = t.known
 
 pub whole_taken : (base : ℕ) (ds : List DiskState) (digest : Sha256) (bytes held : List ℕ) (stage : Stage) → has_ended stage ≡ true → IsTaken base ds digest bytes held stage → IsWholeFor base (sizes_in ds) bytes
-whole_taken base ds digest bytes held stages.Head yes t = absurd cc
-whole_taken base ds digest bytes held (stages.Records i) yes t = absurd cc
-whole_taken base ds digest bytes held (stages.Ended i) yes t = whole_come base ds bytes i (come_of base ds digest bytes held i t)
-whole_taken base ds digest bytes held stages.Failed yes t = absurd cc
+whole_taken base ds digest bytes held stages.Head done t = absurd cc
+whole_taken base ds digest bytes held (stages.Records i) done t = absurd cc
+whole_taken base ds digest bytes held (stages.Ended i) done t = whole_come base ds bytes i (come_of base ds digest bytes held i t)
+whole_taken base ds digest bytes held stages.Failed done t = absurd cc
 
 pub not_ended : (stage : Stage) → has_failed stage ≡ true → has_ended stage ≡ false
 not_ended stages.Head e = refl

@@ -94,12 +94,12 @@ pub returns-in-Records-clause-lacking : goal.returns-in-Records-clause-lacking
 returns-in-Records-clause-lacking g c = λ is b f.
     let seen : Received = received_by c.self.inside.base (place_in c.self.inside.aside c.self.inside.stage) (map g.D.Disk.state c.self.inside.disks.items) c.self.inside.stage c.self.inside.taken c.self.inside.held.items in
     let fed : HasBeenFed seen b = subst (λ (v : Received). HasBeenFed v b) (sym c.self.view_is) f in
-    let no : has_ended c.self.inside.stage ≡ false = ap has_ended c.in-Records.is in
-    subst (λ (v : Received). ¬ (IsWholeFor v.base v.sizes b)) c.self.view_is (not_whole_taken c.self.inside.base _ c.self.inside.taken b c.self.inside.held.items c.self.inside.stage fed.bytes no fed.taken)
+    let not_yet : has_ended c.self.inside.stage ≡ false = ap has_ended c.in-Records.is in
+    subst (λ (v : Received). ¬ (IsWholeFor v.base v.sizes b)) c.self.view_is (not_whole_taken c.self.inside.base _ c.self.inside.taken b c.self.inside.held.items c.self.inside.stage fed.bytes not_yet fed.taken)
 
 pub returns-clause-lacking : goal.returns-clause-lacking
 returns-clause-lacking g c = λ is b f.
     let seen : Received = received_by c.self.inside.base (place_in c.self.inside.aside c.self.inside.stage) (map g.D.Disk.state c.self.inside.disks.items) c.self.inside.stage c.self.inside.taken c.self.inside.held.items in
     let fed : HasBeenFed seen b = subst (λ (v : Received). HasBeenFed v b) (sym c.self.view_is) f in
-    let no : has_ended c.self.inside.stage ≡ false = ap has_ended c.in-Head.is in
-    subst (λ (v : Received). ¬ (IsWholeFor v.base v.sizes b)) c.self.view_is (not_whole_taken c.self.inside.base _ c.self.inside.taken b c.self.inside.held.items c.self.inside.stage fed.bytes no fed.taken)
+    let not_yet : has_ended c.self.inside.stage ≡ false = ap has_ended c.in-Head.is in
+    subst (λ (v : Received). ¬ (IsWholeFor v.base v.sizes b)) c.self.view_is (not_whole_taken c.self.inside.base _ c.self.inside.taken b c.self.inside.held.items c.self.inside.stage fed.bytes not_yet fed.taken)
