@@ -1,6 +1,6 @@
 -- A flush of the disk of a device beside all steps, and one that a step makes.
-use Rattle.std.proofs.Common.{◌≡◌, ◌≢◌, ℕ, zero, suc, ◌-◌, List, [], ◌∷◌, map, set, Bool, true, false, Option, Some, None, Result, Ok, Err, refl, ap, sym, ◌∙◌, arith}
-use Rattle.std.specs.Prelude.{◌&&◌, IsTrue, OnErr, OnOk, is_ok, not, slice_get}
+use Rattle.std.proofs.Common.{◌≡◌, ◌≢◌, ℕ, zero, suc, ◌-◌, List, [], ◌∷◌, set, Bool, true, false, Option, Some, None, Result, Ok, Err, refl, ap, sym, ◌∙◌}
+use Rattle.std.specs.Prelude.{IsTrue, OnErr, OnOk, is_ok, not, slice_get}
 use Rattle.std.proofs.lemmas.List.{map-set}
 use Rattle.guestmem.specs.Memory.{Memory}
 use Rattle.blk.specs.Advance as blk
@@ -14,11 +14,11 @@ use Rattle.blk.specs.declared.request.Request.{Request}
 use Rattle.machine.specs.DeviceStep.{advances, requests_of, reply_to_advance}
 use Rattle.machine.specs.Seen.{DeviceSeen, failed_if}
 use Rattle.machine.specs.State.{DeviceState}
-use Rattle.machine.specs.Unsynced.{FlushesDisk, HasFlushed, flushes}
+use Rattle.machine.specs.Unsynced.{FlushesDisk, HasFlushed}
 use Rattle.machine.specs.declared.reply.Reply.{Reply}
 use Rattle.machine.specs.declared.reply.Reply.TheVariants.{Moved}
 use Rattle.machine.proofs.At.{IsAt, flushed_there, found_marks, map-set_same}
-use Rattle.machine.proofs.Looking.{left_of_and, right_of_and}
+use Rattle.machine.proofs.Looking.{right_of_and}
 use Rattle.machine.proofs.Reading.{same_state}
 
 get_other : {A : Type 0} (xs : List A) (i k : ℕ) (x : A) → k ≢ i → slice_get (set xs i x) k ≡ slice_get xs k

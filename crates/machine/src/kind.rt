@@ -20,9 +20,7 @@ ghost use Rattle.mmio.specs.RegisterRead.{register_read};
 use crate::reply::Refusal;
 use crate::shape::Shape;
 use crate::stepped::{Answered, Stepped};
-use blk::{
-    Advanced, BlockShape, Disk, ID_SIZE, REQUESTS_MAX, Requests, Sectors, SyncOwed, Taken,
-};
+use blk::{Advanced, BlockShape, Disk, ID_SIZE, REQUESTS_MAX, Requests, Sectors, SyncOwed, Taken};
 use chains::{Ring, Transmitted};
 use console::{ConsoleSize, HostBytes, Received, emergency_byte, receive};
 use guestmem::{NoMemory, Ram, TouchLog};

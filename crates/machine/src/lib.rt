@@ -75,9 +75,7 @@ mod state;
 mod stepped;
 mod work;
 
-pub use blk::{
-    Disk, DiskFault, FaultDisk, FileDisk, MemDisk, SECTOR_SIZE, SECTORS_MAX, SyncOwed,
-};
+pub use blk::{Disk, DiskFault, FaultDisk, FileDisk, MemDisk, SECTOR_SIZE, SECTORS_MAX, SyncOwed};
 pub use device::Device;
 pub use event::Event;
 pub use fitting::are_disks_of;

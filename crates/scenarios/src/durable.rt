@@ -34,12 +34,18 @@ s 0 1
 pub fn ends_after_its_flush(alloc: Global) -> Result<()> {
     let mut calls = Vec::new(alloc);
     let status = status_of_write(alloc, 0, &mut calls)?;
-    ensure!(calls.as_slice() == [Called::Write(3), Called::Flush], "the calls are {calls:?}");
+    ensure!(
+        calls.as_slice() == [Called::Write(3), Called::Flush],
+        "the calls are {calls:?}"
+    );
     ensure!(status == 0, "the status is {status}");
 
     let mut calls = Vec::new(alloc);
     let status = status_of_write(alloc, 2, &mut calls)?;
-    ensure!(calls.as_slice() == [Called::Write(3)], "the calls are {calls:?}");
+    ensure!(
+        calls.as_slice() == [Called::Write(3)],
+        "the calls are {calls:?}"
+    );
     ensure!(status == 9, "a write that was lost has the status {status}");
     Ok(())
 }
@@ -57,7 +63,10 @@ fn status_of_write(alloc: Global, failing: u64, calls: &mut Vec<Called>) -> Resu
         serve(&mut machine, event)?;
     }
     let mut status = [0];
-    ensure!(machine.read_ram(0x900, &mut status).is_ok(), "RAM is too short");
+    ensure!(
+        machine.read_ram(0x900, &mut status).is_ok(),
+        "RAM is too short"
+    );
     Ok(status[0])
 }
 

@@ -1,19 +1,18 @@
 -- A flush of a disk beside all steps, and the history.
-use Rattle.std.proofs.Common.{◌≡◌, ℕ, List, Bool, ap, sym, subst, ◌∙◌}
-use Rattle.std.specs.Prelude.{All, IsTrue, Result, Ok, Err}
-use Rattle.sha2.specs.declared.Sha256.{Sha256}
+use Rattle.std.proofs.Common.{ℕ, List, Bool, ap, sym, subst, ◌∙◌}
+use Rattle.std.specs.Prelude.{Result, Ok, Err}
 use Rattle.machine.specs.EffectLaws.{IsSameShape}
 use Rattle.machine.specs.Layout.{firsts_of, layout_of, size_of}
-use Rattle.machine.specs.Seen.{AreHonest, Marks, Seen, all_marks, state_of}
+use Rattle.machine.specs.Seen.{AreHonest, Seen, all_marks}
 use Rattle.machine.specs.Sound.{IsSound}
 use Rattle.machine.specs.State.{MachineState}
 use Rattle.machine.specs.Unsynced.{FlushesDisk}
 use Rattle.wire.specs.Sinks.{SinkState}
 use Rattle.sender.specs.Follows.{AgreesIn, Relates}
 use Rattle.sender.specs.History.{History, phase_of}
-use Rattle.sender.specs.LiveState.{LiveSeen, now}
+use Rattle.sender.specs.LiveState.{LiveSeen}
 use Rattle.sender.specs.Stopping.{IsLive}
-use Rattle.sender.specs.Unsynced.{FlushFollows, FlushesLiveDisk}
+use Rattle.sender.specs.Unsynced.{FlushFollows}
 use Rattle.sender.specs.declared.phase.Phase.{Phase}
 use Rattle.sender.specs.declared.phase.Phase.TheVariants as phases
 use Rattle.sender.proofs.Relating.{honest_once}
