@@ -1,6 +1,6 @@
 -- One device of a machine changes, or its RAM does.
-use Rattle.std.proofs.Common.{◌≡◌, ℕ, zero, suc, ◌<◌, ◌≤◌, Bool, true, false, cond, List, [], ◌∷◌, length, map, set, get_or, Some, None, refl, ap, sym, subst, ◌∙◌, arith, append-nil}
-use Rattle.std.specs.Prelude.{All, slice_get, IsTrue, Result, Ok, Err}
+use Rattle.std.proofs.Common.{◌≡◌, ◌≢◌, ℕ, zero, suc, ◌<◌, ◌≤◌, Bool, true, false, cond, List, [], ◌∷◌, length, map, set, get_or, Some, None, refl, ap, sym, subst, ◌∙◌, arith, append-nil}
+use Rattle.std.specs.Prelude.{All, slice_get, slice_index_or, IsTrue, Result, Ok, Err}
 use Rattle.std.proofs.lemmas.List.{length-set}
 use Rattle.std.proofs.lemmas.List.Elements.{All-set}
 use Rattle.console.specs.Size.{resized}
@@ -22,7 +22,7 @@ use Rattle.guestmem.specs.Address.{access_refusal, index_of}
 use Rattle.guestmem.specs.Writes.{Write, byte_writes, set_all, touched}
 use Rattle.guestmem.specs.declared.error.RamError.{RamError}
 use Rattle.chains.specs.declared.next.Next.TheVariants.{Empty}
-use Rattle.machine.specs.Applied.{AreMadeBad, FailsOnlyUnsteady, IsApplied, IsAppliedLogged, IsGivenFor, as_given, bad_on, marks_after}
+use Rattle.machine.specs.Applied.{AreMadeBad, DisksAfter, FailsOnlyUnsteady, IsApplied, IsAppliedLogged, IsGivenFor, as_given, bad_on, marks_after}
 use Rattle.machine.specs.DeviceStep.{device_step, looked_at}
 use Rattle.machine.specs.DeviceWork.{IsDeviceStep}
 use Rattle.machine.specs.Direct.{accepted_reply, done_reply}
@@ -37,6 +37,7 @@ use Rattle.machine.specs.Sound.{IsSound, IsSoundDevice}
 use Rattle.machine.specs.State.{DeviceState, MachineState, base_of}
 use Rattle.machine.specs.Step.{HasEffect, IsStep, IsTouchingStep, IsResized, ResizesDevice, disk_of, disk_or_none, input_of, out_reply, kind_with_input, ram_refusal, refused, size_by, written_out, register_set, with_input}
 use Rattle.machine.specs.StepLaws.{Fits}
+use Rattle.machine.specs.Unsynced.{HasFlushed}
 use Rattle.machine.specs.declared.event.Event.{Event}
 use Rattle.machine.specs.declared.event.Event.TheVariants.{RegRead, RegWrite, MemRead, MemWrite, Step, Input, Resize}
 use Rattle.machine.specs.declared.reply.Refusal.{Refusal}
@@ -294,8 +295,8 @@ given_for marks m (Step dev pick) sound = given_itself (marks_at marks dev).hone
 given_for marks m (Input dev bytes) sound = refl
 given_for marks m (Resize dev cols rows) sound = refl
 
-pub applied_step : (shapes : List Shape) (old new : Seen) (e : Event) (reply : Reply) → IsHeld shapes old → Fits e → (h : IsStep (state_of old) e (outcome_of reply) reply (state_of new)) → IsLater old.memory new.memory → Rises (items_of h.effect) old.memory new.memory → all_marks new ≡ marks_after (all_marks old) e reply → FailsOnlyUnsteady (all_marks old) e reply → IsApplied old e reply new
-applied_step shapes old new e reply held fits h later rises marks unsteady = record {
+pub applied_step : (shapes : List Shape) (old new : Seen) (e : Event) (reply : Reply) → IsHeld shapes old → Fits e → (h : IsStep (state_of old) e (outcome_of reply) reply (state_of new)) → IsLater old.memory new.memory → Rises (items_of h.effect) old.memory new.memory → all_marks new ≡ marks_after (all_marks old) e reply → FailsOnlyUnsteady (all_marks old) e reply → DisksAfter old e reply new → IsApplied old e reply new
+applied_step shapes old new e reply held fits h later rises marks unsteady disks = record {
   given = held_for (state_of old) e;
   is_given = given_for (all_marks old) (state_of old) e held.sound;
   effect = h.effect;
@@ -311,14 +312,25 @@ applied_step shapes old new e reply held fits h later rises marks unsteady = rec
   rises = rises;
   marks = marks;
   unsteady = unsteady;
+  disks = disks;
 }
+
+-- Such an event calls no disk.
+quiet_disks : (old new : Seen) (e : Event) (reply : Reply) → IsQuiet e → DisksAfter old e reply new
+quiet_disks old new (RegRead dev off width) reply quiet = tt
+quiet_disks old new (RegWrite dev off width value) reply quiet = tt
+quiet_disks old new (MemRead addr len) reply quiet = tt
+quiet_disks old new (MemWrite addr bytes) reply quiet = tt
+quiet_disks old new (Step dev pick) reply quiet = absurd quiet
+quiet_disks old new (Input dev bytes) reply quiet = tt
+quiet_disks old new (Resize dev cols rows) reply quiet = tt
 
 -- An event that writes into no page and no sector was applied, and RAM is as it was.
 pub applied_quiet : (shapes : List Shape) (old new : Seen) (e : Event) (reply : Reply) → IsQuiet e → IsHeld shapes old → Fits e → IsStep (state_of old) e (outcome_of reply) reply (state_of new) → new.memory ≡ old.memory → all_marks new ≡ marks_after (all_marks old) e reply → FailsOnlyUnsteady (all_marks old) e reply
     → IsApplied old e reply new
 applied_quiet shapes old new e reply quiet held fits h same marks unsteady =
     let none : items_of h.effect ≡ [] = ap items_of h.has.effect_is ∙ no_items (state_of old) e (outcome_of reply) h.has.seen quiet in
-    applied_step shapes old new e reply held fits h (rw same (later_same old.memory)) (rw none (rises_none old.memory new.memory same)) marks unsteady
+    applied_step shapes old new e reply held fits h (rw same (later_same old.memory)) (rw none (rises_none old.memory new.memory same)) marks unsteady (quiet_disks old new e reply quiet)
 
 -- An event that names a device which is not there changes nothing.
 missing_answer : (shapes : List Shape) (m : Memory) (ds : List DeviceSeen) (e : Event) → IsQuiet e → IsHeld shapes (record { memory = m; devices = ds }) → Fits e → IsStep (state_of (record { memory = m; devices = ds })) e fine (Refused NoDevice) (state_of (record { memory = m; devices = ds }))
@@ -345,11 +357,11 @@ missing_size shapes m ds dev cols rows held fits h =
     let none = past ds dev h in
     missing_answer shapes m ds (Resize dev cols rows) tt held fits (record { effect = no_effect; has = record { seen = Empty; may_see = tt; reply_is = rw none refl; effect_is = rw none refl; outcome_is = refl }; changed = refl }) refl tt
 
-pub applied_logged : {L : Type 0} (taking : L → Item → L) (shapes : List Shape) (old new : Seen) (log new_log : L) (e : Event) (reply : Reply) → IsHeld shapes old → Fits e → IsTouchingStep (Touches taking log new_log old.memory new.memory) (state_of old) e reply (state_of new) → IsLater old.memory new.memory → all_marks new ≡ marks_after (all_marks old) e reply → FailsOnlyUnsteady (all_marks old) e reply
+pub applied_logged : {L : Type 0} (taking : L → Item → L) (shapes : List Shape) (old new : Seen) (log new_log : L) (e : Event) (reply : Reply) → IsHeld shapes old → Fits e → IsTouchingStep (Touches taking log new_log old.memory new.memory) (state_of old) e reply (state_of new) → IsLater old.memory new.memory → all_marks new ≡ marks_after (all_marks old) e reply → FailsOnlyUnsteady (all_marks old) e reply → DisksAfter old e reply new
     → IsAppliedLogged taking old log e reply new new_log
 unfolding applied_step plain_step
-applied_logged taking shapes old new log new_log e reply held fits h later marks unsteady = record {
-  is_applied = applied_step shapes old new e reply held fits (plain_step (Touches taking log new_log old.memory new.memory) (state_of old) (state_of new) e reply h) later h.items_are.rises marks unsteady;
+applied_logged taking shapes old new log new_log e reply held fits h later marks unsteady disks = record {
+  is_applied = applied_step shapes old new e reply held fits (plain_step (Touches taking log new_log old.memory new.memory) (state_of old) (state_of new) e reply h) later h.items_are.rises marks unsteady disks;
   logged = h.items_are.log_is;
 }
 
@@ -414,11 +426,24 @@ bad_sets : (dev : ℕ) (sets : List blk.SectorSet) → AreMadeBad (sets_on dev s
 bad_sets dev [] bad = tt
 bad_sets dev (s ∷ ss) bad = (bad.0, bad_sets dev ss bad.1)
 
+-- The disks beside it, and whether its own is flushed.
+pub disk_other : (disks : List (List Sector)) (dev k : ℕ) (content : List Sector) → k ≢ dev → disk_or_none (slice_get (set disks dev content) k) ≡ disk_or_none (slice_get disks k)
+disk_other [] dev k content other = refl
+disk_other (d ∷ ds) zero zero content other = absurd (other refl)
+disk_other (d ∷ ds) zero (suc k) content other = refl
+disk_other (d ∷ ds) (suc dev) zero content other = refl
+disk_other (d ∷ ds) (suc dev) (suc k) content other = disk_other ds dev k content (λ same. other (ap suc same))
+
+pub flushed_there : (ds : List DeviceSeen) (dev : ℕ) (d new : DeviceSeen) → IsAt ds dev d → slice_index_or (map (λ (x : DeviceSeen). x.is_flushed) (set ds dev new)) dev true ≡ new.is_flushed
+flushed_there [] dev d new at = absurd (omega (arith, at.below))
+flushed_there (x ∷ ds) zero d new at = refl
+flushed_there (x ∷ ds) (suc dev) d new at = flushed_there ds dev d new (record { below = omega (arith, at.below); is = at.is })
+
 pub worked : {L : Type 0} (taking : L → Item → L) (shapes : List Shape) (m new_m : Memory) (log new_log : L) (ds : List DeviceSeen) (dev pick : ℕ) (d new : DeviceSeen) (reply : Reply) → IsHeld shapes (record { memory = m; devices = ds }) → IsAt ds dev d
     → IsDeviceStep (Touches taking log new_log m new_m) dev d.marks.honest m.bytes d.sectors d.state pick reply new_m.bytes new.sectors new.state
-    → length new_m.bytes ≡ length m.bytes → IsBytes new_m.bytes → AreWhole new.sectors → length new.sectors ≡ length d.sectors → IsLater m new_m → new.marks ≡ failed_if (is_failure reply) d.marks → (is_failure reply ≡ true → d.marks.steady ≡ false)
+    → length new_m.bytes ≡ length m.bytes → IsBytes new_m.bytes → AreWhole new.sectors → length new.sectors ≡ length d.sectors → IsLater m new_m → new.marks ≡ failed_if (is_failure reply) d.marks → (is_failure reply ≡ true → d.marks.steady ≡ false) → HasFlushed d.state pick reply new.is_flushed
     → IsAppliedLogged taking (record { memory = m; devices = ds }) log (Step dev pick) reply (record { memory = new_m; devices = set ds dev new }) new_log
-worked taking shapes m new_m log new_log ds dev pick d new reply held at h size bytes whole count later marks unsteady =
+worked taking shapes m new_m log new_log ds dev pick d new reply held at h size bytes whole count later marks unsteady flushed =
     let s = device_step d.state m.bytes h.given pick (outcome_of reply) h.seen in
     let disk = found_disk ds dev d at in
     let disks : List (List Sector) = map (λ (x : DeviceSeen). x.sectors) ds in
@@ -444,6 +469,10 @@ worked taking shapes m new_m log new_log ds dev pick d new reply held at h size 
         rises = rw (touched_on dev s.sets) h.items_are.rises;
         marks = failed_marks ds dev d new (is_failure reply) at marks;
         unsteady = λ failed. rw (found_marks ds dev d at) (unsteady failed);
+        disks = record {
+          others = λ k other. rw after (disk_other disks dev k new.sectors other);
+          flushed = λ makes done. rw (flushed_there ds dev d new at) (flushed (rw (found ds dev d at) at makes) done);
+        };
       };
       logged = rw (touched_on dev s.sets) h.items_are.log_is;
     }

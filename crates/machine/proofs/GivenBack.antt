@@ -69,7 +69,7 @@ page_logged taking m log new_log bytes n sound mem below long are told =
     let rises = rises_written m.memory addr page mem.pages inside in
     let step = stored_step (Touches taking log new_log m.memory next.memory) m.memory next.memory m.devices (page_address m n) page free (rw index (put_at_set_all m.memory.bytes addr page inside)) (rw index (record { log_is = told; rises = rises })) in
     let held : IsHeld (shapes_of m) m = record { sound = sound; shapes_are = refl } in
-    applied_logged taking (shapes_of m) m next log new_log (MemWrite (page_address m n) page) Done held (small, IsBytes-take 4096 (drop addr bytes) (IsBytes-drop addr bytes are)) step (later_written m.memory addr page mem.pages inside) refl tt
+    applied_logged taking (shapes_of m) m next log new_log (MemWrite (page_address m n) page) Done held (small, IsBytes-take 4096 (drop addr bytes) (IsBytes-drop addr bytes are)) step (later_written m.memory addr page mem.pages inside) refl tt tt
 
 one : (m : Seen) (bytes : List ℕ) (n : ℕ) → IsSound (state_of m) → IsMemory m.memory → n < length m.memory.versions → length bytes ≡ length m.memory.bytes → IsBytes bytes
     → IsApplied m (MemWrite (page_address m n) (page_of bytes n)) Done (with_memory m (written m.memory (4096 * n) (page_of bytes n)))

@@ -3,6 +3,7 @@ pub mod Agreeing
 pub mod Answering
 pub mod Effects
 pub mod Failing
+pub mod Flushing
 pub mod GettingOn
 pub mod Inside
 pub mod MadeAs

@@ -17,7 +17,7 @@ use Rattle.machine.specs.declared.shape.Shape.{Shape}
 use Rattle.machine.proofs.At.{IsAt, map-set_same}
 
 -- The machine stays as it is.
-same_state : (m : Memory) (ds : List DeviceSeen) (dev : ℕ) (d new : DeviceSeen) → IsAt ds dev d → new.state ≡ d.state → new.sectors ≡ d.sectors
+pub same_state : (m : Memory) (ds : List DeviceSeen) (dev : ℕ) (d new : DeviceSeen) → IsAt ds dev d → new.state ≡ d.state → new.sectors ≡ d.sectors
     → state_of (record { memory = m; devices = set ds dev new }) ≡ state_of (record { memory = m; devices = ds })
 same_state m ds dev d new at state sectors =
     let states : map (λ (x : DeviceSeen). x.state) (set ds dev new) ≡ map (λ (x : DeviceSeen). x.state) ds = map-set_same (λ (x : DeviceSeen). x.state) ds dev d new at state in
@@ -83,6 +83,7 @@ pub record IsRead (m : Memory) (ds : List DeviceSeen) (dev n : ℕ) (d new : Dev
   pub sectors : new.sectors ≡ d.sectors
   pub marks : new.marks ≡ failed_if (is_failed fetched) d.marks
   pub unsteady : is_failed fetched ≡ true → d.marks.steady ≡ false
+  pub flushed : new.is_flushed ≡ d.is_flushed
   pub is : IsFetched d.marks.honest (sector_in d.sectors n) bytes fetched
 
 pub reads : {E : Type 0} (m : Memory) (ds : List DeviceSeen) (dev n : ℕ) (d new : DeviceSeen) (bytes : List ℕ) (fetched : Fetched) (result : Result Bool E) → IsRead m ds dev n d new bytes fetched → Tells fetched result
@@ -97,6 +98,7 @@ reads m ds dev n d new bytes Read result read told =
     rw told (record {
       memory = refl;
       state = same_state m ds dev d new read.at read.state read.sectors;
+      flushed = map-set_same (λ (x : DeviceSeen). x.is_flushed) ds dev d new read.at read.flushed;
       marks = map-set_same (λ (x : DeviceSeen). x.marks) ds dev d new read.at read.marks;
       failed = tt;
       unsteady = tt;
@@ -110,6 +112,7 @@ reads m ds dev n d new bytes Bad result read told =
     rw told (record {
       memory = refl;
       state = same_state m ds dev d new read.at read.state read.sectors;
+      flushed = map-set_same (λ (x : DeviceSeen). x.is_flushed) ds dev d new read.at read.flushed;
       marks = map-set_same (λ (x : DeviceSeen). x.marks) ds dev d new read.at read.marks;
       failed = tt;
       unsteady = tt;
@@ -125,6 +128,7 @@ reads m ds dev n d new bytes Failed result read (e, told) =
     rw told (record {
       memory = refl;
       state = same_state m ds dev d new read.at read.state read.sectors;
+      flushed = map-set_same (λ (x : DeviceSeen). x.is_flushed) ds dev d new read.at read.flushed;
       marks = tt;
       failed = rw (map-set (λ (x : DeviceSeen). x.marks) ds dev new, here, read.marks) refl;
       unsteady = rw here (read.unsteady refl);
@@ -150,13 +154,14 @@ pub record IsReadGood {T E : Type 0} (m : Memory) (ds : List DeviceSeen) (dev n 
   pub sectors : new.sectors ≡ d.sectors
   pub marks : new.marks ≡ failed_if (not (is_ok result)) d.marks
   pub unsteady : OnErr result (d.marks.steady ≡ false)
+  pub flushed : new.is_flushed ≡ d.is_flushed
   pub is : OnOk result (IsTrue d.marks.honest → bytes ≡ bytes_of (sector_in d.sectors n))
 
 pub reads_good : {T E : Type 0} (m : Memory) (ds : List DeviceSeen) (dev n : ℕ) (d new : DeviceSeen) (bytes : List ℕ) (result : Result T E) → IsReadGood m ds dev n d new bytes result
     → ReadsSector (record { memory = m; devices = ds }) dev n bytes (found_good result) (record { memory = m; devices = set ds dev new })
 reads_good {E = E} m ds dev n d new bytes (Ok done) read =
     reads {E = E} m ds dev n d new bytes Read (Ok true)
-    (record { at = read.at; there = read.there; state = read.state; sectors = read.sectors; marks = read.marks; unsteady = λ e. cc; is = (read.good, read.is) }) refl
+    (record { at = read.at; there = read.there; state = read.state; sectors = read.sectors; marks = read.marks; unsteady = λ e. cc; flushed = read.flushed; is = (read.good, read.is) }) refl
 reads_good m ds dev n d new bytes (Err e) read =
     reads m ds dev n d new bytes Failed (Err e)
-    (record { at = read.at; there = read.there; state = read.state; sectors = read.sectors; marks = read.marks; unsteady = λ e. read.unsteady; is = read.good }) (e, refl)
+    (record { at = read.at; there = read.there; state = read.state; sectors = read.sectors; marks = read.marks; unsteady = λ e. read.unsteady; flushed = read.flushed; is = read.good }) (e, refl)

@@ -1,5 +1,5 @@
 -- What applying an event does to a machine, as contracts see it.
-use Rattle.std.specs.Prelude.{◌≡◌, ℕ, List, [], ◌∷◌, map, slice_set, IsTrue, Bool, true, false, Option, Some, None, Result, IfOk, OnOk, OnErr, if◌then◌else◌}
+use Rattle.std.specs.Prelude.{◌≡◌, ◌≢◌, ℕ, List, [], ◌∷◌, map, slice_set, IsTrue, Bool, true, false, Option, Some, None, Result, IfOk, OnOk, OnErr, if◌then◌else◌}
 use Rattle.guestmem.specs.Item.{Item, after_all}
 use Rattle.guestmem.specs.Later.{IsLater}
 use Rattle.guestmem.specs.Rises.{Rises}
@@ -7,13 +7,15 @@ use Rattle.blk.specs.Sectors.{IsGiven, Sector, is_bad}
 use Rattle.machine.specs.Effect.{Effect, SectorSet, applied, items_of}
 use Rattle.machine.specs.EffectLaws.{HasItem, IsSameShape, sector_on, sectors_on}
 use Rattle.machine.specs.Outcome.{is_failure, outcome_of}
-use Rattle.machine.specs.Seen.{Seen, Marks, state_of, all_marks, marks_at, failed_at}
+use Rattle.machine.specs.Seen.{Seen, Marks, state_of, all_flushed, all_marks, is_flushed_at, marks_at, failed_at}
 use Rattle.machine.specs.Sound.{IsSound}
 use Rattle.machine.specs.State.{MachineState}
+use Rattle.machine.specs.Unsynced.{makes_flush}
 use Rattle.machine.specs.Step.{HasEffect, disk_of}
 use Rattle.machine.specs.declared.event.Event.{Event}
 use Rattle.machine.specs.declared.event.Event.TheVariants.{Step}
 use Rattle.machine.specs.declared.reply.Reply.{Reply}
+use Rattle.machine.specs.declared.reply.Reply.TheVariants.{Moved}
 
 -- The log may take in every item of the machine.
 abbrev pub MayItems : {L : Type 0} → (L → Item → Type 0) → L → MachineState → Type 0
@@ -55,11 +57,23 @@ abbrev pub AreMadeBad : List SectorSet → Type 0
 AreMadeBad [] = Unit {0}
 AreMadeBad (s ∷ ss) = (is_bad s.content ≡ true) × AreMadeBad ss
 
+-- What a step does to disks, with any disks: those of other devices hold what they held; and after a step that made its driver's flush,
+-- and answered that this is done, the disk of its device is flushed (VIRTIO 1.2, 5.2.6).
+pub record KeepsDisks (old : Seen) (dev pick : ℕ) (reply : Reply) (new : Seen) : Type 0 where
+  pub others : (k : ℕ) → k ≢ dev → disk_of (state_of new) k ≡ disk_of (state_of old) k
+  pub flushed : makes_flush (state_of old) dev pick ≡ true → reply ≡ Moved → IsTrue (is_flushed_at new dev)
+
+-- Of all events only a step calls a disk.
+abbrev pub DisksAfter : Seen → Event → Reply → Seen → Type 0
+DisksAfter old (Step dev pick) reply new = KeepsDisks old dev pick reply new
+DisksAfter old e reply new = Unit {0}
+
 -- An event was applied: the reply and the effect are those of a step, with the outcome that the reply reports, of the machine
 -- with the sectors as the disk returned them. RAM, the devices and which sectors are bad are as the effect says, whatever the
 -- disk does. So are the contents of the sectors, if the effect only makes sectors bad, or if the disk is honest. The machine
 -- keeps its shape and is sound, its RAM is a later one (`IsLater`) whose versions rise in exactly the pages that the effect writes
--- into (`Rises`), the marks of the disks count the failure if the reply reports one, and a steady disk does not fail.
+-- into (`Rises`), the marks of the disks count the failure if the reply reports one, and a steady disk does not fail. A step changes no
+-- disk but that of its device, and has flushed that disk where it says so, whatever the disks do.
 pub record IsApplied (old : Seen) (e : Event) (reply : Reply) (new : Seen) : Type 0 where
   pub given : List Sector
   pub is_given : IsGivenFor (all_marks old) (state_of old) e given
@@ -76,6 +90,7 @@ pub record IsApplied (old : Seen) (e : Event) (reply : Reply) (new : Seen) : Typ
   pub rises : Rises (items_of effect) old.memory new.memory
   pub marks : all_marks new ≡ marks_after (all_marks old) e reply
   pub unsteady : FailsOnlyUnsteady (all_marks old) e reply
+  pub disks : DisksAfter old e reply new
 
 -- As above, with a log: it has taken in exactly the items that the effect writes into.
 pub record IsAppliedLogged {L : Type 0} (taking : L → Item → L) (old : Seen) (log : L) (e : Event) (reply : Reply) (new : Seen) (new_log : L) : Type 0 where
@@ -102,6 +117,7 @@ IsFound marks found bytes false = found ≡ Some None
 pub record ReadsSector {E : Type 0} (old : Seen) (dev n : ℕ) (bytes : List ℕ) (result : Result Bool E) (new : Seen) : Type 0 where
   pub memory : new.memory ≡ old.memory
   pub state : state_of new ≡ state_of old
+  pub flushed : all_flushed new ≡ all_flushed old
   pub marks : OnOk result (all_marks new ≡ all_marks old)
   pub failed : OnErr result (all_marks new ≡ failed_at (all_marks old) dev)
   pub unsteady : OnErr result ((marks_at (all_marks old) dev).steady ≡ false)

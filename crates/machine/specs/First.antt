@@ -6,7 +6,7 @@ use Rattle.blk.specs.Disk.{DiskState}
 use Rattle.blk.specs.Sectors.{Sector, SectorsState, seen_of}
 use Rattle.machine.specs.Shapes.{first_device, disk_size_of, disk_sizes, is_beyond, made_as}
 use Rattle.machine.specs.State.{MachineState, DeviceState}
-use Rattle.machine.specs.Seen.{DeviceSeen, Marks, no_marks, sectors_of, marks_of}
+use Rattle.machine.specs.Seen.{DeviceSeen, Marks, no_marks, sectors_of, marks_of, flushed_of}
 use Rattle.machine.specs.declared.machine.TheConstants.{DEVICES_MAX}
 use Rattle.machine.specs.declared.shape.Shape.{Shape}
 use Rattle.machine.specs.declared.shape.Shape.TheVariants.{Net, Block}
@@ -128,7 +128,7 @@ AreMarksOf disks bad = map length bad ≡ map (λ d. length d.sectors) disks
 
 -- Devices as contracts see them: each device that has a disk gets the next of these.
 abbrev pub seen_with : DeviceState → Option SectorsState → DeviceSeen
-seen_with state disk = record { state = state; sectors = sectors_of disk; marks = marks_of disk }
+seen_with state disk = record { state = state; sectors = sectors_of disk; marks = marks_of disk; is_flushed = flushed_of disk }
 
 abbrev pub next_disk : Option ℕ → List SectorsState → Option SectorsState
 next_disk None disks = None

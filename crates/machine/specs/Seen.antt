@@ -1,5 +1,5 @@
 -- What contracts see of a machine.
-use Rattle.std.specs.Prelude.{ℕ, ◌+◌, ◌%◌, ◌^◌, List, [], map, All, Option, Some, None, Bool, true, IsTrue, slice_get, slice_set, if◌then◌else◌}
+use Rattle.std.specs.Prelude.{ℕ, ◌+◌, ◌%◌, ◌^◌, List, [], map, All, Option, Some, None, Bool, true, IsTrue, slice_get, slice_index_or, slice_set, if◌then◌else◌}
 use Rattle.guestmem.specs.Memory.{Memory}
 use Rattle.blk.specs.Sectors.{Sector, SectorsState}
 use Rattle.machine.specs.State.{DeviceState, MachineState}
@@ -10,10 +10,12 @@ pub record Marks : Type 0 where
   pub honest : Bool
   pub steady : Bool
 
+-- A device with its disk. `is_flushed`: all that was written to the disk is durable.
 pub record DeviceSeen : Type 0 where
   pub state : DeviceState
   pub sectors : List Sector
   pub marks : Marks
+  pub is_flushed : Bool
 
 -- A machine: its memory with the versions of the pages, and its devices with their disks.
 pub record Seen : Type 0 where
@@ -32,6 +34,14 @@ state_of s = record {
 abbrev pub all_marks : Seen → List Marks
 all_marks s = map (λ d. d.marks) s.devices
 
+-- Whether each device's disk is flushed.
+abbrev pub all_flushed : Seen → List Bool
+all_flushed s = map (λ d. d.is_flushed) s.devices
+
+-- Whether the disk of the device of this number is flushed. A device that does not exist has no disk, and nothing to flush.
+abbrev pub is_flushed_at : Seen → ℕ → Bool
+is_flushed_at s dev = slice_index_or (all_flushed s) dev true
+
 -- A device without a disk has no sectors, and its marks are those of a disk that is honest and steady.
 abbrev pub no_marks : Marks
 no_marks = record { failures = 0; honest = true; steady = true }
@@ -46,6 +56,10 @@ sectors_of (Some s) = s.content
 abbrev pub marks_of : Option SectorsState → Marks
 marks_of None = no_marks
 marks_of (Some s) = disk_marks s
+
+abbrev pub flushed_of : Option SectorsState → Bool
+flushed_of None = true
+flushed_of (Some s) = s.is_flushed
 
 -- The marks of the disk of the device of this number. A device that does not exist has no disk.
 abbrev pub or_no_marks : Option Marks → Marks

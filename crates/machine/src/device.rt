@@ -3,7 +3,7 @@
 ghost use Rattle.std.specs.Prelude.{◌≡◌, ◌<◌, ◌≤◌, ℕ, IsTrue, OnErr, OnOk, count_by, is_ok, map, not, true, false, length};
 ghost use Rattle.guestmem.specs.Rises.{Touches};
 ghost use Rattle.dirtylog.specs.Members.{IsLeastFrom};
-ghost use Rattle.machine.specs.Seen.{DeviceSeen, sectors_of, marks_of};
+ghost use Rattle.machine.specs.Seen.{DeviceSeen, flushed_of, sectors_of, marks_of};
 
 use crate::any_ring::AnyRing;
 use crate::reply::Refusal;
@@ -26,7 +26,7 @@ pub struct Device<D: Disk> {
 impl<D: Disk> Model for Device<D> {
     ghost Value = { DeviceSeen };
 
-    ghost view = { λ d. record { state = d.state; sectors = sectors_of d.disk; marks = marks_of d.disk } };
+    ghost view = { λ d. record { state = d.state; sectors = sectors_of d.disk; marks = marks_of d.disk; is_flushed = flushed_of d.disk } };
 }
 
 impl<D: Disk> Device<D> {
@@ -45,11 +45,11 @@ impl<D: Disk> Device<D> {
     ghost use Rattle.machine.specs.Outcome.{is_failure};
     ghost use Rattle.machine.specs.Seen.{failed_if};
     ghost use Rattle.machine.specs.Shapes.{made_as, sector_count};
-    ghost use Rattle.machine.specs.Unsynced.{flushes, with_flush_failed};
+    ghost use Rattle.machine.specs.Unsynced.{HasFlushed, flushes, with_flush_failed};
 
     /// A device, and the disk that belongs to it.
     pub(crate) fn new(state: DeviceState, disk: Option<Sectors<D>>) -> Device<D>
-        ensures { result ≡ record { state = state; sectors = sectors_of disk; marks = marks_of disk } }
+        ensures { result ≡ record { state = state; sectors = sectors_of disk; marks = marks_of disk; is_flushed = flushed_of disk } }
     {
         Device { state, disk }
     }
@@ -111,6 +111,20 @@ impl<D: Disk> Device<D> {
         self.state.fail_flush(pick)
     }
 
+    /// Flushes the disk, if it has one.
+    pub(crate) fn flush(&mut self) -> Result<(), DiskFault>
+        ensures state { self.new.state ≡ self.old.state }
+        ensures sectors { self.new.sectors ≡ self.old.sectors }
+        ensures marks { self.new.marks ≡ failed_if (not (is_ok result)) self.old.marks }
+        ensures unsteady { OnErr result (self.old.marks.steady ≡ false) }
+        ensures flushed { OnOk result (IsTrue self.new.is_flushed) }
+    {
+        match &mut self.disk {
+            Some(sectors) => sectors.flush(),
+            None => Ok(()),
+        }
+    }
+
     #[inline(always)]
     pub(crate) fn step<L: TouchLog>(
         &mut self,
@@ -130,6 +144,7 @@ impl<D: Disk> Device<D> {
         ensures step { IsDeviceStep (Touches L.after log.old log.new ram.old ram.new) number self.old.marks.honest ram.old.bytes self.old.sectors self.old.state pick (reply_in result sent.new.items) ram.new.bytes self.new.sectors self.new.state }
         ensures marks { self.new.marks ≡ failed_if (is_failure (reply_in result sent.new.items)) self.old.marks }
         ensures unsteady { is_failure (reply_in result sent.new.items) ≡ true → self.old.marks.steady ≡ false }
+        ensures flushed { HasFlushed self.old.state pick (reply_in result sent.new.items) self.new.is_flushed }
         ensures capacity { length self.new.sectors ≡ length self.old.sectors }
         ensures bytes { IsBytes ram.new.bytes }
         ensures whole { AreWhole self.new.sectors }
@@ -186,6 +201,7 @@ impl<D: Disk> Device<D> {
         ensures sectors { self.new.sectors ≡ self.old.sectors }
         ensures marks { self.new.marks ≡ failed_if (is_failed result) self.old.marks }
         ensures unsteady { is_failed result ≡ true → self.old.marks.steady ≡ false }
+        ensures flushed { self.new.is_flushed ≡ self.old.is_flushed }
         ensures fetched { IsFetched self.old.marks.honest (sector_in self.old.sectors n) buf.new result }
     {
         match &mut self.disk {
@@ -203,6 +219,7 @@ impl<D: Disk> Device<D> {
         ensures sectors { self.new.sectors ≡ self.old.sectors }
         ensures marks { self.new.marks ≡ failed_if (not (is_ok result)) self.old.marks }
         ensures unsteady { OnErr result (self.old.marks.steady ≡ false) }
+        ensures flushed { self.new.is_flushed ≡ self.old.is_flushed }
         ensures fetched { OnOk result (IsTrue self.old.marks.honest → buf.new ≡ bytes_of (sector_in self.old.sectors n)) }
     {
         match &mut self.disk {

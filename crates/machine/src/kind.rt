@@ -4,7 +4,8 @@ ghost use Rattle.std.specs.Prelude.{◌≡◌, ◌≤◌, ◌<◌, ℕ, List, le
 ghost use Rattle.guestmem.specs.Rises.{Touches};
 ghost use Rattle.chains.specs.Transmit.{sending_in};
 ghost use Rattle.chains.specs.Frame.{MayServe, HasServed, MayLook, HasLooked, IsUntouched};
-ghost use Rattle.blk.specs.Advance.{advance_step, IsAfterAdvancing};
+ghost use Rattle.blk.specs.Advance.{HasFlushed, IsAfterAdvancing, advance_step};
+ghost use Rattle.blk.specs.Durable.{owed_at};
 ghost use Rattle.blk.specs.Flush.{flush_failed, flushes_at};
 ghost use Rattle.blk.specs.Move.{MaySectors, is_disk_failed};
 ghost use Rattle.blk.specs.Sectors.{AreWhole, IsKept};
@@ -19,7 +20,7 @@ ghost use Rattle.mmio.specs.RegisterRead.{register_read};
 use crate::reply::Refusal;
 use crate::shape::Shape;
 use crate::stepped::{Answered, Stepped};
-use blk::{Advanced, BlockShape, Disk, ID_SIZE, REQUESTS_MAX, Requests, Sectors, Taken};
+use blk::{Advanced, BlockShape, Disk, ID_SIZE, REQUESTS_MAX, Requests, Sectors, SyncOwed, Taken};
 use chains::{Ring, Transmitted};
 use console::{ConsoleSize, HostBytes, Received, emergency_byte, receive};
 use guestmem::{NoMemory, Ram, TouchLog};
@@ -271,6 +272,7 @@ impl Kind {
         ensures changes { IsAfterAdvancing (Touches L.after log.old log.new ram.old ram.new) sectors.old.honest device ram.old.bytes sectors.old.content (λ given. advance_step (block_of (made_as self.old) features) ram.old.bytes (R.state ring.old) given (requests_of self.old) k (not (is_disk_failed result))) result ram.new.bytes (R.state ring.new) sectors.new.content (requests_of self.new) }
         ensures kind { self.new ≡ with_requests self.old (requests_of self.new) }
         ensures kept { IsKept sectors.old (is_disk_failed result) sectors.new }
+        ensures flushed { HasFlushed (requests_of self.old) k result sectors.new.is_flushed }
         ensures whole { AreWhole sectors.new.content }
         ensures sound { AreSound (length ram.new.bytes) (R.state ring.new) (block_of (made_as self.old) features) (requests_of self.new) }
         ensures after { HasServed L.may ram.old ram.new log.new }
@@ -295,6 +297,16 @@ impl Kind {
         match self {
             Kind::Block { requests, .. } => requests.flushes_at(k),
             Kind::Network { .. } | Kind::Console { .. } | Kind::Entropy(_) => false,
+        }
+    }
+
+    /// What the next step of the k-th outstanding request, from 0, owes.
+    pub(crate) fn must_sync(&self, k: usize, features: u64) -> SyncOwed
+        ensures { result ≡ owed_at features (requests_of self.now) k }
+    {
+        match self {
+            Kind::Block { requests, .. } => requests.must_sync(k, features),
+            Kind::Network { .. } | Kind::Console { .. } | Kind::Entropy(_) => SyncOwed::Nothing,
         }
     }
 

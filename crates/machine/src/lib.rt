@@ -15,11 +15,15 @@
 //!   sectors as the disk gave them in this step (`specs/Applied`): the reply, RAM, the devices and which sectors are bad are as
 //!   its effect says, with any disk. Where no sector was written, what the sectors hold is known too; what a written sector
 //!   holds, and that a disk gives what it holds, is said of honest disks. The machine is sound after it, and its RAM is a later
-//!   one. The versions of exactly the pages that the effect writes into rise: every other page keeps its version.
+//!   one. The versions of exactly the pages that the effect writes into rise: every other page keeps its version. A step leaves the disks
+//!   of other devices as they were; and after the step of a driver's flush, where it answered `Moved`, the disk is flushed.
 //! - `apply_logged(event, log)` is the same step, and the log is then what the items of the step's effect make of it: exactly
 //!   the pages and sectors that the step writes into.
 //! - `read_register`, `write_register`, `read_ram`, `write_ram`, `input`, `resize` and `step` are the steps of their events,
 //!   with no event to be made.
+//! - `flush_disk(dev)` is one flush of the disk of a device, beside all steps (`specs/Unsynced`): the machine stays equal, and after an Ok the
+//!   disk is flushed. `DeviceState::must_sync(pick)` says whether what the driver wrote has to be durable before a step: it flushes the
+//!   disk by itself; or it ends a write of a driver that did not accept the feature FLUSH, before which a host calls `flush_disk`.
 //! - `fail_flush(dev, pick)` makes a step that flushes a disk as a step whose disk failed, and calls no disk (`specs/Unsynced`): for a
 //!   host that could not bring the bytes of the disk to the file that holds them. The marks of the disk stay as they are, so disks
 //!   that are honest and steady are so after it. Any other step it refuses, and then nothing has changed.
@@ -71,7 +75,7 @@ mod state;
 mod stepped;
 mod work;
 
-pub use blk::{Disk, DiskFault, FaultDisk, FileDisk, MemDisk, SECTOR_SIZE, SECTORS_MAX};
+pub use blk::{Disk, DiskFault, FaultDisk, FileDisk, MemDisk, SECTOR_SIZE, SECTORS_MAX, SyncOwed};
 pub use device::Device;
 pub use event::Event;
 pub use fitting::are_disks_of;

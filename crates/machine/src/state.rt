@@ -58,6 +58,7 @@ impl DeviceState {
     ghost use Rattle.machine.specs.Shapes.{first_device, made_as, saved_device, sector_count};
     ghost use Rattle.mmio.specs.RegisterWrite.{register_write};
     ghost use Rattle.machine.specs.Sound.{IsSoundDevice};
+    ghost use Rattle.machine.specs.Unsynced.{HasFlushed};
     ghost use Rattle.machine.specs.Step.{ResizesDevice, register_value_of, register_set, input_of, with_input, written_out};
 
     /// A new device, in a machine whose RAM has `ram_len` bytes from the address `ram_base` on. Its only error is out of memory.
@@ -204,6 +205,7 @@ impl DeviceState {
         requires may_sectors { MaySectors L.may log.old device (length sectors.old.content) }
         ensures step { IsDeviceStep (Touches L.after log.old log.new ram.old ram.new) device sectors.old.honest ram.old.bytes sectors.old.content self.old pick (reply_in result sent.new.items) ram.new.bytes sectors.new.content self.new }
         ensures kept { IsKept sectors.old (is_failure (reply_in result sent.new.items)) sectors.new }
+        ensures flushed { HasFlushed self.old pick (reply_in result sent.new.items) sectors.new.is_flushed }
         ensures later { IsLater ram.old ram.new }
         ensures fits { Fits (decoder_in ring.new) ram.new }
     {
@@ -319,6 +321,7 @@ impl DeviceState {
         requires may_sectors { MaySectors L.may log.old device (length sectors.old.content) }
         ensures advanced { (sent : List ℕ) → IsAdvancedStep (Touches L.after log.old log.new ram.old ram.new) device sectors.old.honest ram.old.bytes sectors.old.content self.old pick (ring_in ring.old) (reply_in result sent) ram.new.bytes sectors.new.content self.new }
         ensures kept { (sent : List ℕ) → IsKept sectors.old (is_failure (reply_in result sent)) sectors.new }
+        ensures flushed { (sent : List ℕ) → HasFlushed self.old pick (reply_in result sent) sectors.new.is_flushed }
         ensures later { IsLater ram.old ram.new }
         ensures fits { Fits (decoder_in ring.new) ram.new }
     {
@@ -347,6 +350,7 @@ impl DeviceState {
         requires may_sectors { MaySectors L.may log.old device (length sectors.old.content) }
         ensures advanced { (sent : List ℕ) → IsAdvancedStep (Touches L.after log.old log.new ram.old ram.new) device sectors.old.honest ram.old.bytes sectors.old.content self.old pick (R.state ring.old) (reply_in result sent) ram.new.bytes sectors.new.content self.new }
         ensures kept { (sent : List ℕ) → IsKept sectors.old (is_failure (reply_in result sent)) sectors.new }
+        ensures flushed { (sent : List ℕ) → HasFlushed self.old pick (reply_in result sent) sectors.new.is_flushed }
         ensures later { IsLater ram.old ram.new }
         ensures fits { Fits (R.decoder ring.new) ram.new }
     {

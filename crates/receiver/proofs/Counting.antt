@@ -31,7 +31,7 @@ as_long opening before others tail rest good goods none nothing (inl l) = not_lo
 as_long opening before others tail rest good goods none nothing (inr l) = sym (not_longer opening others before rest tail good nothing l.more l.all l.left)
 
 -- The whole good records of bytes are the same, wherever they are cut.
-same_records : (base : ℕ) (sizes b : List ℕ) (o p : Opened) (before others : List Record) (tail rest : List ℕ) → IsFront base sizes b o before tail → NoNext o before tail → IsFront base sizes b p others rest → NoNext p others rest → others ≡ before
+pub same_records : (base : ℕ) (sizes b : List ℕ) (o p : Opened) (before others : List Record) (tail rest : List ℕ) → IsFront base sizes b o before tail → NoNext o before tail → IsFront base sizes b p others rest → NoNext p others rest → others ≡ before
 same_records base sizes b o p before others tail rest f none g nothing =
     let t = one_opening b p o (texts others ++ rest) (texts before ++ tail) (g.based ∙ sym f.based) g.begins f.begins in
     let goods : AreGood o [] others = rw t.0 at g.good in

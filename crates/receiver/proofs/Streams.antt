@@ -47,7 +47,7 @@ spells_alone : (v : ℕ) (rs : List Record) → AllByRecursion (IsText v) rs →
 spells_alone v [] h = tt
 spells_alone v (r ∷ rs) h = (h.0.0, spells_alone v rs h.1)
 
-digest_bytes : (front digest bytes : List ℕ) → IsBytes bytes → bytes ≡ front ++ (5 ∷ digest) → IsBytes digest
+pub digest_bytes : (front digest bytes : List ℕ) → IsBytes bytes → bytes ≡ front ++ (5 ∷ digest) → IsBytes digest
 digest_bytes front digest bytes are e i =
     let tail : IsBytes (5 ∷ digest) = rw (drop_at front (5 ∷ digest) (length front) refl) at (IsBytes-drop (length front) (front ++ (5 ∷ digest)) (subst IsBytes e are)) in
     tail (suc i)

@@ -94,6 +94,13 @@ has_failed (stages.Records i) = false
 has_failed (stages.Ended i) = false
 has_failed stages.Failed = true
 
+-- The digest was read: the stream is complete.
+abbrev pub has_ended : Stage → Bool
+has_ended stages.Head = false
+has_ended (stages.Records i) = false
+has_ended (stages.Ended i) = true
+has_ended stages.Failed = false
+
 -- Where a RAM lies that stands aside, if that is memory of the caller.
 abbrev pub place_aside : Option Memory → Option Ptr
 place_aside None = None

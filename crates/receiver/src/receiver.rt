@@ -4,7 +4,7 @@ ghost use Rattle.std.specs.Prelude.{◌≡◌, All, map, true};
 ghost use Rattle.wire.specs.Header.{Opening};
 ghost use Rattle.blk.specs.Disk.{AreSectors};
 ghost use Rattle.receiver.specs.Disks.{disk_marks_of, sizes_of};
-ghost use Rattle.receiver.specs.Receiving.{has_failed, place_aside, rounds_in};
+ghost use Rattle.receiver.specs.Receiving.{has_ended, has_failed, place_aside, rounds_in};
 
 use crate::intake::Intake;
 use crate::recv_error::RecvError;
@@ -232,11 +232,25 @@ impl<D: Disk + Drop> Receiver<D> {
         rounds_of(&self.stage)
     }
 
+    /// Whether the whole stream was fed: the digest, its last record, was read, and nothing was refused. From then on any further
+    /// byte is refused (`Trailing`), and `finish` returns the machine, unless memory is refused.
+    pub fn is_whole(&self) -> bool
+        ensures whole { result ≡ true → (b : List ℕ) → HasBeenFed self.now b → IsWholeFor self.now.base self.now.sizes b }
+        ensures lacking { result ≡ false → (b : List ℕ) → HasBeenFed self.now b → ¬ (IsWholeFor self.now.base self.now.sizes b) }
+        ensures failed { self.now.failed ≡ true → result ≡ false }
+    {
+        has_ended(&self.stage)
+    }
+
     /// The machine whose stream was fed. A refusal drops the disks, and the RAM.
     ///
     /// An `Ok` says of any disks that the bytes are a whole stream for them: a header for these disks, whole good records that
     /// name every item and have every device, the digest of all of them, and nothing more. `NoMemory` is returned for such
-    /// a stream only.
+    /// a stream only, and `Truncated` never for one (see `is_whole`).
+    ///
+    /// It flushes no disk, so what was written to the disks may not be durable yet. A host finishes, brings each disk to its
+    /// storage (`Machine::flush_disk`), also the folder of a file that it made, and only then tells the source that all is there.
+    /// Where that fails the machine does not run here, and the source continues.
     pub fn finish(self) -> Result<Machine<D>, RecvError>
         ensures received { IfOk result (λ m. AreHonestDisks self.marks → (b : List ℕ) → HasBeenFed self b → IsStream b (state_of m)) }
         ensures marks { IfOk result (λ m. all_marks m ≡ dealt_marks (shapes_in (state_of m).devices) self.marks) }
@@ -245,6 +259,7 @@ impl<D: Disk + Drop> Receiver<D> {
         ensures refused { IfErr result (λ e. (b : List ℕ) → HasBeenFed self b → IsFinish b e) }
         ensures whole { OnOk result ((b : List ℕ) → HasBeenFed self b → IsWholeFor self.base self.sizes b) }
         ensures memory { result ≡ Err errors.NoMemory → (b : List ℕ) → HasBeenFed self b → IsWholeFor self.base self.sizes b }
+        ensures lacking { result ≡ Err errors.Truncated → (b : List ℕ) → HasBeenFed self b → ¬ (IsWholeFor self.base self.sizes b) }
         ensures place { IfOk result (λ m. m.memory.place ≡ self.place) }
         ensures already { self.failed ≡ true → result ≡ Err errors.AlreadyFailed }
     {
@@ -263,6 +278,7 @@ impl<D: Disk + Drop> Receiver<D> {
         ensures refused { IfErr result (λ x. (b : List ℕ) → HasBeenFed self b → IsFinish b x.0) }
         ensures whole { OnOk result ((b : List ℕ) → HasBeenFed self b → IsWholeFor self.base self.sizes b) }
         ensures memory { IfErr result (λ x. x.0 ≡ errors.NoMemory → (b : List ℕ) → HasBeenFed self b → IsWholeFor self.base self.sizes b) }
+        ensures lacking { IfErr result (λ x. x.0 ≡ errors.Truncated → (b : List ℕ) → HasBeenFed self b → ¬ (IsWholeFor self.base self.sizes b)) }
         ensures already { self.failed ≡ true → IfErr result (λ x. x.0 ≡ errors.AlreadyFailed) }
         ensures goes_on { OnOk result (self.failed ≡ false) }
         ensures back { IfErr result (λ x. IsGivenUp self x.1) }
@@ -408,6 +424,16 @@ fn rounds_of(stage: &Stage) -> u32
         Stage::Records(intake) => intake.rounds,
         Stage::Ended(intake) => intake.rounds,
         _ => 0,
+    }
+}
+
+/// Whether the stream is complete.
+fn has_ended(stage: &Stage) -> bool
+    ensures { result ≡ has_ended stage.now }
+{
+    match stage {
+        Stage::Ended(_) => true,
+        _ => false,
     }
 }
 

@@ -39,7 +39,7 @@ use Rattle.sender.proofs.Writing.{is_stopped, writes, refused_wrote, failed_on, 
 abbrev Honest : List Marks → Type 0
 Honest marks = All (λ m. IsTrue m.honest) marks
 
-honest_once : (marks : List Marks) (dev : ℕ) → Honest marks → Honest (failed_at marks dev)
+pub honest_once : (marks : List Marks) (dev : ℕ) → Honest marks → Honest (failed_at marks dev)
 honest_once marks dev are = All-set (λ m. IsTrue m.honest) marks dev (failed_once (marks_at marks dev)) (honest_at marks dev are) are
 
 honest_by : (marks : List Marks) (dev : ℕ) (b : Bool) → Honest marks → Honest (cond b (failed_at marks dev) marks)

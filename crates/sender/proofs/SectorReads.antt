@@ -26,6 +26,7 @@ pub sent_good : {A B E F : Type 0} (old new : Seen) (dev n : ℕ) (bytes : List 
 sent_good old new dev n bytes out new_out done other read appends = record {
   memory = read.memory;
   state = read.state;
+  flushed = read.flushed;
   marks = read.marks;
   named = tt;
   count = appends.count;
@@ -38,4 +39,4 @@ took_good old new dev n bytes a b other read takes = λ disks. rw (same_record o
 
 -- The disk failed.
 pub not_sent : {A E : Type 0} (old new : Seen) (dev n : ℕ) (bytes : List ℕ) (out : SinkState) (x : List ℕ) (e : E) → ReadsSector old dev n bytes (Err e) new → Sends {A = A} old out x (Err (DiskFailed dev n)) new out
-not_sent old new dev n bytes out x e read = record { memory = read.memory; state = read.state; marks = read.failed; named = (read.unsteady, read.good); count = refl; holds = tt }
+not_sent old new dev n bytes out x e read = record { memory = read.memory; state = read.state; flushed = read.flushed; marks = read.failed; named = (read.unsteady, read.good); count = refl; holds = tt }

@@ -27,6 +27,7 @@ pub then_sends : {A B : Type 0} (old mid new : Seen) (out mid_out new_out : Sink
 then_sends old mid new out mid_out new_out x y done (Ok u) first second = record {
   memory = second.memory ∙ first.memory;
   state = second.state ∙ first.state;
+  flushed = second.flushed ∙ first.flushed;
   marks = second.marks ∙ first.marks;
   named = tt;
   count = second.count ∙ first.count;
@@ -38,6 +39,7 @@ then_sends old mid new out mid_out new_out x y done (Ok u) first second = record
 then_sends {B = B} old mid new out mid_out new_out x y done (Err e) first second = record {
   memory = second.memory ∙ first.memory;
   state = second.state ∙ first.state;
+  flushed = second.flushed ∙ first.flushed;
   marks = second.marks ∙ ap (λ marks. marks_after {A = B} marks (Err e)) first.marks;
   named = named_same old mid e first.state first.marks second.named;
   count = second.count ∙ ap (λ n. cond (has_writer_failed {A = B} (Err e)) ((n + 1) % 2 ^ 64) n) first.count;
@@ -50,10 +52,10 @@ then_takes_on old mid a b c x y done (Err e) marks first second = tt
 
 -- A call that asks no disk.
 pub sends_ok : {A B E : Type 0} (m : Seen) (out new_out : SinkState) (x : List ℕ) (done : A) (other : B) → Appends {E = E} out x (Ok done) new_out → Sends m out x (Ok other) m new_out
-sends_ok m out new_out x done other h = record { memory = refl; state = refl; marks = refl; named = tt; count = h.count; holds = λ disks. h.holds }
+sends_ok m out new_out x done other h = record { memory = refl; state = refl; flushed = refl; marks = refl; named = tt; count = h.count; holds = λ disks. h.holds }
 
 pub sends_err : {A B E : Type 0} (m : Seen) (out new_out : SinkState) (x : List ℕ) (e : E) → Appends {T = A} out x (Err e) new_out → Sends {A = B} m out x (Err StreamFailed) m new_out
-sends_err m out new_out x e h = record { memory = refl; state = refl; marks = refl; named = tt; count = h.count; holds = tt }
+sends_err m out new_out x e h = record { memory = refl; state = refl; flushed = refl; marks = refl; named = tt; count = h.count; holds = tt }
 
 -- The same, where the second call sends a part of the machine as it then is.
 pub sends_next : {A B : Type 0} (old mid new : Seen) (out mid_out new_out : SinkState) (x z : List ℕ) (y : MachineState → List ℕ) (done : A) (result : Result B MigError) → x ++ y (state_of old) ≡ z → Sends old out x (Ok done) mid mid_out → Sends mid mid_out (y (state_of mid)) result new new_out → Sends old out z result new new_out
@@ -66,11 +68,11 @@ takes_next old mid new out mid_out a b c x z y done result e sent first second =
 
 -- Nothing was sent yet.
 pub sends_nothing : {A : Type 0} (m : Seen) (out : SinkState) (x : List ℕ) (done : A) → x ≡ [] → Sends m out x (Ok done) m out
-sends_nothing m out x done e = record { memory = refl; state = refl; marks = refl; named = tt; count = refl; holds = λ disks honest. (honest, sym (ap (λ bytes. out.held ++ bytes) e ∙ append-nil out.held)) }
+sends_nothing m out x done e = record { memory = refl; state = refl; flushed = refl; marks = refl; named = tt; count = refl; holds = λ disks honest. (honest, sym (ap (λ bytes. out.held ++ bytes) e ∙ append-nil out.held)) }
 
 pub takes_nothing : {A : Type 0} (m : Seen) (a : List ℕ → Type 0) (x : List ℕ) (done : A) → x ≡ [] → TakesOn m a x (Ok done) a
 takes_nothing m a x done e = λ disks before h. subst a (sym (ap (λ bytes. before ++ bytes) e ∙ append-nil before)) h
 
 -- What a call that succeeded returned is no part of what it sent.
 pub sends_alike : {A B : Type 0} (old new : Seen) (out new_out : SinkState) (x : List ℕ) (done : A) (other : B) → Sends old out x (Ok done) new new_out → Sends old out x (Ok other) new new_out
-sends_alike old new out new_out x done other sent = record { memory = sent.memory; state = sent.state; marks = sent.marks; named = tt; count = sent.count; holds = sent.holds }
+sends_alike old new out new_out x done other sent = record { memory = sent.memory; state = sent.state; flushed = sent.flushed; marks = sent.marks; named = tt; count = sent.count; holds = sent.holds }

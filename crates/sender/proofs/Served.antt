@@ -50,7 +50,7 @@ pub item_sent : {A : Type 0} (old new : LiveSeen) (i : ℕ) (item : Item) (done 
 item_sent old new i item done is sends takes phase due dirty = record {
   item_is = is;
   sent = record {
-    machine = seen_same old.machine new.machine sends.memory sends.state sends.marks;
+    machine = seen_same old.machine new.machine sends.memory sends.state sends.marks sends.flushed;
     phase = phase;
     due = due;
     dirty = dirty;
@@ -64,12 +64,13 @@ rest_parts m p q due new_due dirty new_dirty digest new_digest out new_out a b c
 
 pub item_not_sent : {A : Type 0} (old new : LiveSeen) (i : ℕ) (item : Item) (e : MigError) (x : List ℕ) → item_of item ≡ item_at (layout_of (now old)) i → Sends {A = A} old.machine old.out x (Err e) new.machine new.out
     → NamesItem (item_of item) e old.out new.out old.digest new.digest → new.phase ≡ phase_after old.phase e → new.due ≡ old.due → new.dirty ≡ old.dirty → SendsItem old i (Err e) new
-item_not_sent old new i item errors.StreamFailed x is sends names phase due dirty = record { machine = seen_same old.machine new.machine sends.memory sends.state sends.marks; phase = phase; count = sends.count }
+item_not_sent old new i item errors.StreamFailed x is sends names phase due dirty = record { machine = seen_same old.machine new.machine sends.memory sends.state sends.marks sends.flushed; phase = phase; count = sends.count }
 item_not_sent old new i item (errors.DiskFailed dev n) x is sends names phase due dirty = record {
   item_is = names.names ∙ is;
   unread = record {
     memory = sends.memory;
     state = sends.state;
+    flushed = sends.flushed;
     marks = sends.marks;
     unsteady = sends.named.0;
     good = sends.named.1;

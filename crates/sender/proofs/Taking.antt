@@ -40,7 +40,7 @@ module _ (taken : List ℕ) where
   sent old i new s = record { machine = s.machine; phase = s.phase; due = s.due; dirty = s.dirty; wrote = wrote old new _ s.wrote }
 
   unread : (old : LiveSeen) (dev n : ℕ) (new : LiveSeen) → IsUnread old dev n new → IsUnread (U old) dev n (U new)
-  unread old dev n new u = record { memory = u.memory; state = u.state; marks = u.marks; unsteady = u.unsteady; good = u.good; rest = ap U u.rest }
+  unread old dev n new u = record { memory = u.memory; state = u.state; flushed = u.flushed; marks = u.marks; unsteady = u.unsteady; good = u.good; rest = ap U u.rest }
 
   begins : (old new : LiveSeen) → Begins old new → Begins (U old) (U new)
   begins old new b = record { machine = b.machine; phase = b.phase; due = b.due; dirty = b.dirty; wrote = wrote old new _ b.wrote }

@@ -7,7 +7,7 @@ use Rattle.machine.specs.Applied.{IsApplied, IsGood}
 use Rattle.machine.specs.Effect.{items_of}
 use Rattle.machine.specs.EffectLaws.{sector_on, sectors_on}
 use Rattle.machine.specs.Layout.{firsts_of, item_at, layout_of, number_in, size_of}
-use Rattle.machine.specs.Seen.{AreHonest, all_marks, failed_at, marks_at}
+use Rattle.machine.specs.Seen.{AreHonest, all_marks, failed_at, marks_at, all_flushed}
 use Rattle.machine.specs.Stepped.{reply_in}
 use Rattle.machine.specs.declared.event.Event.{Event}
 use Rattle.machine.specs.declared.reply.Reply.{Reply}
@@ -76,6 +76,7 @@ pub record IsSent (old : LiveSeen) (i : ℕ) (new : LiveSeen) : Type 0 where
 pub record IsUnread (old : LiveSeen) (dev n : ℕ) (new : LiveSeen) : Type 0 where
   pub memory : new.machine.memory ≡ old.machine.memory
   pub state : now new ≡ now old
+  pub flushed : all_flushed new.machine ≡ all_flushed old.machine
   pub marks : all_marks new.machine ≡ failed_at (all_marks old.machine) dev
   pub unsteady : (marks_at (all_marks old.machine) dev).steady ≡ false
   pub good : IsGood (sector_on (sectors_on (now old) dev) n)

@@ -3,7 +3,7 @@ use Rattle.std.specs.Prelude.{◌≡◌, ℕ, ◌+◌, ◌%◌, ◌^◌, ◌++�
 use Rattle.guestmem.specs.Item as items
 use Rattle.machine.specs.Applied.{IsGood}
 use Rattle.machine.specs.EffectLaws.{sector_on, sectors_on}
-use Rattle.machine.specs.Seen.{AreHonest, Marks, Seen, all_marks, failed_at, marks_at, state_of}
+use Rattle.machine.specs.Seen.{AreHonest, Marks, Seen, all_marks, failed_at, marks_at, state_of, all_flushed}
 use Rattle.sender.specs.declared.mig_error.MigError.{MigError}
 use Rattle.sender.specs.declared.mig_error.MigError.TheVariants.{AlreadyBegun, AlreadyStopped, DiskFailed, NotBegun, RoundsEnded, StreamFailed}
 use Rattle.wire.specs.Sinks.{SinkState, Takes}
@@ -52,6 +52,7 @@ NamesItem i e out new_out tally new_tally = Unit {0}
 pub record Sends {A : Type 0} (old : Seen) (out : SinkState) (bytes : List ℕ) (result : Result A MigError) (new : Seen) (new_out : SinkState) : Type 0 where
   pub memory : new.memory ≡ old.memory
   pub state : state_of new ≡ state_of old
+  pub flushed : all_flushed new ≡ all_flushed old
   pub marks : all_marks new ≡ marks_after (all_marks old) result
   pub named : IfErr result (λ e. IsNamed old e)
   pub count : new_out.failures ≡ (if has_writer_failed result then (out.failures + 1) % 2 ^ 64 else out.failures)

@@ -1,8 +1,9 @@
--- A flush that fails in place of its step, while the machine is migrated.
+-- Flushes beside all steps, and flushes that fail in place of their step, while the machine is migrated.
 use Rattle.std.specs.Prelude.{◌≡◌, ◌≢◌, ℕ, List, Bool, true, false, Result, Ok, Err, MatchOption}
+use Rattle.blk.specs.declared.disk.DiskFault.{DiskFault}
 use Rattle.machine.specs.Effect.{Effect}
 use Rattle.machine.specs.State.{MachineState}
-use Rattle.machine.specs.Unsynced.{FailsFlush, makes_flush}
+use Rattle.machine.specs.Unsynced.{FailsFlush, FlushesDisk, makes_flush}
 use Rattle.machine.specs.declared.event.Event.TheVariants.{Step}
 use Rattle.machine.specs.declared.reply.Reply.TheVariants.{DiskFailed}
 use Rattle.wire.specs.Sinks.{SinkState}
@@ -47,3 +48,12 @@ FailureFollows = (m : MachineState) (h : History) (out : SinkState) (dev pick : 
 abbrev pub TakenFailureFollows : Type 0
 TakenFailureFollows = (m : MachineState) (h : History) (out : SinkState) (taken : List ℕ) (dev pick : ℕ) (old new : LiveSeen) → Relates m h out (untaken taken old) → HasPlaces old → old.phase ≢ phases.Stopped → FailsLiveFlush old dev pick new
     → FailureGoesOn m h out dev pick (untaken taken new)
+
+-- One flush of the disk of a device, beside all steps: the machine is as it was, and so is all else, in each phase.
+pub record FlushesLiveDisk {T E : Type 0} (old : LiveSeen) (dev : ℕ) (result : Result T E) (new : LiveSeen) : Type 0 where
+  pub flushes : FlushesDisk old.machine dev result new.machine
+  pub rest : new ≡ record old { machine = new.machine }
+
+-- It is no part of the history, which stays as it was.
+abbrev pub FlushFollows : Type 0
+FlushFollows = (m : MachineState) (h : History) (out : SinkState) (dev : ℕ) (result : Result (Unit {0}) DiskFault) (old new : LiveSeen) → Relates m h out old → FlushesLiveDisk old dev result new → Relates m h out new

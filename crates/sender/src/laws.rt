@@ -4,7 +4,7 @@ ghost use Rattle.sender.specs.Follows.{CallsFollow};
 ghost use Rattle.sender.specs.HistoryLaws.{AfterIsRun, FreshIsLast, OneHistory, StaleIsNotFresh, StoppedIsStream};
 ghost use Rattle.sender.specs.Parked.{LiveBackFollows, LiveBackIsServed};
 ghost use Rattle.sender.specs.Taking.{CallsIgnoreTaken, TakenAreWhole, TakenFollow};
-ghost use Rattle.sender.specs.Unsynced.{FailureFollows, TakenFailureFollows};
+ghost use Rattle.sender.specs.Unsynced.{FailureFollows, FlushFollows, TakenFailureFollows};
 
 /// Whatever happened, an item that is not stale, a page or a sector, is as the last record that names it says.
 pub fn fresh_is_last()
@@ -72,4 +72,9 @@ pub fn failed_flush_follows_the_history()
 /// The same if part of the stream was taken out before.
 pub fn taken_failed_flush_follows_the_history()
     ensures { TakenFailureFollows }
+{}
+
+/// A flush by `Live::flush_disk` is no part of the history, which stays as it was.
+pub fn flush_keeps_the_history()
+    ensures { FlushFollows }
 {}

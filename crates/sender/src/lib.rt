@@ -27,6 +27,8 @@
 //!     a set. A bad sector is sent with no call of its disk.
 //! - `fail_flush` makes a step that flushes a disk as one whose disk failed, and calls no disk (`specs/Unsynced`). The history
 //!   continues with that step, and nothing becomes dirty: the stop sends the devices whole.
+//! - `flush_disk` is one flush of the disk of a device, in each phase: the machine stays equal, and the history as it was
+//!   (`laws::flush_keeps_the_history`).
 //! - `remaining` counts both sets in constant time; `machine` lends the machine to be read; `into_parts` and `abort`
 //!   return it.
 //! - `lend` gives the RAM of a machine over memory of the caller to the caller, whose guest may write there, and keeps all else as a

@@ -8,7 +8,7 @@ ghost use Rattle.machine.specs.Layout.{layout_of, size_of};
 ghost use Rattle.sender.specs.LiveState.{now, refusal_for};
 ghost use Rattle.sender.specs.Calls.{Serves, begun_reply, copied_reply, ended_reply, guest_reply, stepped_result, stopped_reply};
 ghost use Rattle.sender.specs.Parked.{IsLiveParked};
-ghost use Rattle.sender.specs.Unsynced.{TriesFlush};
+ghost use Rattle.sender.specs.Unsynced.{FlushesLiveDisk, TriesFlush};
 ghost use Rattle.sender.specs.Stopping.{Closes, HasNoneUpTo, HasPlaces, SendsAll, SendsItem, lesser, one_more, phase_after};
 
 use crate::dirty::Dirty;
@@ -19,7 +19,7 @@ use crate::numbering::{item_at, number_items, page_count};
 use crate::phase::Phase;
 use crate::saving::{send_item, write_devices, write_end};
 use dirtylog::BitSet;
-use machine::{Disk, Event, Machine, Reply, Stepped};
+use machine::{Disk, DiskFault, Event, Machine, Reply, Stepped};
 use region::Region;
 use sha2::{Digest, Sha256};
 use std::alloc::{AllocError, Global};
@@ -279,6 +279,14 @@ impl<D: Disk, W: Sink> Live<D, W> {
             self.source
                 .step_into_logged(dev, pick, sent, &mut self.changed),
         )
+    }
+
+    /// Flushes the disk of a device once, if it has one, in each phase (`Machine::flush_disk`). The machine and its migration stay as they
+    /// are.
+    pub fn flush_disk(&mut self, dev: u8) -> Result<(), DiskFault>
+        ensures { FlushesLiveDisk self.old dev result self.new }
+    {
+        self.source.flush_disk(dev)
     }
 
     /// In place of a step that flushes a disk: makes it as a step whose disk failed, and calls no disk (`Machine::fail_flush`). The

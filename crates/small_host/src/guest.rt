@@ -2,7 +2,7 @@
 
 use crate::host::done;
 use anyhow::{Result, bail};
-use vmig::{Event, Live, Machine, MemDisk, Reply, WriteSink};
+use vmig::{DiskFault, Event, Live, Machine, MemDisk, Reply, WriteSink};
 
 /// A machine that is being migrated, and the bytes written for it.
 pub type Moving = Live<MemDisk, WriteSink<Vec<u8>>>;
@@ -15,6 +15,9 @@ pub trait Guest: Drop {
     /// Puts bytes in, and returns how many were kept.
     fn input(&mut self, dev: u8, bytes: &[u8]) -> Result<u32>;
 
+    /// Makes what was written to the disk of a device durable.
+    fn flush_disk(&mut self, dev: u8) -> std::result::Result<(), DiskFault>;
+
     /// The machine, to be read.
     fn machine(&self) -> &Machine<MemDisk>;
 }
@@ -26,6 +29,10 @@ impl Guest for Machine<MemDisk> {
 
     fn input(&mut self, dev: u8, bytes: &[u8]) -> Result<u32> {
         done(Machine::input(self, dev, bytes))
+    }
+
+    fn flush_disk(&mut self, dev: u8) -> std::result::Result<(), DiskFault> {
+        Machine::flush_disk(self, dev)
     }
 
     fn machine(&self) -> &Machine<MemDisk> {
@@ -44,6 +51,10 @@ impl Guest for Moving {
             Reply::Accepted(kept) => Ok(kept),
             reply => bail!("an input was answered {reply:?}"),
         }
+    }
+
+    fn flush_disk(&mut self, dev: u8) -> std::result::Result<(), DiskFault> {
+        Live::flush_disk(self, dev)
     }
 
     fn machine(&self) -> &Machine<MemDisk> {

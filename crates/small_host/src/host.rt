@@ -5,7 +5,9 @@ use crate::guest::Guest;
 use crate::migration::migrate;
 use anyhow::{Result, bail};
 use std::io::Write;
-use vmig::{Event, Machine, MemDisk, Refusal, Reply, Shape, Work, WriteSink, receive, save};
+use vmig::{
+    Event, Machine, MemDisk, Refusal, Reply, Shape, SyncOwed, Work, WriteSink, receive, save,
+};
 
 /// Sectors of the guest's disk.
 pub const SECTORS: u64 = 8;
@@ -74,6 +76,7 @@ impl<G: Guest> Host<G> {
                 dev: work.dev,
                 pick: work.pick,
             };
+            self.bring(rt, work)?;
             let reply = self.guest.apply(&step)?;
             println!(rt; "device {}: {reply:?}", work.dev)?;
             self.set_lines(rt)?;
@@ -83,6 +86,19 @@ impl<G: Guest> Host<G> {
             last = work;
         }
         println!(rt; "host: the rest of the work waits for the next turn")?;
+        Ok(())
+    }
+
+    /// Makes what the guest wrote durable before a step that ends a write of a driver without FLUSH: such a driver takes it for durable from
+    /// then on. Where the disk fails the step is not made, and the guest is ended: a later flush that succeeds would not bring it back.
+    fn bring(&mut self, rt: &HostRuntime, work: Work) -> Result<()> {
+        let SyncOwed::EndOfWrite = self.guest.machine().state(work.dev).must_sync(work.pick) else {
+            return Ok(());
+        };
+        println!(rt; "host: flushes disk {} before its write ends", work.dev)?;
+        if self.guest.flush_disk(work.dev).is_err() {
+            bail!("disk {} has lost what the guest wrote", work.dev);
+        }
         Ok(())
     }
 

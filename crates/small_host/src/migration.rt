@@ -1,6 +1,6 @@
 //! The loop of a host that moves its guest to another host while it runs.
 
-use crate::driver::Exit;
+use crate::driver::{DISK, Exit};
 use crate::guest::Moving;
 use crate::host::{Host, disks};
 use anyhow::{Result, bail};
@@ -67,11 +67,19 @@ fn send_due(live: &mut Moving) -> Result<()> {
     Ok(())
 }
 
-/// Receives the machine of a stream, fed in pieces, over disks of the same sizes.
+/// Receives the machine of a stream, fed in pieces, over disks of the same sizes. What arrived is made durable before it runs here: its guest
+/// may have been told of a flush long ago.
 fn arrive(rt: &HostRuntime, stream: &[u8]) -> Result<Machine<MemDisk>> {
     let mut receiver = Receiver::new(rt.alloc(), disks(rt)?);
     for piece in stream.chunks(PIECE) {
         receiver.feed(piece)?;
     }
-    Ok(receiver.finish()?)
+    if !receiver.is_whole() {
+        bail!("the stream is cut off");
+    }
+    let mut machine = receiver.finish()?;
+    if machine.flush_disk(DISK).is_err() {
+        bail!("what arrived did not reach its disk: the machine continues where it came from");
+    }
+    Ok(machine)
 }

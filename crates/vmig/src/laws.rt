@@ -17,8 +17,9 @@ pub use rehearsal::laws::{
 };
 pub use sender::laws::{
     after_is_run, calls_follow, calls_ignore_what_was_taken, failed_flush_follows_the_history,
-    fresh_is_last, replies_settle, stale_is_not_fresh, stopped_is_a_stream,
-    taken_failed_flush_follows_the_history, taken_follows_the_history, taken_is_whole,
+    flush_keeps_the_history, fresh_is_last, replies_settle, stale_is_not_fresh,
+    stopped_is_a_stream, taken_failed_flush_follows_the_history, taken_follows_the_history,
+    taken_is_whole,
 };
 pub use traces::laws::{events_are_read_in_one_way, texts_are_read_in_one_way};
 pub use wire::laws::{

@@ -45,7 +45,8 @@ pub use fault_writer::FaultWriter;
 pub use guestmem::{ACCESS_MAX, NoMemory, PAGE_SIZE, PAGES_MAX, Ram, RamError, Touched, is_zero};
 pub use machine::{
     Bytes, DEVICES_MAX, DeviceState, Disk, DiskFault, Event, FaultDisk, FileDisk, Kind, Machine,
-    MemDisk, NewError, Refusal, Reply, SECTOR_SIZE, SECTORS_MAX, Shape, Stepped, Work, is_base,
+    MemDisk, NewError, Refusal, Reply, SECTOR_SIZE, SECTORS_MAX, Shape, Stepped, SyncOwed, Work,
+    is_base,
 };
 pub use program::execute;
 pub use receiver::{Receiver, RecvError, read_heading, receive, receive_at};

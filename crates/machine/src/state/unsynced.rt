@@ -1,9 +1,10 @@
-//! Flushes of a device that fail in place of their step.
+//! What a step owes to what holds a disk, and flushes that fail in place of their step.
 
 ghost use Rattle.std.specs.Prelude.{◌≡◌};
-ghost use Rattle.machine.specs.Unsynced.{flushes, with_flush_failed};
+ghost use Rattle.machine.specs.Unsynced.{flushes, owed, with_flush_failed};
 
 use crate::state::DeviceState;
+use blk::SyncOwed;
 
 impl DeviceState {
     /// Whether a step with this pick flushes the disk of the device.
@@ -11,6 +12,20 @@ impl DeviceState {
         ensures { result ≡ flushes self.now pick }
     {
         self.advances(pick) && self.kind.flushes_at(pick as usize - 1)
+    }
+
+    /// Whether what the driver wrote has to be durable before a step with this pick, and why: the step flushes the disk, or it ends a
+    /// write, or a clearing, of a driver that did not accept the feature FLUSH (VIRTIO 1.2, 5.2.6.2). The step of a flush flushes by itself;
+    /// for the end of such a write flush the disk before it (`Machine::flush_disk`). Where that fails the step is not made, and the guest
+    /// is ended, or moved to another host.
+    pub fn must_sync(&self, pick: u8) -> SyncOwed
+        ensures { result ≡ owed self.now pick }
+    {
+        if !self.advances(pick) {
+            return SyncOwed::Nothing;
+        }
+        let features = self.registers.features();
+        self.kind.must_sync(pick as usize - 1, features)
     }
 
     /// Fails the flush that a step with this pick makes, if it makes one.

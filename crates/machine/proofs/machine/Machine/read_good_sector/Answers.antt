@@ -28,6 +28,7 @@ returns g c =
       sectors = c.read_good.ensures.sectors;
       marks = c.read_good.ensures.marks;
       unsteady = c.read_good.ensures.unsteady;
+      flushed = c.read_good.ensures.flushed;
       is = c.read_good.ensures.fetched;
     } in
     rw (← c.self.view_is) (reads_good ram ds c.args.dev c.args.n c.index_mut.result.now c.read_good.new.self c.read_good.new.buf c.read_good.result read)

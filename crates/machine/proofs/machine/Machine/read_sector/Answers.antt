@@ -22,6 +22,7 @@ returns g c =
       sectors = c.read_sector.ensures.sectors;
       marks = c.read_sector.ensures.marks;
       unsteady = c.read_sector.ensures.unsteady;
+      flushed = c.read_sector.ensures.flushed;
       is = c.read_sector.ensures.fetched;
     } in
     let told : Tells c.read_sector.result c.match-read_sector.result = elim c.match-read_sector.branch [

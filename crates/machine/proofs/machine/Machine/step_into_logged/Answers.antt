@@ -15,7 +15,7 @@ returns-then-number-len g c =
     let i = c.self.inside in
     rw (← c.self.view_is)
     (applied_logged g.L.TouchLog.after i.shapes.items (record { memory = i.ram; devices = i.devices.items }) _ c.args.log.now c.args.log.now (events.Step c.args.dev c.args.pick) (replies.Refused refusals.NoDevice) c.self.invariant.0 (c.ranges.dev.fits, c.ranges.pick.fits)
-    (missing_step _ i.ram i.devices.items c.args.dev c.args.pick (omega arith) (touches_none g.L.TouchLog.after c.args.log.now c.args.log.now i.ram i.ram refl refl)) (later_same i.ram) refl (λ h. cc))
+    (missing_step _ i.ram i.devices.items c.args.dev c.args.pick (omega arith) (touches_none g.L.TouchLog.after c.args.log.now c.args.log.now i.ram i.ram refl refl)) (later_same i.ram) refl (λ h. cc) (record { others = λ k other. refl; flushed = λ makes done. cc }))
 
 pub step-requires-clause-sound : goal.step-requires-clause-sound
 step-requires-clause-sound g c =
@@ -49,4 +49,4 @@ returns g c =
     let at : IsAt i.devices.items c.args.dev d = record { below = omega arith; is = c.index_mut-device.ensures.value } in
     rw (← c.self.view_is)
     (worked g.L.TouchLog.after i.shapes.items i.ram c.step.new.ram c.args.log.now c.step.new.log i.devices.items c.args.dev c.args.pick d c.step.new.self (reply_in c.step.result c.step.new.sent.items) c.self.invariant.0 at c.step.ensures.step c.step.ensures.later.bytes c.step.ensures.bytes c.step.ensures.whole c.step.ensures.capacity
-    c.step.ensures.later c.step.ensures.marks c.step.ensures.unsteady)
+    c.step.ensures.later c.step.ensures.marks c.step.ensures.unsteady c.step.ensures.flushed)

@@ -16,7 +16,7 @@ returns-in-Some g c =
     let based : c.base-base.result ≡ seen_base i.devices.items = rw (← c.self.view_is) at c.base-base.ensures in
     rw (← c.self.view_is)
     (applied_logged g.L.TouchLog.after i.shapes.items (record { memory = i.ram; devices = i.devices.items }) _ c.args.log.now c.args.log.now (events.MemWrite c.args.addr c.args.bytes.now) (replies.Refused c.from.result) c.self.invariant.0 (c.ranges.addr.fits, λ k. omega (arith, c.type_inv.bytes k))
-    (unstored_step _ i.ram i.devices.items c.args.addr c.args.bytes.now c.in-Some.error c.from.result (rw (based, c.len.ensures) at (sym c.access_refusal.ensures.refusal ∙ c.in-Some.is)) c.from.ensures (touches_none g.L.TouchLog.after c.args.log.now c.args.log.now i.ram i.ram refl refl)) (later_same i.ram) refl tt)
+    (unstored_step _ i.ram i.devices.items c.args.addr c.args.bytes.now c.in-Some.error c.from.result (rw (based, c.len.ensures) at (sym c.access_refusal.ensures.refusal ∙ c.in-Some.is)) c.from.ensures (touches_none g.L.TouchLog.after c.args.log.now c.args.log.now i.ram i.ram refl refl)) (later_same i.ram) refl tt tt)
 
 pub invariant_of-self : goal.invariant_of-self
 invariant_of-self g c =
@@ -35,4 +35,4 @@ returns g c =
     let step = stored_step (Touches g.L.TouchLog.after c.args.log.now c.put.new.log i.ram c.put.new.self) i.ram c.put.new.self i.devices.items c.args.addr c.args.bytes.now (rw (based, c.len.ensures) at (sym c.access_refusal.ensures.refusal ∙ c.in_default.is)) (rw based at c.put.ensures.bytes) (rw (← based) (record { log_is = c.put.ensures.log; rises = c.put.ensures.rises })) in
     rw (← c.self.view_is)
     (applied_logged g.L.TouchLog.after i.shapes.items (record { memory = i.ram; devices = i.devices.items }) _ c.args.log.now c.put.new.log (events.MemWrite c.args.addr c.args.bytes.now) replies.Done c.self.invariant.0 (c.ranges.addr.fits, c.recall_bytes.ensures)
-    step c.put.ensures.later refl tt)
+    step c.put.ensures.later refl tt tt)

@@ -1,12 +1,13 @@
-use Rattle.std.proofs.Common.{refl, ◌≡◌, ◌++◌, ap, map, sym, subst, ◌∙◌}
+use Rattle.std.proofs.Common.{false, refl, ◌≡◌, ◌++◌, ap, map, sym, subst, ◌∙◌}
 use Rattle.machine.specs.First.{dealt_marks}
 use Rattle.machine.specs.Seen.{state_of}
 use Rattle.machine.specs.Shapes.{disk_sizes}
 use Rattle.machine.specs.State.{MachineState, base_of}
 use Rattle.wire.specs.Stream.{shapes_in}
 use Rattle.receiver.specs.Disks.{AreHonestDisks, disk_marks_of}
-use Rattle.receiver.specs.Receiving.{HasBeenFed, IsReceiver, IsTaken, IsWholeFor, Received, place_in, received_by}
+use Rattle.receiver.specs.Receiving.{HasBeenFed, IsReceiver, IsTaken, IsWholeFor, Received, has_ended, place_in, received_by}
 use Rattle.receiver.specs.declared.stage.Stage.TheVariants as stages
+use Rattle.receiver.proofs.Ending.{not_whole_taken}
 use Rattle.receiver.proofs.Feeding.{marks_mapped}
 use Rattle.receiver.proofs.Knowing.{come_of, read_based, read_sound, whole_come, whole_shapes, whole_stream}
 use Rattle.receiver.proofs.Streams.{no_stream_head, no_stream_reading}
@@ -88,3 +89,17 @@ returns-in-Ok-clause-whole g c = λ b f.
     let ended : IsTaken c.self.inside.base (map g.D.Disk.state c.self.inside.disks.items) c.self.inside.taken b c.self.inside.held.items (stages.Ended c.in-Ended.intake) = rw c.in-Ended.is at fed.taken in
     let h = come_of c.self.inside.base _ c.self.inside.taken b c.self.inside.held.items c.in-Ended.intake ended in
     subst (λ (v : Received). IsWholeFor v.base v.sizes b) c.self.view_is (whole_come c.self.inside.base _ b c.in-Ended.intake h)
+
+pub returns-in-Records-clause-lacking : goal.returns-in-Records-clause-lacking
+returns-in-Records-clause-lacking g c = λ is b f.
+    let seen : Received = received_by c.self.inside.base (place_in c.self.inside.aside c.self.inside.stage) (map g.D.Disk.state c.self.inside.disks.items) c.self.inside.stage c.self.inside.taken c.self.inside.held.items in
+    let fed : HasBeenFed seen b = subst (λ (v : Received). HasBeenFed v b) (sym c.self.view_is) f in
+    let not_yet : has_ended c.self.inside.stage ≡ false = ap has_ended c.in-Records.is in
+    subst (λ (v : Received). ¬ (IsWholeFor v.base v.sizes b)) c.self.view_is (not_whole_taken c.self.inside.base _ c.self.inside.taken b c.self.inside.held.items c.self.inside.stage fed.bytes not_yet fed.taken)
+
+pub returns-clause-lacking : goal.returns-clause-lacking
+returns-clause-lacking g c = λ is b f.
+    let seen : Received = received_by c.self.inside.base (place_in c.self.inside.aside c.self.inside.stage) (map g.D.Disk.state c.self.inside.disks.items) c.self.inside.stage c.self.inside.taken c.self.inside.held.items in
+    let fed : HasBeenFed seen b = subst (λ (v : Received). HasBeenFed v b) (sym c.self.view_is) f in
+    let not_yet : has_ended c.self.inside.stage ≡ false = ap has_ended c.in-Head.is in
+    subst (λ (v : Received). ¬ (IsWholeFor v.base v.sizes b)) c.self.view_is (not_whole_taken c.self.inside.base _ c.self.inside.taken b c.self.inside.held.items c.self.inside.stage fed.bytes not_yet fed.taken)

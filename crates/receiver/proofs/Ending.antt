@@ -1,0 +1,64 @@
+-- Whether all of a stream was fed.
+use Rattle.std.proofs.Common.{◌≡◌, ℕ, true, false, List, [], ◌∷◌, ◌++◌, refl, ap, sym, ◌∙◌, append_assoc, append-nil}
+use Rattle.std.proofs.lemmas.List.{append_cancel_left}
+use Rattle.sha2.specs.Sha256.{sha256}
+use Rattle.sha2.specs.declared.Sha256.{Sha256}
+use Rattle.sha2.proofs.Facts256.{length-sha256}
+use Rattle.blk.specs.Disk.{DiskState}
+use Rattle.guestmem.specs.Number.{IsBytes}
+use Rattle.wire.specs.Records.{Record, commit, spelled_record}
+use Rattle.wire.specs.Stream.{texts}
+use Rattle.receiver.specs.Disks.{sizes_in}
+use Rattle.receiver.specs.Opened.{header, said_by}
+use Rattle.receiver.specs.Heading.{WaitsHead}
+use Rattle.receiver.specs.Receiving.{IsReading, IsTaken, IsWholeFor, NoNext, has_ended, has_failed}
+use Rattle.receiver.specs.declared.intake.Intake.{Intake}
+use Rattle.receiver.specs.declared.stage.Stage.{Stage}
+use Rattle.receiver.specs.declared.stage.Stage.TheVariants as stages
+use Rattle.receiver.proofs.Aligned.{one_opening}
+use Rattle.receiver.proofs.Counting.{same_records}
+use Rattle.receiver.proofs.Knowing.{come_of, no_other, whole_come}
+use Rattle.receiver.proofs.Streams.{digest_bytes}
+use Rattle.receiver.proofs.Working.{commit_text, front_at, front_of}
+
+-- Bytes of which no whole header was read.
+pub not_whole_head : (base : ℕ) (sizes held : List ℕ) → WaitsHead held → ¬ (IsWholeFor base sizes held)
+not_whole_head base sizes held w h = w.no_header (said_by h.opening) (texts h.before ++ spelled_record (commit (sha256 (header h.opening ++ texts h.before)))) h.front.begins
+
+-- Bytes that go on after the last whole record. Were they whole, their last record would be a whole one that follows.
+pub not_whole_reading : (base : ℕ) (ds : List DiskState) (read tail bytes : List ℕ) (i : Intake) → IsBytes bytes → bytes ≡ read ++ tail → IsReading base ds read tail i → ¬ (IsWholeFor base (sizes_in ds) bytes)
+not_whole_reading base ds read tail bytes i are parts r h =
+    let o = r.open_at in
+    let sum = sha256 (header h.opening ++ texts h.before) in
+    let end = spelled_record (commit sum) in
+    let f = front_at r.based (front_of bytes tail o.read parts) in
+    let none : NoNext r.opening o.before tail = λ s y g e. o.waits.no_record s y g.spells g.has e in
+    let nothing : NoNext h.opening h.before end = λ s y g e. no_other h.opening h.before sum s y g (sym (commit_text sum) ∙ e) in
+    let t = one_opening bytes h.opening r.opening (texts h.before ++ end) (texts o.before ++ tail) (h.front.based ∙ sym f.based) h.front.begins f.begins in
+    let records : h.before ≡ o.before = same_records base (sizes_in ds) bytes r.opening h.opening o.before h.before tail end f none h.front nothing in
+    let left : texts o.before ++ end ≡ texts o.before ++ tail = ap (λ (x : List Record). texts x ++ end) (sym records) ∙ t.1 in
+    let same : end ≡ tail = append_cancel_left (texts o.before) end tail left in
+    let whole : bytes ≡ (header h.opening ++ texts h.before) ++ (5 ∷ sum) =
+    h.front.begins.whole ∙ sym (append_assoc (header h.opening) (texts h.before) end) ∙ ap (λ (x : List ℕ). (header h.opening ++ texts h.before) ++ x) (commit_text sum) in
+    o.waits.no_record (commit sum) [] (length-sha256 (header h.opening ++ texts h.before), digest_bytes (header h.opening ++ texts h.before) sum bytes are whole) tt (sym same ∙ sym (append-nil end))
+
+-- A receiver that has not read the digest was fed no whole stream, and one that has was.
+pub not_whole_taken : (base : ℕ) (ds : List DiskState) (digest : Sha256) (bytes held : List ℕ) (stage : Stage) → IsBytes bytes → has_ended stage ≡ false → IsTaken base ds digest bytes held stage → ¬ (IsWholeFor base (sizes_in ds) bytes)
+not_whole_taken base ds digest bytes held stages.Head are not_yet t h =
+    let same : bytes ≡ held = t.whole ∙ ap (λ (x : List ℕ). x ++ held) t.known.0 in
+    not_whole_head base (sizes_in ds) held t.known.2 (rw same at h)
+not_whole_taken base ds digest bytes held (stages.Records i) are not_yet t h = not_whole_reading base ds t.front held bytes i are t.whole t.known.1 h
+not_whole_taken base ds digest bytes held (stages.Ended i) are not_yet t h = absurd cc
+not_whole_taken base ds digest bytes held stages.Failed are not_yet t h = t.known
+
+pub whole_taken : (base : ℕ) (ds : List DiskState) (digest : Sha256) (bytes held : List ℕ) (stage : Stage) → has_ended stage ≡ true → IsTaken base ds digest bytes held stage → IsWholeFor base (sizes_in ds) bytes
+whole_taken base ds digest bytes held stages.Head done t = absurd cc
+whole_taken base ds digest bytes held (stages.Records i) done t = absurd cc
+whole_taken base ds digest bytes held (stages.Ended i) done t = whole_come base ds bytes i (come_of base ds digest bytes held i t)
+whole_taken base ds digest bytes held stages.Failed done t = absurd cc
+
+pub not_ended : (stage : Stage) → has_failed stage ≡ true → has_ended stage ≡ false
+not_ended stages.Head e = refl
+not_ended (stages.Records i) e = refl
+not_ended (stages.Ended i) e = absurd cc
+not_ended stages.Failed e = refl
