@@ -1,6 +1,6 @@
-/* Loaded before a program, it fails one of its calls that bring a file to the storage: the n-th fdatasync or msync, where SYNC_FAILS=n.
- * All others succeed, as they do on Linux after one that failed. At the end it writes how many there were to descriptor 9, where that is
- * open and there were any. */
+/* Linked into a program, or loaded before one, it fails one of its calls that bring a file to the storage: the n-th fdatasync or msync,
+ * where SYNC_FAILS=n. All others succeed, as they do on Linux after one that failed. At the end it writes how many there were to
+ * descriptor 9, where that is open and there were any. */
 #define _GNU_SOURCE
 #include <errno.h>
 #include <stdio.h>
