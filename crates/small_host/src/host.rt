@@ -16,17 +16,22 @@ pub const SECTORS: u64 = 8;
 /// lets its guest run between two turns.
 const STEPS: u32 = 1000;
 
-/// A machine, and its interrupt lines as the guest has them.
+/// A machine, its interrupt lines as the guest has them, and the step that was made last: the next turn begins behind it.
 #[derive(Drop)]
 pub struct Host<G: Guest> {
     guest: G,
     lines: u16,
+    last: Work,
 }
 
 impl<G: Guest> Host<G> {
     /// A host of this machine, whose guest sees no interrupt yet.
     pub fn of(guest: G) -> Host<G> {
-        Host { guest, lines: 0 }
+        Host {
+            guest,
+            lines: 0,
+            last: Work { dev: 0, pick: 0 },
+        }
     }
 
     /// The machine.
@@ -36,7 +41,11 @@ impl<G: Guest> Host<G> {
 
     /// Gives the machine back.
     pub fn into_guest(self) -> G {
-        let Host { guest, lines: _ } = self;
+        let Host {
+            guest,
+            lines: _,
+            last: _,
+        } = self;
         guest
     }
 
@@ -67,9 +76,8 @@ impl<G: Guest> Host<G> {
 
     /// Makes the steps that have something to do, one device after another, and reads the lines after each.
     pub fn work(&mut self, rt: &HostRuntime) -> Result<()> {
-        let mut last = Work { dev: 0, pick: 0 };
         for _ in 0..STEPS {
-            let Some(work) = self.guest.machine().next_work(last) else {
+            let Some(work) = self.guest.machine().next_work(self.last) else {
                 return Ok(());
             };
             let step = Event::Step {
@@ -83,7 +91,7 @@ impl<G: Guest> Host<G> {
             if let Reply::NoMemory = reply {
                 bail!("no memory for a step, which changed nothing");
             }
-            last = work;
+            self.last = work;
         }
         println!(rt; "host: the rest of the work waits for the next turn")?;
         Ok(())
