@@ -5,7 +5,8 @@ use Rattle.vmig_c.specs.Kept.{KeptSeen}
 use Rattle.machine.specs.declared.event.Event.{Event}
 use Rattle.vmig_c.specs.Making.{KeepsMade, Makes, are_beyond_limits, shapes_of}
 use Rattle.vmig_c.specs.Moving.{KeepsReceived, Received, RefusedBy, Saved, SavesKept}
-use Rattle.vmig_c.specs.Stepped.{StepsKept, Stepped}
+use Rattle.vmig_c.specs.Durable.{owed_lost}
+use Rattle.vmig_c.specs.Stepped.{StepsOwing, Stepped}
 use Rattle.vmig_c.specs.declared.device_shape.DeviceShape.{DeviceShape}
 use Rattle.vmig_c.specs.Told.{Told, Tells, Read, ReadsKept, lines_in, lines_told}
 
@@ -38,7 +39,7 @@ stepped_none None after dev pick n buf is same = (refl, refl, refl, same)
 stepped_none (Some m) after dev pick n buf is same = absurd (true≢false is)
 
 pub stepped_some : (k after : Option KeptSeen) (m next : KeptSeen) (dev pick status number n : ℕ) (buf new_buf : List ℕ) → Some m ≡ k → after ≡ Some next → next ≡ record m { state = next.state }
-    → StepsKept m.state dev pick status number n buf new_buf next.state → Stepped k dev pick status number n buf new_buf after
+    → StepsOwing (owed_lost m dev pick) m.state dev pick status number n buf new_buf next.state → Stepped k dev pick status number n buf new_buf after
 stepped_some k after m next dev pick status number n buf new_buf is becomes kind steps =
     subst (λ (o : Option KeptSeen). Stepped o dev pick status number n buf new_buf after) is (record { next = next.state; is_next = becomes ∙ ap Some kind; steps = steps })
 

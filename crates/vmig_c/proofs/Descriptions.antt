@@ -31,5 +31,5 @@ pub sync_none : (k : Option KeptSeen) (dev pick : ℕ) → is_some k ≡ false �
 sync_none None dev pick is = refl
 sync_none (Some m) dev pick is = absurd (true≢false is)
 
-pub sync_some : (k : Option KeptSeen) (m : KeptSeen) (dev pick status : ℕ) → Some m ≡ k → status ≡ sync_kept m.state dev pick → status ≡ sync_told k dev pick
+pub sync_some : (k : Option KeptSeen) (m : KeptSeen) (dev pick status : ℕ) → Some m ≡ k → status ≡ sync_kept m dev pick → status ≡ sync_told k dev pick
 sync_some k m dev pick status is told = subst (λ (o : Option KeptSeen). status ≡ sync_told o dev pick) is told

@@ -1,9 +1,10 @@
 -- Flushes that fail in place of their step.
-use Rattle.std.proofs.Common.{◌≡◌, ◌<◌, ℕ, Bool, true, false, [], refl, sym, ap, ◌∙◌, subst, arith, true≢false}
-use Rattle.std.specs.Prelude.{Option, Some, None, MatchOption, Result, Ok, Err, is_some, slice_get, if◌then◌else◌}
+use Rattle.std.proofs.Common.{◌≡◌, ◌≤◌, ◌<◌, ℕ, Bool, true, false, [], length, refl, sym, ap, ◌∙◌, subst, arith, true≢false}
+use Rattle.std.specs.Prelude.{Option, Some, None, MatchOption, Result, Ok, Err, is_some, slice_get, slice_set}
+use Rattle.std.proofs.lemmas.List.{get_or-set_same}
 use Rattle.guestmem.specs.Memory.{Memory}
 use Rattle.machine.specs.Seen.{DeviceSeen, Seen, no_marks, state_of}
-use Rattle.machine.specs.State.{DeviceState}
+use Rattle.machine.specs.State.{MachineState}
 use Rattle.machine.specs.Unsynced.{FailsFlushIf, makes_flush}
 use Rattle.machine.specs.declared.event.Event.TheVariants.{Step}
 use Rattle.sender.specs.LiveState.{LiveSeen, now, refusal_for}
@@ -15,8 +16,8 @@ use Rattle.sender.specs.declared.phase.Phase.{Phase}
 use Rattle.sender.specs.declared.phase.Phase.TheVariants as phases
 use Rattle.wire.specs.Sinks.{over_writer}
 use Rattle.sender.proofs.Unsynced.{taken_failure_follows}
-use Rattle.vmig_c.specs.Durable.{Failed, FailsKept, FailsSync, FailsUnless, FailedMirrors, FailedStaysPlain, RefusedFailsNothing, no_flush_of}
-use Rattle.vmig_c.specs.Kept.{KeptSeen, State, Still, Moving, Arriving, Lent}
+use Rattle.vmig_c.specs.Durable.{Failed, FailedIsLost, FailsKept, FailsSync, FailsUnless, FailedMirrors, FailedStaysPlain, HasLost, Loses, LosesBy, RefusedFailsNothing, disk_refusal_unless, failed_status, loss_refusal}
+use Rattle.vmig_c.specs.Kept.{KeptSeen, State, Still, Moving, Arriving, Lent, is_lost}
 use Rattle.vmig_c.specs.Mirror.{Mirrors, is_closed}
 use Rattle.vmig_c.specs.Sent.{FailuresStaySent}
 use Rattle.vmig_c.specs.Status.{mig_status}
@@ -27,9 +28,9 @@ pub failed : (m next : Seen) (dev pick : ℕ) (was : Bool) → was ≡ true → 
 failed m next dev pick true made is f = record { status_is = rw (← is) refl; failed = subst (λ (b : Bool). FailsFlushIf b m dev pick next) is f }
 failed m next dev pick false made is f = cc
 
-pub not_failed : (m next : Seen) (dev pick status : ℕ) (was : Bool) → was ≡ false → was ≡ makes_flush (state_of m) dev pick → FailsFlushIf was m dev pick next → status ≡ no_flush_of (slice_get (state_of next).devices dev) → FailsSync m dev pick status next
-not_failed m next dev pick status true none is f told = cc
-not_failed m next dev pick status false none is f told = record { status_is = rw (← is) (told ∙ ap (λ (x : Seen). no_flush_of (slice_get (state_of x).devices dev)) f); failed = subst (λ (b : Bool). FailsFlushIf b m dev pick next) is f }
+pub not_failed : (m next : Seen) (dev pick : ℕ) (was : Bool) → was ≡ false → was ≡ makes_flush (state_of m) dev pick → FailsFlushIf was m dev pick next → FailsSync m dev pick 81 next
+not_failed m next dev pick true none is f = cc
+not_failed m next dev pick false none is f = record { status_is = rw (← is) refl; failed = subst (λ (b : Bool). FailsFlushIf b m dev pick next) is f }
 
 -- Of one that is.
 same_error : (e x : MigError) → ◌≡◌ {A = Result Bool MigError} (Err e) (Err x) → mig_status e ≡ mig_status x
@@ -53,21 +54,11 @@ live_failed l next dev pick answer was is made places tries =
     let flushes : makes_flush (now l) dev pick ≡ true = sym a.1.0 ∙ made in
     rw a.0 (record { places = places; status_is = rw flushes refl; failed = subst (λ (b : Bool). FailsLiveFlushIf b l dev pick next) a.1.0 a.1.1 })
 
-live_same : (l next : LiveSeen) (dev pick : ℕ) (was : Bool) → was ≡ false → FailsLiveFlushIf was l dev pick next → next ≡ l
-live_same l next dev pick true none f = cc
-live_same l next dev pick false none f = f
-
-pub live_not_failed : (l next : LiveSeen) (dev pick status : ℕ) (answer : Result Bool MigError) (was : Bool) → answer ≡ Ok was → was ≡ false → HasPlaces l → TriesFlush l dev pick answer next
-    → status ≡ no_flush_of (slice_get (now next).devices dev) → FailsUnless (is_closed l.phase) l dev pick status next
-live_not_failed l next dev pick status answer was is none places tries told =
+pub live_not_failed : (l next : LiveSeen) (dev pick : ℕ) (answer : Result Bool MigError) (was : Bool) → answer ≡ Ok was → was ≡ false → HasPlaces l → TriesFlush l dev pick answer next → FailsUnless (is_closed l.phase) l dev pick 81 next
+live_not_failed l next dev pick answer was is none places tries =
     let a = answered l.phase l next dev pick was (subst (λ (r : Result Bool MigError). TriesFlush l dev pick r next) is tries) in
     let flushes : makes_flush (now l) dev pick ≡ false = sym a.1.0 ∙ none in
-    let same = live_same l next dev pick was none a.1.1 in
-    rw a.0 (record {
-      places = places;
-      status_is = rw flushes (told ∙ ap (λ (x : LiveSeen). no_flush_of (slice_get (now x).devices dev)) same);
-      failed = subst (λ (b : Bool). FailsLiveFlushIf b l dev pick next) a.1.0 a.1.1;
-    })
+    rw a.0 (record { places = places; status_is = rw flushes refl; failed = subst (λ (b : Bool). FailsLiveFlushIf b l dev pick next) a.1.0 a.1.1 })
 
 pub live_refused : (l next : LiveSeen) (dev pick status : ℕ) (answer : Result Bool MigError) (e : MigError) → answer ≡ Err e → TriesFlush l dev pick answer next → status ≡ mig_status e → FailsUnless (is_closed l.phase) l dev pick status next
 live_refused l next dev pick status answer e is tries told =
@@ -80,44 +71,65 @@ still_fails k m next dev pick status is f = subst (λ (x : State). FailsKept x d
 pub moving_fails : (k : State) (l next : LiveSeen) (dev pick status : ℕ) → k ≡ Moving l → FailsUnless (is_closed l.phase) l dev pick status next → FailsKept k dev pick status (Moving next)
 moving_fails k l next dev pick status is f = subst (λ (x : State). FailsKept x dev pick status (Moving next)) (sym is) f
 
+-- The disk is lost, or why it is not.
+pub not_lost : (k : KeptSeen) (dev pick status : ℕ) (r : Option ℕ) → r ≡ Some status → r ≡ loss_refusal k.state dev → Loses k dev pick status k
+not_lost k dev pick status r is refused = subst (λ (o : Option ℕ). LosesBy o k dev pick status k) (sym is ∙ refused) (refl, refl)
+
+pub lost : (k mid next : KeptSeen) (dev pick status : ℕ) (r : Option ℕ) → r ≡ None → r ≡ loss_refusal k.state dev → mid ≡ record k { lost = slice_set k.lost dev true } → FailsKept mid.state dev pick status next.state
+    → next ≡ record mid { state = next.state } → Loses k dev pick status next
+lost k mid next dev pick status r is none marked fails rest =
+    let same : mid.state ≡ k.state = ap (λ (x : KeptSeen). x.state) marked in
+    let has : HasLost k dev pick status next = record {
+      fails = subst (λ (x : State). FailsKept x dev pick status next.state) same fails;
+      rest = rest ∙ (λ i. record (marked i) { state = next.state });
+    } in
+    subst (λ (o : Option ℕ). LosesBy o k dev pick status next) (sym is ∙ none) has
+
 pub failed_none : (k after : Option KeptSeen) (dev pick : ℕ) → is_some k ≡ false → after ≡ k → Failed k dev pick 8 after
 failed_none None after dev pick is same = (refl, same)
 failed_none (Some m) after dev pick is same = absurd (true≢false is)
 
-pub failed_some : (k after : Option KeptSeen) (m next : KeptSeen) (dev pick status : ℕ) → Some m ≡ k → after ≡ Some next → next ≡ record m { state = next.state } → FailsKept m.state dev pick status next.state → Failed k dev pick status after
-failed_some k after m next dev pick status is becomes kind fails =
-    subst (λ (o : Option KeptSeen). Failed o dev pick status after) is (record { next = next.state; is_next = becomes ∙ ap Some kind; fails = fails })
+pub failed_some : (k after : Option KeptSeen) (m next : KeptSeen) (dev pick status : ℕ) → Some m ≡ k → after ≡ Some next → Loses m dev pick status next → Failed k dev pick status after
+failed_some k after m next dev pick status is becomes loses =
+    subst (λ (o : Option KeptSeen). Failed o dev pick status after) is (record { next = next; is_next = becomes; loses = loses })
 
 -- What was refused.
-same_if : (m next : Seen) (dev pick status : ℕ) (was : Bool) (d : Option DeviceState) → status ≡ (if was then 69 else no_flush_of d) → FailsFlushIf was m dev pick next → status < 64 → next ≡ m
-same_if m next dev pick status true d is f few = absurd (omega (arith, is, few))
-same_if m next dev pick status false d is f few = f
+many : (was : Bool) → 64 ≤ failed_status was
+many true = omega arith
+many false = omega arith
 
-same_live_if : (l next : LiveSeen) (dev pick status : ℕ) (was : Bool) (d : Option DeviceState) → status ≡ (if was then 69 else no_flush_of d) → FailsLiveFlushIf was l dev pick next → status < 64 → next ≡ l
-same_live_if l next dev pick status true d is f few = absurd (omega (arith, is, few))
-same_live_if l next dev pick status false d is f few = f
+not_few : (was : Bool) (status : ℕ) → status ≡ failed_status was → status < 64 → ⊥
+not_few was status is few = let more = many was in omega (arith, is, few, more)
 
-same_unless : (closed : Bool) (l next : LiveSeen) (dev pick status : ℕ) → FailsUnless closed l dev pick status next → status < 64 → next ≡ l
-same_unless true l next dev pick status f few = f.1
-same_unless false l next dev pick status f few = same_live_if l next dev pick status (makes_flush (now l) dev pick) (slice_get (now l).devices dev) f.status_is f.failed few
+never_live : (closed : Bool) (m : MachineState) (l next : LiveSeen) (dev pick status : ℕ) → disk_refusal_unless closed m dev ≡ None → FailsUnless closed l dev pick status next → status < 64 → ⊥
+never_live true m l next dev pick status none f few = cc
+never_live false m l next dev pick status none f few = not_few (makes_flush (now l) dev pick) status f.status_is few
+
+never_few : (k next : State) (dev pick status : ℕ) → loss_refusal k dev ≡ None → FailsKept k dev pick status next → status < 64 → ⊥
+never_few (Still m) (Still next) dev pick status none f few = not_few (makes_flush (state_of m) dev pick) status f.status_is few
+never_few (Moving l) (Moving next) dev pick status none f few = never_live (is_closed l.phase) (state_of l.machine) l next dev pick status none f few
+never_few (Arriving r) next dev pick status none f few = cc
+never_few (Lent x) next dev pick status none f few = cc
+never_few (Still m) (Moving next) dev pick status none f few = f
+never_few (Still m) (Arriving next) dev pick status none f few = f
+never_few (Still m) (Lent next) dev pick status none f few = f
+never_few (Moving l) (Still next) dev pick status none f few = f
+never_few (Moving l) (Arriving next) dev pick status none f few = f
+never_few (Moving l) (Lent next) dev pick status none f few = f
+
+same_by : (r : Option ℕ) (k next : KeptSeen) (dev pick status : ℕ) → loss_refusal k.state dev ≡ r → LosesBy r k dev pick status next → status < 64 → next ≡ k
+same_by (Some refusal) k next dev pick status is loses few = loses.1
+same_by None k next dev pick status is loses few = absurd (never_few k.state next.state dev pick status is loses.fails few)
 
 pub refused_fails_nothing : RefusedFailsNothing
-refused_fails_nothing (Still m) (Still next) dev pick status f some few = ap Still (same_if m next dev pick status (makes_flush (state_of m) dev pick) (slice_get (state_of m).devices dev) f.status_is f.failed few)
-refused_fails_nothing (Moving l) (Moving next) dev pick status f some few = ap Moving (same_unless (is_closed l.phase) l next dev pick status f few)
-refused_fails_nothing (Arriving r) (Arriving next) dev pick status f some few = ap Arriving f.1
-refused_fails_nothing (Lent x) (Lent next) dev pick status f some few = ap Lent f.1
-refused_fails_nothing (Still m) (Moving next) dev pick status f some few = absurd f
-refused_fails_nothing (Still m) (Arriving next) dev pick status f some few = absurd f
-refused_fails_nothing (Still m) (Lent next) dev pick status f some few = absurd f
-refused_fails_nothing (Moving l) (Still next) dev pick status f some few = absurd f
-refused_fails_nothing (Moving l) (Arriving next) dev pick status f some few = absurd f
-refused_fails_nothing (Moving l) (Lent next) dev pick status f some few = absurd f
-refused_fails_nothing (Arriving r) (Still next) dev pick status f some few = absurd f
-refused_fails_nothing (Arriving r) (Moving next) dev pick status f some few = absurd f
-refused_fails_nothing (Arriving r) (Lent next) dev pick status f some few = absurd f
-refused_fails_nothing (Lent x) (Still next) dev pick status f some few = absurd f
-refused_fails_nothing (Lent x) (Moving next) dev pick status f some few = absurd f
-refused_fails_nothing (Lent x) (Arriving next) dev pick status f some few = absurd f
+refused_fails_nothing k next dev pick status loses some few = same_by (loss_refusal k.state dev) k next dev pick status refl loses few
+
+lost_by : (r : Option ℕ) (k next : KeptSeen) (dev pick status : ℕ) → r ≡ None → LosesBy r k dev pick status next → dev < length k.lost → is_lost next dev ≡ true
+lost_by (Some refusal) k next dev pick status none loses below = absurd cc
+lost_by None k next dev pick status none loses below = ap (λ (x : KeptSeen). is_lost x dev) loses.rest ∙ get_or-set_same k.lost dev true false below
+
+pub failed_is_lost : FailedIsLost
+failed_is_lost k next dev pick status loses none below = lost_by (loss_refusal k.state dev) k next dev pick status none loses below
 
 pub failed_stays_plain : FailedStaysPlain
 failed_stays_plain m next dev pick plain f = as_many no_marks (λ (d : DeviceSeen). d.marks) next.devices m.devices (f.marks ∙ plain)

@@ -164,7 +164,7 @@ readable m dev n room sound none = readable_by (slice_get (state_of m).devices d
 
 -- What is told of a sector that was read.
 kept_so : {E : Type 0} (m next : Seen) (dev n : ℕ) (bytes : List ℕ) (good : Bool) → ReadsSector {E = E} m dev n bytes (Ok good) next → IsKept m next
-kept_so m next dev n bytes good reads = record { memory = reads.memory; state = reads.state; same = λ plain. same_seen next m reads.memory reads.state reads.marks }
+kept_so m next dev n bytes good reads = record { memory = reads.memory; state = reads.state; same = λ plain. same_seen next m reads.memory reads.state reads.marks reads.flushed }
 
 told_good : {E : Type 0} (m next : Seen) (dev n : ℕ) (bytes buf new_buf : List ℕ) → ReadsSector {E = E} m dev n bytes (Ok true) next → new_buf ≡ bytes ++ drop 512 buf → ReadsOut m dev n 0 buf new_buf next
 told_good m next dev n bytes buf new_buf reads is = record {

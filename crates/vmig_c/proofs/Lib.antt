@@ -25,6 +25,7 @@ pub mod NextWork
 pub mod Options
 pub mod OverContents
 pub mod OverRam
+pub mod Owing
 pub mod PageAddresses
 pub mod Plain
 pub mod Pulling

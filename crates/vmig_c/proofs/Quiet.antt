@@ -17,7 +17,7 @@ use Rattle.vmig_c.specs.Told.{IsServed, live_number, number_of}
 use Rattle.vmig_c.specs.Kept.{Still, Moving, Arriving, Lent}
 use Rattle.vmig_c.proofs.Plain.{refused_quiet}
 
-no_number : (reply : Reply) (before : ℕ) → 1 ≤ status_of reply → status_of reply < 64 → number_of reply before ≡ before
+pub no_number : (reply : Reply) (before : ℕ) → 1 ≤ status_of reply → status_of reply < 64 → number_of reply before ≡ before
 no_number (Value v) before some few = absurd (omega (arith, some))
 no_number Done before some few = refl
 no_number (OutByte byte) before some few = absurd (omega (arith, few))
@@ -36,7 +36,7 @@ no_number NoMemory before some few = refl
 no_number (Refused refusal) before some few = refl
 
 -- Of a machine that is sent.
-quiet_by : (o : Option MigError) (l next : LiveSeen) (e : Event) (reply : LiveReply) (before : ℕ) → ArePlain l.machine → 1 ≤ live_status reply → live_status reply < 64
+pub quiet_by : (o : Option MigError) (l next : LiveSeen) (e : Event) (reply : LiveReply) (before : ℕ) → ArePlain l.machine → 1 ≤ live_status reply → live_status reply < 64
     → MatchOption o (Does l (Guest e) reply next) (λ x. (reply ≡ live.Mig x) × (next ≡ l)) → IsSameSent l next × (live_number reply before ≡ before)
 quiet_by None l next e (live.Guest reply) before plain some few after =
     (record { machine = refused_quiet l.machine next.machine e reply plain after.is_applied some few; rest = after.rest }, no_number reply before some few)

@@ -1,86 +1,91 @@
--- When a driver takes what was written to a disk for durable, and how a flush fails where the disk could not be brought to its file.
-use Rattle.std.specs.Prelude.{◌≡◌, ℕ, ◌==◌, ◌&&◌, ◌||◌, ◌^◌, ◌-◌, ◌≤◌, ◌<◌, not, Bool, true, false, if◌then◌else◌, List, Option, Some, None, slice_get}
-use Rattle.mmio.specs.Bits.{has}
-use Rattle.blk.specs.Flush as blk
-use Rattle.blk.specs.Request.{is_good}
-use Rattle.blk.specs.declared.request.Kind.{Kind}
-use Rattle.blk.specs.declared.request.Kind.TheVariants.{Refused, In, Out, Flush, GetId, Zero}
-use Rattle.blk.specs.declared.request.Request.{Request}
-use Rattle.machine.specs.DeviceStep.{advances, requests_of}
+-- When a driver takes what was written to a disk for durable, and what follows where the disk could not be brought to its file: the disk
+-- is lost. A failed sync is for good, since the system tells it once. So each later flush of the disk fails, and a write after whose end
+-- the driver takes what was written for durable does not end.
+use Rattle.std.specs.Prelude.{◌≡◌, ℕ, ◌≤◌, ◌<◌, Bool, true, false, if◌then◌else◌, List, length, Option, Some, None, slice_get, slice_set}
+use Rattle.blk.specs.declared.durable.SyncOwed.{SyncOwed}
+use Rattle.blk.specs.declared.durable.SyncOwed.TheVariants.{Nothing, Flush, EndOfWrite}
+use Rattle.machine.specs.Refusal.{code_of}
 use Rattle.machine.specs.Seen.{Seen, state_of}
 use Rattle.machine.specs.State.{DeviceState, MachineState}
-use Rattle.machine.specs.Unsynced.{FailsFlush, FailsFlushIf, makes_flush}
+use Rattle.machine.specs.Unsynced.{FailsFlush, FailsFlushIf, makes_flush, owed}
+use Rattle.machine.specs.declared.kind.Kind.{Kind}
+use Rattle.machine.specs.declared.kind.Kind.TheVariants.{Network, Block, Console, Entropy}
+use Rattle.machine.specs.declared.reply.Refusal.TheVariants.{WrongKind}
 use Rattle.machine.specs.declared.reply.Reply.TheVariants.{DiskFailed}
 use Rattle.sender.specs.LiveState.{LiveSeen, now}
 use Rattle.sender.specs.Stopping.{HasPlaces}
 use Rattle.sender.specs.Unsynced.{FailsLiveFlushIf}
 use Rattle.sender.specs.declared.mig_error.MigError.TheVariants.{AlreadyStopped}
-use Rattle.vmig_c.specs.Kept.{KeptSeen, State, Still, Moving, Arriving, Lent}
+use Rattle.vmig_c.specs.Kept.{KeptSeen, State, Still, Moving, Arriving, Lent, is_lost}
 use Rattle.vmig_c.specs.Mirror.{Mirrors, is_closed}
 use Rattle.vmig_c.specs.Plain.{ArePlain}
-use Rattle.vmig_c.specs.Status.{done, lent, mig_status, no_device, no_flush, no_machine, status_of, sync}
+use Rattle.vmig_c.specs.Status.{disk_lost, done, lent, mig_status, no_device, no_machine, status_of, sync, sync_failed}
 use Rattle.vmig_c.specs.Told.{IsNotThere, IsOut}
 
-abbrev pub is_write : Kind → Bool
-is_write Out = true
-is_write Zero = true
-is_write In = false
-is_write Flush = false
-is_write GetId = false
-is_write Refused = false
+-- What is told of a step before it is made. Of a disk that is lost no sync is asked for any more: a flush fails in any case, and the end
+-- of such a write is not made.
+abbrev pub sync_status : Bool → SyncOwed → ℕ
+sync_status lost Nothing = done
+sync_status lost Flush = if lost then done else sync
+sync_status lost EndOfWrite = if lost then disk_lost else sync
 
--- All that such a write asks for was done, and its next step ends it. Where the driver did not accept FLUSH, bit 9, that end says that
--- what was written is durable (VIRTIO 1.2, 5.2.6.2).
-abbrev pub ends_write : ℕ → Request → Bool
-ends_write features r = is_good r.verdict && (r.done == r.units && (is_write r.kind && not (has features (2 ^ 9))))
+abbrev pub sync_status_for : Bool → Option DeviceState → ℕ → ℕ
+sync_status_for lost None pick = no_device
+sync_status_for lost (Some d) pick = sync_status lost (owed d pick)
 
--- The next step of the request makes a flush, or ends such a write.
-abbrev pub owes : ℕ → Request → Bool
-owes features r = blk.flushes r || ends_write features r
-
-abbrev pub owes_if : ℕ → Option Request → Bool
-owes_if features None = false
-owes_if features (Some r) = owes features r
-
--- Before the step of this pick the disk has to be brought to its file.
-abbrev pub owes_sync : DeviceState → ℕ → Bool
-owes_sync d pick = advances d pick && owes_if d.registers.common.features (slice_get (requests_of d.kind) (pick - 1))
-
-abbrev pub sync_status : Option DeviceState → ℕ → ℕ
-sync_status None pick = no_device
-sync_status (Some d) pick = if owes_sync d pick then sync else done
-
-abbrev pub sync_status_of : MachineState → ℕ → ℕ → ℕ
-sync_status_of m dev pick = sync_status (slice_get m.devices dev) pick
+abbrev pub sync_status_of : Bool → MachineState → ℕ → ℕ → ℕ
+sync_status_of lost m dev pick = sync_status_for lost (slice_get m.devices dev) pick
 
 -- The same of what lies behind a handle.
-abbrev pub sync_kept : State → ℕ → ℕ → ℕ
-sync_kept (Still m) dev pick = sync_status_of (state_of m) dev pick
-sync_kept (Moving l) dev pick = sync_status_of (state_of l.machine) dev pick
-sync_kept (Arriving r) dev pick = no_machine
-sync_kept (Lent x) dev pick = lent
+abbrev pub sync_in : Bool → State → ℕ → ℕ → ℕ
+sync_in lost (Still m) dev pick = sync_status_of lost (state_of m) dev pick
+sync_in lost (Moving l) dev pick = sync_status_of lost (state_of l.machine) dev pick
+sync_in lost (Arriving r) dev pick = no_machine
+sync_in lost (Lent x) dev pick = lent
+
+abbrev pub sync_kept : KeptSeen → ℕ → ℕ → ℕ
+sync_kept k dev pick = sync_in (is_lost k dev) k.state dev pick
 
 abbrev pub sync_told : Option KeptSeen → ℕ → ℕ → ℕ
 sync_told None dev pick = no_machine
-sync_told (Some k) dev pick = sync_kept k.state dev pick
+sync_told (Some k) dev pick = sync_kept k dev pick
 
--- The disk could not be brought to its file. A step that makes a flush is made as one whose disk failed, and has the status of that
--- step. For any other step this is refused.
-abbrev pub no_flush_of : Option DeviceState → ℕ
-no_flush_of None = no_device
-no_flush_of (Some d) = no_flush
+-- What a step owes of a machine that makes steps. One that was stopped, arrives or has lent its RAM makes none.
+abbrev pub owed_for : Option DeviceState → ℕ → SyncOwed
+owed_for None pick = Nothing
+owed_for (Some d) pick = owed d pick
 
-abbrev pub failed_status : MachineState → ℕ → ℕ → ℕ
-failed_status m dev pick = if makes_flush m dev pick then status_of DiskFailed else no_flush_of (slice_get m.devices dev)
+abbrev pub owed_of : MachineState → ℕ → ℕ → SyncOwed
+owed_of m dev pick = owed_for (slice_get m.devices dev) pick
+
+abbrev pub owed_unless : Bool → MachineState → ℕ → ℕ → SyncOwed
+owed_unless true m dev pick = Nothing
+owed_unless false m dev pick = owed_of m dev pick
+
+abbrev pub owed_in : State → ℕ → ℕ → SyncOwed
+owed_in (Still m) dev pick = owed_of (state_of m) dev pick
+owed_in (Moving l) dev pick = owed_unless (is_closed l.phase) (state_of l.machine) dev pick
+owed_in (Arriving r) dev pick = Nothing
+owed_in (Lent x) dev pick = Nothing
+
+-- What a step owes and does not get, since the disk is lost.
+abbrev pub owed_lost : KeptSeen → ℕ → ℕ → SyncOwed
+owed_lost k dev pick = if is_lost k dev then owed_in k.state dev pick else Nothing
+
+-- A step that makes a flush is made as one whose disk failed, and has the status of that step. Where it makes none, the machine stays as
+-- it is.
+abbrev pub failed_status : Bool → ℕ
+failed_status true = status_of DiskFailed
+failed_status false = sync_failed
 
 pub record FailsSync (m : Seen) (dev pick status : ℕ) (next : Seen) : Type 0 where
-  pub status_is : status ≡ failed_status (state_of m) dev pick
+  pub status_is : status ≡ failed_status (makes_flush (state_of m) dev pick)
   pub failed : FailsFlushIf (makes_flush (state_of m) dev pick) m dev pick next
 
 -- As above, for a machine that is being migrated. One that was stopped makes no steps.
 pub record FailsLiveSync (l : LiveSeen) (dev pick status : ℕ) (next : LiveSeen) : Type 0 where
   pub places : HasPlaces l
-  pub status_is : status ≡ failed_status (now l) dev pick
+  pub status_is : status ≡ failed_status (makes_flush (now l) dev pick)
   pub failed : FailsLiveFlushIf (makes_flush (now l) dev pick) l dev pick next
 
 abbrev pub FailsUnless : Bool → LiveSeen → ℕ → ℕ → ℕ → LiveSeen → Type 0
@@ -94,10 +99,46 @@ FailsKept (Arriving r) dev pick status (Arriving next) = IsNotThere r status nex
 FailsKept (Lent x) dev pick status (Lent next) = IsOut x status next
 FailsKept _ dev pick status _ = ⊥
 
+-- Why no disk is lost: there is no such device, it has no disk, or there is no machine that makes steps.
+abbrev pub kind_refusal : Kind → Option ℕ
+kind_refusal (Block sectors read_only id requests) = None
+kind_refusal (Network mac frames) = Some (code_of WrongKind)
+kind_refusal (Console size held) = Some (code_of WrongKind)
+kind_refusal (Entropy pool) = Some (code_of WrongKind)
+
+abbrev pub disk_refusal : Option DeviceState → Option ℕ
+disk_refusal None = Some no_device
+disk_refusal (Some d) = kind_refusal d.kind
+
+abbrev pub disk_refusal_of : MachineState → ℕ → Option ℕ
+disk_refusal_of m dev = disk_refusal (slice_get m.devices dev)
+
+abbrev pub disk_refusal_unless : Bool → MachineState → ℕ → Option ℕ
+disk_refusal_unless true m dev = Some (mig_status AlreadyStopped)
+disk_refusal_unless false m dev = disk_refusal_of m dev
+
+abbrev pub loss_refusal : State → ℕ → Option ℕ
+loss_refusal (Still m) dev = disk_refusal_of (state_of m) dev
+loss_refusal (Moving l) dev = disk_refusal_unless (is_closed l.phase) (state_of l.machine) dev
+loss_refusal (Arriving r) dev = Some no_machine
+loss_refusal (Lent x) dev = Some lent
+
+-- The disk of this device is lost from now on. If the step of this pick makes a flush, it is made as one whose disk failed.
+pub record HasLost (k : KeptSeen) (dev pick status : ℕ) (next : KeptSeen) : Type 0 where
+  pub fails : FailsKept k.state dev pick status next.state
+  pub rest : next ≡ record k { state = next.state; lost = slice_set k.lost dev true }
+
+abbrev pub LosesBy : Option ℕ → KeptSeen → ℕ → ℕ → ℕ → KeptSeen → Type 0
+LosesBy (Some refusal) k dev pick status next = (status ≡ refusal) × (next ≡ k)
+LosesBy None k dev pick status next = HasLost k dev pick status next
+
+abbrev pub Loses : KeptSeen → ℕ → ℕ → ℕ → KeptSeen → Type 0
+Loses k dev pick status next = LosesBy (loss_refusal k.state dev) k dev pick status next
+
 pub record HasFailed (k : KeptSeen) (dev pick status : ℕ) (after : Option KeptSeen) : Type 0 where
-  pub next : State
-  pub is_next : after ≡ Some (record k { state = next })
-  pub fails : FailsKept k.state dev pick status next
+  pub next : KeptSeen
+  pub is_next : after ≡ Some next
+  pub loses : Loses k dev pick status next
 
 abbrev pub Failed : Option KeptSeen → ℕ → ℕ → ℕ → Option KeptSeen → Type 0
 Failed None dev pick status after = (status ≡ no_machine) × (after ≡ None)
@@ -105,7 +146,11 @@ Failed (Some k) dev pick status after = HasFailed k dev pick status after
 
 -- A status from 1 to 63 says that it was refused: nothing changed.
 abbrev pub RefusedFailsNothing : Type 0
-RefusedFailsNothing = (k next : State) (dev pick status : ℕ) → FailsKept k dev pick status next → 1 ≤ status → status < 64 → next ≡ k
+RefusedFailsNothing = (k next : KeptSeen) (dev pick status : ℕ) → Loses k dev pick status next → 1 ≤ status → status < 64 → next ≡ k
+
+-- Where it was not refused, the disk is lost, whatever the pick.
+abbrev pub FailedIsLost : Type 0
+FailedIsLost = (k next : KeptSeen) (dev pick status : ℕ) → Loses k dev pick status next → loss_refusal k.state dev ≡ None → dev < length k.lost → is_lost next dev ≡ true
 
 -- The disks of a machine that lie in memory are so after it: none of them has failed.
 abbrev pub FailedStaysPlain : Type 0

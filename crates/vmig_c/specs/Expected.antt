@@ -5,7 +5,7 @@ use Rattle.region.specs.Empty.{empty_slot}
 use Rattle.region.specs.declared.slot.Slot.{Slot}
 use Rattle.vmig_c.specs.AdmissionSeen.{Pending}
 use Rattle.vmig_c.specs.Awaited.{nothing_fed}
-use Rattle.vmig_c.specs.Kept.{KeptSeen, State, Arriving}
+use Rattle.vmig_c.specs.Kept.{IsNew, KeptSeen, State, Arriving}
 use Rattle.vmig_c.specs.Landing.{KeepsAwaited, KeepsAwaitedAt}
 use Rattle.vmig_c.specs.Lent.{place_of}
 use Rattle.vmig_c.specs.Mapping.{AreTaken, contents}
@@ -43,7 +43,7 @@ abbrev pub StandsFresh : ℕ → State → Type 0
 StandsFresh base state = state ≡ Arriving (nothing_fed base)
 
 abbrev pub KeepsFresh : ℕ → KeptSeen → Type 0
-KeepsFresh base k = (k.is_mapped ≡ false) × StandsFresh base k.state
+KeepsFresh base k = IsNew false k × StandsFresh base k.state
 
 -- By whether it names RAM, and images: in whose memory the machine will be.
 abbrev pub KeepsExpected : Bool → Bool → Expected → KeptSeen → Type 0

@@ -17,7 +17,7 @@ use Rattle.vmig_c.specs.Moving.{IsKept}
 use Rattle.vmig_c.specs.Plain.{ArePlain}
 use Rattle.vmig_c.specs.Status.{bad_images, bad_sector, done, is_moving, lent, no_machine, no_sector, too_small}
 use Rattle.vmig_c.specs.declared.device_shape.DeviceShape.{DeviceShape}
-use Rattle.vmig_c.specs.Kept.{KeptSeen, State, Still, Moving, Arriving, Lent}
+use Rattle.vmig_c.specs.Kept.{IsNew, KeptSeen, State, Still, Moving, Arriving, Lent}
 
 -- How many sectors the disks of these devices have, and how many bytes: a sector is 512.
 abbrev pub sectors_in : List Shape → ℕ
@@ -46,7 +46,7 @@ StandsMadeWith base pages shapes images (Still m) = IsMadeWith base pages shapes
 StandsMadeWith base pages shapes images _ = ⊥
 
 abbrev pub KeepsMadeWith : ℕ → ℕ → List Shape → List ℕ → KeptSeen → Type 0
-KeepsMadeWith base pages shapes images k = (k.is_mapped ≡ false) × StandsMadeWith base pages shapes images k.state
+KeepsMadeWith base pages shapes images k = IsNew false k × StandsMadeWith base pages shapes images k.state
 
 pub record HasMadeWith (base : ℕ) (pages : ℕ) (shapes : List DeviceShape) (images : List ℕ) (status : ℕ) (after : Option KeptSeen) : Type 0 where
   pub kept : KeptSeen

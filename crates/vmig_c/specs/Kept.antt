@@ -1,7 +1,8 @@
 -- The contents of a handle, as contracts see them.
-use Rattle.std.specs.Prelude.{Bool, true, false}
+use Rattle.std.specs.Prelude.{◌≡◌, ℕ, Bool, true, false, List, replicate, slice_index_or}
 use Rattle.machine.specs.Parked.{ParkedSeen}
 use Rattle.machine.specs.Seen.{Seen}
+use Rattle.machine.specs.declared.machine.TheConstants.{DEVICES_MAX}
 use Rattle.sender.specs.LiveState.{LiveSeen}
 use Rattle.sender.specs.Parked.{LiveParkedSeen}
 use Rattle.vmig_c.specs.AdmissionSeen.{AdmissionSeen, Granted, Pending, Denied}
@@ -30,18 +31,32 @@ pub data State : Type 0 where
   Arriving : ArrivalSeen → State
   Lent : LoanSeen → State
 
--- Whether its disks lie in memory of the caller, in which state it is, and what limits there are on what arrives.
+-- Whether its disks lie in memory of the caller, in which state it is, what limits there are on what arrives, and for each device
+-- whether its disk was lost.
 pub record KeptSeen : Type 0 where
   pub is_mapped : Bool
   pub state : State
   pub admission : AdmissionSeen
+  pub lost : List Bool
 
--- Its disks lie in memory of the library, or of the caller, and there is no limit on what arrives.
+-- No disk was lost.
+abbrev pub none_lost : List Bool
+none_lost = replicate DEVICES_MAX false
+
+-- Bytes of the disk of this device did not reach the file that holds it, and will not: each later flush of it fails.
+abbrev pub is_lost : KeptSeen → ℕ → Bool
+is_lost k dev = slice_index_or k.lost dev false
+
+-- As it is at first: whose memory its disks lie in, and none of them is lost.
+abbrev pub IsNew : Bool → KeptSeen → Type 0
+IsNew mapped k = (k.is_mapped ≡ mapped) × (k.lost ≡ none_lost)
+
+-- Its disks lie in memory of the library, or of the caller, none of them is lost, and there is no limit on what arrives.
 abbrev pub own : State → KeptSeen
-own state = record { is_mapped = false; state = state; admission = Granted }
+own state = record { is_mapped = false; state = state; admission = Granted; lost = none_lost }
 
 abbrev pub mapped : State → KeptSeen
-mapped state = record { is_mapped = true; state = state; admission = Granted }
+mapped state = record { is_mapped = true; state = state; admission = Granted; lost = none_lost }
 
 abbrev pub admission_of : Admission → AdmissionSeen
 admission_of admissions.Granted = Granted
@@ -78,8 +93,8 @@ state_in (contents.Arriving r) = Arriving r
 state_in (contents.ArrivingMapped r) = Arriving r
 state_in (contents.Lent loan) = Lent (loan_of loan)
 
-abbrev pub kept_with : Contents → AdmissionSeen → KeptSeen
-kept_with contents admission = record { is_mapped = are_mapped contents; state = state_in contents; admission = admission }
+abbrev pub kept_with : Contents → AdmissionSeen → List Bool → KeptSeen
+kept_with contents admission lost = record { is_mapped = are_mapped contents; state = state_in contents; admission = admission; lost = lost }
 
 abbrev pub kept_of : Contents → KeptSeen
-kept_of contents = kept_with contents Granted
+kept_of contents = kept_with contents Granted none_lost

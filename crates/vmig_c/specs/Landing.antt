@@ -5,7 +5,7 @@ use Rattle.blk.specs.Disk.{DiskState}
 use Rattle.receiver.specs.Receiving.{HasBeenFed, Received}
 use Rattle.mapped_disk.specs.declared.image.Image.{Image}
 use Rattle.vmig_c.specs.ArrivalSeen.{ArrivalSeen, Over}
-use Rattle.vmig_c.specs.Kept.{KeptSeen, State, Arriving}
+use Rattle.vmig_c.specs.Kept.{IsNew, KeptSeen, State, Arriving}
 use Rattle.vmig_c.specs.Plain.{mem_state}
 
 -- What a disk over an image means.
@@ -34,7 +34,7 @@ StandsAwaited base place sectors (Arriving a) = IsAwaitedAt base place sectors a
 StandsAwaited base place sectors _ = ⊥
 
 abbrev pub KeepsAwaitedAt : ℕ → Option Ptr → List (List (List ℕ)) → KeptSeen → Type 0
-KeepsAwaitedAt base place sectors k = (k.is_mapped ≡ true) × StandsAwaited base place sectors k.state
+KeepsAwaitedAt base place sectors k = IsNew true k × StandsAwaited base place sectors k.state
 
 -- Its RAM will lie in memory of the library.
 abbrev pub KeepsAwaited : ℕ → List (List (List ℕ)) → KeptSeen → Type 0

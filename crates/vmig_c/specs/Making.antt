@@ -11,7 +11,7 @@ use Rattle.machine.specs.declared.shape.Shape.{Shape}
 use Rattle.machine.specs.declared.shape.Shape.TheVariants.{Net, Block, Console, Entropy}
 use Rattle.vmig_c.specs.Plain.{ArePlain}
 use Rattle.vmig_c.specs.Status.{done, in_use, no_memory, bad_shape}
-use Rattle.vmig_c.specs.Kept.{KeptSeen, State, Still}
+use Rattle.vmig_c.specs.Kept.{IsNew, KeptSeen, State, Still}
 use Rattle.vmig_c.specs.declared.device_shape.DeviceShape.{DeviceShape}
 
 -- The kinds are the standard's numbers (VIRTIO 1.2, 5): 1 a network device, 2 a block device, 3 a console, 4 an entropy
@@ -58,7 +58,7 @@ StandsMade base pages shapes (Still m) = IsMade base pages shapes m
 StandsMade base pages shapes _ = ⊥
 
 abbrev pub KeepsMade : ℕ → ℕ → List Shape → KeptSeen → Type 0
-KeepsMade base pages shapes k = (k.is_mapped ≡ false) × StandsMade base pages shapes k.state
+KeepsMade base pages shapes k = IsNew false k × StandsMade base pages shapes k.state
 
 pub record HasMade (base : ℕ) (pages : ℕ) (shapes : List DeviceShape) (status : ℕ) (after : Option KeptSeen) : Type 0 where
   pub kept : KeptSeen

@@ -10,7 +10,7 @@ use Rattle.vmig_c.specs.Making.{make_refusal, shapes_of}
 use Rattle.vmig_c.specs.Plain.{ArePlain}
 use Rattle.vmig_c.specs.Status.{bad_images, done, no_memory}
 use Rattle.vmig_c.specs.declared.device_shape.DeviceShape.{DeviceShape}
-use Rattle.vmig_c.specs.Kept.{KeptSeen, State, Still}
+use Rattle.vmig_c.specs.Kept.{IsNew, KeptSeen, State, Still}
 
 -- The sectors of each image, and how many they are.
 abbrev pub contents : List Image → List (List (List ℕ))
@@ -36,7 +36,7 @@ StandsMapped base pages shapes disks (Still m) = IsMapped base pages shapes disk
 StandsMapped base pages shapes disks _ = ⊥
 
 abbrev pub KeepsMapped : ℕ → ℕ → List Shape → List (List (List ℕ)) → KeptSeen → Type 0
-KeepsMapped base pages shapes disks k = (k.is_mapped ≡ true) × StandsMapped base pages shapes disks k.state
+KeepsMapped base pages shapes disks k = IsNew true k × StandsMapped base pages shapes disks k.state
 
 pub record HasMapped (base : ℕ) (pages : ℕ) (shapes : List DeviceShape) (images new_images : List Image) (status : ℕ) (after : Option KeptSeen) : Type 0 where
   pub kept : KeptSeen

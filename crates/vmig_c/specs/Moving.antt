@@ -13,7 +13,7 @@ use Rattle.vmig_c.specs.Headed.{AreFitting}
 use Rattle.vmig_c.specs.Plain.{ArePlain, mem_state}
 use Rattle.vmig_c.specs.Status.{done, in_use, is_moving, no_machine, no_memory, too_small}
 use Rattle.vmig_c.specs.Told.{IsNotThere, IsOut}
-use Rattle.vmig_c.specs.Kept.{KeptSeen, State, Still, Moving, Arriving, Lent}
+use Rattle.vmig_c.specs.Kept.{IsNew, KeptSeen, State, Still, Moving, Arriving, Lent}
 
 -- A machine that was read for its stream is unchanged.
 pub record IsKept (old new : Seen) : Type 0 where
@@ -78,7 +78,7 @@ StandsReceived bytes (Still m) n = IsReceivedAs bytes m n
 StandsReceived bytes _ n = ⊥
 
 abbrev pub KeepsReceived : List ℕ → KeptSeen → ℕ → Type 0
-KeepsReceived bytes k n = (k.is_mapped ≡ false) × StandsReceived bytes k.state n
+KeepsReceived bytes k n = IsNew false k × StandsReceived bytes k.state n
 
 -- The status of a refusal of a stream.
 abbrev pub refusal_status : RecvError → ℕ

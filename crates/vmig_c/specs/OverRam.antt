@@ -10,7 +10,7 @@ use Rattle.machine.specs.Shapes.{disk_sizes}
 use Rattle.machine.specs.Sound.{IsSound}
 use Rattle.machine.specs.declared.shape.Shape.{Shape}
 use Rattle.mapped_disk.specs.declared.image.Image.{Image}
-use Rattle.vmig_c.specs.Kept.{KeptSeen, State, Still}
+use Rattle.vmig_c.specs.Kept.{IsNew, KeptSeen, State, Still}
 use Rattle.vmig_c.specs.Images.{AreImages, image_size}
 use Rattle.vmig_c.specs.Lent.{place_of}
 use Rattle.vmig_c.specs.Making.{are_beyond_limits, shapes_of, zero_sectors}
@@ -45,7 +45,7 @@ StandsOver base ram shapes disks _ = ⊥
 
 -- It is not being migrated, and its disks lie in memory of the caller where there are images.
 abbrev pub KeepsOver : ℕ → Slot → List Shape → List Image → KeptSeen → Type 0
-KeepsOver base ram shapes images k = (k.is_mapped ≡ has_images images) × StandsOver base ram shapes (first_disks shapes images) k.state
+KeepsOver base ram shapes images k = IsNew (has_images images) k × StandsOver base ram shapes (first_disks shapes images) k.state
 
 pub record HasMadeOver (base : ℕ) (ram new_ram : Slot) (shapes : List DeviceShape) (images new_images : List Image) (status : ℕ) (after : Option KeptSeen) : Type 0 where
   pub kept : KeptSeen
@@ -100,7 +100,7 @@ StandsOverWith base ram shapes contents (Still m) = IsMadeOverWith base ram shap
 StandsOverWith base ram shapes contents _ = ⊥
 
 abbrev pub KeepsOverWith : ℕ → Slot → List Shape → List ℕ → KeptSeen → Type 0
-KeepsOverWith base ram shapes contents k = (k.is_mapped ≡ false) × StandsOverWith base ram shapes contents k.state
+KeepsOverWith base ram shapes contents k = IsNew false k × StandsOverWith base ram shapes contents k.state
 
 pub record HasMadeOverWith (base : ℕ) (ram new_ram : Slot) (shapes : List DeviceShape) (contents : List ℕ) (status : ℕ) (after : Option KeptSeen) : Type 0 where
   pub kept : KeptSeen

@@ -7,7 +7,7 @@ use crate::arrival::Arrival;
 use crate::landing::Landing;
 use crate::loan::Loan;
 use crate::waiting::Waiting;
-use machine::{Machine, MemDisk};
+use machine::{DEVICES_MAX, Machine, MemDisk};
 use mapped_disk::MappedDisk;
 use sender::Live;
 use std::alloc::Global;
@@ -72,8 +72,8 @@ macro_rules! by_state {
 
 pub(crate) use by_state;
 
-/// The contents of a handle. Contracts see which state they are in, whether the disks are the caller's memory, and the limits on what
-/// arrives.
+/// The contents of a handle. Contracts see which state they are in, whether the disks are the caller's memory, the limits on what
+/// arrives, and which disks were lost.
 #[derive(Drop)]
 pub struct Kept {
     pub(crate) contents: Contents,
@@ -83,6 +83,8 @@ pub struct Kept {
     pub(crate) named: Vec<u32>,
     // Of what arrives: whether its stream is let in.
     pub(crate) admission: Admission,
+    // For each device, whether its disk was lost: it could not be brought to its file, and will not be.
+    lost: [bool; DEVICES_MAX],
 }
 
 impl Model for Kept {
@@ -90,13 +92,13 @@ impl Model for Kept {
 
     ghost Value = { KeptSeen };
 
-    ghost view = { λ k. kept_with k.contents (admission_of k.admission) };
+    ghost view = { λ k. kept_with k.contents (admission_of k.admission) k.lost };
 }
 
 impl Kept {
-    ghost use Rattle.std.specs.Prelude.{◌≡◌, []};
+    ghost use Rattle.std.specs.Prelude.{◌≡◌, [], slice_set, true};
     ghost use Rattle.vmig_c.specs.AdmissionSeen as seen;
-    ghost use Rattle.vmig_c.specs.Kept.{kept_with};
+    ghost use Rattle.vmig_c.specs.Kept.{is_lost, kept_with, none_lost};
 
     /// Wraps the contents of a handle.
     pub(crate) fn new(alloc: Global, contents: Contents) -> Kept
@@ -107,19 +109,40 @@ impl Kept {
 
     /// Wraps a machine that will arrive, within the limits.
     pub(crate) fn within(alloc: Global, contents: Contents, limits: Limits) -> Kept
-        ensures { result ≡ kept_with contents (seen.Pending limits []) }
+        ensures { result ≡ kept_with contents (seen.Pending limits []) none_lost }
     {
         Kept::with(alloc, contents, Admission::Pending(limits, Vec::new(alloc)))
     }
 
     fn with(alloc: Global, contents: Contents, admission: Admission) -> Kept
-        ensures { result ≡ kept_with contents (admission_of admission) }
+        ensures { result ≡ kept_with contents (admission_of admission) none_lost }
     {
         Kept {
             contents,
             sent: Vec::new(alloc),
             named: Vec::new(alloc),
             admission,
+            lost: [false; DEVICES_MAX],
+        }
+    }
+
+    /// Whether the disk of a device was lost.
+    pub(crate) fn is_lost(&self, dev: u8) -> bool
+        ensures { result ≡ is_lost self.now dev }
+    {
+        match self.lost.get(dev as usize) {
+            Some(lost) => *lost,
+            None => false,
+        }
+    }
+
+    /// The disk of a device is lost from now on.
+    pub(crate) fn lose(&mut self, dev: u8)
+        ensures { self.new ≡ record self.old { lost = slice_set self.old.lost dev true } }
+    {
+        let at = dev as usize;
+        if at < self.lost.len() {
+            self.lost[at] = true;
         }
     }
 }

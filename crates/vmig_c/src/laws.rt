@@ -1,9 +1,10 @@
 //! Laws over the definitions alone. These functions do nothing: their contracts are the laws.
 
-ghost use Rattle.vmig_c.specs.Durable.{FailedMirrors, FailedStaysPlain, RefusedFailsNothing};
+ghost use Rattle.vmig_c.specs.Durable.{FailedIsLost, FailedMirrors, FailedStaysPlain, RefusedFailsNothing};
 ghost use Rattle.vmig_c.specs.Mirror.{AppliedMirrors, PulledMirrors, PushedMirrors, UnseenMirrors};
 ghost use Rattle.vmig_c.specs.Plain.{PlainStays, RefusedChangesNothing};
 ghost use Rattle.vmig_c.specs.Refused.{RefusedTellsNothing};
+ghost use Rattle.vmig_c.specs.Stepped.{RefusedStepsNothing};
 ghost use Rattle.vmig_c.specs.Sent.{ArrivedIsSent, CallsStaySent, FailuresStaySent, FirstIsSent, LentComesBackSent, LentTakingsStaySent, ReceivedIsSent, StoppedIsWhole, TakingsStaySent};
 
 /// A machine over disks in memory stays one.
@@ -21,9 +22,19 @@ pub fn refused_tells_nothing()
     ensures { RefusedTellsNothing }
 {}
 
-/// A flush that is refused as none, by a status from 1 to 63, changes nothing.
+/// The same for steps, also of a device whose disk is lost, and no byte is sent.
+pub fn refused_steps_nothing()
+    ensures { RefusedStepsNothing }
+{}
+
+/// A failed sync that is refused, by a status from 1 to 63, changes nothing.
 pub fn refused_fails_nothing()
     ensures { RefusedFailsNothing }
+{}
+
+/// After one that was not refused the disk is lost.
+pub fn failed_is_lost()
+    ensures { FailedIsLost }
 {}
 
 /// A machine over disks in memory stays one also if a flush fails in place of its step.

@@ -10,8 +10,8 @@
 //!   one table (`specs/Status`): from 1 to 63 nothing has changed, but for 20 (the writer failed) and for a stream that is
 //!   refused as it arrives. `vmig_step` is not done where what it sends might not fit.
 //! - `vmig_next_work` names the next step that has something to do (`specs/NextWork`). `vmig_must_sync` says of a step whether it makes
-//!   a flush, or ends a write that the driver then takes for durable; `vmig_sync_failed` makes such a flush as one whose disk failed
-//!   (`specs/Durable`).
+//!   a flush, or ends a write that the driver then takes for durable; after `vmig_sync_failed` the disk is lost for as long as the
+//!   handle has the machine: each flush of it is made as one whose disk failed, and such a write does not end (`specs/Durable`).
 //! - `vmig_saved_len` is the length of the stream that `vmig_save` makes (`specs/Measured`), without that stream.
 //! - Every call has its clause in each state: the calls of a migration those of `Live` (`specs/Migrated`), over a writer into
 //!   memory from which `vmig_take` takes; the calls of an arrival those of `Receiver` (`specs/Awaited`, `specs/Arriving`), over
@@ -117,7 +117,7 @@ use setup::{arrival_refusal, setup_refusal};
 use status::{DONE, IN_USE, NO_MACHINE, NO_MEMORY};
 use std::alloc::Global;
 use stepping::step_kept;
-use syncing::{fail_kept, sync_kept};
+use syncing::{lose_kept, sync_kept};
 use unmapping::{contents_of, unmap, unmap_refusal};
 use working::next_work;
 
@@ -350,7 +350,7 @@ pub extern "C" fn vmig_give_back_all(alloc: Global, machine: &mut Handle, ram: &
 }
 
 /// A device does one piece of its work. What it sends goes to the front of the buffer; a step that may send more than the
-/// buffer holds is not done.
+/// buffer holds is not done. Where its disk is lost, a flush fails, and a write that the driver would then take for durable does not end.
 #[unsafe(no_mangle)]
 #[tactic(auto, using(crate::proofs::ByHandle::stepped_none, crate::proofs::ByHandle::stepped_some))]
 pub extern "C" fn vmig_step(
@@ -435,7 +435,8 @@ pub extern "C" fn vmig_sector_read(
     read_sector(machine.get_mut(), dev, sector, buf)
 }
 
-/// Whether a step makes a flush, or ends a write after which the driver takes what was written to the disk for durable. It takes no memory.
+/// Whether a step makes a flush, or ends a write after which the driver takes what was written to the disk for durable. Of a disk that is
+/// lost no sync is asked for. It takes no memory.
 #[unsafe(no_mangle)]
 #[tactic(auto, using(crate::proofs::Descriptions::sync_none, crate::proofs::Descriptions::sync_some))]
 pub extern "C" fn vmig_must_sync(machine: &mut Handle, dev: u8, pick: u8) -> u32
@@ -448,8 +449,8 @@ pub extern "C" fn vmig_must_sync(machine: &mut Handle, dev: u8, pick: u8) -> u32
     sync_kept(machine.get_mut(), dev, pick)
 }
 
-/// In place of a step that makes a flush, where the disk could not be brought to its file: makes it as a step whose disk failed. For any
-/// other step it is refused. It takes no memory.
+/// The disk of a device could not be brought to its file, and is lost from now on. If the step of this pick makes a flush, it is made as one
+/// whose disk failed. It takes no memory.
 #[unsafe(no_mangle)]
 #[tactic(auto, using(crate::proofs::Failing::failed_none, crate::proofs::Failing::failed_some))]
 pub extern "C" fn vmig_sync_failed(machine: &mut Handle, dev: u8, pick: u8) -> u32
@@ -458,7 +459,7 @@ pub extern "C" fn vmig_sync_failed(machine: &mut Handle, dev: u8, pick: u8) -> u
     if !machine.is_made() {
         return NO_MACHINE;
     }
-    fail_kept(machine.get_mut(), dev, pick)
+    lose_kept(machine.get_mut(), dev, pick)
 }
 
 /// How many pages and devices the machine has. It takes no memory.

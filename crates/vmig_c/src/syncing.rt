@@ -1,82 +1,129 @@
-//! When what a guest wrote to a disk has to be durable, and the flush that fails where it is not.
+//! When what a guest wrote to a disk has to be durable, and what follows where it could not be made so: the disk is lost.
 
-ghost use Rattle.std.specs.Prelude.{◌≡◌, slice_get};
+ghost use Rattle.std.specs.Prelude.{◌≡◌, None, slice_get};
 ghost use Rattle.machine.specs.Seen.{state_of};
-ghost use Rattle.vmig_c.specs.Durable.{FailsKept, FailsSync, FailsUnless, ends_write, is_write, no_flush_of, owes, owes_if, owes_sync, sync_kept, sync_status_of};
+ghost use Rattle.vmig_c.specs.Durable.{FailsKept, FailsSync, FailsUnless, Loses, disk_refusal_of, disk_refusal_unless, kind_refusal, loss_refusal, owed_lost, owed_of, owed_unless, sync_kept, sync_status_of};
 ghost use Rattle.vmig_c.specs.Mirror.{is_closed};
 
 use crate::kept::{Kept, Moving, by_state};
-use crate::status::{DISK_FAILED, DONE, NO_DEVICE, NO_FLUSH, mig_told};
-use blk::{FLUSH, Request, Verdict};
-use machine::{DeviceState, Disk, Kind, Machine};
+use crate::status::{
+    DISK_FAILED, DISK_LOST, DONE, LENT, NO_DEVICE, NO_MACHINE, STOPPED, SYNC, SYNC_FAILED,
+    WRONG_KIND, mig_told,
+};
+use blk::SyncOwed;
+use machine::{Disk, Kind, Machine};
+use sender::Phase;
 
-const SYNC: u32 = 80;
-
-/// Whether a step of the machine of a handle makes a flush, or ends a write after which the driver takes what was written for durable.
+/// Whether a step of the machine of a handle makes a flush, or ends a write after which the driver takes what was written for durable. Of
+/// a disk that is lost no sync is asked for.
 pub(crate) fn sync_kept(kept: &Kept, dev: u8, pick: u8) -> u32
-    ensures { result ≡ sync_kept kept.now.state dev pick }
+    ensures { result ≡ sync_kept kept.now dev pick }
 {
+    let is_lost = kept.is_lost(dev);
     by_state!(&kept.contents;
-        still(machine) => sync_status(machine, dev, pick),
-        moving(live) => sync_status(live.machine(), dev, pick),
+        still(machine) => sync_status(is_lost, machine, dev, pick),
+        moving(live) => sync_status(is_lost, live.machine(), dev, pick),
     )
 }
 
-fn sync_status<D: Disk>(machine: &Machine<D>, dev: u8, pick: u8) -> u32
-    ensures { result ≡ sync_status_of (state_of machine.now) dev pick }
+fn sync_status<D: Disk>(is_lost: bool, machine: &Machine<D>, dev: u8, pick: u8) -> u32
+    ensures { result ≡ sync_status_of is_lost (state_of machine.now) dev pick }
 {
     if dev as usize >= machine.shapes().len() {
         return NO_DEVICE;
     }
-    if owes_sync(machine.state(dev), pick) {
-        return SYNC;
+    match machine.state(dev).must_sync(pick) {
+        SyncOwed::EndOfWrite if is_lost => DISK_LOST,
+        SyncOwed::Flush if is_lost => DONE,
+        SyncOwed::EndOfWrite | SyncOwed::Flush => SYNC,
+        SyncOwed::Nothing => DONE,
     }
-    DONE
 }
 
-fn owes_sync(device: &DeviceState, pick: u8) -> bool
-    ensures { result ≡ owes_sync device.now pick }
+/// What a step of the machine of a handle owes and does not get, since the disk is lost.
+pub(crate) fn owed_lost(kept: &Kept, dev: u8, pick: u8) -> SyncOwed
+    ensures { result ≡ owed_lost kept.now dev pick }
 {
-    if !device.advances(pick) {
-        return false;
+    if !kept.is_lost(dev) {
+        return SyncOwed::Nothing;
     }
-    let Kind::Block { requests, .. } = device.kind() else {
-        return false;
-    };
-    let features = device.registers().common().features;
-    owes_at(requests.as_slice(), pick as usize - 1, features)
+    by_state!(&kept.contents;
+        still(machine) => owed(machine, dev, pick),
+        moving(live) => owed_live(live, dev, pick),
+        lent(_) => SyncOwed::Nothing,
+        arriving => SyncOwed::Nothing,
+    )
 }
 
-fn owes_at(requests: &[Request], number: usize, features: u64) -> bool
-    ensures { result ≡ owes_if features (slice_get requests.now number) }
+fn owed<D: Disk>(machine: &Machine<D>, dev: u8, pick: u8) -> SyncOwed
+    ensures { result ≡ owed_of (state_of machine.now) dev pick }
 {
-    if number >= requests.len() {
-        return false;
+    if dev as usize >= machine.shapes().len() {
+        return SyncOwed::Nothing;
     }
-    owes(&requests[number], features)
+    machine.state(dev).must_sync(pick)
 }
 
-fn owes(request: &Request, features: u64) -> bool
-    ensures { result ≡ owes features request.now }
+/// As above, for a machine that is being migrated. One that was stopped makes no steps.
+fn owed_live<D: Disk>(live: &Moving<D>, dev: u8, pick: u8) -> SyncOwed
+    ensures { result ≡ owed_unless (is_closed live.now.phase) (state_of live.now.machine) dev pick }
 {
-    request.flushes() || ends_write(request, features)
+    match live.phase() {
+        Phase::Stopped => SyncOwed::Nothing,
+        _ => owed(live.machine(), dev, pick),
+    }
 }
 
-fn ends_write(request: &Request, features: u64) -> bool
-    ensures { result ≡ ends_write features request.now }
+/// The disk of a device could not be brought to its file, and is lost from now on. If the step of this pick makes a flush, it is made as
+/// one whose disk failed.
+#[tactic(auto, using(crate::proofs::Failing::lost, crate::proofs::Failing::not_lost))]
+pub(crate) fn lose_kept(kept: &mut Kept, dev: u8, pick: u8) -> u32
+    ensures { Loses kept.old dev pick result kept.new }
 {
-    let Verdict::Good = request.verdict else {
-        return false;
-    };
-    request.done == request.units && is_write(request.kind) && features & FLUSH != FLUSH
+    if let Some(status) = loss_refusal(kept, dev) {
+        return status;
+    }
+    kept.lose(dev);
+    fail_kept(kept, dev, pick)
 }
 
-fn is_write(kind: blk::Kind) -> bool
-    ensures { result ≡ is_write kind }
+/// Why no disk is lost, if none is.
+fn loss_refusal(kept: &Kept, dev: u8) -> Option<u32>
+    ensures { result ≡ loss_refusal kept.now.state dev }
+{
+    by_state!(&kept.contents;
+        still(machine) => disk_refusal(machine, dev),
+        moving(live) => live_disk_refusal(live, dev),
+        lent(_) => Some(LENT),
+        arriving => Some(NO_MACHINE),
+    )
+}
+
+/// As below, for a machine that is being migrated.
+fn live_disk_refusal<D: Disk>(live: &Moving<D>, dev: u8) -> Option<u32>
+    ensures { result ≡ disk_refusal_unless (is_closed live.now.phase) (state_of live.now.machine) dev }
+{
+    match live.phase() {
+        Phase::Stopped => Some(STOPPED),
+        _ => disk_refusal(live.machine(), dev),
+    }
+}
+
+fn disk_refusal<D: Disk>(machine: &Machine<D>, dev: u8) -> Option<u32>
+    ensures { result ≡ disk_refusal_of (state_of machine.now) dev }
+{
+    if dev as usize >= machine.shapes().len() {
+        return Some(NO_DEVICE);
+    }
+    kind_refusal(machine.state(dev).kind())
+}
+
+fn kind_refusal(kind: &Kind) -> Option<u32>
+    ensures { result ≡ kind_refusal kind.now }
 {
     match kind {
-        blk::Kind::Out | blk::Kind::Zero => true,
-        blk::Kind::In | blk::Kind::Flush | blk::Kind::GetId | blk::Kind::Refused => false,
+        Kind::Block { .. } => None,
+        Kind::Network { .. } | Kind::Console { .. } | Kind::Entropy { .. } => Some(WRONG_KIND),
     }
 }
 
@@ -99,7 +146,7 @@ fn fail_flush<D: Disk>(machine: &mut Machine<D>, dev: u8, pick: u8) -> u32
     if machine.fail_flush(dev, pick) {
         return DISK_FAILED;
     }
-    no_flush(machine, dev)
+    SYNC_FAILED
 }
 
 /// As above, for a machine that is being migrated.
@@ -110,17 +157,7 @@ fn fail_live_flush<D: Disk>(live: &mut Moving<D>, dev: u8, pick: u8) -> u32
     live.recall();
     match live.fail_flush(dev, pick) {
         Ok(true) => DISK_FAILED,
-        Ok(false) => no_flush(live.machine(), dev),
+        Ok(false) => SYNC_FAILED,
         Err(error) => mig_told(error),
     }
-}
-
-/// Why a step that makes no flush does not fail.
-fn no_flush<D: Disk>(machine: &Machine<D>, dev: u8) -> u32
-    ensures { result ≡ no_flush_of (slice_get (state_of machine.now).devices dev) }
-{
-    if dev as usize >= machine.shapes().len() {
-        return NO_DEVICE;
-    }
-    NO_FLUSH
 }

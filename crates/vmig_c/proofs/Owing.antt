@@ -1,0 +1,168 @@
+-- Steps of devices whose disk is lost.
+use Rattle.std.proofs.Common.{◌≡◌, ◌≤◌, ◌<◌, ℕ, Bool, true, false, nat_lt, List, [], ◌++◌, length, drop, refl, sym, ap, ◌∙◌, subst, arith}
+use Rattle.std.specs.Prelude.{◌&&◌, MatchOption, Option, Some, None, if◌then◌else◌, slice_get}
+use Rattle.blk.specs.Durable.{ends_write, owed_if}
+use Rattle.blk.specs.Flush as blk
+use Rattle.blk.specs.declared.durable.SyncOwed.{SyncOwed}
+use Rattle.blk.specs.declared.durable.SyncOwed.TheVariants.{Nothing, Flush, EndOfWrite}
+use Rattle.blk.specs.declared.request.Request.{Request}
+use Rattle.machine.specs.DeviceStep.{advances, requests_of}
+use Rattle.machine.specs.Seen.{Seen, state_of}
+use Rattle.machine.specs.State.{DeviceState, MachineState}
+use Rattle.machine.specs.Unsynced.{flushes, flushes_if, makes_flush, owed}
+use Rattle.machine.specs.declared.event.Event.TheVariants.{Step}
+use Rattle.machine.specs.declared.reply.Reply.{Reply}
+use Rattle.machine.specs.declared.reply.Reply.TheVariants.{Value, Done, OutByte, Bytes, Idle, Taken, Moved, BadSector, DiskFailed, Completed, Sent, Dropped, Accepted, NeedsReset, NoMemory, Refused}
+use Rattle.sender.specs.LiveState.{LiveSeen, now, refusal_for}
+use Rattle.sender.specs.declared.event.LiveEvent.TheVariants.{Guest}
+use Rattle.sender.specs.declared.event.LiveReply.{LiveReply}
+use Rattle.sender.specs.declared.event.LiveReply.TheVariants as live
+use Rattle.vmig_c.specs.Durable.{FailsKept, FailsUnless, failed_status, owed_for, owed_in, owed_lost, owed_unless}
+use Rattle.vmig_c.specs.Kept.{KeptSeen, State, Still, Moving, Arriving, Lent, is_lost}
+use Rattle.vmig_c.specs.Mirror.{is_closed}
+use Rattle.vmig_c.specs.Plain.{ArePlain}
+use Rattle.vmig_c.specs.Refused.{ArePlainIn, IsSameKept, IsSameSent}
+use Rattle.vmig_c.specs.Status.{live_status, status_of}
+use Rattle.vmig_c.specs.Stepped.{IsLiveStepped, IsStepped, LiveSteppedIf, RefusedStepsNothing, StepsKept, StepsOwing, SteppedIf, live_sent_in, most_sent_by, sent_in}
+use Rattle.vmig_c.proofs.Plain.{refused_quiet}
+use Rattle.vmig_c.proofs.Quiet.{no_number, quiet_by}
+
+-- A step that owes a flush makes one.
+made_by : (f e : Bool) → (if f then Flush else if e then EndOfWrite else Nothing) ≡ Flush → f ≡ true
+made_by true e is = refl
+made_by false true is = absurd cc
+made_by false false is = absurd cc
+
+made_if : (a : Bool) (features : ℕ) (r : Option Request) → (if a then owed_if features r else Nothing) ≡ Flush → (a && blk.flushes_in r) ≡ true
+made_if true features (Some r) is = made_by (blk.flushes r) (ends_write features r) is
+made_if true features None is = absurd cc
+made_if false features r is = absurd cc
+
+made : (d : DeviceState) (pick : ℕ) → owed d pick ≡ Flush → flushes d pick ≡ true
+made d pick is = made_if (advances d pick) d.registers.common.features (slice_get (requests_of d.kind) (pick - 1)) is
+
+made_for : (d : Option DeviceState) (pick : ℕ) → owed_for d pick ≡ Flush → flushes_if d pick ≡ true
+made_for None pick is = absurd cc
+made_for (Some d) pick is = made d pick is
+
+failed_live : (closed : Bool) (l next : LiveSeen) (dev pick status : ℕ) → owed_unless closed (now l) dev pick ≡ Flush → FailsUnless closed l dev pick status next → status ≡ 69
+failed_live true l next dev pick status is f = absurd cc
+failed_live false l next dev pick status is f = f.status_is ∙ ap failed_status (made_for (slice_get (now l).devices dev) pick is)
+
+failed_in : (k next : State) (dev pick status : ℕ) → owed_in k dev pick ≡ Flush → FailsKept k dev pick status next → status ≡ 69
+failed_in (Still m) (Still next) dev pick status is f = f.status_is ∙ ap failed_status (made_for (slice_get (state_of m).devices dev) pick is)
+failed_in (Moving l) (Moving next) dev pick status is f = failed_live (is_closed l.phase) l next dev pick status is f
+failed_in (Arriving r) next dev pick status is f = absurd cc
+failed_in (Lent x) next dev pick status is f = absurd cc
+failed_in (Still m) (Moving next) dev pick status is f = absurd f
+failed_in (Still m) (Arriving next) dev pick status is f = absurd f
+failed_in (Still m) (Lent next) dev pick status is f = absurd f
+failed_in (Moving l) (Still next) dev pick status is f = absurd f
+failed_in (Moving l) (Arriving next) dev pick status is f = absurd f
+failed_in (Moving l) (Lent next) dev pick status is f = absurd f
+
+is_owed : (lost : Bool) (o : SyncOwed) → (if lost then o else Nothing) ≡ Flush → o ≡ Flush
+is_owed true o is = is
+is_owed false o is = absurd cc
+
+-- By what the step owes.
+pub owes_nothing : (k next : KeptSeen) (dev pick status number n : ℕ) (buf new_buf : List ℕ) (o : SyncOwed) → o ≡ Nothing → o ≡ owed_lost k dev pick → StepsKept k.state dev pick status number n buf new_buf next.state
+    → StepsOwing (owed_lost k dev pick) k.state dev pick status number n buf new_buf next.state
+owes_nothing k next dev pick status number n buf new_buf o is by steps = subst (λ (x : SyncOwed). StepsOwing x k.state dev pick status number n buf new_buf next.state) (sym is ∙ by) steps
+
+pub owes_flush : (k next : KeptSeen) (dev pick status n : ℕ) (buf : List ℕ) (o : SyncOwed) → o ≡ Flush → o ≡ owed_lost k dev pick → FailsKept k.state dev pick status next.state
+    → StepsOwing (owed_lost k dev pick) k.state dev pick status n n buf buf next.state
+owes_flush k next dev pick status n buf o is by fails =
+    let owes : owed_lost k dev pick ≡ Flush = sym by ∙ is in
+    rw owes (record {
+      status_is = failed_in k.state next.state dev pick status (is_owed (is_lost k dev) (owed_in k.state dev pick) owes) fails;
+      fails = fails;
+      number_same = refl;
+      buf_same = refl;
+    })
+
+pub owes_end : (k : KeptSeen) (dev pick n : ℕ) (buf : List ℕ) (o : SyncOwed) → o ≡ EndOfWrite → o ≡ owed_lost k dev pick → StepsOwing (owed_lost k dev pick) k.state dev pick 16 n n buf buf k.state
+owes_end k dev pick n buf o is by =
+    let owes : owed_lost k dev pick ≡ EndOfWrite = sym by ∙ is in
+    rw owes (record { status_is = refl; number_same = refl; buf_same = refl; same = refl })
+
+-- What was refused.
+none_sent : (reply : Reply) → 1 ≤ status_of reply → status_of reply < 64 → sent_in reply ≡ []
+none_sent (Value v) some few = refl
+none_sent Done some few = refl
+none_sent (OutByte byte) some few = refl
+none_sent (Bytes bytes) some few = refl
+none_sent Idle some few = refl
+none_sent Taken some few = refl
+none_sent Moved some few = refl
+none_sent BadSector some few = refl
+none_sent DiskFailed some few = refl
+none_sent (Completed len) some few = refl
+none_sent (Sent bytes) some few = absurd (omega (arith, few))
+none_sent Dropped some few = refl
+none_sent (Accepted count) some few = refl
+none_sent NeedsReset some few = refl
+none_sent NoMemory some few = refl
+none_sent (Refused refusal) some few = refl
+
+none_sent_live : (reply : LiveReply) → 1 ≤ live_status reply → live_status reply < 64 → live_sent_in reply ≡ []
+none_sent_live (live.Guest reply) some few = none_sent reply some few
+none_sent_live (live.Begun round) some few = refl
+none_sent_live (live.Copied item) some few = refl
+none_sent_live live.RoundDone some few = refl
+none_sent_live live.RoundOpen some few = refl
+none_sent_live (live.Stopped pages sectors) some few = refl
+none_sent_live (live.Mig error) some few = refl
+
+same_buf : (sent buf new_buf : List ℕ) → sent ≡ [] → new_buf ≡ sent ++ drop (length sent) buf → new_buf ≡ buf
+same_buf sent buf new_buf none is = is ∙ ap (λ (l : List ℕ). l ++ drop (length l) buf) none
+
+quiet_step : (small : Bool) (m next : Seen) (dev pick status number before : ℕ) (buf new_buf : List ℕ) → ArePlain m → SteppedIf small m dev pick status number before buf new_buf next → 1 ≤ status → status < 64
+    → (state_of next ≡ state_of m) × (number ≡ before) × (new_buf ≡ buf)
+quiet_step true m next dev pick status number before buf new_buf plain s some few = (ap state_of s.same, s.number_same, s.buf_same)
+quiet_step false m next dev pick status number before buf new_buf plain s some few =
+    let more : 1 ≤ status_of s.reply = omega (arith, some, s.status_is) in
+    let less : status_of s.reply < 64 = omega (arith, few, s.status_is) in
+    (refused_quiet m next (Step dev pick) s.reply plain s.applied more less, s.number_is ∙ no_number s.reply before more less, same_buf (sent_in s.reply) buf new_buf (none_sent s.reply more less) s.sent)
+
+same_sent : (l next : LiveSeen) → next ≡ l → IsSameSent l next
+same_sent l next same = rw same (record { machine = refl; rest = refl })
+
+quiet_live_step : (small : Bool) (l next : LiveSeen) (dev pick status number before : ℕ) (buf new_buf : List ℕ) → ArePlain l.machine → LiveSteppedIf small l dev pick status number before buf new_buf next → 1 ≤ status → status < 64
+    → IsSameSent l next × (number ≡ before) × (new_buf ≡ buf)
+quiet_live_step true l next dev pick status number before buf new_buf plain s some few = (same_sent l next s.same, s.number_same, s.buf_same)
+quiet_live_step false l next dev pick status number before buf new_buf plain s some few =
+    let more : 1 ≤ live_status s.reply = omega (arith, some, s.status_is) in
+    let less : live_status s.reply < 64 = omega (arith, few, s.status_is) in
+    let quiet = quiet_by (refusal_for l.phase (Guest (Step dev pick))) l next (Step dev pick) s.reply before plain more less s.serves in
+    (quiet.0, s.number_is ∙ quiet.1, same_buf (live_sent_in s.reply) buf new_buf (none_sent_live s.reply more less) s.sent)
+
+quiet_kept : (k next : State) (dev pick status number before : ℕ) (buf new_buf : List ℕ) → ArePlainIn k → StepsKept k dev pick status number before buf new_buf next → 1 ≤ status → status < 64
+    → IsSameKept k next × (number ≡ before) × (new_buf ≡ buf)
+quiet_kept (Still m) (Still next) dev pick status number before buf new_buf plain s some few = quiet_step (nat_lt (length buf) (most_sent_by m dev pick)) m next dev pick status number before buf new_buf plain s some few
+quiet_kept (Moving l) (Moving next) dev pick status number before buf new_buf plain s some few = quiet_live_step (nat_lt (length buf) (most_sent_by l.machine dev pick)) l next dev pick status number before buf new_buf plain s some few
+quiet_kept (Arriving r) (Arriving next) dev pick status number before buf new_buf plain s some few = (s.0.1, s.1)
+quiet_kept (Lent x) (Lent next) dev pick status number before buf new_buf plain s some few = (s.0.1, s.1)
+quiet_kept (Still m) (Moving next) dev pick status number before buf new_buf plain s some few = absurd s
+quiet_kept (Still m) (Arriving next) dev pick status number before buf new_buf plain s some few = absurd s
+quiet_kept (Still m) (Lent next) dev pick status number before buf new_buf plain s some few = absurd s
+quiet_kept (Moving l) (Still next) dev pick status number before buf new_buf plain s some few = absurd s
+quiet_kept (Moving l) (Arriving next) dev pick status number before buf new_buf plain s some few = absurd s
+quiet_kept (Moving l) (Lent next) dev pick status number before buf new_buf plain s some few = absurd s
+quiet_kept (Arriving r) (Still next) dev pick status number before buf new_buf plain s some few = absurd s
+quiet_kept (Arriving r) (Moving next) dev pick status number before buf new_buf plain s some few = absurd s
+quiet_kept (Arriving r) (Lent next) dev pick status number before buf new_buf plain s some few = absurd s
+quiet_kept (Lent x) (Still next) dev pick status number before buf new_buf plain s some few = absurd s
+quiet_kept (Lent x) (Moving next) dev pick status number before buf new_buf plain s some few = absurd s
+quiet_kept (Lent x) (Arriving next) dev pick status number before buf new_buf plain s some few = absurd s
+
+itself : (k : State) → IsSameKept k k
+itself (Still m) = refl
+itself (Moving l) = record { machine = refl; rest = refl }
+itself (Arriving r) = refl
+itself (Lent x) = refl
+
+pub refused_steps_nothing : RefusedStepsNothing
+refused_steps_nothing Nothing k next dev pick status number before buf new_buf plain s some few = quiet_kept k next dev pick status number before buf new_buf plain s some few
+refused_steps_nothing Flush k next dev pick status number before buf new_buf plain s some few = absurd (omega (arith, s.status_is, few))
+refused_steps_nothing EndOfWrite k next dev pick status number before buf new_buf plain s some few = (subst (λ (x : State). IsSameKept k x) (sym s.same) (itself k), s.number_same, s.buf_same)
