@@ -47,15 +47,29 @@
  * write, and after each vmig_input, make the steps that vmig_next_work names, as its comment shows, and read vmig_lines after
  * each. Hand on what a step sends (VMIG_SENT) before the next one: it overwrites the buffer. Do a console's steps before the
  * register write returns to the guest: Linux waits for them with interrupts off. Make a bounded number of steps before the
- * guest runs again: a guest can give its devices work without end.
+ * guest runs again: a guest can give its devices work without end. With disks in your memory ask vmig_must_sync before each step.
+ * A step that is not made, as the end of a write to a lost disk (VMIG_DISK_LOST), does not end the turn: go on with the next work,
+ * keep the numbers of the step from turn to turn, and end the turn where you come back to the step that was not made. Else one
+ * disk keeps the console from its work.
  *
  * DISKS IN YOUR MEMORY, as in a file that you mapped: a vmig_image says where the sectors of a disk are. A vmig_setup names the
  * images that the disks of a new machine are, and a vmig_arrival those of a machine that arrives. What the guest writes is there
  * at once. From that call until vmig_unmap or vmig_free the bytes are the machine's: nothing else reads or writes them, and they
  * stay mapped, at their address. A guest's flush does not reach the file: it calls no msync, which is yours to do, before each
- * step of which vmig_must_sync says so; and of a machine that arrived before its guest first runs, since that guest may have
- * been told of a flush long ago. Where msync fails, vmig_sync_failed comes in place of the step, and the guest's flush ends with
- * an error.
+ * step of which vmig_must_sync says so.
+ * - Each image is a map of its own, MAP_SHARED, whose first byte is at a multiple of the system's page. Every block of the file is
+ *   allocated before it is mapped (posix_fallocate), and the file is not cut: a store into a hole of a full file system, or past the
+ *   end of the file, ends your process by SIGBUS, and a guest's write is such a store.
+ * - No two machines, of one host or of two, ever have one mapped file that one of them may write. What arrives writes its file.
+ * - Where msync fails, call vmig_sync_failed in place of the step. A failed sync is for good: Linux tells the error once, and the
+ *   next msync answers 0 though the bytes are lost. So never call msync again in the hope that it will do. The disk is lost from
+ *   then on: each later flush of it fails, and a write whose driver did not accept the feature FLUSH does not end. End the guest
+ *   soon, or move it, which saves what the page cache still has. Make no new machine over that file, since an opening made later
+ *   does not know. A reset of the device, a loan and an abort leave the disk lost, until vmig_free or vmig_unmap. It does not move:
+ *   what arrives lies in another image.
+ * - A machine that arrived may have a guest that was told of a flush long ago. After vmig_finish call msync for each image, and fsync
+ *   for the folder of a file that is new, before the source is told that all is there. Where it fails, also where one between two
+ *   rounds failed, the machine does not run here: free it, and the source goes on.
  *
  * WHAT TAKES MEMORY from malloc: vmig_make, vmig_make_as and vmig_receive, for devices, for RAM and disks where they are not
  * yours, for a bit for each sector of an image, and for 8 bytes for each page; vmig_arrive, for a list of the images, and for 8
@@ -71,19 +85,22 @@
  * A MACHINE IS SENT WHILE IT RUNS: vmig_begin, then vmig_copy until VMIG_ROUND_DONE and vmig_end_round, as often as you like,
  * then vmig_stop. The guest is served as before between these: all other calls are allowed, but for vmig_save,
  * vmig_saved_len and vmig_sector_read. The bytes that are written wait inside, and vmig_take hands them out when you like.
- * After vmig_stop the bytes taken, in their order, are one stream. From then on the guest is paused for good: its events are
- * refused with VMIG_STOPPED, and RAM and the lines can be read, until vmig_abort or vmig_free. After vmig_abort the machine
- * continues as one that was never sent.
+ * After vmig_stop the bytes taken, in their order, are one stream. From then on the guest is paused: its events are refused with
+ * VMIG_STOPPED, and RAM and the lines can be read, until vmig_abort or vmig_free. After vmig_abort the machine continues as one that
+ * was never sent. After a stop that answered VMIG_OK that is for a source that has not told the other side that it may run the
+ * guest, where a target runs nothing before that word; or for one whose stream is a snapshot in a file. Once the word is out only an
+ * operator who knows that the other side does not run may allow it: else two hosts run one guest. A host whose protocol has no such
+ * word has let go of the guest with the last byte of the stream.
  *
  * A MACHINE ARRIVES: vmig_feed on a handle of no machine, with the bytes of the stream in any pieces, as they come over the
  * wire, and vmig_finish after the last; or vmig_receive with all of them at once. RAM and disks are made in memory, of any size
  * that a machine can have. A host that takes streams from a network calls vmig_arrive before the first piece, with the most
  * pages and sectors that it expects: a stream that announces more is VMIG_STREAM_TOO_LARGE as soon as its header is whole,
  * before memory is taken for RAM or disks. vmig_arrive also names images of yours that the disks are to be, and memory of yours
- * that RAM is to be. Until vmig_finish the handle has no machine for any other call but vmig_rounds, vmig_free and, over images,
- * vmig_unmap, and is in use for the calls that make or receive one. Before its guest runs read the lines and make the steps that
- * vmig_next_work names: a kick and an interrupt that were not served come with the machine. The digest is computed as the bytes
- * come, by some 4 ms a MiB.
+ * that RAM is to be. Until vmig_finish the handle has no machine for any other call but vmig_rounds, vmig_is_whole, vmig_free and,
+ * over images, vmig_unmap, and is in use for the calls that make or receive one. Before its guest runs read the lines and make the
+ * steps that vmig_next_work names: a kick and an interrupt that were not served come with the machine. The digest is computed as the
+ * bytes come, by some 4 ms a MiB. vmig_is_whole says whether the end of the stream has come: vmig_feed is VMIG_OK before it and after.
  *
  * RAM OF YOURS, LENT TO THE GUEST, as under hardware virtualization: the guest runs on memory of yours, and its devices read and
  * write the same bytes: nothing is copied. A vmig_setup names the memory that is the RAM of a new machine, and a vmig_arrival
@@ -133,7 +150,7 @@
  *   make, make_as, arrive,
  *     receive                     done         IN_USE             IN_USE        IN_USE           IN_USE          IN_USE
  *   feed                          done         done               IN_USE        IN_USE           IN_USE          IN_USE
- *   finish, rounds                NO_MACHINE   done               IN_USE        IN_USE           IN_USE          IN_USE
+ *   finish, rounds, is_whole      NO_MACHINE   done               IN_USE        IN_USE           IN_USE          IN_USE
  *   reg_read, reg_write, step,
  *     sync_failed, next_work,
  *     ram_write, push, input,
@@ -191,14 +208,14 @@ enum {
     VMIG_NO_DEVICE = 1,    /* there is no device of this number */
     VMIG_OUT_OF_RAM = 2,   /* the access does not lie in RAM; vmig_push, vmig_give_back: there is no such page */
     VMIG_TOO_LONG = 3,     /* the access is of more than 4,096 bytes; reported before VMIG_OUT_OF_RAM */
-    VMIG_WRONG_KIND = 4,   /* a device of this kind has no such event */
+    VMIG_WRONG_KIND = 4,   /* a device of this kind has no such event, or no disk */
     VMIG_BAD_FRAME = 5,    /* a frame of fewer than 14 or more than 1,514 bytes */
 
     /* The call is refused. */
     VMIG_NO_SECTOR = 7,    /* vmig_sector_read: the disk has no such sector */
     VMIG_NO_MACHINE = 8,   /* the handle has no machine, or one that still arrives */
     VMIG_IN_USE = 9,       /* vmig_make, vmig_make_as, vmig_arrive, vmig_receive: the handle has a machine already, or one arrives;
-                            * vmig_feed, vmig_finish, vmig_rounds: it has a machine that does not arrive */
+                            * vmig_feed, vmig_finish, vmig_rounds, vmig_is_whole: it has a machine that does not arrive */
     VMIG_NO_MEMORY = 10,   /* out of memory: malloc or realloc failed */
     VMIG_TOO_SMALL = 11,   /* vmig_step, vmig_save, vmig_push, vmig_pull, vmig_sector_read: your buffer;
                             * vmig_unmap: your slots; vmig_give_back_marked: your words */
@@ -208,7 +225,8 @@ enum {
     VMIG_NOT_MAPPED = 14,  /* vmig_unmap: the disks are in memory of the library */
     VMIG_BAD_IMAGES = 15,  /* vmig_make_as: there are contents and images, or the length of the contents or the counts of the
                             * images are not those of the disks; vmig_unmap: a slot is not VMIG_NO_IMAGE */
-    VMIG_NO_FLUSH = 16,    /* vmig_sync_failed: the step flushes no disk */
+    VMIG_DISK_LOST = 16,   /* vmig_step, vmig_must_sync: the disk is lost, and the step would end a write that the driver then takes
+                            * for durable: it is not made */
 
     /* A migration refuses the call: 16 and the number of its reason. VMIG_WRITER_FAILED alone changes something: the migration
      * has failed for good, and each of its later calls but vmig_take and vmig_abort gets the same status. The machine is as it
@@ -259,8 +277,7 @@ enum {
     VMIG_TAKEN = 66,       /* a block device took a request */
     VMIG_MOVED = 67,       /* one unit of a request is done: a sector, a flush or the id */
     VMIG_BAD_SECTOR = 68,  /* the sector is bad; the request will end with an error */
-    VMIG_DISK_FAILED = 69, /* the disk failed; disks in memory never do, so vmig_step does not answer it; vmig_sync_failed: the
-                            * flush failed, and the request will end with an error */
+    VMIG_DISK_FAILED = 69, /* the disk is lost: the flush failed, and the request will end with an error */
     VMIG_COMPLETED = 70,   /* a chain was given back; *len is its used length */
     VMIG_SENT = 71,        /* a message of the guest was taken: *len bytes at the front of the buffer */
     VMIG_DROPPED = 72,     /* a frame did not fit into the guest's buffer, and is gone */
@@ -278,8 +295,11 @@ enum {
     /* vmig_stream_size and vmig_stream_device: the header is not whole, and has no fault so far. */
     VMIG_MORE = 79,        /* hand in more of the stream's first bytes */
 
-    /* vmig_must_sync, which also answers VMIG_OK. */
-    VMIG_SYNC = 80         /* before this step bring the disk to its file */
+    /* vmig_must_sync, which also answers VMIG_OK, and refuses by VMIG_DISK_LOST. */
+    VMIG_SYNC = 80,        /* before this step bring the disk to its file */
+
+    /* vmig_sync_failed, which also answers VMIG_DISK_FAILED. */
+    VMIG_SYNC_FAILED = 81  /* the disk is lost from now on; no step was made */
 };
 
 /* The name of a status as it stands above, such as "VMIG_NO_DEVICE", for logs and messages; "unknown status" for any other number. */
@@ -290,7 +310,7 @@ static inline const char *vmig_status_name(uint32_t status)
     VMIG_NAMED(VMIG_OK) VMIG_NAMED(VMIG_NO_DEVICE) VMIG_NAMED(VMIG_OUT_OF_RAM) VMIG_NAMED(VMIG_TOO_LONG)
     VMIG_NAMED(VMIG_WRONG_KIND) VMIG_NAMED(VMIG_BAD_FRAME) VMIG_NAMED(VMIG_NO_SECTOR) VMIG_NAMED(VMIG_NO_MACHINE)
     VMIG_NAMED(VMIG_IN_USE) VMIG_NAMED(VMIG_NO_MEMORY) VMIG_NAMED(VMIG_TOO_SMALL) VMIG_NAMED(VMIG_BAD_SHAPE)
-    VMIG_NAMED(VMIG_MOVING) VMIG_NAMED(VMIG_NOT_MAPPED) VMIG_NAMED(VMIG_BAD_IMAGES) VMIG_NAMED(VMIG_NO_FLUSH) VMIG_NAMED(VMIG_NOT_BEGUN)
+    VMIG_NAMED(VMIG_MOVING) VMIG_NAMED(VMIG_NOT_MAPPED) VMIG_NAMED(VMIG_BAD_IMAGES) VMIG_NAMED(VMIG_DISK_LOST) VMIG_NAMED(VMIG_NOT_BEGUN)
     VMIG_NAMED(VMIG_BEGUN_ALREADY) VMIG_NAMED(VMIG_READ_FAILED) VMIG_NAMED(VMIG_WRITER_FAILED) VMIG_NAMED(VMIG_STOPPED)
     VMIG_NAMED(VMIG_NO_ROUND_LEFT) VMIG_NAMED(VMIG_LENT) VMIG_NAMED(VMIG_NOT_LENT) VMIG_NAMED(VMIG_NOT_OVER)
     VMIG_NAMED(VMIG_BAD_RAM) VMIG_NAMED(VMIG_NOT_KNOWN) VMIG_NAMED(VMIG_STREAM_BAD_MAGIC) VMIG_NAMED(VMIG_STREAM_BAD_VERSION)
@@ -302,7 +322,7 @@ static inline const char *vmig_status_name(uint32_t status)
     VMIG_NAMED(VMIG_IDLE) VMIG_NAMED(VMIG_TAKEN) VMIG_NAMED(VMIG_MOVED) VMIG_NAMED(VMIG_BAD_SECTOR) VMIG_NAMED(VMIG_DISK_FAILED)
     VMIG_NAMED(VMIG_COMPLETED) VMIG_NAMED(VMIG_SENT) VMIG_NAMED(VMIG_DROPPED) VMIG_NAMED(VMIG_NEEDS_RESET) VMIG_NAMED(VMIG_PAGE)
     VMIG_NAMED(VMIG_SECTOR) VMIG_NAMED(VMIG_ROUND_DONE) VMIG_NAMED(VMIG_ROUND_OPEN) VMIG_NAMED(VMIG_WORK)
-    VMIG_NAMED(VMIG_MORE) VMIG_NAMED(VMIG_SYNC)
+    VMIG_NAMED(VMIG_MORE) VMIG_NAMED(VMIG_SYNC) VMIG_NAMED(VMIG_SYNC_FAILED)
     default: return "unknown status";
     }
 #undef VMIG_NAMED
@@ -447,6 +467,7 @@ uint32_t vmig_ram_write(vmig_machine *machine, uint64_t addr, const uint8_t *byt
 /* Hands in pages, one for each of the count numbers, in their order: the machine's page n becomes the 4,096 bytes at
  * ram + 4096 * n, as if the guest wrote it whole, so a machine that is being sent sends it anew; and seen[n] becomes its
  * version. ram has len bytes and seen has seen_len entries, at least as many as RAM has bytes and pages: else VMIG_TOO_SMALL.
+ * Page 0 is the first of RAM, whatever its base.
  * A number that is no page is VMIG_OUT_OF_RAM, and a machine that was stopped VMIG_STOPPED, also where count is 0.
  * VMIG_NO_MACHINE, VMIG_TOO_SMALL, VMIG_OUT_OF_RAM; of a machine that is being sent also VMIG_STOPPED. */
 uint32_t vmig_push(vmig_machine *machine, const uint32_t *pages, size_t count, const uint8_t *ram, size_t len,
@@ -454,7 +475,7 @@ uint32_t vmig_push(vmig_machine *machine, const uint32_t *pages, size_t count, c
 
 /* Hands out each page whose version is not seen[n], and each whose version is the greatest, UINT64_MAX, at which the version
  * stops counting: it goes to ram + 4096 * n, and seen[n] becomes its version. All else of ram and seen is as it was. *count
- * is the number of pages handed out. Sizes are as for vmig_push. The machine is as it was; it may have been stopped.
+ * is the number of pages handed out. Numbers of pages and sizes are as for vmig_push. The machine is as it was; it may have been stopped.
  * VMIG_NO_MACHINE, VMIG_TOO_SMALL. */
 uint32_t vmig_pull(vmig_machine *machine, uint8_t *ram, size_t len, uint64_t *seen, size_t seen_len, uint32_t *count);
 
@@ -466,7 +487,8 @@ uint32_t vmig_lend(vmig_machine *machine, vmig_ram *ram);
 
 /* Gives RAM back, with the numbers of the count pages that were written while it was lent, by the guest or by you: the machine
  * takes each for written whole, so a machine that is being sent sends it anew. They come in any order, and one may come twice. A
- * count of 0 says that nothing was written. A page that was written and is named neither here nor by a later call may be sent as
+ * count of 0 says that nothing was written. Page 0 is the first of RAM, whatever its base: the page of a guest-physical address is
+ * (address - base) / 4096. A page that was written and is named neither here nor by a later call may be sent as
  * it was before: nothing checks it, and what was written is lost at the receiver. *ram has the length that was lent. Its address
  * may be another, if the bytes moved there: RAM lies there from then on. It takes no memory, and time for the named pages alone.
  * VMIG_OK takes the memory: *ram is VMIG_NO_RAM then. At every other status nothing changed, and RAM is still lent.
@@ -474,7 +496,8 @@ uint32_t vmig_lend(vmig_machine *machine, vmig_ram *ram);
 uint32_t vmig_give_back(vmig_machine *machine, vmig_ram *ram, const uint32_t *pages, size_t count);
 
 /* As vmig_give_back, with a bitmap: bit k of words[n], the lowest being bit 0, is set if page 64 * n + k was written, as
- * KVM_GET_DIRTY_LOG fills it. There are count words, at least one for each 64 pages, else VMIG_TOO_SMALL. Each word takes
+ * KVM_GET_DIRTY_LOG fills it for a slot that begins where RAM does: page 0 is the first of RAM, whatever its base. There are count
+ * words, at least one for each 64 pages, else VMIG_TOO_SMALL. Each word takes
  * one look, and each page that is marked another. Bits past the last page are not looked at.
  * VMIG_NO_MACHINE, then VMIG_NOT_LENT, then VMIG_BAD_RAM, then VMIG_TOO_SMALL, then VMIG_NO_MEMORY, and no others. */
 uint32_t vmig_give_back_marked(vmig_machine *machine, vmig_ram *ram, const uint64_t *words, size_t count);
@@ -493,24 +516,53 @@ uint32_t vmig_give_back_all(vmig_machine *machine, vmig_ram *ram);
  * bytes are enough for a network device, 65,536 (VMIG_SENT_MAX) for each device, and 0 for a block or an entropy device and
  * for each pick 0. The bytes of buf after the message are as they were.
  * *len is set with VMIG_COMPLETED and VMIG_SENT, and is as it was with any other status.
- * VMIG_NO_MACHINE, VMIG_NO_DEVICE, VMIG_TOO_SMALL, VMIG_NO_MEMORY. */
+ *
+ * Of a disk that is lost (vmig_sync_failed) a step that makes a flush is VMIG_DISK_FAILED, and the guest reads an error. The step that
+ * ends a write is VMIG_DISK_LOST where the driver did not accept the feature FLUSH: it is not made, so that the guest reads no success,
+ * and nothing changed. Every other step is as ever.
+ * VMIG_NO_MACHINE, VMIG_NO_DEVICE, VMIG_TOO_SMALL, VMIG_NO_MEMORY, VMIG_DISK_LOST; of a machine that is being sent also VMIG_STOPPED. */
 uint32_t vmig_step(vmig_machine *machine, uint8_t dev, uint8_t pick, uint8_t *buf, size_t size, uint32_t *len);
 
 /* Names a step that has something to do: *dev and *pick become its numbers. It is the first in turn after the step that they
  * name before the call, so begin with 0 and 0, and leave them to the next call. In turn are all picks of a device, then those
  * of the next device, and after the last device the first again: no device keeps the others from their work.
  *
- *     uint8_t dev = 0, pick = 0;
- *     while (vmig_next_work(&machine, &dev, &pick) == VMIG_WORK) {
- *         uint32_t status = vmig_step(&machine, dev, pick, buf, sizeof buf, &len);
- *         if (status < 64) break;
+ *     static uint8_t dev, pick;                          of this machine: they stay from turn to turn
+ *
+ *     static uint32_t make_step(vmig_machine *m)         of disks in your memory
+ *     {
+ *         if (vmig_must_sync(m, dev, pick) == VMIG_SYNC && msync(at[dev], length[dev], MS_SYNC) != 0) {
+ *             uint32_t status = vmig_sync_failed(m, dev, pick);
+ *             return status == VMIG_SYNC_FAILED ? VMIG_DISK_LOST : status;
+ *         }
+ *         return vmig_step(m, dev, pick, buf, sizeof buf, &len);
  *     }
+ *
+ *     static void do_work(vmig_machine *m)               one turn
+ *     {
+ *         int left = -1;                                 the step that was not made, if the last one was not
+ *
+ *         for (int i = 0; i < 1000 && vmig_next_work(m, &dev, &pick) == VMIG_WORK; i++) {
+ *             if (left == dev * 256 + pick) break;
+ *             uint32_t status = make_step(m);
+ *             if (status == VMIG_DISK_LOST) {
+ *                 if (left < 0) left = dev * 256 + pick;
+ *                 continue;
+ *             }
+ *             if (status < 64) break;
+ *             left = -1;
+ *             if (status == VMIG_SENT) hand_on(buf, len);
+ *             lines = vmig_lines(m);
+ *         }
+ *     }
+ *
+ * With disks in memory of the library vmig_step takes the place of make_step.
  *
  * VMIG_WORK, or VMIG_IDLE where no step of any device has something to do. Then, and where it is refused, *dev and *pick are
  * as they were. The step that it names is not VMIG_IDLE, or it finds a queue empty, and then that queue has nothing to do
- * until its driver notifies the device anew. A step that is refused, from 1 to 63, leaves its work: end the loop there. A
- * guest can bring about that there is always something to do, as its chains may name the rings themselves: bound how many
- * steps you make in a row. It reads no RAM, and takes no memory.
+ * until its driver notifies the device anew. A step that is refused, from 1 to 63, leaves its work: end the turn there, but for
+ * VMIG_DISK_LOST, after which the other devices have their turn. A guest can bring about that there is always something to do, as
+ * its chains may name the rings themselves: bound how many steps you make in a row. It reads no RAM, and takes no memory.
  * VMIG_NO_MACHINE; of a machine that is being sent also VMIG_STOPPED. */
 uint32_t vmig_next_work(vmig_machine *machine, uint8_t *dev, uint8_t *pick);
 
@@ -536,17 +588,21 @@ uint32_t vmig_sector_read(vmig_machine *machine, uint8_t dev, uint64_t sector, u
 
 /* Whether what the guest wrote to the disk has to be durable before the step of this pick: the step makes a flush; or it ends a
  * write, where the driver did not accept the feature FLUSH (VIRTIO 1.2, 5.2.6.2). VMIG_SYNC: before that step bring the image of
- * the device to its file, by msync. Where that fails call vmig_sync_failed in place of the step. VMIG_OK: nothing is owed. A disk
- * in memory of the library has no file, but the same answer. The machine is as it was.
- * VMIG_NO_MACHINE, VMIG_NO_DEVICE. */
+ * the device to its file, by msync. Where that fails call vmig_sync_failed in place of the step. VMIG_OK: nothing is owed. Of a disk
+ * that is lost no sync is asked for any more: VMIG_OK for a step that makes a flush, since vmig_step fails it, and VMIG_DISK_LOST for
+ * one that ends such a write, since vmig_step does not make it. A disk in memory of the library has no file, but the same answer. The
+ * machine is as it was.
+ * VMIG_NO_MACHINE, VMIG_NO_DEVICE, VMIG_DISK_LOST. */
 uint32_t vmig_must_sync(vmig_machine *machine, uint8_t dev, uint8_t pick);
 
-/* In place of a step of which vmig_must_sync said VMIG_SYNC, where the image could not be brought to its file. A flush is made as one
- * whose disk failed: VMIG_DISK_FAILED. The next step of the pick ends the request, and the guest reads an error; it may flush
- * again. A write cannot fail any more once its last sector is written: VMIG_NO_FLUSH, as for any step that makes no flush. Do not
- * make the step that ends such a write, so that the guest reads no success; try again later, or stop the guest. For a disk in
- * memory of the library it does the same.
- * VMIG_NO_MACHINE, VMIG_STOPPED, VMIG_NO_DEVICE, VMIG_NO_FLUSH. */
+/* In place of a step of which vmig_must_sync said VMIG_SYNC, where the image of the device could not be brought to its file: the disk is
+ * lost from then on, for good. A step that makes a flush is made as one whose disk failed: VMIG_DISK_FAILED. The next step of the pick
+ * ends the request, and the guest reads an error, as it does from each later flush. For every other pick the machine stays as it is:
+ * VMIG_SYNC_FAILED. Such a pick is the end of a write whose driver did not accept the feature FLUSH, since a write cannot fail any more
+ * once its last sector is written: it does not end (VMIG_DISK_LOST), and the guest reads no success. Any other, such as 0, tells of a
+ * sync of your own that failed without a step. Never call msync for this image again in the hope that it will do, as DISKS IN YOUR
+ * MEMORY says: end the guest soon, or move it. For a disk in memory of the library it does the same. It takes no memory.
+ * VMIG_NO_MACHINE, then VMIG_STOPPED, then VMIG_NO_DEVICE, then VMIG_WRONG_KIND (it has no disk), and no others. */
 uint32_t vmig_sync_failed(vmig_machine *machine, uint8_t dev, uint8_t pick);
 
 /* How many pages of RAM and how many devices the machine has, also one that is being sent or was stopped. The machine is as it was.
@@ -586,8 +642,8 @@ uint32_t vmig_saved_len(vmig_machine *machine, size_t *len);
 uint32_t vmig_save(vmig_machine *machine, uint8_t *buf, size_t size, size_t *len);
 
 /* Makes the machine whose stream the bytes are, also one that was sent in rounds; *rounds is the number of rounds that ended
- * in it. Its disks are in memory, and its RAM begins at address 0. A stream that is refused makes no machine; a stream can ask for up to 64 MiB of RAM and 1
- * GiB for each of 16 disks, before more than its header is read.
+ * in it. Its disks are in memory, and its RAM begins at address 0. A stream that is refused makes no machine; a stream can ask for up to
+ * 64 MiB of RAM and 1 GiB for each of 16 disks, before more than its header is read.
  * VMIG_IN_USE, VMIG_NO_MEMORY, or a VMIG_STREAM status. */
 uint32_t vmig_receive(const uint8_t *bytes, size_t len, vmig_machine *machine, uint32_t *rounds);
 
@@ -596,7 +652,7 @@ uint32_t vmig_receive(const uint8_t *bytes, size_t len, vmig_machine *machine, u
 uint32_t vmig_begin(vmig_machine *machine);
 
 /* Sends the due page or sector with the least number, pages first: VMIG_PAGE or VMIG_SECTOR. *dev is set with VMIG_SECTOR
- * alone, *number with both, and they are as they were with any other status.
+ * alone, *number with both, and they are as they were with any other status. Page 0 is the first of RAM, whatever its base.
  * VMIG_ROUND_DONE, VMIG_NO_MACHINE, VMIG_NOT_BEGUN, VMIG_WRITER_FAILED, VMIG_STOPPED. */
 uint32_t vmig_copy(vmig_machine *machine, uint8_t *dev, uint32_t *number);
 
@@ -611,7 +667,9 @@ uint32_t vmig_end_round(vmig_machine *machine, uint32_t *round);
 uint32_t vmig_stop(vmig_machine *machine, uint64_t *pages, uint64_t *sectors);
 
 /* Ends the migration, also after vmig_stop: the machine is as it is, and is not being sent any more. Bytes that were written
- * and not taken are gone.
+ * and not taken are gone. After a stop that answered VMIG_OK call it only if the other side was not told that it may run the guest, and
+ * runs nothing before that, or if the stream is a snapshot in a file; after that word only an operator may allow it, who knows that the
+ * other side does not run. A host whose protocol has no such word has let go of the guest with the last byte of the stream.
  * VMIG_NO_MACHINE, VMIG_NOT_BEGUN. */
 uint32_t vmig_abort(vmig_machine *machine);
 
@@ -654,6 +712,11 @@ uint32_t vmig_finish(vmig_machine *machine);
 /* *ended is the number of rounds that ended in the bytes so far, and 0 for a stream that was refused.
  * VMIG_NO_MACHINE, VMIG_IN_USE. */
 uint32_t vmig_rounds(vmig_machine *machine, uint32_t *ended);
+
+/* *whole becomes 1 if the end of the stream has come, with its digest, and nothing was refused, else 0: then vmig_finish makes the
+ * machine, unless memory is refused. It tells a host whose wire does not say where a stream ends. The arrival is as it was.
+ * VMIG_NO_MACHINE, VMIG_IN_USE. */
+uint32_t vmig_is_whole(vmig_machine *machine, uint32_t *whole);
 
 #ifdef __cplusplus
 }

@@ -15,7 +15,7 @@ enum class [[nodiscard]] status : std::uint32_t {
     ok = VMIG_OK, no_device = VMIG_NO_DEVICE, out_of_ram = VMIG_OUT_OF_RAM, too_long = VMIG_TOO_LONG,
     wrong_kind = VMIG_WRONG_KIND, bad_frame = VMIG_BAD_FRAME, no_sector = VMIG_NO_SECTOR, no_machine = VMIG_NO_MACHINE,
     in_use = VMIG_IN_USE, no_memory = VMIG_NO_MEMORY, too_small = VMIG_TOO_SMALL, bad_shape = VMIG_BAD_SHAPE,
-    moving = VMIG_MOVING, not_mapped = VMIG_NOT_MAPPED, bad_images = VMIG_BAD_IMAGES, no_flush = VMIG_NO_FLUSH, not_begun = VMIG_NOT_BEGUN,
+    moving = VMIG_MOVING, not_mapped = VMIG_NOT_MAPPED, bad_images = VMIG_BAD_IMAGES, disk_lost = VMIG_DISK_LOST, not_begun = VMIG_NOT_BEGUN,
     begun_already = VMIG_BEGUN_ALREADY, read_failed = VMIG_READ_FAILED, writer_failed = VMIG_WRITER_FAILED,
     stopped = VMIG_STOPPED, no_round_left = VMIG_NO_ROUND_LEFT, lent = VMIG_LENT, not_lent = VMIG_NOT_LENT,
     not_over = VMIG_NOT_OVER, bad_ram = VMIG_BAD_RAM, not_known = VMIG_NOT_KNOWN, stream_bad_magic = VMIG_STREAM_BAD_MAGIC,
@@ -30,7 +30,7 @@ enum class [[nodiscard]] status : std::uint32_t {
     disk_failed = VMIG_DISK_FAILED, completed = VMIG_COMPLETED, sent = VMIG_SENT, dropped = VMIG_DROPPED,
     needs_reset = VMIG_NEEDS_RESET, page = VMIG_PAGE, sector = VMIG_SECTOR, round_done = VMIG_ROUND_DONE,
     round_open = VMIG_ROUND_OPEN, work = VMIG_WORK, more = VMIG_MORE,
-    sync = VMIG_SYNC,
+    sync = VMIG_SYNC, sync_failed = VMIG_SYNC_FAILED,
 };
 
 /* The name that a status has in vmig.h. */
@@ -152,6 +152,7 @@ public:
     status feed(const std::uint8_t *bytes, std::size_t len) { return status{vmig_feed(&held, bytes, len)}; }
     status finish() { return status{vmig_finish(&held)}; }
     status rounds(std::uint32_t *ended) { return status{vmig_rounds(&held, ended)}; }
+    status is_whole(std::uint32_t *whole) { return status{vmig_is_whole(&held, whole)}; }
 
 private:
     static vmig_machine none() noexcept { return VMIG_NONE; }

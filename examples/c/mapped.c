@@ -1,5 +1,6 @@
 /* A disk in a file that is mapped: a machine is made over it, a driver writes a sector, and the file has it, before the driver is told
- * that it is there for good. Where the file cannot be written the driver's flush ends with an error. */
+ * that it is there for good. Where the file could not be written once the disk is lost: each later flush of the driver ends with an
+ * error, and a write of a driver without the feature FLUSH does not end, while the other devices go on. */
 #define _POSIX_C_SOURCE 200809L
 #include <stdlib.h>
 #include <string.h>
@@ -9,7 +10,8 @@
 
 enum { HEADER = 0x7000, OUTCOME = 0x7100, WRITE = 1, FLUSH = 4, FLUSH_FEATURE = 1 << 9, SECTORS = 3, SECTOR = 512, LENGTH = SECTORS * SECTOR };
 
-/* How often the disk's bytes were brought to the file, by msync; and how often that still fails, as on a disk that is full. */
+/* How often the disk's bytes were brought to the file, by msync; and how often that still fails, as on a disk that is full. After it
+ * failed once it would do, as on Linux, though the bytes are lost. */
 static int brought, failing;
 
 static int bring(uint8_t *at)
@@ -28,26 +30,28 @@ static uint32_t make_step(vmig_machine *m, uint8_t *at)
     uint32_t len = 77;
     uint8_t none[1];
 
-    if (vmig_must_sync(m, 0, 1) == VMIG_SYNC && bring(at) != 0) return vmig_sync_failed(m, 0, 1);
+    if (vmig_must_sync(m, 0, 1) == VMIG_SYNC && bring(at) != 0) {
+        uint32_t status = vmig_sync_failed(m, 0, 1);
+        return status == VMIG_SYNC_FAILED ? VMIG_DISK_LOST : status;
+    }
     return vmig_step(m, 0, 1, none, 0, &len);
 }
 
 /* The steps of one request, whose first unit is made with this status. */
 static void do_request(vmig_machine *m, uint8_t *at, uint32_t wanted)
 {
-    uint32_t len = 77, status;
+    uint32_t len = 77;
     uint8_t none[1];
 
     expect("nothing is owed to take it", vmig_must_sync(m, 0, 0), VMIG_OK);
     expect("taken", vmig_step(m, 0, 0, none, 0, &len), VMIG_TAKEN);
     expect("its unit", make_step(m, at), wanted);
-    while ((status = make_step(m, at)) == VMIG_NO_FLUSH) expect("the driver knows of no end yet", get(m, OUTCOME, 1), 0xff);
-    expect("completed", status, VMIG_COMPLETED);
+    expect("completed", make_step(m, at), VMIG_COMPLETED);
     expect("no request is left", vmig_must_sync(m, 0, 1), VMIG_OK);
 }
 
-/* One write of one sector, as a driver makes it, as its `count`-th request. Returns the status that the device wrote. */
-static uint64_t write_sector(vmig_machine *m, uint32_t count, uint64_t sector, const uint8_t *bytes, uint8_t *at)
+/* The driver asks for a write of one sector, as its `count`-th request. */
+static void ask_write(vmig_machine *m, uint32_t count, uint64_t sector, const uint8_t *bytes)
 {
     expect("put", vmig_ram_write(m, DATA, bytes, SECTOR), VMIG_OK);
     put(m, HEADER, WRITE, 4);
@@ -58,6 +62,12 @@ static uint64_t write_sector(vmig_machine *m, uint32_t count, uint64_t sector, c
     describe(m, 0, 1, DATA, SECTOR, HAS_NEXT, 2);
     describe(m, 0, 2, OUTCOME, 1, WRITABLE, 0);
     offer(m, 0, count, 0);
+}
+
+/* Such a write. Returns the status that the device wrote. */
+static uint64_t write_sector(vmig_machine *m, uint32_t count, uint64_t sector, const uint8_t *bytes, uint8_t *at)
+{
+    ask_write(m, count, sector, bytes);
     do_request(m, at, VMIG_MOVED);
     return get(m, OUTCOME, 1);
 }
@@ -72,11 +82,9 @@ static void ask_flush(vmig_machine *m, uint32_t count)
     offer(m, 0, count, 0);
 }
 
-/* A flush. Returns the status that the device wrote. */
-static uint64_t flush(vmig_machine *m, uint32_t count, uint8_t *at)
+/* A flush, whose unit is made with this status. Returns the status that the device wrote. */
+static uint64_t flush(vmig_machine *m, uint32_t count, uint8_t *at, uint32_t wanted)
 {
-    uint32_t wanted = failing > 0 ? VMIG_DISK_FAILED : VMIG_MOVED;
-
     ask_flush(m, count);
     do_request(m, at, wanted);
     return get(m, OUTCOME, 1);
@@ -94,13 +102,14 @@ static void is_durable(vmig_machine *m, const uint8_t *bytes, uint8_t *at)
     put(m, AVAIL + 2, 0, 2);
     expect("write", write_sector(m, 1, 2, bytes, at), 0);
     expect("it may wait", (uint64_t)brought, 1);
-    expect("flush", flush(m, 2, at), 0);
+    expect("flush", flush(m, 2, at, VMIG_MOVED), 0);
     expect("it was brought to the file", (uint64_t)brought, 2);
     expect("no such device", vmig_must_sync(m, 2, 1), VMIG_NO_DEVICE);
     expect("a device without a disk", vmig_must_sync(m, 1, 1), VMIG_OK);
 }
 
-/* A flush that failed moves with its machine: it ends with an error there, and here where the machine stays. */
+/* A flush that failed moves with its machine: it ends with an error there, and here where the machine stays. That the disk is lost does
+ * not move: what arrives has another. */
 static void moves_failed(vmig_machine *m, uint32_t count)
 {
     static uint8_t stream[1 << 17];
@@ -114,48 +123,133 @@ static void moves_failed(vmig_machine *m, uint32_t count)
     ask_flush(m, count);
     expect("taken", vmig_step(m, 0, 0, none, 0, &len), VMIG_TAKEN);
     expect("it fails", vmig_sync_failed(m, 0, 1), VMIG_DISK_FAILED);
-    expect("it fails once", vmig_sync_failed(m, 0, 1), VMIG_NO_FLUSH);
+    expect("it fails once", vmig_sync_failed(m, 0, 1), VMIG_SYNC_FAILED);
     expect("stop", vmig_stop(m, &pages, &sectors), VMIG_OK);
     expect("take", vmig_take(m, stream, sizeof stream, &got), VMIG_OK);
     expect("receive", vmig_receive(stream, got, &other, &rounds), VMIG_OK);
     expect("completed", vmig_step(&other, 0, 1, none, 0, &len), VMIG_COMPLETED);
     expect("with an error", get(&other, OUTCOME, 1), 1);
+    ask_flush(&other, count + 1);
+    expect("taken", vmig_step(&other, 0, 0, none, 0, &len), VMIG_TAKEN);
+    expect("that disk is not lost", vmig_must_sync(&other, 0, 1), VMIG_SYNC);
     vmig_free(&other);
     expect("abort", vmig_abort(m), VMIG_OK);
     expect("completed", vmig_step(m, 0, 1, none, 0, &len), VMIG_COMPLETED);
     expect("with an error", get(m, OUTCOME, 1), 1);
 }
 
-/* The file cannot be written: the driver's flush ends with an error, and it flushes again. So it does while the machine is sent. A
- * write of a driver without the feature FLUSH does not end before the file has it. */
+/* The driver has no feature FLUSH, and a write that is done does not end, however often it is tried. */
+static void does_not_end(vmig_machine *m, uint8_t *at)
+{
+    uint32_t len = 77;
+    uint8_t none[1];
+
+    for (int i = 0; i < 3; i++) {
+        expect("it is not asked for", vmig_must_sync(m, 0, 1), VMIG_DISK_LOST);
+        expect("its end", make_step(m, at), VMIG_DISK_LOST);
+        expect("its end", vmig_step(m, 0, 1, none, 0, &len), VMIG_DISK_LOST);
+        expect("the driver knows of no end", get(m, OUTCOME, 1), 0xff);
+        expect("nor is there a length", len, 77);
+    }
+}
+
+/* The file cannot be written once. It is never brought there again, and each later flush ends with an error: while the machine is
+ * sent, after that, and after a reset. */
 static void fails(vmig_machine *m, const uint8_t *bytes, uint8_t *at)
 {
-    uint8_t dev = 0;
-    uint32_t number = 0;
+    uint8_t dev = 0, none[1];
+    uint32_t number = 0, len = 77;
 
     brought = 0;
     failing = 1;
-    expect("a flush that fails", flush(m, 3, at), 1);
-    expect("nothing was brought", (uint64_t)brought, 0);
-    expect("the driver repeats it", flush(m, 4, at), 0);
-    expect("it was brought to the file", (uint64_t)brought, 1);
+    expect("a flush that fails", flush(m, 3, at, VMIG_DISK_FAILED), 1);
+    expect("bring would do now", (uint64_t)failing, 0);
+    expect("the driver repeats it", flush(m, 4, at, VMIG_DISK_FAILED), 1);
+    expect("write", write_sector(m, 5, 2, bytes, at), 0);
+    expect("and after a write", flush(m, 6, at, VMIG_DISK_FAILED), 1);
     expect("begin", vmig_begin(m), VMIG_OK);
     expect("copy", vmig_copy(m, &dev, &number), VMIG_PAGE);
-    failing = 1;
-    expect("a flush that fails", flush(m, 5, at), 1);
-    expect("the driver repeats it", flush(m, 6, at), 0);
+    expect("while it is sent", flush(m, 7, at, VMIG_DISK_FAILED), 1);
     expect("abort", vmig_abort(m), VMIG_OK);
-    moves_failed(m, 7);
+    expect("and after that", flush(m, 8, at, VMIG_DISK_FAILED), 1);
+    moves_failed(m, 9);
+    set_up_with(m, 1, FLUSH_FEATURE);
+    put(m, AVAIL + 2, 0, 2);
+    expect("and after a reset", flush(m, 1, at, VMIG_DISK_FAILED), 1);
     set_up(m, 1);
     put(m, AVAIL + 2, 0, 2);
-    failing = 2;
-    expect("write", write_sector(m, 1, 2, bytes, at), 0);
-    expect("tried until it was done", (uint64_t)failing, 0);
-    expect("it was brought to the file", (uint64_t)brought, 3);
+    ask_write(m, 1, 2, bytes);
+    expect("taken", vmig_step(m, 0, 0, none, 0, &len), VMIG_TAKEN);
+    expect("written", make_step(m, at), VMIG_MOVED);
+    does_not_end(m, at);
+    expect("nothing was brought", (uint64_t)brought, 0);
     expect("no such device", vmig_sync_failed(m, 2, 1), VMIG_NO_DEVICE);
-    expect("a device without a disk", vmig_sync_failed(m, 1, 1), VMIG_NO_FLUSH);
-    expect("no request", vmig_sync_failed(m, 0, 1), VMIG_NO_FLUSH);
-    expect("no pick", vmig_sync_failed(m, 0, 0), VMIG_NO_FLUSH);
+    expect("a device without a disk", vmig_sync_failed(m, 1, 1), VMIG_WRONG_KIND);
+}
+
+/* A sync of the host's own failed, without a step: the disk is lost all the same. */
+static void fails_between(const vmig_shape *shapes, uint8_t *at)
+{
+    vmig_machine m = VMIG_NONE;
+    vmig_image image = {at, SECTORS}, back = VMIG_NO_IMAGE;
+
+    expect("make", make_mapped(16, shapes, 2, &image, 1, &m), VMIG_OK);
+    set_up_with(&m, 1, FLUSH_FEATURE);
+    failing = 0;
+    expect("no step", vmig_sync_failed(&m, 0, 0), VMIG_SYNC_FAILED);
+    expect("flush", flush(&m, 1, at, VMIG_DISK_FAILED), 1);
+    expect("unmap", vmig_unmap(&m, &back, 1), VMIG_OK);
+}
+
+static uint8_t buf[VMIG_SENT_MAX];
+
+/* The step that had something to do last. It stays from turn to turn. */
+static uint8_t work_dev, work_pick;
+
+/* The work of a turn. A step that is not made does not end it. Returns the number of messages that were handed on. */
+static uint32_t do_work(vmig_machine *m, uint8_t *at)
+{
+    uint32_t len = 0, status, messages = 0;
+    int left = -1;
+
+    for (int i = 0; i < 1000 && vmig_next_work(m, &work_dev, &work_pick) == VMIG_WORK; i++) {
+        if (left == work_dev * 256 + work_pick) break;
+        if (work_dev == 0 && work_pick == 1) status = make_step(m, at);
+        else status = vmig_step(m, work_dev, work_pick, buf, sizeof buf, &len);
+        if (status == VMIG_DISK_LOST) {
+            if (left < 0) left = work_dev * 256 + work_pick;
+            continue;
+        }
+        if (status < 64) break;
+        left = -1;
+        if (status == VMIG_SENT) messages++;
+    }
+    return messages;
+}
+
+/* The msync at the end of a write fails, where the driver has no feature FLUSH: the write never ends, and the messages of the console
+ * beside it go on. */
+static void console_goes_on(const uint8_t *bytes, uint8_t *at)
+{
+    static const vmig_shape shapes[] = {{.kind = VMIG_BLOCK, .sectors = SECTORS}, {.kind = VMIG_CONSOLE}};
+    enum { MESSAGE = 0x9000 };
+    vmig_machine m = VMIG_NONE;
+    vmig_image image = {at, SECTORS}, back = VMIG_NO_IMAGE;
+
+    expect("make", make_mapped(16, shapes, 2, &image, 1, &m), VMIG_OK);
+    set_up(&m, 1);
+    set_up_device(&m, 1, 1, 2, 0);
+    describe(&m, 2, 0, MESSAGE, 5, 0, 0);
+    failing = 1;
+    ask_write(&m, 1, 2, bytes);
+    for (uint32_t count = 1; count <= 3; count++) {
+        make_available(&m, 2, count, 0);
+        write_reg_of(&m, 1, 0x050, 1);
+        expect("its message", do_work(&m, at), 1);
+        expect("the write does not end", get(&m, OUTCOME, 1), 0xff);
+    }
+    does_not_end(&m, at);
+    expect("unmap", vmig_unmap(&m, &back, 1), VMIG_OK);
 }
 
 static void refuses(const vmig_shape *shapes, uint8_t *at)
@@ -251,6 +345,8 @@ int main(void)
     expect("mapped", at != MAP_FAILED, 1);
     refuses(shapes, at);
     runs(shapes, at, written);
+    fails_between(shapes, at);
+    console_goes_on(written, at);
     gives_two_back(at);
     expect("msync", (uint64_t)msync(at, LENGTH, MS_SYNC), 0);
     expect("unmapped", (uint64_t)munmap(at, LENGTH), 0);

@@ -44,6 +44,7 @@ static uint32_t finish(vmig_machine *m)
     return vmig_finish(m);
 }
 static uint32_t rounds(vmig_machine *m) { uint32_t ended; return vmig_rounds(m, &ended); }
+static uint32_t is_whole(vmig_machine *m) { uint32_t whole; return vmig_is_whole(m, &whole); }
 static uint32_t reg_read(vmig_machine *m) { uint32_t value; return vmig_reg_read(m, 0, 0, 4, &value); }
 static uint32_t reg_write(vmig_machine *m) { uint32_t out; return vmig_reg_write(m, 0, 0x70, 4, 0, &out); }
 static uint32_t ram_read(vmig_machine *m) { return vmig_ram_read(m, 0, bytes, 1); }
@@ -88,6 +89,7 @@ static const Row ROWS[] = {
     {"vmig_feed", feed, {VMIG_OK, VMIG_OK, VMIG_IN_USE, VMIG_IN_USE, VMIG_IN_USE, VMIG_IN_USE, VMIG_IN_USE}},
     {"vmig_finish", finish, {VMIG_NO_MACHINE, VMIG_OK, VMIG_IN_USE, VMIG_IN_USE, VMIG_IN_USE, VMIG_IN_USE, VMIG_IN_USE}},
     {"vmig_rounds", rounds, {VMIG_NO_MACHINE, VMIG_OK, VMIG_IN_USE, VMIG_IN_USE, VMIG_IN_USE, VMIG_IN_USE, VMIG_IN_USE}},
+    {"vmig_is_whole", is_whole, {VMIG_NO_MACHINE, VMIG_OK, VMIG_IN_USE, VMIG_IN_USE, VMIG_IN_USE, VMIG_IN_USE, VMIG_IN_USE}},
     {"vmig_reg_read", reg_read, {VMIG_NO_MACHINE, VMIG_NO_MACHINE, VMIG_OK, VMIG_OK, VMIG_STOPPED, VMIG_LENT, VMIG_LENT}},
     {"vmig_reg_write", reg_write, {VMIG_NO_MACHINE, VMIG_NO_MACHINE, VMIG_OK, VMIG_OK, VMIG_STOPPED, VMIG_LENT, VMIG_LENT}},
     {"vmig_ram_write", ram_write, {VMIG_NO_MACHINE, VMIG_NO_MACHINE, VMIG_OK, VMIG_OK, VMIG_STOPPED, VMIG_LENT, VMIG_LENT}},
@@ -111,7 +113,7 @@ static const Row ROWS[] = {
     {"vmig_device", device, {VMIG_NO_MACHINE, VMIG_NO_MACHINE, VMIG_OK, VMIG_OK, VMIG_OK, VMIG_OK, VMIG_OK}},
     {"vmig_must_sync", must_sync, {VMIG_NO_MACHINE, VMIG_NO_MACHINE, VMIG_OK, VMIG_OK, VMIG_OK, VMIG_LENT, VMIG_LENT}},
     {"vmig_sync_failed", sync_failed,
-     {VMIG_NO_MACHINE, VMIG_NO_MACHINE, VMIG_NO_FLUSH, VMIG_NO_FLUSH, VMIG_STOPPED, VMIG_LENT, VMIG_LENT}},
+     {VMIG_NO_MACHINE, VMIG_NO_MACHINE, VMIG_SYNC_FAILED, VMIG_SYNC_FAILED, VMIG_STOPPED, VMIG_LENT, VMIG_LENT}},
     {"vmig_sector_read", sector_read,
      {VMIG_NO_MACHINE, VMIG_NO_MACHINE, VMIG_OK, VMIG_MOVING, VMIG_MOVING, VMIG_LENT, VMIG_LENT}},
     {"vmig_saved_len", saved_len, {VMIG_NO_MACHINE, VMIG_NO_MACHINE, VMIG_OK, VMIG_MOVING, VMIG_MOVING, VMIG_LENT, VMIG_LENT}},

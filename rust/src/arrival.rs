@@ -83,6 +83,14 @@ impl Arrival {
         rounds
     }
 
+    /// Whether the end of the stream has arrived, and nothing was refused.
+    pub fn is_whole(&mut self) -> bool {
+        let mut whole = 0;
+        // SAFETY: as in `feed`.
+        unsafe { raw::vmig_is_whole(&mut self.machine.held, &mut whole) };
+        whole == 1
+    }
+
     /// All has arrived: the machine. Before its guest runs read the lines and make the steps that have something to do.
     pub fn finish(mut self) -> Result<Machine, Error> {
         // SAFETY: as in `feed`.

@@ -17,7 +17,7 @@ pub enum Error {
     /// The access is of more than 4,096 bytes.
     TooLong = raw::TOO_LONG,
 
-    /// A device of this kind has no such event.
+    /// A device of this kind has no such event, or no disk.
     WrongKind = raw::WRONG_KIND,
 
     /// A frame has fewer than 14 or more than 1,514 bytes.
@@ -50,8 +50,8 @@ pub enum Error {
     /// The images are not as long as the disks.
     BadImages = raw::BAD_IMAGES,
 
-    /// The step flushes no disk.
-    NoFlush = raw::NO_FLUSH,
+    /// The disk is lost, and the step would end a write that the driver then takes for durable: it is not made.
+    DiskLost = raw::DISK_LOST,
 
     /// The machine is not being sent.
     NotBegun = raw::NOT_BEGUN,
@@ -140,7 +140,7 @@ const TEXTS: &[(Error, &str)] = &[
     (Error::NoDevice, "there is no device of this number"),
     (Error::OutOfRam, "the access reaches past the end of RAM"),
     (Error::TooLong, "the access is of more than 4,096 bytes"),
-    (Error::WrongKind, "a device of this kind has no such event"),
+    (Error::WrongKind, "a device of this kind has no such event, or no disk"),
     (Error::BadFrame, "a frame has fewer than 14 or more than 1,514 bytes"),
     (Error::NoSector, "the disk has no such sector"),
     (Error::NoMachine, "there is no machine"),
@@ -151,7 +151,7 @@ const TEXTS: &[(Error, &str)] = &[
     (Error::Moving, "the machine is being sent"),
     (Error::NotMapped, "the disks lie in memory of the library"),
     (Error::BadImages, "the images are not as long as the disks"),
-    (Error::NoFlush, "the step flushes no disk"),
+    (Error::DiskLost, "the disk is lost, and the write does not end"),
     (Error::NotBegun, "the machine is not being sent"),
     (Error::BegunAlready, "the machine is being sent already"),
     (Error::ReadFailed, "a disk failed as a sector was read"),

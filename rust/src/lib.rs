@@ -21,6 +21,6 @@ pub use arrival::{Announced, Arrival, announced};
 pub use device::Device;
 pub use error::{Error, Refused};
 pub use lent::Lent;
-pub use machine::{Machine, Step};
+pub use machine::{Lost, Machine, MustSync, Step};
 pub use memory::Memory;
 pub use migration::Sent;

@@ -26,7 +26,7 @@ pub enum Step<'a> {
     Moved,
     /// The sector is bad; the request will end with an error.
     BadSector,
-    /// The disk failed.
+    /// The disk is lost: the flush failed, and the request will end with an error.
     DiskFailed,
     /// A chain was given back, with this used length.
     Completed(u32),
@@ -36,6 +36,26 @@ pub enum Step<'a> {
     Dropped,
     /// The guest's chain is malformed; the device asks its driver for a reset.
     NeedsReset,
+}
+
+/// Whether what the guest wrote to a disk has to be durable before a step.
+#[derive(Clone, Copy, Debug, PartialEq, Eq)]
+pub enum MustSync {
+    /// It does not. Where the disk is lost and the step makes a flush, the step fails it.
+    No,
+    /// It does. Where it cannot be made so call [`Machine::sync_failed`] in place of the step.
+    Yes,
+    /// It does, and the disk is lost: the step is refused with [`Error::DiskLost`].
+    Lost,
+}
+
+/// What became of the step of a disk that is lost from now on.
+#[derive(Clone, Copy, Debug, PartialEq, Eq)]
+pub enum Lost {
+    /// It makes a flush, and was made as one whose disk failed: the guest will read an error.
+    FlushFailed,
+    /// It makes no flush, and was not made.
+    NoStep,
 }
 
 impl Drop for Machine {
@@ -213,14 +233,19 @@ impl Machine {
 
     /// Whether what the guest wrote to the disk has to be durable before this step. A caller that keeps the disk elsewhere too brings it
     /// there first.
-    pub fn must_sync(&mut self, dev: u8, pick: u8) -> Result<bool, Error> {
-        let status = done(unsafe { raw::vmig_must_sync(&mut self.held, dev, pick) })?;
-        Ok(status == raw::SYNC)
+    pub fn must_sync(&mut self, dev: u8, pick: u8) -> Result<MustSync, Error> {
+        match unsafe { raw::vmig_must_sync(&mut self.held, dev, pick) } {
+            raw::DISK_LOST => Ok(MustSync::Lost),
+            raw::SYNC => Ok(MustSync::Yes),
+            status => done(status).map(|_| MustSync::No),
+        }
     }
 
-    /// In place of such a step, where that failed: the guest's flush ends with an error. A step that makes no flush is refused.
-    pub fn sync_failed(&mut self, dev: u8, pick: u8) -> Result<(), Error> {
-        done(unsafe { raw::vmig_sync_failed(&mut self.held, dev, pick) }).map(drop)
+    /// In place of such a step, where that failed: the disk is lost from then on, for good. Each later flush of it fails, and a write whose
+    /// driver did not accept the feature FLUSH does not end. Never try again in the hope that it will do: the error is told once.
+    pub fn sync_failed(&mut self, dev: u8, pick: u8) -> Result<Lost, Error> {
+        let status = done(unsafe { raw::vmig_sync_failed(&mut self.held, dev, pick) })?;
+        Ok(if status == raw::DISK_FAILED { Lost::FlushFailed } else { Lost::NoStep })
     }
 
     /// The whole stream of the machine, which continues.

@@ -122,7 +122,7 @@ pub const BAD_SHAPE: u32 = 12;
 pub const MOVING: u32 = 13;
 pub const NOT_MAPPED: u32 = 14;
 pub const BAD_IMAGES: u32 = 15;
-pub const NO_FLUSH: u32 = 16;
+pub const DISK_LOST: u32 = 16;
 pub const NOT_BEGUN: u32 = 17;
 pub const BEGUN_ALREADY: u32 = 18;
 pub const READ_FAILED: u32 = 19;
@@ -167,6 +167,7 @@ pub const ROUND_OPEN: u32 = 77;
 pub const WORK: u32 = 78;
 pub const MORE: u32 = 79;
 pub const SYNC: u32 = 80;
+pub const SYNC_FAILED: u32 = 81;
 
 unsafe extern "C" {
     pub fn vmig_version() -> u32;
@@ -211,4 +212,5 @@ unsafe extern "C" {
     pub fn vmig_feed(machine: *mut Machine, bytes: *const u8, len: usize) -> u32;
     pub fn vmig_finish(machine: *mut Machine) -> u32;
     pub fn vmig_rounds(machine: *mut Machine, ended: *mut u32) -> u32;
+    pub fn vmig_is_whole(machine: *mut Machine, whole: *mut u32) -> u32;
 }
