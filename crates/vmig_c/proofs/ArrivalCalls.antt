@@ -1,7 +1,7 @@
 -- The calls of an arrival, by cases on the handle.
 use Rattle.std.proofs.Common.{◌≡◌, ℕ, false, List, refl, ap, ◌∙◌, subst, true≢false, inl, inr}
 use Rattle.std.specs.Prelude.{Option, Some, None, is_some}
-use Rattle.vmig_c.specs.Arriving.{Counted, CountsKept, DoesFed, Fed, FeedsKept, Finished, FinishesKept}
+use Rattle.vmig_c.specs.Arriving.{Counted, CountsKept, DoesFed, Fed, FeedsKept, Finished, FinishesKept, TellsWholeKept, ToldWhole}
 use Rattle.vmig_c.specs.Awaited.{nothing_fed}
 use Rattle.vmig_c.specs.Kept.{KeptSeen, own, Arriving}
 
@@ -33,3 +33,10 @@ counted_none (Some m) n is = absurd (true≢false is)
 
 pub counted_some : (k : Option KeptSeen) (m : KeptSeen) (status rounds n : ℕ) → Some m ≡ k → CountsKept m.state status rounds n → Counted k status rounds n
 counted_some k m status rounds n is does = subst (λ (o : Option KeptSeen). Counted o status rounds n) is does
+
+pub whole_none : (k : Option KeptSeen) (n : ℕ) → is_some k ≡ false → ToldWhole k 8 n n
+whole_none None n is = (refl, refl)
+whole_none (Some m) n is = absurd (true≢false is)
+
+pub whole_some : (k : Option KeptSeen) (m : KeptSeen) (status number n : ℕ) → Some m ≡ k → TellsWholeKept m.state status number n → ToldWhole k status number n
+whole_some k m status number n is does = subst (λ (o : Option KeptSeen). ToldWhole o status number n) is does

@@ -1,5 +1,5 @@
 -- Machines whose streams arrive in pieces.
-use Rattle.std.proofs.Common.{◌≡◌, ℕ, true, List, [], ◌∷◌, ◌++◌, refl, sym, ap, ◌∙◌, subst, map, length, take, drop, inl, inr, append_assoc, append-nil, arith, true≢false}
+use Rattle.std.proofs.Common.{◌≡◌, ℕ, Bool, true, false, List, [], ◌∷◌, ◌++◌, refl, sym, ap, ◌∙◌, subst, map, length, take, drop, inl, inr, append_assoc, append-nil, arith, true≢false}
 use Rattle.std.specs.Prelude.{IsTrue, IfErr, IfOk, Result, Ok, Err, slice_get}
 use Rattle.std.proofs.lemmas.List.{length-append, take-append-drop}
 use Rattle.std.proofs.lemmas.List.Elements.{All-map}
@@ -14,15 +14,15 @@ use Rattle.wire.proofs.PartLengths.{length_header}
 use Rattle.wire.specs.Stream.{IsStream, device_texts, opening_in, shapes_in, texts}
 use Rattle.wire.proofs.Unique.{pages_limits}
 use Rattle.receiver.specs.Disks.{AreHonestDisks, HasFailed, MarksRefused, disk_marks_of, sizes_of}
-use Rattle.receiver.specs.Receiving.{HasBeenFed, HasRounds, IsFinish, NoFault, Received, TellsNow}
+use Rattle.receiver.specs.Receiving.{HasBeenFed, HasRounds, IsFinish, IsWholeFor, NoFault, Received, TellsNow}
 use Rattle.receiver.specs.declared.recv_error.RecvError.{RecvError}
 use Rattle.receiver.specs.declared.recv_error.RecvError.TheVariants.{BadMagic, BadVersion, BadShape, ShapeMismatch, BadTag, BadPage, BadSector, BadRound, BadDevice, BadDigest, Missing, Trailing, Truncated, DiskFailed, NoMemory, AlreadyFailed}
 use Rattle.receiver.proofs.Heads.{no_header_fault}
 use Rattle.receiver.proofs.Prefixes.{header_stays, stays}
 use Rattle.receiver.specs.Faults.{Fault, IsHeaderFault}
 use Rattle.receiver.specs.Opened.{said_by}
-use Rattle.vmig_c.specs.ArrivalSeen.{ArrivalSeen, AtHead, AtBody, Refused}
-use Rattle.vmig_c.specs.Awaited.{AreSteady, CountsRounds, GoesOnWith, IsClosed, HasArrived, HasCome, IsFaulty, IsFed, IsFedTo, TellsEnd, TellsOf, TellsWhy, awaited_base, awaited_by}
+use Rattle.vmig_c.specs.ArrivalSeen.{ArrivalSeen, AtHead, AtBody, Refused, Over}
+use Rattle.vmig_c.specs.Awaited.{AreSteady, CountsRounds, GoesOnWith, IsClosed, HasArrived, HasCome, IsFaulty, IsFed, IsFedTo, IsWholeIf, TellsEnd, TellsOf, TellsWhole, TellsWhy, awaited_base, awaited_by}
 use Rattle.vmig_c.specs.declared.arrival.Progress.{Progress}
 use Rattle.vmig_c.specs.Headed.{AreFitting, HasHeader, HasNoHeader}
 use Rattle.vmig_c.specs.Plain.{mem_state}
@@ -172,6 +172,21 @@ body_counts r n rounds = λ b h. rounds b h.0
 
 pub head_counts : (base : ℕ) (held : List ℕ) → HasNoHeader held → CountsRounds (AtHead base held) 0
 head_counts base held none = λ b is. record { none = λ _. refl; some = λ opening before tail front last. absurd (subst HasNoHeader (sym is) none (said_by opening) _ front.begins) }
+
+-- Whether it is whole.
+whole_if : (whole : Bool) (base : ℕ) (sizes b : List ℕ) → (whole ≡ true → IsWholeFor base sizes b) → (whole ≡ false → ¬ (IsWholeFor base sizes b)) → IsWholeIf whole base sizes b
+whole_if true base sizes b is lacks = is refl
+whole_if false base sizes b is lacks = lacks refl
+
+pub body_whole : (r : Received) (whole : Bool) → (whole ≡ true → (b : List ℕ) → HasBeenFed r b → IsWholeFor r.base r.sizes b) → (whole ≡ false → (b : List ℕ) → HasBeenFed r b → ¬ (IsWholeFor r.base r.sizes b)) → TellsWhole (AtBody r) whole
+body_whole r whole is lacks = λ b h. whole_if whole r.base r.sizes b (λ yes. is yes b h.0) (λ no. lacks no b h.0)
+
+pub over_whole : (r : Received) (whole : Bool) → (whole ≡ true → (b : List ℕ) → HasBeenFed r b → IsWholeFor r.base r.sizes b) → (whole ≡ false → (b : List ℕ) → HasBeenFed r b → ¬ (IsWholeFor r.base r.sizes b)) → (r.failed ≡ true → whole ≡ false)
+    → TellsWhole (Over r) whole
+over_whole r whole is lacks failed = (failed, λ b h. whole_if whole r.base r.sizes b (λ yes. is yes b h) (λ no. lacks no b h))
+
+pub head_whole : (base : ℕ) (held : List ℕ) → HasNoHeader held → TellsWhole (AtHead base held) false
+head_whole base held none = λ b is whole. subst HasNoHeader (sym is) none (said_by whole.opening) _ whole.front.begins
 
 -- A header that is not whole.
 pub head_goes_on : (base : ℕ) (held : List ℕ) (r : Received) → HasNoHeader held → IsFedTo base [] held r → GoesOnWith held (AtHead base held)

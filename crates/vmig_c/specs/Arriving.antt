@@ -6,7 +6,7 @@ use Rattle.receiver.specs.declared.recv_error.RecvError.TheVariants.{AlreadyFail
 use Rattle.vmig_c.specs.Admission.{Admits, is_denied}
 use Rattle.vmig_c.specs.AdmissionSeen.{AdmissionSeen}
 use Rattle.vmig_c.specs.ArrivalSeen.{ArrivalSeen}
-use Rattle.vmig_c.specs.Awaited.{CountsRounds, HasArrived, HasSameDisks, IsClosed, IsFed, TellsEnd, TellsOf, nothing_fed, stream_status}
+use Rattle.vmig_c.specs.Awaited.{CountsRounds, HasArrived, HasSameDisks, IsClosed, IsFed, TellsEnd, TellsOf, TellsWhole, nothing_fed, stream_status}
 use Rattle.vmig_c.specs.Status.{done, in_use, no_machine, no_memory}
 use Rattle.vmig_c.specs.Kept.{KeptSeen, own, State, Still, Moving, Arriving, Lent}
 
@@ -111,3 +111,22 @@ CountsKept _ status rounds old_rounds = (status ≡ in_use) × (rounds ≡ old_r
 abbrev pub Counted : Option KeptSeen → ℕ → ℕ → ℕ → Type 0
 Counted None status rounds old_rounds = (status ≡ no_machine) × (rounds ≡ old_rounds)
 Counted (Some k) status rounds old_rounds = CountsKept k.state status rounds old_rounds
+
+-- Whether the end of the stream has come, as C reads it.
+abbrev pub number_of : Bool → ℕ
+number_of true = 1
+number_of false = 0
+
+pub record HasToldWhole (r : ArrivalSeen) (status number : ℕ) : Type 0 where
+  pub whole : Bool
+  pub tells : TellsWhole r whole
+  pub status_is : status ≡ done
+  pub number_is : number ≡ number_of whole
+
+abbrev pub TellsWholeKept : State → ℕ → ℕ → ℕ → Type 0
+TellsWholeKept (Arriving r) status number before = HasToldWhole r status number
+TellsWholeKept _ status number before = (status ≡ in_use) × (number ≡ before)
+
+abbrev pub ToldWhole : Option KeptSeen → ℕ → ℕ → ℕ → Type 0
+ToldWhole None status number before = (status ≡ no_machine) × (number ≡ before)
+ToldWhole (Some k) status number before = TellsWholeKept k.state status number before

@@ -1,11 +1,11 @@
 -- A machine whose stream arrives in pieces.
 use denote.RawPtr.{Ptr}
-use Rattle.std.specs.Prelude.{◌≡◌, ◌≢◌, ℕ, ◌+◌, List, [], ◌++◌, map, Option, true, false}
+use Rattle.std.specs.Prelude.{◌≡◌, ◌≢◌, ℕ, ◌+◌, List, [], ◌++◌, map, Option, Bool, true, false}
 use Rattle.machine.specs.Seen.{Seen, no_marks, state_of}
 use Rattle.machine.specs.State.{base_of}
 use Rattle.receiver.specs.Codes.{recv_code_of}
 use Rattle.receiver.specs.Faults.{Fault}
-use Rattle.receiver.specs.Receiving.{HasBeenFed, HasRounds, IsFinish, NoFault, Received, TellsNow}
+use Rattle.receiver.specs.Receiving.{HasBeenFed, HasRounds, IsFinish, IsWholeFor, NoFault, Received, TellsNow}
 use Rattle.receiver.specs.declared.recv_error.RecvError.{RecvError}
 use Rattle.receiver.specs.declared.recv_error.RecvError.TheVariants.{NoMemory, DiskFailed, AlreadyFailed}
 use Rattle.wire.specs.Stream.{IsStream}
@@ -174,6 +174,16 @@ abbrev pub CountsRounds : ArrivalSeen → ℕ → Type 0
 CountsRounds Refused n = n ≡ 0
 CountsRounds (Over r) n = (r.failed ≡ true → n ≡ 0) × ((b : List ℕ) → HasBeenFed r b → HasRounds r.base r.sizes b n)
 CountsRounds a n = (b : List ℕ) → HasCome a b → HasRounds (awaited_base a) (awaited_sizes a) b n
+
+-- Whether the bytes so far are a whole stream, up to the digest of all of it, and nothing was refused.
+abbrev pub IsWholeIf : Bool → ℕ → List ℕ → List ℕ → Type 0
+IsWholeIf true base sizes bytes = IsWholeFor base sizes bytes
+IsWholeIf false base sizes bytes = ¬ (IsWholeFor base sizes bytes)
+
+abbrev pub TellsWhole : ArrivalSeen → Bool → Type 0
+TellsWhole Refused whole = whole ≡ false
+TellsWhole (Over r) whole = (r.failed ≡ true → whole ≡ false) × ((b : List ℕ) → HasBeenFed r b → IsWholeIf whole r.base r.sizes b)
+TellsWhole a whole = (b : List ℕ) → HasCome a b → IsWholeIf whole (awaited_base a) (awaited_sizes a) b
 
 -- The status of a piece, or an end, that is refused: it always names the stream's refusal, also if memory was refused, since
 -- nothing is taken after it.

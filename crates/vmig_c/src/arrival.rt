@@ -56,7 +56,7 @@ impl Model for Arrival {
 
 impl Arrival {
     ghost use Rattle.std.specs.Prelude.{◌≡◌, IfErr, IfOk};
-    ghost use Rattle.vmig_c.specs.Awaited.{CountsRounds, HasArrived, HasSameDisks, IsAtHead, IsClosed, IsFed, TellsEnd, TellsOf, nothing_fed, refused_for_good};
+    ghost use Rattle.vmig_c.specs.Awaited.{CountsRounds, HasArrived, HasSameDisks, IsAtHead, IsClosed, IsFed, TellsEnd, TellsOf, TellsWhole, nothing_fed, refused_for_good};
 
     /// An arrival that was fed nothing yet, of a machine whose RAM will begin at the address `base`. It takes no memory.
     #[tactic(auto, using(crate::proofs::Awaited::empty_head))]
@@ -124,6 +124,17 @@ impl Arrival {
         match &self.progress {
             Progress::Body(receiver) => receiver.rounds(),
             Progress::Head(..) | Progress::Failed => 0,
+        }
+    }
+
+    /// Whether the bytes fed so far are a whole stream.
+    #[tactic(auto, using(crate::proofs::Awaited::body_whole, crate::proofs::Awaited::head_whole))]
+    pub(crate) fn is_whole(&self) -> bool
+        ensures { TellsWhole self.now result }
+    {
+        match &self.progress {
+            Progress::Body(receiver) => receiver.is_whole(),
+            Progress::Head(..) | Progress::Failed => false,
         }
     }
 

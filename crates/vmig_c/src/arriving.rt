@@ -1,7 +1,7 @@
 //! The calls of an arrival, applied to the contents of a handle.
 
 ghost use Rattle.std.specs.Prelude.{◌≡◌, false, true, IsNone};
-ghost use Rattle.vmig_c.specs.Arriving.{CountsKept, EndsIf, Fed, FeedsKept, FeedsWithin, FinishesIf, FinishesKept};
+ghost use Rattle.vmig_c.specs.Arriving.{CountsKept, EndsIf, Fed, FeedsKept, FeedsWithin, FinishesIf, FinishesKept, TellsWholeKept, number_of};
 ghost use Rattle.vmig_c.specs.Awaited.{stream_status};
 ghost use Rattle.vmig_c.specs.Kept.{admission_of, are_mapped, state_in};
 
@@ -148,6 +148,29 @@ pub(crate) fn rounds(kept: &Kept, rounds: &mut u32) -> u32
         }
         _ => IN_USE,
     }
+}
+
+/// Whether the end of the stream has come: 1, or 0.
+pub(crate) fn is_whole(kept: &Kept, whole: &mut u32) -> u32
+    ensures { TellsWholeKept kept.now.state result whole.new whole.old }
+{
+    match &kept.contents {
+        Contents::Arriving(arrival) => {
+            *whole = number_of(arrival.is_whole());
+            DONE
+        }
+        Contents::ArrivingMapped(landing) => {
+            *whole = number_of(landing.is_whole());
+            DONE
+        }
+        _ => IN_USE,
+    }
+}
+
+fn number_of(whole: bool) -> u32
+    ensures { result ≡ number_of whole }
+{
+    if whole { 1 } else { 0 }
 }
 
 /// The status for a stream that is refused for good.

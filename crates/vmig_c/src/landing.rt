@@ -35,7 +35,7 @@ impl Model for Landing {
 
 impl Landing {
     ghost use Rattle.std.specs.Prelude.{◌≡◌, IfErr, IfOk, None, length};
-    ghost use Rattle.vmig_c.specs.Awaited.{CountsRounds, HasArrived, HasSameDisks, IsClosed, IsFed, IsOver, TellsEnd, TellsOf, awaited_sizes};
+    ghost use Rattle.vmig_c.specs.Awaited.{CountsRounds, HasArrived, HasSameDisks, IsClosed, IsFed, IsOver, TellsEnd, TellsOf, TellsWhole, awaited_sizes};
     ghost use Rattle.vmig_c.specs.Landing.{AreDisksOf, IsAwaitedAt};
     ghost use Rattle.vmig_c.specs.Mapping.{contents};
 
@@ -71,6 +71,14 @@ impl Landing {
         ensures { CountsRounds self.now result }
     {
         self.receiver.rounds()
+    }
+
+    /// Whether the bytes fed so far are a whole stream.
+    #[tactic(auto, using(crate::proofs::Awaited::over_whole))]
+    pub(crate) fn is_whole(&self) -> bool
+        ensures { TellsWhole self.now result }
+    {
+        self.receiver.is_whole()
     }
 
     /// The machine whose stream was fed. A refusal gives back what holds the disks, which are as they were.

@@ -46,7 +46,7 @@
 ghost use Rattle.std.specs.Prelude.{◌≡◌, None};
 ghost use Rattle.machine.specs.declared.event.Event.TheVariants as events;
 ghost use Rattle.vmig_c.specs.Announced.{Announces, AnnouncesDevice};
-ghost use Rattle.vmig_c.specs.Arriving.{Counted, Fed, Finished};
+ghost use Rattle.vmig_c.specs.Arriving.{Counted, Fed, Finished, ToldWhole};
 ghost use Rattle.vmig_c.specs.Described.{Bases, Describes, Sizes};
 ghost use Rattle.vmig_c.specs.Durable.{Failed, sync_told};
 ghost use Rattle.vmig_c.specs.Expected.{Expects};
@@ -97,7 +97,7 @@ mod waiting;
 mod working;
 
 use announcing::{announced_device, announced_size};
-use arriving::{feed, feed_first, finish, rounds};
+use arriving::{feed, feed_first, finish, is_whole, rounds};
 use creating::{make_from, make_zeros};
 use describing::{base_kept, describe_kept, size_kept};
 pub use device_shape::DeviceShape;
@@ -728,4 +728,17 @@ pub extern "C" fn vmig_rounds(machine: &mut Handle, ended: &mut u32) -> u32
         return NO_MACHINE;
     }
     rounds(machine.get_mut(), ended)
+}
+
+/// Whether the end of the stream has arrived, and nothing was refused: 1, or 0.
+#[unsafe(no_mangle)]
+#[tactic(auto, using(crate::proofs::ArrivalCalls::whole_none, crate::proofs::ArrivalCalls::whole_some))]
+pub extern "C" fn vmig_is_whole(machine: &mut Handle, whole: &mut u32) -> u32
+    ensures whole { ToldWhole machine.old.machine result whole.new whole.old }
+    ensures same { machine.new.machine ≡ machine.old.machine }
+{
+    if !machine.is_made() {
+        return NO_MACHINE;
+    }
+    is_whole(machine.get_mut(), whole)
 }
