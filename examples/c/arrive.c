@@ -15,6 +15,15 @@ static void hand_over(vmig_machine *source, vmig_machine *target, size_t size)
     } while (got > 0);
 }
 
+/* Whether the end of the stream has come. */
+static uint32_t is_whole(vmig_machine *m)
+{
+    uint32_t whole = 77;
+
+    expect("whether it is whole", vmig_is_whole(m, &whole), VMIG_OK);
+    return whole;
+}
+
 /* What arrives is no machine yet. */
 static void is_no_machine(vmig_machine *m)
 {
@@ -60,23 +69,27 @@ static void send_all(vmig_machine *source, vmig_machine *target)
     hand_over(source, target, 5);
     expect("rounds so far", vmig_rounds(target, &rounds), VMIG_OK);
     expect("one ended", rounds, 1);
+    expect("it is not whole", is_whole(target), 0);
     expect("stop", vmig_stop(source, &pages, &sectors), VMIG_OK);
     hand_over(source, target, 512);
+    expect("now it is whole", is_whole(target), 1);
 }
 
 static void moves(vmig_machine *source, vmig_machine *target)
 {
-    uint32_t rounds = 77;
+    uint32_t rounds = 77, whole = 77;
 
     expect("begin", vmig_begin(source), VMIG_OK);
     expect("nothing arrives", vmig_finish(target), VMIG_NO_MACHINE);
     expect("nor any round", vmig_rounds(target, &rounds), VMIG_NO_MACHINE);
+    expect("nor an end", vmig_is_whole(target, &whole), VMIG_NO_MACHINE);
     send_all(source, target);
     expect("finish", vmig_finish(target), VMIG_OK);
     expect("it is there", vmig_finish(target), VMIG_IN_USE);
     expect("no more of it", vmig_feed(target, (const uint8_t *)"x", 1), VMIG_IN_USE);
     expect("nor rounds", vmig_rounds(target, &rounds), VMIG_IN_USE);
-    expect("no count", rounds, 77);
+    expect("nor an end", vmig_is_whole(target, &whole), VMIG_IN_USE);
+    expect("no count", rounds == 77 && whole == 77, 1);
     equal_ram(source, target, PAGES);
     expect("lines", vmig_lines(target), vmig_lines(source));
     expect("abort", vmig_abort(source), VMIG_OK);
@@ -98,6 +111,7 @@ static void refuses(void)
     expect("no end", vmig_finish(&m), VMIG_STREAM_FAILED);
     expect("rounds", vmig_rounds(&m, &rounds), VMIG_OK);
     expect("none", rounds, 0);
+    expect("and no end", is_whole(&m), 0);
     vmig_free(&m);
 
     for (size_t len = 0; len < sizeof header - 1; len++) expect("a byte", vmig_feed(&m, header + len, 1), VMIG_OK);
@@ -105,6 +119,7 @@ static void refuses(void)
     vmig_free(&m);
 
     expect("a header", vmig_feed(&m, header, sizeof header - 1), VMIG_OK);
+    expect("is not whole", is_whole(&m), 0);
     expect("too early", vmig_finish(&m), VMIG_STREAM_TRUNCATED);
     expect("refused for good", vmig_feed(&m, header, 1), VMIG_STREAM_FAILED);
     vmig_free(&m);

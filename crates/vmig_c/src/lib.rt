@@ -16,7 +16,7 @@
 //! - Every call has its clause in each state: the calls of a migration those of `Live` (`specs/Migrated`), over a writer into
 //!   memory from which `vmig_take` takes; the calls of an arrival those of `Receiver` (`specs/Awaited`, `specs/Arriving`), over
 //!   disks that are made as soon as the header is whole, or over images of the caller (`specs/Landing`). What arrives is no machine
-//!   for the other calls.
+//!   for the other calls. `vmig_is_whole` says whether the bytes so far are a whole stream.
 //! - `vmig_make_as` makes the first machine as its struct says (`setup`): over RAM of zeros, or RAM in memory of the caller with the
 //!   bytes that are there; over disks of zeros, disks that hold contents, or disks in images of the caller. By what the struct names
 //!   one of the relations holds that say so (`specs/Making`, `specs/Images`, `specs/Mapping`, `specs/OverRam`); RAM and images are
