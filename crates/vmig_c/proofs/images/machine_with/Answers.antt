@@ -23,4 +23,4 @@ returns c =
     let marks : all_marks m ≡ dealt_marks shapes (map (λ (d : List (List ℕ)). no_marks) disks) = rw (← c.deref-2.ensures.value) c.in-Ok.ensures.marks in
     let new : IsMadeWith base pages shapes images m = made_with base pages shapes images disks m are first marks c.in-Ok.ensures.sound in
     let asked : IsMadeWith base pages (shapes_of c.args.shapes.now) images m = subst (λ (l : List Shape). IsMadeWith base pages l images m) c.in_ok-shapes.ensures new in
-    subst (λ (k : KeptSeen). KeepsMadeWith base pages (shapes_of c.args.shapes.now) images k) (sym (c.in_ok-boxed.ensures.ok ∙ c.new.ensures)) (refl, asked)
+    subst (λ (k : KeptSeen). KeepsMadeWith base pages (shapes_of c.args.shapes.now) images k) (sym (c.in_ok-boxed.ensures.ok ∙ c.new.ensures)) ((refl, refl), asked)

@@ -21,4 +21,4 @@ returns c =
     let marks : all_marks m ≡ dealt_marks shapes (map (λ (d : List (List ℕ)). no_marks) disks) = rw (← c.deref-2.ensures.value) c.in-Ok.ensures.marks in
     let new : IsMade base pages shapes m = made base pages shapes disks m zeros first marks c.in-Ok.ensures.sound in
     let asked : IsMade base pages (shapes_of c.args.shapes.now) m = subst (λ (l : List Shape). IsMade base pages l m) c.in_ok-shapes.ensures new in
-    subst (λ (k : KeptSeen). KeepsMade base pages (shapes_of c.args.shapes.now) k) (sym (c.in_ok-boxed.ensures.ok ∙ c.new.ensures)) (refl, asked)
+    subst (λ (k : KeptSeen). KeepsMade base pages (shapes_of c.args.shapes.now) k) (sym (c.in_ok-boxed.ensures.ok ∙ c.new.ensures)) ((refl, refl), asked)

@@ -22,4 +22,4 @@ returns-in-Ok-clause-made c =
     let marks : all_marks m ≡ dealt_marks shapes (map (λ (d : Image). no_marks) disks) = rw (← c.deref.ensures.value) c.in-Ok.ensures.marks in
     let new : IsMapped base pages shapes (contents images) m = made_over base pages shapes images disks m c.in_ok-disks.ensures.disks first marks c.in-Ok.ensures.sound in
     let asked : IsMapped base pages (shapes_of c.args.shapes.now) (contents images) m = subst (λ (l : List Shape). IsMapped base pages l (contents images) m) c.in_ok-shapes.ensures new in
-    subst (λ (k : KeptSeen). KeepsMapped base pages (shapes_of c.args.shapes.now) (contents images) k) (sym c.new-in-Ok.ensures) (refl, asked)
+    subst (λ (k : KeptSeen). KeepsMapped base pages (shapes_of c.args.shapes.now) (contents images) k) (sym c.new-in-Ok.ensures) ((refl, refl), asked)

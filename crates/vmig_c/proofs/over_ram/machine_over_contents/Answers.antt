@@ -26,7 +26,7 @@ returns-in-Ok-clause-made c =
     let marks : all_marks m ≡ dealt_marks shapes (map (λ (d : List (List ℕ)). no_marks) disks) = rw (← c.deref-2.ensures.value) c.in-Ok.ensures.marks in
     let new : IsMadeOverWith base ram shapes contents m = over_contents base ram region shapes contents disks m c.taken_ram.ensures.region are first c.in-Ok.ensures.place marks c.in-Ok.ensures.sound in
     let asked : IsMadeOverWith base ram (shapes_of c.args.shapes.now) contents m = subst (λ (l : List Shape). IsMadeOverWith base ram l contents m) c.in_ok-shapes.ensures new in
-    subst (λ (k : KeptSeen). KeepsOverWith base ram (shapes_of c.args.shapes.now) contents k) (sym (c.filled.ensures ∙ c.new.ensures)) (refl, asked)
+    subst (λ (k : KeptSeen). KeepsOverWith base ram (shapes_of c.args.shapes.now) contents k) (sym (c.filled.ensures ∙ c.new.ensures)) ((refl, refl), asked)
 
 pub returns-clause-same : goal.returns-clause-same
 returns-clause-same c = back_again c.args.ram.now c.put_back.new.ram c.taken_ram.result c.in-Err.region c.taken_ram.ensures.region c.in-Err.ensures.region c.put_back.ensures

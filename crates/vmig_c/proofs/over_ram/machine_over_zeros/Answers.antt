@@ -23,7 +23,7 @@ returns-in-Ok-clause-made c =
     let marks : all_marks m ≡ dealt_marks shapes (map (λ (d : List (List ℕ)). no_marks) disks) = rw (← c.deref-2.ensures.value) c.in-Ok.ensures.marks in
     let new : IsMadeOver base ram shapes (first_disks shapes []) m = over_zeros base ram region shapes disks m c.taken_ram.ensures.region zeros first c.in-Ok.ensures.place marks c.in-Ok.ensures.sound in
     let asked : IsMadeOver base ram (shapes_of c.args.shapes.now) (first_disks (shapes_of c.args.shapes.now) []) m = subst (λ (l : List Shape). IsMadeOver base ram l (first_disks l []) m) c.in_ok-shapes.ensures new in
-    subst (λ (k : KeptSeen). KeepsOver base ram (shapes_of c.args.shapes.now) [] k) (sym (c.filled.ensures ∙ c.new.ensures)) (refl, asked)
+    subst (λ (k : KeptSeen). KeepsOver base ram (shapes_of c.args.shapes.now) [] k) (sym (c.filled.ensures ∙ c.new.ensures)) ((refl, refl), asked)
 
 pub returns-clause-same : goal.returns-clause-same
 returns-clause-same c = back_again c.args.ram.now c.put_back.new.ram c.taken_ram.result c.in-Err.region c.taken_ram.ensures.region c.in-Err.ensures.region c.put_back.ensures
