@@ -475,7 +475,8 @@ uint32_t vmig_push(vmig_machine *machine, const uint32_t *pages, size_t count, c
 
 /* Hands out each page whose version is not seen[n], and each whose version is the greatest, UINT64_MAX, at which the version
  * stops counting: it goes to ram + 4096 * n, and seen[n] becomes its version. All else of ram and seen is as it was. *count
- * is the number of pages handed out. Numbers of pages and sizes are as for vmig_push. The machine is as it was; it may have been stopped.
+ * is the number of pages handed out. Numbers of pages and sizes are as for vmig_push. The machine is as it was; it may have been
+ * stopped.
  * VMIG_NO_MACHINE, VMIG_TOO_SMALL. */
 uint32_t vmig_pull(vmig_machine *machine, uint8_t *ram, size_t len, uint64_t *seen, size_t seen_len, uint32_t *count);
 
@@ -488,17 +489,17 @@ uint32_t vmig_lend(vmig_machine *machine, vmig_ram *ram);
 /* Gives RAM back, with the numbers of the count pages that were written while it was lent, by the guest or by you: the machine
  * takes each for written whole, so a machine that is being sent sends it anew. They come in any order, and one may come twice. A
  * count of 0 says that nothing was written. Page 0 is the first of RAM, whatever its base: the page of a guest-physical address is
- * (address - base) / 4096. A page that was written and is named neither here nor by a later call may be sent as
- * it was before: nothing checks it, and what was written is lost at the receiver. *ram has the length that was lent. Its address
- * may be another, if the bytes moved there: RAM lies there from then on. It takes no memory, and time for the named pages alone.
+ * (address - base) / 4096. A page that was written and is named neither here nor by a later call may be sent as it was before:
+ * nothing checks it, and what was written is lost at the receiver. *ram has the length that was lent. Its address may be another, if
+ * the bytes moved there: RAM lies there from then on. It takes no memory, and time for the named pages alone.
  * VMIG_OK takes the memory: *ram is VMIG_NO_RAM then. At every other status nothing changed, and RAM is still lent.
  * VMIG_NO_MACHINE, then VMIG_NOT_LENT, then VMIG_BAD_RAM, then VMIG_OUT_OF_RAM, and no others. */
 uint32_t vmig_give_back(vmig_machine *machine, vmig_ram *ram, const uint32_t *pages, size_t count);
 
 /* As vmig_give_back, with a bitmap: bit k of words[n], the lowest being bit 0, is set if page 64 * n + k was written, as
  * KVM_GET_DIRTY_LOG fills it for a slot that begins where RAM does: page 0 is the first of RAM, whatever its base. There are count
- * words, at least one for each 64 pages, else VMIG_TOO_SMALL. Each word takes
- * one look, and each page that is marked another. Bits past the last page are not looked at.
+ * words, at least one for each 64 pages, else VMIG_TOO_SMALL. Each word takes one look, and each page that is marked another. Bits
+ * past the last page are not looked at.
  * VMIG_NO_MACHINE, then VMIG_NOT_LENT, then VMIG_BAD_RAM, then VMIG_TOO_SMALL, then VMIG_NO_MEMORY, and no others. */
 uint32_t vmig_give_back_marked(vmig_machine *machine, vmig_ram *ram, const uint64_t *words, size_t count);
 
