@@ -22,8 +22,9 @@ use Rattle.receiver.proofs.Prefixes.{header_stays, stays}
 use Rattle.receiver.specs.Faults.{Fault, IsHeaderFault}
 use Rattle.receiver.specs.Opened.{said_by}
 use Rattle.vmig_c.specs.ArrivalSeen.{ArrivalSeen, AtHead, AtBody, Refused, Over}
-use Rattle.vmig_c.specs.Awaited.{AreSteady, CountsRounds, GoesOnWith, IsClosed, HasArrived, HasCome, IsFaulty, IsFed, IsFedTo, IsWholeIf, TellsEnd, TellsOf, TellsWhole, TellsWhy, awaited_base, awaited_by}
+use Rattle.vmig_c.specs.Awaited.{AreSteady, CountsRounds, GoesOnWith, IsClosed, HasArrived, HasCome, IsFaulty, IsFed, IsFedTo, IsWholeIf, TellsEnd, TellsOf, TellsWhole, TellsWhy, awaited_base, awaited_by, IsComing, IsAtHead}
 use Rattle.vmig_c.specs.declared.arrival.Progress.{Progress}
+use Rattle.vmig_c.specs.declared.arrival.Progress.TheVariants.{Head, Body, Failed}
 use Rattle.vmig_c.specs.Headed.{AreFitting, HasHeader, HasNoHeader}
 use Rattle.vmig_c.specs.Plain.{mem_state}
 use Rattle.vmig_c.proofs.Plain.{as_many}
@@ -187,6 +188,11 @@ over_whole r whole is lacks failed = (failed, λ b h. whole_if whole r.base r.si
 
 pub head_whole : (base : ℕ) (held : List ℕ) → HasNoHeader held → TellsWhole (AtHead base held) false
 head_whole base held none = λ b is whole. subst HasNoHeader (sym is) none (said_by whole.opening) _ whole.front.begins
+
+pub not_whole : (p : Progress) (a : ArrivalSeen) → IsComing p → awaited_by p ≡ a → IsAtHead (awaited_by p) → TellsWhole a false
+not_whole (Head base held) a coming view at = subst (λ (x : ArrivalSeen). TellsWhole x false) view (head_whole base held.items coming)
+not_whole (Body r) a coming view at = absurd at
+not_whole Failed a coming view at = absurd at
 
 -- A header that is not whole.
 pub head_goes_on : (base : ℕ) (held : List ℕ) (r : Received) → HasNoHeader held → IsFedTo base [] held r → GoesOnWith held (AtHead base held)

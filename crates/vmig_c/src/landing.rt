@@ -74,7 +74,7 @@ impl Landing {
     }
 
     /// Whether the bytes fed so far are a whole stream.
-    #[tactic(auto, using(crate::proofs::Awaited::over_whole))]
+
     pub(crate) fn is_whole(&self) -> bool
         ensures { TellsWhole self.now result }
     {
