@@ -74,7 +74,6 @@ impl Landing {
     }
 
     /// Whether the bytes fed so far are a whole stream.
-
     pub(crate) fn is_whole(&self) -> bool
         ensures { TellsWhole self.now result }
     {
