@@ -1,4 +1,4 @@
-use Rattle.std.proofs.Common.{◌≡◌, ◌∙◌, List, map, subst, sym}
+use Rattle.std.proofs.Common.{◌≡◌, ◌∙◌, List, map, refl, subst, sym}
 use Rattle.std.specs.Prelude.{Some}
 use Rattle.machine.specs.First.{dealt_marks, machine_over_at}
 use Rattle.machine.specs.Seen.{all_marks, no_marks, state_of}
