@@ -1,8 +1,12 @@
-use Rattle.std.proofs.Common.{sym, subst}
-use Rattle.vmig_c.specs.Awaited.{IsAtHead, awaited_by}
+use Rattle.std.proofs.Common.{false, inl, inr, refl, sym, subst}
+use Rattle.vmig_c.specs.ArrivalSeen.{ArrivalSeen}
+use Rattle.vmig_c.specs.Awaited.{IsAtHead, TellsWhole, awaited_by}
 use Rattle.vmig_c.specs.declared.arrival.Progress.{Progress}
 use Rattle.vmig_c.proofs.Awaited.{not_whole}
 use Rattle.vmig_c.proofs.arrival.Arrival.is_whole.Goals as goal
 
 pub returns-in-Head : goal.returns-in-Head
-returns-in-Head c = not_whole c.self.inside.progress c.args.self.now c.self.invariant c.self.view_is (subst (λ (p : Progress). IsAtHead (awaited_by p)) (sym c.in-Head.is) tt)
+returns-in-Head c = elim c.in-Head.is [
+  | inl h ↦ not_whole c.self.inside.progress c.args.self.now c.self.invariant c.self.view_is (subst (λ (p : Progress). IsAtHead (awaited_by p)) (sym h.2) tt)
+  | inr e ↦ subst (λ (a : ArrivalSeen). TellsWhole a false) c.self.view_is (subst (λ (p : Progress). TellsWhole (awaited_by p) false) (sym e) refl)
+]
