@@ -279,15 +279,15 @@ static void no_stream_within(void)
 
 static void names(void)
 {
-    static const uint32_t unknown[] = {6, 32, 46, 63, 81, 255, UINT32_MAX};
+    static const uint32_t unknown[] = {6, 32, 46, 63, 82, 255, UINT32_MAX};
     uint32_t known = 0;
 
     expect("name of a success", (uint64_t)strcmp(vmig_status_name(VMIG_OK), "VMIG_OK"), 0);
     expect("name of a refusal", (uint64_t)strcmp(vmig_status_name(VMIG_NO_DEVICE), "VMIG_NO_DEVICE"), 0);
-    expect("name of the last status", (uint64_t)strcmp(vmig_status_name(VMIG_SYNC), "VMIG_SYNC"), 0);
+    expect("name of the last status", (uint64_t)strcmp(vmig_status_name(VMIG_SYNC_FAILED), "VMIG_SYNC_FAILED"), 0);
     for (uint32_t status = 0; status < 256; status++)
         if (strncmp(vmig_status_name(status), "VMIG_", 5) == 0) known++;
-    expect("statuses that have a name", known, 60);
+    expect("statuses that have a name", known, 61);
     for (size_t i = 0; i < sizeof unknown / sizeof *unknown; i++)
         expect("no name", (uint64_t)strcmp(vmig_status_name(unknown[i]), "unknown status"), 0);
 }
