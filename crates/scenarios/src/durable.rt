@@ -35,7 +35,7 @@ pub fn ends_after_its_flush(alloc: Global) -> Result<()> {
     let mut calls = Vec::new(alloc);
     let status = status_of_write(alloc, 0, &mut calls)?;
     ensure!(
-        calls.as_slice() == [Called::Write(3), Called::Flush],
+        calls.as_slice() == [Called::Write(3), Called::Flush].as_slice(),
         "the calls are {calls:?}"
     );
     ensure!(status == 0, "the status is {status}");
@@ -43,7 +43,7 @@ pub fn ends_after_its_flush(alloc: Global) -> Result<()> {
     let mut calls = Vec::new(alloc);
     let status = status_of_write(alloc, 2, &mut calls)?;
     ensure!(
-        calls.as_slice() == [Called::Write(3)],
+        calls.as_slice() == [Called::Write(3)].as_slice(),
         "the calls are {calls:?}"
     );
     ensure!(status == 9, "a write that was lost has the status {status}");
