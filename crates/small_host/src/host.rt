@@ -100,7 +100,11 @@ impl<G: Guest> Host<G> {
     /// Makes what the guest wrote durable before a step that ends a write of a driver without FLUSH: such a driver takes it for durable from
     /// then on. Where the disk fails the step is not made, and the guest is ended: a later flush that succeeds would not bring it back.
     fn bring(&mut self, rt: &HostRuntime, work: Work) -> Result<()> {
-        let SyncOwed::EndOfWrite = self.guest.machine().state(work.dev).must_sync(work.pick) else {
+        let machine = self.guest.machine();
+        if work.dev as usize >= machine.shapes().len() {
+            return Ok(());
+        }
+        let SyncOwed::EndOfWrite = machine.state(work.dev).must_sync(work.pick) else {
             return Ok(());
         };
         println!(rt; "host: flushes disk {} before its write ends", work.dev)?;
