@@ -6,10 +6,8 @@
 //! (`migration`), `rehearsals` are machines whose move is rehearsed (`rehearsed`).
 #![tactic(auto)]
 
-mod called_disk;
 mod changes;
 mod disks;
-mod durable;
 mod failing_sink;
 mod failing_writer;
 mod flags;
@@ -66,7 +64,5 @@ fn main(rt: HostRuntime) -> Result<()> {
     println!(rt; "a writer that fails at any byte")?;
     failing_writer::fails(rt.alloc())?;
     println!(rt; "a migration whose writer fails at any byte")?;
-    durable::ends_after_its_flush(rt.alloc())?;
-    println!(rt; "a write without FLUSH ends after the flush of its host")?;
     Ok(())
 }
