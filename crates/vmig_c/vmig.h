@@ -69,7 +69,7 @@
  *   what arrives lies in another image.
  * - A machine that arrived may have a guest that was told of a flush long ago. After vmig_finish call msync for each image, and fsync
  *   for the folder of a file that is new, before the source is told that all is there. Where it fails, also where one between two
- *   rounds failed, the machine does not run here: free it, and the source goes on.
+ *   rounds failed, the machine does not run here: free it, and the source continues.
  *
  * WHAT TAKES MEMORY from malloc: vmig_make, vmig_make_as and vmig_receive, for devices, for RAM and disks where they are not
  * yours, for a bit for each sector of an image, and for 8 bytes for each page; vmig_arrive, for a list of the images, and for 8

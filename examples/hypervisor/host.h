@@ -57,7 +57,7 @@ void look_around(struct host *h);
 void open_wire(struct host *h);
 /* Hands in what came, with RAM given back. */
 void take_input(struct host *h);
-/* The guest took so many bytes from the entropy device's pool: it gets new ones. It is never empty, since a request would wait there, and
+/* The guest took this number of bytes from the entropy device's pool: it gets new ones. It is never empty, since a request would wait there, and
  * it holds few: a machine that is saved and continued twice gives both guests the same. */
 void fill_pool(struct host *h, uint32_t taken);
 /* Tells the network where the guest's card is now. */
