@@ -11,10 +11,20 @@ ghost use Rattle.chains.specs.declared.segs.Seg.{Seg};
 use crate::segs::Seg;
 use guestmem::{Ram, TouchLog};
 
-/// Fills the buffer with the bytes of the concatenated segments, from offset `at` on. The segments lie inside RAM, which has
-/// this base, and have at least `at + buf.len()` bytes. It takes no memory.
+/// Fills the buffer with the bytes of the concatenated segments, from offset `at` on. The segments lie inside RAM, which begins at
+/// the guest-physical address 0, and have at least `at + buf.len()` bytes. It takes no memory.
 #[inline(always)]
-pub fn copy_out(ram: &Ram, base: u64, segs: &[Seg], at: u64, buf: &mut [u8])
+pub fn copy_out(ram: &Ram, segs: &[Seg], at: u64, buf: &mut [u8])
+    requires inside { AreSegmentsInside 0 (length ram.now.bytes) segs.now }
+    requires room { at + length buf.old ≤ length (places segs.now) }
+    ensures { buf.new ≡ take (length buf.old) (drop at (read_places 0 ram.now.bytes (places segs.now))) }
+{
+    copy_out_with_base(ram, 0, segs, at, buf);
+}
+
+/// As `copy_out`, where RAM begins at the guest-physical address `base`.
+#[inline(always)]
+pub fn copy_out_with_base(ram: &Ram, base: u64, segs: &[Seg], at: u64, buf: &mut [u8])
     requires inside { AreSegmentsInside base (length ram.now.bytes) segs.now }
     requires room { at + length buf.old ≤ length (places segs.now) }
     ensures { buf.new ≡ take (length buf.old) (drop at (read_places base ram.now.bytes (places segs.now))) }
@@ -28,7 +38,7 @@ pub fn copy_out(ram: &Ram, base: u64, segs: &[Seg], at: u64, buf: &mut [u8])
     copy_out_of_many(ram, base, segs, at, buf);
 }
 
-/// As `copy_out`, segment by segment.
+/// As `copy_out_with_base`, segment by segment.
 fn copy_out_of_many(ram: &Ram, base: u64, segs: &[Seg], at: u64, buf: &mut [u8])
     requires inside { AreSegmentsInside base (length ram.now.bytes) segs.now }
     requires room { at + length buf.old ≤ length (places segs.now) }
@@ -51,10 +61,24 @@ fn copy_out_of_many(ram: &Ram, base: u64, segs: &[Seg], at: u64, buf: &mut [u8])
 }
 
 /// Writes `bytes` at offset `at` of the concatenated segments. Where segments overlap the later byte wins. The pages of
-/// these bytes are reported to the log. The segments lie inside RAM, which has this base, and have at least `at + bytes.len()`
-/// bytes. It takes no memory.
+/// these bytes are reported to the log. The segments lie inside RAM, which begins at the guest-physical address 0, and have at least
+/// `at + bytes.len()` bytes. It takes no memory.
 #[inline(always)]
-pub fn copy_in<L: TouchLog>(
+pub fn copy_in<L: TouchLog>(ram: &mut Ram, segs: &[Seg], at: u64, bytes: &[u8], log: &mut L)
+    requires inside { AreSegmentsInside 0 (length ram.old.bytes) segs.now }
+    requires room { at + length bytes.now ≤ length (places segs.now) }
+    requires may { MayPages L.may log.old (length ram.old.bytes) }
+    ensures bytes { ram.new.bytes ≡ set_all ram.old.bytes (place_writes 0 (take (length bytes.now) (drop at (places segs.now))) bytes.now) }
+    ensures log { log.new ≡ after_all L.after log.old (touched (place_writes 0 (take (length bytes.now) (drop at (places segs.now))) bytes.now)) }
+    ensures rises { Rises (touched (place_writes 0 (take (length bytes.now) (drop at (places segs.now))) bytes.now)) ram.old ram.new }
+    ensures after { HasServed L.may ram.old ram.new log.new }
+{
+    copy_in_with_base(ram, 0, segs, at, bytes, log);
+}
+
+/// As `copy_in`, where RAM begins at the guest-physical address `base`.
+#[inline(always)]
+pub fn copy_in_with_base<L: TouchLog>(
     ram: &mut Ram,
     base: u64,
     segs: &[Seg],
@@ -92,8 +116,8 @@ pub fn copy_in<L: TouchLog>(
     }
 }
 
-/// Writes a byte to the last place of the segments, as `copy_in` does. Its page is reported to the log. The segments lie inside RAM,
-/// which has this base, and have a byte. It looks at no segment but the last, and at empty ones behind the byte. It takes no memory.
+/// Writes a byte to the last place of the segments, as `copy_in_with_base` does. Its page is reported to the log. The segments lie
+/// inside RAM, and have a byte. It looks at no segment but the last, and at empty ones behind the byte. It takes no memory.
 #[inline(always)]
 pub fn copy_in_last<L: TouchLog>(ram: &mut Ram, base: u64, segs: &[Seg], byte: u8, log: &mut L)
     requires inside { AreSegmentsInside base (length ram.old.bytes) segs.now }

@@ -12,7 +12,7 @@
 //!   handed in, whatever it holds. The state of the ring stays as it was. Every chain is bounded: its segments lie inside RAM, and
 //!   are no more than slots. Its only error is out of memory, and that only at a long queue (`IsLongQueue`): one that is not empty,
 //!   with more than four descriptors in a row at the taking position.
-//! - `next_into(ram, chain)` is `next` with the chain filled in where the caller has it.
+//! - `next_into(ram, chain)` is `next` with the chain filled in where the caller has it. A ring that has `next` has it too.
 //! - Both decode at most one descriptor more than there are slots, whatever RAM holds. They keep some by a `Decoder`, and use a
 //!   kept one only while its page has not changed. The caller's part is that what is kept fits RAM (`Fits`): every RAM fits a new
 //!   ring, and every later RAM fits still (`laws::fits_later`). `decoded()` is the count.
@@ -24,18 +24,19 @@
 //!   and the log may name the pages of RAM. Where RAM is written, both stand in one word, `MayServe`, and what every step leaves
 //!   in another, `HasServed`: RAM that is later, and a log that may name its pages still.
 //!
-//! - Descriptors and segments hold guest-physical addresses as the guest wrote them; `base()` says where RAM begins. The areas of a
-//!   queue are indexes in RAM (`specs/State`).
+//! - Descriptors and segments hold guest-physical addresses as the guest wrote them. Where RAM begins is the `base` of a ring's state,
+//!   and the functions that read or write bytes of a chain are told it. The areas of a queue are indexes in RAM (`specs/State`).
 //!
 //! And on these functions:
-//! - `copy_out` and `copy_in` read and write the bytes of the concatenated segments in a RAM with a base, from an offset on; where
-//!   segments overlap the later byte wins; the log takes in exactly the pages written, and the versions of exactly these rise.
+//! - `copy_out` and `copy_in` read and write the bytes of the concatenated segments in a RAM that begins at the address 0, from an
+//!   offset on; where segments overlap the later byte wins; the log takes in exactly the pages written, and the versions of exactly
+//!   these rise. `copy_out_with_base` and `copy_in_with_base` do so in a RAM that begins at any address.
 //!   `copy_in_last` writes a byte to the last place of segments, with a look at the last of them alone.
-//! - `fill(ring, chain, bytes, ram, log)` gives bytes to a chain: they go to its first writable bytes, and the chain is published
+//! - `fill(ring, base, chain, bytes, ram, log)` gives bytes to a chain: they go to its first writable bytes, and the chain is published
 //!   with their count. `fill_in_parts` does the same with the bytes of two slices, one after the other.
 //! - `look(ring, wanted, chain, ram, log)` is the look of every device: it finds the ring empty, which is noted, or malformed, or
 //!   fills in a chain that the device can use, by what it has `Wanted`. A chain that it cannot use is malformed for it.
-//! - `transmit(alloc, ring, form, ram, log)` is `transmit_step` over any `Ring`: it reads the message of the next chain, which a
+//! - `transmit(alloc, ring, base, form, message, ram, log)` is `transmit_step` over any `Ring`: it reads the message of the next chain, which a
 //!   `MessageForm` separates from a malformed one, and publishes the chain with nothing written. An error is out of memory, at a long
 //!   chain or where a message waits, and changes nothing.
 //! - `add(descriptor, base, len, chain)` adds the buffer of a descriptor to a chain that a ring gathers as it walks, with the tests of
@@ -90,7 +91,7 @@ mod walked;
 
 pub use adding::{add, ended};
 pub use chain::Chain;
-pub use copy::{copy_in, copy_in_last, copy_out};
+pub use copy::{copy_in, copy_in_last, copy_in_with_base, copy_out, copy_out_with_base};
 pub use decoder::{Decoder, Kept, PLACES};
 pub use descriptor::{DESCRIPTOR_SIZE, Descriptor, is_table};
 pub use limits::SHORT_CHAIN_MAX;

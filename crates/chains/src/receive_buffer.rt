@@ -8,20 +8,22 @@ ghost use Rattle.chains.specs.Ring.{IsBounded};
 ghost use Rattle.chains.specs.ReceiveBuffer.{IsFilled};
 
 use crate::chain::Chain;
-use crate::copy::copy_in;
+use crate::copy::copy_in_with_base;
 use crate::ring::Ring;
 use guestmem::{Ram, TouchLog};
 
 /// Gives bytes to the chain that `Ring::next` found: they go to its first writable bytes. The chain is taken, and published
-/// with their count. The result is whether an interrupt is due.
+/// with their count. RAM begins at the guest-physical address `base`. The result is whether an interrupt is due.
 #[inline(always)]
 pub fn fill<R: Ring, L: TouchLog>(
     ring: &mut R,
+    base: u64,
     chain: &Chain,
     bytes: &[u8],
     ram: &mut Ram,
     log: &mut L,
 ) -> bool
+    requires base { base ≡ (R.state ring.old).base }
     requires ready { MayServe L.may (length ram.old.bytes) (R.state ring.old) log.old }
     requires bounded { IsBounded (length ram.old.bytes) (R.state ring.old) chain.now }
     requires room { length bytes.now ≤ length (places chain.now.writable) }
@@ -29,7 +31,7 @@ pub fn fill<R: Ring, L: TouchLog>(
     ensures after { HasServed L.may ram.old ram.new log.new }
     ensures decoder { R.decoder ring.new ≡ R.decoder ring.old }
 {
-    copy_in(ram, ring.base(), chain.writable.as_slice(), 0, bytes, log);
+    copy_in_with_base(ram, base, chain.writable.as_slice(), 0, bytes, log);
     ring.take(chain);
     let count = bytes.len() as u32;
     ring.publish(chain.id, chain.slots, count, count > 0, ram, log)
@@ -40,12 +42,14 @@ pub fn fill<R: Ring, L: TouchLog>(
 #[inline(always)]
 pub fn fill_in_parts<R: Ring, L: TouchLog>(
     ring: &mut R,
+    base: u64,
     chain: &Chain,
     front: &[u8],
     back: &[u8],
     ram: &mut Ram,
     log: &mut L,
 ) -> bool
+    requires base { base ≡ (R.state ring.old).base }
     requires ready { MayServe L.may (length ram.old.bytes) (R.state ring.old) log.old }
     requires bounded { IsBounded (length ram.old.bytes) (R.state ring.old) chain.now }
     requires room { length front.now + length back.now ≤ length (places chain.now.writable) }
@@ -54,21 +58,23 @@ pub fn fill_in_parts<R: Ring, L: TouchLog>(
     ensures decoder { R.decoder ring.new ≡ R.decoder ring.old }
 {
     if back.is_empty() {
-        return fill(ring, chain, front, ram, log);
+        return fill(ring, base, chain, front, ram, log);
     }
-    fill_both(ring, chain, front, back, ram, log)
+    fill_both(ring, base, chain, front, back, ram, log)
 }
 
 /// Does what `fill_in_parts` does, with a copy for each slice.
 #[inline(never)]
 fn fill_both<R: Ring, L: TouchLog>(
     ring: &mut R,
+    base: u64,
     chain: &Chain,
     front: &[u8],
     back: &[u8],
     ram: &mut Ram,
     log: &mut L,
 ) -> bool
+    requires base { base ≡ (R.state ring.old).base }
     requires ready { MayServe L.may (length ram.old.bytes) (R.state ring.old) log.old }
     requires bounded { IsBounded (length ram.old.bytes) (R.state ring.old) chain.now }
     requires room { length front.now + length back.now ≤ length (places chain.now.writable) }
@@ -76,10 +82,9 @@ fn fill_both<R: Ring, L: TouchLog>(
     ensures after { HasServed L.may ram.old ram.new log.new }
     ensures decoder { R.decoder ring.new ≡ R.decoder ring.old }
 {
-    let base = ring.base();
     let segs = chain.writable.as_slice();
-    copy_in(ram, base, segs, 0, front, log);
-    copy_in(ram, base, segs, front.len() as u64, back, log);
+    copy_in_with_base(ram, base, segs, 0, front, log);
+    copy_in_with_base(ram, base, segs, front.len() as u64, back, log);
     ring.take(chain);
     let len = (front.len() + back.len()) as u32;
     ring.publish(chain.id, chain.slots, len, len > 0, ram, log)

@@ -17,7 +17,6 @@ use crate::next::Next;
 use crate::next_kind::NextKind;
 use crate::position::Positions;
 use guestmem::{NoMemory, Ram, TouchLog};
-use std::alloc::Global;
 
 /// A ring of either layout, through which a driver hands chains to a device and gets them back.
 ///
@@ -32,13 +31,6 @@ pub trait Ring {
     /// What it has decoded, and what it keeps of that.
     ghost decoder: { Self → DecoderState };
 
-    /// For the chains that `next` makes.
-    fn alloc(&self) -> Global;
-
-    /// The guest-physical address at which RAM begins.
-    fn base(&self) -> u64
-        ensures { result ≡ (state self.now).base };
-
     /// What is at the taking position. The state of the ring stays as it was, so asking again on the same RAM gives the
     /// same answer. A chain, whatever the driver wrote, is bounded: its segments lie inside RAM. The only error is out
     /// of memory, which comes only after more than `SHORT_CHAIN_MAX` descriptors. Whatever RAM holds, it decodes at most one
@@ -52,19 +44,11 @@ pub trait Ring {
         ensures state { state self.new ≡ state self.old }
         ensures fits { Fits (decoder self.new) ram.now }
         ensures few { (decoder self.new).decoded ≤ (decoder self.old).decoded + ((state self.old).size + 1) }
-        ensures rises { (decoder self.old).decoded ≤ (decoder self.new).decoded }
-    {
-        let mut chain = Chain::new(self.alloc());
-        match self.next_into(ram, &mut chain) {
-            NextKind::Empty => Ok(Next::Empty),
-            NextKind::Malformed => Ok(Next::Malformed),
-            NextKind::Chain => Ok(Next::Chain(chain)),
-            NextKind::NoMemory => Err(NoMemory),
-        }
-    }
+        ensures rises { (decoder self.old).decoded ≤ (decoder self.new).decoded };
 
     /// As `next`, with the chain filled in where the caller has it. What the chain held before makes no difference; where
-    /// there is no chain, it may hold anything afterwards.
+    /// there is no chain, it may hold anything afterwards. A ring that fills in a chain in place has a body of its own, by which no
+    /// chain is moved.
     fn next_into(&mut self, ram: &Ram, chain: &mut Chain) -> NextKind
         requires areas { HasAreas (length ram.now.bytes) (state self.old) }
         requires fits { Fits (decoder self.old) ram.now }
@@ -73,7 +57,18 @@ pub trait Ring {
         ensures state { state self.new ≡ state self.old }
         ensures fits { Fits (decoder self.new) ram.now }
         ensures few { (decoder self.new).decoded ≤ (decoder self.old).decoded + ((state self.old).size + 1) }
-        ensures rises { (decoder self.old).decoded ≤ (decoder self.new).decoded };
+        ensures rises { (decoder self.old).decoded ≤ (decoder self.new).decoded }
+    {
+        match self.next(ram) {
+            Ok(Next::Empty) => NextKind::Empty,
+            Ok(Next::Malformed) => NextKind::Malformed,
+            Ok(Next::Chain(found)) => {
+                *chain = found;
+                NextKind::Chain
+            }
+            Err(NoMemory) => NextKind::NoMemory,
+        }
+    }
 
     /// Takes the chain that `next` found: the taking position advances.
     fn take(&mut self, chain: &Chain)

@@ -12,7 +12,7 @@ ghost use Rattle.chains.specs.Transmit.{message_of, handed_back, sending_in, May
 ghost use Rattle.chains.specs.Transmitted.{IsTransmitted};
 
 use crate::chain::Chain;
-use crate::copy::copy_out;
+use crate::copy::copy_out_with_base;
 use crate::looking::{Wanted, look};
 use crate::next_kind::NextKind;
 use crate::ring::Ring;
@@ -55,12 +55,14 @@ pub enum Transmitted {
 pub fn transmit<R: Ring, L: TouchLog>(
     alloc: Global,
     ring: &mut R,
+    base: u64,
     form: MessageForm,
     message: &mut Vec<u8>,
     ram: &mut Ram,
     log: &mut L,
 ) -> Result<Transmitted, NoMemory>
     requires ready { MayLook L.may ram.old (R.state ring.old) (R.decoder ring.old) log.old }
+    requires base { base ≡ (R.state ring.old).base }
     requires form { form.header ≤ form.least }
     ensures transmitted { IfOk result (λ answer. IsTransmitted (Touches L.after log.old log.new ram.old ram.new) ram.old.bytes (R.state ring.old) form (sending_in answer message.new.items) ram.new.bytes (R.state ring.new)) }
     ensures memory { OnErr result (MayWantMemory ram.old.bytes (R.state ring.old) form) }
@@ -72,7 +74,7 @@ pub fn transmit<R: Ring, L: TouchLog>(
         NextKind::Empty => Ok(Transmitted::Empty),
         NextKind::Malformed => Ok(Transmitted::Malformed),
         NextKind::Chain => {
-            read_message(form.header, &chain, message, ring.base(), ram)?;
+            read_message(form.header, &chain, message, base, ram)?;
             let is_due = hand_back(ring, &chain, ram, log);
             Ok(Transmitted::Sent { is_due })
         }
@@ -97,7 +99,7 @@ fn read_message(
     let count = chain.readable.total_len() - header as u64;
     message.resize(count as usize, 0)?;
     let segs = chain.readable.as_slice();
-    copy_out(ram, base, segs, header as u64, message.as_mut_slice());
+    copy_out_with_base(ram, base, segs, header as u64, message.as_mut_slice());
     Ok(())
 }
 

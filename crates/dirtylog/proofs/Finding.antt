@@ -1,12 +1,13 @@
 -- The least bit of words, found by the marks of those that are not zero.
 use Rattle.std.proofs.Common.{◌≡◌, ◌<◌, ◌≤◌, ℕ, ◌+◌, ◌*◌, ◌/◌, ◌%◌, Bool, true, false, List, length, get_or, refl, arith}
-use Rattle.std.specs.Prelude.{◌==◌, nat_lt}
+use Rattle.std.specs.Prelude.{◌==◌, nat_lt, MatchOption, Option, None, Some}
 use Rattle.std.specs.Int.{bit_at}
 use Rattle.std.proofs.lemmas.List.{get_or_past}
 use Rattle.std.proofs.lemmas.Bool.{eqb-true, eqb-false}
 use Rattle.std.proofs.lemmas.Nat.Bits.{bit_at-zero}
 use borrow.Author.Tests.{ltb-true, ltb-false}
 use Rattle.dirtylog.specs.Words.{bit_in, AreLevels, IsLeastBit}
+use Rattle.dirtylog.specs.Members.{LooksThrough}
 
 -- The bits of a word below one are clear, from another one on.
 abbrev pub AreClear : ℕ → ℕ → ℕ → Type 0
@@ -68,3 +69,8 @@ found_later words marks len n next bit h rest m b one clear =
       one = rw (place, low) one;
       least = λ k a d. clear_before words marks len n next bit k (k / 64 == n / 64) (k / 64 == next) refl refl h rest m b clear a d;
     }
+
+-- What a search looks at, told of the words of the second level and of the numbers that they speak of.
+pub looks_through : (len marks n looked : ℕ) (found : Option ℕ) → (len + 4095) / 4096 ≤ marks → MatchOption found (marks ≤ looked + n / 4096) (λ m. m / 4096 < looked + n / 4096) → LooksThrough len n found looked
+looks_through len marks n looked None few through = omega (arith, few, through)
+looks_through len marks n looked (Some m) few through = through

@@ -1,5 +1,5 @@
 -- Sets of numbers below a length. A set is the list that says of each of these numbers whether it is a member.
-use Rattle.std.specs.Prelude.{◌≡◌, ℕ, ◌≤◌, ◌<◌, ◌^◌, List, Bool, true, false, Option, Some, None, slice_index_or, count_by, length}
+use Rattle.std.specs.Prelude.{◌≡◌, ℕ, ◌+◌, ◌/◌, ◌≤◌, ◌<◌, ◌^◌, List, Bool, true, false, Option, Some, None, slice_index_or, count_by, length}
 
 -- Whether a number is a member. One that is not below the length is not.
 abbrev pub has : List Bool → ℕ → Bool
@@ -19,6 +19,12 @@ pub record IsLeast (set : List Bool) (from n : ℕ) : Type 0 where
 abbrev pub IsLeastFrom : List Bool → ℕ → Option ℕ → Type 0
 IsLeastFrom set from (Some n) = IsLeast set from n
 IsLeastFrom set from None = (k : ℕ) → from ≤ k → has set k ≡ false
+
+-- A search from `n` on, in a set of numbers below `len`, looks at no fewer words than the second level has from the word for `n` to the
+-- word for the number found, or to the last one. A word of the second level is for 4,096 numbers.
+abbrev pub LooksThrough : ℕ → ℕ → Option ℕ → ℕ → Type 0
+LooksThrough len n (Some m) looked = m / 4096 < looked + n / 4096
+LooksThrough len n None looked = (len + 4095) / 4096 ≤ looked + n / 4096
 
 -- How many members there are.
 abbrev pub member_count : List Bool → ℕ

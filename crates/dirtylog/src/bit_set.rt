@@ -1,7 +1,7 @@
 //! A set of numbers.
 
 ghost use Rattle.std.specs.Prelude.{◌≡◌, ◌<◌, ◌≤◌, ◌↔◌, ◌+◌, ◌*◌, ◌/◌, ◌^◌, IsTrue, length, replicate, slice_set, true, false, IfOk};
-ghost use Rattle.dirtylog.specs.Members.{has, HasNone, IsLeastFrom, member_count};
+ghost use Rattle.dirtylog.specs.Members.{has, HasNone, IsLeastFrom, LooksThrough, member_count};
 ghost use Rattle.dirtylog.specs.Words.{HasRoomFor};
 
 use crate::bits::{WORD_BITS, clear_all, clear_bit, has_bit, set_all, set_bit, unmark, zeros};
@@ -103,6 +103,7 @@ impl BitSet {
         requires { n ≤ length self.now }
         ensures least { IsLeastFrom self.now n result.0 }
         ensures few { result.1 ≤ 16 + (length self.now + 4095) / 4096 }
+        ensures through { ¬ (HasNone self.now) → n < length self.now → LooksThrough (length self.now) n result.0 result.1 }
         ensures none { HasNone self.now → result.1 ≡ 0 }
     {
         if self.is_empty() {

@@ -1,6 +1,6 @@
 //! The least bit that is set, looked for in few words.
 
-ghost use Rattle.std.specs.Prelude.{◌≡◌, ◌≢◌, ◌<◌, ◌≤◌, ◌^◌, ◌+◌, ◌-◌, ◌*◌, ℕ, length, get_or, true, take, drop, MatchOption};
+ghost use Rattle.std.specs.Prelude.{◌≡◌, ◌≢◌, ◌<◌, ◌≤◌, ◌^◌, ◌+◌, ◌-◌, ◌*◌, ◌/◌, ℕ, length, get_or, true, take, drop, MatchOption};
 ghost use Rattle.dirtylog.specs.Words.{bit_in, AreLevels, AreZeroBetween, IsLeastBitFrom};
 ghost use Rattle.std.specs.Int.{bit_at};
 
@@ -73,6 +73,7 @@ impl Reader {
         ensures zeros { AreZeroBetween words.now from result }
         ensures found { result < length words.now → get_or words.now result 0 ≢ 0 }
         ensures counted { self.new.looked + from ≤ self.old.looked + result + 9 }
+        ensures through { self.old.looked + result ≤ self.new.looked + from }
     {
         let mut i = from;
         'lanes: while words.len() - i >= LANES {
@@ -97,6 +98,7 @@ impl Reader {
         requires few { self.old.looked + length words.now + 11 < 2 ^ 64 }
         ensures least { IsLeastBitFrom words.now from result }
         ensures counted { self.new.looked ≤ self.old.looked + length words.now + 10 }
+        ensures through { MatchOption result (self.old.looked + length words.now ≤ self.new.looked + from / 64) (λ n. self.old.looked + n / 64 < self.new.looked + from / 64) }
     {
         let at = (from / WORD_BITS) as usize;
         if at >= words.len() {
@@ -143,6 +145,7 @@ pub(crate) fn find_bit(words: &[u64], marks: &[u64], n: u64, reader: &mut Reader
     requires fresh { reader.old.looked ≡ 0 }
     ensures least { IsLeastBitFrom words.now n result }
     ensures counted { reader.new.looked ≤ length marks.now + 12 }
+    ensures through { MatchOption result (length marks.now ≤ reader.new.looked + n / 4096) (λ m. m / 4096 < reader.new.looked + n / 4096) }
 {
     let at = n / WORD_BITS;
     if let Some(bit) = bit_from(reader.word(words, at as usize), n % WORD_BITS) {

@@ -11,6 +11,11 @@ use Rattle.guestmem.specs.declared.error.RamError.TheVariants.{OutOfRam, TooLong
 abbrev pub refusal_of : ℕ → ℕ → ℕ → Option RamError
 refusal_of len at count = if nat_lt ACCESS_MAX count then Some TooLong else if nat_lt len (at + count) then Some OutOfRam else None
 
+-- The number that stands for the reason of a refusal.
+abbrev pub code_of : RamError → ℕ
+code_of OutOfRam = 1
+code_of TooLong = 2
+
 abbrev pub unless_refused : {A : Type 0} → Option RamError → A → Result A RamError
 unless_refused None x = Ok x
 unless_refused (Some e) x = Err e

@@ -1,12 +1,19 @@
 //! Laws of the definitions, each as a function whose contract it is. Calling one costs nothing, and gives a proof that
 //! contract.
 
+ghost use Rattle.guestmem.specs.Address.{access_refusal};
 ghost use Rattle.guestmem.specs.Memory.{Memory};
 ghost use Rattle.guestmem.specs.Later.{IsLater};
 ghost use Rattle.guestmem.specs.Lent.{GivenBackIsWritten};
 ghost use Rattle.guestmem.specs.Item.{Item};
 ghost use Rattle.guestmem.specs.Rises.{Rises};
-ghost use Rattle.std.specs.Prelude.{List, [], ◌++◌};
+ghost use Rattle.guestmem.specs.Write.{refusal_of};
+ghost use Rattle.std.specs.Prelude.{ℕ, List, [], ◌++◌, ◌≡◌, ◌<◌, ◌^◌};
+
+/// In a RAM that begins at the address 0, an access is refused exactly as the access to the same indexes of its bytes.
+pub fn refusals_at_zero()
+    ensures { (len at count : ℕ) → at < 2 ^ 64 → access_refusal 0 len at count ≡ refusal_of len at count }
+{}
 
 /// A RAM is later than itself, and what is later than a later RAM is later. So a fact that every later RAM keeps goes
 /// through any list of writes.

@@ -13,8 +13,10 @@ ghost use Rattle.guestmem.specs.Write.{put_at, written, touched_of, refusal_of, 
 ghost use Rattle.guestmem.specs.declared.touched.Touched.TheVariants.{Pages};
 ghost use Rattle.region.specs.Address.{address};
 
+use crate::address::access_refusal;
 use crate::error::RamError;
-use crate::limits::{ACCESS_MAX, PAGE_SIZE, PAGES_MAX};
+use crate::laws::refusals_at_zero;
+use crate::limits::{PAGE_SIZE, PAGES_MAX};
 use crate::log::TouchLog;
 use crate::parked::ParkedRam;
 use crate::storage::Storage;
@@ -181,15 +183,8 @@ impl Ram {
     pub fn refusal(&self, addr: u64, count: usize) -> Option<RamError>
         ensures { result ≡ refusal_of (length self.now.bytes) addr count }
     {
-        if count > ACCESS_MAX {
-            return Some(RamError::TooLong);
-        }
-        // A RAM has a page at least, and the access is of no more than a page.
-        self.recall();
-        if addr > self.len() - count as u64 {
-            return Some(RamError::OutOfRam);
-        }
-        None
+        refusals_at_zero();
+        access_refusal(0, self.len(), addr, count)
     }
 
     /// Reads the bytes from an address on into the whole buffer. A refusal leaves the buffer as it was.

@@ -58,9 +58,17 @@ impl Model for Regs {
 }
 
 impl Regs {
-    /// The registers of a new device: its number, the feature bits that it offers, how many queues it has, the guest-physical address
-    /// of RAM's first byte, and how many bytes RAM has. All that the driver may set is 0, and no queue is ready.
-    pub fn new(device_id: u32, offered: u64, queues: u8, ram_base: u64, ram_len: u64) -> Regs
+    /// The registers of a new device, where RAM begins at the address 0: its number, the feature bits that it offers, how many queues
+    /// it has, and how many bytes RAM has. All that the driver may set is 0, and no queue is ready.
+    pub fn new(device_id: u32, offered: u64, queues: u8, ram_len: u64) -> Regs
+        requires { queues ≤ QUEUE_COUNT_MAX }
+        ensures { result ≡ first_registers device_id offered queues 0 ram_len }
+    {
+        Regs::new_at(device_id, offered, queues, 0, ram_len)
+    }
+
+    /// As `new`, where RAM's first byte has the guest-physical address `ram_base`.
+    pub fn new_at(device_id: u32, offered: u64, queues: u8, ram_base: u64, ram_len: u64) -> Regs
         requires { queues ≤ QUEUE_COUNT_MAX }
         ensures { result ≡ first_registers device_id offered queues ram_base ram_len }
     {

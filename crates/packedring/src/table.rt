@@ -58,7 +58,7 @@ pub(crate) fn find(
 }
 
 /// Adds the buffers of the `count` entries of a table to a chain that has none. The table lies at the index `table` in RAM, which
-/// begins at the guest-physical address `base`.
+/// begins at the guest-physical address `base`. A driver makes such a table anew for each chain, so none of its descriptors is kept.
 fn add_entries(
     decoder: &mut Decoder,
     base: u64,
@@ -75,6 +75,7 @@ fn add_entries(
     ensures fits { Fits decoder.new ram.now }
     ensures few { decoder.new.decoded ≤ decoder.old.decoded + count }
     ensures rises { decoder.old.decoded ≤ decoder.new.decoded }
+    ensures apart { decoder.new.places ≡ decoder.old.places }
 {
     let len = ram.len();
     for index in 0..count {

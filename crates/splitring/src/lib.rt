@@ -6,7 +6,8 @@
 //!
 //! # What the layers above may rely on
 //! The contracts are those of the trait, over the definitions of `chains` (`SplitChain` and `Publish` among its specs). `new` makes
-//! the ring of a ready queue under the driver's features, in a RAM with the base given, at the positions given. Buffers and tables are
+//! the ring of a ready queue under the driver's features, at the positions given, in a RAM that begins at the address 0, and `new_at`
+//! in one that begins at any address. Buffers and tables are
 //! named by their guest-physical addresses, and one that begins below the base is malformed, as is one that passes the end of RAM.
 //!
 //! Looking for a chain decodes at most one descriptor more than there are slots, whatever RAM holds: a walk stops after as many as

@@ -54,9 +54,20 @@ impl SplitRing {
     ghost use Rattle.splitring.specs.Walk.{ChainGives};
 
     /// The ring of a queue at these positions, under the features that the driver accepted, in a RAM that begins at the
-    /// guest-physical address `base`. It takes no memory: the allocator is for the chains that it finds. It has decoded nothing, so
+    /// guest-physical address 0. It takes no memory: the allocator is for the chains that it finds. It has decoded nothing, so
     /// what it keeps fits every RAM.
-    pub fn new(
+    pub fn new(alloc: Global, queue: &Queue, features: u64, positions: Positions) -> SplitRing
+        requires layout { (state_of queue.now features 0 positions).is_packed ≡ false }
+        requires state { MayRing (state_of queue.now features 0 positions) }
+        ensures state { result.state ≡ state_of queue.now features 0 positions }
+        ensures decoder { result.decoder ≡ empty_decoder 0 }
+        ensures fits { (ram : Memory) → Fits result.decoder ram }
+    {
+        SplitRing::new_at(alloc, queue, features, 0, positions)
+    }
+
+    /// As `new`, in a RAM that begins at the guest-physical address `base`.
+    pub fn new_at(
         alloc: Global,
         queue: &Queue,
         features: u64,
@@ -152,12 +163,14 @@ impl Ring for SplitRing {
 
     ghost decoder = { λ r. r.decoder };
 
-    fn alloc(&self) -> Global {
-        self.core.alloc
-    }
-
-    fn base(&self) -> u64 {
-        self.core.base
+    fn next(&mut self, ram: &Ram) -> Result<Next, NoMemory> {
+        let mut chain = Chain::new(self.core.alloc);
+        match self.next_into(ram, &mut chain) {
+            NextKind::Empty => Ok(Next::Empty),
+            NextKind::Malformed => Ok(Next::Malformed),
+            NextKind::Chain => Ok(Next::Chain(chain)),
+            NextKind::NoMemory => Err(NoMemory),
+        }
     }
 
     #[inline(always)]

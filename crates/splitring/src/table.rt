@@ -62,7 +62,8 @@ pub(crate) fn find(
     }
 }
 
-/// Goes on in the table that the last descriptor of the list names, behind those before it.
+/// Goes on in the table that the last descriptor of the list names, behind those before it. A driver makes such a table anew for
+/// each chain, so none of its descriptors is kept.
 fn follow(
     core: &RingCore,
     decoder: &mut Decoder,
@@ -76,6 +77,7 @@ fn follow(
     ensures fits { Fits decoder.new ram.now }
     ensures few { decoder.new.decoded + segment_count chain.old ≤ decoder.old.decoded + core.now.size }
     ensures rises { decoder.old.decoded ≤ decoder.new.decoded }
+    ensures apart { decoder.new.places ≡ decoder.old.places }
 {
     // INDIRECT without the feature, or a table that `is_table` refuses.
     if !core.has_indirect() || !is_table(last, core.base, ram) {

@@ -35,7 +35,7 @@ fn ring_of(alloc: Global, ram: &Ram, base: u64, size: u32) -> SplitRing
         is_ready: true,
         is_notified: true,
     };
-    SplitRing::new(alloc, &queue, FEATURES, base, Positions::FIRST)
+    SplitRing::new_at(alloc, &queue, FEATURES, base, Positions::FIRST)
 }
 
 /// Writes where a test says. The RAM is a later one, so what the ring keeps fits it.

@@ -1,6 +1,6 @@
 //! The list of descriptors that begins at an entry of a table.
 
-ghost use Rattle.std.specs.Prelude.{◌≡◌, ◌+◌, ◌*◌, ◌%◌, ◌<◌, ◌≤◌, List, length, true};
+ghost use Rattle.std.specs.Prelude.{◌≡◌, ◌+◌, ◌*◌, ◌%◌, ◌<◌, ◌≤◌, List, length, true, false};
 ghost use Rattle.chains.specs.declared.descriptor.Descriptor.{Descriptor};
 ghost use Rattle.chains.specs.Decoder.{Fits};
 ghost use Rattle.chains.specs.Held.{AreHeld, segment_count};
@@ -11,8 +11,9 @@ use chains::{Chain, DESCRIPTOR_SIZE, Decoder, Descriptor, Walked, add};
 use guestmem::Ram;
 
 /// Adds to a chain the buffers of the list that begins at entry `first` of a table, up to one that names a table, which it
-/// hands out as `last`. The table lies at the index `table` in RAM, whose base is `base`. It stops at a descriptor that breaks a rule, and after `room` of them. No more are decoded than `room`,
-/// nor, where the last one names a table, than are added and that one. `is_own` says that the table is the queue's own.
+/// hands out as `last`. The table lies at the index `table` in RAM, whose base is `base`. It stops at a descriptor that breaks a
+/// rule, and after `room` of them. No more are decoded than `room`, nor, where the last one names a table, than are added and that
+/// one. `is_own` says that the table is the queue's own: descriptors of no other are kept.
 #[inline(always)]
 pub(crate) fn walk(
     base: u64,
@@ -36,6 +37,7 @@ pub(crate) fn walk(
     ensures each { WhereTable result (decoder.new.decoded + segment_count chain.old ≤ decoder.old.decoded + segment_count chain.new + 1) }
     ensures left { WhereTable result (segment_count chain.new < segment_count chain.old + room) }
     ensures rises { decoder.old.decoded ≤ decoder.new.decoded }
+    ensures apart { is_own ≡ false → decoder.new.places ≡ decoder.old.places }
 {
     let len = ram.len();
     let mut index = first;

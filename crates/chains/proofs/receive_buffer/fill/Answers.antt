@@ -20,6 +20,6 @@ returns-clause-filled g c =
       ring_is = search rules;
       items_are = record {
         log_is = rw (after_touched g.L.TouchLog.after c.args.log.now us last, ← all) (search rules);
-        rises = rises_touched us last c.args.ram.now c.copy_in.new.ram c.publish.new.ram (rw (← all) (search rules)) (search rules);
+        rises = rises_touched us last c.args.ram.now c.copy_in_with_base.new.ram c.publish.new.ram (rw (← all) (search rules)) (search rules);
       };
     }

@@ -20,6 +20,6 @@ returns-clause-filled g c =
       ring_is = search rules;
       items_are = record {
         log_is = rw (length-append front back, parts, ← told_three g.L.TouchLog.after c.args.log.now us vs last) (search rules);
-        rises = rw (length-append front back, parts) (rises_three us vs last c.args.ram.now c.copy_in.new.ram c.copy_in-2.new.ram c.publish.new.ram (search rules) (search rules) (search rules));
+        rises = rw (length-append front back, parts) (rises_three us vs last c.args.ram.now c.copy_in_with_base.new.ram c.copy_in_with_base-2.new.ram c.publish.new.ram (search rules) (search rules) (search rules));
       };
     }

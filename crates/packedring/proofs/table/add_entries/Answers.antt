@@ -1,4 +1,4 @@
-use Rattle.std.proofs.Common.{sym, refl, zero-add, arith}
+use Rattle.std.proofs.Common.{sym, refl, ◌∙◌, zero-add, arith}
 use Rattle.chains.specs.PackedChain.{entries_from}
 use Rattle.chains.specs.ChainLaws.{length_entries}
 use Rattle.chains.specs.HeldLaws.{held_none}
@@ -12,6 +12,7 @@ loop-index-init c = record {
   fits = c.requires.fits;
   few = omega arith;
   rises = omega arith;
+  apart = refl;
 }
 
 pub returns-in-Missing-clause-gives : goal.returns-in-Missing-clause-gives
@@ -38,4 +39,5 @@ loop-index-preserved c =
       fits = c.read-descriptor.ensures.fits;
       few = omega (arith, i.few, c.read-descriptor.ensures.few);
       rises = omega (arith, i.rises, c.read-descriptor.ensures.rises);
+      apart = c.read-descriptor.ensures.apart refl ∙ i.apart;
     }

@@ -11,4 +11,5 @@ invariant-loop-index l = record {
   fits : Fits l.decoder l.ram;
   few : l.decoder.decoded ≤ l.fn.decoder.decoded + l.index;
   rises : l.fn.decoder.decoded ≤ l.decoder.decoded;
+  apart : l.decoder.places ≡ l.fn.decoder.places;
 }

@@ -1,4 +1,4 @@
-use Rattle.std.proofs.Common.{◌++◌, rules, arith}
+use Rattle.std.proofs.Common.{◌++◌, ◌∙◌, refl, rules, arith}
 use Rattle.splitring.proofs.Leading.{walked_none, walked_more, walked_past, walked_full, walked_indirect, walked_broken, walked_long}
 use Rattle.splitring.proofs.walk.walk.Goals as goal
 
@@ -9,6 +9,7 @@ loop-step-init c = record {
   fits = c.requires.fits;
   few = omega arith;
   rises = omega arith;
+  apart = λ _. refl;
 }
 
 pub returns-then-index-entries-clause-gives : goal.returns-then-index-entries-clause-gives
@@ -40,6 +41,7 @@ loop-step-preserved c =
       fits = c.read-descriptor.ensures.fits;
       few = omega (arith, i.few, c.read-descriptor.ensures.few);
       rises = omega (arith, i.rises, c.read-descriptor.ensures.rises);
+      apart = λ other. c.read-descriptor.ensures.apart other ∙ i.apart other;
     }
 
 pub returns-clause-gives : goal.returns-clause-gives

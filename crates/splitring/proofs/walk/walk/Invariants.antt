@@ -1,4 +1,4 @@
-use Rattle.std.proofs.Common.{◌≡◌, ◌+◌, ◌≤◌, List, length}
+use Rattle.std.proofs.Common.{◌≡◌, ◌+◌, ◌≤◌, List, length, false}
 use Rattle.chains.specs.declared.descriptor.Descriptor.{Descriptor}
 use Rattle.chains.specs.Decoder.{Fits}
 use Rattle.chains.specs.Held.{AreHeld, segment_count}
@@ -12,4 +12,5 @@ invariant-loop-step l = record {
   fits : Fits l.decoder l.ram;
   few : l.decoder.decoded ≤ l.fn.decoder.decoded + l._step;
   rises : l.fn.decoder.decoded ≤ l.decoder.decoded;
+  apart : l.is_own ≡ false → l.decoder.places ≡ l.fn.decoder.places;
 }

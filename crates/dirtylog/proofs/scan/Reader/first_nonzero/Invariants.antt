@@ -8,6 +8,7 @@ invariant-lanes l = record {
   within : l.i ≤ length l.words;
   zeros : AreZeroBetween l.words l.fn.from l.i;
   counted : l.self.looked + l.fn.from ≤ l.fn.self.looked + l.i;
+  through : l.fn.self.looked + l.i ≤ l.self.looked + l.fn.from;
 }
 
 abbrev pub decreases-lanes : goal.decreases-lanes
@@ -19,6 +20,7 @@ invariant-rest l = record {
   within : l.i ≤ length l.words;
   zeros : AreZeroBetween l.words l.fn.from l.i;
   counted : l.self.looked + l.fn.from ≤ l.fn.self.looked + l.i + 8;
+  through : l.fn.self.looked + l.i ≤ l.self.looked + l.fn.from;
 }
 
 abbrev pub decreases-rest : goal.decreases-rest

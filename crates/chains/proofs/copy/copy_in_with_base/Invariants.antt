@@ -5,7 +5,7 @@ use Rattle.guestmem.specs.Memory.{Memory}
 use Rattle.guestmem.specs.Rises.{Rises}
 use Rattle.guestmem.specs.Writes.{set_all, touched}
 use Rattle.chains.specs.Places.{places, place_writes}
-use Rattle.chains.proofs.copy.copy_in.Given as goal
+use Rattle.chains.proofs.copy.copy_in_with_base.Given as goal
 
 abbrev pub invariant-loop-seg : goal.invariant-loop-seg
 invariant-loop-seg g l = record {

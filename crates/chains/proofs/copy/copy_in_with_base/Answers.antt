@@ -11,7 +11,7 @@ use Rattle.chains.specs.EffectLaws.{after_touched, rises_touched}
 use Rattle.chains.specs.PlaceLaws.{place_writes_take}
 use Rattle.chains.specs.Places.{places, place_writes}
 use Rattle.chains.proofs.Copies.{length_here, passed, segment_writes, first_writes}
-use Rattle.chains.proofs.copy.copy_in.Goals as goal
+use Rattle.chains.proofs.copy.copy_in_with_base.Goals as goal
 
 pub loop-seg-preserved-then-skip-len : goal.loop-seg-preserved-then-skip-len
 loop-seg-preserved-then-skip-len g c =

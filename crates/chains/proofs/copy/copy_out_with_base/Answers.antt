@@ -1,7 +1,7 @@
 use Rattle.std.proofs.Common.{◌∙◌, sym}
 use Rattle.chains.specs.declared.segs.Seg.{Seg}
 use Rattle.chains.proofs.Copies.{first_bytes}
-use Rattle.chains.proofs.copy.copy_out.Goals as goal
+use Rattle.chains.proofs.copy.copy_out_with_base.Goals as goal
 
 pub returns-then-holds : goal.returns-then-holds
 returns-then-holds c =
