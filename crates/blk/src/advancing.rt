@@ -49,17 +49,19 @@ pub enum Advanced {
 
 impl Requests {
     /// Advances the k-th outstanding request, from 0, by one unit, or ends it. It takes no memory. Sectors are reported
-    /// to the log under the number `device`.
+    /// to the log under the number `device`. RAM begins at the guest-physical address `base`.
     pub fn advance<R: Ring, D: Disk, L: TouchLog>(
         &mut self,
         k: usize,
         ring: &mut R,
+        base: u64,
         shape: &BlockShape,
         sectors: &mut Sectors<D>,
         device: u8,
         ram: &mut Ram,
         log: &mut L,
     ) -> Advanced
+        requires base { base ≡ (R.state ring.old).base }
         requires ready { MayServe L.may (length ram.old.bytes) (R.state ring.old) log.old }
         requires capacity { length sectors.old.content ≡ shape.now.sectors }
         requires sound { AreSound (length ram.old.bytes) (R.state ring.old) shape.now self.old }
@@ -77,13 +79,12 @@ impl Requests {
             return Advanced::Idle;
         }
         if self.list[k].is_open() {
-            let base = ring.base();
             let moved = move_unit(&mut self.list[k], shape, sectors, device, base, ram, log);
             sectors.recall();
             return moved;
         }
         sectors.recall();
-        let completed = complete(ring, &self.list[k], ram, log);
+        let completed = complete(ring, base, &self.list[k], ram, log);
         self.remove(k);
         completed
     }
@@ -94,10 +95,12 @@ impl Requests {
 #[inline(always)]
 fn complete<R: Ring, L: TouchLog>(
     ring: &mut R,
+    base: u64,
     request: &Request,
     ram: &mut Ram,
     log: &mut L,
 ) -> Advanced
+    requires base { base ≡ (R.state ring.old).base }
     requires ready { MayServe L.may (length ram.old.bytes) (R.state ring.old) log.old }
     requires slots { request.now.slots ≤ (R.state ring.old).size }
     requires segments { AreSegmentsInside (R.state ring.old).base (length ram.old.bytes) request.now.writable }
@@ -114,7 +117,6 @@ fn complete<R: Ring, L: TouchLog>(
 {
     let count = request.writable.total_len();
     let segs = request.writable.as_slice();
-    let base = ring.base();
     copy_in_last(ram, base, segs, request.verdict.byte(), log);
     let len = used_len(request, count);
     let is_due = ring.publish(request.id, request.slots, len, true, ram, log);

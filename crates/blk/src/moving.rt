@@ -19,7 +19,7 @@ use crate::disk::{Disk, SECTOR_SIZE};
 use crate::request::{HEADER_SIZE, Kind, Request, Verdict};
 use crate::sectors::{Fetched, Sectors};
 use crate::shape::{BlockShape, ID_SIZE};
-use chains::{copy_in, copy_out};
+use chains::{copy_in_with_base, copy_out_with_base};
 use guestmem::{Ram, TouchLog, recall_bytes};
 
 /// Reads one sector into the writable bytes of a request.
@@ -56,7 +56,7 @@ fn move_in<D: Disk, L: TouchLog>(
         }
         Fetched::Read => {
             recall_bytes(&buffer);
-            copy_in(
+            copy_in_with_base(
                 ram,
                 base,
                 request.writable.as_slice(),
@@ -92,7 +92,7 @@ fn move_out<D: Disk, L: TouchLog>(
     ensures after { HasServed L.may ram.old ram.new log.new }
 {
     let mut buffer = [0; SECTOR_SIZE];
-    copy_out(
+    copy_out_with_base(
         ram,
         base,
         request.readable.as_slice(),
@@ -187,7 +187,7 @@ fn move_id<L: TouchLog>(
     ensures rises { Rises (touched (move_id base id.now request.old).writes) ram.old ram.new }
     ensures after { HasServed L.may ram.old ram.new log.new }
 {
-    copy_in(ram, base, request.writable.as_slice(), 0, id, log);
+    copy_in_with_base(ram, base, request.writable.as_slice(), 0, id, log);
     request.done += 1;
     Advanced::Moved
 }

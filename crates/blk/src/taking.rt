@@ -13,7 +13,7 @@ use crate::request::{HEADER_SIZE, Request, SEGMENT_SIZE, TYPE_WRITE_ZEROES};
 use crate::requests::{REQUESTS_MAX, Requests};
 use crate::shape::BlockShape;
 use crate::task::{Task, task_of, type_of};
-use chains::{Chain, NextKind, Ring, Wanted, copy_out, look};
+use chains::{Chain, NextKind, Ring, Wanted, copy_out_with_base, look};
 use guestmem::{NoMemory, Ram, TouchLog};
 use std::alloc::Global;
 
@@ -32,17 +32,20 @@ pub enum Taken {
 
 impl Requests {
     /// Takes the next request of the queue, where there is room for one: its header is read now, and its segments are
-    /// kept. Its only error is out of memory for the chain, and then nothing has changed.
+    /// kept. RAM begins at the guest-physical address `base`. Its only error is out of memory for the chain, and then nothing has
+    /// changed.
     #[inline(never)]
     pub fn take<R: Ring, L: TouchLog>(
         &mut self,
         alloc: Global,
         ring: &mut R,
+        base: u64,
         shape: &BlockShape,
         ram: &mut Ram,
         log: &mut L,
     ) -> Result<Taken, NoMemory>
         requires room { length self.old < REQUESTS_MAX }
+        requires base { base ≡ (R.state ring.old).base }
         requires ready { MayLook L.may ram.old (R.state ring.old) (R.decoder ring.old) log.old }
         requires sound { AreSound (length ram.old.bytes) (R.state ring.old) shape.now self.old }
         ensures taken { IfOk result (λ answer. IsTaken (Touches L.after log.old log.new ram.old ram.new) ram.old.bytes (R.state ring.old) shape.now self.old answer ram.new.bytes (R.state ring.new) self.new) }
@@ -63,7 +66,6 @@ impl Requests {
             NextKind::Empty => Ok(Taken::Empty),
             NextKind::Malformed => Ok(Taken::Malformed),
             NextKind::Chain => {
-                let base = ring.base();
                 let task = task_for(base, ram, shape, &chain);
                 ring.take(&chain);
                 self.push(request_for(chain, task));
@@ -84,7 +86,7 @@ fn task_for(base: u64, ram: &Ram, shape: &BlockShape, chain: &Chain) -> Task
     ensures { result ≡ task_for base ram.now.bytes shape.now chain.now }
 {
     let mut header = [0; HEADER_SIZE];
-    copy_out(ram, base, chain.readable.as_slice(), 0, &mut header);
+    copy_out_with_base(ram, base, chain.readable.as_slice(), 0, &mut header);
     let segment = segment_for(base, ram, &header, chain);
     task_of(
         &header,
@@ -112,7 +114,7 @@ fn segment_for(
     {
         return segment;
     }
-    copy_out(
+    copy_out_with_base(
         ram,
         base,
         chain.readable.as_slice(),

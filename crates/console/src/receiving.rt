@@ -31,17 +31,19 @@ pub enum Received {
     },
 }
 
-/// Gives the first of the bytes held to the next chain, as many as it takes, and publishes it. Its only error is out of
-/// memory for the chain, and then nothing has changed.
+/// Gives the first of the bytes held to the next chain, as many as it takes, and publishes it. RAM begins at the guest-physical
+/// address `base`. Its only error is out of memory for the chain, and then nothing has changed.
 #[inline(never)]
 pub fn receive<R: Ring, L: TouchLog>(
     alloc: Global,
     ring: &mut R,
+    base: u64,
     held: &mut HostBytes,
     ram: &mut Ram,
     log: &mut L,
 ) -> Result<Received, NoMemory>
     requires ready { MayLook L.may ram.old (R.state ring.old) (R.decoder ring.old) log.old }
+    requires base { base ≡ (R.state ring.old).base }
     ensures received { IfOk result (λ answer. IsReceived (Touches L.after log.old log.new ram.old ram.new) ram.old.bytes (R.state ring.old) held.old answer ram.new.bytes (R.state ring.new) held.new) }
     ensures memory { OnErr result (IsLongQueue ram.old.bytes (R.state ring.old)) }
     ensures untouched { OnErr result (IsUntouched ram.old ram.new (R.state ring.old) (R.state ring.new) log.old log.new) }
@@ -52,7 +54,7 @@ pub fn receive<R: Ring, L: TouchLog>(
     match look(ring, Wanted::Room, &mut chain, ram, log) {
         NextKind::Empty => Ok(Received::Empty),
         NextKind::Malformed => Ok(Received::Malformed),
-        NextKind::Chain => Ok(give(ring, held, &chain, ram, log)),
+        NextKind::Chain => Ok(give(ring, base, held, &chain, ram, log)),
         NextKind::NoMemory => Err(NoMemory),
     }
 }
@@ -62,6 +64,7 @@ pub fn receive<R: Ring, L: TouchLog>(
 #[tactic(auto, unfolding(crate::specs::Receive::give))]
 fn give<R: Ring, L: TouchLog>(
     ring: &mut R,
+    base: u64,
     held: &mut HostBytes,
     chain: &Chain,
     ram: &mut Ram,
@@ -69,6 +72,7 @@ fn give<R: Ring, L: TouchLog>(
 ) -> Received
     requires ready { MayServe L.may (length ram.old.bytes) (R.state ring.old) log.old }
     requires bounded { IsBounded (length ram.old.bytes) (R.state ring.old) chain.now }
+    requires base { base ≡ (R.state ring.old).base }
     ensures answer { result ≡ (give ram.old.bytes (R.state ring.old) held.old chain.now).answer }
     ensures changes { IsAfter (Touches L.after log.old log.new ram.old ram.new) ram.old.bytes (give ram.old.bytes (R.state ring.old) held.old chain.now) ram.new.bytes (R.state ring.new) held.new }
     ensures after { HasServed L.may ram.old ram.new log.new }
@@ -79,7 +83,7 @@ fn give<R: Ring, L: TouchLog>(
     let (front, back) = held.as_slices();
     let first = front.len().min(count);
     let (front, back) = (&front[..first], &back[..count - first]);
-    let is_due = fill_in_parts(ring, chain, front, back, ram, log);
+    let is_due = fill_in_parts(ring, base, chain, front, back, ram, log);
     held.take_out(count);
     let len = count as u32;
     Received::Completed { len, is_due }

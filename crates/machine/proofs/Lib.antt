@@ -34,3 +34,4 @@ pub mod Honest
 pub mod Keeping
 pub mod Alike
 pub mod Unsynced
+pub mod OfShapes

@@ -1,12 +1,13 @@
 -- What follows for every effect.
-use Rattle.std.specs.Prelude.{◌≡◌, ℕ, ◌*◌, ◌<◌, List, length, map, All, Option, Some, None, slice_get}
+use Rattle.std.specs.Prelude.{◌≡◌, ℕ, ◌*◌, ◌<◌, List, length, map, All, Option, Some, None, slice_get, slice_index_or}
 use Rattle.guestmem.specs.Item.{Item, page, sector}
 use Rattle.guestmem.specs.Laws.{Among}
 use Rattle.guestmem.specs.Page.{page_of}
 use Rattle.blk.specs.Sectors.{Sector}
 use Rattle.machine.specs.State.{MachineState, DeviceState}
 use Rattle.machine.specs.Effect.{Effect, Replacement, applied, items_of}
-use Rattle.machine.specs.Shapes.{made_as}
+use Rattle.machine.specs.Shapes.{made_as, sector_count}
+use Rattle.machine.specs.declared.shape.Shape.{Shape}
 
 -- The sectors of a device's disk.
 abbrev pub sectors_on : MachineState → ℕ → Option (List Sector)
@@ -29,6 +30,10 @@ UntouchedStays = (m : MachineState) (e : Effect) (i : Item) → ¬ (Among (items
 abbrev pub HasItem : MachineState → Item → Type 0
 HasItem m (page n) = 4096 * n < length m.ram
 HasItem m (sector dev n) = (content : Sector) × (sector_on (sectors_on m dev) n ≡ Some content)
+
+-- A machine whose devices have these shapes has the sectors that the shapes name.
+abbrev pub HasSectorsOf : List Shape → MachineState → Type 0
+HasSectorsOf shapes m = (dev n : ℕ) (shape : Shape) → dev < length shapes → shape ≡ slice_index_or shapes dev shape → n < sector_count shape → HasItem m (sector dev n)
 
 -- An effect that a machine can have: it writes inside RAM, sets sectors that exist, and replaces an existing device by one of
 -- the same shape.

@@ -19,6 +19,7 @@ pub mod Parked
 pub mod Parts
 pub mod QueuePositions
 pub mod Refusal
+pub mod Room
 pub mod Run
 pub mod Seen
 pub mod Shapes

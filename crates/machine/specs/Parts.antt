@@ -1,5 +1,5 @@
 -- What a machine is made of besides its disks.
-use Rattle.std.specs.Prelude.{◌≡◌, ◌≤◌, ℕ, List, [], map, Bool, Option}
+use Rattle.std.specs.Prelude.{◌≡◌, ℕ, List, map, Bool, Option}
 use denote.RawPtr.{Ptr}
 use Rattle.blk.specs.Disk.{DiskState}
 use Rattle.machine.specs.First.{AreMarksOf, marked_sectors, saved_machine}
@@ -16,11 +16,6 @@ pub record PartsSeen : Type 0 where
   pub shapes : List Shape
   pub states : List DeviceState
   pub bad : List (List Bool)
-
--- An empty list with room for at least `count` items.
-pub record HasRoom {T : Type 0} (count : ℕ) (items : List T) (capacity : ℕ) : Type 0 where
-  pub none : items ≡ []
-  pub room : count ≤ capacity
 
 -- The machine that these parts and these disks make.
 abbrev pub machine_of : PartsSeen → List DiskState → MachineState

@@ -35,7 +35,7 @@ impl AnyRing {
             is_ready: false,
             is_notified: false,
         };
-        AnyRing::Split(SplitRing::new(alloc, &queue, 0, 0, Positions::FIRST))
+        AnyRing::Split(SplitRing::new(alloc, &queue, 0, Positions::FIRST))
     }
 
     /// Makes it the ring of a queue at these positions, under the features that the driver accepted, in a RAM with this base:

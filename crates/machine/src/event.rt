@@ -33,9 +33,9 @@ pub enum Event {
     },
 
     /// A device does one piece of its work, which the pick names. For a block device pick 0 takes the next request of its
-    /// queue, and pick k, from 1 to 8, advances the k-th outstanding request in the order of taking. For an entropy device
-    /// pick 0 serves the next buffer of its queue 0. For a network device and a console pick 0 serves the next receive
-    /// buffer, and pick 1 takes the next message to be sent. A pick that names nothing is answered `Idle`.
+    /// queue (none while 8 are outstanding), and pick k, from 1 to 8, advances the k-th outstanding request in the order of
+    /// taking. For an entropy device pick 0 serves the next buffer of its queue 0. For a network device and a console pick 0
+    /// serves the next receive buffer, and pick 1 takes the next message to be sent. A pick that names nothing is answered `Idle`.
     Step {
         dev: u8,
         pick: u8,

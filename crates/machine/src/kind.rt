@@ -211,8 +211,8 @@ impl Kind {
         }
     }
 
-    /// Serves the queue `number`. The bytes of a message that it sends go into the buffer. Its only error is out of memory, and then
-    /// nothing has changed.
+    /// Serves the queue `number`, in a RAM that begins at the guest-physical address `base`. The bytes of a message that it sends go
+    /// into the buffer. Its only error is out of memory, and then nothing has changed.
     #[inline(always)]
     pub(crate) fn serve<R: Ring, L: TouchLog>(
         &mut self,
@@ -220,11 +220,13 @@ impl Kind {
         features: u64,
         number: u8,
         ring: &mut R,
+        base: u64,
         sent: &mut Vec<u8>,
         ram: &mut Ram,
         log: &mut L,
     ) -> Result<Answered, NoMemory>
         requires ready { MayLook L.may ram.old (R.state ring.old) (R.decoder ring.old) log.old }
+        requires base { base ≡ (R.state ring.old).base }
         requires room { has_work self.old number ≡ true }
         requires sound { AreSound (length ram.old.bytes) (R.state ring.old) (block_of (made_as self.old) features) (requests_of self.old) }
         ensures served { IfOk result (λ answered. IsServed (Touches L.after log.old log.new ram.old ram.new) ram.old.bytes (R.state ring.old) features self.old number (served_in answered sent.new.items) ram.new.bytes (R.state ring.new) self.new) }
@@ -237,35 +239,40 @@ impl Kind {
         match self {
             Kind::Network { inbox, .. } => {
                 if number > 0 {
-                    return Ok(served_message(net::transmit(alloc, ring, sent, ram, log)?));
+                    return Ok(served_message(net::transmit(alloc, ring, base, sent, ram, log)?));
                 }
-                Ok(served_frame(net::receive(alloc, ring, inbox, ram, log)?))
+                Ok(served_frame(net::receive(alloc, ring, base, inbox, ram, log)?))
             }
             Kind::Block { requests, .. } => {
-                Ok(served_taking(requests.take(alloc, ring, &shape, ram, log)?))
+                Ok(served_taking(requests.take(alloc, ring, base, &shape, ram, log)?))
             }
             Kind::Console { held, .. } => {
                 if number > 0 {
-                    return Ok(served_message(console::transmit(alloc, ring, sent, ram, log)?));
+                    return Ok(served_message(console::transmit(
+                        alloc, ring, base, sent, ram, log,
+                    )?));
                 }
-                Ok(served(receive(alloc, ring, held, ram, log)?))
+                Ok(served(receive(alloc, ring, base, held, ram, log)?))
             }
-            Kind::Entropy(pool) => Ok(served(receive(alloc, ring, pool, ram, log)?)),
+            Kind::Entropy(pool) => Ok(served(receive(alloc, ring, base, pool, ram, log)?)),
         }
     }
 
-    /// Advances the k-th outstanding request, from 0, by one unit, or ends it. A device that is no block device has none.
+    /// Advances the k-th outstanding request, from 0, by one unit, or ends it, in a RAM that begins at the guest-physical address
+    /// `base`. A device that is no block device has none.
     pub(crate) fn advance<R: Ring, D: Disk, L: TouchLog>(
         &mut self,
         features: u64,
         k: usize,
         ring: &mut R,
+        base: u64,
         sectors: &mut Sectors<D>,
         device: u8,
         ram: &mut Ram,
         log: &mut L,
     ) -> Advanced
         requires ready { MayServe L.may (length ram.old.bytes) (R.state ring.old) log.old }
+        requires base { base ≡ (R.state ring.old).base }
         requires capacity { length sectors.old.content ≡ sector_count (made_as self.old) }
         requires sound { AreSound (length ram.old.bytes) (R.state ring.old) (block_of (made_as self.old) features) (requests_of self.old) }
         requires may_sectors { MaySectors L.may log.old device (length sectors.old.content) }
@@ -281,7 +288,7 @@ impl Kind {
         let shape = self.as_block(features);
         match self {
             Kind::Block { requests, .. } => {
-                requests.advance(k, ring, &shape, sectors, device, ram, log)
+                requests.advance(k, ring, base, &shape, sectors, device, ram, log)
             }
             Kind::Network { .. } | Kind::Console { .. } | Kind::Entropy(_) => {
                 sectors.recall();

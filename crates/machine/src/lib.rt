@@ -34,14 +34,16 @@
 //! - `next_work(last)` names the next step that has something to do, in turn after `last` (`specs/NextWork`). Where it names
 //!   none, every step of every device is idle; a step that it names is not idle, or has cleared the notified flag of its queue.
 //!   It reads no RAM.
-//! - `read_sector` gives a sector, or says that it is bad, and then makes no call of the disk. `next_bad` names the next bad
+//! - `has_sector` tells whether a device has a disk with a sector of some number: one has those that its shape names, as `shapes` says.
+//!   `read_sector` gives such a sector, or says that it is bad, and then makes no call of the disk. `next_bad` names the next bad
 //!   sector of a disk, and `read_good_sector` reads one that is not bad, with no look at the marks.
 //! - `play(events)` is a run of steps (`specs/Run`), with a reply to each: one event after another is applied. Where it is refused
 //!   memory, nothing was played.
 //! - `Machine::new` gives zeros and first values, or the first of its refusals; `new_or_back` also gives the disks back.
 //!   RAM begins at a guest-physical address, its base: at 0 there, and at the address that `new_at` and `new_over_at` are given. All
 //!   addresses of the guest count from it, and all devices of a machine hold the same one (`specs/Sound`).
-//!   `restore` gives the machine of what was saved. Every machine is sound (`specs/Sound`), and stays so. `lines` is the
+//!   `restore` gives the machine of what was saved. Where the memory for that is to be had early, `Room::new` takes it, and
+//!   `restore_in` takes no more and cannot fail. Every machine is sound (`specs/Sound`), and stays so. `lines` is the
 //!   interrupt lines.
 //! - `Machine::new_over` is `new` over a `region::Region`: RAM is the bytes that lie there, which stay where they are. A refusal gives
 //!   the region and the disks back.
@@ -81,7 +83,7 @@ pub use event::Event;
 pub use fitting::are_disks_of;
 pub use guestmem::Bytes;
 pub use kind::Kind;
-pub use machine::{DEVICES_MAX, Machine, Parked, is_base};
+pub use machine::{DEVICES_MAX, Machine, Parked, Room, is_base};
 pub use new_error::NewError;
 pub use reply::{Refusal, Reply};
 pub use shape::Shape;

@@ -8,6 +8,7 @@ mod lending;
 mod making;
 mod next_work;
 mod parts;
+mod room;
 mod unsynced;
 
 use crate::any_ring::AnyRing;
@@ -17,6 +18,7 @@ use blk::Disk;
 use guestmem::Ram;
 pub use lending::Parked;
 pub use making::is_base;
+pub use room::Room;
 use std::alloc::Global;
 use std::marker::Model;
 

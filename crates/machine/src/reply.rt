@@ -12,7 +12,7 @@ pub enum Refusal {
     /// There is no device of this number.
     NoDevice,
 
-    /// The access reaches past the end of RAM.
+    /// The access does not lie in RAM: it begins below RAM's base or reaches past its end.
     OutOfRam,
 
     /// The access is of more than 4,096 bytes. This is reported before `OutOfRam`.

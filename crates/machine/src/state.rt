@@ -73,7 +73,7 @@ impl DeviceState {
         let kind = Kind::new(alloc, shape)?;
         Ok(DeviceState {
             kind,
-            registers: Regs::new(
+            registers: Regs::new_at(
                 device_id(shape),
                 offered(shape),
                 queue_count(shape),
@@ -84,7 +84,8 @@ impl DeviceState {
         })
     }
 
-    /// A device as it was saved, in a machine whose RAM has `ram_len` bytes from the address `ram_base` on. The caller makes sure that it is sound.
+    /// A device as it was saved, in a machine whose RAM has `ram_len` bytes from the address `ram_base` on. The caller makes sure that
+    /// it is sound.
     pub fn restored(
         ram_base: u64,
         ram_len: u64,
@@ -97,7 +98,7 @@ impl DeviceState {
         ensures { result ≡ saved_device ram_base ram_len kind common queues.now (take (length queues.now) positions) }
     {
         let shape = kind.shape();
-        let mut registers = Regs::new(
+        let mut registers = Regs::new_at(
             device_id(shape),
             offered(shape),
             queue_count(shape),
@@ -292,7 +293,11 @@ impl DeviceState {
         ensures fits { Fits (R.decoder ring.new) ram.new }
     {
         let features = self.registers.features();
-        match self.kind.serve(alloc, features, pick, ring, sent, ram, log) {
+        let base = self.registers.ram_base();
+        match self
+            .kind
+            .serve(alloc, features, pick, ring, base, sent, ram, log)
+        {
             Ok(answered) => {
                 let stepped = tell(&mut self.registers, pick, answered);
                 self.positions[pick as usize] = ring.positions();
@@ -356,9 +361,10 @@ impl DeviceState {
     {
         let k = pick as usize - 1;
         let features = self.registers.features();
+        let base = self.registers.ram_base();
         let advanced = self
             .kind
-            .advance(features, k, ring, sectors, device, ram, log);
+            .advance(features, k, ring, base, sectors, device, ram, log);
         self.positions[0] = ring.positions();
         raise_if(&mut self.registers, is_due(advanced));
         reply_to_advance(advanced)

@@ -36,17 +36,19 @@ pub enum Received {
     },
 }
 
-/// Gives a header, followed by the oldest frame, to the next chain, and publishes it. Its only error is out of memory for
-/// the chain, and then nothing has changed.
+/// Gives a header, followed by the oldest frame, to the next chain, and publishes it. RAM begins at the guest-physical address
+/// `base`. Its only error is out of memory for the chain, and then nothing has changed.
 #[inline(never)]
 pub fn receive<R: Ring, L: TouchLog>(
     alloc: Global,
     ring: &mut R,
+    base: u64,
     inbox: &mut Inbox,
     ram: &mut Ram,
     log: &mut L,
 ) -> Result<Received, NoMemory>
     requires ready { MayLook L.may ram.old (R.state ring.old) (R.decoder ring.old) log.old }
+    requires base { base ≡ (R.state ring.old).base }
     requires waiting { 0 < length inbox.old }
     ensures received { IfOk result (λ answer. IsReceived (Touches L.after log.old log.new ram.old ram.new) ram.old.bytes (R.state ring.old) inbox.old answer ram.new.bytes (R.state ring.new) inbox.new) }
     ensures memory { OnErr result (IsLongQueue ram.old.bytes (R.state ring.old)) }
@@ -58,7 +60,7 @@ pub fn receive<R: Ring, L: TouchLog>(
     match look(ring, Wanted::Room, &mut chain, ram, log) {
         NextKind::Empty => Ok(Received::Empty),
         NextKind::Malformed => Ok(Received::Malformed),
-        NextKind::Chain => Ok(give_first(ring, inbox, &chain, ram, log)),
+        NextKind::Chain => Ok(give_first(ring, base, inbox, &chain, ram, log)),
         NextKind::NoMemory => Err(NoMemory),
     }
 }
@@ -69,6 +71,7 @@ pub fn receive<R: Ring, L: TouchLog>(
 #[tactic(auto, unfolding(crate::specs::Receive::give, crate::specs::Header::header))]
 fn give_first<R: Ring, L: TouchLog>(
     ring: &mut R,
+    base: u64,
     inbox: &mut Inbox,
     chain: &Chain,
     ram: &mut Ram,
@@ -76,6 +79,7 @@ fn give_first<R: Ring, L: TouchLog>(
 ) -> Received
     requires ready { MayServe L.may (length ram.old.bytes) (R.state ring.old) log.old }
     requires bounded { IsBounded (length ram.old.bytes) (R.state ring.old) chain.now }
+    requires base { base ≡ (R.state ring.old).base }
     requires waiting { 0 < length inbox.old }
     ensures answer { result ≡ (give_first ram.old.bytes (R.state ring.old) inbox.old chain.now).answer }
     ensures changes { IsAfter (Touches L.after log.old log.new ram.old ram.new) ram.old.bytes (give_first ram.old.bytes (R.state ring.old) inbox.old chain.now) ram.new.bytes (R.state ring.new) inbox.new }
@@ -88,7 +92,7 @@ fn give_first<R: Ring, L: TouchLog>(
         inbox.remove_first();
         return Received::Dropped;
     }
-    let is_due = fill(ring, chain, frame, ram, log);
+    let is_due = fill(ring, base, chain, frame, ram, log);
     inbox.remove_first();
     Received::Completed {
         len: len as u32,

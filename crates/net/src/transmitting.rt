@@ -20,20 +20,22 @@ const FRAME: MessageForm = MessageForm {
     most: (HEADER_SIZE + FRAME_MAX) as u32,
 };
 
-/// Reads the frame of the next chain of the transmit queue, and publishes the chain. Its only error is out of memory, for
-/// the chain or for the frame, and then nothing has changed.
+/// Reads the frame of the next chain of the transmit queue, and publishes the chain. RAM begins at the guest-physical address `base`.
+/// Its only error is out of memory, for the chain or for the frame, and then nothing has changed.
 pub fn transmit<R: Ring, L: TouchLog>(
     alloc: Global,
     ring: &mut R,
+    base: u64,
     message: &mut Vec<u8>,
     ram: &mut Ram,
     log: &mut L,
 ) -> Result<Transmitted, NoMemory>
     requires ready { MayLook L.may ram.old (R.state ring.old) (R.decoder ring.old) log.old }
+    requires base { base ≡ (R.state ring.old).base }
     ensures transmitted { IfOk result (λ answer. IsTransmitted (Touches L.after log.old log.new ram.old ram.new) ram.old.bytes (R.state ring.old) frame_form (sending_in answer message.new.items) ram.new.bytes (R.state ring.new)) }
     ensures memory { OnErr result (MayWantMemory ram.old.bytes (R.state ring.old) frame_form) }
     ensures untouched { OnErr result (IsUntouched ram.old ram.new (R.state ring.old) (R.state ring.new) log.old log.new) }
     ensures after { HasLooked L.may ram.old ram.new (R.decoder ring.new) log.new }
 {
-    chains::transmit(alloc, ring, FRAME, message, ram, log)
+    chains::transmit(alloc, ring, base, FRAME, message, ram, log)
 }

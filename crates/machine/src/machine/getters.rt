@@ -1,10 +1,10 @@
 //! What a machine is.
 
-ghost use Rattle.std.specs.Prelude.{◌≡◌, ◌<◌, ◌≤◌, ◌==◌, count_by, if◌then◌else◌, length, map, Some, slice_get};
+ghost use Rattle.std.specs.Prelude.{◌≡◌, ◌<◌, ◌≤◌, ◌==◌, ◌↔◌, IsTrue, count_by, if◌then◌else◌, length, map, Some, slice_get};
 ghost use Rattle.blk.specs.Sectors.{is_bad};
 ghost use Rattle.guestmem.specs.Item.{sector};
 ghost use Rattle.machine.specs.Applied.{ReadsSector};
-ghost use Rattle.machine.specs.EffectLaws.{HasItem};
+ghost use Rattle.machine.specs.EffectLaws.{HasItem, HasSectorsOf};
 ghost use Rattle.machine.specs.Seen.{state_of};
 ghost use Rattle.machine.specs.Lines.{lines_of};
 ghost use Rattle.machine.specs.Shapes.{made_as};
@@ -34,6 +34,7 @@ impl<D: Disk> Machine<D> {
     pub fn shapes(&self) -> &[Shape]
         ensures shapes { result.now ≡ map (λ d. made_as d.kind) (state_of self.now).devices }
         ensures sound { IsSound (state_of self.now) }
+        ensures sectors { HasSectorsOf result.now (state_of self.now) }
     {
         self.shapes.as_slice()
     }
@@ -54,8 +55,18 @@ impl<D: Disk> Machine<D> {
         self.devices[dev as usize].bad_count()
     }
 
-    /// Reads a sector of a device's disk. A bad sector is not read, and the result is `false`; then, and where the disk
-    /// fails, the buffer may hold anything.
+    /// Whether a device has a disk with a sector of this number.
+    pub fn has_sector(&self, dev: u8, n: u64) -> bool
+        ensures { IsTrue result ↔ HasItem (state_of self.now) (sector dev n) }
+    {
+        match self.shapes().get(dev as usize) {
+            Some(shape) => n < shape.sectors(),
+            None => false,
+        }
+    }
+
+    /// Reads a sector of a device's disk, one that it has: `has_sector` is the test. A bad sector is not read, and the result is
+    /// `false`; then, and where the disk fails, the buffer may hold anything.
     pub fn read_sector(
         &mut self,
         dev: u8,

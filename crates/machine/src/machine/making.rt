@@ -13,6 +13,7 @@ ghost use Rattle.machine.specs.declared.new_error.NewError.TheVariants as new_er
 
 use crate::fitting::are_disks_of;
 use crate::machine::parts::Parts;
+use crate::machine::room::Room;
 use crate::machine::{DEVICES_MAX, Machine};
 use crate::new_error::NewError;
 use crate::shape::Shape;
@@ -159,10 +160,8 @@ impl<D: Disk + Drop> Machine<D> {
         ensures sound { IfOk result (λ m. IsSound (state_of m)) }
         ensures place { IfOk result (λ m. m.memory.place ≡ ram.place) }
     {
-        match Machine::restore_or_back(alloc, ram, shapes, states, disks, bad) {
-            Ok(machine) => Ok(machine),
-            Err((_disks, _ram)) => Err(NoMemory),
-        }
+        let room = Room::new(alloc, states.len(), bad.len())?;
+        Ok(Machine::restore_in(room, ram, shapes, states, disks, bad))
     }
 
     /// As `restore`, but where memory is refused it gives the disks and the RAM back, as they were.
@@ -184,9 +183,38 @@ impl<D: Disk + Drop> Machine<D> {
         ensures disks { IfErr result (λ back. back.0.items ≡ disks.items) }
         ensures ram { IfErr result (λ back. back.1 ≡ ram) }
     {
-        match Parts::new(alloc, ram, shapes, states, bad) {
-            Ok(parts) => Ok(parts.with_disks(disks)),
-            Err(ram) => Err((disks, ram)),
+        match Room::new(alloc, states.len(), bad.len()) {
+            Ok(room) => Ok(Machine::restore_in(room, ram, shapes, states, disks, bad)),
+            Err(NoMemory) => Err((disks, ram)),
+        }
+    }
+
+    /// As `restore`, in memory that `room` holds already: it allocates nothing and cannot fail.
+    pub fn restore_in(
+        room: Room<D>,
+        ram: Ram,
+        shapes: Vec<Shape>,
+        states: Vec<DeviceState>,
+        disks: Vec<D>,
+        bad: Vec<BitSet>,
+    ) -> Machine<D>
+        requires sound { IsSound (saved_machine ram.bytes states.items (marked_sectors (map D.state disks.items) bad.items)) }
+        requires shapes { shapes.items ≡ map (λ d. made_as d.kind) states.items }
+        requires bad { AreMarksOf (map D.state disks.items) bad.items }
+        requires devices { room.devices ≡ length states.items }
+        requires disks { length bad.items ≤ room.disks }
+        ensures restored { state_of result ≡ saved_machine ram.bytes states.items (marked_sectors (map D.state disks.items) bad.items) }
+        ensures marks { all_marks result ≡ dealt_marks shapes.items (map (λ d. marks_in (D.state d)) disks.items) }
+        ensures sound { IsSound (state_of result) }
+        ensures place { result.memory.place ≡ ram.place }
+    {
+        let (alloc, devices, rings) = room.filled(states, disks, bad);
+        Machine {
+            alloc,
+            ram,
+            shapes,
+            devices,
+            rings,
         }
     }
 }
@@ -254,7 +282,13 @@ fn parts_over<D: Disk + Drop>(
     let Ok(shapes) = Vec::from_slice(alloc, shapes) else {
         return Err(region);
     };
-    Parts::over(alloc, region, shapes, states, bad)
+    let Ok(room) = Room::new(alloc, states.len(), bad.len()) else {
+        return Err(region);
+    };
+    match Ram::over(alloc, region) {
+        Ok(ram) => Ok(Parts::new(room, ram, shapes, states, bad)),
+        Err((_, region)) => Err(region),
+    }
 }
 
 /// The parts of a new machine for these disks. Its only error is out of memory.
@@ -276,10 +310,8 @@ fn first_parts<D: Disk + Drop>(
     let states = new_states(alloc, shapes, base, ram.len())?;
     let bad = good_marks(alloc, disks)?;
     let shapes = Vec::from_slice(alloc, shapes)?;
-    match Parts::new(alloc, ram, shapes, states, bad) {
-        Ok(parts) => Ok(parts),
-        Err(_ram) => Err(NoMemory),
-    }
+    let room = Room::new(alloc, states.len(), bad.len())?;
+    Ok(Parts::new(room, ram, shapes, states, bad))
 }
 
 /// Marks for each disk, by which none of its sectors is bad. It also states for proofs that the sectors are whole.

@@ -24,7 +24,7 @@ returns-then-is_open-clause-changes g c =
     let same : c.index.result.now ≡ r = c.index.ensures ∙ get_or_from_slice_get items c.args.k r c.index.result.now at in
     let found : slice_get c.args.self.now c.args.k ≡ Some r = rw (← c.self.view_is) at in
     let some : is_open r ≡ true = rw (← same) (sym c.is_open.ensures ∙ c.if-is_open.true) in
-    went_on _ c.args.sectors.now.honest c.args.device c.args.shape.now c.args.ram.now.bytes c.move_unit-moved.new.ram.bytes c.args.sectors.now.content c.move_unit-moved.new.sectors.content (g.R.Ring.state c.args.ring.now) (g.R.Ring.state c.args.ring.now) c.args.self.now _ c.args.k _ r c.move_unit-moved.new.request c.move_unit-moved.result found some (rw c.base-base.ensures at c.move_unit-moved.ensures.moved)
+    went_on _ c.args.sectors.now.honest c.args.device c.args.shape.now c.args.ram.now.bytes c.move_unit-moved.new.ram.bytes c.args.sectors.now.content c.move_unit-moved.new.sectors.content (g.R.Ring.state c.args.ring.now) (g.R.Ring.state c.args.ring.now) c.args.self.now _ c.args.k _ r c.move_unit-moved.new.request c.move_unit-moved.result found some (rw c.requires.base at c.move_unit-moved.ensures.moved)
     refl (rw (← c.self.view_is) refl)
 
 pub returns-clause-changes : goal.returns-clause-changes

@@ -1,6 +1,5 @@
 use Rattle.std.proofs.Common.{◌≡◌, ◌∙◌, ℕ, List, ap}
 use Rattle.guestmem.specs.Memory.{Memory}
-use Rattle.chains.specs.State.{RingState}
 use Rattle.blk.specs.Take.{header_of, segment_of, task_for}
 use Rattle.blk.proofs.Tasks.{taken_sound}
 use Rattle.blk.proofs.requests.Requests.take.Goals as goal
@@ -11,9 +10,8 @@ returns-in-Chain-clause-sound g c =
     let chain = c.look.new.chain in
     let shape = c.args.shape.now in
     let ram = c.args.ram.now.bytes in
-    let based : c.base-base.result ≡ q.base = c.base-base.ensures ∙ ap (λ (s : RingState). s.base) c.look.ensures.state in
     let same : c.look.new.ram.bytes ≡ ram = ap (λ (m : Memory). m.bytes) c.in-Chain.ensures.untouched.0 in
     let task : c.task_for-task.result ≡ task_for q.base ram shape chain =
-    c.task_for-task.ensures ∙ ap (λ (base : ℕ). task_for base c.look.new.ram.bytes shape chain) based ∙ ap (λ (bytes : List ℕ). task_for q.base bytes shape chain) same in
+    c.task_for-task.ensures ∙ ap (λ (base : ℕ). task_for base c.look.new.ram.bytes shape chain) c.requires.base ∙ ap (λ (bytes : List ℕ). task_for q.base bytes shape chain) same in
     let all = taken_sound _ q shape c.args.self.now (header_of q.base ram chain) (segment_of q.base ram chain) chain (rw c.request_for.ensures.request at c.request_for.ensures.fits) c.in-Chain.ensures.bounded c.in-Chain.ensures.gives.1 c.requires.sound in
     rw (c.push.ensures, c.request_for.ensures.request, task, c.take.ensures.state, c.look.ensures.state, c.in-Chain.ensures.untouched.0) all

@@ -1,7 +1,7 @@
 use Rattle.std.proofs.Common.{◌≡◌, ◌≤◌, ◌+◌, ◌++◌, length, vec_len}
 use Rattle.std.specs.Vec.{vec_capacity}
 use Rattle.machine.specs.First.{seen_devices}
-use Rattle.machine.proofs.machine.parts.with_sectors.Given as goal
+use Rattle.machine.proofs.machine.room.with_sectors.Given as goal
 
 abbrev pub invariant-loop-state : goal.invariant-loop-state
 invariant-loop-state g l = record {

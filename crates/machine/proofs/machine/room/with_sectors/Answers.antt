@@ -2,8 +2,8 @@ use Rattle.std.proofs.Common.{rules, arith, ◌≡◌, ◌∷◌, ◌∙◌, sym
 use Rattle.machine.specs.First.{seen_devices}
 use Rattle.machine.specs.Shapes.{disk_size_of, made_as}
 use Rattle.machine.proofs.Dealt.{next_with, next_without, first_taken, rest_taken, no_length}
-use Rattle.machine.proofs.machine.parts.with_sectors.Goals as goal
-use Rattle.machine.proofs.machine.parts.with_sectors.Goals.{in-Some-disk_size, in-None-disk_size}
+use Rattle.machine.proofs.machine.room.with_sectors.Goals as goal
+use Rattle.machine.proofs.machine.room.with_sectors.Goals.{in-Some-disk_size, in-None-disk_size}
 
 pub loop-state-preserved : goal.loop-state-preserved
 loop-state-preserved g c =

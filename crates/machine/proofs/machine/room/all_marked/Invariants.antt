@@ -1,7 +1,7 @@
 use Rattle.std.proofs.Common.{◌≡◌, ◌≤◌, ◌+◌, ◌++◌, length, map, vec_len}
 use Rattle.std.specs.Vec.{vec_capacity}
 use Rattle.machine.specs.First.{marked, AreMarksOf}
-use Rattle.machine.proofs.machine.parts.all_marked.Given as goal
+use Rattle.machine.proofs.machine.room.all_marked.Given as goal
 
 abbrev pub invariant-loop-disk : goal.invariant-loop-disk
 invariant-loop-disk g l = record {

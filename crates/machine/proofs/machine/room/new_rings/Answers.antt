@@ -3,7 +3,7 @@ use Rattle.std.proofs.lemmas.List.Elements.{All-push}
 use Rattle.chains.specs.Decoder.{Fits}
 use Rattle.machine.specs.AnyRing.{decoder_in}
 use Rattle.machine.specs.declared.any_ring.AnyRing.{AnyRing}
-use Rattle.machine.proofs.machine.parts.new_rings.Goals as goal
+use Rattle.machine.proofs.machine.room.new_rings.Goals as goal
 
 pub loop-device-preserved : goal.loop-device-preserved
 loop-device-preserved c =
