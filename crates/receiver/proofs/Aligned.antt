@@ -13,6 +13,7 @@ use Rattle.wire.proofs.Spelling.{head_same, tail_same, split_same, one_record, n
 use Rattle.wire.proofs.Unique.{cons_same, alike}
 use Rattle.receiver.specs.Good.{AreGood, Follows, IsNextDevice, devices_in}
 use Rattle.receiver.specs.Faults.{IsEarly, Opens, IsBadPage, IsLongZeros, IsBadSector, IsBadRound, IsBadHead, IsBadBody, IsBadDigest, IsTrailing, IsFault, IsFront, IsRecordFault}
+use Rattle.receiver.specs.declared.ram_terms.RamTerms.{RamTerms}
 use Rattle.receiver.specs.declared.recv_error.RecvError.{RecvError}
 use Rattle.receiver.proofs.Lists.{not_both_ways}
 use Rattle.receiver.proofs.Quiet.{no_page, quiet}
@@ -215,16 +216,16 @@ led_fault opening before others tail rest good goods none quiets (inl l) k place
 led_fault opening before others tail rest good goods none quiets (inr l) k place f = longer_off opening before others tail rest good quiets l.more l.all l.left k place f
 
 -- Two headers of the same bytes, of machines whose RAM begins at one address.
-pub one_opening : (bytes : List ℕ) (o p : Opened) (x y : List ℕ) → o.base ≡ p.base → Begins bytes o x → Begins bytes p y → (o ≡ p) × (x ≡ y)
+pub one_opening : (bytes : List ℕ) (o p : Opened) (x y : List ℕ) → o.ram ≡ p.ram → Begins bytes o x → Begins bytes p y → (o ≡ p) × (x ≡ y)
 one_opening bytes o p x y based a b =
     let t = alike (said_by o) (said_by p) x y (sym (header_of-spelled bytes (said_by o) x a) ∙ header_of-spelled bytes (said_by p) y b) in
-    let same : opened o.base (said_by o) ≡ opened p.base (said_by p) = ap (λ (b : ℕ). opened b (said_by o)) based ∙ ap (λ (h : Opening). opened p.base h) t.0 in
+    let same : opened o.ram (said_by o) ≡ opened p.ram (said_by p) = ap (λ (r : RamTerms). opened r (said_by o)) based ∙ ap (λ (h : Opening). opened p.ram h) t.0 in
     (same, t.1)
 
-pub no_record_fault : (base : ℕ) (sizes bytes : List ℕ) (opening : Opened) (before : List Record) (tail : List ℕ) → IsFront base sizes bytes opening before tail
+pub no_record_fault : (ram : RamTerms) (sizes bytes : List ℕ) (opening : Opened) (before : List Record) (tail : List ℕ) → IsFront ram sizes bytes opening before tail
     → ((r : Record) (y : List ℕ) → Follows opening before r → ¬ (tail ≡ spelled_record r ++ y)) → ((k : RecvError) (place : ℕ) → ¬ (IsFault opening before tail k place))
-    → (k : RecvError) (at : ℕ) → ¬ (IsRecordFault base sizes bytes k at)
-no_record_fault base sizes bytes opening before tail front none quiets k at h =
+    → (k : RecvError) (at : ℕ) → ¬ (IsRecordFault ram sizes bytes k at)
+no_record_fault ram sizes bytes opening before tail front none quiets k at h =
     let t = one_opening bytes h.opening opening (texts h.before ++ h.tail) (texts before ++ tail) (h.front.based ∙ sym front.based) h.front.begins front.begins in
     let goods : AreGood opening [] h.before = rw t.0 at h.front.good in
     let fault : IsFault opening h.before h.tail k h.place = rw t.0 at h.fault in

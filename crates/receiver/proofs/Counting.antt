@@ -12,12 +12,13 @@ use Rattle.receiver.specs.Faults.{IsFront, Fault}
 use Rattle.receiver.specs.Receiving.{IsFinish, IsTaken, HasRounds, NoNext, NoFault, RefusesSlice, TellsFault, TellsNow, rounds_in, has_failed}
 use Rattle.receiver.specs.declared.stage.Stage.{Stage}
 use Rattle.receiver.specs.declared.stage.Stage.TheVariants as stages
+use Rattle.receiver.specs.declared.ram_terms.RamTerms.{RamTerms}
 use Rattle.receiver.specs.declared.recv_error.RecvError.{RecvError}
 use Rattle.receiver.specs.declared.recv_error.RecvError.TheVariants as errors
 use Rattle.receiver.proofs.Aligned.{LongerRecords, one_opening, records_led, good_spell, next_good}
 use Rattle.receiver.proofs.Knowing.{come_of, no_other}
 use Rattle.receiver.proofs.Working.{front_at, front_of, commit_text, tells_more}
-use Rattle.receiver.specs.Opened.{Opened, said_by}
+use Rattle.receiver.specs.Opened.{Opened, ram_at, said_by}
 
 not_longer : (opening : Opened) (before others : List Record) (tail rest : List ℕ) → AreGood opening [] others → NoNext opening before tail → (more : List Record) → others ≡ before ++ more → tail ≡ texts more ++ rest → others ≡ before
 unfolding texts
@@ -31,33 +32,33 @@ as_long opening before others tail rest good goods none nothing (inl l) = not_lo
 as_long opening before others tail rest good goods none nothing (inr l) = sym (not_longer opening others before rest tail good nothing l.more l.all l.left)
 
 -- The whole good records of bytes are the same, wherever they are cut.
-pub same_records : (base : ℕ) (sizes b : List ℕ) (o p : Opened) (before others : List Record) (tail rest : List ℕ) → IsFront base sizes b o before tail → NoNext o before tail → IsFront base sizes b p others rest → NoNext p others rest → others ≡ before
-same_records base sizes b o p before others tail rest f none g nothing =
+pub same_records : (ram : RamTerms) (sizes b : List ℕ) (o p : Opened) (before others : List Record) (tail rest : List ℕ) → IsFront ram sizes b o before tail → NoNext o before tail → IsFront ram sizes b p others rest → NoNext p others rest → others ≡ before
+same_records ram sizes b o p before others tail rest f none g nothing =
     let t = one_opening b p o (texts others ++ rest) (texts before ++ tail) (g.based ∙ sym f.based) g.begins f.begins in
     let goods : AreGood o [] others = rw t.0 at g.good in
     let no_next : NoNext o others rest = rw t.0 at nothing in
     as_long o before others tail rest f.good goods none no_next (records_led before others tail rest (good_spell o [] before f.good) (good_spell o [] others goods) (sym t.1))
 
-rounds_by : (base : ℕ) (sizes b : List ℕ) (o : Opened) (before : List Record) (tail : List ℕ) (n : ℕ) → IsFront base sizes b o before tail → NoNext o before tail → n ≡ rounds before → HasRounds base sizes b n
-rounds_by base sizes b o before tail n f none e = record {
+rounds_by : (ram : RamTerms) (sizes b : List ℕ) (o : Opened) (before : List Record) (tail : List ℕ) (n : ℕ) → IsFront ram sizes b o before tail → NoNext o before tail → n ≡ rounds before → HasRounds ram sizes b n
+rounds_by ram sizes b o before tail n f none e = record {
   none = λ never. absurd (never (said_by o) (texts before ++ tail) f.begins);
-  some = λ p others rest g nothing. e ∙ ap rounds (sym (same_records base sizes b o p before others tail rest f none g nothing));
+  some = λ p others rest g nothing. e ∙ ap rounds (sym (same_records ram sizes b o p before others tail rest f none g nothing));
 }
 
-pub rounds_known : (base : ℕ) (ds : List DiskState) (digest : Sha256) (bytes held : List ℕ) (stage : Stage) → IsTaken base ds digest bytes held stage → HasRounds base (sizes_in ds) bytes (rounds_in stage)
-rounds_known base ds digest bytes held stages.Head t =
+pub rounds_known : (ram : RamTerms) (ds : List DiskState) (digest : Sha256) (bytes held : List ℕ) (stage : Stage) → IsTaken ram ds digest bytes held stage → HasRounds ram (sizes_in ds) bytes (rounds_in stage)
+rounds_known ram ds digest bytes held stages.Head t =
     let same : bytes ≡ held = t.whole ∙ ap (λ (x : List ℕ). x ++ held) t.known.0 in
     rw same (record { none = λ never. refl; some = λ o before tail g none. absurd (t.known.2.no_header (said_by o) (texts before ++ tail) g.begins) })
-rounds_known base ds digest bytes held (stages.Records i) t =
+rounds_known ram ds digest bytes held (stages.Records i) t =
     let r = t.known.1 in
     let o = r.open_at in
-    rounds_by base (sizes_in ds) bytes r.opening o.before held i.rounds (front_at r.based (front_of bytes held o.read t.whole)) (λ r y g e. o.waits.no_record r y g.spells g.has e) o.read.rounds_are
-rounds_known base ds digest bytes held (stages.Ended i) t =
-    let h = come_of base ds digest bytes held i t in
+    rounds_by ram (sizes_in ds) bytes r.opening o.before held i.rounds (front_at r.based (front_of bytes held o.read t.whole)) (λ r y g e. o.waits.no_record r y g.spells g.has e) o.read.rounds_are
+rounds_known ram ds digest bytes held (stages.Ended i) t =
+    let h = come_of ram ds digest bytes held i t in
     let w = h.ended in
     let whole : bytes ≡ w.front ++ (5 ∷ sha256 w.front) = w.whole ∙ ap (λ (x : List ℕ). w.front ++ x) (commit_text (sha256 w.front)) in
-    rounds_by base (sizes_in ds) bytes h.opening w.before (5 ∷ sha256 w.front) i.rounds (front_at h.based (front_of bytes (5 ∷ sha256 w.front) w.read whole)) (λ r y g e. no_other h.opening w.before (sha256 w.front) r y g e) w.read.rounds_are
-rounds_known base ds digest bytes held stages.Failed t = absurd t.known
+    rounds_by ram (sizes_in ds) bytes h.opening w.before (5 ∷ sha256 w.front) i.rounds (front_at h.based (front_of bytes (5 ∷ sha256 w.front) w.read whole)) (λ r y g e. no_other h.opening w.before (sha256 w.front) r y g e) w.read.rounds_are
+rounds_known ram ds digest bytes held stages.Failed t = absurd t.known
 
 pub none_failed : (stage : Stage) → has_failed stage ≡ true → rounds_in stage ≡ 0
 none_failed stages.Head e = refl
@@ -65,11 +66,11 @@ none_failed (stages.Records i) e = absurd cc
 none_failed (stages.Ended i) e = absurd cc
 none_failed stages.Failed e = refl
 
-no_truncation : (base : ℕ) (sizes bytes : List ℕ) (at : ℕ) → ¬ (Fault base sizes bytes errors.Truncated at)
-no_truncation base sizes bytes at (inl h) = h
-no_truncation base sizes bytes at (inr h) = h.fault
+no_truncation : (ram : RamTerms) (sizes bytes : List ℕ) (at : ℕ) → ¬ (Fault ram sizes bytes errors.Truncated at)
+no_truncation ram sizes bytes at (inl h) = h
+no_truncation ram sizes bytes at (inr h) = h.fault
 
-pub slice_told : (base : ℕ) (sizes : List ℕ) (marks new : List Marks) (bytes : List ℕ) (e : RecvError) → MarksRefused marks e new → TellsFault base sizes bytes e → RefusesSlice base sizes marks bytes e
+pub slice_told : (base : ℕ) (sizes : List ℕ) (marks new : List Marks) (bytes : List ℕ) (e : RecvError) → MarksRefused marks e new → TellsFault (ram_at base) sizes bytes e → RefusesSlice base sizes marks bytes e
 slice_told base sizes marks new bytes errors.BadMagic m t = t
 slice_told base sizes marks new bytes errors.BadVersion m t = t
 slice_told base sizes marks new bytes errors.BadShape m t = t
@@ -82,12 +83,12 @@ slice_told base sizes marks new bytes errors.BadDevice m t = t
 slice_told base sizes marks new bytes errors.BadDigest m t = t
 slice_told base sizes marks new bytes errors.Missing m t = t
 slice_told base sizes marks new bytes errors.Trailing m t = t
-slice_told base sizes marks new bytes errors.Truncated m t = absurd (no_truncation base sizes bytes t.0 t.1)
+slice_told base sizes marks new bytes errors.Truncated m t = absurd (no_truncation (ram_at base) sizes bytes t.0 t.1)
 slice_told base sizes marks new bytes errors.DiskFailed m t = record { disk = m.disk; unsteady = m.unsteady }
 slice_told base sizes marks new bytes errors.NoMemory m t = tt
 slice_told base sizes marks new bytes errors.AlreadyFailed m t = t
 
-pub slice_cut : (base : ℕ) (sizes : List ℕ) (marks : List Marks) (bytes : List ℕ) (e : RecvError) → IsFinish bytes e → NoFault base sizes bytes → RefusesSlice base sizes marks bytes e
+pub slice_cut : (base : ℕ) (sizes : List ℕ) (marks : List Marks) (bytes : List ℕ) (e : RecvError) → IsFinish bytes e → NoFault (ram_at base) sizes bytes → RefusesSlice base sizes marks bytes e
 slice_cut base sizes marks bytes errors.BadMagic h n = absurd h
 slice_cut base sizes marks bytes errors.BadVersion h n = absurd h
 slice_cut base sizes marks bytes errors.BadShape h n = absurd h
@@ -102,9 +103,9 @@ slice_cut base sizes marks bytes errors.Missing h n = absurd h
 slice_cut base sizes marks bytes errors.Trailing h n = absurd h
 slice_cut base sizes marks bytes errors.Truncated h n = (n, h)
 slice_cut base sizes marks bytes errors.DiskFailed h n = absurd h
-slice_cut base sizes marks bytes errors.NoMemory h n = tt
+slice_cut base sizes marks bytes errors.NoMemory h n = absurd h
 slice_cut base sizes marks bytes errors.AlreadyFailed h n = absurd h
 
 -- What is told of a first piece is told of the slice.
-pub told_at_once : (base : ℕ) (sizes bytes : List ℕ) (e : RecvError) → TellsNow base sizes [] bytes e → TellsFault base sizes bytes e
-told_at_once base sizes bytes e t = tells_more ((at : ℕ) × (0 < at) × Fault base sizes bytes e at) ((at : ℕ) × Fault base sizes bytes e at) e (λ x. (x.0, x.2)) t
+pub told_at_once : (ram : RamTerms) (sizes bytes : List ℕ) (e : RecvError) → TellsNow ram sizes [] bytes e → TellsFault ram sizes bytes e
+told_at_once ram sizes bytes e t = tells_more ((at : ℕ) × (0 < at) × Fault ram sizes bytes e at) ((at : ℕ) × Fault ram sizes bytes e at) e (λ x. (x.0, x.2)) t

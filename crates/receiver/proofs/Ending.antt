@@ -1,4 +1,5 @@
 -- Whether all of a stream was fed.
+use Rattle.receiver.specs.declared.ram_terms.RamTerms.{RamTerms}
 use Rattle.std.proofs.Common.{◌≡◌, ℕ, true, false, List, [], ◌∷◌, ◌++◌, refl, ap, sym, ◌∙◌, append_assoc, append-nil}
 use Rattle.std.proofs.lemmas.List.{append_cancel_left}
 use Rattle.sha2.specs.Sha256.{sha256}
@@ -10,7 +11,7 @@ use Rattle.wire.specs.Records.{Record, commit, spelled_record}
 use Rattle.wire.specs.Stream.{texts}
 use Rattle.receiver.specs.Disks.{sizes_in}
 use Rattle.receiver.specs.Opened.{header, said_by}
-use Rattle.receiver.specs.Heading.{WaitsHead}
+use Rattle.receiver.specs.Faults.{WaitsHead}
 use Rattle.receiver.specs.Receiving.{IsReading, IsTaken, IsWholeFor, NoNext, has_ended, has_failed}
 use Rattle.receiver.specs.declared.intake.Intake.{Intake}
 use Rattle.receiver.specs.declared.stage.Stage.{Stage}
@@ -22,12 +23,12 @@ use Rattle.receiver.proofs.Streams.{digest_bytes}
 use Rattle.receiver.proofs.Working.{commit_text, front_at, front_of}
 
 -- Bytes of which no whole header was read.
-pub not_whole_head : (base : ℕ) (sizes held : List ℕ) → WaitsHead held → ¬ (IsWholeFor base sizes held)
-not_whole_head base sizes held w h = w.no_header (said_by h.opening) (texts h.before ++ spelled_record (commit (sha256 (header h.opening ++ texts h.before)))) h.front.begins
+pub not_whole_head : (ram : RamTerms) (sizes held : List ℕ) → WaitsHead held → ¬ (IsWholeFor ram sizes held)
+not_whole_head ram sizes held w h = w.no_header (said_by h.opening) (texts h.before ++ spelled_record (commit (sha256 (header h.opening ++ texts h.before)))) h.front.begins
 
 -- Bytes that go on after the last whole record. Were they whole, their last record would be a whole one that follows.
-pub not_whole_reading : (base : ℕ) (ds : List DiskState) (read tail bytes : List ℕ) (i : Intake) → IsBytes bytes → bytes ≡ read ++ tail → IsReading base ds read tail i → ¬ (IsWholeFor base (sizes_in ds) bytes)
-not_whole_reading base ds read tail bytes i are parts r h =
+pub not_whole_reading : (ram : RamTerms) (ds : List DiskState) (read tail bytes : List ℕ) (i : Intake) → IsBytes bytes → bytes ≡ read ++ tail → IsReading ram ds read tail i → ¬ (IsWholeFor ram (sizes_in ds) bytes)
+not_whole_reading ram ds read tail bytes i are parts r h =
     let o = r.open_at in
     let sum = sha256 (header h.opening ++ texts h.before) in
     let end = spelled_record (commit sum) in
@@ -35,7 +36,7 @@ not_whole_reading base ds read tail bytes i are parts r h =
     let none : NoNext r.opening o.before tail = λ s y g e. o.waits.no_record s y g.spells g.has e in
     let nothing : NoNext h.opening h.before end = λ s y g e. no_other h.opening h.before sum s y g (sym (commit_text sum) ∙ e) in
     let t = one_opening bytes h.opening r.opening (texts h.before ++ end) (texts o.before ++ tail) (h.front.based ∙ sym f.based) h.front.begins f.begins in
-    let records : h.before ≡ o.before = same_records base (sizes_in ds) bytes r.opening h.opening o.before h.before tail end f none h.front nothing in
+    let records : h.before ≡ o.before = same_records ram (sizes_in ds) bytes r.opening h.opening o.before h.before tail end f none h.front nothing in
     let left : texts o.before ++ end ≡ texts o.before ++ tail = ap (λ (x : List Record). texts x ++ end) (sym records) ∙ t.1 in
     let same : end ≡ tail = append_cancel_left (texts o.before) end tail left in
     let whole : bytes ≡ (header h.opening ++ texts h.before) ++ (5 ∷ sum) =
@@ -43,19 +44,19 @@ not_whole_reading base ds read tail bytes i are parts r h =
     o.waits.no_record (commit sum) [] (length-sha256 (header h.opening ++ texts h.before), digest_bytes (header h.opening ++ texts h.before) sum bytes are whole) tt (sym same ∙ sym (append-nil end))
 
 -- A receiver that has not read the digest was fed no whole stream, and one that has was.
-pub not_whole_taken : (base : ℕ) (ds : List DiskState) (digest : Sha256) (bytes held : List ℕ) (stage : Stage) → IsBytes bytes → has_ended stage ≡ false → IsTaken base ds digest bytes held stage → ¬ (IsWholeFor base (sizes_in ds) bytes)
-not_whole_taken base ds digest bytes held stages.Head are not_yet t h =
+pub not_whole_taken : (ram : RamTerms) (ds : List DiskState) (digest : Sha256) (bytes held : List ℕ) (stage : Stage) → IsBytes bytes → has_ended stage ≡ false → IsTaken ram ds digest bytes held stage → ¬ (IsWholeFor ram (sizes_in ds) bytes)
+not_whole_taken ram ds digest bytes held stages.Head are not_yet t h =
     let same : bytes ≡ held = t.whole ∙ ap (λ (x : List ℕ). x ++ held) t.known.0 in
-    not_whole_head base (sizes_in ds) held t.known.2 (rw same at h)
-not_whole_taken base ds digest bytes held (stages.Records i) are not_yet t h = not_whole_reading base ds t.front held bytes i are t.whole t.known.1 h
-not_whole_taken base ds digest bytes held (stages.Ended i) are not_yet t h = absurd cc
-not_whole_taken base ds digest bytes held stages.Failed are not_yet t h = t.known
+    not_whole_head ram (sizes_in ds) held t.known.2 (rw same at h)
+not_whole_taken ram ds digest bytes held (stages.Records i) are not_yet t h = not_whole_reading ram ds t.front held bytes i are t.whole t.known.1 h
+not_whole_taken ram ds digest bytes held (stages.Ended i) are not_yet t h = absurd cc
+not_whole_taken ram ds digest bytes held stages.Failed are not_yet t h = t.known
 
-pub whole_taken : (base : ℕ) (ds : List DiskState) (digest : Sha256) (bytes held : List ℕ) (stage : Stage) → has_ended stage ≡ true → IsTaken base ds digest bytes held stage → IsWholeFor base (sizes_in ds) bytes
-whole_taken base ds digest bytes held stages.Head done t = absurd cc
-whole_taken base ds digest bytes held (stages.Records i) done t = absurd cc
-whole_taken base ds digest bytes held (stages.Ended i) done t = whole_come base ds bytes i (come_of base ds digest bytes held i t)
-whole_taken base ds digest bytes held stages.Failed done t = absurd cc
+pub whole_taken : (ram : RamTerms) (ds : List DiskState) (digest : Sha256) (bytes held : List ℕ) (stage : Stage) → has_ended stage ≡ true → IsTaken ram ds digest bytes held stage → IsWholeFor ram (sizes_in ds) bytes
+whole_taken ram ds digest bytes held stages.Head done t = absurd cc
+whole_taken ram ds digest bytes held (stages.Records i) done t = absurd cc
+whole_taken ram ds digest bytes held (stages.Ended i) done t = whole_come ram ds bytes i (come_of ram ds digest bytes held i t)
+whole_taken ram ds digest bytes held stages.Failed done t = absurd cc
 
 pub not_ended : (stage : Stage) → has_failed stage ≡ true → has_ended stage ≡ false
 not_ended stages.Head e = refl

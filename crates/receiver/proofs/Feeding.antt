@@ -1,101 +1,113 @@
 -- A piece more, and the end.
-use Rattle.std.proofs.Common.{◌≡◌, ℕ, ◌<◌, ◌≤◌, ◌⊎◌, inl, inr, Bool, true, false, suc, List, [], ◌∷◌, ◌++◌, length, map, take, drop, refl, sym, ap, subst, ◌∙◌, append_assoc, append-nil}
+use Rattle.std.proofs.Common.{◌≡◌, ℕ, ◌<◌, ◌≤◌, ◌⊎◌, inl, inr, Bool, true, false, suc, Some, List, [], ◌∷◌, ◌++◌, length, map, take, drop, refl, sym, ap, subst, ◌∙◌, append_assoc, append-nil}
 use Rattle.std.specs.Prelude.{Ok, Err, Option}
 use denote.RawPtr.{Ptr}
 use Rattle.std.proofs.lemmas.Bool.{cases_lt}
 use Rattle.std.proofs.lemmas.List.{take_at}
 use Rattle.sha2.specs.declared.Sha256.{Sha256}
 use Rattle.blk.specs.Disk.{DiskState}
+use Rattle.guestmem.specs.Memory.{Memory}
 use Rattle.guestmem.specs.Number.{IsBytes}
 use Rattle.guestmem.specs.ByteLaws.{IsBytes-append}
 use Rattle.wire.proofs.Spelling.{tail_same}
 use Rattle.machine.specs.First.{marks_in}
+use Rattle.machine.specs.Room.{RoomSeen}
 use Rattle.receiver.specs.Disks.{MarksRefused, all_marks_in, disk_marks_of, sizes_in, sizes_of}
 use Rattle.receiver.specs.Faults.{Fault}
-use Rattle.receiver.specs.Receiving.{HasBeenFed, IsKnown, IsReceiver, IsTaken, NoFault, Received, TellsFault, TellsNow, Took, has_failed, received_by}
+use Rattle.receiver.specs.Receiving.{HasBeenFed, IsPastHead, IsReady, IsKnown, IsReceiver, IsTaken, NoFault, Received, TellsFault, TellsNow, Took, devices_at, has_failed, place_aside, place_in, received_by}
 use Rattle.receiver.specs.Waiting.{LacksBytes}
 use Rattle.receiver.specs.declared.stage.Stage.{Stage}
 use Rattle.receiver.specs.declared.stage.Stage.TheVariants as stages
+use Rattle.receiver.specs.declared.ram_terms.RamTerms.{RamTerms}
 use Rattle.receiver.specs.declared.recv_error.RecvError.{RecvError}
 use Rattle.receiver.proofs.Knowing.{no_fault_known}
 use Rattle.receiver.proofs.Lists.{empty}
 use Rattle.receiver.proofs.Prefixes.{holds}
-use Rattle.receiver.proofs.Working.{tells_more}
+use Rattle.receiver.proofs.Working.{front_of, tells_more}
+use Rattle.receiver.proofs.Aligned.{one_opening}
+use Rattle.receiver.specs.Fed.{HasRead}
+use Rattle.receiver.specs.Opened.{Begins, Opened, header}
+use Rattle.receiver.specs.declared.intake.Intake.{Intake}
+use Rattle.sha2.specs.Sha256.{sha256}
+use Rattle.wire.specs.Records.{Record, commit, spelled_record}
+use Rattle.wire.specs.Stream.{texts}
 
 pub true_false : (b : Bool) → b ≡ true → b ≡ false → ⊥
 true_false b t f = let no : true ≡ false = sym t ∙ f in cc
 
-pub not_failed : (base : ℕ) (ds : List DiskState) (digest : Sha256) (front held : List ℕ) (stage : Stage) → IsKnown base ds digest front held stage → has_failed stage ≡ false
-not_failed base ds digest front held stages.Head k = refl
-not_failed base ds digest front held (stages.Records i) k = refl
-not_failed base ds digest front held (stages.Ended i) k = refl
-not_failed base ds digest front held stages.Failed k = absurd k
+pub not_failed : (ram : RamTerms) (ds : List DiskState) (digest : Sha256) (front held : List ℕ) (stage : Stage) → IsKnown ram ds digest front held stage → has_failed stage ≡ false
+not_failed ram ds digest front held stages.Head k = refl
+not_failed ram ds digest front held (stages.Records i) k = refl
+not_failed ram ds digest front held (stages.Ended i) k = refl
+not_failed ram ds digest front held stages.Failed k = absurd k
 
-later_by : (base : ℕ) (sizes old piece : List ℕ) (e : RecvError) (at : ℕ) → NoFault base sizes old → Fault base sizes (old ++ piece) e at → (length old < at) ⊎ (at ≤ length old) → length old < at
-later_by base sizes old piece e at none f (inl lt) = lt
-later_by base sizes old piece e at none f (inr le) = absurd (none e at (holds base sizes old piece e at le f))
+later_by : (ram : RamTerms) (sizes old piece : List ℕ) (e : RecvError) (at : ℕ) → NoFault ram sizes old → Fault ram sizes (old ++ piece) e at → (length old < at) ⊎ (at ≤ length old) → length old < at
+later_by ram sizes old piece e at none f (inl lt) = lt
+later_by ram sizes old piece e at none f (inr le) = absurd (none e at (holds ram sizes old piece e at le f))
 
 -- A fault that did not stand before has its place behind.
-later : (base : ℕ) (sizes old piece : List ℕ) (e : RecvError) (at : ℕ) → NoFault base sizes old → Fault base sizes (old ++ piece) e at → length old < at
-later base sizes old piece e at none f = later_by base sizes old piece e at none f (cases_lt (length old) at)
+later : (ram : RamTerms) (sizes old piece : List ℕ) (e : RecvError) (at : ℕ) → NoFault ram sizes old → Fault ram sizes (old ++ piece) e at → length old < at
+later ram sizes old piece e at none f = later_by ram sizes old piece e at none f (cases_lt (length old) at)
 
-told_more : (base : ℕ) (sizes b piece : List ℕ) (e : RecvError) → TellsFault base sizes (b ++ piece) e → NoFault base sizes b → TellsNow base sizes b piece e
-told_more base sizes b piece e t none =
-    tells_more ((at : ℕ) × Fault base sizes (b ++ piece) e at) ((at : ℕ) × (length b < at) × Fault base sizes (b ++ piece) e at) e (λ x. (x.0, later base sizes b piece e x.0 none x.1, x.1)) t
+told_more : (ram : RamTerms) (sizes b piece : List ℕ) (e : RecvError) → TellsFault ram sizes (b ++ piece) e → NoFault ram sizes b → TellsNow ram sizes b piece e
+told_more ram sizes b piece e t none =
+    tells_more ((at : ℕ) × Fault ram sizes (b ++ piece) e at) ((at : ℕ) × (length b < at) × Fault ram sizes (b ++ piece) e at) e (λ x. (x.0, later ram sizes b piece e x.0 none x.1, x.1)) t
 
 -- A piece is taken or refused.
 pub record GoesOn (r : Received) (piece : List ℕ) (next : Received) : Type 0 where
-  pub base : next.base ≡ r.base
+  pub ram : next.ram ≡ r.ram
   pub sizes : next.sizes ≡ r.sizes
   pub marks : next.marks ≡ r.marks
   pub fed : (b : List ℕ) → HasBeenFed r b → HasBeenFed next (b ++ piece)
-  pub quiet : (b : List ℕ) → HasBeenFed r b → NoFault r.base r.sizes (b ++ piece)
+  pub quiet : (b : List ℕ) → HasBeenFed r b → NoFault r.ram r.sizes (b ++ piece)
 
 pub record IsRefused (r : Received) (piece : List ℕ) (disks : List DiskState) (e : RecvError) : Type 0 where
   pub sizes : sizes_in disks ≡ r.sizes
   pub marks : MarksRefused r.marks e (all_marks_in disks)
-  pub told : (b : List ℕ) → HasBeenFed r b → TellsNow r.base r.sizes b piece e
+  pub told : (b : List ℕ) → HasBeenFed r b → TellsNow r.ram r.sizes b piece e
 
 all_bytes : (front held piece b : List ℕ) → b ≡ front ++ held → b ++ piece ≡ front ++ (held ++ piece)
 all_bytes front held piece b is = ap (λ (x : List ℕ). x ++ piece) is ∙ append_assoc front held piece
 
-taken_on : (base : ℕ) (old ds : List DiskState) (digest : Sha256) (front held piece b rest : List ℕ) (next : Stage) → b ≡ front ++ held → Took base old ds digest (front ++ (held ++ piece)) rest (Ok next) → IsTaken base ds digest (b ++ piece) rest next
-taken_on base old ds digest front held piece b rest next is t =
-    let P : List ℕ → Type 0 = λ x. IsTaken base ds digest x rest next in
+taken_on : (ram : RamTerms) (old ds : List DiskState) (digest : Sha256) (front held piece b rest : List ℕ) (next : Stage) → b ≡ front ++ held → Took ram old ds digest (front ++ (held ++ piece)) rest (Ok next) → IsTaken ram ds digest (b ++ piece) rest next
+taken_on ram old ds digest front held piece b rest next is t =
+    let P : List ℕ → Type 0 = λ x. IsTaken ram ds digest x rest next in
     subst P (sym (all_bytes front held piece b is)) t.1
 
-pub goes_on : (base : ℕ) (place placed : Option Ptr) (ds new : List DiskState) (stage next : Stage) (d e : Sha256) (held rest piece : List ℕ) → IsBytes piece → (front : List ℕ) × IsKnown base ds d front held stage
-    → ((front : List ℕ) → IsKnown base ds d front held stage → Took base ds new e (front ++ (held ++ piece)) rest (Ok next)) → GoesOn (received_by base place ds stage d held) piece (received_by base placed new next e rest)
-goes_on base place placed ds new stage next d e held rest piece are some took =
+pub goes_on : (ram : RamTerms) (place placed : Option Ptr) (ds new : List DiskState) (stage next : Stage) (d e : Sha256) (held rest piece : List ℕ) → IsBytes piece → (front : List ℕ) × IsKnown ram ds d front held stage
+    → ((front : List ℕ) → IsKnown ram ds d front held stage → Took ram ds new e (front ++ (held ++ piece)) rest (Ok next)) → GoesOn (received_by ram place ds stage d held) piece (received_by ram placed new next e rest)
+goes_on ram place placed ds new stage next d e held rest piece are some took =
     let first = took some.0 some.1 in
-    let more : (b : List ℕ) → HasBeenFed (received_by base place ds stage d held) b → IsTaken base new e (b ++ piece) rest next =
-    λ b h. taken_on base ds new e h.taken.front held piece b rest next h.taken.whole (took h.taken.front h.taken.known) in
+    let more : (b : List ℕ) → HasBeenFed (received_by ram place ds stage d held) b → IsTaken ram new e (b ++ piece) rest next =
+    λ b h. taken_on ram ds new e h.taken.front held piece b rest next h.taken.whole (took h.taken.front h.taken.known) in
     record {
-      base = refl;
+      ram = refl;
       sizes = first.0.sizes;
       marks = first.0.marks;
-      fed = λ b h. record { goes_on = not_failed base new e (more b h).front rest next (more b h).known; bytes = IsBytes-append b piece h.bytes are; taken = more b h };
-      quiet = λ b h. rw (← first.0.sizes) (no_fault_known base new e (b ++ piece) rest next (more b h));
+      fed = λ b h. record { goes_on = not_failed ram new e (more b h).front rest next (more b h).known; bytes = IsBytes-append b piece h.bytes are; taken = more b h };
+      quiet = λ b h. rw (← first.0.sizes) (no_fault_known ram new e (b ++ piece) rest next (more b h));
     }
 
-pub is_refused : (base : ℕ) (place : Option Ptr) (ds new : List DiskState) (stage : Stage) (d f : Sha256) (held rest piece : List ℕ) (e : RecvError) → (front : List ℕ) × IsKnown base ds d front held stage
-    → ((front : List ℕ) → IsKnown base ds d front held stage → Took base ds new f (front ++ (held ++ piece)) rest (Err e)) → IsRefused (received_by base place ds stage d held) piece new e
-is_refused base place ds new stage d f held rest piece e some took =
+pub is_refused : (ram : RamTerms) (place : Option Ptr) (ds new : List DiskState) (stage : Stage) (d f : Sha256) (held rest piece : List ℕ) (e : RecvError) → (front : List ℕ) × IsKnown ram ds d front held stage
+    → ((front : List ℕ) → IsKnown ram ds d front held stage → Took ram ds new f (front ++ (held ++ piece)) rest (Err e)) → IsRefused (received_by ram place ds stage d held) piece new e
+is_refused ram place ds new stage d f held rest piece e some took =
     let first = took some.0 some.1 in
     record {
       sizes = first.0.sizes;
       marks = first.0.marks;
       told = λ b h.
           let t = took h.taken.front h.taken.known in
-          let told : TellsFault base (sizes_in ds) (b ++ piece) e = rw (all_bytes h.taken.front held piece b h.taken.whole) t.1 in
-          told_more base (sizes_in ds) b piece e told (no_fault_known base ds d b held stage h.taken);
+          let told : TellsFault ram (sizes_in ds) (b ++ piece) e = rw (all_bytes h.taken.front held piece b h.taken.whole) t.1 in
+          told_more ram (sizes_in ds) b piece e told (no_fault_known ram ds d b held stage h.taken);
     }
 
-pub is_receiver : (base : ℕ) (ds : List DiskState) (digest : Sha256) (held : List ℕ) (room lacking : ℕ) (stage : Stage) (front : List ℕ) → IsKnown base ds digest front held stage → length held ≤ 131077 → 131078 ≤ room → (0 < lacking → LacksBytes stage held lacking) → IsReceiver base ds digest held room lacking stage
-is_receiver base ds digest held room lacking stage front known few roomy lacks = record {
+pub is_receiver : (ram : RamTerms) (aside : Option Memory) (reserved : Option RoomSeen) (ds : List DiskState) (digest : Sha256) (held : List ℕ) (room lacking : ℕ) (stage : Stage) (front : List ℕ) → IsReady ram aside stage → (IsPastHead stage → reserved ≡ Some (record { devices = devices_at stage; disks = length ds })) → IsKnown ram ds digest front held stage → length held ≤ 131077 → 131078 ≤ room → (0 < lacking → LacksBytes stage held lacking) → IsReceiver ram aside reserved ds digest held room lacking stage
+is_receiver ram aside reserved ds digest held room lacking stage front ready roomed known few roomy lacks = record {
+  ready = ready;
+  roomed = roomed;
   known = λ on. (front, known);
   few = few;
-  gone = λ failed. absurd (true_false _ failed (not_failed base ds digest front held stage known));
+  gone = λ failed. absurd (true_false _ failed (not_failed ram ds digest front held stage known));
   roomy = λ past. roomy;
   lacks = lacks;
 }
@@ -106,10 +118,10 @@ nothing_more r piece b none h =
     let same : b ++ piece ≡ b = ap (λ (x : List ℕ). b ++ x) (empty piece none) ∙ append-nil b in
     rw same h
 
-pub quiet_still : (base : ℕ) (place : Option Ptr) (ds : List DiskState) (stage : Stage) (d : Sha256) (held piece b : List ℕ) → length piece ≡ 0 → HasBeenFed (received_by base place ds stage d held) b → NoFault base (sizes_in ds) (b ++ piece)
-quiet_still base place ds stage d held piece b none h =
+pub quiet_still : (ram : RamTerms) (place : Option Ptr) (ds : List DiskState) (stage : Stage) (d : Sha256) (held piece b : List ℕ) → length piece ≡ 0 → HasBeenFed (received_by ram place ds stage d held) b → NoFault ram (sizes_in ds) (b ++ piece)
+quiet_still ram place ds stage d held piece b none h =
     let same : b ++ piece ≡ b = ap (λ (x : List ℕ). b ++ x) (empty piece none) ∙ append-nil b in
-    rw same (no_fault_known base ds d b held stage h.taken)
+    rw same (no_fault_known ram ds d b held stage h.taken)
 
 -- The disks that were lent, as they come back.
 pub same_count : {D : Type 0} (state : D → DiskState) (old new : List D) → sizes_of state new ≡ sizes_of state old → length new ≡ length old
@@ -124,3 +136,58 @@ given_back old new len same is = take_at new (drop (length new) old) len (same �
 pub marks_mapped : {D : Type 0} (state : D → DiskState) (disks : List D) → map (λ d. marks_in (state d)) disks ≡ disk_marks_of state disks
 marks_mapped state [] = refl
 marks_mapped state (d ∷ disks) = ap (λ ms. marks_in (state d) ∷ ms) (marks_mapped state disks)
+
+-- A piece more changes no device's number: the header is the same.
+record HasHeader (ram : RamTerms) (bytes : List ℕ) (count : ℕ) : Type 0 where
+  opening : Opened
+  rest : List ℕ
+  is_of : opening.ram ≡ ram
+  begins : Begins bytes opening rest
+  count_is : count ≡ length opening.shapes
+
+read_header : {ds : List DiskState} {opening : Opened} {before : List Record} {i : Intake} {front : List ℕ} (ram : RamTerms) (bytes tail : List ℕ) → opening.ram ≡ ram → HasRead ds opening before i front → bytes ≡ front ++ tail → HasHeader ram bytes (length i.shapes.items)
+read_header {opening = opening} {before = before} ram bytes tail is h e = record {
+  opening = opening;
+  rest = texts before ++ tail;
+  is_of = is;
+  begins = (front_of bytes tail h e).begins;
+  count_is = ap length h.shapes_are;
+}
+
+has_header : (ram : RamTerms) (ds : List DiskState) (digest : Sha256) (front held bytes : List ℕ) (stage : Stage) → IsPastHead stage → IsKnown ram ds digest front held stage → bytes ≡ front ++ held → HasHeader ram bytes (devices_at stage)
+has_header ram ds digest front held bytes stages.Head past k e = absurd past
+has_header ram ds digest front held bytes (stages.Records i) past k e = read_header ram bytes held k.1.based k.1.open_at.read e
+has_header ram ds digest front held bytes (stages.Ended i) past k e =
+    let w = k.1.ended in
+    let all : bytes ≡ w.front ++ (spelled_record (commit (sha256 w.front)) ++ held) = e ∙ ap (λ (x : List ℕ). x ++ held) w.whole ∙ append_assoc w.front (spelled_record (commit (sha256 w.front))) held in
+    read_header ram bytes (spelled_record (commit (sha256 w.front)) ++ held) k.1.based w.read all
+has_header ram ds digest front held bytes stages.Failed past k e = absurd k
+
+same_header : (ram : RamTerms) (bytes : List ℕ) (m n : ℕ) → HasHeader ram bytes m → HasHeader ram bytes n → m ≡ n
+same_header ram bytes m n a b =
+    let one = one_opening bytes a.opening b.opening a.rest b.rest (a.is_of ∙ sym b.is_of) a.begins b.begins in
+    a.count_is ∙ ap (λ (o : Opened). length o.shapes) one.0 ∙ sym b.count_is
+
+pub same_devices : (ram : RamTerms) (old ds : List DiskState) (digest sum : Sha256) (front held piece rest : List ℕ) (stage next : Stage) → IsPastHead stage → IsPastHead next → IsKnown ram old digest front held stage
+    → IsTaken ram ds sum (front ++ (held ++ piece)) rest next → devices_at stage ≡ devices_at next
+same_devices ram old ds digest sum front held piece rest stage next past later k t =
+    let bytes = front ++ (held ++ piece) in
+    let a = has_header ram old digest front held (front ++ held) stage past k refl in
+    let begins : Begins bytes a.opening (a.rest ++ piece) = record { good = a.begins.good; whole = sym (append_assoc front held piece) ∙ ap (λ (x : List ℕ). x ++ piece) a.begins.whole ∙ append_assoc (header a.opening) a.rest piece } in
+    same_header ram bytes (devices_at stage) (devices_at next) (record { opening = a.opening; rest = a.rest ++ piece; is_of = a.is_of; begins = begins; count_is = a.count_is }) (has_header ram ds sum t.front rest bytes next later t.known t.whole)
+
+pub same_room : {o : Option RoomSeen} {a b : RoomSeen} → o ≡ Some a → o ≡ Some b → a ≡ b
+same_room {o} {a} {b} e f = let same : Some a ≡ Some b = sym e ∙ f in cc
+
+-- The memory that was reserved stays, or was reserved just now.
+pub room_kept : (first : Bool) (stage next : Stage) (old new : Option RoomSeen) (count disks : ℕ) → (first ≡ true → IsPastHead next → new ≡ Some (record { devices = devices_at next; disks = disks })) → (first ≡ false → new ≡ old) → (first ≡ false → IsPastHead stage)
+    → (IsPastHead stage → old ≡ Some (record { devices = devices_at stage; disks = count })) → (IsPastHead stage → IsPastHead next → devices_at stage ≡ devices_at next) → count ≡ disks
+    → IsPastHead next → new ≡ Some (record { devices = devices_at next; disks = disks })
+room_kept true stage next old new count disks now later past was same is p = now refl p
+room_kept false stage next old new count disks now later past was same is p = later refl ∙ was (past refl) ∙ rw (same (past refl) p, is) refl
+
+pub failed_place : (aside : Option Memory) (stage : Stage) → has_failed stage ≡ true → place_in aside stage ≡ place_aside aside
+failed_place aside stages.Head f = absurd cc
+failed_place aside (stages.Records i) f = absurd cc
+failed_place aside (stages.Ended i) f = absurd cc
+failed_place aside stages.Failed f = refl

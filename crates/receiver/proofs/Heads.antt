@@ -5,19 +5,21 @@ use Rattle.std.specs.List.{AllByRecursion}
 use Rattle.std.proofs.lemmas.List.{take-append-drop, length-append, length-take, drop_at}
 use Rattle.std.proofs.lemmas.List.Elements.{All-push, recursion_from_All}
 use Rattle.guestmem.specs.Number.{IsBytes, number_at}
-use Rattle.wire.specs.Header.{front, spelled_shape, spelled_shapes, Begins, Opening, IsVersion}
+use Rattle.wire.specs.Header.{front, spelled_shape, spelled_shapes, Begins, Opening, IsVersion, shape_length}
 use Rattle.wire.specs.Numbers.{spelled, Fit}
 use Rattle.machine.specs.Sound.{IsSoundShape}
 use Rattle.machine.specs.declared.shape.Shape.{Shape}
-use Rattle.wire.specs.ShapeReading.{shape_length, shape_of}
+use Rattle.wire.specs.ShapeReading.{shape_of}
 use Rattle.wire.proofs.Choices.{same_found}
 use Rattle.wire.proofs.Digits.{spelled-numbers, numbers-spelled, length-spelled}
 use Rattle.wire.proofs.HeaderLemmas.{length_shape, no_shape, shape_of-spelled}
 use Rattle.wire.proofs.Spelling.{head_same, split_same}
 use Rattle.wire.proofs.Unique.{cons_same}
 use Rattle.machine.specs.Shapes.{disk_sizes}
-use Rattle.receiver.specs.Faults.{IsBeyond, IsUnknown, MayCount, IsBadMagic, IsBadVersion, Says, IsBadCount, IsNoShape, IsBadShape, IsHeaderFault}
-use Rattle.receiver.specs.Heading.{ShapeWaits, BadFirst, FewShapes, ShapesWait, ShapesBad, ShapesRead, TellsHead, WaitsHead, OnBad}
+use Rattle.receiver.specs.Faults.{IsBeyond, IsUnknown, MayCount, IsBadMagic, IsBadVersion, Says, IsBadCount, IsNoShape, IsBadShape, IsHeaderFault, TellsHead, WaitsHead}
+use Rattle.receiver.specs.Heading.{ShapeWaits, BadFirst, FewShapes, ShapesWait, ShapesBad, ShapesRead, OnBad}
+use Rattle.receiver.specs.Opened.{HasPages}
+use Rattle.receiver.specs.declared.ram_terms.RamTerms.{RamTerms}
 use Rattle.receiver.specs.declared.recv_error.RecvError.{RecvError}
 use Rattle.receiver.specs.declared.recv_error.RecvError.TheVariants as errors
 
@@ -260,24 +262,24 @@ begins_so bytes version pages count ss rest are is says may read =
 
 -- A header that is not whole, with no fault.
 head_waits : (bytes : List ℕ) → ((opening : Opening) (rest : List ℕ) → ¬ (Begins bytes opening rest)) → ((at : ℕ) → ¬ (IsBadMagic bytes at)) → ((at : ℕ) → ¬ (IsBadVersion bytes at)) → ((at : ℕ) → ¬ (IsBadCount bytes at))
-    → ((at : ℕ) → ¬ (IsBadShape bytes at)) → (sizes : List ℕ) (k : RecvError) (at : ℕ) → ¬ (IsHeaderFault sizes bytes k at)
-head_waits bytes b m v c s sizes errors.BadMagic at h = m at h
-head_waits bytes b m v c s sizes errors.BadVersion at h = v at h
-head_waits bytes b m v c s sizes errors.BadShape at (inl h) = c at h
-head_waits bytes b m v c s sizes errors.BadShape at (inr h) = s at h
-head_waits bytes b m v c s sizes errors.ShapeMismatch at h = b h.opening h.more h.begins
-head_waits bytes b m v c s sizes errors.BadTag at h = h
-head_waits bytes b m v c s sizes errors.BadPage at h = h
-head_waits bytes b m v c s sizes errors.BadSector at h = h
-head_waits bytes b m v c s sizes errors.BadRound at h = h
-head_waits bytes b m v c s sizes errors.BadDevice at h = h
-head_waits bytes b m v c s sizes errors.BadDigest at h = h
-head_waits bytes b m v c s sizes errors.Missing at h = h
-head_waits bytes b m v c s sizes errors.Trailing at h = h
-head_waits bytes b m v c s sizes errors.Truncated at h = h
-head_waits bytes b m v c s sizes errors.DiskFailed at h = h
-head_waits bytes b m v c s sizes errors.NoMemory at h = h
-head_waits bytes b m v c s sizes errors.AlreadyFailed at h = h
+    → ((at : ℕ) → ¬ (IsBadShape bytes at)) → (ram : RamTerms) (sizes : List ℕ) (k : RecvError) (at : ℕ) → ¬ (IsHeaderFault ram sizes bytes k at)
+head_waits bytes b m v c s ram sizes errors.BadMagic at h = m at h
+head_waits bytes b m v c s ram sizes errors.BadVersion at h = v at h
+head_waits bytes b m v c s ram sizes errors.BadShape at (inl h) = c at h
+head_waits bytes b m v c s ram sizes errors.BadShape at (inr h) = s at h
+head_waits bytes b m v c s ram sizes errors.ShapeMismatch at h = b h.opening h.more h.begins
+head_waits bytes b m v c s ram sizes errors.BadTag at h = h
+head_waits bytes b m v c s ram sizes errors.BadPage at h = h
+head_waits bytes b m v c s ram sizes errors.BadSector at h = h
+head_waits bytes b m v c s ram sizes errors.BadRound at h = h
+head_waits bytes b m v c s ram sizes errors.BadDevice at h = h
+head_waits bytes b m v c s ram sizes errors.BadDigest at h = h
+head_waits bytes b m v c s ram sizes errors.Missing at h = h
+head_waits bytes b m v c s ram sizes errors.Trailing at h = h
+head_waits bytes b m v c s ram sizes errors.Truncated at h = h
+head_waits bytes b m v c s ram sizes errors.DiskFailed at h = h
+head_waits bytes b m v c s ram sizes errors.NoMemory at h = h
+head_waits bytes b m v c s ram sizes errors.AlreadyFailed at h = h
 
 pub head_short : (bytes : List ℕ) → length bytes < 16 → ((at : ℕ) → ¬ (IsBadMagic bytes at)) → ((at : ℕ) → ¬ (IsBadVersion bytes at)) → WaitsHead bytes
 head_short bytes short m v =
@@ -317,11 +319,11 @@ head_part bytes pages count says may s =
           (λ at h. not_bad s.few.shapes h.shapes h.bad s.few.rest h.more s.few.sound h.sound h.never s.waits (shapes_led s.few.shapes h.shapes s.few.rest (h.bad ++ h.more) s.few.sound h.sound (sym s.few.whole ∙ h.whole)));
     }
 
-pub bad_count : (sizes bytes : List ℕ) (pages count : ℕ) → Says bytes pages count → ¬ (MayCount pages count) → (at : ℕ) × IsHeaderFault sizes bytes errors.BadShape at
-bad_count sizes bytes pages count says never = (16, inl (record { pages = pages; count = count; says = says; never = never; there = refl }))
+pub bad_count : (ram : RamTerms) (sizes bytes : List ℕ) (pages count : ℕ) → Says bytes pages count → ¬ (MayCount pages count) → (at : ℕ) × IsHeaderFault ram sizes bytes errors.BadShape at
+bad_count ram sizes bytes pages count says never = (16, inl (record { pages = pages; count = count; says = says; never = never; there = refl }))
 
-pub bad_shapes : (sizes bytes : List ℕ) (pages count : ℕ) → Says bytes pages count → MayCount pages count → ShapesBad count (drop 16 bytes) → (at : ℕ) × IsHeaderFault sizes bytes errors.BadShape at
-bad_shapes sizes bytes pages count says may s = (
+pub bad_shapes : (ram : RamTerms) (sizes bytes : List ℕ) (pages count : ℕ) → Says bytes pages count → MayCount pages count → ShapesBad count (drop 16 bytes) → (at : ℕ) × IsHeaderFault ram sizes bytes errors.BadShape at
+bad_shapes ram sizes bytes pages count says may s = (
   16 + (length (spelled_shapes s.few.shapes) + length s.bad.bad),
   inr (record {
     pages = pages;
@@ -362,31 +364,31 @@ not_bad_whole : (ss ts : List Shape) (bad x y : List ℕ) → All IsSoundShape s
 not_bad_whole ss ts bad x y good n lt (inl l) = omega (arith, lt, ap length l.all, length-append ss l.more)
 not_bad_whole ss ts bad x y good n lt (inr l) = bad_within l.more bad x y (sound_behind ts l.more ss l.all good) n (omega (arith, lt, ap length l.all, length-append ts l.more)) l.left
 
-pub no_header_fault : (sizes bytes : List ℕ) (opening : Opening) (rest : List ℕ) → Begins bytes opening rest → sizes ≡ disk_sizes opening.shapes → (k : RecvError) (at : ℕ) → ¬ (IsHeaderFault sizes bytes k at)
-no_header_fault sizes bytes opening rest b fits errors.BadMagic at h = h.never (says_of b).magic
-no_header_fault sizes bytes opening rest b fits errors.BadVersion at h = h.never (says_of b).known
-no_header_fault sizes bytes opening rest b fits errors.BadShape at (inl h) =
+pub no_header_fault : (ram : RamTerms) (sizes bytes : List ℕ) (opening : Opening) (rest : List ℕ) → Begins bytes opening rest → sizes ≡ disk_sizes opening.shapes → HasPages ram opening.pages → (k : RecvError) (at : ℕ) → ¬ (IsHeaderFault ram sizes bytes k at)
+no_header_fault ram sizes bytes opening rest b fits suits errors.BadMagic at h = h.never (says_of b).magic
+no_header_fault ram sizes bytes opening rest b fits suits errors.BadVersion at h = h.never (says_of b).known
+no_header_fault ram sizes bytes opening rest b fits suits errors.BadShape at (inl h) =
     let says = says_of b in
     h.never (rw (sym h.says.pages_are ∙ says.pages_are, sym h.says.count_is ∙ says.count_is) (record { some_page = b.good.some_page; few_pages = b.good.few_pages; some_device = b.good.some_device; few_devices = b.good.few_devices }))
-no_header_fault sizes bytes opening rest b fits errors.BadShape at (inr h) =
+no_header_fault ram sizes bytes opening rest b fits suits errors.BadShape at (inr h) =
     let says = says_of b in
     not_bad_whole opening.shapes h.shapes h.bad rest h.more b.good.sound h.never (omega (arith, h.fewer, sym h.says.count_is ∙ says.count_is)) (shapes_led opening.shapes h.shapes rest (h.bad ++ h.more) b.good.sound h.sound (sym (shapes_behind b) ∙ h.whole))
-no_header_fault sizes bytes opening rest b fits errors.ShapeMismatch at h = h.never (fits ∙ ap disk_sizes (header_same b h.begins))
-no_header_fault sizes bytes opening rest b fits errors.BadTag at h = h
-no_header_fault sizes bytes opening rest b fits errors.BadPage at h = h
-no_header_fault sizes bytes opening rest b fits errors.BadSector at h = h
-no_header_fault sizes bytes opening rest b fits errors.BadRound at h = h
-no_header_fault sizes bytes opening rest b fits errors.BadDevice at h = h
-no_header_fault sizes bytes opening rest b fits errors.BadDigest at h = h
-no_header_fault sizes bytes opening rest b fits errors.Missing at h = h
-no_header_fault sizes bytes opening rest b fits errors.Trailing at h = h
-no_header_fault sizes bytes opening rest b fits errors.Truncated at h = h
-no_header_fault sizes bytes opening rest b fits errors.DiskFailed at h = h
-no_header_fault sizes bytes opening rest b fits errors.NoMemory at h = h
-no_header_fault sizes bytes opening rest b fits errors.AlreadyFailed at h = h
+no_header_fault ram sizes bytes opening rest b fits suits errors.ShapeMismatch at h = h.never (fits ∙ ap disk_sizes (header_same b h.begins), subst (HasPages ram) (sym (says_of b).pages_are ∙ (says_of h.begins).pages_are) suits)
+no_header_fault ram sizes bytes opening rest b fits suits errors.BadTag at h = h
+no_header_fault ram sizes bytes opening rest b fits suits errors.BadPage at h = h
+no_header_fault ram sizes bytes opening rest b fits suits errors.BadSector at h = h
+no_header_fault ram sizes bytes opening rest b fits suits errors.BadRound at h = h
+no_header_fault ram sizes bytes opening rest b fits suits errors.BadDevice at h = h
+no_header_fault ram sizes bytes opening rest b fits suits errors.BadDigest at h = h
+no_header_fault ram sizes bytes opening rest b fits suits errors.Missing at h = h
+no_header_fault ram sizes bytes opening rest b fits suits errors.Trailing at h = h
+no_header_fault ram sizes bytes opening rest b fits suits errors.Truncated at h = h
+no_header_fault ram sizes bytes opening rest b fits suits errors.DiskFailed at h = h
+no_header_fault ram sizes bytes opening rest b fits suits errors.NoMemory at h = h
+no_header_fault ram sizes bytes opening rest b fits suits errors.AlreadyFailed at h = h
 
-pub told_shapes : (bytes : List ℕ) (pages count : ℕ) (e : RecvError) → Says bytes pages count → MayCount pages count → OnBad e (ShapesBad count (drop 16 bytes)) → TellsHead e ((sizes : List ℕ) → (at : ℕ) × IsHeaderFault sizes bytes e at)
-told_shapes bytes pages count errors.BadShape says may h = λ sizes. bad_shapes sizes bytes pages count says may h
+pub told_shapes : (bytes : List ℕ) (pages count : ℕ) (e : RecvError) → Says bytes pages count → MayCount pages count → OnBad e (ShapesBad count (drop 16 bytes)) → TellsHead e ((ram : RamTerms) (sizes : List ℕ) → (at : ℕ) × IsHeaderFault ram sizes bytes e at)
+told_shapes bytes pages count errors.BadShape says may h = λ ram sizes. bad_shapes ram sizes bytes pages count says may h
 told_shapes bytes pages count errors.NoMemory says may h = tt
 told_shapes bytes pages count errors.BadMagic says may h = absurd h
 told_shapes bytes pages count errors.BadVersion says may h = absurd h

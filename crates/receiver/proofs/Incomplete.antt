@@ -6,6 +6,8 @@ use Rattle.sha2.specs.Sha256.{sha256}
 use Rattle.sha2.specs.declared.Sha256.{Sha256}
 use Rattle.sha2.proofs.Facts256.{length-sha256}
 use Rattle.blk.specs.Disk.{DiskState}
+use Rattle.guestmem.specs.Memory.{Memory}
+use Rattle.machine.specs.Room.{RoomSeen}
 use Rattle.guestmem.specs.Number.{IsBytes}
 use Rattle.guestmem.specs.ByteLaws.{IsBytes-append}
 use Rattle.receiver.specs.Opened.{header, Opened}
@@ -22,6 +24,7 @@ use Rattle.receiver.specs.Receiving.{HasBeenFed, IsKnown, IsPastHead, IsReceiver
 use Rattle.receiver.specs.Waiting.{LacksBytes, ReadsRecords}
 use Rattle.receiver.specs.declared.stage.Stage.{Stage}
 use Rattle.receiver.specs.declared.stage.Stage.TheVariants as stages
+use Rattle.receiver.specs.declared.ram_terms.RamTerms.{RamTerms}
 use Rattle.receiver.specs.declared.recv_error.RecvError.{RecvError}
 use Rattle.receiver.specs.declared.recv_error.RecvError.TheVariants as errors
 use Rattle.receiver.proofs.Feeding.{GoesOn, is_receiver}
@@ -101,9 +104,9 @@ waits_on opening before stage held piece w waits = record {
 }
 
 -- What is known of the bytes stays known.
-known_on : (base : ℕ) (ds : List DiskState) (digest : Sha256) (front held piece : List ℕ) (stage : Stage) → IsWithinBody stage held piece → IsKnown base ds digest front held stage → IsKnown base ds digest front (held ++ piece) stage
-known_on base ds digest front held piece stages.Head w known = absurd w.reads
-known_on base ds digest front held piece (stages.Records i) w known =
+known_on : (ram : RamTerms) (ds : List DiskState) (digest : Sha256) (front held piece : List ℕ) (stage : Stage) → IsWithinBody stage held piece → IsKnown ram ds digest front held stage → IsKnown ram ds digest front (held ++ piece) stage
+known_on ram ds digest front held piece stages.Head w known = absurd w.reads
+known_on ram ds digest front held piece (stages.Records i) w known =
     let reading = known.1 in
     let here = reading.open_at in (
       known.0,
@@ -113,24 +116,24 @@ known_on base ds digest front held piece (stages.Records i) w known =
         open_at = record { before = here.before; read = here.read; waits = waits_on reading.opening here.before (stages.Records i) held piece w here.waits };
       },
     )
-known_on base ds digest front held piece (stages.Ended i) w known = absurd w.reads
-known_on base ds digest front held piece stages.Failed w known = absurd w.reads
+known_on ram ds digest front held piece (stages.Ended i) w known = absurd w.reads
+known_on ram ds digest front held piece stages.Failed w known = absurd w.reads
 
 -- The piece is taken, and the receiver is one still.
-pub held_on : (base : ℕ) (place : Option Ptr) (ds : List DiskState) (stage : Stage) (digest : Sha256) (held piece : List ℕ) → IsBytes piece → IsWithinBody stage held piece → GoesOn (received_by base place ds stage digest held) piece (received_by base place ds stage digest (held ++ piece))
-held_on base place ds stage digest held piece are w =
-    let more : (b : List ℕ) → HasBeenFed (received_by base place ds stage digest held) b → IsTaken base ds digest (b ++ piece) (held ++ piece) stage =
+pub held_on : (ram : RamTerms) (place : Option Ptr) (ds : List DiskState) (stage : Stage) (digest : Sha256) (held piece : List ℕ) → IsBytes piece → IsWithinBody stage held piece → GoesOn (received_by ram place ds stage digest held) piece (received_by ram place ds stage digest (held ++ piece))
+held_on ram place ds stage digest held piece are w =
+    let more : (b : List ℕ) → HasBeenFed (received_by ram place ds stage digest held) b → IsTaken ram ds digest (b ++ piece) (held ++ piece) stage =
     λ b h. record {
       front = h.taken.front;
       whole = ap (λ (x : List ℕ). x ++ piece) h.taken.whole ∙ append_assoc h.taken.front held piece;
-      known = known_on base ds digest h.taken.front held piece stage w h.taken.known;
+      known = known_on ram ds digest h.taken.front held piece stage w h.taken.known;
     } in
     record {
-      base = refl;
+      ram = refl;
       sizes = refl;
       marks = refl;
       fed = λ b h. record { goes_on = h.goes_on; bytes = IsBytes-append b piece h.bytes are; taken = more b h };
-      quiet = λ b h. no_fault_known base ds digest (b ++ piece) (held ++ piece) stage (more b h);
+      quiet = λ b h. no_fault_known ram ds digest (b ++ piece) (held ++ piece) stage (more b h);
     }
 
 -- With the piece behind the held bytes, the record lacks so many fewer.
@@ -157,9 +160,9 @@ on_reading (stages.Records i) reads = refl
 on_reading (stages.Ended i) reads = absurd reads
 on_reading stages.Failed reads = absurd reads
 
-pub receiver_on : (base : ℕ) (ds : List DiskState) (digest : Sha256) (held piece : List ℕ) (room more lacking left : ℕ) (stage : Stage) → IsBytes piece → length piece < lacking → left + length piece ≡ lacking → IsReceiver base ds digest held room lacking stage → room ≤ more → IsReceiver base ds digest (held ++ piece) more left stage
-receiver_on base ds digest held piece room more lacking left stage are less is kept le =
+pub receiver_on : (ram : RamTerms) (aside : Option Memory) (reserved : Option RoomSeen) (ds : List DiskState) (digest : Sha256) (held piece : List ℕ) (room more lacking left : ℕ) (stage : Stage) → IsBytes piece → length piece < lacking → left + length piece ≡ lacking → IsReceiver ram aside reserved ds digest held room lacking stage → room ≤ more → IsReceiver ram aside reserved ds digest (held ++ piece) more left stage
+receiver_on ram aside reserved ds digest held piece room more lacking left stage are less is kept le =
     let l = kept.lacks (omega (arith, less)) in
     let w = within_body stage held piece lacking are less l in
     let some = kept.known (on_reading stage l.reads) in
-    is_receiver base ds digest (held ++ piece) more left stage some.0 (known_on base ds digest some.0 held piece stage w some.1) (omega (arith, w.few, length-append held piece)) (omega (arith, kept.roomy (past_reading stage l.reads), le)) (λ some_left. lacks_on stage held piece lacking left are is l)
+    is_receiver ram aside reserved ds digest (held ++ piece) more left stage some.0 kept.ready kept.roomed (known_on ram ds digest some.0 held piece stage w some.1) (omega (arith, w.few, length-append held piece)) (omega (arith, kept.roomy (past_reading stage l.reads), le)) (λ some_left. lacks_on stage held piece lacking left are is l)

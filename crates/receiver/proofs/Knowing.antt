@@ -16,6 +16,7 @@ use Rattle.wire.specs.Stream.{IsStream, texts, rounds, shapes_in, device_texts, 
 use Rattle.receiver.specs.Taken.{shown}
 use Rattle.guestmem.specs.Item.{Item}
 use Rattle.blk.specs.Disk.{AreSectors, DiskState}
+use Rattle.blk.specs.Sectors.{AreWhole, Sector}
 use Rattle.machine.specs.First.{dealt_sectors, marked_sectors, saved_machine}
 use Rattle.machine.specs.Layout.{IsItemIn, layout_of, number_of, pages_of}
 use Rattle.machine.specs.Shapes.{disk_sizes}
@@ -27,15 +28,15 @@ use Rattle.machine.proofs.Numbering.{sound_layout}
 use Rattle.receiver.proofs.Lists.{take_all}
 use Rattle.wire.proofs.Spelling.{tail_same, split_same}
 use Rattle.receiver.specs.Disks.{AreHonestDisks, all_marks_in, sizes_in}
-use Rattle.receiver.proofs.Sectors.{marked_sizes, marked_whole, marks_count}
+use Rattle.receiver.proofs.Sectors.{dealt_bad, marked_bad, marked_sizes, marked_whole, marks_count, written_sizes}
 use Rattle.receiver.specs.Good.{Follows, devices_in}
-use Rattle.receiver.specs.Faults.{IsComplete, IsBadDigest, IsTrailing, IsFault, IsFront}
-use Rattle.receiver.specs.Fed.{HasRead, IsEnded, device_records, held_sectors}
-use Rattle.receiver.specs.Heading.{WaitsHead}
-use Rattle.receiver.specs.Receiving.{IsKnown, IsReading, IsTaken, HasCome, IsWholeFor, NoFault}
+use Rattle.receiver.specs.Faults.{IsComplete, IsBadDigest, IsTrailing, IsFault, IsFront, WaitsHead}
+use Rattle.receiver.specs.Fed.{HasRead, IsEnded, device_records}
+use Rattle.receiver.specs.Receiving.{IsArrived, IsKnown, IsReading, IsTaken, HasCome, IsWholeFor, NoFault}
 use Rattle.receiver.specs.declared.intake.Intake.{Intake}
 use Rattle.receiver.specs.declared.stage.Stage.{Stage}
 use Rattle.receiver.specs.declared.stage.Stage.TheVariants as stages
+use Rattle.receiver.specs.declared.ram_terms.RamTerms.{RamTerms}
 use Rattle.receiver.specs.declared.recv_error.RecvError.{RecvError}
 use Rattle.receiver.proofs.Aligned.{no_record_fault, not_early}
 use Rattle.receiver.proofs.Heads.{head_short, no_header_fault}
@@ -78,44 +79,44 @@ end_quiet opening before digest complete is =
     (λ z. absurd (no_page 5 (omega arith) (omega arith) z)) (λ z. absurd (omega (arith, z))) (λ z. absurd (omega (arith, z))) (λ z. absurd (omega (arith, z)))
     (λ five. digest_quiet opening before digest is)
 
-pub quiet_front : (base : ℕ) (sizes bytes : List ℕ) (opening : Opened) (before : List Record) (tail : List ℕ) → IsFront base sizes bytes opening before tail
+pub quiet_front : (ram : RamTerms) (sizes bytes : List ℕ) (opening : Opened) (before : List Record) (tail : List ℕ) → IsFront ram sizes bytes opening before tail
     → ((r : Record) (y : List ℕ) → Follows opening before r → ¬ (tail ≡ spelled_record r ++ y)) → ((k : RecvError) (place : ℕ) → ¬ (IsFault opening before tail k place))
-    → NoFault base sizes bytes
-quiet_front base sizes bytes opening before tail front none quiets k at (inl h) = no_header_fault sizes bytes (said_by opening) (texts before ++ tail) front.begins front.fits k at h
-quiet_front base sizes bytes opening before tail front none quiets k at (inr h) = no_record_fault base sizes bytes opening before tail front none quiets k at h
+    → NoFault ram sizes bytes
+quiet_front ram sizes bytes opening before tail front none quiets k at (inl h) = no_header_fault ram sizes bytes (said_by opening) (texts before ++ tail) front.begins front.fits front.suits k at h
+quiet_front ram sizes bytes opening before tail front none quiets k at (inr h) = no_record_fault ram sizes bytes opening before tail front none quiets k at h
 
-no_fault_head : (base : ℕ) (sizes held : List ℕ) → WaitsHead held → NoFault base sizes held
-no_fault_head base sizes held w k at (inl h) = w.no_fault sizes k at h
-no_fault_head base sizes held w k at (inr h) = w.no_header (said_by h.opening) (texts h.before ++ h.tail) h.front.begins
+no_fault_head : (ram : RamTerms) (sizes held : List ℕ) → WaitsHead held → NoFault ram sizes held
+no_fault_head ram sizes held w k at (inl h) = w.no_fault ram sizes k at h
+no_fault_head ram sizes held w k at (inr h) = w.no_header (said_by h.opening) (texts h.before ++ h.tail) h.front.begins
 
-no_fault_reading : (base : ℕ) (ds : List DiskState) (front held : List ℕ) (i : Intake) → IsReading base ds front held i → NoFault base (sizes_in ds) (front ++ held)
-no_fault_reading base ds front held i r =
+no_fault_reading : (ram : RamTerms) (ds : List DiskState) (front held : List ℕ) (i : Intake) → IsReading ram ds front held i → NoFault ram (sizes_in ds) (front ++ held)
+no_fault_reading ram ds front held i r =
     let o = r.open_at in
-    quiet_front base (sizes_in ds) (front ++ held) r.opening o.before held (front_at r.based (front_of (front ++ held) held o.read refl)) (λ s y f e. o.waits.no_record s y f.spells f.has e) o.waits.no_fault
+    quiet_front ram (sizes_in ds) (front ++ held) r.opening o.before held (front_at r.based (front_of (front ++ held) held o.read refl)) (λ s y f e. o.waits.no_record s y f.spells f.has e) o.waits.no_fault
 
-no_fault_come : (base : ℕ) (ds : List DiskState) (bytes : List ℕ) (i : Intake) → HasCome base ds bytes i → NoFault base (sizes_in ds) bytes
-no_fault_come base ds bytes i h =
+no_fault_come : (ram : RamTerms) (ds : List DiskState) (bytes : List ℕ) (i : Intake) → HasCome ram ds bytes i → NoFault ram (sizes_in ds) bytes
+no_fault_come ram ds bytes i h =
     let w = h.ended in
     let whole : bytes ≡ w.front ++ (5 ∷ sha256 w.front) = w.whole ∙ ap (λ (x : List ℕ). w.front ++ x) (commit_text (sha256 w.front)) in
-    quiet_front base (sizes_in ds) bytes h.opening w.before (5 ∷ sha256 w.front) (front_at h.based (front_of bytes (5 ∷ sha256 w.front) w.read whole))
+    quiet_front ram (sizes_in ds) bytes h.opening w.before (5 ∷ sha256 w.front) (front_at h.based (front_of bytes (5 ∷ sha256 w.front) w.read whole))
     (λ s y f e. no_other h.opening w.before (sha256 w.front) s y f e) (end_quiet h.opening w.before (sha256 w.front) w.complete (ap sha256 w.read.whole))
 
 none_held : (front held : List ℕ) → held ≡ [] → front ++ held ≡ front
 none_held front held none = ap (λ (x : List ℕ). front ++ x) none ∙ append-nil front
 
 -- No fault stands in what was fed while no refusal came.
-no_fault_in_stage : (base : ℕ) (ds : List DiskState) (digest : Sha256) (front held : List ℕ) (stage : Stage) → IsKnown base ds digest front held stage → NoFault base (sizes_in ds) (front ++ held)
-no_fault_in_stage base ds digest front held stages.Head k = rw (k.0) (no_fault_head base (sizes_in ds) held k.2)
-no_fault_in_stage base ds digest front held (stages.Records i) k = no_fault_reading base ds front held i k.1
-no_fault_in_stage base ds digest front held (stages.Ended i) k = rw (none_held front held k.0) (no_fault_come base ds front i k.1)
-no_fault_in_stage base ds digest front held stages.Failed k = absurd k
+no_fault_in_stage : (ram : RamTerms) (ds : List DiskState) (digest : Sha256) (front held : List ℕ) (stage : Stage) → IsKnown ram ds digest front held stage → NoFault ram (sizes_in ds) (front ++ held)
+no_fault_in_stage ram ds digest front held stages.Head k = rw (k.0) (no_fault_head ram (sizes_in ds) held k.2)
+no_fault_in_stage ram ds digest front held (stages.Records i) k = no_fault_reading ram ds front held i k.1
+no_fault_in_stage ram ds digest front held (stages.Ended i) k = rw (none_held front held k.0) (no_fault_come ram ds front i k.1)
+no_fault_in_stage ram ds digest front held stages.Failed k = absurd k
 
-pub no_fault_known : (base : ℕ) (ds : List DiskState) (digest : Sha256) (bytes held : List ℕ) (stage : Stage) → IsTaken base ds digest bytes held stage → NoFault base (sizes_in ds) bytes
-no_fault_known base ds digest bytes held stage t = rw (t.whole) (no_fault_in_stage base ds digest t.front held stage t.known)
+pub no_fault_known : (ram : RamTerms) (ds : List DiskState) (digest : Sha256) (bytes held : List ℕ) (stage : Stage) → IsTaken ram ds digest bytes held stage → NoFault ram (sizes_in ds) bytes
+no_fault_known ram ds digest bytes held stage t = rw (t.whole) (no_fault_in_stage ram ds digest t.front held stage t.known)
 
 -- All bytes of a stream that has ended.
-pub come_of : (base : ℕ) (ds : List DiskState) (digest : Sha256) (bytes held : List ℕ) (i : Intake) → IsTaken base ds digest bytes held (stages.Ended i) → HasCome base ds bytes i
-come_of base ds digest bytes held i t = rw (t.whole ∙ none_held t.front held t.known.0) t.known.1
+pub come_of : (ram : RamTerms) (ds : List DiskState) (digest : Sha256) (bytes held : List ℕ) (i : Intake) → IsTaken ram ds digest bytes held (stages.Ended i) → HasCome ram ds bytes i
+come_of ram ds digest bytes held i t = rw (t.whole ∙ none_held t.front held t.known.0) t.known.1
 
 -- A whole stream.
 
@@ -144,9 +145,9 @@ unfolding rounds device_records
 rounds_none k [] = refl
 rounds_none k (d ∷ ds) = rounds_none (k + 1) ds
 
--- The machine that was read.
-abbrev pub read_machine : List DiskState → Intake → MachineState
-read_machine ds i = saved_machine i.ram.bytes i.devices.items (marked_sectors ds i.bad.items)
+-- The machine that was read, whose disks hold these sectors.
+abbrev pub read_machine : Intake → List (List Sector) → MachineState
+read_machine i sectors = saved_machine i.ram.bytes i.devices.items sectors
 
 some_shown : (b : Bool) (x : Record) (o : Option Record) → o ≡ shown b x → is_some o ≡ true → o ≡ Some x
 some_shown true x o e s = e
@@ -159,17 +160,18 @@ base_found : (base len : ℕ) (ds : List DeviceState) → AllByRecursion (IsSoun
 base_found base len [] h some = absurd (omega (arith, some))
 base_found base len (d ∷ ds) h some = h.0.ram_base
 
--- The machine that was read has the base that was named.
-pub read_based : {ds : List DiskState} {front : List ℕ} {opening : Opened} {before : List Record} {i : Intake} → HasRead ds opening before i front → devices_in before ≡ length opening.shapes → base_of i.devices.items ≡ opening.base
+-- The machine that was read has the ram that was named.
+pub read_based : {ds : List DiskState} {front : List ℕ} {opening : Opened} {before : List Record} {i : Intake} → HasRead ds opening before i front → devices_in before ≡ length opening.shapes → base_of i.devices.items ≡ opening.ram.base
 read_based {opening = opening} {i = i} h all =
     let count : length i.devices.items ≡ length opening.shapes = omega (arith, all, devices_are h) in
-    base_found opening.base (4096 * opening.pages) i.devices.items h.sound (omega (arith, h.head.some_device, count))
+    base_found opening.ram.base (4096 * opening.pages) i.devices.items h.sound (omega (arith, h.head.some_device, count))
 
-pub read_sound : {ds : List DiskState} {front : List ℕ} {opening : Opened} {before : List Record} {i : Intake} → HasRead ds opening before i front → devices_in before ≡ length opening.shapes → IsBytes i.ram.bytes → All (λ (d : DiskState). AreSectors d.sectors) ds → IsSound (read_machine ds i)
-read_sound {ds = ds} {opening = opening} {i = i} h all are sectors =
+read_sound : {ds : List DiskState} {front : List ℕ} {opening : Opened} {before : List Record} {i : Intake} (sectors : List (List Sector)) → HasRead ds opening before i front → devices_in before ≡ length opening.shapes → IsBytes i.ram.bytes
+    → map length sectors ≡ sizes_in ds → All AreWhole sectors → IsSound (read_machine i sectors)
+read_sound {ds = ds} {opening = opening} {i = i} sectors h all are counts whole =
     let count : length i.devices.items ≡ length opening.shapes = omega (arith, all, devices_are h) in
     let size : length i.ram.bytes / 4096 ≡ opening.pages = omega (arith, h.taken.ram_size) in
-    let sizes : disk_sizes (shapes_in i.devices.items) ≡ map length (marked_sectors ds i.bad.items) = ap disk_sizes (whole_shapes h all) ∙ sym h.fits ∙ sym (marked_sizes ds i.bad.items (marks_count ds i.bad.items h.marks_are)) in
+    let sizes : disk_sizes (shapes_in i.devices.items) ≡ map length sectors = ap disk_sizes (whole_shapes h all) ∙ sym h.fits ∙ sym counts in
     record {
       whole_pages = omega (arith, h.taken.ram_size);
       some_pages = omega (arith, size, h.head.some_page);
@@ -178,28 +180,38 @@ read_sound {ds = ds} {opening = opening} {i = i} h all are sectors =
       few_devices = omega (arith, h.head.few_devices, count);
       devices = All-from_recursion (IsSoundDevice (base_of i.devices.items) (length i.ram.bytes)) i.devices.items (rw (read_based h all, h.taken.ram_size) h.sound);
       bytes = are;
-      disks = dealt_sizes i.devices.items (marked_sectors ds i.bad.items) sizes;
-      sectors = dealt_whole (shapes_in i.devices.items) (marked_sectors ds i.bad.items) (marked_whole ds i.bad.items sectors);
+      disks = dealt_sizes i.devices.items sectors sizes;
+      sectors = dealt_whole (shapes_in i.devices.items) sectors whole;
     }
 
--- Its layout is that of the header.
-pub read_layout : {ds : List DiskState} {front : List ℕ} {opening : Opened} {before : List Record} {i : Intake} → HasRead ds opening before i front → devices_in before ≡ length opening.shapes → IsSound (read_machine ds i) → layout_of (read_machine ds i) ≡ layout_in opening
-read_layout {ds = ds} {opening = opening} {i = i} h all sound =
-    let size : length i.ram.bytes / 4096 ≡ opening.pages = omega (arith, h.taken.ram_size) in
-    sound_layout (read_machine ds i) sound ∙ rw (size, whole_shapes h all) refl
+-- The machine that arrives is sound, and so is the one that was sent: the sectors of its disks are as they were written.
+pub here_sound : {ds : List DiskState} {front : List ℕ} {opening : Opened} {before : List Record} {i : Intake} → HasRead ds opening before i front → devices_in before ≡ length opening.shapes → IsBytes i.ram.bytes
+    → All (λ (d : DiskState). AreSectors d.sectors) ds → IsSound (read_machine i (marked_sectors ds i.bad.items))
+here_sound {ds = ds} {i = i} h all are sectors = read_sound (marked_sectors ds i.bad.items) h all are (marked_sizes ds i.bad.items (marks_count ds i.bad.items h.written.marks)) (marked_whole ds i.bad.items sectors)
 
-pub whole_stream : (ds : List DiskState) (held : List ℕ) (opening : Opened) (i : Intake) → IsEnded ds opening i held → IsSound (read_machine ds i) → AreHonestDisks (all_marks_in ds) → IsStream held (read_machine ds i)
-whole_stream ds held opening i w sound honest =
+sent_sound : {ds : List DiskState} {front : List ℕ} {opening : Opened} {before : List Record} {i : Intake} (h : HasRead ds opening before i front) → devices_in before ≡ length opening.shapes → IsBytes i.ram.bytes → IsSound (read_machine i h.sectors)
+sent_sound {ds = ds} {i = i} h all are = read_sound h.sectors h all are (written_sizes ds i.bad.items h.sectors h.written) h.written.whole
+
+-- Its layout is that of the header.
+pub read_layout : {ds : List DiskState} {front : List ℕ} {opening : Opened} {before : List Record} {i : Intake} (h : HasRead ds opening before i front) → devices_in before ≡ length opening.shapes → IsSound (read_machine i h.sectors)
+    → layout_of (read_machine i h.sectors) ≡ layout_in opening
+read_layout {opening = opening} {i = i} h all sound =
+    let size : length i.ram.bytes / 4096 ≡ opening.pages = omega (arith, h.taken.ram_size) in
+    sound_layout (read_machine i h.sectors) sound ∙ rw (size, whole_shapes h all) refl
+
+sent_stream : (ds : List DiskState) (held : List ℕ) (opening : Opened) (i : Intake) (w : IsEnded ds opening i held) → IsBytes i.ram.bytes → IsStream held (read_machine i w.read.sectors)
+sent_stream ds held opening i w are =
     let h = w.read in
     let all = w.complete.devices refl in
     let same : texts w.before ≡ texts h.entries ++ device_texts 0 i.devices.items =
     ap texts h.split ∙ texts-append h.entries (device_records 0 i.devices.items) ∙ ap (λ (x : List ℕ). texts h.entries ++ x) (texts_devices 0 i.devices.items) in
     let front : w.front ≡ before_commit opening.version opening.pages h.entries i.devices.items =
     h.whole ∙ ap (λ (x : List ℕ). header opening ++ x) same ∙ ap (λ (x : List Shape). told.header (record { version = opening.version; pages = opening.pages; shapes = x }) ++ (texts h.entries ++ device_texts 0 i.devices.items)) (sym (whole_shapes h all)) in
-    let m : MachineState = read_machine ds i in
+    let m : MachineState = read_machine i h.sectors in
+    let sound = sent_sound h all are in
     let layout : layout_of m ≡ layout_in opening = read_layout h all sound in
     let size : pages_of m ≡ opening.pages = omega (arith, h.taken.ram_size) in
-    let disks : m.disks ≡ held_sectors opening.shapes ds i.bad.items = ap (λ (x : List Shape). dealt_sectors x (marked_sectors ds i.bad.items)) (whole_shapes h all) in
+    let disks : m.disks ≡ dealt_sectors opening.shapes h.sectors = ap (λ (x : List Shape). dealt_sectors x h.sectors) (whole_shapes h all) in
     record {
       version = opening.version;
       entries = h.entries;
@@ -210,14 +222,29 @@ whole_stream ds held opening i w sound honest =
         last = λ item has.
             let here : IsItemIn (layout_in opening) item = rw layout at has in
             sym (ap (last_named item) h.split ∙ last_entries item 0 h.entries i.devices.items)
-            ∙ rw disks (some_shown (get_or i.named (number_of (layout_in opening) item) false) (record_in opening.version i.ram.bytes (held_sectors opening.shapes ds i.bad.items) item) (last_named item w.before) (h.taken.last honest item here) (w.complete.items item here));
+            ∙ rw disks (some_shown (get_or i.named (number_of (layout_in opening) item) false) (record_in opening.version i.ram.bytes (dealt_sectors opening.shapes h.sectors) item) (last_named item w.before) (h.taken.last item here) (w.complete.items item here));
         sound = sound;
         devices = All-from_recursion (IsDeviceOf opening.version) i.devices.items h.has;
         whole = rw size (w.whole ∙ ap (λ (x : List ℕ). x ++ spelled_record (commit (sha256 x))) front);
       };
     }
 
-pub whole_for : (ds : List DiskState) (held : List ℕ) (opening : Opened) (i : Intake) → IsEnded ds opening i held → IsWholeFor opening.base (sizes_in ds) held
+-- What arrives, over any disks, and over honest ones.
+pub any_arrived : (ds : List DiskState) (held : List ℕ) (opening : Opened) (i : Intake) → IsEnded ds opening i held → IsBytes i.ram.bytes → IsArrived held (read_machine i (marked_sectors ds i.bad.items))
+any_arrived ds held opening i w are =
+    let h = w.read in
+    record {
+      sent = read_machine i h.sectors;
+      stream = sent_stream ds held opening i w are;
+      ram = refl;
+      devices = refl;
+      bad = dealt_bad (shapes_in i.devices.items) (marked_sectors ds i.bad.items) h.sectors (marked_bad ds i.bad.items h.written.marks ∙ sym h.written.bad_are);
+    }
+
+pub whole_stream : (ds : List DiskState) (held : List ℕ) (opening : Opened) (i : Intake) → IsEnded ds opening i held → IsBytes i.ram.bytes → AreHonestDisks (all_marks_in ds) → IsStream held (read_machine i (marked_sectors ds i.bad.items))
+whole_stream ds held opening i w are honest = rw (w.read.written.held honest) (sent_stream ds held opening i w are)
+
+pub whole_for : (ds : List DiskState) (held : List ℕ) (opening : Opened) (i : Intake) → IsEnded ds opening i held → IsWholeFor opening.ram (sizes_in ds) held
 whole_for ds held opening i w = record {
   opening = opening;
   before = w.before;
@@ -225,5 +252,5 @@ whole_for ds held opening i w = record {
   complete = w.complete;
 }
 
-pub whole_come : (base : ℕ) (ds : List DiskState) (held : List ℕ) (i : Intake) → HasCome base ds held i → IsWholeFor base (sizes_in ds) held
-whole_come base ds held i h = subst (λ (b : ℕ). IsWholeFor b (sizes_in ds) held) h.based (whole_for ds held h.opening i h.ended)
+pub whole_come : (ram : RamTerms) (ds : List DiskState) (held : List ℕ) (i : Intake) → HasCome ram ds held i → IsWholeFor ram (sizes_in ds) held
+whole_come ram ds held i h = subst (λ (r : RamTerms). IsWholeFor r (sizes_in ds) held) h.based (whole_for ds held h.opening i h.ended)

@@ -6,7 +6,7 @@ use Rattle.std.specs.List.{AllByRecursion}
 use Rattle.sha2.specs.Sha256.{sha256}
 use Rattle.sha2.proofs.Facts256.{length-sha256}
 use Rattle.wire.specs.Header.{spelled_shapes}
-use Rattle.receiver.specs.Opened.{Opened, header, said_by}
+use Rattle.receiver.specs.Opened.{Opened, header, ram_at, said_by}
 use Rattle.wire.specs.Header as told
 use Rattle.wire.specs.Records.{Record, spelled_record}
 use Rattle.wire.specs.Stream.{texts}
@@ -17,6 +17,7 @@ use Rattle.wire.proofs.Spelling.{head_same, tail_same, split_same, number_same}
 use Rattle.receiver.specs.Good.{AreGood, devices_in}
 use Rattle.machine.specs.Shapes.{disk_sizes}
 use Rattle.receiver.specs.Faults.{MayTag, IsComplete, IsLate, IsPageTag, Opens, IsBadTag, IsMissing, IsBadPage, IsLongZeros, IsBadSector, IsBadRound, IsBadHead, IsBadBody, IsBadDigest, IsTrailing, IsFault, IsRecordFault, IsBadMagic, IsBadVersion, IsBadCount, IsBadShape, IsMismatch, IsNoShape, IsHeaderFault, Fault}
+use Rattle.receiver.specs.declared.ram_terms.RamTerms.{RamTerms}
 use Rattle.receiver.specs.declared.recv_error.RecvError.{RecvError}
 use Rattle.receiver.specs.declared.recv_error.RecvError.TheVariants as errors
 use Rattle.receiver.proofs.Quiet.{no_page}
@@ -161,8 +162,8 @@ led_one : (opening : Opened) (before others : List Record) (tail rest : List ℕ
 led_one opening before others tail rest k j p q good goods f h (inl l) = longer_one opening before others tail rest k j p q goods f h l.more l.all l.left
 led_one opening before others tail rest k j p q good goods f h (inr l) = let o = longer_one opening others before rest tail j k q p good h f l.more l.all l.left in (sym o.0, sym o.1)
 
-one_record_fault : (base : ℕ) (sizes bytes : List ℕ) (k j : RecvError) (at bt : ℕ) → IsRecordFault base sizes bytes k at → IsRecordFault base sizes bytes j bt → Same k at j bt
-one_record_fault base sizes bytes k j at bt f h =
+one_record_fault : (ram : RamTerms) (sizes bytes : List ℕ) (k j : RecvError) (at bt : ℕ) → IsRecordFault ram sizes bytes k at → IsRecordFault ram sizes bytes j bt → Same k at j bt
+one_record_fault ram sizes bytes k j at bt f h =
     let t = one_opening bytes h.opening f.opening (texts h.before ++ h.tail) (texts f.before ++ f.tail) (h.front.based ∙ sym f.front.based) h.front.begins f.front.begins in
     let goods : AreGood f.opening [] h.before = rw t.0 at h.front.good in
     let fault : IsFault f.opening h.before h.tail j h.place = rw t.0 at h.fault in
@@ -187,125 +188,125 @@ shapes_one ss ts bad other x y h k n m (inr l) =
     let same : ss ≡ ts = l.all ∙ ap (λ (z : List Shape). ts ++ z) o.0 ∙ append-nil ts in
     omega (arith, o.1, ap (λ (z : List Shape). length (spelled_shapes z)) same)
 
-one_magic : (sizes bytes : List ℕ) (p : ℕ) → IsBadMagic bytes p → (j : RecvError) (q : ℕ) → IsHeaderFault sizes bytes j q → Same errors.BadMagic p j q
-one_magic sizes bytes p f errors.BadMagic q h = (refl, f.there ∙ sym h.there)
-one_magic sizes bytes p f errors.BadVersion q h = absurd (f.never h.magic)
-one_magic sizes bytes p f errors.BadShape q (inl h) = absurd (f.never h.says.magic)
-one_magic sizes bytes p f errors.BadShape q (inr h) = absurd (f.never h.says.magic)
-one_magic sizes bytes p f errors.ShapeMismatch q h = absurd (f.never (says_of h.begins).magic)
-one_magic sizes bytes p f errors.BadTag q h = absurd h
-one_magic sizes bytes p f errors.BadPage q h = absurd h
-one_magic sizes bytes p f errors.BadSector q h = absurd h
-one_magic sizes bytes p f errors.BadRound q h = absurd h
-one_magic sizes bytes p f errors.BadDevice q h = absurd h
-one_magic sizes bytes p f errors.BadDigest q h = absurd h
-one_magic sizes bytes p f errors.Missing q h = absurd h
-one_magic sizes bytes p f errors.Trailing q h = absurd h
-one_magic sizes bytes p f errors.Truncated q h = absurd h
-one_magic sizes bytes p f errors.DiskFailed q h = absurd h
-one_magic sizes bytes p f errors.NoMemory q h = absurd h
-one_magic sizes bytes p f errors.AlreadyFailed q h = absurd h
+one_magic : (ram : RamTerms) (sizes bytes : List ℕ) (p : ℕ) → IsBadMagic bytes p → (j : RecvError) (q : ℕ) → IsHeaderFault ram sizes bytes j q → Same errors.BadMagic p j q
+one_magic ram sizes bytes p f errors.BadMagic q h = (refl, f.there ∙ sym h.there)
+one_magic ram sizes bytes p f errors.BadVersion q h = absurd (f.never h.magic)
+one_magic ram sizes bytes p f errors.BadShape q (inl h) = absurd (f.never h.says.magic)
+one_magic ram sizes bytes p f errors.BadShape q (inr h) = absurd (f.never h.says.magic)
+one_magic ram sizes bytes p f errors.ShapeMismatch q h = absurd (f.never (says_of h.begins).magic)
+one_magic ram sizes bytes p f errors.BadTag q h = absurd h
+one_magic ram sizes bytes p f errors.BadPage q h = absurd h
+one_magic ram sizes bytes p f errors.BadSector q h = absurd h
+one_magic ram sizes bytes p f errors.BadRound q h = absurd h
+one_magic ram sizes bytes p f errors.BadDevice q h = absurd h
+one_magic ram sizes bytes p f errors.BadDigest q h = absurd h
+one_magic ram sizes bytes p f errors.Missing q h = absurd h
+one_magic ram sizes bytes p f errors.Trailing q h = absurd h
+one_magic ram sizes bytes p f errors.Truncated q h = absurd h
+one_magic ram sizes bytes p f errors.DiskFailed q h = absurd h
+one_magic ram sizes bytes p f errors.NoMemory q h = absurd h
+one_magic ram sizes bytes p f errors.AlreadyFailed q h = absurd h
 
-one_version : (sizes bytes : List ℕ) (p : ℕ) → IsBadVersion bytes p → (j : RecvError) (q : ℕ) → IsHeaderFault sizes bytes j q → Same errors.BadVersion p j q
-one_version sizes bytes p f errors.BadMagic q h = absurd (h.never f.magic)
-one_version sizes bytes p f errors.BadVersion q h = (refl, f.there ∙ sym h.there)
-one_version sizes bytes p f errors.BadShape q (inl h) = absurd (f.never h.says.known)
-one_version sizes bytes p f errors.BadShape q (inr h) = absurd (f.never h.says.known)
-one_version sizes bytes p f errors.ShapeMismatch q h = absurd (f.never (says_of h.begins).known)
-one_version sizes bytes p f errors.BadTag q h = absurd h
-one_version sizes bytes p f errors.BadPage q h = absurd h
-one_version sizes bytes p f errors.BadSector q h = absurd h
-one_version sizes bytes p f errors.BadRound q h = absurd h
-one_version sizes bytes p f errors.BadDevice q h = absurd h
-one_version sizes bytes p f errors.BadDigest q h = absurd h
-one_version sizes bytes p f errors.Missing q h = absurd h
-one_version sizes bytes p f errors.Trailing q h = absurd h
-one_version sizes bytes p f errors.Truncated q h = absurd h
-one_version sizes bytes p f errors.DiskFailed q h = absurd h
-one_version sizes bytes p f errors.NoMemory q h = absurd h
-one_version sizes bytes p f errors.AlreadyFailed q h = absurd h
+one_version : (ram : RamTerms) (sizes bytes : List ℕ) (p : ℕ) → IsBadVersion bytes p → (j : RecvError) (q : ℕ) → IsHeaderFault ram sizes bytes j q → Same errors.BadVersion p j q
+one_version ram sizes bytes p f errors.BadMagic q h = absurd (h.never f.magic)
+one_version ram sizes bytes p f errors.BadVersion q h = (refl, f.there ∙ sym h.there)
+one_version ram sizes bytes p f errors.BadShape q (inl h) = absurd (f.never h.says.known)
+one_version ram sizes bytes p f errors.BadShape q (inr h) = absurd (f.never h.says.known)
+one_version ram sizes bytes p f errors.ShapeMismatch q h = absurd (f.never (says_of h.begins).known)
+one_version ram sizes bytes p f errors.BadTag q h = absurd h
+one_version ram sizes bytes p f errors.BadPage q h = absurd h
+one_version ram sizes bytes p f errors.BadSector q h = absurd h
+one_version ram sizes bytes p f errors.BadRound q h = absurd h
+one_version ram sizes bytes p f errors.BadDevice q h = absurd h
+one_version ram sizes bytes p f errors.BadDigest q h = absurd h
+one_version ram sizes bytes p f errors.Missing q h = absurd h
+one_version ram sizes bytes p f errors.Trailing q h = absurd h
+one_version ram sizes bytes p f errors.Truncated q h = absurd h
+one_version ram sizes bytes p f errors.DiskFailed q h = absurd h
+one_version ram sizes bytes p f errors.NoMemory q h = absurd h
+one_version ram sizes bytes p f errors.AlreadyFailed q h = absurd h
 
-one_count : (sizes bytes : List ℕ) (p : ℕ) → IsBadCount bytes p → (j : RecvError) (q : ℕ) → IsHeaderFault sizes bytes j q → Same errors.BadShape p j q
-one_count sizes bytes p f errors.BadMagic q h = absurd (h.never f.says.magic)
-one_count sizes bytes p f errors.BadVersion q h = absurd (h.never f.says.known)
-one_count sizes bytes p f errors.BadShape q (inl h) = (refl, f.there ∙ sym h.there)
-one_count sizes bytes p f errors.BadShape q (inr h) = absurd (f.never (rw (sym f.says.pages_are ∙ h.says.pages_are, sym f.says.count_is ∙ h.says.count_is) h.may))
-one_count sizes bytes p f errors.ShapeMismatch q h = absurd (no_header_fault (disk_sizes h.opening.shapes) bytes h.opening h.more h.begins refl errors.BadShape p (inl f))
-one_count sizes bytes p f errors.BadTag q h = absurd h
-one_count sizes bytes p f errors.BadPage q h = absurd h
-one_count sizes bytes p f errors.BadSector q h = absurd h
-one_count sizes bytes p f errors.BadRound q h = absurd h
-one_count sizes bytes p f errors.BadDevice q h = absurd h
-one_count sizes bytes p f errors.BadDigest q h = absurd h
-one_count sizes bytes p f errors.Missing q h = absurd h
-one_count sizes bytes p f errors.Trailing q h = absurd h
-one_count sizes bytes p f errors.Truncated q h = absurd h
-one_count sizes bytes p f errors.DiskFailed q h = absurd h
-one_count sizes bytes p f errors.NoMemory q h = absurd h
-one_count sizes bytes p f errors.AlreadyFailed q h = absurd h
+one_count : (ram : RamTerms) (sizes bytes : List ℕ) (p : ℕ) → IsBadCount bytes p → (j : RecvError) (q : ℕ) → IsHeaderFault ram sizes bytes j q → Same errors.BadShape p j q
+one_count ram sizes bytes p f errors.BadMagic q h = absurd (h.never f.says.magic)
+one_count ram sizes bytes p f errors.BadVersion q h = absurd (h.never f.says.known)
+one_count ram sizes bytes p f errors.BadShape q (inl h) = (refl, f.there ∙ sym h.there)
+one_count ram sizes bytes p f errors.BadShape q (inr h) = absurd (f.never (rw (sym f.says.pages_are ∙ h.says.pages_are, sym f.says.count_is ∙ h.says.count_is) h.may))
+one_count ram sizes bytes p f errors.ShapeMismatch q h = absurd (no_header_fault (ram_at 0) (disk_sizes h.opening.shapes) bytes h.opening h.more h.begins refl tt errors.BadShape p (inl f))
+one_count ram sizes bytes p f errors.BadTag q h = absurd h
+one_count ram sizes bytes p f errors.BadPage q h = absurd h
+one_count ram sizes bytes p f errors.BadSector q h = absurd h
+one_count ram sizes bytes p f errors.BadRound q h = absurd h
+one_count ram sizes bytes p f errors.BadDevice q h = absurd h
+one_count ram sizes bytes p f errors.BadDigest q h = absurd h
+one_count ram sizes bytes p f errors.Missing q h = absurd h
+one_count ram sizes bytes p f errors.Trailing q h = absurd h
+one_count ram sizes bytes p f errors.Truncated q h = absurd h
+one_count ram sizes bytes p f errors.DiskFailed q h = absurd h
+one_count ram sizes bytes p f errors.NoMemory q h = absurd h
+one_count ram sizes bytes p f errors.AlreadyFailed q h = absurd h
 
-one_shape_fault : (sizes bytes : List ℕ) (p : ℕ) → IsBadShape bytes p → (j : RecvError) (q : ℕ) → IsHeaderFault sizes bytes j q → Same errors.BadShape p j q
-one_shape_fault sizes bytes p f errors.BadMagic q h = absurd (h.never f.says.magic)
-one_shape_fault sizes bytes p f errors.BadVersion q h = absurd (h.never f.says.known)
-one_shape_fault sizes bytes p f errors.BadShape q (inl h) = absurd (h.never (rw (sym h.says.pages_are ∙ f.says.pages_are, sym h.says.count_is ∙ f.says.count_is) f.may))
-one_shape_fault sizes bytes p f errors.BadShape q (inr h) = (refl, omega (arith, f.there, h.there, shapes_one f.shapes h.shapes f.bad h.bad f.more h.more f.sound h.sound f.never h.never (shapes_led f.shapes h.shapes (f.bad ++ f.more) (h.bad ++ h.more) f.sound h.sound (sym f.whole ∙ h.whole))))
-one_shape_fault sizes bytes p f errors.ShapeMismatch q h = absurd (no_header_fault (disk_sizes h.opening.shapes) bytes h.opening h.more h.begins refl errors.BadShape p (inr f))
-one_shape_fault sizes bytes p f errors.BadTag q h = absurd h
-one_shape_fault sizes bytes p f errors.BadPage q h = absurd h
-one_shape_fault sizes bytes p f errors.BadSector q h = absurd h
-one_shape_fault sizes bytes p f errors.BadRound q h = absurd h
-one_shape_fault sizes bytes p f errors.BadDevice q h = absurd h
-one_shape_fault sizes bytes p f errors.BadDigest q h = absurd h
-one_shape_fault sizes bytes p f errors.Missing q h = absurd h
-one_shape_fault sizes bytes p f errors.Trailing q h = absurd h
-one_shape_fault sizes bytes p f errors.Truncated q h = absurd h
-one_shape_fault sizes bytes p f errors.DiskFailed q h = absurd h
-one_shape_fault sizes bytes p f errors.NoMemory q h = absurd h
-one_shape_fault sizes bytes p f errors.AlreadyFailed q h = absurd h
+one_shape_fault : (ram : RamTerms) (sizes bytes : List ℕ) (p : ℕ) → IsBadShape bytes p → (j : RecvError) (q : ℕ) → IsHeaderFault ram sizes bytes j q → Same errors.BadShape p j q
+one_shape_fault ram sizes bytes p f errors.BadMagic q h = absurd (h.never f.says.magic)
+one_shape_fault ram sizes bytes p f errors.BadVersion q h = absurd (h.never f.says.known)
+one_shape_fault ram sizes bytes p f errors.BadShape q (inl h) = absurd (h.never (rw (sym h.says.pages_are ∙ f.says.pages_are, sym h.says.count_is ∙ f.says.count_is) f.may))
+one_shape_fault ram sizes bytes p f errors.BadShape q (inr h) = (refl, omega (arith, f.there, h.there, shapes_one f.shapes h.shapes f.bad h.bad f.more h.more f.sound h.sound f.never h.never (shapes_led f.shapes h.shapes (f.bad ++ f.more) (h.bad ++ h.more) f.sound h.sound (sym f.whole ∙ h.whole))))
+one_shape_fault ram sizes bytes p f errors.ShapeMismatch q h = absurd (no_header_fault (ram_at 0) (disk_sizes h.opening.shapes) bytes h.opening h.more h.begins refl tt errors.BadShape p (inr f))
+one_shape_fault ram sizes bytes p f errors.BadTag q h = absurd h
+one_shape_fault ram sizes bytes p f errors.BadPage q h = absurd h
+one_shape_fault ram sizes bytes p f errors.BadSector q h = absurd h
+one_shape_fault ram sizes bytes p f errors.BadRound q h = absurd h
+one_shape_fault ram sizes bytes p f errors.BadDevice q h = absurd h
+one_shape_fault ram sizes bytes p f errors.BadDigest q h = absurd h
+one_shape_fault ram sizes bytes p f errors.Missing q h = absurd h
+one_shape_fault ram sizes bytes p f errors.Trailing q h = absurd h
+one_shape_fault ram sizes bytes p f errors.Truncated q h = absurd h
+one_shape_fault ram sizes bytes p f errors.DiskFailed q h = absurd h
+one_shape_fault ram sizes bytes p f errors.NoMemory q h = absurd h
+one_shape_fault ram sizes bytes p f errors.AlreadyFailed q h = absurd h
 
 header_length : {bytes x y : List ℕ} {o p : told.Opening} → told.Begins bytes o x → told.Begins bytes p y → length (told.header o) ≡ length (told.header p)
 header_length {o = o} {p = p} a b = omega (arith, length_header o, length_header p, ap (λ (z : List Shape). length (spelled_shapes z)) (header_same a b))
 
-one_mismatch : (sizes bytes : List ℕ) (p : ℕ) → IsMismatch sizes bytes p → (j : RecvError) (q : ℕ) → IsHeaderFault sizes bytes j q → Same errors.ShapeMismatch p j q
-one_mismatch sizes bytes p f errors.BadMagic q h = absurd (h.never (says_of f.begins).magic)
-one_mismatch sizes bytes p f errors.BadVersion q h = absurd (h.never (says_of f.begins).known)
-one_mismatch sizes bytes p f errors.BadShape q (inl h) = absurd (no_header_fault (disk_sizes f.opening.shapes) bytes f.opening f.more f.begins refl errors.BadShape q (inl h))
-one_mismatch sizes bytes p f errors.BadShape q (inr h) = absurd (no_header_fault (disk_sizes f.opening.shapes) bytes f.opening f.more f.begins refl errors.BadShape q (inr h))
-one_mismatch sizes bytes p f errors.ShapeMismatch q h = (refl, f.there ∙ header_length f.begins h.begins ∙ sym h.there)
-one_mismatch sizes bytes p f errors.BadTag q h = absurd h
-one_mismatch sizes bytes p f errors.BadPage q h = absurd h
-one_mismatch sizes bytes p f errors.BadSector q h = absurd h
-one_mismatch sizes bytes p f errors.BadRound q h = absurd h
-one_mismatch sizes bytes p f errors.BadDevice q h = absurd h
-one_mismatch sizes bytes p f errors.BadDigest q h = absurd h
-one_mismatch sizes bytes p f errors.Missing q h = absurd h
-one_mismatch sizes bytes p f errors.Trailing q h = absurd h
-one_mismatch sizes bytes p f errors.Truncated q h = absurd h
-one_mismatch sizes bytes p f errors.DiskFailed q h = absurd h
-one_mismatch sizes bytes p f errors.NoMemory q h = absurd h
-one_mismatch sizes bytes p f errors.AlreadyFailed q h = absurd h
+one_mismatch : (ram : RamTerms) (sizes bytes : List ℕ) (p : ℕ) → IsMismatch ram sizes bytes p → (j : RecvError) (q : ℕ) → IsHeaderFault ram sizes bytes j q → Same errors.ShapeMismatch p j q
+one_mismatch ram sizes bytes p f errors.BadMagic q h = absurd (h.never (says_of f.begins).magic)
+one_mismatch ram sizes bytes p f errors.BadVersion q h = absurd (h.never (says_of f.begins).known)
+one_mismatch ram sizes bytes p f errors.BadShape q (inl h) = absurd (no_header_fault (ram_at 0) (disk_sizes f.opening.shapes) bytes f.opening f.more f.begins refl tt errors.BadShape q (inl h))
+one_mismatch ram sizes bytes p f errors.BadShape q (inr h) = absurd (no_header_fault (ram_at 0) (disk_sizes f.opening.shapes) bytes f.opening f.more f.begins refl tt errors.BadShape q (inr h))
+one_mismatch ram sizes bytes p f errors.ShapeMismatch q h = (refl, f.there ∙ header_length f.begins h.begins ∙ sym h.there)
+one_mismatch ram sizes bytes p f errors.BadTag q h = absurd h
+one_mismatch ram sizes bytes p f errors.BadPage q h = absurd h
+one_mismatch ram sizes bytes p f errors.BadSector q h = absurd h
+one_mismatch ram sizes bytes p f errors.BadRound q h = absurd h
+one_mismatch ram sizes bytes p f errors.BadDevice q h = absurd h
+one_mismatch ram sizes bytes p f errors.BadDigest q h = absurd h
+one_mismatch ram sizes bytes p f errors.Missing q h = absurd h
+one_mismatch ram sizes bytes p f errors.Trailing q h = absurd h
+one_mismatch ram sizes bytes p f errors.Truncated q h = absurd h
+one_mismatch ram sizes bytes p f errors.DiskFailed q h = absurd h
+one_mismatch ram sizes bytes p f errors.NoMemory q h = absurd h
+one_mismatch ram sizes bytes p f errors.AlreadyFailed q h = absurd h
 
-one_header_fault : (sizes bytes : List ℕ) (k : RecvError) (p : ℕ) → IsHeaderFault sizes bytes k p → (j : RecvError) (q : ℕ) → IsHeaderFault sizes bytes j q → Same k p j q
-one_header_fault sizes bytes errors.BadMagic p f = one_magic sizes bytes p f
-one_header_fault sizes bytes errors.BadVersion p f = one_version sizes bytes p f
-one_header_fault sizes bytes errors.BadShape p (inl f) = one_count sizes bytes p f
-one_header_fault sizes bytes errors.BadShape p (inr f) = one_shape_fault sizes bytes p f
-one_header_fault sizes bytes errors.ShapeMismatch p f = one_mismatch sizes bytes p f
-one_header_fault sizes bytes errors.BadTag p f = absurd f
-one_header_fault sizes bytes errors.BadPage p f = absurd f
-one_header_fault sizes bytes errors.BadSector p f = absurd f
-one_header_fault sizes bytes errors.BadRound p f = absurd f
-one_header_fault sizes bytes errors.BadDevice p f = absurd f
-one_header_fault sizes bytes errors.BadDigest p f = absurd f
-one_header_fault sizes bytes errors.Missing p f = absurd f
-one_header_fault sizes bytes errors.Trailing p f = absurd f
-one_header_fault sizes bytes errors.Truncated p f = absurd f
-one_header_fault sizes bytes errors.DiskFailed p f = absurd f
-one_header_fault sizes bytes errors.NoMemory p f = absurd f
-one_header_fault sizes bytes errors.AlreadyFailed p f = absurd f
+one_header_fault : (ram : RamTerms) (sizes bytes : List ℕ) (k : RecvError) (p : ℕ) → IsHeaderFault ram sizes bytes k p → (j : RecvError) (q : ℕ) → IsHeaderFault ram sizes bytes j q → Same k p j q
+one_header_fault ram sizes bytes errors.BadMagic p f = one_magic ram sizes bytes p f
+one_header_fault ram sizes bytes errors.BadVersion p f = one_version ram sizes bytes p f
+one_header_fault ram sizes bytes errors.BadShape p (inl f) = one_count ram sizes bytes p f
+one_header_fault ram sizes bytes errors.BadShape p (inr f) = one_shape_fault ram sizes bytes p f
+one_header_fault ram sizes bytes errors.ShapeMismatch p f = one_mismatch ram sizes bytes p f
+one_header_fault ram sizes bytes errors.BadTag p f = absurd f
+one_header_fault ram sizes bytes errors.BadPage p f = absurd f
+one_header_fault ram sizes bytes errors.BadSector p f = absurd f
+one_header_fault ram sizes bytes errors.BadRound p f = absurd f
+one_header_fault ram sizes bytes errors.BadDevice p f = absurd f
+one_header_fault ram sizes bytes errors.BadDigest p f = absurd f
+one_header_fault ram sizes bytes errors.Missing p f = absurd f
+one_header_fault ram sizes bytes errors.Trailing p f = absurd f
+one_header_fault ram sizes bytes errors.Truncated p f = absurd f
+one_header_fault ram sizes bytes errors.DiskFailed p f = absurd f
+one_header_fault ram sizes bytes errors.NoMemory p f = absurd f
+one_header_fault ram sizes bytes errors.AlreadyFailed p f = absurd f
 
-pub one_fault : (base : ℕ) (sizes bytes : List ℕ) (k j : RecvError) (at bt : ℕ) → Fault base sizes bytes k at → Fault base sizes bytes j bt → Same k at j bt
-one_fault base sizes bytes k j at bt (inl f) (inl h) = one_header_fault sizes bytes k at f j bt h
-one_fault base sizes bytes k j at bt (inl f) (inr h) = absurd (no_header_fault sizes bytes (said_by h.opening) (texts h.before ++ h.tail) h.front.begins h.front.fits k at f)
-one_fault base sizes bytes k j at bt (inr f) (inl h) = absurd (no_header_fault sizes bytes (said_by f.opening) (texts f.before ++ f.tail) f.front.begins f.front.fits j bt h)
-one_fault base sizes bytes k j at bt (inr f) (inr h) = one_record_fault base sizes bytes k j at bt f h
+pub one_fault : (ram : RamTerms) (sizes bytes : List ℕ) (k j : RecvError) (at bt : ℕ) → Fault ram sizes bytes k at → Fault ram sizes bytes j bt → Same k at j bt
+one_fault ram sizes bytes k j at bt (inl f) (inl h) = one_header_fault ram sizes bytes k at f j bt h
+one_fault ram sizes bytes k j at bt (inl f) (inr h) = absurd (no_header_fault ram sizes bytes (said_by h.opening) (texts h.before ++ h.tail) h.front.begins h.front.fits h.front.suits k at f)
+one_fault ram sizes bytes k j at bt (inr f) (inl h) = absurd (no_header_fault ram sizes bytes (said_by f.opening) (texts f.before ++ f.tail) f.front.begins f.front.fits f.front.suits j bt h)
+one_fault ram sizes bytes k j at bt (inr f) (inr h) = one_record_fault ram sizes bytes k j at bt f h

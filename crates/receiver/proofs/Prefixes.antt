@@ -14,6 +14,7 @@ use Rattle.wire.proofs.Spelling.{head_same, tail_same}
 use Rattle.wire.proofs.Unique.{cons_same}
 use Rattle.receiver.specs.Good.{devices_in}
 use Rattle.receiver.specs.Faults.{Opens, Says, IsFault, IsRecordFault, IsHeaderFault, Fault}
+use Rattle.receiver.specs.declared.ram_terms.RamTerms.{RamTerms}
 use Rattle.receiver.specs.declared.recv_error.RecvError.{RecvError}
 use Rattle.receiver.specs.declared.recv_error.RecvError.TheVariants as errors
 
@@ -115,51 +116,51 @@ says_at b c pages count long h = record {
   count_is = sym (number_at-append 12 4 b c (omega (arith, long))) ∙ h.count_is;
 }
 
-pub header_stays : (sizes b c : List ℕ) (k : RecvError) (p : ℕ) → IsHeaderFault sizes b k p → IsHeaderFault sizes (b ++ c) k p
-header_stays sizes b c errors.BadMagic p h = record { long = omega (arith, h.long, length-append b c); never = λ e. h.never (sym (number_at-append 0 4 b c (omega (arith, h.long))) ∙ e); there = h.there }
-header_stays sizes b c errors.BadVersion p h = record { long = omega (arith, h.long, length-append b c); magic = number_at-append 0 4 b c (omega (arith, h.long)) ∙ h.magic; never = λ e. h.never (subst IsVersion (number_at-append 4 4 b c (omega (arith, h.long))) e); there = h.there }
-header_stays sizes b c errors.BadShape p (inl h) = inl (record { pages = h.pages; count = h.count; says = says_on b c h.pages h.count h.says; never = h.never; there = h.there })
-header_stays sizes b c errors.BadShape p (inr h) = inr (record { pages = h.pages; count = h.count; shapes = h.shapes; bad = h.bad; more = h.more ++ c; says = says_on b c h.pages h.count h.says; may = h.may; fewer = h.fewer; sound = h.sound; whole = drop-append-le 16 b c h.says.long ∙ ap (λ (x : List ℕ). x ++ c) h.whole ∙ append_assoc (spelled_shapes h.shapes) (h.bad ++ h.more) c ∙ ap (λ (x : List ℕ). spelled_shapes h.shapes ++ x) (append_assoc h.bad h.more c); never = h.never; there = h.there })
-header_stays sizes b c errors.ShapeMismatch p h = record { opening = h.opening; more = h.more ++ c; begins = record { good = h.begins.good; whole = ap (λ (x : List ℕ). x ++ c) h.begins.whole ∙ append_assoc (told.header h.opening) h.more c }; never = h.never; there = h.there }
-header_stays sizes b c errors.BadTag p h = absurd h
-header_stays sizes b c errors.BadPage p h = absurd h
-header_stays sizes b c errors.BadSector p h = absurd h
-header_stays sizes b c errors.BadRound p h = absurd h
-header_stays sizes b c errors.BadDevice p h = absurd h
-header_stays sizes b c errors.BadDigest p h = absurd h
-header_stays sizes b c errors.Missing p h = absurd h
-header_stays sizes b c errors.Trailing p h = absurd h
-header_stays sizes b c errors.Truncated p h = absurd h
-header_stays sizes b c errors.DiskFailed p h = absurd h
-header_stays sizes b c errors.NoMemory p h = absurd h
-header_stays sizes b c errors.AlreadyFailed p h = absurd h
+pub header_stays : (ram : RamTerms) (sizes b c : List ℕ) (k : RecvError) (p : ℕ) → IsHeaderFault ram sizes b k p → IsHeaderFault ram sizes (b ++ c) k p
+header_stays ram sizes b c errors.BadMagic p h = record { long = omega (arith, h.long, length-append b c); never = λ e. h.never (sym (number_at-append 0 4 b c (omega (arith, h.long))) ∙ e); there = h.there }
+header_stays ram sizes b c errors.BadVersion p h = record { long = omega (arith, h.long, length-append b c); magic = number_at-append 0 4 b c (omega (arith, h.long)) ∙ h.magic; never = λ e. h.never (subst IsVersion (number_at-append 4 4 b c (omega (arith, h.long))) e); there = h.there }
+header_stays ram sizes b c errors.BadShape p (inl h) = inl (record { pages = h.pages; count = h.count; says = says_on b c h.pages h.count h.says; never = h.never; there = h.there })
+header_stays ram sizes b c errors.BadShape p (inr h) = inr (record { pages = h.pages; count = h.count; shapes = h.shapes; bad = h.bad; more = h.more ++ c; says = says_on b c h.pages h.count h.says; may = h.may; fewer = h.fewer; sound = h.sound; whole = drop-append-le 16 b c h.says.long ∙ ap (λ (x : List ℕ). x ++ c) h.whole ∙ append_assoc (spelled_shapes h.shapes) (h.bad ++ h.more) c ∙ ap (λ (x : List ℕ). spelled_shapes h.shapes ++ x) (append_assoc h.bad h.more c); never = h.never; there = h.there })
+header_stays ram sizes b c errors.ShapeMismatch p h = record { opening = h.opening; more = h.more ++ c; begins = record { good = h.begins.good; whole = ap (λ (x : List ℕ). x ++ c) h.begins.whole ∙ append_assoc (told.header h.opening) h.more c }; never = h.never; there = h.there }
+header_stays ram sizes b c errors.BadTag p h = absurd h
+header_stays ram sizes b c errors.BadPage p h = absurd h
+header_stays ram sizes b c errors.BadSector p h = absurd h
+header_stays ram sizes b c errors.BadRound p h = absurd h
+header_stays ram sizes b c errors.BadDevice p h = absurd h
+header_stays ram sizes b c errors.BadDigest p h = absurd h
+header_stays ram sizes b c errors.Missing p h = absurd h
+header_stays ram sizes b c errors.Trailing p h = absurd h
+header_stays ram sizes b c errors.Truncated p h = absurd h
+header_stays ram sizes b c errors.DiskFailed p h = absurd h
+header_stays ram sizes b c errors.NoMemory p h = absurd h
+header_stays ram sizes b c errors.AlreadyFailed p h = absurd h
 
-header_holds : (sizes b c : List ℕ) (k : RecvError) (p : ℕ) → p ≤ length b → IsHeaderFault sizes (b ++ c) k p → IsHeaderFault sizes b k p
-header_holds sizes b c errors.BadMagic p le h = record { long = omega (arith, le, h.there); never = λ e. h.never (number_at-append 0 4 b c (omega (arith, le, h.there)) ∙ e); there = h.there }
-header_holds sizes b c errors.BadVersion p le h = record { long = omega (arith, le, h.there); magic = sym (number_at-append 0 4 b c (omega (arith, le, h.there))) ∙ h.magic; never = λ e. h.never (subst IsVersion (sym (number_at-append 4 4 b c (omega (arith, le, h.there)))) e); there = h.there }
-header_holds sizes b c errors.BadShape p le (inl h) = inl (record { pages = h.pages; count = h.count; says = says_at b c h.pages h.count (omega (arith, le, h.there)) h.says; never = h.never; there = h.there })
-header_holds sizes b c errors.BadShape p le (inr h) =
+header_holds : (ram : RamTerms) (sizes b c : List ℕ) (k : RecvError) (p : ℕ) → p ≤ length b → IsHeaderFault ram sizes (b ++ c) k p → IsHeaderFault ram sizes b k p
+header_holds ram sizes b c errors.BadMagic p le h = record { long = omega (arith, le, h.there); never = λ e. h.never (number_at-append 0 4 b c (omega (arith, le, h.there)) ∙ e); there = h.there }
+header_holds ram sizes b c errors.BadVersion p le h = record { long = omega (arith, le, h.there); magic = sym (number_at-append 0 4 b c (omega (arith, le, h.there))) ∙ h.magic; never = λ e. h.never (subst IsVersion (sym (number_at-append 4 4 b c (omega (arith, le, h.there)))) e); there = h.there }
+header_holds ram sizes b c errors.BadShape p le (inl h) = inl (record { pages = h.pages; count = h.count; says = says_at b c h.pages h.count (omega (arith, le, h.there)) h.says; never = h.never; there = h.there })
+header_holds ram sizes b c errors.BadShape p le (inr h) =
     let long : 16 ≤ length b = omega (arith, le, h.there) in
     let d = behind (drop 16 b) c (spelled_shapes h.shapes ++ h.bad) h.more (sym (drop-append-le 16 b c long) ∙ h.whole ∙ sym (append_assoc (spelled_shapes h.shapes) h.bad h.more)) (omega (arith, le, h.there, length-drop 16 b, length-append (spelled_shapes h.shapes) h.bad)) in
     inr (record { pages = h.pages; count = h.count; shapes = h.shapes; bad = h.bad; more = d.w; says = says_at b c h.pages h.count long h.says; may = h.may; fewer = h.fewer; sound = h.sound; whole = d.left ∙ append_assoc (spelled_shapes h.shapes) h.bad d.w; never = h.never; there = h.there })
-header_holds sizes b c errors.ShapeMismatch p le h =
+header_holds ram sizes b c errors.ShapeMismatch p le h =
     let d = behind b c (told.header h.opening) h.more h.begins.whole (omega (arith, le, h.there)) in
     record { opening = h.opening; more = d.w; begins = record { good = h.begins.good; whole = d.left }; never = h.never; there = h.there }
-header_holds sizes b c errors.BadTag p le h = absurd h
-header_holds sizes b c errors.BadPage p le h = absurd h
-header_holds sizes b c errors.BadSector p le h = absurd h
-header_holds sizes b c errors.BadRound p le h = absurd h
-header_holds sizes b c errors.BadDevice p le h = absurd h
-header_holds sizes b c errors.BadDigest p le h = absurd h
-header_holds sizes b c errors.Missing p le h = absurd h
-header_holds sizes b c errors.Trailing p le h = absurd h
-header_holds sizes b c errors.Truncated p le h = absurd h
-header_holds sizes b c errors.DiskFailed p le h = absurd h
-header_holds sizes b c errors.NoMemory p le h = absurd h
-header_holds sizes b c errors.AlreadyFailed p le h = absurd h
+header_holds ram sizes b c errors.BadTag p le h = absurd h
+header_holds ram sizes b c errors.BadPage p le h = absurd h
+header_holds ram sizes b c errors.BadSector p le h = absurd h
+header_holds ram sizes b c errors.BadRound p le h = absurd h
+header_holds ram sizes b c errors.BadDevice p le h = absurd h
+header_holds ram sizes b c errors.BadDigest p le h = absurd h
+header_holds ram sizes b c errors.Missing p le h = absurd h
+header_holds ram sizes b c errors.Trailing p le h = absurd h
+header_holds ram sizes b c errors.Truncated p le h = absurd h
+header_holds ram sizes b c errors.DiskFailed p le h = absurd h
+header_holds ram sizes b c errors.NoMemory p le h = absurd h
+header_holds ram sizes b c errors.AlreadyFailed p le h = absurd h
 
-record_stays : (base : ℕ) (sizes b c : List ℕ) (k : RecvError) (at : ℕ) → IsRecordFault base sizes b k at → IsRecordFault base sizes (b ++ c) k at
-record_stays base sizes b c k at h = record {
+record_stays : (ram : RamTerms) (sizes b c : List ℕ) (k : RecvError) (at : ℕ) → IsRecordFault ram sizes b k at → IsRecordFault ram sizes (b ++ c) k at
+record_stays ram sizes b c k at h = record {
   opening = h.opening;
   before = h.before;
   tail = h.tail ++ c;
@@ -171,14 +172,15 @@ record_stays base sizes b c k at h = record {
     };
     based = h.front.based;
     fits = h.front.fits;
+    suits = h.front.suits;
     good = h.front.good;
   };
   fault = stays_here h.opening h.before h.tail c k h.place h.fault;
   there = h.there;
 }
 
-record_holds : (base : ℕ) (sizes b c : List ℕ) (k : RecvError) (at : ℕ) → at ≤ length b → IsRecordFault base sizes (b ++ c) k at → IsRecordFault base sizes b k at
-record_holds base sizes b c k at le h =
+record_holds : (ram : RamTerms) (sizes b c : List ℕ) (k : RecvError) (at : ℕ) → at ≤ length b → IsRecordFault ram sizes (b ++ c) k at → IsRecordFault ram sizes b k at
+record_holds ram sizes b c k at le h =
     let front = header h.opening ++ texts h.before in
     let d = behind b c front h.tail (h.front.begins.whole ∙ sym (append_assoc (header h.opening) (texts h.before) h.tail)) (omega (arith, le, h.there)) in
     let fault : IsFault h.opening h.before (d.w ++ c) k h.place = rw d.right at h.fault in
@@ -187,15 +189,15 @@ record_holds base sizes b c k at le h =
       before = h.before;
       tail = d.w;
       place = h.place;
-      front = record { begins = record { good = h.front.begins.good; whole = d.left ∙ append_assoc (header h.opening) (texts h.before) d.w }; based = h.front.based; fits = h.front.fits; good = h.front.good };
+      front = record { begins = record { good = h.front.begins.good; whole = d.left ∙ append_assoc (header h.opening) (texts h.before) d.w }; based = h.front.based; fits = h.front.fits; suits = h.front.suits; good = h.front.good };
       fault = holds_here h.opening h.before d.w c k h.place (omega (arith, le, h.there, ap length d.left, length-append front d.w)) fault;
       there = h.there;
     }
 
-pub stays : (base : ℕ) (sizes b c : List ℕ) (k : RecvError) (at : ℕ) → Fault base sizes b k at → Fault base sizes (b ++ c) k at
-stays base sizes b c k at (inl h) = inl (header_stays sizes b c k at h)
-stays base sizes b c k at (inr h) = inr (record_stays base sizes b c k at h)
+pub stays : (ram : RamTerms) (sizes b c : List ℕ) (k : RecvError) (at : ℕ) → Fault ram sizes b k at → Fault ram sizes (b ++ c) k at
+stays ram sizes b c k at (inl h) = inl (header_stays ram sizes b c k at h)
+stays ram sizes b c k at (inr h) = inr (record_stays ram sizes b c k at h)
 
-pub holds : (base : ℕ) (sizes b c : List ℕ) (k : RecvError) (at : ℕ) → at ≤ length b → Fault base sizes (b ++ c) k at → Fault base sizes b k at
-holds base sizes b c k at le (inl h) = inl (header_holds sizes b c k at le h)
-holds base sizes b c k at le (inr h) = inr (record_holds base sizes b c k at le h)
+pub holds : (ram : RamTerms) (sizes b c : List ℕ) (k : RecvError) (at : ℕ) → at ≤ length b → Fault ram sizes (b ++ c) k at → Fault ram sizes b k at
+holds ram sizes b c k at le (inl h) = inl (header_holds ram sizes b c k at le h)
+holds ram sizes b c k at le (inr h) = inr (record_holds ram sizes b c k at le h)

@@ -7,12 +7,13 @@ use Rattle.wire.proofs.Unique.{one_machine}
 use Rattle.wire.proofs.Whole.{whole_is_stream}
 use Rattle.receiver.specs.Laws.{IsSpoilt, SavedIsReceived}
 use Rattle.receiver.specs.Receiving.{NoFault, RefusesSlice}
+use Rattle.receiver.specs.Opened.{ram_at}
 use Rattle.receiver.specs.declared.recv_error.RecvError.{RecvError}
 use Rattle.receiver.specs.declared.recv_error.RecvError.TheVariants as errors
 use Rattle.receiver.proofs.Whole.{stream_quiet}
 
 -- A stream is refused for want of memory alone, or since a disk failed.
-only_spoilt : (base : ℕ) (sizes bytes : List ℕ) (marks : List Marks) (m : MachineState) → NoFault base sizes bytes → IsStream bytes m → (e : RecvError) → RefusesSlice base sizes marks bytes e → IsSpoilt marks e
+only_spoilt : (base : ℕ) (sizes bytes : List ℕ) (marks : List Marks) (m : MachineState) → NoFault (ram_at base) sizes bytes → IsStream bytes m → (e : RecvError) → RefusesSlice base sizes marks bytes e → IsSpoilt marks e
 only_spoilt base sizes bytes marks m none s errors.BadMagic h = absurd (none errors.BadMagic h.0 h.1)
 only_spoilt base sizes bytes marks m none s errors.BadVersion h = absurd (none errors.BadVersion h.0 h.1)
 only_spoilt base sizes bytes marks m none s errors.BadShape h = absurd (none errors.BadShape h.0 h.1)
@@ -33,4 +34,4 @@ only_spoilt base sizes bytes marks m none s errors.AlreadyFailed h = absurd (non
 pub saved_received : SavedIsReceived
 saved_received base sizes marks m sound based fits =
     let s = whole_is_stream m sound in
-    (only_spoilt base sizes (whole m) marks m (stream_quiet base sizes (whole m) m s based fits) s, λ k t at. one_machine (whole m) k m t s (at ∙ sym based))
+    (only_spoilt base sizes (whole m) marks m (stream_quiet (ram_at base) sizes (whole m) m s based tt fits) s, λ k t at. one_machine (whole m) k m t s (at ∙ sym based))

@@ -51,8 +51,8 @@ there_by ds front opening before i dev n h are has =
       count = λ shape. rw are (count_at opening.shapes dev n shape has);
       firsts = omega (arith, low, ap length h.firsts_are, length-firsts opening.pages (map sector_count opening.shapes), length-map opening.shapes sector_count);
       item = omega (arith, number_below l (items.sector dev n) has, h.taken.named_size, ap (λ ns. get_or ns dev 0) h.firsts_are);
-      marks = rw are (omega (arith, disk, marks_count ds i.bad.items h.marks_are));
-      mark = rw are (omega (arith, size, get_or-map (λ (d : DiskState). length d.sectors) ds k first 0 disk, marks_length ds i.bad.items k first h.marks_are disk));
+      marks = rw are (omega (arith, disk, marks_count ds i.bad.items h.written.marks));
+      mark = rw are (omega (arith, size, get_or-map (λ (d : DiskState). length d.sectors) ds k first 0 disk, marks_length ds i.bad.items k first h.written.marks disk));
       disk = rw are disk;
       sector = rw are size;
     }

@@ -1,27 +1,30 @@
 -- From one stage to the next.
-use Rattle.std.proofs.Common.{◌≡◌, ◌≢◌, ℕ, ◌+◌, ◌*◌, ◌<◌, ◌≤◌, false, inl, List, [], ◌∷◌, ◌++◌, length, take, drop, map, replicate, refl, sym, ap, subst, ◌∙◌, append_assoc, append-nil, arith}
+use Rattle.std.proofs.Common.{◌≡◌, ◌≢◌, ℕ, ◌+◌, ◌*◌, ◌<◌, ◌≤◌, Bool, false, inl, List, [], ◌∷◌, ◌++◌, length, take, drop, map, replicate, refl, sym, ap, subst, ◌∙◌, append_assoc, append-nil, arith}
 use Rattle.std.proofs.lemmas.List.{take_at, length-append, length-drop, length-replicate, take-append-drop, drop-drop}
 use Rattle.std.proofs.Math.Seq.{take-add}
 use Rattle.sha2.specs.Hashers.{Holds256}
 use Rattle.sha2.specs.Sha256.{sha256}
 use Rattle.sha2.specs.declared.Sha256.{Sha256}
-use Rattle.receiver.specs.Opened.{Begins, Opened, header, layout_in, said_by}
+use Rattle.receiver.specs.Opened.{Begins, HasPages, Opened, header, layout_in, ram_at, said_by}
 use Rattle.wire.specs.Records.{Record}
 use Rattle.wire.specs.Stream.{texts, rounds}
-use Rattle.blk.specs.Disk.{DiskState}
+use Rattle.blk.specs.Disk.{AreSectors, DiskState}
+use Rattle.machine.specs.First.{AreMarksOf, dealt_sectors, marked_sectors}
+use Rattle.receiver.proofs.Sectors.{marked_bad, marked_whole}
+use Rattle.std.specs.Prelude.{All}
 use Rattle.machine.specs.Layout.{firsts_of, size_of}
 use Rattle.receiver.proofs.Lists.{empty, take_all}
 use Rattle.receiver.proofs.Takings.{new_taken}
 use Rattle.receiver.specs.Good.{AreGood}
 use Rattle.machine.specs.Shapes.{disk_sizes}
-use Rattle.receiver.specs.Disks.{AreHonestDisks, AreKept, AreRefused, all_marks_in, sizes_in}
-use Rattle.receiver.specs.Heading.{TellsHead}
-use Rattle.receiver.specs.Faults.{IsComplete, IsTrailing, IsHeaderFault, Fault}
-use Rattle.receiver.specs.Fed.{HasRead, Tells, IsOpen, IsEnded, device_records, held_sectors}
+use Rattle.receiver.specs.Disks.{AreKept, AreRefused, sizes_in}
+use Rattle.receiver.specs.Faults.{IsComplete, IsTrailing, IsHeaderFault, Fault, TellsHead}
+use Rattle.receiver.specs.Fed.{AreWritten, HasRead, Tells, IsOpen, IsEnded, device_records}
 use Rattle.receiver.specs.Receiving.{HasCome, IsKnown}
 use Rattle.receiver.specs.declared.stage.Stage.{Stage}
 use Rattle.receiver.specs.declared.stage.Stage.TheVariants as stages
 use Rattle.receiver.specs.declared.intake.Intake.{Intake}
+use Rattle.receiver.specs.declared.ram_terms.RamTerms.{RamTerms}
 use Rattle.receiver.specs.declared.recv_error.RecvError.{RecvError}
 use Rattle.receiver.specs.declared.recv_error.RecvError.TheVariants as errors
 use Rattle.receiver.proofs.Aligned.{not_early}
@@ -33,25 +36,33 @@ new_marks_fit : (sizes : List ℕ) → map length (map (λ n. replicate n false)
 new_marks_fit [] = refl
 new_marks_fit (n ∷ sizes) = rw (length-replicate n false, new_marks_fit sizes) refl
 
-pub new_read : (ds : List DiskState) (bytes rest : List ℕ) (opening : Opened) (i : Intake) → Begins bytes opening rest → sizes_in ds ≡ disk_sizes opening.shapes → length i.ram.bytes ≡ 4096 * opening.pages → i.named ≡ replicate (size_of (layout_in opening)) false → i.rounds ≡ 0
-    → i.terms.version ≡ opening.version → i.terms.base ≡ opening.base → i.shapes.items ≡ opening.shapes → i.devices.items ≡ [] → i.firsts.items ≡ firsts_of (layout_in opening) → i.bad.items ≡ map (λ n. replicate n false) (sizes_in ds) → HasRead ds opening [] i (header opening)
+-- Nothing was written yet: the disks hold what they held.
+new_written : (ds : List DiskState) (bad : List (List Bool)) → All (λ (d : DiskState). AreSectors d.sectors) ds → bad ≡ map (λ n. replicate n false) (sizes_in ds) → AreWritten ds bad (marked_sectors ds bad)
+new_written ds bad whole is =
+    let marks : AreMarksOf ds bad = rw is (new_marks_fit (sizes_in ds)) in
+    record { marks = marks; whole = marked_whole ds bad whole; bad_are = marked_bad ds bad marks; held = λ honest. refl }
+
+pub new_read : (ds : List DiskState) (bytes rest : List ℕ) (opening : Opened) (i : Intake) → Begins bytes opening rest → sizes_in ds ≡ disk_sizes opening.shapes → HasPages opening.ram opening.pages → length i.ram.bytes ≡ 4096 * opening.pages → i.named ≡ replicate (size_of (layout_in opening)) false → i.rounds ≡ 0
+    → i.terms.version ≡ opening.version → i.terms.ram ≡ opening.ram → i.shapes.items ≡ opening.shapes → i.devices.items ≡ [] → i.firsts.items ≡ firsts_of (layout_in opening) → i.bad.items ≡ map (λ n. replicate n false) (sizes_in ds) → All (λ (d : DiskState). AreSectors d.sectors) ds → HasRead ds opening [] i (header opening)
 unfolding AreGood texts rounds device_records
-new_read ds bytes rest opening i b fits size marks ends version based same none firsts bad = record {
+new_read ds bytes rest opening i b fits suits size marks ends version based same none firsts bad whole = record {
   head = b.good;
   fits = fits;
+  suits = suits;
   good = tt;
   whole = sym (append-nil (header opening));
   version_is = version;
-  base_is = based;
+  ram_is = based;
   shapes_are = same;
   firsts_are = firsts;
-  marks_are = rw bad (new_marks_fit (sizes_in ds));
+  sectors = marked_sectors ds i.bad.items;
+  written = new_written ds i.bad.items whole bad;
   entries = [];
   split = rw none refl;
   each = tt;
   numbered = tt;
   rounds_are = ends;
-  taken = new_taken opening.version (AreHonestDisks (all_marks_in ds)) i.ram.bytes (held_sectors opening.shapes ds i.bad.items) i.named (layout_in opening) size marks;
+  taken = new_taken opening.version i.ram.bytes (dealt_sectors opening.shapes (marked_sectors ds i.bad.items)) i.named (layout_in opening) size marks;
   devices_are = rw none refl;
   sound = rw none tt;
   has = rw none tt;
@@ -62,57 +73,57 @@ head_taken held opening len le b =
     let size : length (header opening) ≡ len = omega (arith, le, ap length b.whole, length-append (header opening) (drop len held), length-drop len held) in
     ap (take len) b.whole ∙ take_at (header opening) (drop len held) len size
 
-pub mismatch : (base : ℕ) (sizes held rest : List ℕ) (opening : Opened) → Begins held opening rest → sizes ≢ disk_sizes opening.shapes → (at : ℕ) × Fault base sizes held errors.ShapeMismatch at
-mismatch base sizes held rest opening b never = (length (header opening), inl (record { opening = said_by opening; more = rest; begins = b; never = never; there = refl }))
+pub mismatch : (ram : RamTerms) (sizes held rest : List ℕ) (opening : Opened) → Begins held opening rest → ¬ ((sizes ≡ disk_sizes opening.shapes) × HasPages ram opening.pages) → (at : ℕ) × Fault ram sizes held errors.ShapeMismatch at
+mismatch ram sizes held rest opening b never = (length (header opening), inl (record { opening = said_by opening; more = rest; begins = b; never = never; there = refl }))
 
-header_told : (base : ℕ) (sizes held : List ℕ) (e : RecvError) → TellsHead e ((sizes : List ℕ) → (at : ℕ) × IsHeaderFault sizes held e at) → Tells e ((at : ℕ) × Fault base sizes held e at)
-header_told base sizes held errors.BadMagic f = ((f sizes).0, inl (f sizes).1)
-header_told base sizes held errors.BadVersion f = ((f sizes).0, inl (f sizes).1)
-header_told base sizes held errors.BadShape f = ((f sizes).0, inl (f sizes).1)
-header_told base sizes held errors.ShapeMismatch f = ((f sizes).0, inl (f sizes).1)
-header_told base sizes held errors.BadTag f = ((f sizes).0, inl (f sizes).1)
-header_told base sizes held errors.BadPage f = ((f sizes).0, inl (f sizes).1)
-header_told base sizes held errors.BadSector f = ((f sizes).0, inl (f sizes).1)
-header_told base sizes held errors.BadRound f = ((f sizes).0, inl (f sizes).1)
-header_told base sizes held errors.BadDevice f = ((f sizes).0, inl (f sizes).1)
-header_told base sizes held errors.BadDigest f = ((f sizes).0, inl (f sizes).1)
-header_told base sizes held errors.Missing f = ((f sizes).0, inl (f sizes).1)
-header_told base sizes held errors.Trailing f = ((f sizes).0, inl (f sizes).1)
-header_told base sizes held errors.Truncated f = ((f sizes).0, inl (f sizes).1)
-header_told base sizes held errors.DiskFailed f = tt
-header_told base sizes held errors.NoMemory f = tt
-header_told base sizes held errors.AlreadyFailed f = ((f sizes).0, inl (f sizes).1)
+header_told : (ram : RamTerms) (sizes held : List ℕ) (e : RecvError) → TellsHead e ((ram : RamTerms) (sizes : List ℕ) → (at : ℕ) × IsHeaderFault ram sizes held e at) → Tells e ((at : ℕ) × Fault ram sizes held e at)
+header_told ram sizes held errors.BadMagic f = ((f ram sizes).0, inl (f ram sizes).1)
+header_told ram sizes held errors.BadVersion f = ((f ram sizes).0, inl (f ram sizes).1)
+header_told ram sizes held errors.BadShape f = ((f ram sizes).0, inl (f ram sizes).1)
+header_told ram sizes held errors.ShapeMismatch f = ((f ram sizes).0, inl (f ram sizes).1)
+header_told ram sizes held errors.BadTag f = ((f ram sizes).0, inl (f ram sizes).1)
+header_told ram sizes held errors.BadPage f = ((f ram sizes).0, inl (f ram sizes).1)
+header_told ram sizes held errors.BadSector f = ((f ram sizes).0, inl (f ram sizes).1)
+header_told ram sizes held errors.BadRound f = ((f ram sizes).0, inl (f ram sizes).1)
+header_told ram sizes held errors.BadDevice f = ((f ram sizes).0, inl (f ram sizes).1)
+header_told ram sizes held errors.BadDigest f = ((f ram sizes).0, inl (f ram sizes).1)
+header_told ram sizes held errors.Missing f = ((f ram sizes).0, inl (f ram sizes).1)
+header_told ram sizes held errors.Trailing f = ((f ram sizes).0, inl (f ram sizes).1)
+header_told ram sizes held errors.Truncated f = ((f ram sizes).0, inl (f ram sizes).1)
+header_told ram sizes held errors.DiskFailed f = tt
+header_told ram sizes held errors.NoMemory f = tt
+header_told ram sizes held errors.AlreadyFailed f = ((f ram sizes).0, inl (f ram sizes).1)
 
-never_disk_head : (sizes held : List ℕ) (e : RecvError) → TellsHead e ((sizes : List ℕ) → (at : ℕ) × IsHeaderFault sizes held e at) → e ≢ errors.DiskFailed
-never_disk_head sizes held e f same = let g : (sizes : List ℕ) → (at : ℕ) × IsHeaderFault sizes held errors.DiskFailed at = rw same at f in (g sizes).1
+never_disk_head : (held : List ℕ) (e : RecvError) → TellsHead e ((ram : RamTerms) (sizes : List ℕ) → (at : ℕ) × IsHeaderFault ram sizes held e at) → e ≢ errors.DiskFailed
+never_disk_head held e f same = let g : (ram : RamTerms) (sizes : List ℕ) → (at : ℕ) × IsHeaderFault ram sizes held errors.DiskFailed at = rw same at f in (g (ram_at 0) []).1
 
-pub header_refused : (base : ℕ) (ds : List DiskState) (held : List ℕ) (e : RecvError) → TellsHead e ((sizes : List ℕ) → (at : ℕ) × IsHeaderFault sizes held e at) → AreRefused ds ds e × Tells e ((at : ℕ) × Fault base (sizes_in ds) held e at)
-header_refused base ds held e t = (refused_kept ds e (never_disk_head (sizes_in ds) held e t), header_told base (sizes_in ds) held e t)
+pub header_refused : (ram : RamTerms) (ds : List DiskState) (held : List ℕ) (e : RecvError) → TellsHead e ((ram : RamTerms) (sizes : List ℕ) → (at : ℕ) × IsHeaderFault ram sizes held e at) → AreRefused ds ds e × Tells e ((at : ℕ) × Fault ram (sizes_in ds) held e at)
+header_refused ram ds held e t = (refused_kept ds e (never_disk_head held e t), header_told ram (sizes_in ds) held e t)
 
 -- Records were worked off.
 
 pub now_ended : (ds : List DiskState) (digest : Sha256) (front bytes : List ℕ) (opening : Opened) (i : Intake) (at : ℕ) → at ≡ length bytes → IsEnded ds opening i (front ++ bytes)
-    → IsKnown opening.base ds digest (front ++ take at bytes) (drop at bytes) (stages.Ended i)
+    → IsKnown opening.ram ds digest (front ++ take at bytes) (drop at bytes) (stages.Ended i)
 now_ended ds digest front bytes opening i at all h =
     let rest : drop at bytes ≡ [] = empty (drop at bytes) (omega (arith, all, length-drop at bytes)) in
     let same : front ++ take at bytes ≡ front ++ bytes = ap (λ (x : List ℕ). front ++ x) (take_all at bytes (omega (arith, all))) in
     (rest, record { opening = opening; based = refl; ended = rw same h })
 
-pub now_reading : (ds : List DiskState) (digest : Sha256) (front held : List ℕ) (opening : Opened) (i : Intake) → Holds256 digest front → IsOpen ds opening i front held → IsKnown opening.base ds digest front held (stages.Records i)
+pub now_reading : (ds : List DiskState) (digest : Sha256) (front held : List ℕ) (opening : Opened) (i : Intake) → Holds256 digest front → IsOpen ds opening i front held → IsKnown opening.ram ds digest front held (stages.Records i)
 now_reading ds digest front held opening i d h = (d, record { opening = opening; based = refl; open_at = h })
 
 -- The records after the header, which has `len` bytes.
 headed : (len at : ℕ) (bytes : List ℕ) → take len bytes ++ take at (drop len bytes) ≡ take (len + at) bytes
 headed len at bytes = sym (take-add len at bytes)
 
-pub behind_header : (base : ℕ) (old ds : List DiskState) (digest : Sha256) (bytes : List ℕ) (len at : ℕ) (stage : Stage) → AreKept old ds × IsKnown base ds digest (take len bytes ++ take at (drop len bytes)) (drop at (drop len bytes)) stage
-    → AreKept old ds × IsKnown base ds digest (take (len + at) bytes) (drop (len + at) bytes) stage
-behind_header base old ds digest bytes len at stage h =
+pub behind_header : (ram : RamTerms) (old ds : List DiskState) (digest : Sha256) (bytes : List ℕ) (len at : ℕ) (stage : Stage) → AreKept old ds × IsKnown ram ds digest (take len bytes ++ take at (drop len bytes)) (drop at (drop len bytes)) stage
+    → AreKept old ds × IsKnown ram ds digest (take (len + at) bytes) (drop (len + at) bytes) stage
+behind_header ram old ds digest bytes len at stage h =
     let rest : drop at (drop len bytes) ≡ drop (len + at) bytes = drop-drop at len bytes in
     (h.0, rw (← headed len at bytes, ← rest) h.1)
 
-pub refused_behind : (base : ℕ) (old ds : List DiskState) (bytes : List ℕ) (len : ℕ) (e : RecvError) → AreRefused old ds e × Tells e ((at : ℕ) × Fault base (sizes_in old) (take len bytes ++ drop len bytes) e at) → AreRefused old ds e × Tells e ((at : ℕ) × Fault base (sizes_in old) bytes e at)
-refused_behind base old ds bytes len e h = rw (take-append-drop len bytes) at h
+pub refused_behind : (ram : RamTerms) (old ds : List DiskState) (bytes : List ℕ) (len : ℕ) (e : RecvError) → AreRefused old ds e × Tells e ((at : ℕ) × Fault ram (sizes_in old) (take len bytes ++ drop len bytes) e at) → AreRefused old ds e × Tells e ((at : ℕ) × Fault ram (sizes_in old) bytes e at)
+refused_behind ram old ds bytes len e h = rw (take-append-drop len bytes) at h
 
 -- A piece more.
 
@@ -130,15 +141,15 @@ trailing_of opening before digest front (byte ∷ more) complete e some same = r
   there = refl;
 }
 
-pub trailing_piece : (base : ℕ) (ds : List DiskState) (old piece : List ℕ) (i : Intake) → HasCome base ds old i → 0 < length piece → AreRefused ds ds errors.Trailing × ((k : ℕ) × Fault base (sizes_in ds) (old ++ piece) errors.Trailing k)
-trailing_piece base ds old piece i h some =
+pub trailing_piece : (ram : RamTerms) (ds : List DiskState) (old piece : List ℕ) (i : Intake) → HasCome ram ds old i → 0 < length piece → AreRefused ds ds errors.Trailing × ((k : ℕ) × Fault ram (sizes_in ds) (old ++ piece) errors.Trailing k)
+trailing_piece ram ds old piece i h some =
     let w = h.ended in
     let text : old ≡ w.front ++ (5 ∷ sha256 w.front) = w.whole ∙ ap (λ (x : List ℕ). w.front ++ x) (commit_text (sha256 w.front)) in
     let whole : old ++ piece ≡ w.front ++ ((5 ∷ sha256 w.front) ++ piece) = ap (λ (x : List ℕ). x ++ piece) text ∙ append_assoc w.front (5 ∷ sha256 w.front) piece in
     let fault = fault_here (old ++ piece) ((5 ∷ sha256 w.front) ++ piece) errors.Trailing w.read whole (34, trailing_of h.opening w.before (sha256 w.front) w.front piece w.complete w.read.whole some refl) in
-    (refused_kept ds errors.Trailing (λ same. cc), subst (λ (b : ℕ). (k : ℕ) × Fault b (sizes_in ds) (old ++ piece) errors.Trailing k) h.based fault)
+    (refused_kept ds errors.Trailing (λ same. cc), subst (λ (r : RamTerms). (k : ℕ) × Fault r (sizes_in ds) (old ++ piece) errors.Trailing k) h.based fault)
 
-pub still_come : (base : ℕ) (ds : List DiskState) (digest : Sha256) (front bytes : List ℕ) (i : Intake) → HasCome base ds front i → length bytes ≡ 0 → IsKnown base ds digest (front ++ take 0 bytes) (drop 0 bytes) (stages.Ended i)
-still_come base ds digest front bytes i h none =
+pub still_come : (ram : RamTerms) (ds : List DiskState) (digest : Sha256) (front bytes : List ℕ) (i : Intake) → HasCome ram ds front i → length bytes ≡ 0 → IsKnown ram ds digest (front ++ take 0 bytes) (drop 0 bytes) (stages.Ended i)
+still_come ram ds digest front bytes i h none =
     let same : front ++ take 0 bytes ≡ front = append-nil front in
     (empty bytes none, rw same h)

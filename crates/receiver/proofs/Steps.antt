@@ -1,5 +1,5 @@
 -- One record more.
-use Rattle.std.proofs.Common.{◌≡◌, ◌≢◌, ℕ, zero, suc, ◌+◌, ◌*◌, ◌^◌, ◌<◌, ◌≤◌, Bool, true, false, List, [], ◌∷◌, ◌++◌, length, take, drop, get_or, replicate, refl, sym, ap, subst, ◌∙◌, append_assoc, append-nil, arith}
+use Rattle.std.proofs.Common.{◌≡◌, ◌≢◌, ℕ, zero, suc, ◌+◌, ◌*◌, ◌^◌, ◌<◌, ◌≤◌, Bool, true, false, List, [], ◌∷◌, ◌++◌, Some, None, length, take, drop, get_or, replicate, refl, sym, ap, ◌∙◌, append_assoc, append-nil, arith}
 use Rattle.std.specs.Prelude.{set, All, IsTrue}
 use Rattle.std.proofs.lemmas.List.Elements.{All-get_or, All-from_get_or}
 use Rattle.std.specs.List.{AllByRecursion}
@@ -12,13 +12,13 @@ use Rattle.guestmem.specs.Zeros.{are_zeros}
 use Rattle.guestmem.specs.Item as items
 use Rattle.guestmem.specs.Item.{Item}
 use Rattle.blk.specs.Disk.{DiskState}
-use Rattle.blk.specs.Sectors.{Sector, sectors_of}
-use Rattle.receiver.specs.Disks.{AreHonestDisks, all_marks_in, sizes_in}
+use Rattle.blk.specs.Sectors.{IsWhole, Sector, is_bad, sectors_of}
+use Rattle.receiver.specs.Disks.{sizes_in}
 use Rattle.receiver.specs.Spots.{disks_before}
 use Rattle.receiver.specs.Taken.{AreTaken}
-use Rattle.receiver.proofs.Sectors.{IsChanged, changed, disk_below, honest_at, marks_kept, marks_length, marks_set, record_here, record_there, sizes_kept}
+use Rattle.receiver.proofs.Sectors.{changed, disk_below, more_written, record_here, record_there, set_on, sizes_kept, written_sizes}
 use Rattle.machine.specs.Shapes.{made_as}
-use Rattle.machine.specs.First.{AreMarksOf, marks_in}
+use Rattle.machine.specs.First.{dealt_sectors, marks_in}
 use Rattle.machine.specs.Layout.{IsItemIn, Layout, item_at, number_of, size_of}
 use Rattle.machine.proofs.Numbering.{item_there, number_back, number_below}
 use Rattle.machine.specs.Sound.{IsSoundDevice}
@@ -29,7 +29,7 @@ use Rattle.wire.proofs.Whole.{texts-snoc, each-snoc, numbered_page, numbered_zer
 use Rattle.wire.proofs.PageRecords.{as_page, as_zeros}
 use Rattle.receiver.specs.Good.{AreGood, AreNamed, Follows, devices_in}
 use Rattle.receiver.specs.Faults.{MayTag}
-use Rattle.receiver.specs.Fed.{HasRead, device_records, held_sectors}
+use Rattle.receiver.specs.Fed.{AreWritten, HasRead, device_records}
 use Rattle.receiver.specs.declared.intake.Intake.{Intake}
 use Rattle.receiver.specs.declared.intake.Terms.{Terms}
 
@@ -88,23 +88,25 @@ record IsSame (i j : Intake) : Type 0 where
   firsts : j.firsts.items ≡ i.firsts.items
   devices : j.devices.items ≡ i.devices.items
 
-more_entry : (ds ds2 : List DiskState) (front : List ℕ) (opening : Opened) (before : List Record) (i j : Intake) (r : Record) → HasRead ds opening before i front → devices_in before ≡ 0 → Follows opening before r → IsEntry opening.version (layout_in opening) r
+more_entry : (ds ds2 : List DiskState) (front : List ℕ) (opening : Opened) (before : List Record) (i j : Intake) (r : Record) (sectors : List (List Sector)) → HasRead ds opening before i front → devices_in before ≡ 0 → Follows opening before r → IsEntry opening.version (layout_in opening) r
     → (AreNumbered 1 before → AreNumbered 1 (before ++ r ∷ [])) → j.rounds ≡ rounds (before ++ r ∷ [])
-    → AreTaken opening.version (AreHonestDisks (all_marks_in ds2)) j.ram.bytes (held_sectors opening.shapes ds2 j.bad.items) j.named (layout_in opening) (before ++ r ∷ []) → sizes_in ds2 ≡ sizes_in ds → AreMarksOf ds2 j.bad.items → IsSame i j
+    → AreTaken opening.version j.ram.bytes (dealt_sectors opening.shapes sectors) j.named (layout_in opening) (before ++ r ∷ []) → sizes_in ds2 ≡ sizes_in ds → AreWritten ds2 j.bad.items sectors → IsSame i j
     → HasRead ds2 opening (before ++ r ∷ []) j (front ++ spelled_record r)
-more_entry ds ds2 front opening before i j r h none follows entry numbers ends taken sizes marks same =
+more_entry ds ds2 front opening before i j r sectors h none follows entry numbers ends taken sizes written same =
     let are = are_entries h none in
     let count : length j.devices.items ≡ 0 = ap length same.devices ∙ sym (devices_are h) ∙ none in
     record {
       head = h.head;
       fits = sizes ∙ h.fits;
+      suits = h.suits;
       good = good-snoc opening [] before r h.good follows;
       whole = texts_more front (header opening) before r h.whole;
       version_is = ap (λ (x : Terms). x.version) same.terms ∙ h.version_is;
-      base_is = ap (λ (x : Terms). x.base) same.terms ∙ h.base_is;
+      ram_is = ap (λ (x : Terms). x.ram) same.terms ∙ h.ram_is;
       shapes_are = same.shapes ∙ h.shapes_are;
       firsts_are = same.firsts ∙ h.firsts_are;
-      marks_are = marks;
+      sectors = sectors;
+      written = written;
       entries = before ++ r ∷ [];
       split = no_records (before ++ r ∷ []) j.devices.items count;
       each = each-snoc opening.version (layout_in opening) before r are.each entry;
@@ -123,10 +125,9 @@ more_page_as : (ds : List DiskState) (front : List ℕ) (opening : Opened) (befo
     → HasRead ds opening (before ++ r ∷ []) j (front ++ spelled_record r)
 more_page_as ds front opening before i j n b r h none follows entry numbers counts names is long le ram named ends same_terms same_shapes same_devices same_firsts same_bad =
     let low : n < opening.pages = omega (arith, le, h.taken.ram_size) in
-    let T = AreHonestDisks (all_marks_in ds) in
-    more_entry ds ds front opening before i j r h none (follows low) (entry low)
+    more_entry ds ds front opening before i j r h.sectors h none (follows low) (entry low)
     numbers (ends ∙ h.rounds_are ∙ sym counts)
-    (rw (ram, named, same_bad) (taken_page opening.version T i.ram.bytes b (held_sectors opening.shapes ds i.bad.items) i.named (layout_in opening) n before r h.taken low le long names is)) refl (rw same_bad h.marks_are)
+    (rw (ram, named) (taken_page opening.version i.ram.bytes b (dealt_sectors opening.shapes h.sectors) i.named (layout_in opening) n before r h.taken low le long names is)) refl (rw same_bad h.written)
     (record { terms = same_terms; shapes = same_shapes; firsts = same_firsts; devices = same_devices })
 
 pub more_page : (ds : List DiskState) (front : List ℕ) (opening : Opened) (before : List Record) (i j : Intake) (n : ℕ) (b : List ℕ) → HasRead ds opening before i front → devices_in before ≡ 0 → HasSpelling (page n b) → IsOf opening.version (page n b)
@@ -156,12 +157,11 @@ pub more_round : (ds : List DiskState) (front : List ℕ) (opening : Opened) (be
     → HasRead ds opening (before ++ round_end n ∷ []) j (front ++ spelled_record (round_end n))
 more_round ds front opening before i j n h none fits next ram named ends same_terms same_shapes same_devices same_firsts same_bad =
     let is : n ≡ rounds before + 1 = next ∙ ap (λ (x : ℕ). x + 1) h.rounds_are in
-    let T = AreHonestDisks (all_marks_in ds) in
-    more_entry ds ds front opening before i j (round_end n) h none (record { spells = fits; has = tt; may = (is, none) }) (record { spells = fits; has = tt; stands = tt })
+    more_entry ds ds front opening before i j (round_end n) h.sectors h none (record { spells = fits; has = tt; may = (is, none) }) (record { spells = fits; has = tt; stands = tt })
     (λ k. numbered_round 1 before n k (omega (arith, is))) (ends ∙ is ∙ sym (rounds_round before n))
-    (rw (ram, named, same_bad) (taken_round opening.version T i.ram.bytes (held_sectors opening.shapes ds i.bad.items) i.named (layout_in opening) n before h.taken)) refl (rw same_bad h.marks_are) (record { terms = same_terms; shapes = same_shapes; firsts = same_firsts; devices = same_devices })
+    (rw (ram, named) (taken_round opening.version i.ram.bytes (dealt_sectors opening.shapes h.sectors) i.named (layout_in opening) n before h.taken)) refl (rw same_bad h.written) (record { terms = same_terms; shapes = same_shapes; firsts = same_firsts; devices = same_devices })
 
--- A sector, whose disk keeps what it is, and holds it from now on where the disks are trusted.
+-- A sector, whose disk keeps what it is.
 numbered_sector : (k : ℕ) (es : List Record) (dev n : ℕ) (o : Sector) → AreNumbered k es → AreNumbered k (es ++ sector dev n o ∷ [])
 numbered_sector k [] dev n o h = tt
 numbered_sector k (page m c ∷ es) dev n o h = numbered_sector k es dev n o h
@@ -171,31 +171,33 @@ numbered_sector k (device d c ∷ es) dev n o h = numbered_sector k es dev n o h
 numbered_sector k (commit c ∷ es) dev n o h = numbered_sector k es dev n o h
 numbered_sector k (zero_page z ∷ es) dev n o h = numbered_sector k es dev n o h
 
-pub more_sector : (ds : List DiskState) (d : DiskState) (front : List ℕ) (opening : Opened) (before : List Record) (i j : Intake) (dev n : ℕ) (o : Sector) (m : List Bool) → HasRead ds opening before i front → devices_in before ≡ 0
+-- A sector that has an encoding is whole.
+spelled_whole : (dev n : ℕ) (o : Sector) → HasSpelling (sector dev n o) → IsWhole o
+spelled_whole dev n (Some b) s = record { size = s.2; bytes = s.3 }
+spelled_whole dev n None s = tt
+
+pub more_sector : (ds : List DiskState) (d : DiskState) (front : List ℕ) (opening : Opened) (before : List Record) (i j : Intake) (dev n : ℕ) (o : Sector) → HasRead ds opening before i front → devices_in before ≡ 0
     → HasSpelling (sector dev n o) → IsItemIn (layout_in opening) (items.sector dev n)
-    → marks_in d ≡ marks_in (get_or ds (disks_before opening.shapes dev) d) → length d.sectors ≡ length (get_or ds (disks_before opening.shapes dev) d).sectors → length m ≡ length (get_or i.bad.items (disks_before opening.shapes dev) [])
-    → (IsTrue (get_or ds (disks_before opening.shapes dev) d).honest → sectors_of d.sectors m ≡ set (sectors_of (get_or ds (disks_before opening.shapes dev) d).sectors (get_or i.bad.items (disks_before opening.shapes dev) [])) n o)
-    → j.bad.items ≡ set i.bad.items (disks_before opening.shapes dev) m → j.named ≡ set i.named (number_of (layout_in opening) (items.sector dev n)) true
+    → marks_in d ≡ marks_in (get_or ds (disks_before opening.shapes dev) d) → length d.sectors ≡ length (get_or ds (disks_before opening.shapes dev) d).sectors
+    → (IsTrue (get_or ds (disks_before opening.shapes dev) d).honest
+    → sectors_of d.sectors (set (get_or i.bad.items (disks_before opening.shapes dev) []) n (is_bad o)) ≡ set (sectors_of (get_or ds (disks_before opening.shapes dev) d).sectors (get_or i.bad.items (disks_before opening.shapes dev) [])) n o)
+    → j.bad.items ≡ set i.bad.items (disks_before opening.shapes dev) (set (get_or i.bad.items (disks_before opening.shapes dev) []) n (is_bad o)) → j.named ≡ set i.named (number_of (layout_in opening) (items.sector dev n)) true
     → j.ram.bytes ≡ i.ram.bytes → j.rounds ≡ i.rounds → j.terms ≡ i.terms → j.shapes.items ≡ i.shapes.items → j.devices.items ≡ i.devices.items → j.firsts.items ≡ i.firsts.items
     → HasRead (set ds (disks_before opening.shapes dev) d) opening (before ++ sector dev n o ∷ []) j (front ++ spelled_record (sector dev n o))
-more_sector ds d front opening before i j dev n o m h none spells there marks long size content bad named ram ends same_terms same_shapes same_devices same_firsts =
+more_sector ds d front opening before i j dev n o h none spells there marks long content bad named ram ends same_terms same_shapes same_devices same_firsts =
     let k = disks_before opening.shapes dev in
-    let l = layout_in opening in
-    let ds2 = set ds k d in
-    let T = AreHonestDisks (all_marks_in ds) in
-    let U = AreHonestDisks (all_marks_in ds2) in
-    let trust : U → T = λ u. subst AreHonestDisks (marks_kept ds k d marks) u in
-    let low = disk_below opening.shapes ds dev n h.head.sound h.fits there in
-    let honest : T → IsTrue (get_or ds k d).honest = λ t. honest_at ds k d low t in
-    let change : U → IsChanged opening.shapes ds i.bad.items dev n d m o = λ u. changed opening.shapes ds i.bad.items dev n d m o h.head.sound h.fits h.marks_are there (content (honest (trust u))) in
-    let held = held_sectors opening.shapes ds i.bad.items in
-    let held2 = held_sectors opening.shapes ds2 (set i.bad.items k m) in
-    let is : U → record_in opening.version i.ram.bytes held2 (items.sector dev n) ≡ sector dev n o = λ u. ap (λ x. record_in opening.version i.ram.bytes x (items.sector dev n)) (change u).now ∙ record_here opening.version i.ram.bytes held dev n o (change u).within in
-    let others : U → (x : Item) → IsItemIn l x → x ≢ items.sector dev n → record_in opening.version i.ram.bytes held2 x ≡ record_in opening.version i.ram.bytes held x = λ u x has other. ap (λ y. record_in opening.version i.ram.bytes y x) (change u).now ∙ record_there opening.version i.ram.bytes held dev n o x other in
-    more_entry ds ds2 front opening before i j (sector dev n o) h none (record { spells = spells; has = tt; may = (there, none) }) (record { spells = spells; has = tt; stands = there })
+    let v = opening.version in
+    let sectors = set_on h.sectors k n o in
+    let held = dealt_sectors opening.shapes h.sectors in
+    let change = changed opening.shapes h.sectors dev n o h.head.sound (written_sizes ds i.bad.items h.sectors h.written ∙ h.fits) there in
+    let is : record_in v i.ram.bytes (dealt_sectors opening.shapes sectors) (items.sector dev n) ≡ sector dev n o = ap (λ x. record_in v i.ram.bytes x (items.sector dev n)) change.now ∙ record_here v i.ram.bytes held dev n o change.within in
+    let others : (x : Item) → IsItemIn (layout_in opening) x → x ≢ items.sector dev n → record_in v i.ram.bytes (dealt_sectors opening.shapes sectors) x ≡ record_in v i.ram.bytes held x =
+    λ x has other. ap (λ y. record_in v i.ram.bytes y x) change.now ∙ record_there v i.ram.bytes held dev n o x other in
+    more_entry ds (set ds k d) front opening before i j (sector dev n o) sectors h none (record { spells = spells; has = tt; may = (there, none) }) (record { spells = spells; has = tt; stands = there })
     (numbered_sector 1 before dev n o) (ends ∙ h.rounds_are ∙ sym (rounds_sector before dev n o))
-    (rw (ram, named, bad) (taken_item opening.version T U i.ram.bytes i.ram.bytes held held2 i.named l before (sector dev n o) (items.sector dev n) h.taken trust (names_sector dev n o) there refl is others))
-    (sizes_kept ds k d long) (rw bad (marks_set ds i.bad.items k d m h.marks_are (size ∙ marks_length ds i.bad.items k d h.marks_are low ∙ sym long))) (record { terms = same_terms; shapes = same_shapes; firsts = same_firsts; devices = same_devices })
+    (rw (ram, named) (taken_item v i.ram.bytes i.ram.bytes held (dealt_sectors opening.shapes sectors) i.named (layout_in opening) before (sector dev n o) (items.sector dev n) h.taken (names_sector dev n o) there refl is others))
+    (sizes_kept ds k d long) (rw bad (more_written ds i.bad.items h.sectors k n d o h.written (disk_below opening.shapes ds dev n h.head.sound h.fits there) (spelled_whole dev n o spells) marks long content))
+    (record { terms = same_terms; shapes = same_shapes; firsts = same_firsts; devices = same_devices })
 
 -- A device.
 
@@ -235,7 +237,7 @@ next_shape (s ∷ shapes) (suc n) shape others e =
     rw m (ap (λ (x : List Shape). s ∷ x) (next_shape shapes n shape others e))
 
 pub more_device : (ds : List DiskState) (front : List ℕ) (opening : Opened) (others : List Shape) (shape : Shape) (before : List Record) (i j : Intake) (n : ℕ) (raw : List ℕ) (d : DeviceState) → HasRead ds opening before i front
-    → AreNamed (layout_in opening) before → HasSpelling (device n raw) → n ≡ devices_in before → drop n opening.shapes ≡ shape ∷ others → IsBodyOf opening.version shape opening.base (4096 * opening.pages) raw d
+    → AreNamed (layout_in opening) before → HasSpelling (device n raw) → n ≡ devices_in before → drop n opening.shapes ≡ shape ∷ others → IsBodyOf opening.version shape opening.ram.base (4096 * opening.pages) raw d
     → j.ram.bytes ≡ i.ram.bytes → j.named ≡ i.named → j.rounds ≡ i.rounds → j.terms ≡ i.terms → j.shapes.items ≡ i.shapes.items → j.firsts.items ≡ i.firsts.items → j.bad.items ≡ i.bad.items → j.devices.items ≡ i.devices.items ++ d ∷ []
     → HasRead ds opening (before ++ device n raw ∷ []) j (front ++ spelled_record (device n raw))
 more_device ds front opening others shape before i j n raw d h named spells next here is ram marks ends same_terms same_shapes same_firsts same_bad more =
@@ -251,21 +253,23 @@ more_device ds front opening others shape before i j n raw d h named spells next
     record {
       head = h.head;
       fits = h.fits;
+      suits = h.suits;
       good = good-snoc opening [] before r h.good (record { spells = spells; has = tt; may = record { named = named; next = next; shape = shape; others = others; here = here; state = d; is = is } });
       whole = texts_more front (header opening) before r h.whole;
       version_is = ap (λ (x : Terms). x.version) same_terms ∙ h.version_is;
-      base_is = ap (λ (x : Terms). x.base) same_terms ∙ h.base_is;
+      ram_is = ap (λ (x : Terms). x.ram) same_terms ∙ h.ram_is;
       shapes_are = same_shapes ∙ h.shapes_are;
       firsts_are = same_firsts ∙ h.firsts_are;
-      marks_are = rw same_bad h.marks_are;
+      sectors = h.sectors;
+      written = rw same_bad h.written;
       entries = h.entries;
       split = rw more split;
       each = h.each;
       numbered = h.numbered;
       rounds_are = ends ∙ h.rounds_are ∙ sym (rounds_device before n raw);
-      taken = rw (ram, marks, same_bad) (taken_device opening.version (AreHonestDisks (all_marks_in ds)) i.ram.bytes (held_sectors opening.shapes ds i.bad.items) i.named (layout_in opening) n raw before h.taken);
+      taken = rw (ram, marks) (taken_device opening.version i.ram.bytes (dealt_sectors opening.shapes h.sectors) i.named (layout_in opening) n raw before h.taken);
       devices_are = rw more (shown ∙ ap (λ (k : ℕ). take k opening.shapes) (sym size));
-      sound = rw more (all-snoc (IsSoundDevice opening.base (4096 * opening.pages)) i.devices.items d h.sound is.sound);
+      sound = rw more (all-snoc (IsSoundDevice opening.ram.base (4096 * opening.pages)) i.devices.items d h.sound is.sound);
       has = rw more (all-snoc (IsDeviceOf opening.version) i.devices.items d h.has is.has);
     }
 

@@ -1,4 +1,5 @@
 -- A stream that is not whole.
+use Rattle.receiver.specs.declared.ram_terms.RamTerms.{RamTerms}
 use Rattle.std.proofs.Common.{◌≡◌, ℕ, suc, ◌+◌, ◌≤◌, ◌⊎◌, inl, inr, List, [], ◌∷◌, ◌++◌, length, refl, sym, ap, subst, ◌∙◌, append_assoc, append-nil, arith}
 use Rattle.std.proofs.lemmas.List.{drop_at}
 use Rattle.std.proofs.lemmas.List.Elements.{recursion_from_All}
@@ -17,7 +18,7 @@ use Rattle.wire.proofs.Unique.{body_spells, stream_begins, alike}
 use Rattle.wire.proofs.HeaderLemmas.{header_of-spelled}
 use Rattle.receiver.specs.Good.{AreGood}
 use Rattle.receiver.specs.Fed.{device_records}
-use Rattle.receiver.specs.Heading.{WaitsHead}
+use Rattle.receiver.specs.Faults.{WaitsHead}
 use Rattle.receiver.specs.Receiving.{IsReading}
 use Rattle.receiver.specs.declared.intake.Intake.{Intake}
 use Rattle.receiver.proofs.Aligned.{records_led, LongerRecords, good_spell, next_good}
@@ -75,8 +76,8 @@ not_led opening before others tail digest good spell none other (inr l) = not_le
 pub no_stream_head : (held : List ℕ) (m : MachineState) → WaitsHead held → ¬ (IsStream held m)
 no_stream_head held m w s = w.no_header (opening_in s.version (pages_of m) m.devices) _ (stream_begins s.by)
 
-pub no_stream_reading : (base : ℕ) (ds : List DiskState) (read tail held : List ℕ) (i : Intake) (m : MachineState) → IsBytes held → held ≡ read ++ tail → IsReading base ds read tail i → ¬ (IsStream held m)
-no_stream_reading base ds read tail held i m are parts r s =
+pub no_stream_reading : (ram : RamTerms) (ds : List DiskState) (read tail held : List ℕ) (i : Intake) (m : MachineState) → IsBytes held → held ≡ read ++ tail → IsReading ram ds read tail i → ¬ (IsStream held m)
+no_stream_reading ram ds read tail held i m are parts r s =
     let o = r.open_at in
     let front = front_of held tail o.read parts in
     let opening = opening_in s.version (pages_of m) m.devices in

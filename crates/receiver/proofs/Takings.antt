@@ -94,26 +94,26 @@ marked_at false l r here item named last is there has size h =
     rw (get_or-set_other named (number_of l here) (number_of l item) true false (other_number l here item there has no)) h
 
 -- An item more is taken, where it now holds what its record says, and the others what they held.
-pub taken_item : (v : ℕ) (T U : Type 0) (ram ram2 : List ℕ) (disks disks2 : List (List Sector)) (named : List Bool) (l : Layout) (es : List Record) (r : Record) (here : Item) → AreTaken v T ram disks named l es → (U → T) → Names r here → IsItemIn l here
-    → length ram2 ≡ length ram → (U → record_in v ram2 disks2 here ≡ r) → (U → (i : Item) → IsItemIn l i → i ≢ here → record_in v ram2 disks2 i ≡ record_in v ram disks i)
-    → AreTaken v U ram2 disks2 (set named (number_of l here) true) l (es ++ r ∷ [])
-taken_item v T U ram ram2 disks disks2 named l es r here h trust names there size is others = record {
+pub taken_item : (v : ℕ) (ram ram2 : List ℕ) (disks disks2 : List (List Sector)) (named : List Bool) (l : Layout) (es : List Record) (r : Record) (here : Item) → AreTaken v ram disks named l es → Names r here → IsItemIn l here
+    → length ram2 ≡ length ram → record_in v ram2 disks2 here ≡ r → ((i : Item) → IsItemIn l i → i ≢ here → record_in v ram2 disks2 i ≡ record_in v ram disks i)
+    → AreTaken v ram2 disks2 (set named (number_of l here) true) l (es ++ r ∷ [])
+taken_item v ram ram2 disks disks2 named l es r here h names there size is others = record {
   ram_size = size ∙ h.ram_size;
   named_size = simp length-set h.named_size;
   marks = λ i has. ap is_some (named-snoc i es r ∙ ap (λ o. or_else o (last_named i es)) (names.is i)) ∙ marked_at (same_item i here) l r here i named (last_named i es) refl there has h.named_size (h.marks i has);
-  last = λ u i has.
+  last = λ i has.
       named-snoc i es r ∙ ap (λ o. or_else o (last_named i es)) (names.is i)
-      ∙ shown_at (same_item i here) l r (record_in v ram disks i) (record_in v ram2 disks2 i) here i named (last_named i es) refl there has h.named_size (λ e. ap (record_in v ram2 disks2) e ∙ is u) (others u i has) (h.last (trust u) i has);
+      ∙ shown_at (same_item i here) l r (record_in v ram disks i) (record_in v ram2 disks2 i) here i named (last_named i es) refl there has h.named_size (λ e. ap (record_in v ram2 disks2) e ∙ is) (others i has) (h.last i has);
 }
 
 put_size : (ram b : List ℕ) (i : ℕ) → 4096 * i + 4096 ≤ length ram → length b ≡ 4096 → length (put_page ram i b) ≡ length ram
 put_size ram b i le e = omega (arith, le, e, length-append (take (4096 * i) ram) (b ++ drop (4096 * i + 4096) ram), length-append b (drop (4096 * i + 4096) ram), length-take (4096 * i) ram, length-drop (4096 * i + 4096) ram)
 
-pub taken_page : (v : ℕ) (T : Type 0) (ram b : List ℕ) (disks : List (List Sector)) (named : List Bool) (l : Layout) (i : ℕ) (es : List Record) (r : Record) → AreTaken v T ram disks named l es → i < l.pages → 4096 * i + 4096 ≤ length ram → length b ≡ 4096
-    → Names r (items.page i) → page_record v i b ≡ r → AreTaken v T (put_page ram i b) disks (set named i true) l (es ++ r ∷ [])
-taken_page v T ram b disks named l i es r h low le e names is =
-    taken_item v T T ram (put_page ram i b) disks disks named l es r (items.page i) h (λ t. t) names low (put_size ram b i le e)
-    (λ t. ap (page_record v i) (page_put_same ram b i le e) ∙ is) (λ t j has other. item_stays v ram b disks i j le e other)
+pub taken_page : (v : ℕ) (ram b : List ℕ) (disks : List (List Sector)) (named : List Bool) (l : Layout) (i : ℕ) (es : List Record) (r : Record) → AreTaken v ram disks named l es → i < l.pages → 4096 * i + 4096 ≤ length ram → length b ≡ 4096
+    → Names r (items.page i) → page_record v i b ≡ r → AreTaken v (put_page ram i b) disks (set named i true) l (es ++ r ∷ [])
+taken_page v ram b disks named l i es r h low le e names is =
+    taken_item v ram (put_page ram i b) disks disks named l es r (items.page i) h names low (put_size ram b i le e)
+    (ap (page_record v i) (page_put_same ram b i le e) ∙ is) (λ j has other. item_stays v ram b disks i j le e other)
 
 pub rounds_page : (es : List Record) (i : ℕ) (b : List ℕ) → rounds (es ++ page i b ∷ []) ≡ rounds es
 unfolding rounds
@@ -166,27 +166,27 @@ numbered_round k (commit c ∷ es) n h e = numbered_round k es n h e
 numbered_round k (zero_page z ∷ es) n h e = numbered_round k es n h e
 
 -- A record that names no item.
-taken_more : (v : ℕ) (T : Type 0) (ram : List ℕ) (disks : List (List Sector)) (named : List Bool) (l : Layout) (r : Record) (es : List Record) → ((i : Item) → says_of i r ≡ None) → AreTaken v T ram disks named l es → AreTaken v T ram disks named l (es ++ r ∷ [])
-taken_more v T ram disks named l r es none h = record {
+taken_more : (v : ℕ) (ram : List ℕ) (disks : List (List Sector)) (named : List Bool) (l : Layout) (r : Record) (es : List Record) → ((i : Item) → says_of i r ≡ None) → AreTaken v ram disks named l es → AreTaken v ram disks named l (es ++ r ∷ [])
+taken_more v ram disks named l r es none h = record {
   ram_size = h.ram_size;
   named_size = h.named_size;
   marks = λ i has. ap is_some (named-snoc i es r ∙ ap (λ o. or_else o (last_named i es)) (none i)) ∙ h.marks i has;
-  last = λ t i has. named-snoc i es r ∙ ap (λ o. or_else o (last_named i es)) (none i) ∙ h.last t i has;
+  last = λ i has. named-snoc i es r ∙ ap (λ o. or_else o (last_named i es)) (none i) ∙ h.last i has;
 }
 
-pub taken_round : (v : ℕ) (T : Type 0) (ram : List ℕ) (disks : List (List Sector)) (named : List Bool) (l : Layout) (k : ℕ) (es : List Record) → AreTaken v T ram disks named l es → AreTaken v T ram disks named l (es ++ round_end k ∷ [])
-taken_round v T ram disks named l k es h = taken_more v T ram disks named l (round_end k) es (λ i. refl) h
+pub taken_round : (v : ℕ) (ram : List ℕ) (disks : List (List Sector)) (named : List Bool) (l : Layout) (k : ℕ) (es : List Record) → AreTaken v ram disks named l es → AreTaken v ram disks named l (es ++ round_end k ∷ [])
+taken_round v ram disks named l k es h = taken_more v ram disks named l (round_end k) es (λ i. refl) h
 
-pub taken_device : (v : ℕ) (T : Type 0) (ram : List ℕ) (disks : List (List Sector)) (named : List Bool) (l : Layout) (n : ℕ) (b : List ℕ) (es : List Record) → AreTaken v T ram disks named l es → AreTaken v T ram disks named l (es ++ device n b ∷ [])
-taken_device v T ram disks named l n b es h = taken_more v T ram disks named l (device n b) es (λ i. refl) h
+pub taken_device : (v : ℕ) (ram : List ℕ) (disks : List (List Sector)) (named : List Bool) (l : Layout) (n : ℕ) (b : List ℕ) (es : List Record) → AreTaken v ram disks named l es → AreTaken v ram disks named l (es ++ device n b ∷ [])
+taken_device v ram disks named l n b es h = taken_more v ram disks named l (device n b) es (λ i. refl) h
 
-pub new_taken : (v : ℕ) (T : Type 0) (ram : List ℕ) (disks : List (List Sector)) (named : List Bool) (l : Layout) → length ram ≡ 4096 * l.pages → named ≡ replicate (size_of l) false → AreTaken v T ram disks named l []
-new_taken v T ram disks named l e f =
+pub new_taken : (v : ℕ) (ram : List ℕ) (disks : List (List Sector)) (named : List Bool) (l : Layout) → length ram ≡ 4096 * l.pages → named ≡ replicate (size_of l) false → AreTaken v ram disks named l []
+new_taken v ram disks named l e f =
     rw f (record {
       ram_size = e;
       named_size = length-replicate (size_of l) false;
       marks = λ item has. ap is_some (named_nothing item) ∙ sym (get_or-replicate (size_of l) (number_of l item) false false (number_below l item has));
-      last = λ t item has. named_nothing item ∙ rw (get_or-replicate (size_of l) (number_of l item) false false (number_below l item has)) refl;
+      last = λ item has. named_nothing item ∙ rw (get_or-replicate (size_of l) (number_of l item) false false (number_below l item has)) refl;
     })
 
 pub put_is : (ram b : List ℕ) (i at : ℕ) → at ≡ 4096 * i → length b ≡ 4096 → take at ram ++ b ++ drop (at + length b) ram ≡ put_page ram i b

@@ -19,6 +19,7 @@ use Rattle.receiver.specs.Fed.{HasRead}
 use Rattle.receiver.specs.Receiving.{HasBeenFed, HasDevice, IsKnown, IsPastHead, IsTaken, Received, received_by}
 use Rattle.receiver.specs.Standing.{BeginsDevice, IsDeviceHead}
 use Rattle.receiver.specs.declared.intake.Intake.{Intake}
+use Rattle.receiver.specs.declared.ram_terms.RamTerms.{RamTerms}
 use Rattle.receiver.specs.declared.recv_error.RecvError.{RecvError}
 use Rattle.receiver.specs.declared.stage.Stage.{Stage}
 use Rattle.receiver.specs.declared.stage.Stage.TheVariants as stages
@@ -49,7 +50,7 @@ device_begins tail rest body more (heads.Device d len) is e parts many = record 
 device_begins tail rest body more heads.Commit is e parts many = absurd is
 device_begins tail rest body more (heads.ZeroPage n) is e parts many = absurd is
 
-pub device_here : {ds : List DiskState} {opening : Opened} {before : List Record} {i : Intake} {front : List ℕ} (bytes tail : List ℕ) (from : ℕ) → HasRead ds opening before i front → bytes ≡ front ++ tail → BeginsDevice tail → from ≤ length front → HasDevice opening.base (sizes_in ds) bytes from
+pub device_here : {ds : List DiskState} {opening : Opened} {before : List Record} {i : Intake} {front : List ℕ} (bytes tail : List ℕ) (from : ℕ) → HasRead ds opening before i front → bytes ≡ front ++ tail → BeginsDevice tail → from ≤ length front → HasDevice opening.ram (sizes_in ds) bytes from
 device_here {opening = opening} {before = before} {front = front} bytes tail from h e b le = record {
   opening = opening;
   before = before;
@@ -61,8 +62,8 @@ device_here {opening = opening} {before = before} {front = front} bytes tail fro
 }
 
 -- In more bytes, and behind fewer.
-pub device_on : (base : ℕ) (sizes b c all : List ℕ) (low from : ℕ) → HasDevice base sizes b from → all ≡ b ++ c → low ≤ from → HasDevice base sizes all low
-device_on base sizes b c all low from h e le =
+pub device_on : (ram : RamTerms) (sizes b c all : List ℕ) (low from : ℕ) → HasDevice ram sizes b from → all ≡ b ++ c → low ≤ from → HasDevice ram sizes all low
+device_on ram sizes b c all low from h e le =
     let text = spelled_record (device h.number h.body) in
     let head = header h.opening in
     let parts : all ≡ head ++ (texts h.before ++ (text ++ (h.more ++ c))) =
@@ -74,38 +75,38 @@ device_on base sizes b c all low from h e le =
       number = h.number;
       body = h.body;
       more = h.more ++ c;
-      front = record { begins = record { good = h.front.begins.good; whole = parts }; based = h.front.based; fits = h.front.fits; good = h.front.good };
+      front = record { begins = record { good = h.front.begins.good; whole = parts }; based = h.front.based; fits = h.front.fits; suits = h.front.suits; good = h.front.good };
       behind = omega (arith, le, h.behind);
     }
 
 -- A header is whole in what was fed: it was read.
-pub past_head : (base : ℕ) (ds : List DiskState) (digest : Sha256) (b held : List ℕ) (stage : Stage) (opening : Opening) (rest : List ℕ) → IsTaken base ds digest b held stage → Begins b opening rest → IsPastHead stage
-past_head base ds digest b held stages.Head opening rest t begins =
+pub past_head : (ram : RamTerms) (ds : List DiskState) (digest : Sha256) (b held : List ℕ) (stage : Stage) (opening : Opening) (rest : List ℕ) → IsTaken ram ds digest b held stage → Begins b opening rest → IsPastHead stage
+past_head ram ds digest b held stages.Head opening rest t begins =
     let k = t.known in
     let same : b ≡ held = t.whole ∙ ap (λ (x : List ℕ). x ++ held) k.0 in
     absurd (k.2.no_header opening rest (rw same at begins))
-past_head base ds digest b held (stages.Records i) opening rest t begins = tt
-past_head base ds digest b held (stages.Ended i) opening rest t begins = tt
-past_head base ds digest b held stages.Failed opening rest t begins = absurd t.known
+past_head ram ds digest b held (stages.Records i) opening rest t begins = tt
+past_head ram ds digest b held (stages.Ended i) opening rest t begins = tt
+past_head ram ds digest b held stages.Failed opening rest t begins = absurd t.known
 
 abbrev pub WantsAt : Received → List ℕ → Type 0
-WantsAt r piece = (b : List ℕ) → HasBeenFed r b → (opening : Opening) (rest : List ℕ) → Begins b opening rest → (from : ℕ) → from + length r.held ≡ length b → HasDevice r.base r.sizes (b ++ piece) from
+WantsAt r piece = (b : List ℕ) → HasBeenFed r b → (opening : Opening) (rest : List ℕ) → Begins b opening rest → (from : ℕ) → from + length r.held ≡ length b → HasDevice r.ram r.sizes (b ++ piece) from
 
-pub fed_wants : (base : ℕ) (place : Option Ptr) (ds : List DiskState) (stage : Stage) (digest : Sha256) (held piece b : List ℕ) (opening : Opening) (rest : List ℕ) (from : ℕ)
-    → ((front : List ℕ) → IsKnown base ds digest front held stage → IsPastHead stage → HasDevice base (sizes_in ds) (front ++ (held ++ piece)) (length front))
-    → HasBeenFed (received_by base place ds stage digest held) b → Begins b opening rest → from + length held ≡ length b → HasDevice base (sizes_in ds) (b ++ piece) from
-fed_wants base place ds stage digest held piece b opening rest from memory fed begins at =
+pub fed_wants : (ram : RamTerms) (place : Option Ptr) (ds : List DiskState) (stage : Stage) (digest : Sha256) (held piece b : List ℕ) (opening : Opening) (rest : List ℕ) (from : ℕ)
+    → ((front : List ℕ) → IsKnown ram ds digest front held stage → IsPastHead stage → HasDevice ram (sizes_in ds) (front ++ (held ++ piece)) (length front))
+    → HasBeenFed (received_by ram place ds stage digest held) b → Begins b opening rest → from + length held ≡ length b → HasDevice ram (sizes_in ds) (b ++ piece) from
+fed_wants ram place ds stage digest held piece b opening rest from memory fed begins at =
     let t = fed.taken in
-    let d = memory t.front t.known (past_head base ds digest b held stage opening rest t begins) in
+    let d = memory t.front t.known (past_head ram ds digest b held stage opening rest t begins) in
     let all : b ++ piece ≡ (t.front ++ (held ++ piece)) ++ [] = ap (λ (x : List ℕ). x ++ piece) t.whole ∙ append_assoc t.front held piece ∙ sym (append-nil (t.front ++ (held ++ piece))) in
-    device_on base (sizes_in ds) (t.front ++ (held ++ piece)) [] (b ++ piece) from (length t.front) d all (omega (arith, at, ap length t.whole, length-append t.front held))
+    device_on ram (sizes_in ds) (t.front ++ (held ++ piece)) [] (b ++ piece) from (length t.front) d all (omega (arith, at, ap length t.whole, length-append t.front held))
 
-pub part_wants : (base : ℕ) (old ds : List DiskState) (digest : Sha256) (bytes held rest part after : List ℕ) (stage : Stage) (low : ℕ) → (p : IsPartly base old ds digest bytes held rest stage) → rest ≡ part ++ after → low ≤ length p.front
-    → HasDevice base (sizes_in ds) (p.front ++ (held ++ part)) (length p.front) → HasDevice base (sizes_in old) bytes low
-part_wants base old ds digest bytes held rest part after stage low p is le d =
+pub part_wants : (ram : RamTerms) (old ds : List DiskState) (digest : Sha256) (bytes held rest part after : List ℕ) (stage : Stage) (low : ℕ) → (p : IsPartly ram old ds digest bytes held rest stage) → rest ≡ part ++ after → low ≤ length p.front
+    → HasDevice ram (sizes_in ds) (p.front ++ (held ++ part)) (length p.front) → HasDevice ram (sizes_in old) bytes low
+part_wants ram old ds digest bytes held rest part after stage low p is le d =
     let all : bytes ≡ (p.front ++ (held ++ part)) ++ after = p.whole ∙ ap (λ (x : List ℕ). p.front ++ (held ++ x)) is ∙ regrouped p.front held part after in
-    subst (λ (sizes : List ℕ). HasDevice base sizes bytes low) p.same.sizes (device_on base (sizes_in ds) (p.front ++ (held ++ part)) after bytes low (length p.front) d all le)
+    subst (λ (sizes : List ℕ). HasDevice ram sizes bytes low) p.same.sizes (device_on ram (sizes_in ds) (p.front ++ (held ++ part)) after bytes low (length p.front) d all le)
 
-pub not_before : (base : ℕ) (old ds : List DiskState) (digest : Sha256) (front first piece held rest : List ℕ) (stage : Stage) → (p : IsPartly base old ds digest (front ++ (first ++ piece)) held rest stage) → length held + length rest ≤ length first + length piece → length front ≤ length p.front
-not_before base old ds digest front first piece held rest stage p le =
+pub not_before : (ram : RamTerms) (old ds : List DiskState) (digest : Sha256) (front first piece held rest : List ℕ) (stage : Stage) → (p : IsPartly ram old ds digest (front ++ (first ++ piece)) held rest stage) → length held + length rest ≤ length first + length piece → length front ≤ length p.front
+not_before ram old ds digest front first piece held rest stage p le =
     omega (arith, le, ap length p.whole, length-append front (first ++ piece), length-append first piece, length-append p.front (held ++ rest), length-append held rest)

@@ -1,11 +1,12 @@
 -- No fault stands in a stream.
+use Rattle.receiver.specs.declared.ram_terms.RamTerms.{RamTerms}
 use Rattle.std.proofs.Common.{◌≡◌, ℕ, ◌+◌, ◌*◌, ◌≤◌, List, [], ◌∷◌, ◌++◌, length, drop, refl, sym, ap, ◌∙◌, append_assoc, append-nil, drop-drop, arith}
 use Rattle.std.specs.Prelude.{is_some}
 use Rattle.std.proofs.lemmas.List.Elements.{recursion_from_All}
 use Rattle.std.specs.List.{AllByRecursion}
 use Rattle.sha2.specs.Sha256.{sha256}
 use Rattle.wire.specs.DeviceBody.{body, IsDeviceOf}
-use Rattle.receiver.specs.Opened.{Opened, header, layout_in, opened}
+use Rattle.receiver.specs.Opened.{HasPages, Opened, header, layout_in, opened}
 use Rattle.wire.specs.Records.{Record, page, sector, round_end, device, commit, zero_page}
 use Rattle.wire.specs.Stream.{IsStream, IsEntry, AreNumbered, texts, rounds, shapes_in, device_texts, before_commit, opening_in}
 use Rattle.machine.specs.Layout.{Layout, layout_of, pages_of}
@@ -77,7 +78,7 @@ entries_good opening acc (zero_page n ∷ es) h k none = (
   entries_good opening (acc ++ zero_page n ∷ []) es h.1 (rw (rounds_zeros acc n) k) (omega (arith, none, devices_in-append acc (zero_page n ∷ []), none_in_zeros n)),
 )
 
-devices_good : (opening : Opened) (k : ℕ) (acc : List Record) (ds : List DeviceState) → AreNamed (layout_in opening) acc → devices_in acc ≡ k → k + length ds ≤ 256 → drop k opening.shapes ≡ shapes_in ds → AllByRecursion (IsSoundDevice opening.base (4096 * opening.pages)) ds
+devices_good : (opening : Opened) (k : ℕ) (acc : List Record) (ds : List DeviceState) → AreNamed (layout_in opening) acc → devices_in acc ≡ k → k + length ds ≤ 256 → drop k opening.shapes ≡ shapes_in ds → AllByRecursion (IsSoundDevice opening.ram.base (4096 * opening.pages)) ds
     → AllByRecursion (IsDeviceOf opening.version) ds → AreGood opening acc (device_records k ds)
 unfolding AreGood device_records
 devices_good opening k acc [] named count low here h has = tt
@@ -113,19 +114,19 @@ unfolding device_records
 count_none v l es h = count_all v l 0 es [] h
 
 -- What a stream opens with.
-abbrev opens_with : {bytes : List ℕ} {m : MachineState} → IsStream bytes m → Opened
-opens_with {m = m} s = opened (base_of m.devices) (opening_in s.version (pages_of m) m.devices)
+abbrev opens_with : {bytes : List ℕ} {m : MachineState} → RamTerms → IsStream bytes m → Opened
+opens_with {m = m} ram s = opened ram (opening_in s.version (pages_of m) m.devices)
 
 -- Where the good records of a stream end.
-record StreamFront (base : ℕ) (sizes bytes : List ℕ) (m : MachineState) (s : IsStream bytes m) : Type 0 where
+record StreamFront (ram : RamTerms) (sizes bytes : List ℕ) (m : MachineState) (s : IsStream bytes m) : Type 0 where
   digest : List ℕ
-  front : IsFront base sizes bytes (opens_with s) (s.entries ++ device_records 0 m.devices) (5 ∷ digest)
-  complete : IsComplete (opens_with s) (s.entries ++ device_records 0 m.devices) 5
-  digest_is : digest ≡ sha256 (header (opens_with s) ++ texts (s.entries ++ device_records 0 m.devices))
+  front : IsFront ram sizes bytes (opens_with ram s) (s.entries ++ device_records 0 m.devices) (5 ∷ digest)
+  complete : IsComplete (opens_with ram s) (s.entries ++ device_records 0 m.devices) 5
+  digest_is : digest ≡ sha256 (header (opens_with ram s) ++ texts (s.entries ++ device_records 0 m.devices))
 
-stream_front : (base : ℕ) (sizes bytes : List ℕ) (m : MachineState) (s : IsStream bytes m) → base_of m.devices ≡ base → sizes ≡ disk_sizes (shapes_in m.devices) → StreamFront base sizes bytes m s
-stream_front base sizes bytes m s based fits =
-    let opening = opens_with s in
+stream_front : (ram : RamTerms) (sizes bytes : List ℕ) (m : MachineState) (s : IsStream bytes m) → base_of m.devices ≡ ram.base → HasPages ram (pages_of m) → sizes ≡ disk_sizes (shapes_in m.devices) → StreamFront ram sizes bytes m s
+stream_front ram sizes bytes m s based suits fits =
+    let opening = opens_with ram s in
     let devices = device_records 0 m.devices in
     let all = s.entries ++ devices in
     let before_all = before_commit s.version (pages_of m) s.entries m.devices in
@@ -136,7 +137,7 @@ stream_front base sizes bytes m s based fits =
     let layout : layout_of m ≡ layout_in opening = sound_layout m s.by.sound in
     let named : AreNamed (layout_in opening) s.entries = λ item has. ap is_some (s.by.last item (rw layout has)) in
     let named_all : AreNamed (layout_in opening) all = λ item has. ap is_some (last_entries item 0 s.entries m.devices) ∙ named item has in
-    let sound : AllByRecursion (IsSoundDevice (base_of m.devices) (4096 * (pages_of m))) m.devices = rw s.by.sound.whole_pages at (recursion_from_All (IsSoundDevice (base_of m.devices) (length m.ram)) m.devices s.by.sound.devices) in
+    let sound : AllByRecursion (IsSoundDevice ram.base (4096 * (pages_of m))) m.devices = rw (s.by.sound.whole_pages, based) at (recursion_from_All (IsSoundDevice (base_of m.devices) (length m.ram)) m.devices s.by.sound.devices) in
     let has : AllByRecursion (IsDeviceOf s.version) m.devices = recursion_from_All (IsDeviceOf s.version) m.devices s.by.devices in
     let goods : AreGood opening [] s.entries = entries_good opening [] s.entries (rw layout at s.by.each) (rw none_ended s.by.numbered) none_yet in
     let few : 0 + length m.devices ≤ 256 = omega (arith, s.by.sound.few_devices) in
@@ -147,17 +148,17 @@ stream_front base sizes bytes m s based fits =
     s.by.whole ∙ ap (λ (x : List ℕ). before_all ++ x) (commit_text digest) ∙ ap (λ (x : List ℕ). x ++ (5 ∷ digest)) (sym front) ∙ append_assoc (header opening) (texts all) (5 ∷ digest) in
     record {
       digest = digest;
-      front = record { begins = record { good = b.good; whole = whole }; based = based; fits = fits; good = good };
+      front = record { begins = record { good = b.good; whole = whole }; based = refl; fits = fits; suits = suits; good = good };
       complete = complete;
       digest_is = ap sha256 (sym front);
     }
 
-pub stream_quiet : (base : ℕ) (sizes bytes : List ℕ) (m : MachineState) → IsStream bytes m → base_of m.devices ≡ base → sizes ≡ disk_sizes (shapes_in m.devices) → NoFault base sizes bytes
-stream_quiet base sizes bytes m s based fits =
-    let opening = opens_with s in
+pub stream_quiet : (ram : RamTerms) (sizes bytes : List ℕ) (m : MachineState) → IsStream bytes m → base_of m.devices ≡ ram.base → HasPages ram (pages_of m) → sizes ≡ disk_sizes (shapes_in m.devices) → NoFault ram sizes bytes
+stream_quiet ram sizes bytes m s based suits fits =
+    let opening = opens_with ram s in
     let all = s.entries ++ device_records 0 m.devices in
-    let f = stream_front base sizes bytes m s based fits in
-    quiet_front base sizes bytes opening all (5 ∷ f.digest) f.front (λ r y g e. no_other opening all f.digest r y g e) (end_quiet opening all f.digest f.complete f.digest_is)
+    let f = stream_front ram sizes bytes m s based suits fits in
+    quiet_front ram sizes bytes opening all (5 ∷ f.digest) f.front (λ r y g e. no_other opening all f.digest r y g e) (end_quiet opening all f.digest f.complete f.digest_is)
 
 rounds_entries : (es : List Record) (ds : List DeviceState) → rounds (es ++ device_records 0 ds) ≡ rounds es
 unfolding rounds
@@ -169,9 +170,9 @@ rounds_entries (device d b ∷ es) ds = rounds_entries es ds
 rounds_entries (commit b ∷ es) ds = rounds_entries es ds
 rounds_entries (zero_page z ∷ es) ds = rounds_entries es ds
 
-pub stream_rounds : (base : ℕ) (sizes bytes : List ℕ) (m : MachineState) (n : ℕ) (s : IsStream bytes m) → base_of m.devices ≡ base → sizes ≡ disk_sizes (shapes_in m.devices) → HasRounds base sizes bytes n → rounds s.entries ≡ n
-stream_rounds base sizes bytes m n s based fits h =
-    let opening = opens_with s in
+pub stream_rounds : (ram : RamTerms) (sizes bytes : List ℕ) (m : MachineState) (n : ℕ) (s : IsStream bytes m) → base_of m.devices ≡ ram.base → HasPages ram (pages_of m) → sizes ≡ disk_sizes (shapes_in m.devices) → HasRounds ram sizes bytes n → rounds s.entries ≡ n
+stream_rounds ram sizes bytes m n s based suits fits h =
+    let opening = opens_with ram s in
     let all = s.entries ++ device_records 0 m.devices in
-    let f = stream_front base sizes bytes m s based fits in
+    let f = stream_front ram sizes bytes m s based suits fits in
     sym (h.some opening all (5 ∷ f.digest) f.front (λ r y g e. no_other opening all f.digest r y g e) ∙ rounds_entries s.entries m.devices)

@@ -15,6 +15,7 @@ use Rattle.receiver.specs.Disks.{AreKept, AreRefused, MarksRefused, all_marks_in
 use Rattle.receiver.specs.Faults.{Opens, IsTrailing, IsFault, IsFront, Fault}
 use Rattle.receiver.specs.Fed.{HasRead, Tells, Waits, Ends, IsOpen, IsEnded}
 use Rattle.receiver.specs.declared.intake.Intake.{Intake}
+use Rattle.receiver.specs.declared.ram_terms.RamTerms.{RamTerms}
 use Rattle.receiver.specs.declared.recv_error.RecvError.{RecvError}
 use Rattle.receiver.specs.declared.recv_error.RecvError.TheVariants as errors
 use Rattle.receiver.proofs.Quiet.{nothing_waits}
@@ -115,19 +116,20 @@ one_more old ds new opening before i digest front bytes at len same d h =
     let Q : List ℕ → Type 0 = λ x. HasRead new opening (before ++ h.1.0 ∷ []) i x in
     record { before = before ++ h.1.0 ∷ []; same = then_kept old ds new same h.0; digested = subst P (more_taken front bytes at len) d; read = subst Q (more_taken front bytes at len) h.1.1 }
 
-pub front_of : {ds : List DiskState} {opening : Opened} {before : List Record} {i : Intake} {front : List ℕ} (bytes tail : List ℕ) → HasRead ds opening before i front → bytes ≡ front ++ tail → IsFront opening.base (sizes_in ds) bytes opening before tail
+pub front_of : {ds : List DiskState} {opening : Opened} {before : List Record} {i : Intake} {front : List ℕ} (bytes tail : List ℕ) → HasRead ds opening before i front → bytes ≡ front ++ tail → IsFront opening.ram (sizes_in ds) bytes opening before tail
 front_of {opening = opening} {before = before} bytes tail h e = record {
   begins = record { good = h.head; whole = e ∙ ap (λ (x : List ℕ). x ++ tail) h.whole ∙ append_assoc (header opening) (texts before) tail };
   based = refl;
   fits = h.fits;
+  suits = h.suits;
   good = h.good;
 }
 
-pub front_at : {base : ℕ} {sizes bytes : List ℕ} {opening : Opened} {before : List Record} {tail : List ℕ} → opening.base ≡ base → IsFront opening.base sizes bytes opening before tail → IsFront base sizes bytes opening before tail
-front_at {base} {sizes} {bytes} {opening} {before} {tail} based front = subst (λ (b : ℕ). IsFront b sizes bytes opening before tail) based front
+pub front_at : {ram : RamTerms} {sizes bytes : List ℕ} {opening : Opened} {before : List Record} {tail : List ℕ} → opening.ram ≡ ram → IsFront opening.ram sizes bytes opening before tail → IsFront ram sizes bytes opening before tail
+front_at {ram} {sizes} {bytes} {opening} {before} {tail} based front = subst (λ (r : RamTerms). IsFront r sizes bytes opening before tail) based front
 
 pub fault_here : {ds : List DiskState} {opening : Opened} {before : List Record} {i : Intake} {front : List ℕ} (bytes tail : List ℕ) (e : RecvError) → HasRead ds opening before i front → bytes ≡ front ++ tail
-    → (place : ℕ) × IsFault opening before tail e place → (at : ℕ) × Fault opening.base (sizes_in ds) bytes e at
+    → (place : ℕ) × IsFault opening before tail e place → (at : ℕ) × Fault opening.ram (sizes_in ds) bytes e at
 fault_here {opening = opening} {before = before} bytes tail e h is f =
     (length (header opening ++ texts before) + f.0, inr (record { opening = opening; before = before; tail = tail; place = f.0; front = front_of bytes tail h is; fault = f.1; there = refl }))
 
@@ -135,9 +137,9 @@ pub cut : (front bytes : List ℕ) (at : ℕ) → front ++ bytes ≡ (front ++ t
 cut front bytes at = ap (λ (x : List ℕ). front ++ x) (sym (take-append-drop at bytes)) ∙ sym (append_assoc front (take at bytes) (drop at bytes))
 
 pub refused : (old ds new : List DiskState) (opening : Opened) (before : List Record) (i : Intake) (front bytes : List ℕ) (at : ℕ) (e : RecvError) → AreKept old ds → HasRead ds opening before i (front ++ take at bytes)
-    → AreRefused ds new e × Tells e ((place : ℕ) × IsFault opening before (drop at bytes) e place) → AreRefused old new e × Tells e ((k : ℕ) × Fault opening.base (sizes_in old) (front ++ bytes) e k)
+    → AreRefused ds new e × Tells e ((place : ℕ) × IsFault opening before (drop at bytes) e place) → AreRefused old new e × Tells e ((k : ℕ) × Fault opening.ram (sizes_in old) (front ++ bytes) e k)
 refused old ds new opening before i front bytes at e same h t =
-    (then_refused old ds new e same t.0, tells_more _ _ e (λ f. subst (λ sizes. (k : ℕ) × Fault opening.base sizes (front ++ bytes) e k) same.sizes (fault_here (front ++ bytes) (drop at bytes) e h (cut front bytes at) f)) t.1)
+    (then_refused old ds new e same t.0, tells_more _ _ e (λ f. subst (λ sizes. (k : ℕ) × Fault opening.ram sizes (front ++ bytes) e k) same.sizes (fault_here (front ++ bytes) (drop at bytes) e h (cut front bytes at) f)) t.1)
 
 pub waiting : (old ds new : List DiskState) (opening : Opened) (before : List Record) (i : Intake) (digest : Sha256) (front tail : List ℕ) → AreKept old ds → Holds256 digest front → AreKept ds new × HasRead new opening before i front × Waits opening before tail
     → AreKept old new × Holds256 digest front × IsOpen new opening i front tail
@@ -152,11 +154,11 @@ trailing_by opening before tail [] o long = absurd (omega (arith, long, ap lengt
 trailing_by opening before tail (byte ∷ more) o long = record { byte = byte; more = more; opens = o; there = refl }
 
 pub trailing : (old ds new : List DiskState) (opening : Opened) (before : List Record) (i : Intake) (front bytes : List ℕ) (at : ℕ) → AreKept old ds → AreKept ds new × HasRead new opening before i (front ++ take at bytes) × Ends opening before (drop at bytes) → at + 33 < length bytes
-    → AreRefused old new errors.Trailing × ((k : ℕ) × Fault opening.base (sizes_in old) (front ++ bytes) errors.Trailing k)
+    → AreRefused old new errors.Trailing × ((k : ℕ) × Fault opening.ram (sizes_in old) (front ++ bytes) errors.Trailing k)
 trailing old ds new opening before i front bytes at same h long =
     let both = then_kept old ds new same h.0 in (
       record { sizes = both.sizes; marks = both.marks },
-      subst (λ sizes. (k : ℕ) × Fault opening.base sizes (front ++ bytes) errors.Trailing k) both.sizes (fault_here (front ++ bytes) (drop at bytes) errors.Trailing h.1 (cut front bytes at) (34, trailing_by opening before (drop at bytes) h.2.more h.2.opens (omega (arith, long, length-drop at bytes)))),
+      subst (λ sizes. (k : ℕ) × Fault opening.ram sizes (front ++ bytes) errors.Trailing k) both.sizes (fault_here (front ++ bytes) (drop at bytes) errors.Trailing h.1 (cut front bytes at) (34, trailing_by opening before (drop at bytes) h.2.more h.2.opens (omega (arith, long, length-drop at bytes)))),
     )
 
 ended_by : (opening : Opened) (before : List Record) (tail more : List ℕ) → Opens opening before tail 5 (sha256 (header opening ++ texts before) ++ more) → length tail ≤ 33 → tail ≡ 5 ∷ sha256 (header opening ++ texts before)

@@ -1,7 +1,7 @@
 -- A sector that goes to its disk, and one that is marked as bad.
 use Rattle.std.proofs.Common.{◌≡◌, ℕ, zero, suc, ◌+◌, ◌%◌, ◌^◌, ◌<◌, Bool, true, false, List, [], ◌∷◌, ◌++◌, length, get_or, Some, None, refl, sym, ap, subst, ◌∙◌, arith}
 use Rattle.std.specs.Prelude.{IsTrue, set, Ok, Err}
-use Rattle.std.proofs.lemmas.List.{get_or-map, length-map, length-set, map-set, set-get_or}
+use Rattle.std.proofs.lemmas.List.{get_or-map, length-map, map-set, set-get_or}
 use Rattle.std.proofs.lemmas.Option.{slice_get-get_or}
 use Rattle.blk.specs.Disk.{DiskState, Writes}
 use Rattle.blk.specs.Sectors.{sectors_of}
@@ -82,11 +82,11 @@ took_good {E = E} ds d front opening before i j dev n b spot u h none spells at 
     let k = disks_before opening.shapes dev in
     let w : Writes {E = E} (get_or ds k d) n b (Ok u) d = rw at.disk at wrote in
     let low = disk_below opening.shapes ds dev n h.head.sound h.fits at.there in
-    let long = marks_length ds i.bad.items k d h.marks_are low in
+    let long = marks_length ds i.bad.items k d h.written.marks low in
     let marks : marks_in d ≡ marks_in (get_or ds k d) = same_marks d.failures (get_or ds k d).failures d.honest (get_or ds k d).honest d.steady (get_or ds k d).steady w.keeps.count w.keeps.honest w.keeps.steady in
     rw at.disk (
       record { sizes = sizes_kept ds k d w.keeps.size; marks = marks_kept ds k d marks },
-      more_sector ds d front opening before i j dev n (Some b) (set (get_or i.bad.items k []) n false) h none spells at.there marks w.keeps.size (simp length-set)
+      more_sector ds d front opening before i j dev n (Some b) h none spells at.there marks w.keeps.size
           (λ honest. ap (λ ss. sectors_of ss (set (get_or i.bad.items k []) n false)) (w.set honest) ∙ set_good (get_or ds k d).sectors (get_or i.bad.items k []) n b long)
           (rw at.disk at bad) (rw at.item at named) ram ends same_terms same_shapes same_devices same_firsts,
     )
@@ -102,9 +102,9 @@ took_bad ds front opening before i j dev n spot h none spells at bad named ram e
     let d = get_or ds k first in
     let again : get_or ds k d ≡ d = get_again ds k first in
     let low = disk_below opening.shapes ds dev n h.head.sound h.fits at.there in
-    let long = marks_length ds i.bad.items k d h.marks_are low in
+    let long = marks_length ds i.bad.items k d h.written.marks low in
     let same : set ds k d ≡ ds = set-get_or ds k first in
     subst (λ (x : List DiskState). HasRead x opening (before ++ sector dev n None ∷ []) j (front ++ spelled_record (sector dev n None))) same
-    (more_sector ds d front opening before i j dev n None (set (get_or i.bad.items k []) n true) h none spells at.there (ap marks_in (sym again)) (ap (λ (x : DiskState). length x.sectors) (sym again)) (simp length-set)
+    (more_sector ds d front opening before i j dev n None h none spells at.there (ap marks_in (sym again)) (ap (λ (x : DiskState). length x.sectors) (sym again))
     (λ honest. set_bad (get_or ds k d).sectors d.sectors (get_or i.bad.items k []) n long (ap (λ (x : DiskState). length x.sectors) (sym again)) (λ p other. ap (λ (x : DiskState). get_or x.sectors p []) (sym again)))
     (rw at.disk at bad) (rw at.item at named) ram ends same_terms same_shapes same_devices same_firsts)

@@ -5,10 +5,9 @@ use Rattle.sha2.specs.Sha256.{sha256}
 use Rattle.guestmem.specs.Number.{number_at}
 use Rattle.wire.specs.DeviceBody.{IsBodyOf}
 use Rattle.wire.specs.Header as told
-use Rattle.wire.specs.Header.{spelled_shape, spelled_shapes, IsVersion}
+use Rattle.wire.specs.Header.{spelled_shape, spelled_shapes, IsVersion, shape_length}
 use Rattle.wire.specs.Numbers.{digits}
 use Rattle.wire.specs.Records.{Record, is_zero_page}
-use Rattle.wire.specs.ShapeReading.{shape_length}
 use Rattle.wire.specs.Stream.{rounds, texts}
 use Rattle.guestmem.specs.Item as items
 use Rattle.machine.specs.Layout.{IsItemIn}
@@ -16,10 +15,11 @@ use Rattle.machine.specs.Shapes.{disk_sizes}
 use Rattle.machine.specs.Sound.{IsSoundShape}
 use Rattle.machine.specs.State.{DeviceState}
 use Rattle.machine.specs.declared.shape.Shape.{Shape}
-use Rattle.receiver.specs.Opened.{Opened, Begins, header, layout_in}
+use Rattle.receiver.specs.Opened.{HasPages, Opened, Begins, header, layout_in}
 use Rattle.receiver.specs.Good.{AreGood, AreNamed, devices_in}
+use Rattle.receiver.specs.declared.ram_terms.RamTerms.{RamTerms}
 use Rattle.receiver.specs.declared.recv_error.RecvError.{RecvError}
-use Rattle.receiver.specs.declared.recv_error.RecvError.TheVariants.{BadMagic, BadVersion, BadShape, ShapeMismatch, BadTag, BadPage, BadSector, BadRound, BadDevice, BadDigest, Missing, Trailing}
+use Rattle.receiver.specs.declared.recv_error.RecvError.TheVariants.{BadMagic, BadVersion, BadShape, ShapeMismatch, BadTag, BadPage, BadSector, BadRound, BadDevice, BadDigest, Missing, Trailing, NoMemory}
 
 -- The tags of pages, with their bytes (1) or of zeros (6).
 abbrev pub IsPageTag : ℕ → Type 0
@@ -139,7 +139,7 @@ pub record IsBadBody (opening : Opened) (before : List Record) (tail : List ℕ)
   pub opens : Opens opening before tail 4 (devices_in before ∷ (digits 4 (length body) ++ (body ++ more)))
   pub few : length body ≤ 131072
   pub here : drop (devices_in before) opening.shapes ≡ shape ∷ others
-  pub never : (d : DeviceState) → ¬ (IsBodyOf opening.version shape opening.base (4096 * opening.pages) body d)
+  pub never : (d : DeviceState) → ¬ (IsBodyOf opening.version shape opening.ram.base (4096 * opening.pages) body d)
   pub there : place ≡ 6 + length body
 
 -- BadDigest (10), found at the last byte of the digest.
@@ -241,38 +241,50 @@ pub record IsBadShape (bytes : List ℕ) (at : ℕ) : Type 0 where
   pub never : IsNoShape bad
   pub there : at ≡ 16 + (length (spelled_shapes shapes) + length bad)
 
--- ShapeMismatch (4), found at the end of the header.
-pub record IsMismatch (sizes bytes : List ℕ) (at : ℕ) : Type 0 where
+-- ShapeMismatch (4), found at the end of the header: the disks are not those of the machine, or the RAM that was handed in has another
+-- number of pages.
+pub record IsMismatch (ram : RamTerms) (sizes bytes : List ℕ) (at : ℕ) : Type 0 where
   pub opening : told.Opening
   pub more : List ℕ
   pub begins : told.Begins bytes opening more
-  pub never : sizes ≢ disk_sizes opening.shapes
+  pub never : ¬ ((sizes ≡ disk_sizes opening.shapes) × HasPages ram opening.pages)
   pub there : at ≡ length (told.header opening)
 
-abbrev pub IsHeaderFault : List ℕ → List ℕ → RecvError → ℕ → Type 0
-IsHeaderFault sizes bytes BadMagic at = IsBadMagic bytes at
-IsHeaderFault sizes bytes BadVersion at = IsBadVersion bytes at
-IsHeaderFault sizes bytes BadShape at = IsBadCount bytes at ⊎ IsBadShape bytes at
-IsHeaderFault sizes bytes ShapeMismatch at = IsMismatch sizes bytes at
-IsHeaderFault sizes bytes _ at = ⊥
+abbrev pub IsHeaderFault : RamTerms → List ℕ → List ℕ → RecvError → ℕ → Type 0
+IsHeaderFault ram sizes bytes BadMagic at = IsBadMagic bytes at
+IsHeaderFault ram sizes bytes BadVersion at = IsBadVersion bytes at
+IsHeaderFault ram sizes bytes BadShape at = IsBadCount bytes at ⊎ IsBadShape bytes at
+IsHeaderFault ram sizes bytes ShapeMismatch at = IsMismatch ram sizes bytes at
+IsHeaderFault ram sizes bytes _ at = ⊥
 
--- The bytes begin with a header of a machine whose RAM begins at `base`, with disks of these sizes, then come whole good records, then
--- `tail`.
-pub record IsFront (base : ℕ) (sizes bytes : List ℕ) (opening : Opened) (before : List Record) (tail : List ℕ) : Type 0 where
+-- What a refusal means: there is this fault of the header, unless memory was refused.
+abbrev pub TellsHead : RecvError → Type 0 → Type 0
+TellsHead NoMemory F = Unit {0}
+TellsHead _ F = F
+
+-- The bytes begin with no whole header, and with no fault of one.
+pub record WaitsHead (bytes : List ℕ) : Type 0 where
+  pub no_header : (opening : told.Opening) (rest : List ℕ) → ¬ (told.Begins bytes opening rest)
+  pub no_fault : (ram : RamTerms) (sizes : List ℕ) (k : RecvError) (at : ℕ) → ¬ (IsHeaderFault ram sizes bytes k at)
+
+-- The bytes begin with a header of a machine with disks of these sizes, and of as many pages as the RAM that was handed in, then come
+-- whole good records, then `tail`.
+pub record IsFront (ram : RamTerms) (sizes bytes : List ℕ) (opening : Opened) (before : List Record) (tail : List ℕ) : Type 0 where
   pub begins : Begins bytes opening (texts before ++ tail)
-  pub based : opening.base ≡ base
+  pub based : opening.ram ≡ ram
   pub fits : sizes ≡ disk_sizes opening.shapes
+  pub suits : HasPages ram opening.pages
   pub good : AreGood opening [] before
 
-pub record IsRecordFault (base : ℕ) (sizes bytes : List ℕ) (k : RecvError) (at : ℕ) : Type 0 where
+pub record IsRecordFault (ram : RamTerms) (sizes bytes : List ℕ) (k : RecvError) (at : ℕ) : Type 0 where
   pub opening : Opened
   pub before : List Record
   pub tail : List ℕ
   pub place : ℕ
-  pub front : IsFront base sizes bytes opening before tail
+  pub front : IsFront ram sizes bytes opening before tail
   pub fault : IsFault opening before tail k place
   pub there : at ≡ length (header opening ++ texts before) + place
 
--- For RAM that begins at this address and disks of these sizes the bytes have this fault, found at this place.
-abbrev pub Fault : ℕ → List ℕ → List ℕ → RecvError → ℕ → Type 0
-Fault base sizes bytes k at = IsHeaderFault sizes bytes k at ⊎ IsRecordFault base sizes bytes k at
+-- For what is said of RAM and disks of these sizes the bytes have this fault, found at this place.
+abbrev pub Fault : RamTerms → List ℕ → List ℕ → RecvError → ℕ → Type 0
+Fault ram sizes bytes k at = IsHeaderFault ram sizes bytes k at ⊎ IsRecordFault ram sizes bytes k at

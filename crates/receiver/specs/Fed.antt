@@ -1,11 +1,11 @@
 -- What a receiver has read of the bytes that it was fed.
-use Rattle.std.specs.Prelude.{◌≡◌, ◌<◌, ℕ, ◌+◌, ◌*◌, Bool, true, false, List, [], ◌∷◌, ◌++◌, length, take, drop, Result, Ok, Err}
+use Rattle.std.specs.Prelude.{All, ◌≡◌, ◌<◌, ℕ, ◌+◌, ◌*◌, Bool, true, false, List, [], ◌∷◌, ◌++◌, length, take, drop, Result, Ok, Err}
 use Rattle.std.specs.List.{AllByRecursion}
 use Rattle.sha2.specs.Hashers.{Holds256}
 use Rattle.sha2.specs.Sha256.{sha256}
 use Rattle.sha2.specs.declared.Sha256.{Sha256}
 use Rattle.wire.specs.DeviceBody.{body, IsDeviceOf}
-use Rattle.receiver.specs.Opened.{header, IsHeader, Opened, layout_in}
+use Rattle.receiver.specs.Opened.{HasPages, header, IsHeader, Opened, layout_in}
 use Rattle.blk.specs.Disk.{DiskState}
 use Rattle.wire.specs.Records.{Record, device, commit, spelled_record, BeginsNoRecord}
 use Rattle.wire.specs.Stream.{IsEntry, AreNumbered, rounds, shapes_in, texts}
@@ -13,9 +13,9 @@ use Rattle.machine.specs.First.{AreMarksOf, dealt_sectors, marked_sectors}
 use Rattle.machine.specs.Layout.{firsts_of}
 use Rattle.machine.specs.Shapes.{disk_sizes}
 use Rattle.machine.specs.Sound.{IsSoundDevice}
-use Rattle.blk.specs.Sectors.{Sector}
+use Rattle.blk.specs.Sectors.{AreWhole, Sector}
+use Rattle.machine.specs.Applied.{bad_on}
 use Rattle.machine.specs.State.{DeviceState}
-use Rattle.machine.specs.declared.shape.Shape.{Shape}
 use Rattle.receiver.specs.Disks.{AreHonestDisks, AreKept, AreRefused, all_marks_in, sizes_in}
 use Rattle.receiver.specs.Good.{AreGood}
 use Rattle.receiver.specs.Taken.{AreTaken}
@@ -31,30 +31,36 @@ unfoldable pub device_records : ℕ → List DeviceState → List Record
 device_records number [] = []
 device_records number (d ∷ ds) = device number (body d) ∷ device_records (number + 1) ds
 
--- The sectors of the disks of these devices, where the sectors with these marks are bad.
-abbrev pub held_sectors : List Shape → List DiskState → List (List Bool) → List (List Sector)
-held_sectors shapes disks bad = dealt_sectors shapes (marked_sectors disks bad)
+-- Of disks with these marks of bad sectors, these are the sectors as they were written: the same ones are bad, whatever the disks do, and
+-- honest disks hold them.
+pub record AreWritten (disks : List DiskState) (bad : List (List Bool)) (written : List (List Sector)) : Type 0 where
+  pub marks : AreMarksOf disks bad
+  pub whole : All AreWhole written
+  pub bad_are : bad_on written ≡ bad
+  pub held : AreHonestDisks (all_marks_in disks) → marked_sectors disks bad ≡ written
 
--- The intake has taken in these bytes, a header and these whole good records, and the disks have the sizes of those of the
--- devices.
+-- The intake has taken in these bytes, a header and these whole good records. The disks have the sizes of those of the devices, and
+-- RAM that was handed in has the machine's pages.
 pub record HasRead (disks : List DiskState) (opening : Opened) (before : List Record) (i : Intake) (front : List ℕ) : Type 0 where
   pub head : IsHeader opening
   pub fits : sizes_in disks ≡ disk_sizes opening.shapes
+  pub suits : HasPages opening.ram opening.pages
   pub good : AreGood opening [] before
   pub whole : front ≡ header opening ++ texts before
   pub version_is : i.terms.version ≡ opening.version
-  pub base_is : i.terms.base ≡ opening.base
+  pub ram_is : i.terms.ram ≡ opening.ram
   pub shapes_are : i.shapes.items ≡ opening.shapes
   pub firsts_are : i.firsts.items ≡ firsts_of (layout_in opening)
-  pub marks_are : AreMarksOf disks i.bad.items
+  pub sectors : List (List Sector)
+  pub written : AreWritten disks i.bad.items sectors
   pub entries : List Record
   pub split : before ≡ entries ++ device_records 0 i.devices.items
   pub each : AllByRecursion (IsEntry opening.version (layout_in opening)) entries
   pub numbered : AreNumbered 1 entries
   pub rounds_are : i.rounds ≡ rounds before
-  pub taken : AreTaken opening.version (AreHonestDisks (all_marks_in disks)) i.ram.bytes (held_sectors opening.shapes disks i.bad.items) i.named (layout_in opening) before
+  pub taken : AreTaken opening.version i.ram.bytes (dealt_sectors opening.shapes sectors) i.named (layout_in opening) before
   pub devices_are : shapes_in i.devices.items ≡ take (length i.devices.items) opening.shapes
-  pub sound : AllByRecursion (IsSoundDevice opening.base (4096 * opening.pages)) i.devices.items
+  pub sound : AllByRecursion (IsSoundDevice opening.ram.base (4096 * opening.pages)) i.devices.items
   pub has : AllByRecursion (IsDeviceOf opening.version) i.devices.items
 
 -- What a refusal means: there is this fault, unless memory was refused or a disk failed.
@@ -119,4 +125,4 @@ pub record IsEnded (disks : List DiskState) (opening : Opened) (i : Intake) (byt
 abbrev pub Worked : List DiskState → List DiskState → Opened → Intake → Sha256 → List ℕ → List ℕ → Result (ℕ × Bool) RecvError → Type 0
 Worked old disks opening new digest front bytes (Ok (at, false)) = AreKept old disks × Holds256 digest (front ++ take at bytes) × IsOpen disks opening new (front ++ take at bytes) (drop at bytes)
 Worked old disks opening new digest front bytes (Ok (at, true)) = AreKept old disks × (at ≡ length bytes) × IsEnded disks opening new (front ++ bytes)
-Worked old disks opening new digest front bytes (Err e) = AreRefused old disks e × Tells e ((at : ℕ) × Fault opening.base (sizes_in old) (front ++ bytes) e at)
+Worked old disks opening new digest front bytes (Err e) = AreRefused old disks e × Tells e ((at : ℕ) × Fault opening.ram (sizes_in old) (front ++ bytes) e at)

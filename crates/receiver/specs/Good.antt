@@ -29,7 +29,7 @@ pub record IsNextDevice (opening : Opened) (before : List Record) (d : ℕ) (bod
   pub others : List Shape
   pub here : drop d opening.shapes ≡ shape ∷ others
   pub state : DeviceState
-  pub is : IsBodyOf opening.version shape opening.base (4096 * opening.pages) body state
+  pub is : IsBodyOf opening.version shape opening.ram.base (4096 * opening.pages) body state
 
 -- The record may follow those before it. The digest ends a stream, and is none of these records.
 abbrev pub MayFollow : Opened → List Record → Record → Type 0

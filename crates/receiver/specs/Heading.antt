@@ -1,9 +1,9 @@
--- What is at the front of a stream, of which a part may still be missing.
+-- The shapes at the front of a stream, of which a part may still be missing.
 use Rattle.std.specs.Prelude.{◌≡◌, ◌<◌, ℕ, List, ◌++◌, length, All, Option, Some, None, Result, Ok, Err}
-use Rattle.wire.specs.Header.{Begins, spelled_shape, spelled_shapes, Opening}
+use Rattle.wire.specs.Header.{spelled_shape, spelled_shapes}
 use Rattle.machine.specs.Sound.{IsSoundShape}
 use Rattle.machine.specs.declared.shape.Shape.{Shape}
-use Rattle.receiver.specs.Faults.{IsNoShape, IsHeaderFault}
+use Rattle.receiver.specs.Faults.{IsNoShape}
 use Rattle.receiver.specs.declared.recv_error.RecvError.{RecvError}
 use Rattle.receiver.specs.declared.recv_error.RecvError.TheVariants.{BadShape, NoMemory}
 
@@ -53,13 +53,3 @@ abbrev pub ReadShapes : {X Y : Type 0} → (X → List Shape) → (Y → List �
 ReadShapes shapes view count bytes (Ok None) = ShapesWait count bytes
 ReadShapes shapes view count bytes (Ok (Some found)) = ShapesRead count bytes (shapes found.0) (view found.1)
 ReadShapes shapes view count bytes (Err e) = OnBad e (ShapesBad count bytes)
-
--- What a refusal means: there is this fault of the header, unless memory was refused.
-abbrev pub TellsHead : RecvError → Type 0 → Type 0
-TellsHead NoMemory F = Unit {0}
-TellsHead _ F = F
-
--- The bytes begin with no whole header, and with no fault of one.
-pub record WaitsHead (bytes : List ℕ) : Type 0 where
-  pub no_header : (opening : Opening) (rest : List ℕ) → ¬ (Begins bytes opening rest)
-  pub no_fault : (sizes : List ℕ) (k : RecvError) (at : ℕ) → ¬ (IsHeaderFault sizes bytes k at)

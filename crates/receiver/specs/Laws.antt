@@ -1,6 +1,7 @@
 -- The laws of faults.
 use Rattle.std.specs.Prelude.{◌≡◌, ◌≤◌, ℕ, List, ◌++◌, length}
 use Rattle.wire.specs.Stream.{IsStream, rounds, shapes_in, whole}
+use Rattle.machine.specs.Layout.{pages_of}
 use Rattle.machine.specs.Seen.{Marks}
 use Rattle.machine.specs.Sound.{IsSound}
 use Rattle.machine.specs.State.{MachineState, base_of}
@@ -8,28 +9,31 @@ use Rattle.machine.specs.Shapes.{disk_sizes}
 use Rattle.receiver.specs.Disks.{IsUnsteady}
 use Rattle.receiver.specs.Receiving.{NoFault, HasRounds, RefusesSlice}
 use Rattle.receiver.specs.Faults.{Fault}
+use Rattle.receiver.specs.Opened.{HasPages}
+use Rattle.receiver.specs.declared.ram_terms.RamTerms.{RamTerms}
 use Rattle.receiver.specs.declared.recv_error.RecvError.{RecvError}
 use Rattle.receiver.specs.declared.recv_error.RecvError.TheVariants.{DiskFailed, NoMemory}
 
--- For RAM that begins at one address, a list of bytes has at most one fault, at one place: it is the first.
+-- For what is said of RAM, a list of bytes has at most one fault, at one place: it is the first.
 abbrev pub OneFault : Type 0
-OneFault = (base : ℕ) (sizes bytes : List ℕ) (k j : RecvError) (at bt : ℕ) → Fault base sizes bytes k at → Fault base sizes bytes j bt → (k ≡ j) × (at ≡ bt)
+OneFault = (ram : RamTerms) (sizes bytes : List ℕ) (k j : RecvError) (at bt : ℕ) → Fault ram sizes bytes k at → Fault ram sizes bytes j bt → (k ≡ j) × (at ≡ bt)
 
--- A stream of a machine with disks of these sizes has no fault, where the machine's RAM begins at the address that is named.
+-- A stream of a machine with disks of these sizes has no fault, where the machine's RAM begins at the address that is named, and has the
+-- pages of the RAM that was handed in.
 abbrev pub NoFaultInStream : Type 0
-NoFaultInStream = (base : ℕ) (sizes bytes : List ℕ) (m : MachineState) → IsStream bytes m → base_of m.devices ≡ base → sizes ≡ disk_sizes (shapes_in m.devices) → NoFault base sizes bytes
+NoFaultInStream = (ram : RamTerms) (sizes bytes : List ℕ) (m : MachineState) → IsStream bytes m → base_of m.devices ≡ ram.base → HasPages ram (pages_of m) → sizes ≡ disk_sizes (shapes_in m.devices) → NoFault ram sizes bytes
 
 -- A fault in some bytes is a fault, at the same place, in every extension of them.
 abbrev pub FaultsStay : Type 0
-FaultsStay = (base : ℕ) (sizes b c : List ℕ) (k : RecvError) (at : ℕ) → Fault base sizes b k at → Fault base sizes (b ++ c) k at
+FaultsStay = (ram : RamTerms) (sizes b c : List ℕ) (k : RecvError) (at : ℕ) → Fault ram sizes b k at → Fault ram sizes (b ++ c) k at
 
 -- A fault in some bytes is a fault, at the same place, in every prefix of them that reaches its place.
 abbrev pub FaultsStandEarly : Type 0
-FaultsStandEarly = (base : ℕ) (sizes b c : List ℕ) (k : RecvError) (at : ℕ) → at ≤ length b → Fault base sizes (b ++ c) k at → Fault base sizes b k at
+FaultsStandEarly = (ram : RamTerms) (sizes b c : List ℕ) (k : RecvError) (at : ℕ) → at ≤ length b → Fault ram sizes (b ++ c) k at → Fault ram sizes b k at
 
 -- The rounds that a stream has (`HasRounds`) are the ends of rounds among its records.
 abbrev pub RoundsOfStream : Type 0
-RoundsOfStream = (base : ℕ) (sizes bytes : List ℕ) (m : MachineState) (n : ℕ) (s : IsStream bytes m) → base_of m.devices ≡ base → sizes ≡ disk_sizes (shapes_in m.devices) → HasRounds base sizes bytes n → rounds s.entries ≡ n
+RoundsOfStream = (ram : RamTerms) (sizes bytes : List ℕ) (m : MachineState) (n : ℕ) (s : IsStream bytes m) → base_of m.devices ≡ ram.base → HasPages ram (pages_of m) → sizes ≡ disk_sizes (shapes_in m.devices) → HasRounds ram sizes bytes n → rounds s.entries ≡ n
 
 -- A refusal because memory was refused, or because a disk failed, where some disk is not steady.
 abbrev pub IsSpoilt : List Marks → RecvError → Type 0

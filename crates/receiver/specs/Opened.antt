@@ -1,12 +1,13 @@
--- What a receiver knows of a machine once it has read the header: what the header says, and the address at which the machine's RAM
--- begins. No stream tells that address: who receives a machine names it.
-use Rattle.std.specs.Prelude.{ℕ, List}
+-- What a receiver knows of a machine once it has read the header: what the header says, and what the host says of the machine's RAM,
+-- the address at which it begins and the length of the RAM that was handed in. No stream tells that address.
+use Rattle.std.specs.Prelude.{◌≡◌, ◌*◌, ℕ, List, length, IfSome, Some, None}
+use Rattle.receiver.specs.declared.ram_terms.RamTerms.{RamTerms}
 use Rattle.machine.specs.Layout.{Layout}
 use Rattle.machine.specs.declared.shape.Shape.{Shape}
 use Rattle.wire.specs.Header as told
 
 pub record Opened : Type 0 where
-  pub base : ℕ
+  pub ram : RamTerms
   pub version : ℕ
   pub pages : ℕ
   pub shapes : List Shape
@@ -15,9 +16,9 @@ pub record Opened : Type 0 where
 abbrev pub said_by : Opened → told.Opening
 said_by opening = record { version = opening.version; pages = opening.pages; shapes = opening.shapes }
 
--- A header, of a machine whose RAM begins at this address.
-abbrev pub opened : ℕ → told.Opening → Opened
-opened base heading = record { base = base; version = heading.version; pages = heading.pages; shapes = heading.shapes }
+-- A header, of a machine of whose RAM the host says this.
+abbrev pub opened : RamTerms → told.Opening → Opened
+opened ram heading = record { ram = ram; version = heading.version; pages = heading.pages; shapes = heading.shapes }
 
 -- The bytes of its header, whether it is within the limits, and the items of the machine.
 abbrev pub header : Opened → List ℕ
@@ -32,3 +33,14 @@ layout_in opening = told.layout_in (said_by opening)
 -- The bytes begin with its header, and `rest` follows.
 abbrev pub Begins : List ℕ → Opened → List ℕ → Type 0
 Begins bytes opening rest = told.Begins bytes (said_by opening) rest
+
+-- RAM begins at this address, and none was handed in, or one with these bytes.
+abbrev pub ram_at : ℕ → RamTerms
+ram_at base = record { base = base; len = None }
+
+abbrev pub given_at : ℕ → List ℕ → RamTerms
+given_at base bytes = record { base = base; len = Some (length bytes) }
+
+-- The RAM that the host handed in, if it did, has this count of pages.
+abbrev pub HasPages : RamTerms → ℕ → Type 0
+HasPages ram pages = IfSome ram.len (λ len. len ≡ 4096 * pages)

@@ -10,46 +10,49 @@ use Rattle.wire.specs.Header as told
 use Rattle.wire.specs.Records.{Record, commit, device, spelled_record}
 use Rattle.wire.specs.Stream.{IsStream, rounds, texts}
 use Rattle.blk.specs.Disk.{DiskState}
+use Rattle.machine.specs.Applied.{bad_on}
+use Rattle.machine.specs.Room.{RoomSeen}
 use Rattle.machine.specs.Seen.{Marks}
 use Rattle.machine.specs.State.{MachineState}
 use Rattle.receiver.specs.Disks.{AreKept, AreRefused, IsUnsteady, all_marks_in, sizes_in}
-use Rattle.receiver.specs.Opened.{Opened, header}
+use Rattle.receiver.specs.Opened.{Opened, header, ram_at}
 use Rattle.receiver.specs.Good.{Follows}
-use Rattle.receiver.specs.Faults.{Fault, IsComplete, IsFront}
+use Rattle.receiver.specs.Faults.{Fault, IsComplete, IsFront, WaitsHead}
 use Rattle.receiver.specs.Fed.{IsOpen, IsEnded, Tells}
-use Rattle.receiver.specs.Heading.{WaitsHead}
+use Rattle.receiver.specs.Standing.{HasDeviceRoom}
 use Rattle.receiver.specs.Waiting.{LacksBytes}
 use Rattle.receiver.specs.declared.intake.Intake.{Intake}
+use Rattle.receiver.specs.declared.ram_terms.RamTerms.{RamTerms}
 use Rattle.receiver.specs.declared.stage.Stage.{Stage}
 use Rattle.receiver.specs.declared.stage.Stage.TheVariants as stages
 use Rattle.receiver.specs.declared.recv_error.RecvError.{RecvError}
-use Rattle.receiver.specs.declared.recv_error.RecvError.TheVariants.{DiskFailed, NoMemory, Truncated}
+use Rattle.receiver.specs.declared.recv_error.RecvError.TheVariants.{AlreadyFailed, DiskFailed, NoMemory, Truncated}
 
 -- The intake has taken the front of the bytes in, and those after it wait.
-pub record IsReading (base : ℕ) (disks : List DiskState) (front held : List ℕ) (i : Intake) : Type 0 where
+pub record IsReading (ram : RamTerms) (disks : List DiskState) (front held : List ℕ) (i : Intake) : Type 0 where
   pub opening : Opened
-  pub based : opening.base ≡ base
+  pub based : opening.ram ≡ ram
   pub open_at : IsOpen disks opening i front held
 
 -- The intake has taken in a whole stream.
-pub record HasCome (base : ℕ) (disks : List DiskState) (bytes : List ℕ) (i : Intake) : Type 0 where
+pub record HasCome (ram : RamTerms) (disks : List DiskState) (bytes : List ℕ) (i : Intake) : Type 0 where
   pub opening : Opened
-  pub based : opening.base ≡ base
+  pub based : opening.ram ≡ ram
   pub ended : IsEnded disks opening i bytes
 
--- What a receiver of a machine whose RAM begins at `base`, with these disks, at this stage, knows of the bytes: those of `front` are worked off, and those after it are held.
+-- What a receiver that was told this of RAM, with these disks, at this stage, knows of the bytes: those of `front` are worked off, and those after it are held.
 -- The digest is that of the front.
-abbrev pub IsKnown : ℕ → List DiskState → Sha256 → List ℕ → List ℕ → Stage → Type 0
-IsKnown base disks digest front held stages.Head = (front ≡ []) × Holds256 digest [] × WaitsHead held
-IsKnown base disks digest front held (stages.Records i) = Holds256 digest front × IsReading base disks front held i
-IsKnown base disks digest front held (stages.Ended i) = (held ≡ []) × HasCome base disks front i
-IsKnown base disks digest front held stages.Failed = ⊥
+abbrev pub IsKnown : RamTerms → List DiskState → Sha256 → List ℕ → List ℕ → Stage → Type 0
+IsKnown ram disks digest front held stages.Head = (front ≡ []) × Holds256 digest [] × WaitsHead held
+IsKnown ram disks digest front held (stages.Records i) = Holds256 digest front × IsReading ram disks front held i
+IsKnown ram disks digest front held (stages.Ended i) = (held ≡ []) × HasCome ram disks front i
+IsKnown ram disks digest front held stages.Failed = ⊥
 
 -- These are all bytes that were fed, and what of them is not worked off is held.
-pub record IsTaken (base : ℕ) (disks : List DiskState) (digest : Sha256) (bytes held : List ℕ) (stage : Stage) : Type 0 where
+pub record IsTaken (ram : RamTerms) (disks : List DiskState) (digest : Sha256) (bytes held : List ℕ) (stage : Stage) : Type 0 where
   pub front : List ℕ
   pub whole : bytes ≡ front ++ held
-  pub known : IsKnown base disks digest front held stage
+  pub known : IsKnown ram disks digest front held stage
 
 -- The header was read.
 abbrev pub IsPastHead : Stage → Type 0
@@ -58,28 +61,35 @@ IsPastHead (stages.Records i) = Unit {0}
 IsPastHead (stages.Ended i) = Unit {0}
 IsPastHead stages.Failed = ⊥
 
+-- How many devices the header names.
+abbrev pub devices_at : Stage → ℕ
+devices_at stages.Head = 0
+devices_at (stages.Records i) = length i.shapes.items
+devices_at (stages.Ended i) = length i.shapes.items
+devices_at stages.Failed = 0
+
 -- The bytes have no fault.
-abbrev pub NoFault : ℕ → List ℕ → List ℕ → Type 0
-NoFault base sizes bytes = (k : RecvError) (at : ℕ) → ¬ (Fault base sizes bytes k at)
+abbrev pub NoFault : RamTerms → List ℕ → List ℕ → Type 0
+NoFault ram sizes bytes = (k : RecvError) (at : ℕ) → ¬ (Fault ram sizes bytes k at)
 
 -- The refusal is a fault of the bytes, unless memory was refused or a disk failed.
-abbrev pub TellsFault : ℕ → List ℕ → List ℕ → RecvError → Type 0
-TellsFault base sizes bytes e = Tells e ((at : ℕ) × Fault base sizes bytes e at)
+abbrev pub TellsFault : RamTerms → List ℕ → List ℕ → RecvError → Type 0
+TellsFault ram sizes bytes e = Tells e ((at : ℕ) × Fault ram sizes bytes e at)
 
 -- The refusal is a fault of the bytes `b`, which were fed before, followed by `piece`, at a place after `b`, unless memory was
 -- refused or a disk failed.
-abbrev pub TellsNow : ℕ → List ℕ → List ℕ → List ℕ → RecvError → Type 0
-TellsNow base sizes b piece e = Tells e ((at : ℕ) × (length b < at) × Fault base sizes (b ++ piece) e at)
+abbrev pub TellsNow : RamTerms → List ℕ → List ℕ → List ℕ → RecvError → Type 0
+TellsNow ram sizes b piece e = Tells e ((at : ℕ) × (length b < at) × Fault ram sizes (b ++ piece) e at)
 
 -- After a look at these bytes, which follow those of the front: some of them are worked off.
-abbrev pub Stepped : ℕ → List DiskState → List DiskState → Sha256 → List ℕ → List ℕ → Result (ℕ × Stage) RecvError → Type 0
-Stepped base old disks digest front bytes (Ok next) = AreKept old disks × IsKnown base disks digest (front ++ take next.0 bytes) (drop next.0 bytes) next.1
-Stepped base old disks digest front bytes (Err e) = AreRefused old disks e × Tells e ((at : ℕ) × Fault base (sizes_in old) (front ++ bytes) e at)
+abbrev pub Stepped : RamTerms → List DiskState → List DiskState → Sha256 → List ℕ → List ℕ → Result (ℕ × Stage) RecvError → Type 0
+Stepped ram old disks digest front bytes (Ok next) = AreKept old disks × IsKnown ram disks digest (front ++ take next.0 bytes) (drop next.0 bytes) next.1
+Stepped ram old disks digest front bytes (Err e) = AreRefused old disks e × Tells e ((at : ℕ) × Fault ram (sizes_in old) (front ++ bytes) e at)
 
 -- After more bytes, which make these bytes in all.
-abbrev pub Took : ℕ → List DiskState → List DiskState → Sha256 → List ℕ → List ℕ → Result Stage RecvError → Type 0
-Took base old disks digest bytes held (Ok stage) = AreKept old disks × IsTaken base disks digest bytes held stage
-Took base old disks digest bytes held (Err e) = AreRefused old disks e × Tells e ((at : ℕ) × Fault base (sizes_in old) bytes e at)
+abbrev pub Took : RamTerms → List DiskState → List DiskState → Sha256 → List ℕ → List ℕ → Result Stage RecvError → Type 0
+Took ram old disks digest bytes held (Ok stage) = AreKept old disks × IsTaken ram disks digest bytes held stage
+Took ram old disks digest bytes held (Err e) = AreRefused old disks e × Tells e ((at : ℕ) × Fault ram (sizes_in old) bytes e at)
 
 -- The number of rounds that ended in what was read.
 abbrev pub rounds_in : Stage → ℕ
@@ -114,6 +124,19 @@ place_in aside (stages.Records i) = i.ram.place
 place_in aside (stages.Ended i) = i.ram.place
 place_in aside stages.Failed = place_aside aside
 
+-- The length of a RAM that stands aside.
+abbrev pub length_aside : Option Memory → Option ℕ
+length_aside None = None
+length_aside (Some ram) = Some (length ram.bytes)
+
+-- Until the header is read, the RAM that was handed in stands aside, and no other. From then on there is room for the state of each
+-- device.
+abbrev pub IsReady : RamTerms → Option Memory → Stage → Type 0
+IsReady ram aside stages.Head = ram.len ≡ length_aside aside
+IsReady ram aside (stages.Records i) = HasDeviceRoom i
+IsReady ram aside (stages.Ended i) = HasDeviceRoom i
+IsReady ram aside stages.Failed = Unit {0}
+
 -- After a look at bytes, and after a piece.
 abbrev pub place_after : Option Memory → Result (ℕ × Stage) RecvError → Option Ptr
 place_after aside (Ok next) = place_in aside next.1
@@ -123,12 +146,13 @@ abbrev pub place_took : Option Memory → Result Stage RecvError → Option Ptr
 place_took aside (Ok stage) = place_in aside stage
 place_took aside (Err e) = place_aside aside
 
--- What contracts see of a receiver: the address at which the RAM of the machine begins, which no call changes; the sizes of its disks and what else is known of them, the number of rounds that ended, and
--- whether there was a refusal; its disks, how far it has come, the digest of the bytes that were worked off, and the bytes that it
+-- What contracts see of a receiver: the address at which the RAM of the machine begins and the length of the RAM that was handed in,
+-- which no call changes; the sizes of its disks and what else is known of them, the number of rounds that ended, and whether there
+-- was a refusal; its disks, how far it has come, the digest of the bytes that were worked off, and the bytes that it
 -- holds: those that were fed since the end of the last whole header or record; and where its RAM lies, if that is memory of the
 -- caller.
 pub record Received : Type 0 where
-  pub base : ℕ
+  pub ram : RamTerms
   pub sizes : List ℕ
   pub marks : List Marks
   pub rounds : ℕ
@@ -139,47 +163,53 @@ pub record Received : Type 0 where
   pub held : List ℕ
   pub place : Option Ptr
 
-abbrev pub received_by : ℕ → Option Ptr → List DiskState → Stage → Sha256 → List ℕ → Received
-received_by base place disks stage digest held = record { base = base; sizes = sizes_in disks; marks = all_marks_in disks; rounds = rounds_in stage; failed = has_failed stage; disks = disks; stage = stage; digest = digest; held = held; place = place }
+abbrev pub received_by : RamTerms → Option Ptr → List DiskState → Stage → Sha256 → List ℕ → Received
+received_by ram place disks stage digest held = record { ram = ram; sizes = sizes_in disks; marks = all_marks_in disks; rounds = rounds_in stage; failed = has_failed stage; disks = disks; stage = stage; digest = digest; held = held; place = place }
 
 -- The receiver was fed these bytes, and there was no refusal.
 pub record HasBeenFed (r : Received) (b : List ℕ) : Type 0 where
   pub goes_on : r.failed ≡ false
   pub bytes : IsBytes b
-  pub taken : IsTaken r.base r.disks r.digest b r.held r.stage
+  pub taken : IsTaken r.ram r.disks r.digest b r.held r.stage
 
 -- It takes no more, and has the same disks.
 pub record IsGivenUp (old new : Received) : Type 0 where
   pub failed : new.failed ≡ true
-  pub base : new.base ≡ old.base
+  pub ram : new.ram ≡ old.ram
   pub disks : new.disks ≡ old.disks
   pub sizes : new.sizes ≡ old.sizes
   pub marks : new.marks ≡ old.marks
 
--- What holds of each receiver. Bytes that wait for the rest of a record are fewer than the longest record has, and there is room
--- for such a record once the header was read. After a refusal nothing is held. So many bytes as the record at the front is said to
--- lack are still to come.
-pub record IsReceiver (base : ℕ) (disks : List DiskState) (digest : Sha256) (held : List ℕ) (room lacking : ℕ) (stage : Stage) : Type 0 where
-  pub known : has_failed stage ≡ false → (front : List ℕ) × IsKnown base disks digest front held stage
+-- What holds of each receiver. Once the header was read, all memory is reserved that the machine will need. Bytes that wait for the
+-- rest of a record are fewer than the longest record has, and there is room for such a record once the header was read. After a
+-- refusal nothing is held. `lacking` bytes of the record at the front are still to come.
+pub record IsReceiver (ram : RamTerms) (aside : Option Memory) (reserved : Option RoomSeen) (disks : List DiskState) (digest : Sha256) (held : List ℕ) (room lacking : ℕ) (stage : Stage) : Type 0 where
+  pub ready : IsReady ram aside stage
+  pub roomed : IsPastHead stage → reserved ≡ Some (record { devices = devices_at stage; disks = length disks })
+  pub known : has_failed stage ≡ false → (front : List ℕ) × IsKnown ram disks digest front held stage
   pub few : length held ≤ 131077
   pub gone : has_failed stage ≡ true → held ≡ []
   pub roomy : IsPastHead stage → 131078 ≤ room
   pub lacks : 0 < lacking → LacksBytes stage held lacking
 
--- A refusal at the end of the bytes: memory was refused, or (`Truncated`) they are not a stream of any machine.
+-- Why there is no machine at the end: there was a refusal before, or the stream is cut off.
+abbrev pub end_error : Bool → RecvError
+end_error true = AlreadyFailed
+end_error false = Truncated
+
+-- A refusal at the end of the bytes: they are not a stream of any machine.
 abbrev pub IsFinish : List ℕ → RecvError → Type 0
-IsFinish b NoMemory = Unit {0}
 IsFinish b Truncated = (m : MachineState) → ¬ (IsStream b m)
 IsFinish b _ = ⊥
 
 -- A record of a device is whole in these bytes, behind whole good records, and none of its bytes is among the first `from`.
-pub record HasDevice (base : ℕ) (sizes bytes : List ℕ) (from : ℕ) : Type 0 where
+pub record HasDevice (ram : RamTerms) (sizes bytes : List ℕ) (from : ℕ) : Type 0 where
   pub opening : Opened
   pub before : List Record
   pub number : ℕ
   pub body : List ℕ
   pub more : List ℕ
-  pub front : IsFront base sizes bytes opening before (spelled_record (device number body) ++ more)
+  pub front : IsFront ram sizes bytes opening before (spelled_record (device number body) ++ more)
   pub behind : from ≤ length (header opening ++ texts before)
 
 -- What a refusal of a whole slice means: a fault of the bytes; or (`Truncated`) that they have no fault but are not a stream of
@@ -187,17 +217,26 @@ pub record HasDevice (base : ℕ) (sizes bytes : List ℕ) (from : ℕ) : Type 0
 abbrev pub RefusesSlice : ℕ → List ℕ → List Marks → List ℕ → RecvError → Type 0
 RefusesSlice base sizes marks bytes NoMemory = Unit {0}
 RefusesSlice base sizes marks bytes DiskFailed = IsUnsteady marks
-RefusesSlice base sizes marks bytes Truncated = NoFault base sizes bytes × ((m : MachineState) → ¬ (IsStream bytes m))
-RefusesSlice base sizes marks bytes e = (at : ℕ) × Fault base sizes bytes e at
+RefusesSlice base sizes marks bytes Truncated = NoFault (ram_at base) sizes bytes × ((m : MachineState) → ¬ (IsStream bytes m))
+RefusesSlice base sizes marks bytes e = (at : ℕ) × Fault (ram_at base) sizes bytes e at
 
 -- The bytes do not continue with a whole record that may follow the good ones.
 abbrev pub NoNext : Opened → List Record → List ℕ → Type 0
 NoNext opening before tail = (r : Record) (y : List ℕ) → Follows opening before r → ¬ (tail ≡ spelled_record r ++ y)
 
 -- `n` rounds ended among the whole good records of the bytes, and none if the header is not whole.
-pub record HasRounds (base : ℕ) (sizes b : List ℕ) (n : ℕ) : Type 0 where
+pub record HasRounds (ram : RamTerms) (sizes b : List ℕ) (n : ℕ) : Type 0 where
   pub none : ((heading : told.Opening) (rest : List ℕ) → ¬ (told.Begins b heading rest)) → n ≡ 0
-  pub some : (opening : Opened) (before : List Record) (tail : List ℕ) → IsFront base sizes b opening before tail → NoNext opening before tail → n ≡ rounds before
+  pub some : (opening : Opened) (before : List Record) (tail : List ℕ) → IsFront ram sizes b opening before tail → NoNext opening before tail → n ≡ rounds before
+
+-- The bytes are a stream of a machine with the RAM and the devices of this one, on whose disks the same sectors are bad. What the good
+-- ones hold no contract tells where the disks are not honest.
+pub record IsArrived (bytes : List ℕ) (m : MachineState) : Type 0 where
+  pub sent : MachineState
+  pub stream : IsStream bytes sent
+  pub ram : m.ram ≡ sent.ram
+  pub devices : m.devices ≡ sent.devices
+  pub bad : bad_on m.disks ≡ bad_on sent.disks
 
 -- The bytes are a stream of this machine, in which `n` rounds ended.
 pub record IsReceived (bytes : List ℕ) (m : MachineState) (n : ℕ) : Type 0 where
@@ -206,8 +245,8 @@ pub record IsReceived (bytes : List ℕ) (m : MachineState) (n : ℕ) : Type 0 w
 
 -- A header for disks of these sizes, whole good records that name every item and have every device, the digest of all bytes
 -- before it, and nothing more.
-pub record IsWholeFor (base : ℕ) (sizes b : List ℕ) : Type 0 where
+pub record IsWholeFor (ram : RamTerms) (sizes b : List ℕ) : Type 0 where
   pub opening : Opened
   pub before : List Record
-  pub front : IsFront base sizes b opening before (spelled_record (commit (sha256 (header opening ++ texts before))))
+  pub front : IsFront ram sizes b opening before (spelled_record (commit (sha256 (header opening ++ texts before))))
   pub complete : IsComplete opening before 5

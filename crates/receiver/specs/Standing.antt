@@ -1,5 +1,6 @@
 -- Which head of a record may come next, after whole good records.
 use Rattle.std.specs.Prelude.{◌≡◌, ◌<◌, ◌≤◌, ℕ, ◌+◌, ◌*◌, List, ◌∷◌, [], ◌++◌, drop, length, Result, Ok, Err}
+use Rattle.std.specs.Vec.{vec_capacity}
 use Rattle.wire.specs.DeviceBody.{IsBodyOf}
 use Rattle.wire.specs.RecordHeads.{FitsHead, spelled_head}
 use Rattle.wire.specs.Records.{Record, device, record_with, spelled_record}
@@ -50,12 +51,17 @@ abbrev pub Judged : Opened → List Record → RecordHead → Result (Unit {0}) 
 Judged opening before head (Ok x) = MayHead opening before head
 Judged opening before head (Err e) = (e ≡ refusal_of head) × ¬ (MayHead opening before head)
 
--- The intake has room for what a head names: the page and its mark, or the shape of the device, whose body is not too long.
+-- The intake has room for the state of each device.
+abbrev pub HasDeviceRoom : Intake → Type 0
+HasDeviceRoom i = length i.shapes.items ≤ vec_capacity i.devices
+
+-- The intake has room for what a head names: the page and its mark, or the shape of the device that is next, whose body is not too
+-- long.
 abbrev pub HasRoom : Intake → RecordHead → Type 0
 HasRoom i (heads.Page number) = (4096 * number + 4096 ≤ length i.ram.bytes) × (number < length i.named)
 HasRoom i (heads.Sector dev number good) = Unit {0}
 HasRoom i (heads.RoundEnd number) = Unit {0}
-HasRoom i (heads.Device number len) = (number < length i.shapes.items) × (len ≤ 131072)
+HasRoom i (heads.Device number len) = (number < length i.shapes.items) × (len ≤ 131072) × (number ≡ length i.devices.items)
 HasRoom i heads.Commit = Unit {0}
 HasRoom i (heads.ZeroPage number) = (4096 * number + 4096 ≤ length i.ram.bytes) × (number < length i.named)
 
@@ -64,7 +70,7 @@ pub record IsNoBody (opening : Opened) (number : ℕ) (body : List ℕ) : Type 0
   pub shape : Shape
   pub others : List Shape
   pub here : drop number opening.shapes ≡ shape ∷ others
-  pub never : (d : DeviceState) → ¬ (IsBodyOf opening.version shape opening.base (4096 * opening.pages) body d)
+  pub never : (d : DeviceState) → ¬ (IsBodyOf opening.version shape opening.ram.base (4096 * opening.pages) body d)
 
 -- One device more was taken in, or its body was refused, or memory.
 abbrev pub TakingDevice : List DiskState → Opened → List Record → Intake → List ℕ → ℕ → List ℕ → Result (Unit {0}) RecvError → Type 0

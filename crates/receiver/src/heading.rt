@@ -1,10 +1,10 @@
 //! Reads the header of a stream, as far as it has arrived.
 
 ghost use Rattle.std.specs.Prelude.{◌≡◌, ◌↔◌, ◌≤◌, ◌<◌, ◌+◌, ◌*◌, IsTrue, IfOk, IfErr, MatchOption, drop, false, is_some, length, ℕ, List};
-ghost use Rattle.wire.specs.Header.{Begins};
-ghost use Rattle.wire.specs.HeaderReading.{said};
-ghost use Rattle.receiver.specs.Faults.{MayCount, IsHeaderFault};
-ghost use Rattle.receiver.specs.Heading.{FirstShape, WaitsHead, ReadShapes, TellsHead};
+ghost use Rattle.wire.specs.Header.{Begins, said};
+ghost use Rattle.receiver.specs.Faults.{MayCount, IsHeaderFault, WaitsHead, TellsHead};
+ghost use Rattle.receiver.specs.declared.ram_terms.RamTerms.{RamTerms};
+ghost use Rattle.receiver.specs.Heading.{FirstShape, ReadShapes};
 
 use crate::recv_error::RecvError;
 use guestmem::PAGES_MAX;
@@ -71,7 +71,7 @@ pub fn read_heading(alloc: Global, bytes: &[u8]) -> Result<Option<Header>, RecvE
     ensures read { IfOk result (λ found. MatchOption found (WaitsHead bytes.now)
         (λ h. (h.len ≤ length bytes.now) × Begins bytes.now (said h) (drop h.len bytes.now))) }
     ensures few { IfOk result (λ found. is_some found ≡ false → length bytes.now ≤ 495) }
-    ensures refused { IfErr result (λ e. TellsHead e ((sizes : List ℕ) → (at : ℕ) × IsHeaderFault sizes bytes.now e at)) }
+    ensures refused { IfErr result (λ e. TellsHead e ((ram : RamTerms) (sizes : List ℕ) → (at : ℕ) × IsHeaderFault ram sizes bytes.now e at)) }
 {
     if bytes.len() < 4 {
         return Ok(None);

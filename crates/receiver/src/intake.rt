@@ -19,10 +19,11 @@ ghost use Rattle.receiver.specs.Good.{AreNamed, devices_in};
 ghost use Rattle.receiver.specs.Fed.{HasRead, Checked, After, IsUntouched, Worked, size_of, IsLong};
 ghost use Rattle.receiver.specs.Receiving.{HasDevice};
 ghost use Rattle.receiver.specs.Spots.{HasMarks, HasSector, IsSpotOf, Taking, disks_before};
-ghost use Rattle.receiver.specs.Standing.{BeginsDevice, Entered, HasRoom, IsDeviceHead, Judged, MayHead, OpensHead, TakingDevice};
+ghost use Rattle.receiver.specs.Standing.{HasDeviceRoom, BeginsDevice, Entered, HasRoom, IsDeviceHead, Judged, MayHead, OpensHead, TakingDevice};
 ghost use Rattle.receiver.specs.declared.recv_error.RecvError.TheVariants as errors;
 
 use crate::part::Part;
+use crate::ram_terms::RamTerms;
 use crate::recv_error::RecvError;
 use dirtylog::BitSet;
 use guestmem::{ArrivingRam, NoMemory, PAGE_SIZE};
@@ -31,15 +32,15 @@ use sha2::{Digest, Sha256};
 use std::alloc::Global;
 use wire::{
     BODY_MAX, COMMIT_RECORD, COMMIT_TAG, DEVICE_TAG, DecodeError, FoundHead, PAGE_TAG,
-    ROUND_END_TAG, RecordHead, SECTOR_TAG, VERSION, ZERO_PAGE_TAG, decode_device, has_record,
+    ROUND_END_TAG, RecordHead, SECTOR_TAG, VERSION, ZERO_PAGE_TAG, decode_device_at, has_record,
     read_head,
 };
 
-/// What a stream is read under: its version, and the guest-physical address at which the machine's RAM begins. No record changes them.
+/// What a stream is read under: its version, and what the host says of the machine's RAM. No record changes them.
 #[derive(Clone, Copy)]
 pub struct Terms {
     pub version: u32,
-    pub base: u64,
+    pub ram: RamTerms,
 }
 
 /// What was read of a stream: its terms, the shapes of its devices, the pages, the marks of the bad sectors of each disk, how
@@ -123,11 +124,13 @@ fn check_tag(intake: &Intake, tag: u8) -> Result<(), RecvError>
 
 /// Sets a page, as its record says.
 fn take_page(intake: &mut Intake, number: u32, bytes: &[u8])
+    requires roomy { HasDeviceRoom intake.old }
     requires within { 4096 * number + 4096 ≤ length intake.old.ram.bytes }
     requires marked { number < length intake.old.named }
     requires spells { HasSpelling (page number bytes.now) }
     ensures taken { (ds : List DiskState) (front : List ℕ) (opening : Opened) (before : List records.Record) → HasRead ds opening before intake.old front → devices_in before ≡ 0 → IsOf opening.version (page number bytes.now) → HasRead ds opening (before ++ page number bytes.now ∷ []) intake.new (front ++ spelled_record (page number bytes.now)) }
     ensures place { intake.new.ram.place ≡ intake.old.ram.place }
+    ensures roomy { HasDeviceRoom intake.new }
 {
     intake.ram.recall();
     intake.ram.put_page(number as u64, bytes);
@@ -136,10 +139,12 @@ fn take_page(intake: &mut Intake, number: u32, bytes: &[u8])
 
 /// Sets a page to zeros, as its record says.
 fn take_zero_page(intake: &mut Intake, number: u32)
+    requires roomy { HasDeviceRoom intake.old }
     requires within { 4096 * number + 4096 ≤ length intake.old.ram.bytes }
     requires marked { number < length intake.old.named }
     ensures taken { (ds : List DiskState) (front : List ℕ) (opening : Opened) (before : List records.Record) → HasRead ds opening before intake.old front → devices_in before ≡ 0 → opening.version ≡ 2 → HasRead ds opening (before ++ zero_page number ∷ []) intake.new (front ++ spelled_record (zero_page number)) }
     ensures place { intake.new.ram.place ≡ intake.old.ram.place }
+    ensures roomy { HasDeviceRoom intake.new }
 {
     intake.ram.recall();
     intake.ram.clear_page(number as u64);
@@ -195,10 +200,12 @@ fn find_sector<D: Disk>(intake: &Intake, disks: &[D], dev: u8, number: u32) -> O
 
 /// Marks a sector as bad, as its record says.
 fn take_bad(intake: &mut Intake, spot: Spot, dev: u8, number: u32)
-    requires { HasMarks intake.old number spot }
+    requires roomy { HasDeviceRoom intake.old }
+    requires marked { HasMarks intake.old number spot }
     ensures taken { (ds : List DiskState) (front : List ℕ) (opening : Opened) (before : List records.Record) → HasRead ds opening before intake.old front → devices_in before ≡ 0 → IsSpotOf opening dev number spot
         → HasRead ds opening (before ++ sector dev number None ∷ []) intake.new (front ++ spelled_record (sector dev number None)) }
     ensures place { intake.new.ram.place ≡ intake.old.ram.place }
+    ensures roomy { HasDeviceRoom intake.new }
 {
     intake.bad[spot.disk].insert(number as u64);
     intake.named.insert(spot.item);
@@ -213,12 +220,14 @@ fn take_good<D: Disk>(
     number: u32,
     bytes: &[u8; SECTOR_SIZE],
 ) -> Result<(), RecvError>
+    requires roomy { HasDeviceRoom intake.old }
     requires marked { HasMarks intake.old number spot }
     requires there { HasSector (sizes_of D.state disks.old) spot.disk number }
     ensures memory { IfErr result (λ e. e ≢ errors.NoMemory) }
     ensures taking { (front : List ℕ) (opening : Opened) (before : List records.Record) → HasRead (map D.state disks.old) opening before intake.old front → devices_in before ≡ 0 → IsSpotOf opening dev number spot
         → Taking (map D.state disks.old) (map D.state disks.new) opening before intake.new front (sector dev number (Some bytes.now)) result }
     ensures place { intake.new.ram.place ≡ intake.old.ram.place }
+    ensures roomy { HasDeviceRoom intake.new }
 {
     match disks[spot.disk].write(number as u64, bytes) {
         Ok(()) => {}
@@ -238,11 +247,13 @@ fn take_sector<D: Disk>(
     is_good: bool,
     body: &[u8],
 ) -> Result<(), RecvError>
-    requires { length body.now ≡ body_len (heads.Sector dev number is_good) }
+    requires roomy { HasDeviceRoom intake.old }
+    requires long { length body.now ≡ body_len (heads.Sector dev number is_good) }
     ensures memory { IfErr result (λ e. e ≢ errors.NoMemory) }
     ensures taking { (front : List ℕ) (opening : Opened) (before : List records.Record) → HasRead (map D.state disks.old) opening before intake.old front → devices_in before ≡ 0 → IsItemIn (layout_in opening) (items.sector dev number)
         → Taking (map D.state disks.old) (map D.state disks.new) opening before intake.new front (record_with (heads.Sector dev number is_good) body.now) result }
     ensures place { intake.new.ram.place ≡ intake.old.ram.place }
+    ensures roomy { HasDeviceRoom intake.new }
 {
     let Some(spot) = find_sector(intake, disks, dev, number) else {
         return Err(RecvError::BadSector);
@@ -261,21 +272,22 @@ fn nth(shapes: &[Shape], i: usize) -> Shape
     shapes[i]
 }
 
-/// Takes the record of a device.
+/// Takes the record of a device, which is the next.
 fn take_device(alloc: Global, intake: &mut Intake, number: u8, body: &[u8]) -> Result<(), RecvError>
-    requires { number < length intake.old.shapes.items }
+    requires roomy { HasDeviceRoom intake.old }
+    requires there { number < length intake.old.shapes.items }
+    requires next { number ≡ length intake.old.devices.items }
     ensures taken { (ds : List DiskState) (front : List ℕ) (opening : Opened) (before : List records.Record) → HasRead ds opening before intake.old front → AreNamed (layout_in opening) before → IsNextHead before number (length body.now)
         → TakingDevice ds opening before intake.new front number body.now result }
     ensures place { intake.new.ram.place ≡ intake.old.ram.place }
+    ensures roomy { HasDeviceRoom intake.new }
 {
     let shape = nth(&intake.shapes, number as usize);
     let ram_len = intake.ram.len();
     let version = intake.terms.version;
-    match decode_device(alloc, version, shape, intake.terms.base, ram_len, body) {
+    match decode_device_at(alloc, version, shape, intake.terms.ram.base, ram_len, body) {
         Ok(state) => {
-            let Ok(()) = intake.devices.push(state) else {
-                return Err(RecvError::NoMemory);
-            };
+            intake.devices.push_reserved(state);
             Ok(())
         }
         Err(DecodeError::BadBody) => Err(RecvError::BadDevice),
@@ -352,6 +364,7 @@ fn take_entry<D: Disk>(
     head: RecordHead,
     body: &[u8],
 ) -> Result<(), RecvError>
+    requires roomy { HasDeviceRoom intake.old }
     requires entry { head ≢ heads.Commit }
     requires room { HasRoom intake.old head }
     requires long { length body.now ≡ body_len head }
@@ -359,6 +372,7 @@ fn take_entry<D: Disk>(
     ensures entered { (front tail more : List ℕ) (opening : Opened) (before : List records.Record) → HasRead (map D.state disks.old) opening before intake.old front
         → OpensHead opening before tail head (body.now ++ more) → MayHead opening before head → Entered (map D.state disks.old) (map D.state disks.new) opening before intake.new front tail head body.now result }
     ensures place { intake.new.ram.place ≡ intake.old.ram.place }
+    ensures roomy { HasDeviceRoom intake.new }
 {
     match head {
         RecordHead::Page { number } => {
@@ -395,6 +409,7 @@ fn take_record<D: Disk>(
     head: RecordHead,
     body: &[u8],
 ) -> Result<Part, RecvError>
+    requires roomy { HasDeviceRoom intake.old }
     requires room { HasRoom intake.old head }
     requires long { length body.now ≡ body_len head }
     ensures size { IfOk result (λ part. size_of part ≡ length (spelled_head head) + length body.now) }
@@ -403,6 +418,7 @@ fn take_record<D: Disk>(
     ensures after { (front tail more : List ℕ) (opening : Opened) (before : List records.Record) → Holds256 taken.old front → HasRead (map D.state disks.old) opening before intake.old front
         → OpensHead opening before tail head (body.now ++ more) → MayHead opening before head → After (map D.state disks.old) (map D.state disks.new) opening before intake.new front tail result }
     ensures place { intake.new.ram.place ≡ intake.old.ram.place }
+    ensures roomy { HasDeviceRoom intake.new }
 {
     match head {
         RecordHead::Commit => {
@@ -426,6 +442,7 @@ fn take_part<D: Disk>(
     taken: &mut Sha256,
     bytes: &[u8],
 ) -> Result<Part, RecvError>
+    requires roomy { HasDeviceRoom intake.old }
     ensures room { IfOk result (λ part. size_of part ≤ length bytes.now) }
     ensures some { IfOk result (λ part. IsLong part) }
     ensures few { IfOk result (λ part. size_of part ≡ 0 → length bytes.now ≤ 131077) }
@@ -434,6 +451,7 @@ fn take_part<D: Disk>(
     ensures after { (front : List ℕ) (opening : Opened) (before : List records.Record) → Holds256 taken.old front → HasRead (map D.state disks.old) opening before intake.old front
         → After (map D.state disks.old) (map D.state disks.new) opening before intake.new front bytes.now result }
     ensures place { intake.new.ram.place ≡ intake.old.ram.place }
+    ensures roomy { HasDeviceRoom intake.new }
 {
     let Some((tag, _)) = bytes.split_first() else {
         return Ok(Part::Wait);
@@ -467,13 +485,15 @@ pub fn work_off<D: Disk>(
     taken: &mut Sha256,
     bytes: &[u8],
 ) -> Result<(usize, bool), RecvError>
+    requires roomy { HasDeviceRoom intake.old }
     ensures room { IfOk result (λ x. x.0 ≤ length bytes.now) }
     ensures few { IfOk result (λ x. length bytes.now ≤ 131077 + x.0) }
     ensures memory { (front : List ℕ) (opening : Opened) (before : List records.Record) → Holds256 taken.old front → HasRead (map D.state disks.old) opening before intake.old front
-        → result ≡ Err errors.NoMemory → HasDevice opening.base (sizes_of D.state disks.old) (front ++ bytes.now) (length front) }
+        → result ≡ Err errors.NoMemory → HasDevice opening.ram (sizes_of D.state disks.old) (front ++ bytes.now) (length front) }
     ensures worked { (front : List ℕ) (opening : Opened) (before : List records.Record) → Holds256 taken.old front → HasRead (map D.state disks.old) opening before intake.old front
         → Worked (map D.state disks.old) (map D.state disks.new) opening intake.new taken.new front bytes.now result }
     ensures place { intake.new.ram.place ≡ intake.old.ram.place }
+    ensures roomy { HasDeviceRoom intake.new }
 {
     let mut at = 0;
     while at < bytes.len() {

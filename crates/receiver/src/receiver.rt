@@ -1,19 +1,19 @@
 //! A receiver that is fed a stream in pieces.
 
-ghost use Rattle.std.specs.Prelude.{◌≡◌, All, map, true};
+ghost use Rattle.std.specs.Prelude.{◌≡◌, OnErr, OnOk, Some, false, map, true};
 ghost use Rattle.wire.specs.Header.{Opening};
-ghost use Rattle.blk.specs.Disk.{AreSectors};
 ghost use Rattle.receiver.specs.Disks.{disk_marks_of, sizes_of};
-ghost use Rattle.receiver.specs.Receiving.{has_ended, has_failed, place_aside, rounds_in};
+ghost use Rattle.receiver.specs.Receiving.{IsPastHead, devices_at, has_ended, has_failed, place_aside, rounds_in};
 
 use crate::intake::Intake;
+use crate::ram_terms::RamTerms;
 use crate::recv_error::RecvError;
 use crate::stage::Stage;
-use crate::stepping::fail;
+use crate::stepping::{fail, recall_disks};
 use crate::taking::take_piece;
 use crate::waiting::lacking_of;
-use guestmem::{ArrivingRam, Ram};
-use machine::{Disk, Machine};
+use guestmem::{ArrivingRam, NoMemory, Ram};
+use machine::{Disk, Machine, Room};
 use sha2::{Digest, Sha256};
 use std::alloc::Global;
 use std::marker::Model;
@@ -26,8 +26,8 @@ use wire::RECORD_MAX;
 pub struct Receiver<D: Disk> {
     alloc: Global,
 
-    /// The guest-physical address of RAM's first byte.
-    base: u64,
+    /// What the host says of the machine's RAM.
+    ram: RamTerms,
     disks: Vec<D>,
     held: Vec<u8>,
     taken: Sha256,
@@ -35,6 +35,9 @@ pub struct Receiver<D: Disk> {
 
     /// How many bytes the record at the front of `held` still lacks, if its head is held (`lacking_of`).
     lacking: usize,
+
+    /// The memory that the machine will need, once the header was read.
+    room: Option<Room<D>>,
 
     /// The RAM that stands aside: that which it was given, until the header is read, and any after a refusal.
     aside: Option<ArrivingRam>,
@@ -47,9 +50,9 @@ impl<D: Disk> Model for Receiver<D> {
 
     ghost Value = { Received };
 
-    ghost view = { λ r. received_by r.base (place_in r.aside r.stage) (map D.state r.disks.items) r.stage r.taken r.held.items };
+    ghost view = { λ r. received_by r.ram (place_in r.aside r.stage) (map D.state r.disks.items) r.stage r.taken r.held.items };
 
-    ghost invariant = { λ r. IsReceiver r.base (map D.state r.disks.items) r.taken r.held.items (vec_capacity r.held) r.lacking r.stage };
+    ghost invariant = { λ r. IsReceiver r.ram r.aside r.room (map D.state r.disks.items) r.taken r.held.items (vec_capacity r.held) r.lacking r.stage };
 }
 
 impl<D: Disk + Drop> Receiver<D> {
@@ -63,12 +66,13 @@ impl<D: Disk + Drop> Receiver<D> {
     ghost use Rattle.wire.specs.Stream.{IsStream, shapes_in};
     ghost use Rattle.receiver.specs.declared.recv_error.RecvError.TheVariants as errors;
     ghost use Rattle.receiver.specs.Disks.{AreHonestDisks, MarksAfter, disk_marks_of, sizes_of};
-    ghost use Rattle.receiver.specs.Receiving.{HasBeenFed, HasDevice, NoFault, IsFinish, IsGivenUp, HasRounds, IsWholeFor, TellsNow};
+    ghost use Rattle.receiver.specs.Opened.{given_at, ram_at};
+    ghost use Rattle.receiver.specs.Receiving.{HasBeenFed, HasDevice, IsArrived, NoFault, IsFinish, IsGivenUp, end_error, HasRounds, IsWholeFor, TellsNow};
 
     /// A receiver that was fed nothing, with these disks, of a machine whose RAM begins at the address 0. It takes no memory.
     pub fn new(alloc: Global, disks: Vec<D>) -> Receiver<D>
         ensures fed { HasBeenFed result [] }
-        ensures base { result.base ≡ 0 }
+        ensures ram { result.ram ≡ ram_at 0 }
         ensures sizes { result.sizes ≡ sizes_of D.state disks.items }
         ensures marks { result.marks ≡ disk_marks_of D.state disks.items }
         ensures disks { result.disks ≡ map D.state disks.items }
@@ -81,7 +85,7 @@ impl<D: Disk + Drop> Receiver<D> {
     /// there, since it is no multiple of a page or the last byte would have no address, each device of a stream is a bad one.
     pub fn new_at(alloc: Global, disks: Vec<D>, base: u64) -> Receiver<D>
         ensures fed { HasBeenFed result [] }
-        ensures base { result.base ≡ base }
+        ensures ram { result.ram ≡ ram_at base }
         ensures sizes { result.sizes ≡ sizes_of D.state disks.items }
         ensures marks { result.marks ≡ disk_marks_of D.state disks.items }
         ensures disks { result.disks ≡ map D.state disks.items }
@@ -89,21 +93,22 @@ impl<D: Disk + Drop> Receiver<D> {
     {
         Receiver {
             alloc,
-            base,
+            ram: RamTerms { base, len: None },
             disks,
             held: Vec::new(alloc),
             taken: Sha256::new(),
             stage: Stage::Head,
             lacking: 0,
+            room: None,
             aside: None,
         }
     }
 
     /// As `new`, with the RAM that the machine is to have: its pages are written straight into it. Its bytes may be anything. The
-    /// stream of a machine of another number of pages is refused with `NoMemory`, before a page is written.
+    /// stream of a machine of another number of pages is refused with `ShapeMismatch`, before a page is written.
     pub fn new_in(alloc: Global, disks: Vec<D>, ram: Ram) -> Receiver<D>
         ensures fed { HasBeenFed result [] }
-        ensures base { result.base ≡ 0 }
+        ensures ram { result.ram ≡ given_at 0 ram.bytes }
         ensures sizes { result.sizes ≡ sizes_of D.state disks.items }
         ensures marks { result.marks ≡ disk_marks_of D.state disks.items }
         ensures disks { result.disks ≡ map D.state disks.items }
@@ -115,45 +120,50 @@ impl<D: Disk + Drop> Receiver<D> {
     /// As `new_in`, of a machine whose RAM begins at the guest-physical address `base` (see `new_at`).
     pub fn new_in_at(alloc: Global, disks: Vec<D>, ram: Ram, base: u64) -> Receiver<D>
         ensures fed { HasBeenFed result [] }
-        ensures base { result.base ≡ base }
+        ensures ram { result.ram ≡ given_at base ram.bytes }
         ensures sizes { result.sizes ≡ sizes_of D.state disks.items }
         ensures marks { result.marks ≡ disk_marks_of D.state disks.items }
         ensures disks { result.disks ≡ map D.state disks.items }
         ensures place { result.place ≡ ram.place }
     {
+        let len = ram.len();
         Receiver {
             alloc,
-            base,
+            ram: RamTerms {
+                base,
+                len: Some(len),
+            },
             disks,
             held: Vec::new(alloc),
             taken: Sha256::new(),
             stage: Stage::Head,
             lacking: 0,
+            room: None,
             aside: Some(ArrivingRam::over(ram)),
         }
     }
 
     /// The guest-physical address at which the machine's RAM is to begin.
     pub fn base(&self) -> u64
-        ensures { result ≡ self.now.base }
+        ensures { result ≡ self.now.ram.base }
     {
-        self.base
+        self.ram.base
     }
 
     /// Takes the next piece. The good sectors in it are written to the disks. `DiskFailed` is returned exactly if a
     /// disk failed. After the header `NoMemory` is returned only with the last byte of a device's record.
     pub fn feed(&mut self, piece: &[u8]) -> Result<(), RecvError>
-        ensures base { self.new.base ≡ self.old.base }
+        ensures ram { self.new.ram ≡ self.old.ram }
         ensures sizes { self.new.sizes ≡ self.old.sizes }
         ensures marks { MarksAfter self.old.marks result self.new.marks }
         ensures fed { OnOk result ((b : List ℕ) → HasBeenFed self.old b → HasBeenFed self.new (b ++ piece.now)) }
-        ensures quiet { OnOk result ((b : List ℕ) → HasBeenFed self.old b → NoFault self.old.base self.old.sizes (b ++ piece.now)) }
-        ensures told { IfErr result (λ e. (b : List ℕ) → HasBeenFed self.old b → TellsNow self.old.base self.old.sizes b piece.now e) }
+        ensures quiet { OnOk result ((b : List ℕ) → HasBeenFed self.old b → NoFault self.old.ram self.old.sizes (b ++ piece.now)) }
+        ensures told { IfErr result (λ e. (b : List ℕ) → HasBeenFed self.old b → TellsNow self.old.ram self.old.sizes b piece.now e) }
         ensures failed { OnErr result (self.new.failed ≡ true) }
         ensures place { self.new.place ≡ self.old.place }
         ensures already { self.old.failed ≡ true → result ≡ Err errors.AlreadyFailed }
         ensures memory { result ≡ Err errors.NoMemory → (b : List ℕ) → HasBeenFed self.old b → (opening : Opening) (rest : List ℕ) → Begins b opening rest
-            → (from : ℕ) → from + length self.old.held ≡ length b → HasDevice self.old.base self.old.sizes (b ++ piece.now) from }
+            → (from : ℕ) → from + length self.old.held ≡ length b → HasDevice self.old.ram self.old.sizes (b ++ piece.now) from }
     {
         if piece.len() < self.lacking {
             self.held.extend_from_slice(piece).unwrap();
@@ -167,17 +177,17 @@ impl<D: Disk + Drop> Receiver<D> {
     /// only held, costs little.
     #[inline(never)]
     fn work_through(&mut self, piece: &[u8]) -> Result<(), RecvError>
-        ensures base { self.new.base ≡ self.old.base }
+        ensures ram { self.new.ram ≡ self.old.ram }
         ensures sizes { self.new.sizes ≡ self.old.sizes }
         ensures marks { MarksAfter self.old.marks result self.new.marks }
         ensures fed { OnOk result ((b : List ℕ) → HasBeenFed self.old b → HasBeenFed self.new (b ++ piece.now)) }
-        ensures quiet { OnOk result ((b : List ℕ) → HasBeenFed self.old b → NoFault self.old.base self.old.sizes (b ++ piece.now)) }
-        ensures told { IfErr result (λ e. (b : List ℕ) → HasBeenFed self.old b → TellsNow self.old.base self.old.sizes b piece.now e) }
+        ensures quiet { OnOk result ((b : List ℕ) → HasBeenFed self.old b → NoFault self.old.ram self.old.sizes (b ++ piece.now)) }
+        ensures told { IfErr result (λ e. (b : List ℕ) → HasBeenFed self.old b → TellsNow self.old.ram self.old.sizes b piece.now e) }
         ensures failed { OnErr result (self.new.failed ≡ true) }
         ensures place { self.new.place ≡ self.old.place }
         ensures already { self.old.failed ≡ true → result ≡ Err errors.AlreadyFailed }
         ensures memory { result ≡ Err errors.NoMemory → (b : List ℕ) → HasBeenFed self.old b → (opening : Opening) (rest : List ℕ) → Begins b opening rest
-            → (from : ℕ) → from + length self.old.held ≡ length b → HasDevice self.old.base self.old.sizes (b ++ piece.now) from }
+            → (from : ℕ) → from + length self.old.held ≡ length b → HasDevice self.old.ram self.old.sizes (b ++ piece.now) from }
     {
         if is_failed(&self.stage) {
             return Err(RecvError::AlreadyFailed);
@@ -192,10 +202,11 @@ impl<D: Disk + Drop> Receiver<D> {
             fail(&mut self.stage, &mut self.aside);
             return Err(RecvError::NoMemory);
         }
+        let is_first = is_head(&self.stage);
         let stage = mem::replace(&mut self.stage, Stage::Failed);
         match take_piece(
             self.alloc,
-            self.base,
+            self.ram,
             &mut self.aside,
             &mut self.disks,
             &mut self.held,
@@ -204,6 +215,14 @@ impl<D: Disk + Drop> Receiver<D> {
             piece,
         ) {
             Ok(stage) => {
+                let disks = self.disks.len();
+                let room = &mut self.room;
+                let Ok(()) = reserve(self.alloc, room, is_first, &stage, disks) else {
+                    self.held.clear();
+                    let mut stage = stage;
+                    fail(&mut stage, &mut self.aside);
+                    return Err(RecvError::NoMemory);
+                };
                 self.lacking = lacking_of(&stage, &self.held);
                 self.stage = stage;
                 Ok(())
@@ -227,16 +246,16 @@ impl<D: Disk + Drop> Receiver<D> {
     /// How many rounds ended in what was read.
     pub fn rounds(&self) -> u32
         ensures failed { self.now.failed ≡ true → result ≡ 0 }
-        ensures rounds { (b : List ℕ) → HasBeenFed self.now b → HasRounds self.now.base self.now.sizes b result }
+        ensures rounds { (b : List ℕ) → HasBeenFed self.now b → HasRounds self.now.ram self.now.sizes b result }
     {
         rounds_of(&self.stage)
     }
 
     /// Whether the whole stream was fed: the digest, its last record, was read, and nothing was refused. From then on any further
-    /// byte is refused (`Trailing`), and `finish` returns the machine, unless memory is refused.
+    /// byte is refused (`Trailing`), and `finish` returns the machine.
     pub fn is_whole(&self) -> bool
-        ensures whole { result ≡ true → (b : List ℕ) → HasBeenFed self.now b → IsWholeFor self.now.base self.now.sizes b }
-        ensures lacking { result ≡ false → (b : List ℕ) → HasBeenFed self.now b → ¬ (IsWholeFor self.now.base self.now.sizes b) }
+        ensures whole { result ≡ true → (b : List ℕ) → HasBeenFed self.now b → IsWholeFor self.now.ram self.now.sizes b }
+        ensures lacking { result ≡ false → (b : List ℕ) → HasBeenFed self.now b → ¬ (IsWholeFor self.now.ram self.now.sizes b) }
         ensures failed { self.now.failed ≡ true → result ≡ false }
     {
         has_ended(&self.stage)
@@ -245,21 +264,23 @@ impl<D: Disk + Drop> Receiver<D> {
     /// The machine whose stream was fed. A refusal drops the disks, and the RAM.
     ///
     /// An `Ok` says of any disks that the bytes are a whole stream for them: a header for these disks, whole good records that
-    /// name every item and have every device, the digest of all of them, and nothing more. `NoMemory` is returned for such
-    /// a stream only, and `Truncated` never for one (see `is_whole`).
+    /// name every item and have every device, the digest of all of them, and nothing more. RAM, the devices and which sectors are
+    /// bad are then those of the machine that was sent; what the good sectors hold is, where the disks are honest. It takes no
+    /// memory, and `Truncated` is never returned for a whole stream (see `is_whole`).
     ///
     /// It flushes no disk, so what was written to the disks may not be durable yet. A host finishes, brings each disk to its
     /// storage (`Machine::flush_disk`), also the folder of a file that it made, and only then tells the source that all is there.
     /// Where that fails the machine does not run here, and the source continues.
     pub fn finish(self) -> Result<Machine<D>, RecvError>
+        ensures arrived { IfOk result (λ m. (b : List ℕ) → HasBeenFed self b → IsArrived b (state_of m)) }
         ensures received { IfOk result (λ m. AreHonestDisks self.marks → (b : List ℕ) → HasBeenFed self b → IsStream b (state_of m)) }
         ensures marks { IfOk result (λ m. all_marks m ≡ dealt_marks (shapes_in (state_of m).devices) self.marks) }
-        ensures based { IfOk result (λ m. base_of (state_of m).devices ≡ self.base) }
+        ensures based { IfOk result (λ m. base_of (state_of m).devices ≡ self.ram.base) }
         ensures fits { IfOk result (λ m. self.sizes ≡ disk_sizes (shapes_in (state_of m).devices)) }
         ensures refused { IfErr result (λ e. (b : List ℕ) → HasBeenFed self b → IsFinish b e) }
-        ensures whole { OnOk result ((b : List ℕ) → HasBeenFed self b → IsWholeFor self.base self.sizes b) }
-        ensures memory { result ≡ Err errors.NoMemory → (b : List ℕ) → HasBeenFed self b → IsWholeFor self.base self.sizes b }
-        ensures lacking { result ≡ Err errors.Truncated → (b : List ℕ) → HasBeenFed self b → ¬ (IsWholeFor self.base self.sizes b) }
+        ensures whole { OnOk result ((b : List ℕ) → HasBeenFed self b → IsWholeFor self.ram self.sizes b) }
+        ensures told { IfErr result (λ e. e ≡ end_error self.failed) }
+        ensures lacking { result ≡ Err errors.Truncated → (b : List ℕ) → HasBeenFed self b → ¬ (IsWholeFor self.ram self.sizes b) }
         ensures place { IfOk result (λ m. m.memory.place ≡ self.place) }
         ensures already { self.failed ≡ true → result ≡ Err errors.AlreadyFailed }
     {
@@ -271,14 +292,15 @@ impl<D: Disk + Drop> Receiver<D> {
 
     /// As `finish`, but a refusal gives a receiver back that takes no more, with the disks and the RAM.
     pub fn finish_or_back(self) -> Result<Machine<D>, (RecvError, Receiver<D>)>
+        ensures arrived { IfOk result (λ m. (b : List ℕ) → HasBeenFed self b → IsArrived b (state_of m)) }
         ensures received { IfOk result (λ m. AreHonestDisks self.marks → (b : List ℕ) → HasBeenFed self b → IsStream b (state_of m)) }
         ensures marks { IfOk result (λ m. all_marks m ≡ dealt_marks (shapes_in (state_of m).devices) self.marks) }
-        ensures based { IfOk result (λ m. base_of (state_of m).devices ≡ self.base) }
+        ensures based { IfOk result (λ m. base_of (state_of m).devices ≡ self.ram.base) }
         ensures fits { IfOk result (λ m. self.sizes ≡ disk_sizes (shapes_in (state_of m).devices)) }
         ensures refused { IfErr result (λ x. (b : List ℕ) → HasBeenFed self b → IsFinish b x.0) }
-        ensures whole { OnOk result ((b : List ℕ) → HasBeenFed self b → IsWholeFor self.base self.sizes b) }
-        ensures memory { IfErr result (λ x. x.0 ≡ errors.NoMemory → (b : List ℕ) → HasBeenFed self b → IsWholeFor self.base self.sizes b) }
-        ensures lacking { IfErr result (λ x. x.0 ≡ errors.Truncated → (b : List ℕ) → HasBeenFed self b → ¬ (IsWholeFor self.base self.sizes b)) }
+        ensures whole { OnOk result ((b : List ℕ) → HasBeenFed self b → IsWholeFor self.ram self.sizes b) }
+        ensures told { IfErr result (λ x. x.0 ≡ end_error self.failed) }
+        ensures lacking { IfErr result (λ x. x.0 ≡ errors.Truncated → (b : List ℕ) → HasBeenFed self b → ¬ (IsWholeFor self.ram self.sizes b)) }
         ensures already { self.failed ≡ true → IfErr result (λ x. x.0 ≡ errors.AlreadyFailed) }
         ensures goes_on { OnOk result (self.failed ≡ false) }
         ensures back { IfErr result (λ x. IsGivenUp self x.1) }
@@ -287,12 +309,13 @@ impl<D: Disk + Drop> Receiver<D> {
     {
         let Receiver {
             alloc,
-            base,
+            ram: terms,
             disks,
             held: _,
             taken: _,
             stage,
             lacking: _,
+            room,
             aside,
         } = self;
         recall_disks(&disks);
@@ -310,23 +333,18 @@ impl<D: Disk + Drop> Receiver<D> {
                 } = intake;
                 ram.recall();
                 let ram = ram.into_ram();
-                match Machine::restore_or_back(alloc, ram, shapes, devices, disks, bad) {
-                    Ok(machine) => Ok(machine),
-                    Err((disks, ram)) => Err((
-                        RecvError::NoMemory,
-                        given_up(alloc, base, disks, Some(ArrivingRam::over(ram))),
-                    )),
-                }
+                let room = room.unwrap();
+                Ok(Machine::restore_in(room, ram, shapes, devices, disks, bad))
             }
             Stage::Failed => Err((
                 RecvError::AlreadyFailed,
-                given_up(alloc, base, disks, aside),
+                given_up(alloc, terms, disks, aside),
             )),
             Stage::Records(intake) => Err((
                 RecvError::Truncated,
-                given_up(alloc, base, disks, Some(intake.ram)),
+                given_up(alloc, terms, disks, Some(intake.ram)),
             )),
-            Stage::Head => Err((RecvError::Truncated, given_up(alloc, base, disks, aside))),
+            Stage::Head => Err((RecvError::Truncated, given_up(alloc, terms, disks, aside))),
         }
     }
 
@@ -344,12 +362,13 @@ impl<D: Disk + Drop> Receiver<D> {
     {
         let Receiver {
             alloc: _,
-            base: _,
+            ram: _,
             disks,
             held: _,
             taken: _,
             stage: _,
             lacking: _,
+            room: _,
             aside: _,
         } = self;
         disks
@@ -365,12 +384,13 @@ impl<D: Disk + Drop> Receiver<D> {
     {
         let Receiver {
             alloc: _,
-            base: _,
+            ram: _,
             disks,
             held: _,
             taken: _,
             mut stage,
             lacking: _,
+            room: _,
             mut aside,
         } = self;
         fail(&mut stage, &mut aside);
@@ -384,11 +404,11 @@ impl<D: Disk + Drop> Receiver<D> {
 /// A receiver that was refused, with these disks, and this RAM aside. It takes no memory.
 fn given_up<D: Disk>(
     alloc: Global,
-    base: u64,
+    ram: RamTerms,
     disks: Vec<D>,
     aside: Option<ArrivingRam>,
 ) -> Receiver<D>
-    ensures base { result.base ≡ base }
+    ensures ram { result.ram ≡ ram }
     ensures failed { result.failed ≡ true }
     ensures disks { result.disks ≡ map D.state disks.items }
     ensures sizes { result.sizes ≡ sizes_of D.state disks.items }
@@ -397,22 +417,14 @@ fn given_up<D: Disk>(
 {
     Receiver {
         alloc,
-        base,
+        ram,
         disks,
         held: Vec::new(alloc),
         taken: Sha256::new(),
         stage: Stage::Failed,
         lacking: 0,
+        room: None,
         aside,
-    }
-}
-
-/// For proofs: each sector of the disks has 512 bytes (see the page of `guestmem`).
-fn recall_disks<D: Disk>(disks: &[D])
-    ensures { All (λ d. AreSectors d.sectors) (map D.state disks.now) }
-{
-    for disk in disks {
-        let _count = disk.sectors();
     }
 }
 
@@ -435,6 +447,38 @@ fn has_ended(stage: &Stage) -> bool
         Stage::Ended(_) => true,
         _ => false,
     }
+}
+
+/// Whether the header is incomplete.
+fn is_head(stage: &Stage) -> bool
+    ensures head { result ≡ true → ¬ (IsPastHead stage.now) }
+    ensures past { result ≡ false → has_failed stage.now ≡ false → IsPastHead stage.now }
+{
+    match stage {
+        Stage::Head => true,
+        _ => false,
+    }
+}
+
+/// Reserves the memory that the machine will need beside its RAM, if the header was read just now. Its only error is out of memory.
+fn reserve<D: Disk + Drop>(
+    alloc: Global,
+    room: &mut Option<Room<D>>,
+    is_first: bool,
+    stage: &Stage,
+    disks: usize,
+) -> Result<(), NoMemory>
+    ensures first { OnOk result (is_first ≡ true → IsPastHead stage.now → room.new ≡ Some (record { devices = devices_at stage.now; disks = disks })) }
+    ensures later { is_first ≡ false → room.new ≡ room.old }
+    ensures only { OnErr result (is_first ≡ true) }
+{
+    if !is_first {
+        return Ok(());
+    }
+    if let Stage::Records(intake) | Stage::Ended(intake) = stage {
+        *room = Some(Room::new(alloc, intake.shapes.len(), disks)?);
+    }
+    Ok(())
 }
 
 /// Whether the stream was refused.

@@ -1,23 +1,25 @@
 //! From one stage to the next.
 
-ghost use Rattle.std.specs.Prelude.{◌≡◌, ◌≤◌, ◌+◌, ◌++◌, ◌*◌, [], ℕ, List, Err, IfErr, IfOk, true, false, map, replicate, length};
+ghost use Rattle.std.specs.Prelude.{◌≡◌, ◌≤◌, ◌+◌, ◌++◌, ◌*◌, [], ℕ, List, All, None, Err, IfErr, IfOk, OnErr, OnOk, IfSome, IsTrue, ◌↔◌, true, false, map, replicate, length};
 ghost use Rattle.sha2.specs.Hashers.{Holds256};
-ghost use Rattle.blk.specs.Disk.{DiskState};
+ghost use Rattle.blk.specs.Disk.{AreSectors, DiskState};
 ghost use Rattle.guestmem.specs.declared.limits.TheConstants.{PAGE_SIZE, PAGES_MAX};
-ghost use Rattle.wire.specs.Header.{header, Begins, IsHeader};
-ghost use Rattle.wire.specs.HeaderReading.{said};
+ghost use Rattle.wire.specs.Header.{header, Begins, IsHeader, said};
 ghost use Rattle.wire.specs.Records as records;
 ghost use Rattle.machine.specs.Layout.{firsts_of, layout_by, size_of};
 ghost use Rattle.machine.specs.declared.shape.Shape as shapes;
 ghost use Rattle.machine.specs.Shapes.{disk_sizes};
 ghost use Rattle.receiver.specs.Disks.{sizes_in, sizes_of};
 ghost use Rattle.receiver.specs.Fed.{HasRead};
-ghost use Rattle.receiver.specs.Opened.{Opened, opened};
+ghost use Rattle.receiver.specs.Opened.{HasPages, Opened, opened};
+ghost use Rattle.receiver.specs.Standing.{HasDeviceRoom};
+ghost use Rattle.receiver.specs.declared.ram_terms.RamTerms.{RamTerms};
 ghost use Rattle.receiver.specs.declared.recv_error.RecvError.TheVariants as errors;
-ghost use Rattle.receiver.specs.Receiving.{HasDevice, IsKnown, IsPastHead, Stepped, has_failed, place_after, place_aside, place_in};
+ghost use Rattle.receiver.specs.Receiving.{HasDevice, IsReady, IsKnown, IsPastHead, Stepped, has_failed, length_aside, place_after, place_aside, place_in};
 
 use crate::heading::read_heading;
 use crate::intake::{Intake, Terms, work_off};
+use crate::ram_terms::RamTerms;
 use crate::recv_error::RecvError;
 use crate::stage::Stage;
 use dirtylog::BitSet;
@@ -54,8 +56,8 @@ fn new_marks<D: Disk>(alloc: Global, disks: &[D]) -> Result<Vec<BitSet>, NoMemor
     Ok(bad)
 }
 
-/// RAM of so many pages: the one that stands aside, if it has so many, and a new one, if there is none. Its only error is out of
-/// memory, also in the RAM that stands aside, which stays there.
+/// RAM of `pages` pages: the one that the host handed in, which has that size, or else a new one. Its only error is out of memory
+/// for a new one.
 fn ram_of(
     alloc: Global,
     aside: &mut Option<ArrivingRam>,
@@ -63,19 +65,25 @@ fn ram_of(
 ) -> Result<ArrivingRam, NoMemory>
     requires some { 1 ≤ pages }
     requires few { pages ≤ PAGES_MAX }
+    requires fits { IfSome aside.old (λ ram. length ram.bytes ≡ PAGE_SIZE * pages) }
     ensures size { IfOk result (λ ram. length ram.bytes ≡ PAGE_SIZE * pages) }
     ensures place { IfOk result (λ ram. ram.place ≡ place_aside aside.old) }
+    ensures new { IfErr result (λ e. aside.old ≡ None) }
     ensures kept { IfErr result (λ e. aside.new ≡ aside.old) }
 {
     match mem::replace(aside, None) {
         None => Ok(ArrivingRam::new(alloc, pages)?),
-        Some(ram) => {
-            if ram.len() != pages as u64 * PAGE_SIZE as u64 {
-                *aside = Some(ram);
-                return Err(NoMemory);
-            }
-            Ok(ram)
-        }
+        Some(ram) => Ok(ram),
+    }
+}
+
+/// Whether the RAM that the host handed in has `pages` pages. True if it handed in none.
+fn has_pages(ram: RamTerms, pages: u32) -> bool
+    ensures { IsTrue result ↔ HasPages ram pages }
+{
+    match ram.len {
+        None => true,
+        Some(len) => len == pages as u64 * PAGE_SIZE as u64,
     }
 }
 
@@ -108,18 +116,30 @@ pub fn fail(stage: &mut Stage, aside: &mut Option<ArrivingRam>)
     }
 }
 
-/// An intake that has taken a header, of a machine whose RAM begins at `base`. An error leaves the RAM that stands aside where it is.
+/// For proofs: each sector of the disks has 512 bytes (see the page of `guestmem`).
+pub fn recall_disks<D: Disk>(disks: &[D])
+    ensures { All (λ d. AreSectors d.sectors) (map D.state disks.now) }
+{
+    for disk in disks {
+        let _count = disk.sectors();
+    }
+}
+
+/// An intake that has taken a header. An error leaves the RAM that stands aside where it is.
 fn new_intake<D: Disk>(
     alloc: Global,
-    base: u64,
+    ram: RamTerms,
     aside: &mut Option<ArrivingRam>,
     disks: &[D],
     heading: Header,
 ) -> Result<Intake, NoMemory>
-    requires { IsHeader (said heading) }
+    requires header { IsHeader (said heading) }
+    requires given { ram.len ≡ length_aside aside.old }
+    requires suits { HasPages ram heading.pages }
+    ensures roomy { IfOk result (λ i. HasDeviceRoom i) }
     ensures place { IfOk result (λ i. i.ram.place ≡ place_aside aside.old) }
     ensures kept { IfErr result (λ e. aside.new ≡ aside.old) }
-    ensures read { IfOk result (λ i. (bytes rest : List ℕ) → Begins bytes (said heading) rest → sizes_of D.state disks.now ≡ disk_sizes heading.shapes.items → HasRead (map D.state disks.now) (opened base (said heading)) [] i (header (said heading))) }
+    ensures read { IfOk result (λ i. (bytes rest : List ℕ) → Begins bytes (said heading) rest → sizes_of D.state disks.now ≡ disk_sizes heading.shapes.items → HasRead (map D.state disks.now) (opened ram (said heading)) [] i (header (said heading))) }
 {
     let Header {
         version,
@@ -127,15 +147,16 @@ fn new_intake<D: Disk>(
         shapes,
         len: _,
     } = heading;
+    recall_disks(disks);
     let (firsts, count) = number_items(alloc, pages, &shapes)?;
     let bad = new_marks(alloc, disks)?;
     let named = BitSet::new(alloc, count as u64)?;
-    let devices = Vec::new(alloc);
-    let ram = ram_of(alloc, aside, pages)?;
+    let devices = Vec::with_capacity(alloc, shapes.len())?;
+    let memory = ram_of(alloc, aside, pages)?;
     Ok(Intake {
-        terms: Terms { version, base },
+        terms: Terms { version, ram },
         shapes,
-        ram,
+        ram: memory,
         named,
         firsts,
         bad,
@@ -153,13 +174,15 @@ fn advance<D: Disk>(
     taken: &mut Sha256,
     bytes: &[u8],
 ) -> Result<(usize, Stage), RecvError>
+    requires roomy { HasDeviceRoom intake }
     ensures room { IfOk result (λ x. x.0 ≤ length bytes.now) }
     ensures few { IfOk result (λ x. length bytes.now ≤ 131077 + x.0) }
+    ensures ready { (ram : RamTerms) → IfOk result (λ x. IsReady ram aside.new x.1) }
     ensures past { IfOk result (λ x. IsPastHead x.1) }
     ensures place { place_after aside.new result ≡ intake.ram.place }
     ensures memory { (front : List ℕ) (opening : Opened) (before : List records.Record) → Holds256 taken.old front → HasRead (map D.state disks.old) opening before intake front
-        → result ≡ Err errors.NoMemory → HasDevice opening.base (sizes_of D.state disks.old) (front ++ bytes.now) (length front) }
-    ensures stepped { (front : List ℕ) (opening : Opened) (before : List records.Record) → Holds256 taken.old front → HasRead (map D.state disks.old) opening before intake front → Stepped opening.base (map D.state disks.old) (map D.state disks.new) taken.new front bytes.now result }
+        → result ≡ Err errors.NoMemory → HasDevice opening.ram (sizes_of D.state disks.old) (front ++ bytes.now) (length front) }
+    ensures stepped { (front : List ℕ) (opening : Opened) (before : List records.Record) → Holds256 taken.old front → HasRead (map D.state disks.old) opening before intake front → Stepped opening.ram (map D.state disks.old) (map D.state disks.new) taken.new front bytes.now result }
 {
     let mut intake = intake;
     match work_off(alloc, &mut intake, disks, taken, bytes) {
@@ -172,31 +195,45 @@ fn advance<D: Disk>(
     }
 }
 
-/// Reads the header of a machine whose RAM begins at `base`, if it is complete, and the complete records after it; returns how many
-/// bytes they have.
+/// Checks that the disks, and the RAM that was handed in, if one was, are those of the header's machine.
+fn check_fit<D: Disk>(ram: RamTerms, disks: &[D], heading: &Header) -> Result<(), RecvError>
+    ensures fits { OnOk result (sizes_of D.state disks.now ≡ disk_sizes heading.now.shapes.items) }
+    ensures suits { OnOk result (HasPages ram heading.now.pages) }
+    ensures mismatch { IfErr result (λ e. e ≡ errors.ShapeMismatch) }
+    ensures refused { OnErr result (¬ ((sizes_of D.state disks.now ≡ disk_sizes heading.now.shapes.items) × HasPages ram heading.now.pages)) }
+{
+    if are_disks_of(&heading.shapes, disks) && has_pages(ram, heading.pages) {
+        return Ok(());
+    }
+    Err(RecvError::ShapeMismatch)
+}
+
+/// Reads the header, if it is complete, and the complete records after it; returns how many bytes they have.
 fn begin<D: Disk>(
     alloc: Global,
-    base: u64,
+    ram: RamTerms,
     aside: &mut Option<ArrivingRam>,
     disks: &mut [D],
     taken: &mut Sha256,
     bytes: &[u8],
 ) -> Result<(usize, Stage), RecvError>
+    requires given { ram.len ≡ length_aside aside.old }
     ensures room { IfOk result (λ x. x.0 ≤ length bytes.now) }
     ensures few { IfOk result (λ x. length bytes.now ≤ 131077 + x.0) }
+    ensures ready { IfOk result (λ x. IsReady ram aside.new x.1) }
     ensures place { place_after aside.new result ≡ place_aside aside.old }
-    ensures stepped { Holds256 taken.old [] → Stepped base (map D.state disks.old) (map D.state disks.new) taken.new [] bytes.now result }
+    ensures stepped { Holds256 taken.old [] → Stepped ram (map D.state disks.old) (map D.state disks.new) taken.new [] bytes.now result }
 {
     let heading = match read_heading(alloc, bytes) {
         Ok(Some(heading)) => heading,
         Ok(None) => return Ok((0, Stage::Head)),
         Err(error) => return Err(error),
     };
-    if !are_disks_of(&heading.shapes, disks) {
-        return Err(RecvError::ShapeMismatch);
+    if let Err(error) = check_fit(ram, disks, &heading) {
+        return Err(error);
     }
     let len = heading.len;
-    let Ok(intake) = new_intake(alloc, base, aside, disks, heading) else {
+    let Ok(intake) = new_intake(alloc, ram, aside, disks, heading) else {
         return Err(RecvError::NoMemory);
     };
     let (header, rest) = bytes.split_at(len);
@@ -207,26 +244,27 @@ fn begin<D: Disk>(
     }
 }
 
-/// Takes what is complete at the front of the bytes, which follow those that were worked off; returns how many bytes it has. The
-/// machine's RAM begins at `base`.
+/// Takes what is complete at the front of the bytes, which follow those that were worked off; returns how many bytes it has.
 pub fn step<D: Disk>(
     alloc: Global,
-    base: u64,
+    ram: RamTerms,
     aside: &mut Option<ArrivingRam>,
     disks: &mut [D],
     taken: &mut Sha256,
     bytes: &[u8],
     stage: Stage,
 ) -> Result<(usize, Stage), RecvError>
+    requires ready { IsReady ram aside.old stage }
     ensures room { IfOk result (λ x. x.0 ≤ length bytes.now) }
     ensures few { IfOk result (λ x. length bytes.now ≤ 131077 + x.0) }
+    ensures ready { IfOk result (λ x. IsReady ram aside.new x.1) }
     ensures past { IsPastHead stage → IfOk result (λ x. IsPastHead x.1) }
     ensures place { place_after aside.new result ≡ place_in aside.old stage }
-    ensures memory { (front held : List ℕ) → IsKnown base (map D.state disks.old) taken.old front held stage → IsPastHead stage → result ≡ Err errors.NoMemory → HasDevice base (sizes_of D.state disks.old) (front ++ bytes.now) (length front) }
-    ensures stepped { (front held : List ℕ) → IsKnown base (map D.state disks.old) taken.old front held stage → Stepped base (map D.state disks.old) (map D.state disks.new) taken.new front bytes.now result }
+    ensures memory { (front held : List ℕ) → IsKnown ram (map D.state disks.old) taken.old front held stage → IsPastHead stage → result ≡ Err errors.NoMemory → HasDevice ram (sizes_of D.state disks.old) (front ++ bytes.now) (length front) }
+    ensures stepped { (front held : List ℕ) → IsKnown ram (map D.state disks.old) taken.old front held stage → Stepped ram (map D.state disks.old) (map D.state disks.new) taken.new front bytes.now result }
 {
     match stage {
-        Stage::Head => begin(alloc, base, aside, disks, taken, bytes),
+        Stage::Head => begin(alloc, ram, aside, disks, taken, bytes),
         Stage::Records(intake) => advance(alloc, aside, intake, disks, taken, bytes),
         Stage::Ended(intake) => {
             if !bytes.is_empty() {

@@ -2,18 +2,19 @@
 
 ghost use Rattle.std.specs.Prelude.{◌≡◌, ◌++◌, ◌+◌, ◌≤◌, ◌<◌, [], ℕ, List, Err, IfOk, OnOk, drop, length, map};
 ghost use Rattle.std.specs.Vec.{vec_capacity};
-ghost use Rattle.receiver.specs.Receiving.{HasDevice, IsKnown, IsPastHead, Took, place_in, place_took};
+ghost use Rattle.receiver.specs.Receiving.{HasDevice, IsReady, IsKnown, IsPastHead, Took, place_in, place_took};
 ghost use Rattle.receiver.specs.Disks.{sizes_of};
 ghost use Rattle.receiver.specs.declared.recv_error.RecvError.TheVariants as errors;
 
+use crate::ram_terms::RamTerms;
 use crate::recv_error::RecvError;
 use crate::stage::Stage;
 use crate::stepping::step;
+use crate::waiting::next_len;
 use guestmem::ArrivingRam;
 use machine::Disk;
 use sha2::Sha256;
 use std::alloc::Global;
-use wire::{FoundHead, RECORD_MAX, read_head};
 
 /// Removes bytes from the front.
 fn drop_front(bytes: &mut Vec<u8>, count: usize)
@@ -32,7 +33,7 @@ fn drop_front(bytes: &mut Vec<u8>, count: usize)
 /// Takes bytes after which nothing is held. Those of complete records are not copied into the buffer.
 fn take_apart<D: Disk>(
     alloc: Global,
-    base: u64,
+    ram: RamTerms,
     aside: &mut Option<ArrivingRam>,
     disks: &mut [D],
     held: &mut Vec<u8>,
@@ -40,17 +41,19 @@ fn take_apart<D: Disk>(
     stage: Stage,
     bytes: &[u8],
 ) -> Result<Stage, RecvError>
+    requires ready { IsReady ram aside.old stage }
     requires empty { held.old.items ≡ [] }
     requires room { 131078 ≤ vec_capacity held.old }
     ensures few { OnOk result (length held.new.items ≤ 131077) }
     ensures capacity { vec_capacity held.old ≤ vec_capacity held.new }
     ensures shorter { OnOk result (length held.new.items ≤ length held.old.items + length bytes.now) }
+    ensures ready { IfOk result (λ next. IsReady ram aside.new next) }
     ensures past { IsPastHead stage → IfOk result (λ next. IsPastHead next) }
     ensures place { place_took aside.new result ≡ place_in aside.old stage }
-    ensures memory { (front : List ℕ) → IsKnown base (map D.state disks.old) taken.old front held.old.items stage → IsPastHead stage → result ≡ Err errors.NoMemory → HasDevice base (sizes_of D.state disks.old) (front ++ (held.old.items ++ bytes.now)) (length front) }
-    ensures took { (front : List ℕ) → IsKnown base (map D.state disks.old) taken.old front held.old.items stage → Took base (map D.state disks.old) (map D.state disks.new) taken.new (front ++ (held.old.items ++ bytes.now)) held.new.items result }
+    ensures memory { (front : List ℕ) → IsKnown ram (map D.state disks.old) taken.old front held.old.items stage → IsPastHead stage → result ≡ Err errors.NoMemory → HasDevice ram (sizes_of D.state disks.old) (front ++ (held.old.items ++ bytes.now)) (length front) }
+    ensures took { (front : List ℕ) → IsKnown ram (map D.state disks.old) taken.old front held.old.items stage → Took ram (map D.state disks.old) (map D.state disks.new) taken.new (front ++ (held.old.items ++ bytes.now)) held.new.items result }
 {
-    match step(alloc, base, aside, disks, taken, bytes, stage) {
+    match step(alloc, ram, aside, disks, taken, bytes, stage) {
         Ok((count, stage)) => {
             let (_, rest) = bytes.split_at(count);
             held.extend_from_slice(rest).unwrap();
@@ -63,7 +66,7 @@ fn take_apart<D: Disk>(
 /// Takes bytes that follow those that are held.
 fn take_behind<D: Disk>(
     alloc: Global,
-    base: u64,
+    ram: RamTerms,
     aside: &mut Option<ArrivingRam>,
     disks: &mut [D],
     held: &mut Vec<u8>,
@@ -71,17 +74,19 @@ fn take_behind<D: Disk>(
     stage: Stage,
     bytes: &[u8],
 ) -> Result<Stage, RecvError>
+    requires ready { IsReady ram aside.old stage }
     requires room { length held.old.items + length bytes.now ≤ vec_capacity held.old }
     ensures few { OnOk result (length held.new.items ≤ 131077) }
     ensures capacity { vec_capacity held.old ≤ vec_capacity held.new }
     ensures shorter { OnOk result (length held.new.items ≤ length held.old.items + length bytes.now) }
+    ensures ready { IfOk result (λ next. IsReady ram aside.new next) }
     ensures past { IsPastHead stage → IfOk result (λ next. IsPastHead next) }
     ensures place { place_took aside.new result ≡ place_in aside.old stage }
-    ensures memory { (front : List ℕ) → IsKnown base (map D.state disks.old) taken.old front held.old.items stage → IsPastHead stage → result ≡ Err errors.NoMemory → HasDevice base (sizes_of D.state disks.old) (front ++ (held.old.items ++ bytes.now)) (length front) }
-    ensures took { (front : List ℕ) → IsKnown base (map D.state disks.old) taken.old front held.old.items stage → Took base (map D.state disks.old) (map D.state disks.new) taken.new (front ++ (held.old.items ++ bytes.now)) held.new.items result }
+    ensures memory { (front : List ℕ) → IsKnown ram (map D.state disks.old) taken.old front held.old.items stage → IsPastHead stage → result ≡ Err errors.NoMemory → HasDevice ram (sizes_of D.state disks.old) (front ++ (held.old.items ++ bytes.now)) (length front) }
+    ensures took { (front : List ℕ) → IsKnown ram (map D.state disks.old) taken.old front held.old.items stage → Took ram (map D.state disks.old) (map D.state disks.new) taken.new (front ++ (held.old.items ++ bytes.now)) held.new.items result }
 {
     held.extend_from_slice(bytes).unwrap();
-    match step(alloc, base, aside, disks, taken, held, stage) {
+    match step(alloc, ram, aside, disks, taken, held, stage) {
         Ok((count, stage)) => {
             drop_front(held, count);
             Ok(stage)
@@ -90,40 +95,10 @@ fn take_behind<D: Disk>(
     }
 }
 
-/// How many bytes complete the record whose front is held, as far as that front tells.
-fn missing(held: &[u8]) -> usize
-    requires some { 0 < length held.now }
-    requires few { length held.now ≤ 131077 }
-    ensures some { 0 < result }
-    ensures fits { length held.now + result ≤ 131078 }
-{
-    let whole = match read_head(held) {
-        FoundHead::More(len) => len,
-        FoundHead::Whole(head) => head.head_len() + head.body_len(),
-        FoundHead::NoSuchTag | FoundHead::NoSuchMark => RECORD_MAX,
-    };
-    let missing = whole.saturating_sub(held.len());
-    missing.max(1).min(RECORD_MAX - held.len())
-}
-
-/// How many bytes to take next, of `len`: all if nothing is held, or as many as complete the record whose front is held.
-fn next_len(held: &[u8], len: usize) -> usize
-    requires some { 0 < len }
-    requires few { length held.now ≤ 131077 }
-    ensures some { 0 < result }
-    ensures within { result ≤ len }
-    ensures fits { 0 < length held.now → length held.now + result ≤ 131078 }
-{
-    if held.is_empty() {
-        return len;
-    }
-    len.min(missing(held))
-}
-
 /// Takes the next piece.
 pub fn take_piece<D: Disk>(
     alloc: Global,
-    base: u64,
+    ram: RamTerms,
     aside: &mut Option<ArrivingRam>,
     disks: &mut [D],
     held: &mut Vec<u8>,
@@ -131,21 +106,23 @@ pub fn take_piece<D: Disk>(
     stage: Stage,
     piece: &[u8],
 ) -> Result<Stage, RecvError>
+    requires ready { IsReady ram aside.old stage }
     requires room { 131078 ≤ vec_capacity held.old }
     requires few { length held.old.items ≤ 131077 }
     ensures few { OnOk result (length held.new.items ≤ 131077) }
     ensures capacity { vec_capacity held.old ≤ vec_capacity held.new }
     ensures shorter { OnOk result (length held.new.items ≤ length held.old.items + length piece.now) }
+    ensures ready { IfOk result (λ next. IsReady ram aside.new next) }
     ensures past { IsPastHead stage → IfOk result (λ next. IsPastHead next) }
     ensures place { place_took aside.new result ≡ place_in aside.old stage }
-    ensures memory { (front : List ℕ) → IsKnown base (map D.state disks.old) taken.old front held.old.items stage → IsPastHead stage → result ≡ Err errors.NoMemory → HasDevice base (sizes_of D.state disks.old) (front ++ (held.old.items ++ piece.now)) (length front) }
-    ensures took { (front : List ℕ) → IsKnown base (map D.state disks.old) taken.old front held.old.items stage → Took base (map D.state disks.old) (map D.state disks.new) taken.new (front ++ (held.old.items ++ piece.now)) held.new.items result }
+    ensures memory { (front : List ℕ) → IsKnown ram (map D.state disks.old) taken.old front held.old.items stage → IsPastHead stage → result ≡ Err errors.NoMemory → HasDevice ram (sizes_of D.state disks.old) (front ++ (held.old.items ++ piece.now)) (length front) }
+    ensures took { (front : List ℕ) → IsKnown ram (map D.state disks.old) taken.old front held.old.items stage → Took ram (map D.state disks.old) (map D.state disks.new) taken.new (front ++ (held.old.items ++ piece.now)) held.new.items result }
 {
     let mut stage = stage;
     let mut rest = piece;
     while !rest.is_empty() {
-        let (bytes, after) = rest.split_at(next_len(held, rest.len()));
-        match take_next(alloc, base, aside, disks, held, taken, stage, bytes) {
+        let (bytes, after) = rest.split_at(next_len(&stage, held, rest.len()));
+        match take_next(alloc, ram, aside, disks, held, taken, stage, bytes) {
             Ok(next) => stage = next,
             Err(error) => return Err(error),
         }
@@ -157,7 +134,7 @@ pub fn take_piece<D: Disk>(
 /// Takes bytes that fit into the buffer, or any number if nothing is held.
 fn take_next<D: Disk>(
     alloc: Global,
-    base: u64,
+    ram: RamTerms,
     aside: &mut Option<ArrivingRam>,
     disks: &mut [D],
     held: &mut Vec<u8>,
@@ -165,18 +142,20 @@ fn take_next<D: Disk>(
     stage: Stage,
     bytes: &[u8],
 ) -> Result<Stage, RecvError>
+    requires ready { IsReady ram aside.old stage }
     requires room { 131078 ≤ vec_capacity held.old }
     requires fits { 0 < length held.old.items → length held.old.items + length bytes.now ≤ 131078 }
     ensures few { OnOk result (length held.new.items ≤ 131077) }
     ensures capacity { vec_capacity held.old ≤ vec_capacity held.new }
     ensures shorter { OnOk result (length held.new.items ≤ length held.old.items + length bytes.now) }
+    ensures ready { IfOk result (λ next. IsReady ram aside.new next) }
     ensures past { IsPastHead stage → IfOk result (λ next. IsPastHead next) }
     ensures place { place_took aside.new result ≡ place_in aside.old stage }
-    ensures memory { (front : List ℕ) → IsKnown base (map D.state disks.old) taken.old front held.old.items stage → IsPastHead stage → result ≡ Err errors.NoMemory → HasDevice base (sizes_of D.state disks.old) (front ++ (held.old.items ++ bytes.now)) (length front) }
-    ensures took { (front : List ℕ) → IsKnown base (map D.state disks.old) taken.old front held.old.items stage → Took base (map D.state disks.old) (map D.state disks.new) taken.new (front ++ (held.old.items ++ bytes.now)) held.new.items result }
+    ensures memory { (front : List ℕ) → IsKnown ram (map D.state disks.old) taken.old front held.old.items stage → IsPastHead stage → result ≡ Err errors.NoMemory → HasDevice ram (sizes_of D.state disks.old) (front ++ (held.old.items ++ bytes.now)) (length front) }
+    ensures took { (front : List ℕ) → IsKnown ram (map D.state disks.old) taken.old front held.old.items stage → Took ram (map D.state disks.old) (map D.state disks.new) taken.new (front ++ (held.old.items ++ bytes.now)) held.new.items result }
 {
     if held.is_empty() {
-        return take_apart(alloc, base, aside, disks, held, taken, stage, bytes);
+        return take_apart(alloc, ram, aside, disks, held, taken, stage, bytes);
     }
-    take_behind(alloc, base, aside, disks, held, taken, stage, bytes)
+    take_behind(alloc, ram, aside, disks, held, taken, stage, bytes)
 }

@@ -7,11 +7,12 @@ use Rattle.machine.specs.Outcome.{Outcome, outcome_of}
 use Rattle.machine.specs.Run.{IsRun}
 use Rattle.machine.specs.Seen.{AreHonest, Marks, Seen, all_marks, state_of}
 use Rattle.machine.specs.Shapes.{disk_sizes}
-use Rattle.machine.specs.State.{MachineState, base_of}
+use Rattle.machine.specs.State.{DeviceState, MachineState, base_of}
 use Rattle.machine.specs.declared.reply.Reply.{Reply}
 use Rattle.machine.proofs.Agreeing.{runs_same}
 use Rattle.machine.proofs.Dealing.{dealt_all}
 use Rattle.receiver.specs.Disks.{AreHonestDisks}
+use Rattle.receiver.specs.Opened.{ram_at}
 use Rattle.receiver.specs.Receiving.{NoFault, RefusesSlice}
 use Rattle.receiver.specs.declared.recv_error.RecvError.{RecvError}
 use Rattle.receiver.specs.declared.recv_error.RecvError.TheVariants as errors
@@ -31,14 +32,14 @@ mismatched machine source events sizes marks replies bytes g never = record {
   answered = g.answered;
   mismatch = λ _. refl;
   unsteady = λ wrong. cc;
-  why = λ honest. never;
+  why = never;
 }
 
 -- What a refusal tells of a stream whose disks fit.
-refusal : (base : ℕ) (sizes : List ℕ) (marks : List Marks) (bytes : List ℕ) (machine source : Seen) (e : RecvError) → DoFit sizes machine → NoFault base sizes bytes → IsStream bytes (state_of source) → RefusesSlice base sizes marks bytes e → TellsWhy sizes marks machine e
+refusal : (base : ℕ) (sizes : List ℕ) (marks : List Marks) (bytes : List ℕ) (machine : Seen) (source : MachineState) (e : RecvError) → DoFit sizes machine → NoFault (ram_at base) sizes bytes → IsStream bytes source → RefusesSlice base sizes marks bytes e → TellsWhy sizes marks machine e
 refusal base sizes marks bytes machine source errors.NoMemory fits quiet stream h = fits
 refusal base sizes marks bytes machine source errors.DiskFailed fits quiet stream h = (fits, h)
-refusal base sizes marks bytes machine source errors.Truncated fits quiet stream h = absurd (h.1 (state_of source) stream)
+refusal base sizes marks bytes machine source errors.Truncated fits quiet stream h = absurd (h.1 source stream)
 refusal base sizes marks bytes machine source errors.ShapeMismatch fits quiet stream h = absurd (quiet errors.ShapeMismatch h.0 h.1)
 refusal base sizes marks bytes machine source errors.BadMagic fits quiet stream h = absurd (quiet errors.BadMagic h.0 h.1)
 refusal base sizes marks bytes machine source errors.BadVersion fits quiet stream h = absurd (quiet errors.BadVersion h.0 h.1)
@@ -63,7 +64,11 @@ refused machine source events base sizes marks replies bytes e g fits based told
   answered = g.answered;
   mismatch = λ never. absurd (never fits);
   unsteady = λ is. (let P : RecvError → Type 0 = λ x. RefusesSlice base sizes marks bytes x in subst P is told);
-  why = λ honest. refusal base sizes marks bytes machine source e fits (stream_quiet base sizes bytes (state_of source) (g.stream honest) (sym based) (still_fit sizes machine source (g.answered.shape honest) fits)) (g.stream honest) told;
+  why =
+      let s = g.streamed in
+      let at : base_of s.as_told.devices ≡ base = ap base_of s.devices ∙ sym based in
+      let sized : sizes ≡ disk_sizes (shapes_in s.as_told.devices) = still_fit sizes machine source g.answered.shape fits ∙ ap (λ (ds : List DeviceState). disk_sizes (shapes_in ds)) (sym s.devices) in
+      refusal base sizes marks bytes machine s.as_told e fits (stream_quiet (ram_at base) sizes bytes s.as_told s.stream at tt sized) s.stream told;
 }
 
 -- A machine over honest disks is one with honest disks.
@@ -83,6 +88,7 @@ pub arrival : (machine at_stop source as_arrived arrived : Seen) (events : List 
 arrival machine at_stop source as_arrived arrived events sizes marks bytes played replies arrived_replies g fits received based over goes p =
     let es = remaining events played in
     let start : AreHonest machine → AreHonestDisks marks → state_of as_arrived ≡ state_of at_stop = λ honest disks. one_machine bytes (state_of as_arrived) (state_of at_stop) (received disks) (g.stream honest) based in
+    let as_told : AreHonestDisks marks → state_of as_arrived ≡ g.streamed.as_told = λ disks. one_machine bytes (state_of as_arrived) g.streamed.as_told (received disks) g.streamed.stream (based ∙ ap base_of (sym g.streamed.devices)) in
     let run_one : AreHonest machine → IsRun (state_of at_stop) es (map outcome_of goes.rest) goes.rest (state_of source) = λ honest. goes.played.run (g.answered.honest honest) in
     let P : MachineState → Type 0 = λ m. IsRun m es (map outcome_of arrived_replies) arrived_replies (state_of arrived) in
     let run_two : AreHonest machine → AreHonestDisks marks → IsRun (state_of at_stop) es (map outcome_of arrived_replies) arrived_replies (state_of arrived) = λ honest disks. subst P (start honest disks) (p.run (arrives_honest as_arrived marks over disks)) in
@@ -99,6 +105,8 @@ arrival machine at_stop source as_arrived arrived events sizes marks bytes playe
       source_played = goes.played;
       over = over;
       arrived_played = p;
+      same_ram = λ disks. ap (λ (m : MachineState). m.ram) (as_told disks) ∙ g.streamed.ram;
+      same_devices = λ disks. ap (λ (m : MachineState). m.devices) (as_told disks) ∙ g.streamed.devices;
       same_start = start;
       source_run = run_one;
       arrived_run = run_two;

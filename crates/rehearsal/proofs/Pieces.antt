@@ -4,7 +4,9 @@ use Rattle.std.specs.Prelude.{IfErr, Result, Ok, Err}
 use Rattle.machine.specs.Seen.{Marks}
 use Rattle.receiver.specs.Disks.{MarksRefused}
 use Rattle.receiver.specs.Faults.{Fault}
+use Rattle.receiver.specs.Opened.{ram_at}
 use Rattle.receiver.specs.Receiving.{HasBeenFed, IsFinish, NoFault, Received, RefusesSlice, TellsFault, TellsNow}
+use Rattle.receiver.specs.declared.ram_terms.RamTerms.{RamTerms}
 use Rattle.receiver.specs.declared.recv_error.RecvError.{RecvError}
 use Rattle.receiver.proofs.Counting.{slice_cut, slice_told}
 use Rattle.receiver.proofs.Prefixes.{stays}
@@ -26,13 +28,13 @@ pub fed_on : (old new : Received) (bytes rest piece others : List ℕ) → IsFed
 fed_on old new bytes rest piece others f cut on = record { so_far = f.so_far ++ piece; whole = joined old bytes rest piece others f cut; fed = on f.so_far f.fed }
 
 -- What is told of a piece is told of all bytes.
-pub told : (base : ℕ) (sizes : List ℕ) (r : Received) (bytes rest piece others : List ℕ) (e : RecvError) → r.base ≡ base → r.sizes ≡ sizes → IsFed r bytes rest → rest ≡ piece ++ others → ((b : List ℕ) → HasBeenFed r b → TellsNow r.base r.sizes b piece e) → TellsFault base sizes bytes e
-told base sizes r bytes rest piece others e based same f cut tells =
-    let O : ℕ → Type 0 = λ a. TellsNow a sizes f.so_far piece e in
-    let P : List ℕ → Type 0 = λ s. TellsNow r.base s f.so_far piece e in
-    let Q : (at : ℕ) → List ℕ → Type 0 = λ at b. Fault base sizes b e at in
-    tells_more ((at : ℕ) × (length f.so_far < at) × Fault base sizes (f.so_far ++ piece) e at) ((at : ℕ) × Fault base sizes bytes e at) e
-    (λ x. (x.0, subst (Q x.0) (sym (joined r bytes rest piece others f cut)) (stays base sizes (f.so_far ++ piece) others e x.0 x.2)))
+pub told : (ram : RamTerms) (sizes : List ℕ) (r : Received) (bytes rest piece others : List ℕ) (e : RecvError) → r.ram ≡ ram → r.sizes ≡ sizes → IsFed r bytes rest → rest ≡ piece ++ others → ((b : List ℕ) → HasBeenFed r b → TellsNow r.ram r.sizes b piece e) → TellsFault ram sizes bytes e
+told ram sizes r bytes rest piece others e based same f cut tells =
+    let O : RamTerms → Type 0 = λ a. TellsNow a sizes f.so_far piece e in
+    let P : List ℕ → Type 0 = λ s. TellsNow r.ram s f.so_far piece e in
+    let Q : (at : ℕ) → List ℕ → Type 0 = λ at b. Fault ram sizes b e at in
+    tells_more ((at : ℕ) × (length f.so_far < at) × Fault ram sizes (f.so_far ++ piece) e at) ((at : ℕ) × Fault ram sizes bytes e at) e
+    (λ x. (x.0, subst (Q x.0) (sym (joined r bytes rest piece others f cut)) (stays ram sizes (f.so_far ++ piece) others e x.0 x.2)))
     (subst O based (subst P same (tells f.so_far f.fed)))
 
 pub no_others : (rest : List ℕ) → rest ≡ rest ++ []
@@ -42,21 +44,21 @@ no_others rest = sym (append-nil rest)
 pub fed_all : (old new : Received) (bytes rest : List ℕ) → IsFed old bytes rest → ((b : List ℕ) → HasBeenFed old b → HasBeenFed new (b ++ rest)) → HasBeenFed new bytes
 fed_all old new bytes rest f on = let P : List ℕ → Type 0 = λ b. HasBeenFed new b in subst P (sym f.whole) (on f.so_far f.fed)
 
-pub quiet_all : (base : ℕ) (sizes : List ℕ) (old : Received) (bytes rest : List ℕ) → old.base ≡ base → old.sizes ≡ sizes → IsFed old bytes rest → ((b : List ℕ) → HasBeenFed old b → NoFault old.base old.sizes (b ++ rest)) → NoFault base sizes bytes
-quiet_all base sizes old bytes rest based same f quiet =
-    let O : ℕ → Type 0 = λ a. NoFault a sizes bytes in
-    let P : List ℕ → Type 0 = λ b. NoFault old.base old.sizes b in
-    let Q : List ℕ → Type 0 = λ s. NoFault old.base s bytes in
+pub quiet_all : (ram : RamTerms) (sizes : List ℕ) (old : Received) (bytes rest : List ℕ) → old.ram ≡ ram → old.sizes ≡ sizes → IsFed old bytes rest → ((b : List ℕ) → HasBeenFed old b → NoFault old.ram old.sizes (b ++ rest)) → NoFault ram sizes bytes
+quiet_all ram sizes old bytes rest based same f quiet =
+    let O : RamTerms → Type 0 = λ a. NoFault a sizes bytes in
+    let P : List ℕ → Type 0 = λ b. NoFault old.ram old.sizes b in
+    let Q : List ℕ → Type 0 = λ s. NoFault old.ram s bytes in
     subst O based (subst Q same (subst P (sym f.whole) (quiet f.so_far f.fed)))
 
 -- What a refusal says of all bytes, of a piece and in the end.
-pub refused_piece : (base : ℕ) (sizes : List ℕ) (marks new : List Marks) (r : Received) (bytes rest piece others : List ℕ) (e : RecvError) → r.base ≡ base → r.sizes ≡ sizes → r.marks ≡ marks → IsFed r bytes rest → rest ≡ piece ++ others → MarksRefused r.marks e new → ((b : List ℕ) → HasBeenFed r b → TellsNow r.base r.sizes b piece e)
+pub refused_piece : (base : ℕ) (sizes : List ℕ) (marks new : List Marks) (r : Received) (bytes rest piece others : List ℕ) (e : RecvError) → r.ram ≡ ram_at base → r.sizes ≡ sizes → r.marks ≡ marks → IsFed r bytes rest → rest ≡ piece ++ others → MarksRefused r.marks e new → ((b : List ℕ) → HasBeenFed r b → TellsNow r.ram r.sizes b piece e)
     → RefusesSlice base sizes marks bytes e
 refused_piece base sizes marks new r bytes rest piece others e based same same_marks f cut failed tells =
     let P : List Marks → Type 0 = λ ms. MarksRefused ms e new in
-    slice_told base sizes marks new bytes e (subst P same_marks failed) (told base sizes r bytes rest piece others e based same f cut tells)
+    slice_told base sizes marks new bytes e (subst P same_marks failed) (told (ram_at base) sizes r bytes rest piece others e based same f cut tells)
 
-pub refused_end : {T : Type 0} (result : Result T RecvError) (base : ℕ) (sizes : List ℕ) (marks : List Marks) (old new : Received) (bytes rest : List ℕ) → old.base ≡ base → old.sizes ≡ sizes → IsFed old bytes rest → ((b : List ℕ) → HasBeenFed old b → HasBeenFed new (b ++ rest)) → ((b : List ℕ) → HasBeenFed old b → NoFault old.base old.sizes (b ++ rest))
+pub refused_end : {T : Type 0} (result : Result T RecvError) (base : ℕ) (sizes : List ℕ) (marks : List Marks) (old new : Received) (bytes rest : List ℕ) → old.ram ≡ ram_at base → old.sizes ≡ sizes → IsFed old bytes rest → ((b : List ℕ) → HasBeenFed old b → HasBeenFed new (b ++ rest)) → ((b : List ℕ) → HasBeenFed old b → NoFault old.ram old.sizes (b ++ rest))
     → IfErr result (λ e. (b : List ℕ) → HasBeenFed new b → IsFinish b e) → IfErr result (λ e. RefusesSlice base sizes marks bytes e)
 refused_end (Ok x) base sizes marks old new bytes rest based same f on quiet h = tt
-refused_end (Err e) base sizes marks old new bytes rest based same f on quiet h = slice_cut base sizes marks bytes e (h bytes (fed_all old new bytes rest f on)) (quiet_all base sizes old bytes rest based same f quiet)
+refused_end (Err e) base sizes marks old new bytes rest based same f on quiet h = slice_cut base sizes marks bytes e (h bytes (fed_all old new bytes rest f on)) (quiet_all (ram_at base) sizes old bytes rest based same f quiet)

@@ -2,6 +2,7 @@
 use Rattle.std.proofs.Common.{◌≡◌, ℕ, ◌+◌, ◌<◌, ◌≤◌, List, [], ◌∷◌, ◌++◌, length, take, get_or, Bool, true, false, inl, inr, refl, ap, sym, subst, ◌∙◌, arith}
 use Rattle.std.proofs.lemmas.List.{length-append, length-take-le, take_more}
 use Rattle.std.proofs.lemmas.List.Elements.{All-nil, All-push}
+use Rattle.dirtylog.specs.Members.{HasNone}
 use Rattle.sha2.specs.Hashers.{Holds256}
 use Rattle.machine.specs.Effect.{Effect}
 use Rattle.machine.specs.EffectLaws.{IsSameShape}
@@ -13,15 +14,17 @@ use Rattle.wire.specs.Sinks.{SinkState}
 use Rattle.wire.specs.Stream.{IsStream}
 use Rattle.sender.specs.Calls.{Does, Serves}
 use Rattle.sender.specs.History.{History, has_fault, machine_after, nothing, onward, text, then_came}
-use Rattle.sender.specs.LiveState.{LiveSeen, now, refusal_for}
+use Rattle.sender.specs.LiveState.{HasPlaces, LiveSeen, now, refusal_for}
 use Rattle.sender.specs.Ran.{AllNameUnsteady, Leaves, Ran}
-use Rattle.sender.specs.Stopping.{HasPlaces}
 use Rattle.sender.specs.declared.event.LiveEvent.{LiveEvent}
 use Rattle.sender.specs.declared.event.LiveEvent.TheVariants.{Guest, Begin, Copy, EndRound, Stop}
 use Rattle.sender.specs.declared.event.LiveReply.{LiveReply}
 use Rattle.sender.specs.declared.event.LiveReply.TheVariants as r
 use Rattle.sender.specs.declared.phase.Phase.TheVariants as phases
 use Rattle.sender.proofs.Fresh.{told}
+use Rattle.sender.specs.Told.{IsStreamAsTold}
+use Rattle.sender.proofs.Chained.{Chain, chain_first, chain_more, was_served}
+use Rattle.sender.proofs.AsTold.{HasWritten, served_shape, stopped_stream, written_first, written_on}
 use Rattle.sender.proofs.Replaying.{SoFar, ran, ran_none, so_far_first, so_far_more}
 use Rattle.sender.proofs.Steady.{AreAlike, alike_first, keeps_on, no_replies}
 use Rattle.sender.proofs.Whole.{stopped_is_a_stream}
@@ -41,14 +44,23 @@ pub record IsSending (machine : Seen) (events : List LiveEvent) (replies : List 
   pub unsteady : AllNameUnsteady (all_marks machine) (take (length replies) events) replies
   pub unplayed : replies ≡ [] → s.machine ≡ machine
   pub stops : StopsIf stopped s replies
+  pub shape : IsSameShape (state_of machine) (now s)
+  pub written : HasWritten empty_writer replies s
+  pub chain : Chain machine empty_writer (take (length replies) events) replies s
   pub so_far : AreHonest machine → SoFar (state_of machine) empty_writer (take (length replies) events) replies s
 
-pub sending_first : (machine : Seen) (events : List LiveEvent) (replies : List LiveReply) (s : LiveSeen) → replies ≡ [] → s.machine ≡ machine → s.phase ≡ phases.Fresh → Holds256 s.digest [] → s.out ≡ empty_writer → IsSending machine events replies false s
-sending_first machine events replies s none same phase digest out = rw none (record {
+same_shape : (m : MachineState) → IsSameShape m m
+same_shape m = record { ram = refl; devices = refl; disks = refl }
+
+pub sending_first : (machine : Seen) (events : List LiveEvent) (replies : List LiveReply) (s : LiveSeen) → replies ≡ [] → s.machine ≡ machine → s.phase ≡ phases.Fresh → HasNone s.due × HasNone s.dirty → Holds256 s.digest [] → s.out ≡ empty_writer → HasPlaces s → IsSending machine events replies false s
+sending_first machine events replies s none same phase empty digest out places = rw none (record {
   alike = (let P : Seen → Type 0 = λ x. AreAlike (all_marks machine) (all_marks x) in subst P (sym same) (alike_first (all_marks machine)));
   unsteady = no_replies (all_marks machine) (take 0 events);
   unplayed = λ _. same;
   stops = All-nil IsNoStop;
+  shape = subst (λ (m : MachineState). IsSameShape (state_of machine) m) (sym (ap state_of same)) (same_shape (state_of machine));
+  written = written_first s empty_writer [] refl phase digest out;
+  chain = chain_first s machine empty_writer (take 0 events) [] refl same phase empty digest out places;
   so_far = λ honest. so_far_first s machine empty_writer (take 0 events) [] refl same phase digest out honest;
 })
 
@@ -88,6 +100,9 @@ sending_on machine events replies e reply old new below is places s g =
       unsteady = rw (long, more) kept.1;
       unplayed = λ none. absurd (omega (arith, long, ap length none));
       stops = stops_on old new e reply replies g.stops s;
+      shape = served_shape (state_of machine) old new e reply g.shape s;
+      written = written_on empty_writer replies e reply old new places s g.written;
+      chain = rw (long, more) (chain_more machine empty_writer (take n events) replies e reply old new (sym even) s g.chain);
       so_far = λ honest. rw long (so_far_more (state_of machine) empty_writer events n e e replies reply old new below is refl places s (g.so_far honest));
     }
 
@@ -121,7 +136,8 @@ answered machine source events replies stopped s sound same few g = rw same (rec
   unsteady = untaken (all_marks machine) events replies g.unsteady;
   steady = λ dev. g.alike dev;
   honest = λ honest. (g.so_far honest).relates.honest;
-  shape = λ honest. (g.so_far honest).relates.follows.shape;
+  shape = g.shape;
+  served = λ some. record { writer = s.out; was = was_served machine empty_writer events (take (length replies) events) replies s s.machine s.out refl refl refl g.chain };
   after = λ honest. record {
     writer = s.out;
     ran = ran_taken (state_of machine) (now s) events replies empty_writer s.out
@@ -138,9 +154,6 @@ not_stopped machine source events replies s sound same each g = record {
   answered = answered machine source events replies false s sound same (omega (arith, each)) g;
 }
 
-same_shape : (m : MachineState) → IsSameShape m m
-same_shape m = record { ram = refl; devices = refl; disks = refl }
-
 -- Memory was refused.
 pub not_played : (machine source : Seen) (events : List LiveEvent) (replies : List LiveReply) → replies ≡ [] → source ≡ machine → IsNotStopped machine events source replies
 not_played machine source events replies none same = rw (none, same) (record {
@@ -152,7 +165,8 @@ not_played machine source events replies none same = rw (none, same) (record {
     unsteady = no_replies (all_marks machine) events;
     steady = λ dev. refl;
     honest = λ honest. honest;
-    shape = λ honest. same_shape (state_of machine);
+    shape = same_shape (state_of machine);
+    served = λ some. absurd (some refl);
     after = λ honest. record { writer = empty_writer; ran = ran_none (state_of machine) (state_of machine) events [] empty_writer empty_writer refl refl refl };
   };
 })
@@ -174,5 +188,8 @@ is_sent machine source events replies bytes s sound same few held g = record {
   stops = g.stops.0;
   few = few;
   answered = answered machine source events replies true s sound same few g;
+  streamed =
+      let w = stopped_stream empty_writer s.out (state_of source) s (ap state_of same) refl g.written.writing g.written.flushed g.stops.1 in
+      subst (λ (b : List ℕ). IsStreamAsTold b (state_of source)) (sym (w.held refl).1 ∙ held) w.stream;
   stream = λ honest. (let P : Seen → Type 0 = λ x. IsStream bytes (state_of x) in subst P (sym same) (streams machine (take (length replies) events) replies bytes s sound g.stops.1 held (g.so_far honest)));
 }

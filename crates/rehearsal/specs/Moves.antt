@@ -32,10 +32,10 @@ TakingsStayMoving = (m : MachineState) (h : History) (out writer : SinkState) (t
 -- A receiver that was finished gave this machine. Its RAM begins at the address that the receiver was told.
 pub record GivesMachine (r : Received) (arrived : Seen) : Type 0 where
   pub stream : AreHonestDisks r.marks → (b : List ℕ) → HasBeenFed r b → IsStream b (state_of arrived)
-  pub based : base_of (state_of arrived).devices ≡ r.base
+  pub based : base_of (state_of arrived).devices ≡ r.ram.base
 
 -- Once a stop answered Ok, a receiver over honest disks that was told where RAM begins, and was fed what was taken and what was
 -- left, in any pieces, gives the machine that was stopped. The writer was honest and held nothing at first.
 abbrev pub ArrivedIsMoved : Type 0
 ArrivedIsMoved = (m : MachineState) (h : History) (out : SinkState) (taken : List ℕ) (s : LiveSeen) (r : Received) (arrived : Seen) → IsMoving m h out taken s → IsSound m → IsTrue out.honest → out.held ≡ []
-    → s.phase ≡ phases.Stopped → base_of (now s).devices ≡ r.base → AreHonestDisks r.marks → HasBeenFed r (taken ++ s.out.held) → GivesMachine r arrived → state_of arrived ≡ now s
+    → s.phase ≡ phases.Stopped → base_of (now s).devices ≡ r.ram.base → AreHonestDisks r.marks → HasBeenFed r (taken ++ s.out.held) → GivesMachine r arrived → state_of arrived ≡ now s

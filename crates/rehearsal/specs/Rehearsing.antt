@@ -14,7 +14,8 @@ use Rattle.machine.specs.declared.reply.Reply.{Reply}
 use Rattle.receiver.specs.Disks.{AreHonestDisks, IsUnsteady}
 use Rattle.receiver.specs.declared.recv_error.RecvError.{RecvError}
 use Rattle.receiver.specs.declared.recv_error.RecvError.TheVariants as errors
-use Rattle.sender.specs.Ran.{AllNameUnsteady, AllOrNone, Ran}
+use Rattle.sender.specs.Ran.{AllNameUnsteady, AllOrNone, Ran, WasServed}
+use Rattle.sender.specs.Told.{IsStreamAsTold}
 use Rattle.sender.specs.declared.event.LiveEvent.{LiveEvent}
 use Rattle.sender.specs.declared.event.LiveEvent.TheVariants.{Guest}
 use Rattle.sender.specs.declared.event.LiveReply.{LiveReply}
@@ -59,15 +60,21 @@ pub record IsAfter (m : MachineState) (events : List LiveEvent) (replies : List 
   pub writer : SinkState
   pub ran : Ran m events replies empty_writer last writer
 
+-- The same with any disks: each reply is that of its call.
+pub record WereServed (machine : Seen) (events : List LiveEvent) (replies : List LiveReply) (last : Seen) : Type 0 where
+  pub writer : SinkState
+  pub was : WasServed machine empty_writer events replies last writer
+
 -- A machine that was migrated gave these replies to the first of these events. Only a disk that is not steady is reported as
--- failed, and the disks stay as steady as they were. If they are honest they stay so, and the machine is the one after these
--- events.
+-- failed, and the disks stay as steady as they were. The machine keeps its shape. If the disks are honest they stay so, and the
+-- machine is the one after these events.
 pub record HasAnswered (machine : Seen) (events : List LiveEvent) (replies : List LiveReply) (source : Seen) : Type 0 where
   pub few : length replies ≤ length events
   pub unsteady : AllNameUnsteady (all_marks machine) events replies
   pub steady : (dev : ℕ) → (marks_at (all_marks source) dev).steady ≡ (marks_at (all_marks machine) dev).steady
   pub honest : AreHonest machine → AreHonest source
-  pub shape : AreHonest machine → IsSameShape (state_of machine) (state_of source)
+  pub shape : IsSameShape (state_of machine) (state_of source)
+  pub served : ¬ (replies ≡ []) → WereServed machine events replies source
   pub after : AreHonest machine → IsAfter (state_of machine) events replies (state_of source)
 
 -- A machine played events of the guest and gave these replies. Only a disk that is not steady is reported as failed. If the
@@ -102,12 +109,12 @@ pub record IsRefused (machine : Seen) (events : List LiveEvent) (sizes : List �
   pub answered : HasAnswered machine events replies source
   pub mismatch : ¬ (DoFit sizes machine) → error ≡ errors.ShapeMismatch
   pub unsteady : error ≡ errors.DiskFailed → IsUnsteady marks
-  pub why : AreHonest machine → TellsWhy sizes marks machine error
+  pub why : TellsWhy sizes marks machine error
 
 -- A stop answered Ok, the disks fit, and both machines played the remaining events: the machine that was migrated from its
--- state at the stop, and the machine that arrived from its state on arrival, over the disks that were given. If all disks are
--- honest, the state on arrival is that at the stop: both are runs from there, and if their outcomes are the same, the machines
--- are equal, and so are the replies.
+-- state at the stop, and the machine that arrived from its state on arrival, over the disks that were given. If these are honest,
+-- RAM and devices on arrival are those at the stop. If all disks are, so is the whole state: both are runs from there, and if their
+-- outcomes are the same, the machines are equal, and so are the replies.
 pub record IsArrival (machine : Seen) (events : List LiveEvent) (sizes : List ℕ) (marks : List Marks) (source arrived : Seen) (replies : List LiveReply) (arrived_replies : List Reply) : Type 0 where
   pub played : List LiveReply
   pub rest : List Reply
@@ -120,6 +127,8 @@ pub record IsArrival (machine : Seen) (events : List LiveEvent) (sizes : List �
   pub source_played : HasPlayed at_stop (remaining events played) rest source
   pub over : all_marks as_arrived ≡ dealt_marks (shapes_in (state_of as_arrived).devices) marks
   pub arrived_played : HasPlayed as_arrived (remaining events played) arrived_replies arrived
+  pub same_ram : AreHonestDisks marks → (state_of as_arrived).ram ≡ (state_of at_stop).ram
+  pub same_devices : AreHonestDisks marks → (state_of as_arrived).devices ≡ (state_of at_stop).devices
   pub same_start : AreHonest machine → AreHonestDisks marks → state_of as_arrived ≡ state_of at_stop
   pub source_run : AreHonest machine → IsRun (state_of at_stop) (remaining events played) (map outcome_of rest) rest (state_of source)
   pub arrived_run : AreHonest machine → AreHonestDisks marks → IsRun (state_of at_stop) (remaining events played) (map outcome_of arrived_replies) arrived_replies (state_of arrived)
@@ -137,6 +146,7 @@ pub record IsSent (machine : Seen) (events : List LiveEvent) (source : Seen) (re
   pub few : length replies ≤ length events
   pub answered : HasAnswered machine events replies source
   pub stream : AreHonest machine → IsStream bytes (state_of source)
+  pub streamed : IsStreamAsTold bytes (state_of source)
 
 -- The machine, its replies and the refusal are these.
 abbrev pub IsRefusedWith : {D E : Type 0} → Seen → List LiveReply → RecvError → Rehearsal D E → Type 0

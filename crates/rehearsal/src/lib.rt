@@ -10,12 +10,14 @@
 //! - `NotStopped` exactly if no stop returned Ok: the machine after the events, and all their replies; or, if memory
 //!   was refused before the first event, the machine as it was given, and no reply.
 //! - `Refused`: the machine at the stop, and the error: `ShapeMismatch` exactly if the disks do not fit, `DiskFailed`
-//!   only where one of them is not steady, or `NoMemory`, and no other.
+//!   only where one of them is not steady, or `NoMemory`, and no other, whatever the disks of the machine do.
 //! - `Arrived`: the disks fit. Both machines played the remaining events of the guest, the one that was migrated from
 //!   the stop on, the other as it came out of the receiver over these disks. In the replies of each, a failed disk is
-//!   one that is not steady. If the disks are honest, the machine that arrived began as the one at the stop: both are
-//!   runs from there, and with the same outcomes their replies are the same and they are equal.
-//! - In all three the replies up to the stop are those of a `replay`: its promises hold of them, over a writer in memory.
+//!   one that is not steady. If the disks that were given are honest, the machine that arrived began with the RAM and the
+//!   devices of the one at the stop. If those of the machine are honest too, it began as that one: both are runs from
+//!   there, and with the same outcomes their replies are the same and they are equal.
+//! - In all three the machine keeps its shape, and the replies up to the stop are those of a `replay`: its promises hold of
+//!   them, over a writer in memory. With any disks each of them is the reply of its call.
 //!
 //! All of this holds wherever the machine's RAM begins: the receiver is told the address at which that of the machine at the stop does.
 //!

@@ -73,8 +73,11 @@ struct Unsent<D: Disk> {
 
 /// Rehearses a migration of a machine: plays the events up to and including the first stop that returns Ok, feeds the
 /// stream in pieces of the sizes of the cuts to a receiver over the disks, and plays the remaining events of the guest
-/// on both machines. The other remaining events are skipped, and have no reply. Room for all replies is made first: if
-/// memory is refused, nothing is played.
+/// on both machines. The other remaining events are skipped, and have no reply.
+///
+/// Room for the replies of both machines is made first. If memory is refused there, nothing is played: the result is
+/// `NotStopped` with no reply. Memory may be refused later too. Refused to the stream, it is a reply that the writer
+/// failed; refused to the receiver, after the stop, the result is `Refused` with `NoMemory`.
 pub fn rehearse<D: Disk + Drop, E: Disk + Drop>(
     alloc: Global,
     machine: Machine<D>,

@@ -19,9 +19,8 @@ use Rattle.machine.specs.declared.reply.Reply.{Reply}
 use Rattle.machine.proofs.Numbering.{either_way, number_back, same_layout}
 use Rattle.machine.proofs.Within.{step_shape}
 use Rattle.wire.specs.Stream.{texts}
-use Rattle.sender.specs.LiveState.{LiveSeen, now, refusal_for, last_round, item_of}
+use Rattle.sender.specs.LiveState.{LiveSeen, HasPlaces, now, refusal_for, last_round, item_of}
 use Rattle.sender.specs.Calls.{AreCleared, Begins, Copies, EndsRound, Fails, IsSent, Stops, StopsShort, in_either, with_items}
-use Rattle.sender.specs.Stopping.{HasPlaces}
 use Rattle.sender.specs.History.{History, then_came, machine_after, went, touches, sends, is_stale, is_due, is_begun, phase_of, next_phase, sent, written, NoneBelow, is_numbered}
 use Rattle.sender.specs.Follows.{SetsAgree, AgreesIn, Follows}
 use Rattle.sender.specs.declared.phase.Phase.{Phase}
@@ -203,7 +202,7 @@ guest_follows m h e reply old new f places g due = record {
 
 -- The beginning.
 
-fresh_if : (p : Phase) → refusal_for p Begin ≡ None → p ≡ phases.Fresh
+pub fresh_if : (p : Phase) → refusal_for p Begin ≡ None → p ≡ phases.Fresh
 fresh_if phases.Fresh free = refl
 fresh_if (phases.Open k) free = cc
 fresh_if phases.Stopped free = cc

@@ -36,7 +36,7 @@ told None A B h = inl (refl, h)
 told (Some x) A B h = inr (x, refl, h)
 
 -- The machine keeps its shape.
-same_as_it_is : (m : MachineState) → IsSameShape m m
+pub same_as_it_is : (m : MachineState) → IsSameShape m m
 same_as_it_is m = record { ram = refl; devices = refl; disks = refl }
 
 pub same_shape_after : (m k n : MachineState) → IsSameShape m k → IsSameShape k n → IsSameShape m n
@@ -63,14 +63,14 @@ shape_after m nothing a = same_as_it_is m
 shape_after m (then_came h e reply c) a = same_shape_after m (machine_after m h) (went (machine_after m h) e reply c) (shape_after m h a.0) (shape_went m h e reply c a.1)
 
 -- An item that an event does not touch stays.
-not_among : (l : Layout) (is : List items.Item) (it : items.Item) → is_numbered l is (number_of l it) ≡ false → ¬ (Among is it)
+pub not_among : (l : Layout) (is : List items.Item) (it : items.Item) → is_numbered l is (number_of l it) ≡ false → ¬ (Among is it)
 not_among l [] it none h = h
 not_among l (i ∷ is) it none (inl e) =
     let parts = or_parts (eqb (number_of l it) (number_of l i)) (is_numbered l is (number_of l it)) none in
     eqb-false (number_of l it) (number_of l i) parts.0 (ap (number_of l) e)
 not_among l (i ∷ is) it none (inr h) = not_among l is it (or_parts (eqb (number_of l it) (number_of l i)) (is_numbered l is (number_of l it)) none).1 h
 
-item_stays : (m : MachineState) (c : Effect) (it : items.Item) → ¬ (Among (items_of c) it) → record_of (applied m c) it ≡ record_of m it
+pub item_stays : (m : MachineState) (c : Effect) (it : items.Item) → ¬ (Among (items_of c) it) → record_of (applied m c) it ≡ record_of m it
 item_stays m c (items.page n) none = ap (page_record 2 n) (untouched m c (items.page n) none)
 item_stays m c (items.sector d n) none = ap (λ x. sector d n (content_of x)) (untouched m c (items.sector d n) none)
 
@@ -106,7 +106,7 @@ named_none p n k x is = elim (either_way (eqb n k)) as (λ _. cond (p n && ltb n
   | inr e ↦ rw (ltb_suc n k (eqb-false n k e)) refl
 ]
 
-chosen_named : (m : MachineState) (p : ℕ → Bool) (k i : ℕ) → k ≤ size_of (layout_of m) → i < size_of (layout_of m)
+pub chosen_named : (m : MachineState) (p : ℕ → Bool) (k i : ℕ) → k ≤ size_of (layout_of m) → i < size_of (layout_of m)
     → last_named (item_at (layout_of m) i) (records_of m (chosen p k)) ≡ cond (p i && ltb i k) (Some (record_of m (item_at (layout_of m) i))) None
 chosen_named m p zero i le low = named_nothing (item_at (layout_of m) i) ∙ rw (is_past i 0 (omega arith), and-false (p i)) refl
 chosen_named m p (suc k) i le low =

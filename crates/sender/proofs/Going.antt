@@ -15,9 +15,8 @@ use Rattle.machine.specs.declared.event.Event.TheVariants as events
 use Rattle.machine.proofs.Honest.{honest_effect}
 use Rattle.machine.proofs.Numbering.{same_layout}
 use Rattle.std.specs.Prelude.{All, IsTrue}
-use Rattle.sender.specs.LiveState.{LiveSeen, now, refusal_for, chosen, how_many, item_of, pages_among, sectors_among}
+use Rattle.sender.specs.LiveState.{LiveSeen, HasPlaces, now, refusal_for, chosen, how_many, item_of, pages_among, sectors_among}
 use Rattle.sender.specs.Calls.{Serves, Does, AfterBegin, AfterCopy, AfterRound, AfterStop, Guests, Stops, StopsShort, in_either}
-use Rattle.sender.specs.Stopping.{HasPlaces}
 use Rattle.sender.specs.History.{History, then_came, machine_after, is_stale, is_due, phase_of, AllowedBy, AllowedGuest, AllowedBegin, AllowedCopy, AllowedRound, AllowedStop, IsGoodIn, IsLeastDue, IsStaleItem, NoneBelow, IsNextRound, IsItsChange}
 use Rattle.sender.specs.Follows.{CallsFollow, Follows, GoesOn, SetsAgree}
 use Rattle.sender.specs.declared.phase.Phase.{Phase}

@@ -30,9 +30,8 @@ use Rattle.sender.specs.Calls.{Serves, with_items}
 use Rattle.sender.specs.Dirty.{set_once, set_order}
 use Rattle.sender.specs.Follows.{Relates}
 use Rattle.sender.specs.History.{History, guest_events, text, then_came}
-use Rattle.sender.specs.LiveState.{LiveSeen, now}
+use Rattle.sender.specs.LiveState.{HasPlaces, LiveSeen, now}
 use Rattle.sender.specs.Parked.{AreServed, BackGoesOn, IsLiveParked, KeepsWord, LiveBackFollows, LiveBackIsServed, LiveParkedSeen, live_back, page_writes, with_pages, live_base}
-use Rattle.sender.specs.Stopping.{HasPlaces}
 use Rattle.sender.specs.declared.event.LiveEvent.TheVariants.{Guest}
 use Rattle.sender.specs.declared.event.LiveReply.TheVariants as r
 use Rattle.sender.specs.declared.phase.Phase.{Phase}

@@ -18,7 +18,7 @@ use Rattle.machine.proofs.Numbering.{in_layout, number_below, same_layout}
 use Rattle.wire.specs.Sinks.{SinkState}
 use Rattle.sender.specs.Calls.{EndsRound, Serves, with_items}
 use Rattle.sender.specs.Dirty.{HasFirst, after_taking, may_take}
-use Rattle.sender.specs.LiveState.{LiveSeen, last_round, refusal_for}
+use Rattle.sender.specs.LiveState.{HasPlaces, LiveSeen, last_round, refusal_for}
 use Rattle.sender.specs.Stopping.{IsLive, RoundFits}
 use Rattle.sender.specs.declared.dirty.Dirty.{Dirty}
 use Rattle.sender.specs.declared.phase.Phase.{Phase}
@@ -75,6 +75,9 @@ live_first machine left set_ firsts size sound are is few l s =
       reached = omega arith;
       passed = λ k below. absurd (omega (arith, below));
     }
+
+pub live_places : (s : LiveSeen) (firsts : List ℕ) (at : ℕ) → IsLive s.machine s.phase s.due s.dirty firsts at → HasPlaces s
+live_places s firsts at live = record { sound = live.sound; few = live.few; due_size = live.room.due_size; dirty_size = live.room.dirty_size }
 
 -- The machine is of the same shape, the sets keep their lengths, and the next due item is looked for from another number on.
 live_next : (old new : Seen) (p q : Phase) (due new_due dirty new_dirty : List Bool) (firsts new_firsts : List ℕ) (at new_at : ℕ) → IsLive old p due dirty firsts at → IsSound (state_of new) → layout_of (state_of new) ≡ layout_of (state_of old) → length new_due ≡ length due → length new_dirty ≡ length dirty

@@ -7,8 +7,8 @@ use Rattle.dirtylog.specs.Members.{IsLeastFrom, has}
 use Rattle.machine.specs.Layout.{pages_of}
 use Rattle.machine.proofs.Numbering.{either_way}
 use Rattle.sender.specs.Calls.{in_either}
-use Rattle.sender.specs.LiveState.{LiveSeen, now}
-use Rattle.sender.specs.Stopping.{HasNoneUpTo, HasPlaces, SendsOk, lesser, one_more}
+use Rattle.sender.specs.LiveState.{HasPlaces, LiveSeen, now}
+use Rattle.sender.specs.Stopping.{HasNoneUpTo, SendsOk, lesser, one_more}
 use Rattle.sender.specs.declared.event.Item.{Item}
 use Rattle.sender.specs.declared.event.Stopped.{Stopped}
 use Rattle.sender.proofs.Living.{member_below, still_none}

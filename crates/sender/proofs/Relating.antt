@@ -15,9 +15,8 @@ use Rattle.machine.specs.declared.event.Event.TheVariants as events
 use Rattle.machine.specs.declared.reply.Reply.{Reply}
 use Rattle.machine.proofs.Numbering.{either_way}
 use Rattle.wire.specs.Sinks.{SinkState}
-use Rattle.sender.specs.LiveState.{LiveSeen, refusal_for}
+use Rattle.sender.specs.LiveState.{HasPlaces, LiveSeen, refusal_for}
 use Rattle.sender.specs.Calls.{AfterBegin, AfterCopy, AfterRound, AfterStop, Does, Fails, Guests, IsUnread, Serves, Took}
-use Rattle.sender.specs.Stopping.{HasPlaces}
 use Rattle.sender.specs.History.{History, nothing, then_came, machine_after, is_stale, phase_of, next_phase, text, written, is_fault, has_fault}
 use Rattle.sender.specs.Follows.{Relates, count_after}
 use Rattle.sender.specs.declared.phase.Phase.{Phase}
@@ -198,7 +197,7 @@ module _ (m : MachineState) (h : History) (out : SinkState) (e : LiveEvent) (rep
         (writes m h old new g.follows (text m h) e reply a.0 a.1).taken none not_stop g.honest (g.taken before was)
     | inr b ↦
         let was : phase_of h ≢ phases.Stopped = elim (was_going (phase_of h) reply none next) as (λ _. phase_of h ≢ phases.Stopped) [ inl x ↦ x | inr y ↦ (let wrong : r.Begun y.0 ≡ r.Mig b.0 = sym y.1 ∙ b.2.0 in cc) ] in
-        rw b.2.0 ((refused_wrote m h old new g.follows (text m h) e b.0 (no_disk old.phase e b.0 b.1) b.2.1).taken g.honest (text m h) (g.taken before was))
+        rw b.2.0 ((refused_wrote m h old new g.follows (text m h) e b.0 (no_disk old.phase e b.0 b.1) b.2.1).taken (text m h) (g.taken before was))
   ]
 
   fault_more : (has_fault h || is_fault reply) ≡ true → new.phase ≡ phases.Failed
@@ -226,7 +225,7 @@ module _ (m : MachineState) (h : History) (out : SinkState) (e : LiveEvent) (rep
   held_more none honest =
       let parts = or_parts (has_fault h) (is_fault reply) none in
       let before = g.held parts.0 honest in
-      let more = (took_now parts.0 parts.1).holds g.honest before.0 in
+      let more = (took_now parts.0 parts.1).holds before.0 in
       (more.0, more.1 ∙ ap (λ (x : List ℕ). x ++ here) before.1 ∙ append_assoc out.held (text m h) here)
 
   pub relates_on : GoneOn m h out e reply new

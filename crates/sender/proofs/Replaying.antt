@@ -11,9 +11,8 @@ use Rattle.machine.proofs.Numbering.{either_way}
 use Rattle.machine.specs.Sound.{IsSound}
 use Rattle.wire.specs.Sinks.{SinkState}
 use Rattle.wire.specs.Stream.{IsStream}
-use Rattle.sender.specs.LiveState.{LiveSeen, now}
+use Rattle.sender.specs.LiveState.{HasPlaces, LiveSeen, now}
 use Rattle.sender.specs.Calls.{Serves}
-use Rattle.sender.specs.Stopping.{HasPlaces}
 use Rattle.sender.specs.History.{History, has_fault, nothing, onward, phase_of, text, then_came}
 use Rattle.sender.specs.Follows.{Relates}
 use Rattle.sender.specs.Ran.{Ran}

@@ -1,5 +1,5 @@
 -- What the calls of a machine that is sent leave.
-use Rattle.std.proofs.Common.{◌≡◌, ℕ, Bool, false, List, [], ◌∷◌, ◌++◌, map, set, None, refl, sym, ap, ◌∙◌, append_assoc, append-nil}
+use Rattle.std.proofs.Common.{◌≡◌, ℕ, Bool, false, List, ◌++◌, map, set, None, refl, ap, subst, ◌∙◌, append_assoc}
 use Rattle.std.specs.Prelude.{Ok, Err}
 use Rattle.sha2.specs.Hashers.{Holds256}
 use Rattle.sha2.specs.Sha256.{sha256}
@@ -13,11 +13,12 @@ use Rattle.machine.specs.declared.shape.Shape.{Shape}
 use Rattle.wire.specs.Header.{header, opening_of}
 use Rattle.wire.specs.Records.{commit, spelled_record}
 use Rattle.wire.specs.Sinks.{Appends, SinkState, Takes}
-use Rattle.wire.specs.Stream.{device_texts, record_of, texts}
+use Rattle.wire.specs.Stream.{device_texts, record_of}
 use Rattle.sender.specs.Calls.{Begins, Serves, Took, Wrote}
-use Rattle.sender.specs.LiveState.{LiveSeen, closing, header_of, item_of, now, record_at, records_of, refusal_for}
-use Rattle.sender.specs.Saving.{NamesItem, Sends, TakesOn}
+use Rattle.sender.specs.LiveState.{LiveSeen, closing, header_of, item_of, now, refusal_for}
+use Rattle.sender.specs.Saving.{AddsItem, NamesItem, Sends}
 use Rattle.sender.specs.Stopping.{RoundFits, SendsItem, SendsOk, phase_after}
+use Rattle.sender.specs.Told.{IsTold}
 use Rattle.sender.specs.declared.event.Item.{Item}
 use Rattle.sender.specs.declared.mig_error.MigError.{MigError}
 use Rattle.sender.specs.declared.mig_error.MigError.TheVariants as errors
@@ -28,7 +29,7 @@ use Rattle.sender.proofs.Living.{seen_same}
 
 -- What was written.
 pub wrote_by : {A E : Type 0} (old new : LiveSeen) (x y : List ℕ) (done : A) → x ≡ y → Appends {E = E} old.out x (Ok done) new.out → Takes (λ b. Holds256 old.digest b) x (λ b. Holds256 new.digest b) → Wrote old new y
-wrote_by old new x y done e appends takes = rw (← e) (record { took = record { count = appends.count; holds = λ disks. appends.holds }; taken = λ disks. takes })
+wrote_by old new x y done e appends takes = rw (← e) (record { took = record { count = appends.count; holds = appends.holds }; taken = takes })
 
 pub header_told : (m : MachineState) (pages : ℕ) (shapes : List Shape) → pages ≡ pages_of m → shapes ≡ map (λ (d : DeviceState). made_as d.kind) m.devices → header (opening_of pages shapes) ≡ header_of m
 header_told m pages shapes e f = rw (e, f) refl
@@ -37,24 +38,19 @@ pub served_begin : (old new : LiveSeen) → refusal_for old.phase events.Begin �
 served_begin old new free begins = rw free (refl, begins)
 
 -- One item.
-one_text : (m : MachineState) (i : ℕ) → texts (records_of m (i ∷ [])) ≡ spelled_record (record_at m i)
-unfolding texts
-one_text m i = append-nil (spelled_record (record_at m i))
-
-text_of : (m : MachineState) (i : ℕ) (item : items.Item) → item ≡ item_at (layout_of m) i → spelled_record (record_of m item) ≡ texts (records_of m (i ∷ []))
-text_of m i item is = ap (λ x. spelled_record (record_of m x)) is ∙ sym (one_text m i)
-
 pub item_sent : {A : Type 0} (old new : LiveSeen) (i : ℕ) (item : Item) (done : A) → item_of item ≡ item_at (layout_of (now old)) i → Sends old.machine old.out (spelled_record (record_of (now old) (item_of item))) (Ok done) new.machine new.out
-    → TakesOn old.machine (λ b. Holds256 old.digest b) (spelled_record (record_of (now old) (item_of item))) (Ok done) (λ b. Holds256 new.digest b)
+    → AddsItem old.machine (item_of item) old.out (λ b. Holds256 old.digest b) new.out (λ b. Holds256 new.digest b)
     → new.phase ≡ old.phase → new.due ≡ set old.due i false → new.dirty ≡ set old.dirty i false → SendsOk old i item new
-item_sent old new i item done is sends takes phase due dirty = record {
+item_sent old new i item done is sends adds phase due dirty = record {
   item_is = is;
   sent = record {
     machine = seen_same old.machine new.machine sends.memory sends.state sends.marks sends.flushed;
     phase = phase;
     due = due;
     dirty = dirty;
-    wrote = rw (← text_of (now old) i (item_of item) is) (record { took = record { count = sends.count; holds = sends.holds }; taken = takes });
+    entry = adds.entry;
+    told = subst (λ (x : items.Item). IsTold old.machine x adds.entry) is adds.told;
+    wrote = record { took = record { count = sends.count; holds = adds.holds }; taken = adds.takes };
   };
 }
 
@@ -100,7 +96,7 @@ closing_took old new mid digest sum done ended devices takes is_sum ends b held 
     let is : sum ≡ sha256 (b ++ d) = is_sum (b ++ d) (takes b held) in
     record {
       count = ends.count ∙ devices.count;
-      holds = λ disks honest.
+      holds = λ honest.
           let one = devices.holds honest in
           let two = ends.holds one.0 in
           (two.0, two.1 ∙ ap (λ held. held ++ spelled_record (commit sum)) one.1 ∙ append_assoc old.out.held d (spelled_record (commit sum)) ∙ ap (λ s. old.out.held ++ (d ++ spelled_record (commit s))) is);

@@ -1,30 +1,32 @@
 -- Items sent one after another.
 use Rattle.std.proofs.Common.{◌≡◌, ◌≢◌, ◌^◌, ◌-◌, ℕ, zero, suc, add-one, ◌+◌, ◌<◌, ◌≤◌, List, [], ◌∷◌, ◌++◌, length, None, Ok, Err, Bool, true, false, cond, ◌&&◌, not, nat_lt, refl, ap, sym, subst, ◌∙◌, append_assoc, append-nil, ◌⊎◌, inl, inr, arith}
 use Rattle.sender.proofs.Living.{member_below}
-use Rattle.std.proofs.lemmas.List.{map-append, get_or-set_same, get_or-set_other, length-set}
+use Rattle.std.proofs.lemmas.List.{get_or-set_same, get_or-set_other, length-set}
 use Rattle.dirtylog.specs.Members.{HasNone, IsLeast}
 use Rattle.sha2.specs.Hashers.{Holds256}
 use Rattle.guestmem.specs.Item as items
 use Rattle.machine.specs.Layout.{item_at, layout_of, pages_of, size_of}
-use Rattle.machine.specs.Seen.{AreHonest, Seen, state_of}
+use Rattle.machine.specs.Seen.{Seen, state_of}
 use Rattle.wire.specs.Stream.{texts}
 use Rattle.wire.specs.Records.{Record, spelled_record}
 use Rattle.sender.specs.Calls.{AreCleared, AreSent, Fails, IsSent, Serves, Took, Wrote, in_either}
-use Rattle.sender.specs.LiveState.{LiveSeen, chosen, closing, how_many, now, pages_among, records_of, refusal_for, sectors_among}
-use Rattle.sender.specs.Stopping.{AllSent, Closes, HasPlaces, IsClosed, SendsAll, SendsItem, SendsOk, one_more}
+use Rattle.sender.specs.LiveState.{HasPlaces, LiveSeen, chosen, closing, how_many, now, pages_among, refusal_for, sectors_among}
+use Rattle.sender.specs.Stopping.{AllSent, Closes, IsClosed, SendsAll, SendsItem, SendsOk, one_more}
+use Rattle.sender.specs.Told.{IsTold}
 use Rattle.sender.specs.declared.event.Item.{Item}
 use Rattle.sender.specs.declared.event.Stopped.{Stopped}
 use Rattle.sender.specs.declared.mig_error.MigError.{MigError}
 use Rattle.sender.specs.declared.mig_error.MigError.TheVariants as errors
 use Rattle.sender.specs.declared.event.LiveEvent.TheVariants as events
 use Rattle.sender.specs.declared.event.LiveReply.TheVariants as r
+use Rattle.sender.proofs.Told.{told_more}
 
 or_equal : (m n : ℕ) → m ≤ suc n → (m ≤ n) ⊎ (m ≡ suc n)
 or_equal zero n h = inl (omega arith)
 or_equal (suc m) zero h = inr (omega (arith, h))
 or_equal (suc m) (suc n) h = elim (or_equal m n (omega (arith, h))) as (λ _. (suc m ≤ suc n) ⊎ (suc m ≡ suc (suc n))) [ inl a ↦ inl (omega (arith, a)) | inr b ↦ inr (ap suc b) ]
 
-chosen_none : (p : ℕ → Bool) (at i : ℕ) → at ≤ i → ((k : ℕ) → at ≤ k → k < i → p k ≡ false) → chosen p i ≡ chosen p at
+pub chosen_none : (p : ℕ → Bool) (at i : ℕ) → at ≤ i → ((k : ℕ) → at ≤ k → k < i → p k ≡ false) → chosen p i ≡ chosen p at
 chosen_none p at zero h none = let e : at ≡ 0 = omega (arith, h) in rw e refl
 chosen_none p at (suc i) h none =
     elim (or_equal at i h) as (λ _. chosen p (suc i) ≡ chosen p at) [
@@ -32,7 +34,7 @@ chosen_none p at (suc i) h none =
       | inr e ↦ rw e refl
     ]
 
-chosen_more : (p : ℕ → Bool) (i : ℕ) → p i ≡ true → chosen p (i + 1) ≡ chosen p i ++ i ∷ []
+pub chosen_more : (p : ℕ → Bool) (i : ℕ) → p i ≡ true → chosen p (i + 1) ≡ chosen p i ++ i ∷ []
 chosen_more p i is = rw (add-one, is) refl
 
 how_many_le : (p : ℕ → Bool) (n : ℕ) → how_many p n ≤ n
@@ -50,18 +52,21 @@ unfolding texts
 texts-append [] ss = refl
 texts-append (x ∷ rs) ss = ap (λ (t : List ℕ). spelled_record x ++ t) (texts-append rs ss) ∙ sym (append_assoc (spelled_record x) (texts rs) (texts ss))
 
+pub one_text : (x : Record) → texts (x ∷ []) ≡ spelled_record x
+unfolding texts
+one_text x = append-nil (spelled_record x)
+
 -- What was written is written on.
-pub took_more : (old mid new : LiveSeen) (xs ys : List ℕ) → mid.machine ≡ old.machine → Took old mid xs → Took mid new ys → Took old new (xs ++ ys)
-took_more old mid new xs ys same h k = record {
+pub took_more : (old mid new : LiveSeen) (xs ys : List ℕ) → Took old mid xs → Took mid new ys → Took old new (xs ++ ys)
+took_more old mid new xs ys h k = record {
   count = k.count ∙ h.count;
-  holds = λ disks honest. let a = h.holds disks honest in let b = k.holds (subst AreHonest (sym same) disks) a.0 in
-      (b.0, b.1 ∙ ap (λ (x : List ℕ). x ++ ys) a.1 ∙ append_assoc old.out.held xs ys);
+  holds = λ honest. let a = h.holds honest in let b = k.holds a.0 in (b.0, b.1 ∙ ap (λ (x : List ℕ). x ++ ys) a.1 ∙ append_assoc old.out.held xs ys);
 }
 
-pub wrote_more : (old mid new : LiveSeen) (xs ys : List ℕ) → mid.machine ≡ old.machine → Wrote old mid xs → Wrote mid new ys → Wrote old new (xs ++ ys)
-wrote_more old mid new xs ys same h k = record {
-  took = took_more old mid new xs ys same h.took k.took;
-  taken = λ disks b held. let P : List ℕ → Type 0 = λ x. Holds256 new.digest x in subst P (append_assoc b xs ys) (k.taken (subst AreHonest (sym same) disks) (b ++ xs) (h.taken disks b held));
+pub wrote_more : (old mid new : LiveSeen) (xs ys : List ℕ) → Wrote old mid xs → Wrote mid new ys → Wrote old new (xs ++ ys)
+wrote_more old mid new xs ys h k = record {
+  took = took_more old mid new xs ys h.took k.took;
+  taken = λ b held. let P : List ℕ → Type 0 = λ x. Holds256 new.digest x in subst P (append_assoc b xs ys) (k.taken (b ++ xs) (h.taken b held));
 }
 
 -- Sets that lose their first items.
@@ -78,7 +83,7 @@ cleared_to old mid at i h le none = record {
 sent_to : (old mid : LiveSeen) (at i : ℕ) → AreSent old at mid → at ≤ i → ((k : ℕ) → at ≤ k → k < i → in_either mid k ≡ false) → AreSent old i mid
 sent_to old mid at i h le none =
     let same : chosen (in_either old) i ≡ chosen (in_either old) at = chosen_none (in_either old) at i le (λ k l b. sym (either_same old mid at k h.sets l) ∙ none k l b) in
-    record { machine = h.machine; phase = h.phase; sets = cleared_to old mid at i h.sets le none; wrote = rw same h.wrote }
+    record { machine = h.machine; phase = h.phase; sets = cleared_to old mid at i h.sets le none; entries = h.entries; told = rw same h.told; wrote = h.wrote }
 
 gone_at : (old mid new : LiveSeen) (i k : ℕ) → AreCleared old i mid → i < length mid.due → i < length mid.dirty → IsSent mid i new → k < i + 1 → in_either new k ≡ false
 gone_at old mid new i k h due_in dirty_in sent below =
@@ -99,15 +104,15 @@ cleared_more old mid new i h due_in dirty_in sent = record {
 sent_one : (old mid new : LiveSeen) (i : ℕ) → AreSent old i mid → i < length mid.due → i < length mid.dirty → in_either mid i ≡ true → IsSent mid i new → AreSent old (i + 1) new
 sent_one old mid new i h due_in dirty_in member sent =
     let is : in_either old i ≡ true = sym (either_same old mid i i h.sets (omega arith)) ∙ member in
-    let m = now old in
-    let all : texts (records_of m (chosen (in_either old) (i + 1))) ≡ texts (records_of m (chosen (in_either old) i)) ++ texts (records_of m (i ∷ [])) =
-    ap texts (rw (chosen_more (in_either old) i is) (map-append _ (chosen (in_either old) i) (i ∷ []))) ∙ texts-append (records_of m (chosen (in_either old) i)) (records_of m (i ∷ [])) in
-    let last : Wrote mid new (texts (records_of m (i ∷ []))) = let P : Seen → Type 0 = λ x. Wrote mid new (texts (records_of (state_of x) (i ∷ []))) in subst P h.machine sent.wrote in
+    let all : texts (h.entries ++ sent.entry ∷ []) ≡ texts h.entries ++ spelled_record sent.entry = texts-append h.entries (sent.entry ∷ []) ∙ ap (λ (t : List ℕ). texts h.entries ++ t) (one_text sent.entry) in
+    let last : IsTold old.machine (item_at (layout_of (now old)) i) sent.entry = let P : Seen → Type 0 = λ x. IsTold x (item_at (layout_of (state_of x)) i) sent.entry in subst P h.machine sent.told in
     record {
       machine = sent.machine ∙ h.machine;
       phase = sent.phase ∙ h.phase;
       sets = cleared_more old mid new i h.sets due_in dirty_in sent;
-      wrote = rw all (wrote_more old mid new _ _ h.machine h.wrote last);
+      entries = h.entries ++ sent.entry ∷ [];
+      told = rw (chosen_more (in_either old) i is) (told_more old.machine (chosen (in_either old) i) h.entries i sent.entry h.told last);
+      wrote = rw all (wrote_more old mid new (texts h.entries) (spelled_record sent.entry) h.wrote sent.wrote);
     }
 
 -- One more item in the counts.
@@ -150,9 +155,11 @@ nothing_sent old = record {
   machine = refl;
   phase = refl;
   sets = record { gone = λ i below. absurd (omega (arith, below)); due = λ i le. refl; dirty = λ i le. refl };
+  entries = [];
+  told = tt;
   wrote = record {
-    took = record { count = refl; holds = λ disks honest. (honest, sym (append-nil old.out.held)) };
-    taken = λ disks b held. (let P : List ℕ → Type 0 = λ x. Holds256 old.digest x in subst P (sym (append-nil b)) held);
+    took = record { count = refl; holds = λ honest. (honest, sym (append-nil old.out.held)) };
+    taken = λ b held. (let P : List ℕ → Type 0 = λ x. Holds256 old.digest x in subst P (sym (append-nil b)) held);
   };
 }
 
@@ -277,16 +284,18 @@ cleared_on old mid new to h due dirty = record {
 pub stops : (old mid new : LiveSeen) (pages sectors : ℕ) → refusal_for old.phase events.Stop ≡ None → AllSent old pages sectors mid → IsClosed mid new → Serves old events.Stop (r.Stopped pages sectors) new
 stops old mid new pages sectors free s c =
     let n = size_of (layout_of (now old)) in
-    let sent = texts (records_of (now old) (chosen (in_either old) n)) in
+    let sent = texts s.are_sent.entries in
     rw free (record {
       machine = c.machine ∙ s.are_sent.machine;
       phase = c.phase;
       sets = cleared_on old mid new n s.are_sent.sets c.due c.dirty;
       count = c.count ∙ s.are_sent.wrote.took.count;
       flushed = c.flushed;
-      took = λ disks b held.
+      entries = s.are_sent.entries;
+      told = s.are_sent.told;
+      took = λ b held.
           let P : Seen → Type 0 = λ x. Took mid new (closing (state_of x) (b ++ sent)) in
-          took_more old mid new sent (closing (now old) (b ++ sent)) s.are_sent.machine s.are_sent.wrote.took (subst P s.are_sent.machine (c.took (b ++ sent) (s.are_sent.wrote.taken disks b held)));
+          took_more old mid new sent (closing (now old) (b ++ sent)) s.are_sent.wrote.took (subst P s.are_sent.machine (c.took (b ++ sent) (s.are_sent.wrote.taken b held)));
       pages_are = s.pages_are;
       sectors_are = s.sectors_are;
     })

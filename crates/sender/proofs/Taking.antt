@@ -6,8 +6,7 @@ use Rattle.wire.specs.Stream.{IsStream}
 use Rattle.machine.specs.declared.event.Event.{Event}
 use Rattle.sender.specs.Calls.{AfterBegin, AfterCopy, AfterRound, AfterStop, AreSent, Begins, Copies, CopyFails, Does, EndsRound, Fails, Guests, IsSent, IsUnread, Stops, StopsShort, Took, Wrote}
 use Rattle.sender.specs.History.{has_fault, text}
-use Rattle.sender.specs.LiveState.{LiveSeen, refusal_for}
-use Rattle.sender.specs.Stopping.{HasPlaces}
+use Rattle.sender.specs.LiveState.{HasPlaces, LiveSeen, refusal_for}
 use Rattle.sender.specs.Taking.{CallsIgnoreTaken, TakenAreWhole, TakenFollow, untaken}
 use Rattle.sender.specs.declared.event.Item.{Item}
 use Rattle.sender.specs.declared.event.LiveEvent.{LiveEvent}
@@ -27,7 +26,7 @@ module _ (taken : List ℕ) where
   took : (old new : LiveSeen) (bytes : List ℕ) → Took old new bytes → Took (U old) (U new) bytes
   took old new bytes t = record {
     count = t.count;
-    holds = λ honest sink. (let h = t.holds honest sink in (h.0, ap (λ (l : List ℕ). taken ++ l) h.1 ∙ sym (append_assoc taken old.out.held bytes)));
+    holds = λ sink. (let h = t.holds sink in (h.0, ap (λ (l : List ℕ). taken ++ l) h.1 ∙ sym (append_assoc taken old.out.held bytes)));
   }
 
   wrote : (old new : LiveSeen) (bytes : List ℕ) → Wrote old new bytes → Wrote (U old) (U new) bytes
@@ -37,7 +36,7 @@ module _ (taken : List ℕ) where
   fails old new f = record { machine = f.machine; phase = f.phase; count = f.count }
 
   sent : (old : LiveSeen) (i : ℕ) (new : LiveSeen) → IsSent old i new → IsSent (U old) i (U new)
-  sent old i new s = record { machine = s.machine; phase = s.phase; due = s.due; dirty = s.dirty; wrote = wrote old new _ s.wrote }
+  sent old i new s = record { machine = s.machine; phase = s.phase; due = s.due; dirty = s.dirty; entry = s.entry; told = s.told; wrote = wrote old new _ s.wrote }
 
   unread : (old : LiveSeen) (dev n : ℕ) (new : LiveSeen) → IsUnread old dev n new → IsUnread (U old) dev n (U new)
   unread old dev n new u = record { memory = u.memory; state = u.state; flushed = u.flushed; marks = u.marks; unsteady = u.unsteady; good = u.good; rest = ap U u.rest }
@@ -61,13 +60,15 @@ module _ (taken : List ℕ) where
     sets = record { gone = s.sets.gone; due = s.sets.due; dirty = s.sets.dirty };
     count = s.count;
     flushed = s.flushed;
-    took = λ honest b holds. took old new _ (s.took honest b holds);
+    entries = s.entries;
+    told = s.told;
+    took = λ b holds. took old new _ (s.took b holds);
     pages_are = s.pages_are;
     sectors_are = s.sectors_are;
   }
 
   are_sent : (old : LiveSeen) (to : ℕ) (new : LiveSeen) → AreSent old to new → AreSent (U old) to (U new)
-  are_sent old to new s = record { machine = s.machine; phase = s.phase; sets = record { gone = s.sets.gone; due = s.sets.due; dirty = s.sets.dirty }; wrote = wrote old new _ s.wrote }
+  are_sent old to new s = record { machine = s.machine; phase = s.phase; sets = record { gone = s.sets.gone; due = s.sets.due; dirty = s.sets.dirty }; entries = s.entries; told = s.told; wrote = wrote old new _ s.wrote }
 
   stops_short : (old : LiveSeen) (dev n : ℕ) (new : LiveSeen) → StopsShort old dev n new → StopsShort (U old) dev n (U new)
   stops_short old dev n new s = record {

@@ -18,8 +18,8 @@ use Rattle.wire.specs.Sinks.{SinkState}
 use Rattle.wire.specs.Stream.{texts}
 use Rattle.sender.specs.Follows.{Relates}
 use Rattle.sender.specs.History.{History, has_fault, text, then_came}
-use Rattle.sender.specs.LiveState.{LiveSeen, now}
-use Rattle.sender.specs.Stopping.{HasPlaces, IsLive}
+use Rattle.sender.specs.LiveState.{HasPlaces, LiveSeen, now}
+use Rattle.sender.specs.Stopping.{IsLive}
 use Rattle.sender.specs.Taking.{untaken}
 use Rattle.sender.specs.Unsynced.{FailsLiveFlush, FailsLiveFlushIf, FailureFollows, FailureGoesOn, TakenFailureFollows, TriesFlush}
 use Rattle.sender.specs.declared.event.LiveEvent.TheVariants.{Guest}

@@ -73,7 +73,7 @@ rounds_item (device n bytes ∷ rs) m i = rounds_item rs m i
 rounds_item (commit digest ∷ rs) m i = rounds_item rs m i
 rounds_item (zero_page z ∷ rs) m i = rounds_item rs m i
 
-numbered_round : (k : ℕ) (rs : List Record) (n : ℕ) → AreNumbered k rs → n ≡ k + rounds rs → AreNumbered k (rs ++ round_end n ∷ [])
+pub numbered_round : (k : ℕ) (rs : List Record) (n : ℕ) → AreNumbered k rs → n ≡ k + rounds rs → AreNumbered k (rs ++ round_end n ∷ [])
 unfolding rounds
 numbered_round k [] n h is = (omega (arith, is), tt)
 numbered_round k (page j bytes ∷ rs) n h is = numbered_round k rs n h is
@@ -83,7 +83,7 @@ numbered_round k (device j bytes ∷ rs) n h is = numbered_round k rs n h is
 numbered_round k (commit digest ∷ rs) n h is = numbered_round k rs n h is
 numbered_round k (zero_page z ∷ rs) n h is = numbered_round k rs n h is
 
-rounds_round : (rs : List Record) (n : ℕ) → rounds (rs ++ round_end n ∷ []) ≡ rounds rs + 1
+pub rounds_round : (rs : List Record) (n : ℕ) → rounds (rs ++ round_end n ∷ []) ≡ rounds rs + 1
 unfolding rounds
 rounds_round [] n = refl
 rounds_round (page j bytes ∷ rs) n = rounds_round rs n
@@ -110,7 +110,7 @@ and_not false = refl
 entry_at : (m : MachineState) (i : ℕ) → IsSound m → i < size_of (layout_of m) → IsEntry 2 (layout_of m) (record_of m (item_at (layout_of m) i))
 entry_at m i sound below = is_item_entry 2 m (item_at (layout_of m) i) sound (item_there (layout_of m) i below)
 
-chosen_body : (now_ : MachineState) (shapes : List Shape) (p : ℕ → Bool) (n k : ℕ) (t : List ℕ) (rs : List Record) → IsSound now_ → n ≤ size_of (layout_of now_) → HasBody (layout_of now_) shapes t rs k
+pub chosen_body : (now_ : MachineState) (shapes : List Shape) (p : ℕ → Bool) (n k : ℕ) (t : List ℕ) (rs : List Record) → IsSound now_ → n ≤ size_of (layout_of now_) → HasBody (layout_of now_) shapes t rs k
     → HasBody (layout_of now_) shapes (t ++ texts (records_of now_ (chosen p n))) (rs ++ records_of now_ (chosen p n)) k
 chosen_body now_ shapes p zero k t rs sound le b = rw (no_texts, append-nil, append-nil) b
 chosen_body now_ shapes p (suc n) k t rs sound le b =

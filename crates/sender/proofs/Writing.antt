@@ -5,12 +5,12 @@ use Rattle.sha2.specs.declared.Sha256.{Sha256}
 use Rattle.sha2.specs.Hashers.{Holds256}
 use Rattle.guestmem.specs.Item as items
 use Rattle.guestmem.specs.Item.{Item}
-use Rattle.machine.specs.Layout.{Layout, layout_of, number_of, size_of}
+use Rattle.machine.specs.Layout.{Layout, item_at, layout_of, number_of, size_of}
 use Rattle.machine.specs.Seen.{AreHonest}
 use Rattle.machine.specs.State.{MachineState}
 use Rattle.machine.specs.declared.event.Event.{Event}
 use Rattle.machine.proofs.Numbering.{either_way, same_layout}
-use Rattle.wire.specs.Records.{Record, round_end, spelled_record}
+use Rattle.wire.specs.Records.{Record, round_end}
 use Rattle.wire.specs.Sinks.{SinkState}
 use Rattle.wire.specs.Stream.{record_of, texts}
 use Rattle.sender.specs.LiveState.{LiveSeen, now, refusal_for, last_round, chosen, records_of, header_of, closing, item_of}
@@ -27,6 +27,8 @@ use Rattle.sender.specs.declared.event.LiveReply.{LiveReply}
 use Rattle.sender.specs.declared.event.LiveReply.TheVariants as r
 use Rattle.sender.proofs.Following.{NamesNone, quiet_mig, open_if, agree_open, sector_number}
 use Rattle.sender.proofs.Going.{chosen_same}
+use Rattle.sender.proofs.Stopping.{one_text}
+use Rattle.sender.proofs.Told.{honest_disks_tell_contents, told_one}
 
 abbrev pub is_stopped : LiveReply → Bool
 is_stopped (r.Stopped pages sectors) = true
@@ -36,13 +38,13 @@ is_stopped _ = false
 pub took_none : (old new : LiveSeen) → new.out ≡ old.out → Took old new []
 took_none old new out = record {
   count = ap (λ (o : SinkState). o.failures) out;
-  holds = λ disks honest. ((let P : SinkState → Type 0 = λ o. IsTrue o.honest in subst P (sym out) honest), ap (λ (o : SinkState). o.held) out ∙ sym (append-nil old.out.held));
+  holds = λ honest. ((let P : SinkState → Type 0 = λ o. IsTrue o.honest in subst P (sym out) honest), ap (λ (o : SinkState). o.held) out ∙ sym (append-nil old.out.held));
 }
 
 wrote_none : (old new : LiveSeen) → new.out ≡ old.out → new.digest ≡ old.digest → Wrote old new []
 wrote_none old new out digest = record {
   took = took_none old new out;
-  taken = λ disks b held. (let P : Sha256 → Type 0 = λ d. Holds256 d (b ++ []) in subst P (sym digest) (let Q : List ℕ → Type 0 = λ x. Holds256 old.digest x in subst Q (sym (append-nil b)) held));
+  taken = λ b held. (let P : Sha256 → Type 0 = λ d. Holds256 d (b ++ []) in subst P (sym digest) (let Q : List ℕ → Type 0 = λ x. Holds256 old.digest x in subst Q (sym (append-nil b)) held));
 }
 
 -- What a call did is told by what it wrote after what was written before, unless its writer failed.
@@ -52,11 +54,11 @@ pub record Told (old new : LiveSeen) (before bytes : List ℕ) (reply : LiveRepl
   pub taken : is_fault reply ≡ false → is_stopped reply ≡ false → AreHonest old.machine → Holds256 old.digest before → Holds256 new.digest (before ++ bytes)
   pub fails : is_fault reply ≡ true → Fails old new
 
-told_wrote : (old new : LiveSeen) (before bytes : List ℕ) (reply : LiveReply) → is_fault reply ≡ false → Wrote old new bytes → Told old new before bytes reply
-told_wrote old new before bytes reply none w = record {
-  count = λ _. w.took.count;
-  took = λ _ disks held. w.took;
-  taken = λ _ going disks held. w.taken disks before held;
+told_wrote : (old new : LiveSeen) (before bytes : List ℕ) (reply : LiveReply) → is_fault reply ≡ false → new.out.failures ≡ old.out.failures → (AreHonest old.machine → Wrote old new bytes) → Told old new before bytes reply
+told_wrote old new before bytes reply none count w = record {
+  count = λ _. count;
+  took = λ _ disks held. (w disks).took;
+  taken = λ _ going disks held. (w disks).taken before held;
   fails = λ some. cc;
 }
 
@@ -68,21 +70,17 @@ told_fails old new before bytes reply some f = record {
   fails = λ _. f;
 }
 
-one_text : (x : Record) → texts (x ∷ []) ≡ spelled_record x
-unfolding texts
-one_text x = append-nil (spelled_record x)
-
 no_text : texts [] ≡ []
 unfolding texts
 no_text = refl
 
-wrote_stays : (old mid new : LiveSeen) (x : List ℕ) → new.out ≡ mid.out → new.digest ≡ mid.digest → Wrote old mid x → Wrote old new x
+pub wrote_stays : (old mid new : LiveSeen) (x : List ℕ) → new.out ≡ mid.out → new.digest ≡ mid.digest → Wrote old mid x → Wrote old new x
 wrote_stays old mid new x out digest w = record {
   took = record {
     count = ap (λ (o : SinkState). o.failures) out ∙ w.took.count;
-    holds = λ disks honest. (let P : SinkState → Type 0 = λ o. IsTrue o.honest × (o.held ≡ old.out.held ++ x) in subst P (sym out) (w.took.holds disks honest));
+    holds = λ honest. (let P : SinkState → Type 0 = λ o. IsTrue o.honest × (o.held ≡ old.out.held ++ x) in subst P (sym out) (w.took.holds honest));
   };
-  taken = λ disks b held. (let P : Sha256 → Type 0 = λ d. Holds256 d (b ++ x) in subst P (sym digest) (w.taken disks b held));
+  taken = λ b held. (let P : Sha256 → Type 0 = λ d. Holds256 d (b ++ x) in subst P (sym digest) (w.taken b held));
 }
 
 module _ (m : MachineState) (h : History) (old new : LiveSeen) (f : Follows m h old) (before : List ℕ) where
@@ -90,14 +88,14 @@ module _ (m : MachineState) (h : History) (old new : LiveSeen) (f : Follows m h 
   Tells e reply = Told old new before (written before (machine_after m h) (is_stale (layout_of m) h) e reply) reply
 
   quiet_tells : (e : LiveEvent) (reply : LiveReply) → written before (machine_after m h) (is_stale (layout_of m) h) e reply ≡ [] → is_fault reply ≡ false → new.out ≡ old.out → new.digest ≡ old.digest → Tells e reply
-  quiet_tells e reply none fine out digest = rw none (told_wrote old new before [] reply fine (wrote_none old new out digest))
+  quiet_tells e reply none fine out digest = rw none (let w = wrote_none old new out digest in told_wrote old new before [] reply fine w.took.count (λ _. w))
 
   writes_guest : (e : Event) (reply : LiveReply) → Guests old e reply new → Tells (Guest e) reply
   writes_guest e (r.Guest reply) d = quiet_tells (Guest e) (r.Guest reply) no_text refl (ap (λ (x : LiveSeen). x.out) d.rest) (ap (λ (x : LiveSeen). x.digest) d.rest)
   writes_guest e _ d = absurd d
 
   writes_begin : (reply : LiveReply) → AfterBegin old reply new → Tells Begin reply
-  writes_begin (r.Begun k) d = let P : MachineState → Type 0 = λ x. Wrote old new (header_of x) in told_wrote old new before _ (r.Begun k) refl (subst P f.machine d.1.wrote)
+  writes_begin (r.Begun k) d = let P : MachineState → Type 0 = λ x. Wrote old new (header_of x) in told_wrote old new before _ (r.Begun k) refl d.1.wrote.took.count (λ _. subst P f.machine d.1.wrote)
   writes_begin (r.Mig errors.StreamFailed) d = told_fails old new before _ (r.Mig errors.StreamFailed) refl d
   writes_begin _ d = absurd d
 
@@ -105,7 +103,8 @@ module _ (m : MachineState) (h : History) (old new : LiveSeen) (f : Follows m h 
   writes_copy (r.Copied item) d =
       let P : Item → Type 0 = λ i. Wrote old new (texts (record_of (now old) i ∷ [])) in
       let Q : MachineState → Type 0 = λ x. Wrote old new (texts (record_of x (item_of item) ∷ [])) in
-      told_wrote old new before _ (r.Copied item) refl (subst Q f.machine (subst P (sym d.item_is) d.sent.wrote))
+      let R : Record → Type 0 = λ x. Wrote old new (texts (x ∷ [])) in
+      told_wrote old new before _ (r.Copied item) refl d.sent.wrote.took.count (λ disks. subst Q f.machine (subst P (sym d.item_is) (subst R (told_one old.machine (item_at (layout_of (now old)) d.number) d.sent.entry disks d.sent.told) (rw (one_text d.sent.entry) d.sent.wrote))))
   writes_copy r.RoundDone d = quiet_tells Copy r.RoundDone no_text refl (ap (λ (s : LiveSeen). s.out) d.1) (ap (λ (s : LiveSeen). s.digest) d.1)
   writes_copy (r.Mig (errors.DiskFailed dev n)) d = quiet_tells Copy (r.Mig (errors.DiskFailed dev n)) no_text refl (ap (λ (s : LiveSeen). s.out) d.unread.rest) (ap (λ (s : LiveSeen). s.digest) d.unread.rest)
   writes_copy (r.Mig errors.StreamFailed) d = told_fails old new before _ (r.Mig errors.StreamFailed) refl d
@@ -114,7 +113,7 @@ module _ (m : MachineState) (h : History) (old new : LiveSeen) (f : Follows m h 
   writes_round : (reply : LiveReply) → AfterRound old reply new → Tells EndRound reply
   writes_round (r.Begun k) d =
       let e : k - 1 ≡ d.1.round = omega (arith, d.1.next) in
-      told_wrote old new before _ (r.Begun k) refl (rw (one_text (round_end (k - 1)), e) d.1.wrote)
+      told_wrote old new before _ (r.Begun k) refl d.1.wrote.took.count (λ _. rw (one_text (round_end (k - 1)), e) d.1.wrote)
   writes_round r.RoundOpen d = quiet_tells EndRound r.RoundOpen no_text refl (ap (λ (s : LiveSeen). s.out) d.1) (ap (λ (s : LiveSeen). s.digest) d.1)
   writes_round (r.Mig errors.StreamFailed) d = told_fails old new before _ (r.Mig errors.StreamFailed) refl d
   writes_round _ d = absurd d
@@ -126,16 +125,19 @@ module _ (m : MachineState) (h : History) (old new : LiveSeen) (f : Follows m h 
       let chosen_here : chosen (in_either old) n ≡ chosen (is_stale (layout_of m) h) n = chosen_same (in_either old) (is_stale (layout_of m) h) n (λ i b. (agree_open m h old k f is).stale i (omega (arith, b, ap size_of same))) in
       let Q : List ℕ → Type 0 = λ x. Took old new (texts (records_of (now old) x) ++ closing (now old) (before ++ texts (records_of (now old) x))) in
       let P : MachineState → Type 0 = λ x. Took old new (let t = texts (records_of x (chosen (is_stale (layout_of m) h) (size_of (layout_of x)))) in t ++ closing x (before ++ t)) in
-      subst P f.machine (subst Q chosen_here (s.took disks before held))
+      let R : List Record → Type 0 = λ x. Took old new (texts x ++ closing (now old) (before ++ texts x)) in
+      let told : s.entries ≡ records_of (now old) (chosen (in_either old) n) = honest_disks_tell_contents old.machine (chosen (in_either old) n) s.entries disks s.told in
+      subst P f.machine (subst Q chosen_here (subst R told (s.took before held)))
 
-  short_wrote : (k dev n : ℕ) → old.phase ≡ phases.Open k → StopsShort old dev n new → Wrote old new (texts (sent (machine_after m h) (is_stale (layout_of m) h) Stop (r.Mig (errors.DiskFailed dev n))))
-  short_wrote k dev n is s =
+  short_wrote : (k dev n : ℕ) → old.phase ≡ phases.Open k → StopsShort old dev n new → AreHonest old.machine → Wrote old new (texts (sent (machine_after m h) (is_stale (layout_of m) h) Stop (r.Mig (errors.DiskFailed dev n))))
+  short_wrote k dev n is s disks =
       let number = sector_number m old (items.sector dev n) s.number f.shape s.item_is s.below in
       let same : layout_of (now old) ≡ layout_of m = same_layout m (now old) f.shape in
       let there : number_of (layout_of (now old)) (items.sector dev n) ≡ s.number = ap (λ (l : Layout). number_of l (items.sector dev n)) same ∙ number.0 in
       let chosen_here : chosen (in_either old) s.number ≡ chosen (is_stale (layout_of m) h) s.number = chosen_same (in_either old) (is_stale (layout_of m) h) s.number (λ i b. (agree_open m h old k f is).stale i (omega (arith, b, number.2))) in
+      let told : s.are_sent.entries ≡ records_of (now old) (chosen (in_either old) s.number) = honest_disks_tell_contents old.machine (chosen (in_either old) s.number) s.are_sent.entries disks s.are_sent.told in
       let first : Wrote old new (texts (records_of (now old) (chosen (in_either old) s.number))) =
-      wrote_stays old s.between new _ (ap (λ (x : LiveSeen). x.out) s.unread.rest) (ap (λ (x : LiveSeen). x.digest) s.unread.rest) s.are_sent.wrote in
+      subst (λ (x : List Record). Wrote old new (texts x)) told (wrote_stays old s.between new _ (ap (λ (x : LiveSeen). x.out) s.unread.rest) (ap (λ (x : LiveSeen). x.digest) s.unread.rest) s.are_sent.wrote) in
       let Q : List ℕ → Type 0 = λ x. Wrote old new (texts (records_of (now old) x)) in
       let R : ℕ → Type 0 = λ j. Wrote old new (texts (records_of (now old) (chosen (is_stale (layout_of m) h) j))) in
       let P : MachineState → Type 0 = λ x. Wrote old new (texts (records_of x (chosen (is_stale (layout_of m) h) (number_of (layout_of x) (items.sector dev n))))) in
@@ -148,7 +150,7 @@ module _ (m : MachineState) (h : History) (old new : LiveSeen) (f : Follows m h 
     taken = λ _ going disks held. cc;
     fails = λ some. cc;
   }
-  writes_stop (r.Mig (errors.DiskFailed dev n)) k is d = told_wrote old new before _ (r.Mig (errors.DiskFailed dev n)) refl (short_wrote k dev n is d)
+  writes_stop (r.Mig (errors.DiskFailed dev n)) k is d = told_wrote old new before _ (r.Mig (errors.DiskFailed dev n)) refl (ap (λ (x : LiveSeen). x.out.failures) d.unread.rest ∙ d.are_sent.wrote.took.count) (λ disks. short_wrote k dev n is d disks)
   writes_stop (r.Mig errors.StreamFailed) k is d = told_fails old new before _ (r.Mig errors.StreamFailed) refl d
   writes_stop _ k is d = absurd d
 

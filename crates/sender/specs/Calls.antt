@@ -7,14 +7,15 @@ use Rattle.machine.specs.Applied.{IsApplied, IsGood}
 use Rattle.machine.specs.Effect.{items_of}
 use Rattle.machine.specs.EffectLaws.{sector_on, sectors_on}
 use Rattle.machine.specs.Layout.{firsts_of, item_at, layout_of, number_in, size_of}
-use Rattle.machine.specs.Seen.{AreHonest, all_marks, failed_at, marks_at, all_flushed}
+use Rattle.machine.specs.Seen.{all_marks, failed_at, marks_at, all_flushed}
 use Rattle.machine.specs.Stepped.{reply_in}
 use Rattle.machine.specs.declared.event.Event.{Event}
 use Rattle.machine.specs.declared.reply.Reply.{Reply}
 use Rattle.machine.specs.declared.stepped.Stepped.{Stepped}
-use Rattle.wire.specs.Records.{round_end, spelled_record}
+use Rattle.wire.specs.Records.{Record, round_end, spelled_record}
 use Rattle.wire.specs.Stream.{texts}
-use Rattle.sender.specs.LiveState.{LiveSeen, chosen, closing, header_of, item_of, now, pages_among, records_of, refusal_for, sectors_among}
+use Rattle.sender.specs.LiveState.{LiveSeen, chosen, closing, header_of, item_of, now, pages_among, refusal_for, sectors_among}
+use Rattle.sender.specs.Told.{AreTold, IsTold}
 use Rattle.sender.specs.declared.phase.Phase.TheVariants as phases
 use Rattle.sender.specs.declared.event.Item.{Item}
 use Rattle.sender.specs.declared.event.LiveEvent.{LiveEvent}
@@ -29,15 +30,15 @@ use Rattle.sender.specs.declared.event.Stopped.{Stopped}
 use Rattle.sender.specs.declared.event.LiveReply.{LiveReply}
 use Rattle.sender.specs.declared.event.LiveReply.TheVariants as r
 
--- The writer did not fail. If it and the disks are honest, it stays honest and holds these bytes after those that it held.
+-- The writer did not fail. If it is honest, it stays honest and holds these bytes after those that it held.
 pub record Took (old new : LiveSeen) (bytes : List ℕ) : Type 0 where
   pub count : new.out.failures ≡ old.out.failures
-  pub holds : AreHonest old.machine → IsTrue old.out.honest → IsTrue new.out.honest × (new.out.held ≡ old.out.held ++ bytes)
+  pub holds : IsTrue old.out.honest → IsTrue new.out.honest × (new.out.held ≡ old.out.held ++ bytes)
 
--- As `Took`, and if the disks are honest the digest took these bytes too.
+-- As `Took`, and the digest took these bytes too.
 pub record Wrote (old new : LiveSeen) (bytes : List ℕ) : Type 0 where
   pub took : Took old new bytes
-  pub taken : AreHonest old.machine → (b : List ℕ) → Holds256 old.digest b → Holds256 new.digest (b ++ bytes)
+  pub taken : (b : List ℕ) → Holds256 old.digest b → Holds256 new.digest (b ++ bytes)
 
 -- The writer failed in this call. The machine is unchanged.
 pub record Fails (old new : LiveSeen) : Type 0 where
@@ -64,13 +65,15 @@ pub record Begins (old new : LiveSeen) : Type 0 where
   pub dirty : new.dirty ≡ replicate (size_of (layout_of (now old))) false
   pub wrote : Wrote old new (header_of (now old))
 
--- The item of this number was sent, with its current content.
+-- The item of this number was sent: a page with its current content, and a sector with what its disk returned in this call.
 pub record IsSent (old : LiveSeen) (i : ℕ) (new : LiveSeen) : Type 0 where
   pub machine : new.machine ≡ old.machine
   pub phase : new.phase ≡ old.phase
   pub due : new.due ≡ slice_set old.due i false
   pub dirty : new.dirty ≡ slice_set old.dirty i false
-  pub wrote : Wrote old new (texts (records_of (now old) (i ∷ [])))
+  pub entry : Record
+  pub told : IsTold old.machine (item_at (layout_of (now old)) i) entry
+  pub wrote : Wrote old new (spelled_record entry)
 
 -- A disk failed as a good sector was read from it. Its count rose, and nothing else changed.
 pub record IsUnread (old : LiveSeen) (dev n : ℕ) (new : LiveSeen) : Type 0 where
@@ -125,7 +128,9 @@ pub record Stops (old : LiveSeen) (pages sectors : ℕ) (new : LiveSeen) : Type 
   pub sets : AreCleared old (size_of (layout_of (now old))) new
   pub count : new.out.failures ≡ old.out.failures
   pub flushed : new.out.is_flushed ≡ true
-  pub took : AreHonest old.machine → (b : List ℕ) → Holds256 old.digest b → (let sent = texts (records_of (now old) (chosen (in_either old) (size_of (layout_of (now old))))) in Took old new (sent ++ closing (now old) (b ++ sent)))
+  pub entries : List Record
+  pub told : AreTold old.machine (chosen (in_either old) (size_of (layout_of (now old)))) entries
+  pub took : (b : List ℕ) → Holds256 old.digest b → Took old new (texts entries ++ closing (now old) (b ++ texts entries))
   pub pages_are : pages ≡ pages_among (layout_of (now old)) (in_either old) (size_of (layout_of (now old)))
   pub sectors_are : sectors ≡ sectors_among (layout_of (now old)) (in_either old) (size_of (layout_of (now old)))
 
@@ -134,7 +139,9 @@ pub record AreSent (old : LiveSeen) (to : ℕ) (new : LiveSeen) : Type 0 where
   pub machine : new.machine ≡ old.machine
   pub phase : new.phase ≡ old.phase
   pub sets : AreCleared old to new
-  pub wrote : Wrote old new (texts (records_of (now old) (chosen (in_either old) to)))
+  pub entries : List Record
+  pub told : AreTold old.machine (chosen (in_either old) to) entries
+  pub wrote : Wrote old new (texts entries)
 
 -- A stop that failed to read a sector: exactly the items of the two sets below it were sent.
 pub record StopsShort (old : LiveSeen) (dev n : ℕ) (new : LiveSeen) : Type 0 where

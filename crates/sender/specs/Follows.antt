@@ -10,8 +10,7 @@ use Rattle.machine.specs.State.{MachineState}
 use Rattle.wire.specs.Sinks.{SinkState}
 use Rattle.sender.specs.Calls.{Serves, in_either}
 use Rattle.sender.specs.History.{AllAllowed, Allowed, History, IsItsChange, has_fault, is_due, is_stale, machine_after, phase_of, text, then_came}
-use Rattle.sender.specs.LiveState.{LiveSeen, now}
-use Rattle.sender.specs.Stopping.{HasPlaces}
+use Rattle.sender.specs.LiveState.{HasPlaces, LiveSeen, now}
 use Rattle.sender.specs.declared.event.LiveEvent.{LiveEvent}
 use Rattle.sender.specs.declared.event.LiveReply.{LiveReply}
 use Rattle.sender.specs.declared.phase.Phase.{Phase}

@@ -2,6 +2,7 @@ pub mod Items
 pub mod Saving
 pub mod Dirty
 pub mod LiveState
+pub mod Told
 pub mod Calls
 pub mod Stopping
 pub mod History

@@ -1,10 +1,11 @@
 -- The state of a machine that is being migrated, as contracts see it.
-use Rattle.std.specs.Prelude.{ℕ, zero, suc, ◌+◌, ◌++◌, ◌==◌, ◌&&◌, not, if◌then◌else◌, nat_lt, List, [], ◌∷◌, map, Bool, Option, Some, None}
+use Rattle.std.specs.Prelude.{◌≡◌, ℕ, zero, suc, ◌+◌, ◌<◌, ◌^◌, ◌++◌, ◌==◌, ◌&&◌, not, if◌then◌else◌, nat_lt, List, [], ◌∷◌, length, map, Bool, Option, Some, None}
 use Rattle.sha2.specs.declared.Sha256.{Sha256}
 use Rattle.sha2.specs.Sha256.{sha256}
 use Rattle.guestmem.specs.Item as items
-use Rattle.machine.specs.Layout.{Layout, item_at, layout_of, pages_of}
+use Rattle.machine.specs.Layout.{Layout, item_at, layout_of, pages_of, size_of}
 use Rattle.machine.specs.Seen.{Seen, state_of}
+use Rattle.machine.specs.Sound.{IsSound}
 use Rattle.machine.specs.State.{MachineState}
 use Rattle.wire.specs.Header.{header, opening_of}
 use Rattle.wire.specs.Records.{Record, commit, spelled_record}
@@ -31,6 +32,13 @@ pub record LiveSeen : Type 0 where
 
 abbrev pub now : LiveSeen → MachineState
 now s = state_of s.machine
+
+-- The machine is sound, the sets have an entry for each item, and there are fewer than 2^64 items.
+pub record HasPlaces (s : LiveSeen) : Type 0 where
+  pub sound : IsSound (now s)
+  pub few : length s.due < 2 ^ 64
+  pub due_size : length s.due ≡ size_of (layout_of (now s))
+  pub dirty_size : length s.dirty ≡ size_of (layout_of (now s))
 
 -- The last round that can be numbered: it cannot be ended.
 abbrev pub last_round : ℕ

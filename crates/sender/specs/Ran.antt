@@ -1,15 +1,20 @@
 -- The machine and the writer after a list of live events.
-use Rattle.std.specs.Prelude.{◌≡◌, ◌++◌, ◌⊎◌, List, [], ◌∷◌, length, true, false, IsTrue}
+use Rattle.std.specs.Prelude.{◌≡◌, ◌++◌, ◌⊎◌, ℕ, List, [], ◌∷◌, length, true, false, IsTrue}
+use Rattle.dirtylog.specs.Members.{HasNone}
+use Rattle.sha2.specs.Hashers.{Holds256}
 use Rattle.machine.specs.Applied.{FailsOnlyUnsteady}
 use Rattle.machine.specs.Effect.{Effect}
-use Rattle.machine.specs.Seen.{Marks, marks_at}
+use Rattle.machine.specs.Seen.{Marks, Seen, marks_at}
 use Rattle.machine.specs.State.{MachineState}
 use Rattle.machine.specs.declared.reply.Reply.{Reply}
 use Rattle.wire.specs.Sinks.{SinkState}
 use Rattle.wire.specs.Stream.{IsStream}
 use Rattle.sender.specs.declared.phase.Phase.TheVariants as phases
+use Rattle.sender.specs.Calls.{Serves}
 use Rattle.sender.specs.Follows.{count_after}
 use Rattle.sender.specs.History.{AllAllowed, History, has_fault, machine_after, nothing, onward, phase_of, text}
+use Rattle.sender.specs.LiveState.{HasPlaces, LiveSeen}
+use Rattle.sender.specs.Told.{IsStreamAsTold}
 use Rattle.sender.specs.declared.event.LiveEvent.{LiveEvent}
 use Rattle.sender.specs.declared.event.LiveEvent.TheVariants.{Guest}
 use Rattle.sender.specs.declared.event.LiveReply.{LiveReply}
@@ -34,9 +39,49 @@ pub record Ran (m : MachineState) (events : List LiveEvent) (replies : List Live
   pub as_many : length effects ≡ length replies
   pub leaves : Leaves m (onward nothing events replies effects) old last new
 
+-- The calls that have a reply were served, one after another.
+abbrev pub CallsServed : LiveSeen → List LiveEvent → List LiveReply → LiveSeen → Type 0
+CallsServed old events [] new = new ≡ old
+CallsServed old (e ∷ events) (reply ∷ replies) new = (mid : LiveSeen) × Serves old e reply mid × CallsServed mid events replies new
+CallsServed old [] replies new = ⊥
+
+-- A migration of this machine to this writer, before its first call.
+pub record IsUnserved (machine : Seen) (out : SinkState) (s : LiveSeen) : Type 0 where
+  pub machine_is : s.machine ≡ machine
+  pub fresh : s.phase ≡ phases.Fresh
+  pub none_due : HasNone s.due
+  pub none_dirty : HasNone s.dirty
+  pub digest : Holds256 s.digest []
+  pub out_is : s.out ≡ out
+  pub places : HasPlaces s
+
+-- Each reply is that of its call, and the machine and the writer are as the last of these calls left them. So all that a call
+-- promises with any disks holds of each.
+pub record WasServed (machine : Seen) (out : SinkState) (events : List LiveEvent) (replies : List LiveReply) (last : Seen) (new : SinkState) : Type 0 where
+  pub before : LiveSeen
+  pub after : LiveSeen
+  pub unserved : IsUnserved machine out before
+  pub served : CallsServed before events replies after
+  pub machine_is : last ≡ after.machine
+  pub out_is : new ≡ after.out
+
 -- Each event was answered, or none was, where memory was refused.
 abbrev pub AllOrNone : List LiveEvent → List LiveReply → Type 0
 AllOrNone events replies = (length replies ≡ length events) ⊎ (replies ≡ [])
+
+-- A stop answered Ok.
+abbrev pub HasStopped : List LiveReply → Type 0
+HasStopped [] = ⊥
+HasStopped (r.Stopped pages sectors ∷ replies) = Unit {0}
+HasStopped (_ ∷ replies) = HasStopped replies
+
+-- The writer did not fail and was flushed, and what it holds after what it held, if it was honest, is a stream of a machine with the
+-- RAM and the devices of this one.
+pub record WroteStream (old : SinkState) (last : MachineState) (new : SinkState) : Type 0 where
+  pub bytes : List ℕ
+  pub stream : IsStreamAsTold bytes last
+  pub held : IsTrue old.honest → IsTrue new.honest × (new.held ≡ old.held ++ bytes)
+  pub flushed : new.is_flushed ≡ true
 
 -- A reply that reports a failed disk, in a step of the guest or for a sector that was to be sent, names a device whose disk is
 -- not steady.

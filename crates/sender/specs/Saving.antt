@@ -4,8 +4,10 @@ use Rattle.guestmem.specs.Item as items
 use Rattle.machine.specs.Applied.{IsGood}
 use Rattle.machine.specs.EffectLaws.{sector_on, sectors_on}
 use Rattle.machine.specs.Seen.{AreHonest, Marks, Seen, all_marks, failed_at, marks_at, state_of, all_flushed}
+use Rattle.sender.specs.Told.{IsTold}
 use Rattle.sender.specs.declared.mig_error.MigError.{MigError}
 use Rattle.sender.specs.declared.mig_error.MigError.TheVariants.{AlreadyBegun, AlreadyStopped, DiskFailed, NotBegun, RoundsEnded, StreamFailed}
+use Rattle.wire.specs.Records.{Record, spelled_record}
 use Rattle.wire.specs.Sinks.{SinkState, Takes}
 
 -- The number of the reason why a machine is not sent.
@@ -61,3 +63,10 @@ pub record Sends {A : Type 0} (old : Seen) (out : SinkState) (bytes : List ℕ) 
 -- As above, for what is kept of the bytes, such as their digest: on success, if the disks are honest, it took these bytes too.
 abbrev pub TakesOn : {A : Type 0} → Seen → (List ℕ → Type 0) → List ℕ → Result A MigError → (List ℕ → Type 0) → Type 0
 TakesOn old has_taken bytes result has_taken_now = OnOk result (AreHonest old → Takes has_taken bytes has_taken_now)
+
+-- The record of an item was added, if the sink is honest, and what is kept of the bytes took it too, with any disks.
+pub record AddsItem (s : Seen) (i : items.Item) (out : SinkState) (has_taken : List ℕ → Type 0) (new_out : SinkState) (has_taken_now : List ℕ → Type 0) : Type 0 where
+  pub entry : Record
+  pub told : IsTold s i entry
+  pub holds : IsTrue out.honest → IsTrue new_out.honest × (new_out.held ≡ out.held ++ spelled_record entry)
+  pub takes : Takes has_taken (spelled_record entry) has_taken_now

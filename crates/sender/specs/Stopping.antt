@@ -36,13 +36,6 @@ pub record IsLive (machine : Seen) (phase : Phase) (due dirty : List Bool) (firs
   pub reached : at ≤ length due
   pub passed : (k : ℕ) → k < at → has due k ≡ false
 
--- The machine is sound, the sets have an entry for each item, and there are fewer than 2^64 items.
-pub record HasPlaces (s : LiveSeen) : Type 0 where
-  pub sound : IsSound (now s)
-  pub few : length s.due < 2 ^ 64
-  pub due_size : length s.due ≡ size_of (layout_of (now s))
-  pub dirty_size : length s.dirty ≡ size_of (layout_of (now s))
-
 -- The phase after sending an item failed with this error.
 abbrev pub phase_after : Phase → MigError → Phase
 phase_after p errors.StreamFailed = phases.Failed

@@ -8,8 +8,7 @@ use Rattle.wire.specs.Stream.{IsStream}
 use Rattle.sender.specs.Calls.{Serves}
 use Rattle.sender.specs.Follows.{Relates}
 use Rattle.sender.specs.History.{History, phase_of, then_came}
-use Rattle.sender.specs.LiveState.{LiveSeen, now}
-use Rattle.sender.specs.Stopping.{HasPlaces}
+use Rattle.sender.specs.LiveState.{HasPlaces, LiveSeen, now}
 use Rattle.sender.specs.declared.event.LiveEvent.{LiveEvent}
 use Rattle.sender.specs.declared.event.LiveReply.{LiveReply}
 use Rattle.sender.specs.declared.phase.Phase.TheVariants as phases

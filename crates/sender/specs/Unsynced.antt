@@ -9,8 +9,7 @@ use Rattle.machine.specs.declared.reply.Reply.TheVariants.{DiskFailed}
 use Rattle.wire.specs.Sinks.{SinkState}
 use Rattle.sender.specs.Follows.{Relates}
 use Rattle.sender.specs.History.{History, text, then_came}
-use Rattle.sender.specs.LiveState.{LiveSeen, now, refusal_for}
-use Rattle.sender.specs.Stopping.{HasPlaces}
+use Rattle.sender.specs.LiveState.{HasPlaces, LiveSeen, now, refusal_for}
 use Rattle.sender.specs.Taking.{untaken}
 use Rattle.sender.specs.declared.event.LiveEvent.TheVariants.{Guest}
 use Rattle.sender.specs.declared.event.LiveReply.TheVariants as r

@@ -4,7 +4,13 @@ ghost use Rattle.sender.specs.Follows.{CallsFollow};
 ghost use Rattle.sender.specs.HistoryLaws.{AfterIsRun, FreshIsLast, OneHistory, StaleIsNotFresh, StoppedIsStream};
 ghost use Rattle.sender.specs.Parked.{LiveBackFollows, LiveBackIsServed};
 ghost use Rattle.sender.specs.Taking.{CallsIgnoreTaken, TakenAreWhole, TakenFollow};
+ghost use Rattle.sender.specs.Told.{HonestDisksTellContents};
 ghost use Rattle.sender.specs.Unsynced.{FailureFollows, FlushFollows, TakenFailureFollows};
+
+/// Where the disks are honest, the records that a call writes, which are those of what the disks returned, are those of the machine.
+pub fn honest_disks_tell_contents()
+    ensures { HonestDisksTellContents }
+{}
 
 /// Whatever happened, an item that is not stale, a page or a sector, is as the last record that names it says.
 pub fn fresh_is_last()

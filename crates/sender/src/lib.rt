@@ -3,9 +3,8 @@
 //! # What the layers above may rely on
 //! - `save(machine, sink)`: an honest sink holds what it held and then the whole stream (`whole` of `wire`'s
 //!   `specs/Stream`), if the disks are honest. An error is returned exactly if a count of failures rose: `StreamFailed`
-//!   if the sink's did, and `DiskFailed` with the sector if a disk's did. A bad sector is written with no call of its
-//!   disk. After an Ok the sink was flushed after its last byte. The machine stays equal. It takes no memory of its
-//!   own, and asks the marks of a disk once for each bad sector, not once for each sector.
+//!   if the sink's did, and `DiskFailed` with the sector if a disk's did. After an Ok the sink was flushed after its last
+//!   byte. The machine stays equal. It takes no memory of its own.
 //! - `saved_len(machine)` is the length of that stream, made without it.
 //! - `Live` is a machine that is migrated while it runs. Contracts see of it the machine, the phase (fresh, a round
 //!   open, stopped, failed), two sets of items, *due* and *dirty*, what its digest may have taken, and what its writer
@@ -15,8 +14,8 @@
 //!   - `apply` is the step of the event, and makes dirty exactly what the step writes into, whatever the disks do;
 //!     `write_ram` and `input` do the same for the events with bytes, which they take as slices;
 //!   - `begin` writes the header: every item is due, none is dirty;
-//!   - `copy` writes the record of the least due item, as it is now, and takes it out of both sets; `RoundDone` if none
-//!     is due;
+//!   - `copy` writes the record of the least due item, a page as it is now and a sector as its disk returns it, and takes
+//!     it out of both sets; `RoundDone` if none is due;
 //!   - `end_round` returns `RoundOpen` while an item is due; else the end of the round is written and the dirty items
 //!     become due;
 //!   - `stop` writes each item of the two sets once, in order, then the devices and the digest, counts what it wrote, and
@@ -24,7 +23,7 @@
 //!   - all but the events of the guest leave the machine equal, whatever they return. `StreamFailed` is returned
 //!     exactly if the writer's count rose, or the phase was failed; `DiskFailed` exactly if the disk's count rose: a
 //!     copy then changes neither set, and a stop has sent the items before the sector that it names, and no other left
-//!     a set. A bad sector is sent with no call of its disk.
+//!     a set.
 //! - `fail_flush` makes a step that flushes a disk as one whose disk failed, and calls no disk (`specs/Unsynced`). The history
 //!   continues with that step, and nothing becomes dirty: the stop sends the devices whole.
 //! - `flush_disk` is one flush of the disk of a device, in each phase: the machine stays equal, and the history as it was
@@ -44,9 +43,15 @@
 //!   what is due, and the two sets together are what is stale; a history that ends in a stop is a stream; its machine
 //!   is that of a run of the guest's events alone; events and replies determine all of it; no call depends on what the
 //!   writer holds.
-//! - Only `Live::new` and `replay` take memory. What single calls promise of bytes holds for honest disks and an honest
-//!   writer, all else for any. The history of `replay` holds for honest disks; that each event has a reply or none has,
-//!   and that a disk that is reported as failed is not steady, for any.
+//! - Only `Live::new` and `replay` take memory. What single calls promise of bytes holds for an honest writer and any disks: of a
+//!   sector goes out what its disk returned, which is its content if the disk is honest (`specs/Told`,
+//!   `laws::honest_disks_tell_contents`). The history of `replay`, and the bytes of `save`, are promised for honest disks. For any it
+//!   is promised that each event has a reply or none has, that nothing is changed where none has, that each reply is that of its
+//!   call, that a disk that is reported as failed is not steady, and that once a stop returned Ok a stream was written, of a machine
+//!   with this one's RAM and devices.
+//!
+//! Not proved, since no contract counts calls: a bad sector is sent with no call of its disk, and each other one with one (tested
+//! for `Live`); and `save` asks the marks of a disk once for each bad sector, not once for each sector.
 //!
 //! It uses `machine`, `dirtylog`, and `wire`, which encodes each record.
 #![tactic(auto)]

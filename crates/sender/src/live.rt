@@ -5,11 +5,11 @@ ghost use Rattle.dirtylog.specs.Members.{HasNone, IsLeastFrom, member_count};
 ghost use Rattle.sha2.specs.Hashers.{Holds256};
 ghost use Rattle.machine.specs.declared.event.Event.TheVariants as events;
 ghost use Rattle.machine.specs.Layout.{layout_of, size_of};
-ghost use Rattle.sender.specs.LiveState.{now, refusal_for};
+ghost use Rattle.sender.specs.LiveState.{HasPlaces, now, refusal_for};
 ghost use Rattle.sender.specs.Calls.{Serves, begun_reply, copied_reply, ended_reply, guest_reply, stepped_result, stopped_reply};
 ghost use Rattle.sender.specs.Parked.{IsLiveParked};
 ghost use Rattle.sender.specs.Unsynced.{FlushesLiveDisk, TriesFlush};
-ghost use Rattle.sender.specs.Stopping.{Closes, HasNoneUpTo, HasPlaces, SendsAll, SendsItem, lesser, one_more, phase_after};
+ghost use Rattle.sender.specs.Stopping.{Closes, HasNoneUpTo, SendsAll, SendsItem, lesser, one_more, phase_after};
 
 use crate::dirty::Dirty;
 use crate::event::{CopyAnswer, End, Item, LiveEvent, LiveReply, Remaining, Stopped};
@@ -63,6 +63,7 @@ impl<D: Disk, W: Sink> Live<D, W> {
         ensures fresh { IfOk result (λ l. l.phase ≡ Phase.Fresh) }
         ensures empty { IfOk result (λ l. HasNone l.due × HasNone l.dirty) }
         ensures digest { IfOk result (λ l. Holds256 l.digest []) }
+        ensures places { IfOk result (λ l. HasPlaces l) }
         ensures out { IfOk result (λ l. l.out ≡ W.state writer) }
         ensures err { IfErr result (λ e. (e.1 ≡ machine) × (e.2 ≡ writer)) }
     {

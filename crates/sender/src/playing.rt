@@ -1,8 +1,8 @@
 //! Plays a list of live events.
 
-ghost use Rattle.std.specs.Prelude.{◌≡◌, ℕ};
+ghost use Rattle.std.specs.Prelude.{◌≡◌, ℕ, []};
 ghost use Rattle.machine.specs.Seen.{AreHonest, all_marks, marks_at, state_of};
-ghost use Rattle.sender.specs.Ran.{AllNameUnsteady, AllOrNone, Ran};
+ghost use Rattle.sender.specs.Ran.{AllNameUnsteady, AllOrNone, HasStopped, Ran, WasServed, WroteStream};
 
 use crate::event::LiveEvent;
 use crate::live::Live;
@@ -12,10 +12,11 @@ use std::alloc::Global;
 use wire::Sink;
 
 /// Plays the events in order on a machine that is being migrated to a writer, and returns the machine, the writer and a
-/// reply for each event. It makes room for the replies first: if memory is refused, nothing is played and there is no
-/// reply.
+/// reply for each event. It makes room for the replies first: if memory is refused, nothing is played, there is no
+/// reply, and the machine, its disks and the writer are returned as they were, whatever the disks do.
 ///
-/// The disks stay as honest and as steady as they were, so the machine that it returns may be migrated again.
+/// The disks stay as honest and as steady as they were, so the machine that it returns may be migrated again. Once a stop returned
+/// Ok, what was written is a stream of a machine with the same RAM and devices, whatever the disks do.
 pub fn replay<D: Disk + Drop, W: Sink + Drop>(
     alloc: Global,
     machine: Machine<D>,
@@ -23,9 +24,13 @@ pub fn replay<D: Disk + Drop, W: Sink + Drop>(
     out: W,
 ) -> Replay<D, W>
     ensures each { AllOrNone events.now result.replies.items }
+    ensures unplayed { result.replies.items ≡ [] → result.machine ≡ machine }
+    ensures unwritten { result.replies.items ≡ [] → W.state result.out ≡ W.state out }
     ensures unsteady { AllNameUnsteady (all_marks machine) events.now result.replies.items }
     ensures honest { AreHonest machine → AreHonest result.machine }
     ensures steady { (dev : ℕ) → (marks_at (all_marks result.machine) dev).steady ≡ (marks_at (all_marks machine) dev).steady }
+    ensures served { ¬ (result.replies.items ≡ []) → WasServed machine (W.state out) events.now result.replies.items result.machine (W.state result.out) }
+    ensures streamed { HasStopped result.replies.items → WroteStream (W.state out) (state_of result.machine) (W.state result.out) }
     ensures ran { AreHonest machine → Ran (state_of machine) events.now result.replies.items (W.state out) (state_of result.machine) (W.state result.out) }
 {
     let _shapes = machine.shapes();

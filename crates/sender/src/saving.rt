@@ -12,11 +12,11 @@ ghost use Rattle.wire.specs.Sinks.{Appends, Takes};
 ghost use Rattle.wire.specs.Stream.{device_texts, record_of, records_below, saved, texts, whole};
 ghost use Rattle.sender.specs.LiveState.{item_of};
 ghost use Rattle.sender.specs.Items.{disk_text, front_text, sectors_text};
-ghost use Rattle.sender.specs.Saving.{NamesItem, Sends, TakesOn};
+ghost use Rattle.sender.specs.Saving.{AddsItem, NamesItem, Sends, TakesOn};
 
 use crate::event::Item;
 use crate::mig_error::MigError;
-use guestmem::PAGE_SIZE;
+use guestmem::{PAGE_SIZE, recall_bytes};
 use machine::{Disk, Machine, SECTOR_SIZE};
 use sha2::{Digest, Sha256};
 use wire::{
@@ -178,6 +178,7 @@ fn send_good<D: Disk, S: Sink, T: Tally>(
 }
 
 /// Writes the record of an item, as it is now.
+#[tactic(auto, using(crate::proofs::SectorReads::added_page))]
 pub(crate) fn send_item<D: Disk, S: Sink, T: Tally>(
     machine: &mut Machine<D>,
     item: Item,
@@ -187,7 +188,7 @@ pub(crate) fn send_item<D: Disk, S: Sink, T: Tally>(
     requires { HasItem (state_of machine.old) (item_of item) }
     ensures item { IfErr result (λ e. NamesItem (item_of item) e (S.state out.old) (S.state out.new) tally.old tally.new) }
     ensures sent { Sends machine.old (S.state out.old) (spelled_record (record_of (state_of machine.old) (item_of item))) result machine.new (S.state out.new) }
-    ensures taken { TakesOn machine.old (T.has_taken tally.old) (spelled_record (record_of (state_of machine.old) (item_of item))) result (T.has_taken tally.new) }
+    ensures added { OnOk result (AddsItem machine.old (item_of item) (S.state out.old) (T.has_taken tally.old) (S.state out.new) (T.has_taken tally.new)) }
 {
     match item {
         Item::Page(number) => {
@@ -215,7 +216,7 @@ fn send_page<D: Disk, S: Sink, T: Tally>(
 }
 
 /// Writes the record of a sector, as it is now. A bad one is written without a call of the disk.
-#[tactic(auto, using(crate::proofs::SectorReads::sent_good, crate::proofs::SectorReads::took_good, crate::proofs::SectorReads::not_sent))]
+#[tactic(auto, using(crate::proofs::SectorReads::sent_good, crate::proofs::SectorReads::added_good, crate::proofs::SectorReads::added_bad, crate::proofs::SectorReads::not_sent))]
 fn send_sector<D: Disk, S: Sink, T: Tally>(
     machine: &mut Machine<D>,
     dev: u8,
@@ -226,11 +227,14 @@ fn send_sector<D: Disk, S: Sink, T: Tally>(
     requires { HasItem (state_of machine.old) (sector dev number) }
     ensures item { IfErr result (λ e. NamesItem (sector dev number) e (S.state out.old) (S.state out.new) tally.old tally.new) }
     ensures sent { Sends machine.old (S.state out.old) (spelled_record (record_of (state_of machine.old) (sector dev number))) result machine.new (S.state out.new) }
-    ensures taken { TakesOn machine.old (T.has_taken tally.old) (spelled_record (record_of (state_of machine.old) (sector dev number))) result (T.has_taken tally.new) }
+    ensures added { OnOk result (AddsItem machine.old (sector dev number) (S.state out.old) (T.has_taken tally.old) (S.state out.new) (T.has_taken tally.new)) }
 {
     let mut bytes = [0; SECTOR_SIZE];
     match machine.read_sector(dev, number as u64, &mut bytes) {
-        Ok(true) => write_sector(dev, number, &bytes, out, tally)?,
+        Ok(true) => {
+            recall_bytes(bytes.as_slice());
+            write_sector(dev, number, &bytes, out, tally)?
+        }
         Ok(false) => write_bad_sector(dev, number, out, tally)?,
         Err(_) => {
             return Err(MigError::DiskFailed {

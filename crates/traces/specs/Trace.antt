@@ -108,3 +108,8 @@ HoldsEvents text events = AreEvents (lines_of text) events
 abbrev pub RefusesEvents : List ℕ → TraceError → Type 0
 RefusesEvents text error.NoMemory = Unit {0}
 RefusesEvents text (error.Line n) = IsFirstBad AreSomeEvents (lines_of text) n
+
+-- The number that stands for the reason why a text is no trace.
+abbrev pub trace_code_of : TraceError → ℕ
+trace_code_of (error.Line number) = 1
+trace_code_of error.NoMemory = 2

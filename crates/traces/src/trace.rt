@@ -1,6 +1,7 @@
 //! What a trace holds, and why a text is not a trace.
 
 ghost use Rattle.std.specs.Prelude.{◌≡◌};
+ghost use Rattle.traces.specs.Trace.{trace_code_of};
 ghost use Rattle.traces.specs.declared.trace.TraceError.TheVariants.{NoMemory};
 
 use machine::Shape;
@@ -35,6 +36,18 @@ pub enum TraceError {
     /// Memory was refused.
     #[error("out of memory")]
     NoMemory,
+}
+
+impl TraceError {
+    /// The number that stands for it.
+    pub fn code(self) -> u8
+        ensures { result ≡ trace_code_of self }
+    {
+        match self {
+            TraceError::Line(_) => 1,
+            TraceError::NoMemory => 2,
+        }
+    }
 }
 
 impl From<AllocError> for TraceError {

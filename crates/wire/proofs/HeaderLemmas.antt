@@ -17,9 +17,9 @@ use Rattle.machine.specs.declared.shape.Shape.TheVariants.{Net, Block, Console, 
 use Rattle.blk.specs.Shape.{IsBlockShape}
 use Rattle.net.specs.Shape.{IsMac}
 use Rattle.machine.specs.Sound.{IsSoundShape}
-use Rattle.wire.specs.ShapeReading.{block_shape_of, net_shape_of, shape_length, shape_of, shapes_of}
+use Rattle.wire.specs.ShapeReading.{block_shape_of, net_shape_of, shape_of, shapes_of}
 use Rattle.wire.proofs.Lists.{WasSpelled, WereSpelled, several-spelled, spelled-several}
-use Rattle.wire.specs.Header.{spelled_shape, spelled_shapes, front, header, IsHeader, IsVersion, Begins, Opening}
+use Rattle.wire.specs.Header.{spelled_shape, spelled_shapes, front, header, IsHeader, IsVersion, Begins, Opening, shape_length}
 
 -- A shape that is spelled is read, and one that is read was spelled.
 abbrev block_widths : List ℕ

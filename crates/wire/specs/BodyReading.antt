@@ -10,7 +10,7 @@ use Rattle.net.specs.declared.limits.TheConstants.{INBOX_MAX}
 use Rattle.mmio.specs.State.{first_queue, first_common}
 use Rattle.mmio.specs.declared.common.Common.{Common}
 use Rattle.mmio.specs.declared.queue.Queue.{Queue}
-use Rattle.wire.specs.DeviceBody.{IsBodyOf, common_widths, queue_widths, size_widths}
+use Rattle.wire.specs.DeviceBody.{common_widths, queue_widths, size_widths}
 use Rattle.wire.specs.FrameReading.{frame_of}
 use Rattle.wire.specs.Numbers.{numbers}
 use Rattle.wire.specs.RequestReading.{request_of}
@@ -22,8 +22,6 @@ use Rattle.machine.specs.declared.kind.Kind.{Kind}
 use Rattle.machine.specs.declared.kind.Kind.TheVariants as kinds
 use Rattle.machine.specs.declared.shape.Shape.{Shape}
 use Rattle.machine.specs.declared.shape.Shape.TheVariants.{Net, Block, Console, Entropy}
-use Rattle.wire.specs.declared.decode_error.DecodeError.{DecodeError}
-use Rattle.wire.specs.declared.decode_error.DecodeError.TheVariants.{BadBody, NoMemory}
 
 abbrev pub common_from : List ℕ → Common
 common_from (a ∷ b ∷ c ∷ d ∷ e ∷ f ∷ g ∷ rest) = record { status = a; interrupts = b; device_select = c; driver_select = d; features = e; queue_select = f; generation = g }
@@ -122,8 +120,3 @@ kind_in Entropy bytes = entropy_kind_in bytes
 abbrev pub device_of : ℕ → ℕ → Shape → List ℕ → Kind → DeviceState
 device_of base ram_len shape bytes kind_is =
     saved_device base ram_len kind_is (common_of bytes) (queues_in (queues_of shape) (drop 26 bytes)) (positions_in (queues_of shape) (drop 26 bytes))
-
--- What an error says of the bytes: with `BadBody` they are the body of no such device; `NoMemory` says nothing of them.
-abbrev pub RefusesBody : ℕ → Shape → ℕ → ℕ → List ℕ → DecodeError → Type 0
-RefusesBody version shape base ram_len bytes BadBody = (d : DeviceState) → ¬ (IsBodyOf version shape base ram_len bytes d)
-RefusesBody version shape base ram_len bytes NoMemory = Unit {0}

@@ -16,6 +16,8 @@ use Rattle.machine.specs.declared.kind.Kind.TheVariants.{Network, Block, Console
 use Rattle.machine.specs.declared.shape.Shape.{Shape}
 use Rattle.machine.specs.declared.shape.Shape.TheVariants as shapes
 use Rattle.wire.specs.FrameText.{frames_text}
+use Rattle.wire.specs.declared.decode_error.DecodeError.{DecodeError}
+use Rattle.wire.specs.declared.decode_error.DecodeError.TheVariants.{BadBody, NoMemory}
 use Rattle.wire.specs.RequestText.{requests_text}
 
 -- The registers that a device has once, in 26 bytes: status and interrupt status, DeviceFeaturesSel, DriverFeaturesSel, the
@@ -91,3 +93,8 @@ pub record IsBodyOf (version : ℕ) (shape : Shape) (base ram_len : ℕ) (bytes 
   pub sound : IsSoundDevice base ram_len d
   pub has : IsDeviceOf version d
   pub is : bytes ≡ body d
+
+-- What an error says of the bytes: with `BadBody` they are the body of no such device; `NoMemory` says nothing of them.
+abbrev pub RefusesBody : ℕ → Shape → ℕ → ℕ → List ℕ → DecodeError → Type 0
+RefusesBody version shape base ram_len bytes BadBody = (d : DeviceState) → ¬ (IsBodyOf version shape base ram_len bytes d)
+RefusesBody version shape base ram_len bytes NoMemory = Unit {0}

@@ -1,11 +1,16 @@
 -- The header of a stream: "VMIG", the version, the pages of RAM, and the devices.
-use Rattle.std.specs.Prelude.{◌≡◌, ◌≤◌, ℕ, codes, List, [], ◌∷◌, ◌++◌, length, All}
+use Rattle.std.specs.Prelude.{◌≡◌, ◌≤◌, ◌==◌, ℕ, codes, if◌then◌else◌, List, [], ◌∷◌, ◌++◌, length, All, Option, Some, None}
 use Rattle.std.specs.List.{flat_map}
 use Rattle.wire.specs.Numbers.{digits, flag}
 use Rattle.machine.specs.Layout.{Layout, layout_by}
 use Rattle.machine.specs.Sound.{IsSoundShape}
 use Rattle.machine.specs.declared.shape.Shape.{Shape}
 use Rattle.machine.specs.declared.shape.Shape.TheVariants.{Net, Block, Console, Entropy}
+use Rattle.wire.specs.declared.header.Header as headers
+
+-- How many bytes the encoding of a shape has, given its first byte, the device ID.
+abbrev pub shape_length : ℕ → Option ℕ
+shape_length number = if number == 1 then Some 7 else if number == 2 then Some 30 else if number == 3 then Some 1 else if number == 4 then Some 1 else None
 
 -- The encoding of a shape: the device ID, and then for a network device its MAC, and for a block device how many sectors it
 -- has, whether it is read-only, and its id.
@@ -23,6 +28,10 @@ pub record Opening : Type 0 where
   pub version : ℕ
   pub pages : ℕ
   pub shapes : List Shape
+
+-- What a header that was decoded says.
+abbrev pub said : headers.Header → Opening
+said found = record { version = found.version; pages = found.pages; shapes = found.shapes.items }
 
 -- The magic bytes, the version, and the counts of pages and of devices.
 unfoldable pub front : ℕ → ℕ → ℕ → List ℕ

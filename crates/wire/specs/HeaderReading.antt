@@ -4,11 +4,6 @@ use Rattle.guestmem.specs.Number.{number_at}
 use Rattle.machine.specs.declared.shape.Shape.{Shape}
 use Rattle.wire.specs.Header.{Opening}
 use Rattle.wire.specs.ShapeReading.{shapes_of}
-use Rattle.wire.specs.declared.header.Header as headers
-
--- What a header that was decoded says.
-abbrev pub said : headers.Header → Opening
-said found = record { version = found.version; pages = found.pages; shapes = found.shapes.items }
 
 abbrev pub with_shapes : ℕ → ℕ → Option (List Shape × List ℕ) → Option (Opening × List ℕ)
 with_shapes version pages None = None

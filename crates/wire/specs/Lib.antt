@@ -6,7 +6,6 @@ pub mod Header
 pub mod HeaderReading
 pub mod Numbers
 pub mod RecordHeads
-pub mod RecordView
 pub mod Records
 pub mod RequestReading
 pub mod RequestText

@@ -3,6 +3,8 @@ use Rattle.std.specs.Prelude.{◌≡◌, ◌<◌, ◌^◌, ℕ, Bool, true, fals
 use Rattle.guestmem.specs.Number.{IsBytes}
 use Rattle.guestmem.specs.Zeros.{are_zeros}
 use Rattle.wire.specs.RecordHeads.{spelled_head}
+use Rattle.wire.specs.declared.record.Record as slices
+use Rattle.wire.specs.declared.record.Record.TheVariants as read
 use Rattle.wire.specs.declared.record_head.RecordHead.{RecordHead}
 use Rattle.wire.specs.declared.record_head.RecordHead.TheVariants.{Page, Sector, RoundEnd, Device, Commit, ZeroPage}
 
@@ -15,6 +17,19 @@ pub data Record : Type 0 where
   device : ℕ → List ℕ → Record
   commit : List ℕ → Record
   zero_page : ℕ → Record
+
+abbrev pub map_option : {A B : Type 0} → (A → B) → Option A → Option B
+map_option f None = None
+map_option f (Some x) = Some (f x)
+
+-- The record that was read from a slice.
+abbrev pub told : slices.Record → Record
+told (read.Page number bytes) = page number bytes.now
+told (read.Sector dev number bytes) = sector dev number (map_option (λ b. b.now) bytes)
+told (read.RoundEnd number) = round_end number
+told (read.Device number bytes) = device number bytes.now
+told (read.Commit digest) = commit digest.now
+told (read.ZeroPage number) = zero_page number
 
 abbrev pub head_of : Record → RecordHead
 head_of (page n bytes) = Page n

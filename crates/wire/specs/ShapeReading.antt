@@ -6,10 +6,6 @@ use Rattle.machine.specs.declared.shape.Shape.TheVariants.{Net, Block, Console, 
 use Rattle.blk.specs.declared.shape.TheConstants.{SECTORS_MAX}
 use Rattle.wire.specs.Several.{several}
 
--- How many bytes the encoding of a shape has, given its first byte, the device ID.
-abbrev pub shape_length : ℕ → Option ℕ
-shape_length number = if number == 1 then Some 7 else if number == 2 then Some 30 else if number == 3 then Some 1 else if number == 4 then Some 1 else None
-
 -- The shape of a network device, whose device ID comes before the bytes, and the bytes after the shape.
 unfoldable pub net_shape_of : List ℕ → Option (Shape × List ℕ)
 net_shape_of bytes = if nat_lt (length bytes) 6 then None else Some (Net (take 6 bytes), drop 6 bytes)

@@ -1,8 +1,8 @@
 //! Decodes the body of a device.
 
 ghost use Rattle.std.specs.Prelude.{◌≡◌, ◌≤◌, ◌*◌, ◌^◌, ◌↔◌, [], All, IsSomeAnd, IsTrue, false, IfOk, IfErr, length, slice_get, take};
-ghost use Rattle.wire.specs.BodyReading.{HasFront, HaveFlags, RefusesBody, positions_in, queues_in};
-ghost use Rattle.wire.specs.DeviceBody.{IsBodyOf, has_zeroes};
+ghost use Rattle.wire.specs.BodyReading.{HasFront, HaveFlags, positions_in, queues_in};
+ghost use Rattle.wire.specs.DeviceBody.{IsBodyOf, RefusesBody, has_zeroes};
 ghost use Rattle.machine.specs.QueuePositions.{HasPositions, HavePositions, is_packed_by};
 ghost use Rattle.blk.specs.Sound.{AreRequestsOf};
 ghost use Rattle.machine.specs.Shapes.{made_as, queues_of, saved_device};
@@ -26,9 +26,24 @@ use mmio::{
 use std::alloc::Global;
 
 /// Decodes the body of a device of this shape, in a stream of this version of a machine with `ram_len` bytes of RAM from the
-/// guest-physical address `base` on. `BadBody` if the bytes are the body of no device of this shape that is sound there, or of one
-/// that the version does not have. Where no RAM of that length may begin at the base, no device is sound.
+/// guest-physical address 0 on. `BadBody` if the bytes are the body of no device of this shape that is sound there, or of one
+/// that the version does not have.
 pub fn decode_device(
+    alloc: Global,
+    version: u32,
+    shape: Shape,
+    ram_len: u64,
+    body: &[u8],
+) -> Result<DeviceState, DecodeError>
+    ensures read { IfOk result (λ d. IsBodyOf version shape 0 ram_len body.now d) }
+    ensures refused { IfErr result (λ e. RefusesBody version shape 0 ram_len body.now e) }
+{
+    decode_device_at(alloc, version, shape, 0, ram_len, body)
+}
+
+/// As `decode_device`, of a machine whose RAM begins at the guest-physical address `base`. Where no RAM of that length may begin
+/// there, no device is sound.
+pub fn decode_device_at(
     alloc: Global,
     version: u32,
     shape: Shape,

@@ -1,8 +1,8 @@
 //! The header of a stream.
 
 ghost use Rattle.std.specs.Prelude.{◌≡◌, ◌≤◌, ◌==◌, ◌||◌, ◌↔◌, IsTrue, IfOk, MatchOption, None, Some, drop, length, ℕ, List};
-ghost use Rattle.wire.specs.Header.{Begins, IsVersion, Opening};
-ghost use Rattle.wire.specs.HeaderReading.{header_of, said};
+ghost use Rattle.wire.specs.Header.{Begins, IsVersion, Opening, said};
+ghost use Rattle.wire.specs.HeaderReading.{header_of};
 ghost use Rattle.wire.specs.ShapeReading.{shapes_of};
 
 use crate::numbers::u32_at;

@@ -11,8 +11,8 @@
 //! # What the layers above may rely on
 //! - Each `encode_` function adds the encoding of its part to an honest sink; each `write_` function does the same, and
 //!   a `Tally`, such as a digest, takes the same bytes; each `decode_` function succeeds exactly on an encoding at the
-//!   front, and `decode_device` on a body that is all of the bytes, of a device that is sound at the base that is named and that the
-//!   version has, out of memory aside.
+//!   front, and `decode_device` on a body that is all of the bytes, of a device that is sound in a RAM from 0 on and that the
+//!   version has, out of memory aside; `decode_device_at` names another address at which RAM begins.
 //! - The trait `Sink`: the bytes held, a count of failures modulo 2^64, whether it is honest, and whether it is
 //!   flushed: it is if the last call was a flush that succeeded (`specs/Sinks`). A page and a good sector go to it in
 //!   one call each.
@@ -49,7 +49,7 @@ mod tally;
 mod writing;
 
 pub use decode_error::DecodeError;
-pub use device_reading::decode_device;
+pub use device_reading::{decode_device, decode_device_at};
 pub use encode::{
     encode_commit, encode_device, encode_header, encode_page, encode_round, encode_zero_page,
 };

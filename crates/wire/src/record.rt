@@ -2,8 +2,7 @@
 
 ghost use Rattle.std.specs.Prelude.{◌≡◌, ◌≤◌, ◌↔◌, IsTrue, IfSome, MatchOption, length};
 ghost use Rattle.wire.specs.RecordHeads.{body_len};
-ghost use Rattle.wire.specs.RecordView.{told};
-ghost use Rattle.wire.specs.Records.{BeginsRecord, BeginsNoRecord, IsOf, record_with};
+ghost use Rattle.wire.specs.Records.{BeginsRecord, BeginsNoRecord, IsOf, record_with, told};
 
 use crate::header::VERSION;
 use crate::record_head::{FoundHead, RecordHead, read_head};

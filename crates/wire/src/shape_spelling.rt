@@ -1,7 +1,8 @@
 //! Shapes in the header of a stream.
 
 ghost use Rattle.std.specs.Prelude.{◌≡◌, MatchOption, None, Some};
-ghost use Rattle.wire.specs.ShapeReading.{block_shape_of, net_shape_of, shape_length, shape_of};
+ghost use Rattle.wire.specs.Header.{shape_length};
+ghost use Rattle.wire.specs.ShapeReading.{block_shape_of, net_shape_of, shape_of};
 
 use crate::numbers::{u8_at, u64_at};
 use machine::{SECTORS_MAX, Shape};

@@ -22,9 +22,9 @@ returns-then-bytes-lt-FRONT_LEN-clause-read c =
     head_short c.args.bytes.now (omega arith) (λ at h. h.never magic) (λ at h. h.never version)
 
 pub returns-then-not-may_count-clause-refused : goal.returns-then-not-may_count-clause-refused
-returns-then-not-may_count-clause-refused c = λ sizes.
+returns-then-not-may_count-clause-refused c = λ ram sizes.
     let says : Says c.args.bytes.now c.u32_at-pages.result c.u32_at-count.result = record { long = omega arith; magic = search rules; known = subst IsVersion c.u32_at-version.ensures (c.is_version.ensures.known.0 (search rules)); pages_are = search rules; count_is = search rules } in
-    bad_count sizes c.args.bytes.now c.u32_at-pages.result c.u32_at-count.result says (λ may. not_both_ways c.may_count.result (c.may_count.ensures.1 may) c.if-not-may_count.true)
+    bad_count ram sizes c.args.bytes.now c.u32_at-pages.result c.u32_at-count.result says (λ may. not_both_ways c.may_count.result (c.may_count.ensures.1 may) c.if-not-may_count.true)
 
 pub returns-in-Err-clause-refused : goal.returns-in-Err-clause-refused
 returns-in-Err-clause-refused c =

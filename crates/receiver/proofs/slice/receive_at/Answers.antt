@@ -1,15 +1,18 @@
 use Rattle.std.proofs.Common.{◌≡◌, [], ap, sym, subst, ◌∙◌}
 use Rattle.machine.specs.First.{dealt_marks}
 use Rattle.machine.specs.Seen.{state_of}
+use Rattle.machine.specs.Layout.{pages_of}
 use Rattle.wire.specs.Stream.{shapes_in}
 use Rattle.receiver.specs.Disks.{AreHonestDisks, disk_marks_of, sizes_of}
+use Rattle.receiver.specs.Opened.{HasPages, ram_at}
+use Rattle.receiver.specs.declared.ram_terms.RamTerms.{RamTerms}
 use Rattle.receiver.proofs.Counting.{slice_told, slice_cut, told_at_once}
 use Rattle.receiver.proofs.Whole.{stream_rounds}
 use Rattle.receiver.proofs.slice.receive_at.Goals as goal
 
 pub returns-in-Err-clause-refused : goal.returns-in-Err-clause-refused
 returns-in-Err-clause-refused g c =
-    let told = told_at_once _ _ c.args.bytes.now c.in-Err.error (rw (c.new_at-receiver.ensures.base, c.new_at-receiver.ensures.sizes) at (c.in-Err.ensures.told [] c.new_at-receiver.ensures.fed)) in
+    let told = told_at_once _ _ c.args.bytes.now c.in-Err.error (rw (c.new_at-receiver.ensures.ram, c.new_at-receiver.ensures.sizes) at (c.in-Err.ensures.told [] c.new_at-receiver.ensures.fed)) in
     slice_told _ _ _ _ c.args.bytes.now c.in-Err.error (rw c.new_at-receiver.ensures.marks at c.in-Err.ensures.marks) told
 
 pub returns-in-Ok-clause-received : goal.returns-in-Ok-clause-received
@@ -17,10 +20,11 @@ returns-in-Ok-clause-received g c = λ honest.
     let fed = c.in_default.ensures.fed [] c.new_at-receiver.ensures.fed in
     let m = state_of c.in-Ok.machine in
     let same : c.feed.new.self.marks ≡ disk_marks_of g.D.Disk.state c.args.disks.items = c.in_default.ensures.marks ∙ c.new_at-receiver.ensures.marks in
+    let ram : c.feed.new.self.ram ≡ ram_at c.args.base = c.feed.ensures.ram ∙ c.new_at-receiver.ensures.ram in
     let stream = c.in-Ok.ensures.received (subst AreHonestDisks (sym same) honest) c.args.bytes.now fed in
     record {
       stream = stream;
-      rounds_are = stream_rounds c.feed.new.self.base c.feed.new.self.sizes c.args.bytes.now m c.rounds-rounds.result stream c.in-Ok.ensures.based c.in-Ok.ensures.fits (c.rounds-rounds.ensures.rounds c.args.bytes.now fed);
+      rounds_are = stream_rounds c.feed.new.self.ram c.feed.new.self.sizes c.args.bytes.now m c.rounds-rounds.result stream c.in-Ok.ensures.based (subst (λ (r : RamTerms). HasPages r (pages_of m)) (sym ram) tt) c.in-Ok.ensures.fits (c.rounds-rounds.ensures.rounds c.args.bytes.now fed);
     }
 
 pub returns-in-Ok-clause-marks : goal.returns-in-Ok-clause-marks
@@ -35,14 +39,17 @@ returns-in-Ok-clause-fits g c =
 
 pub returns-in-Err-finish-clause-refused : goal.returns-in-Err-finish-clause-refused
 returns-in-Err-finish-clause-refused g c =
-    let quiet = rw (c.new_at-receiver.ensures.base, c.new_at-receiver.ensures.sizes) at (c.in_default.ensures.quiet [] c.new_at-receiver.ensures.fed) in
+    let quiet = rw (c.new_at-receiver.ensures.ram, c.new_at-receiver.ensures.sizes) at (c.in_default.ensures.quiet [] c.new_at-receiver.ensures.fed) in
     slice_cut _ _ _ c.args.bytes.now c.in-Err-finish.error (c.in-Err-finish.ensures.refused c.args.bytes.now (c.in_default.ensures.fed [] c.new_at-receiver.ensures.fed)) quiet
 
 pub returns-in-Ok-clause-whole : goal.returns-in-Ok-clause-whole
 returns-in-Ok-clause-whole g c =
-    let base : c.feed.new.self.base ≡ c.args.base = c.feed.ensures.base ∙ c.new_at-receiver.ensures.base in
+    let ram : c.feed.new.self.ram ≡ ram_at c.args.base = c.feed.ensures.ram ∙ c.new_at-receiver.ensures.ram in
     let sizes : c.feed.new.self.sizes ≡ sizes_of g.D.Disk.state c.args.disks.items = c.feed.ensures.sizes ∙ c.new_at-receiver.ensures.sizes in
-    rw (base, sizes) at (c.in-Ok.ensures.whole c.args.bytes.now (c.in_default.ensures.fed [] c.new_at-receiver.ensures.fed))
+    rw (ram, sizes) at (c.in-Ok.ensures.whole c.args.bytes.now (c.in_default.ensures.fed [] c.new_at-receiver.ensures.fed))
 
 pub returns-in-Ok-clause-based : goal.returns-in-Ok-clause-based
-returns-in-Ok-clause-based g c = c.in-Ok.ensures.based ∙ c.feed.ensures.base ∙ c.new_at-receiver.ensures.base
+returns-in-Ok-clause-based g c = c.in-Ok.ensures.based ∙ ap (λ (r : RamTerms). r.base) (c.feed.ensures.ram ∙ c.new_at-receiver.ensures.ram)
+
+pub returns-in-Ok-clause-arrived : goal.returns-in-Ok-clause-arrived
+returns-in-Ok-clause-arrived g c = c.in-Ok.ensures.arrived c.args.bytes.now (c.in_default.ensures.fed [] c.new_at-receiver.ensures.fed)

@@ -8,7 +8,7 @@ returns-in-Ok-clause-took g c = λ front known.
     let all : c.deref.result.now ≡ c.args.held.now.items ++ c.args.bytes.now = search rules in
     let stepped = rw all at (c.in-Ok.ensures.stepped front c.args.held.now.items known) in
     let left : c.drop_front.new.bytes.items ≡ drop c.in-Ok.count (c.args.held.now.items ++ c.args.bytes.now) = search rules in
-    looked c.args.base _ _ c.step.new.taken front (c.args.held.now.items ++ c.args.bytes.now) _ c.in-Ok.count c.in-Ok.stage stepped left
+    looked c.args.ram _ _ c.step.new.taken front (c.args.held.now.items ++ c.args.bytes.now) _ c.in-Ok.count c.in-Ok.stage stepped left
 
 pub returns-in-Err-clause-took : goal.returns-in-Err-clause-took
 returns-in-Err-clause-took g c = λ front known.

@@ -14,8 +14,8 @@ pub loop-stopped-init : goal.loop-stopped-init
 loop-stopped-init g c = record {
   room = omega (arith, c.in-Some.ensures.room);
   few = omega (arith, c.in-Some.replies.ok.0, ap length c.in-Some.ensures.none);
-  sending = sending_first c.args.machine c.args.events.now c.in-Some.replies.items c.in-Ok.live c.in-Some.ensures.none c.in-Ok.ensures.machine c.in-Ok.ensures.fresh c.in-Ok.ensures.digest
-      (c.in-Ok.ensures.out ∙ c.new-2.ensures ∙ ap (λ (x : List ℕ). over_writer (Some x) 0 false) c.new.ensures.items);
+  sending = sending_first c.args.machine c.args.events.now c.in-Some.replies.items c.in-Ok.live c.in-Some.ensures.none c.in-Ok.ensures.machine c.in-Ok.ensures.fresh c.in-Ok.ensures.empty c.in-Ok.ensures.digest
+      (c.in-Ok.ensures.out ∙ c.new-2.ensures ∙ ap (λ (x : List ℕ). over_writer (Some x) 0 false) c.new.ensures.items) c.in-Ok.ensures.places;
 }
 
 pub loop-stopped-preserved : goal.loop-stopped-preserved

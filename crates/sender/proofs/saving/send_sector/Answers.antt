@@ -1,4 +1,7 @@
-use Rattle.sender.proofs.SectorReads.{sent_good, took_good}
+use Rattle.std.proofs.Common.{rules, subst}
+use Rattle.blk.specs.Disk.{IsSector}
+use Rattle.guestmem.specs.Number.{IsBytes}
+use Rattle.sender.proofs.SectorReads.{added_good, sent_good}
 use Rattle.sender.proofs.saving.send_sector.Goals as goal
 
 pub returns-in_ok-write_sector-in-Ok-true-clause-sent :
@@ -7,8 +10,9 @@ returns-in_ok-write_sector-in-Ok-true-clause-sent g c =
     sent_good c.args.machine.now c.read_sector.new.self c.args.dev c.args.number c.read_sector.new.buf (g.S.Sink.state c.args.out.now) (g.S.Sink.state c.write_sector.new.out) (tt {0}) (tt {0})
     (rw (c.in-Ok-true.is, c.in-Ok-true.field-0-test) at c.read_sector.ensures) (rw c.in_ok-write_sector-in-Ok-true.was at c.write_sector.ensures.out)
 
-pub returns-in_ok-write_sector-in-Ok-true-clause-taken :
-    goal.returns-in_ok-write_sector-in-Ok-true-clause-taken
-returns-in_ok-write_sector-in-Ok-true-clause-taken g c =
-    took_good c.args.machine.now c.read_sector.new.self c.args.dev c.args.number c.read_sector.new.buf (g.T.Tally.has_taken c.args.tally.now) (g.T.Tally.has_taken c.write_sector.new.tally) (tt {0})
-    (rw (c.in-Ok-true.is, c.in-Ok-true.field-0-test) at c.read_sector.ensures) c.in_ok-write_sector-in-Ok-true.ensures.taken
+pub returns-in_ok-write_sector-in-Ok-true-clause-added :
+    goal.returns-in_ok-write_sector-in-Ok-true-clause-added
+returns-in_ok-write_sector-in-Ok-true-clause-added g c =
+    let whole : IsSector c.read_sector.new.buf = record { size = search rules; bytes = subst IsBytes c.as_slice.ensures c.recall_bytes.ensures } in
+    added_good c.args.machine.now c.read_sector.new.self c.args.dev c.args.number c.read_sector.new.buf (g.S.Sink.state c.args.out.now) (g.S.Sink.state c.write_sector.new.out) (g.T.Tally.has_taken c.args.tally.now) (g.T.Tally.has_taken c.write_sector.new.tally) (tt {0}) whole
+    (rw (c.in-Ok-true.is, c.in-Ok-true.field-0-test) at c.read_sector.ensures) (rw c.in_ok-write_sector-in-Ok-true.was at c.write_sector.ensures.out) c.in_ok-write_sector-in-Ok-true.ensures.taken

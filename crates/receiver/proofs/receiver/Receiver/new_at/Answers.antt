@@ -7,6 +7,8 @@ returns-clause-fed g c = record { goes_on = refl; bytes = λ i. omega arith; tak
 
 pub invariant_of-result : goal.invariant_of-result
 invariant_of-result g c = record {
+  ready = refl;
+  roomed = λ past. absurd past;
   known = λ on. ([], (refl, c.new-2.ensures, rw c.new.ensures.items nothing_known));
   few = rw c.new.ensures.items (omega arith);
   gone = λ e. cc;

@@ -26,4 +26,4 @@ returns-in-Err g c =
 
 pub returns : goal.returns
 returns g c =
-    rw (← c.self.view_is) (item_sent _ _ c.args.number c.item_at-item.result _ c.item_at-item.ensures.item c.in_default.ensures.sent c.in_default.ensures.taken refl c.remove.ensures c.remove-2.ensures)
+    rw (← c.self.view_is) (item_sent _ _ c.args.number c.item_at-item.result _ c.item_at-item.ensures.item c.in_default.ensures.sent c.in_default.ensures.added refl c.remove.ensures c.remove-2.ensures)

@@ -7,7 +7,7 @@ use Rattle.wire.specs.BodyReading.{HasFront, common_of, kind_in, positions_in, q
 use Rattle.wire.proofs.Bodies.{is_body, length-queues_in, no_front, no_kind, not_had, not_sound, read_device}
 use Rattle.wire.proofs.Choices.{not_both}
 use Rattle.wire.proofs.KindTexts.{kind_made}
-use Rattle.wire.proofs.device_reading.decode_device.Goals as goal
+use Rattle.wire.proofs.device_reading.decode_device_at.Goals as goal
 
 pub returns-then-not-has_front-clause-refused : goal.returns-then-not-has_front-clause-refused
 returns-then-not-has_front-clause-refused c =
