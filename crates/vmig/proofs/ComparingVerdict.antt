@@ -54,7 +54,7 @@ refused_come c machine source marks replies error fresh steady refused = record 
     marks = marks;
     steady = steady;
     refused = refused;
-    memory = only_memory (disk_sizes c.shapes) marks machine error (fits_fresh c machine fresh) steady (refused.why (honest_if (all_marks machine) fresh.steady));
+    memory = only_memory (disk_sizes c.shapes) marks machine error (fits_fresh c machine fresh) steady refused.why;
   };
 }
 

@@ -1,4 +1,5 @@
 pub mod AllReplies
+pub mod Answered
 pub mod Arriving
 pub mod ByWords
 pub mod ComparingFresh

@@ -3,13 +3,15 @@
 use Rattle.std.specs.Prelude.{◌≡◌, ◌⊎◌, ℕ, List, ◌++◌}
 use Rattle.machine.specs.Seen.{Marks}
 use Rattle.machine.specs.State.{MachineState, base_of}
-use Rattle.receiver.specs.Receiving.{HasBeenFed, IsReceived, NoFault, Received, RefusesSlice}
+use Rattle.receiver.specs.Opened.{ram_at}
+use Rattle.receiver.specs.Receiving.{HasBeenFed, IsArrived, IsReceived, NoFault, Received, RefusesSlice}
 use Rattle.receiver.specs.declared.recv_error.RecvError.{RecvError}
 use Rattle.vmig.specs.Faults.{TellsOfFile, stream_fault}
 use Rattle.vmig.specs.declared.fault.Fault.{Fault}
 
--- The receiver was fed this front and maybe more, and there was no refusal.
+-- The receiver, for RAM from the address 0 on, was fed this front and maybe more, and there was no refusal.
 pub record IsFedOn (r : Received) (front : List ℕ) : Type 0 where
+  pub at : r.ram ≡ ram_at 0
   pub more : List ℕ
   pub fed : HasBeenFed r (front ++ more)
 
@@ -17,12 +19,19 @@ pub record IsFedOn (r : Received) (front : List ℕ) : Type 0 where
 pub record IsFedQuietly (r : Received) (front : List ℕ) : Type 0 where
   pub more : List ℕ
   pub fed : HasBeenFed r (front ++ more)
-  pub quiet : NoFault r.base r.sizes (front ++ more)
+  pub quiet : NoFault (ram_at 0) r.sizes (front ++ more)
 
 -- The front and what follows it are the stream of this machine, whose RAM begins at the address 0, in which `n` rounds ended.
 pub record IsReceivedOn (front : List ℕ) (m : MachineState) (n : ℕ) : Type 0 where
   pub more : List ℕ
   pub received : IsReceived (front ++ more) m n
+  pub based : base_of m.devices ≡ 0
+
+-- The front and what follows it are the stream of a machine with the RAM, the devices and the bad sectors of this one, whose RAM begins
+-- at the address 0.
+pub record IsArrivedOn (front : List ℕ) (m : MachineState) : Type 0 where
+  pub more : List ℕ
+  pub arrived : IsArrived (front ++ more) m
   pub based : base_of m.devices ≡ 0
 
 -- What a fault says of bytes with this front, received for RAM that begins at this address and over disks of these sizes and marks:

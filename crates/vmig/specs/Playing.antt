@@ -1,17 +1,18 @@
 -- What `run` does: a trace is played on a fresh machine, and the line of each reply is written.
-use Rattle.std.specs.Prelude.{◌≡◌, ◌≢◌, ◌⊎◌, ℕ, List, [], ◌∷◌, length, flat_map, if◌then◌else◌, Option, Some, None, MatchOption}
+use Rattle.std.specs.Prelude.{◌≡◌, ◌≢◌, ◌⊎◌, ℕ, List, [], ◌∷◌, false, length, flat_map, map, if◌then◌else◌, Option, Some, None, MatchOption}
 use Rattle.std.specs.List.{list_any}
 use Rattle.blk.specs.Sectors.{Sector}
+use Rattle.machine.specs.Seen.{Seen, state_of}
 use Rattle.machine.specs.State.{MachineState}
 use Rattle.machine.specs.First.{first_machine, new_refusal}
 use Rattle.sender.specs.History.{is_fault}
-use Rattle.sender.specs.Ran.{Ran}
+use Rattle.sender.specs.Ran.{Ran, WasServed}
 use Rattle.sender.specs.declared.event.LiveEvent.{LiveEvent}
 use Rattle.sender.specs.declared.event.LiveReply.{LiveReply}
 use Rattle.traces.specs.Trace.{Contents, IsTrace, Refuses as RefusesText}
 use Rattle.traces.specs.Replies.{live_reply_line}
 use Rattle.traces.specs.declared.trace.TraceError.{TraceError}
-use Rattle.wire.specs.Sinks.{SinkState}
+use Rattle.wire.specs.Sinks.{SinkState, over_writer}
 use Rattle.vmig.specs.Faults.{TellsOfFile, trace_fault, shape_fault}
 use Rattle.vmig.specs.declared.fault.Fault.{Fault}
 use Rattle.vmig.specs.declared.fault.Fault.TheVariants.{NoMemory, Line, StreamOut}
@@ -26,6 +27,31 @@ pub record ArePlayed (m : MachineState) (events : List LiveEvent) (replies : Lis
 -- These are replies of a fresh machine of the trace's shape, whose disks hold these sectors, to its events.
 abbrev pub AreReplies : Contents → List (List Sector) → List LiveReply → Type 0
 AreReplies c disks replies = ArePlayed (first_machine c.pages c.shapes disks) c.events replies
+
+-- Each event of the list has a reply: that of a call of a migration of this machine to this writer, and each call begins where the one
+-- before it ended. So it is whatever the disks and the writer are.
+pub record AreAnswers (machine : Seen) (out : SinkState) (events : List LiveEvent) (replies : List LiveReply) : Type 0 where
+  pub last : Seen
+  pub after : SinkState
+  pub served : ¬ (replies ≡ []) → WasServed machine out events replies last after
+  pub each : length replies ≡ length events
+
+-- The same of a fresh machine of the trace's shape, whose disks hold these sectors.
+pub record AreAnswersOver (c : Contents) (disks : List (List Sector)) (out : SinkState) (replies : List LiveReply) : Type 0 where
+  pub machine : Seen
+  pub fresh : state_of machine ≡ first_machine c.pages c.shapes disks
+  pub answers : AreAnswers machine out c.events replies
+
+-- The writer of a run: it is over a file where the stream has a name, and holds nothing yet where it has none. `contents` is what is
+-- known of what a file holds.
+abbrev pub IsOutput : {F : Type 0} → (F → Option (List ℕ)) → Option (List ℕ) → SinkState → Type 0
+IsOutput contents None out = out ≡ over_writer (Some []) 0 false
+IsOutput {F} contents (Some stream) out = (file : F) × (out ≡ over_writer (contents file) 0 false)
+
+-- The replies of a run over an image of this name, whose sectors nobody knows, or over no disk.
+abbrev pub AreAnswersFor : Option (List ℕ) → (SinkState → Type 0) → Contents → List LiveReply → Type 0
+AreAnswersFor None Is c replies = (out : SinkState) × Is out × AreAnswersOver c [] out replies
+AreAnswersFor (Some image) Is c replies = (sectors : List (List ℕ)) × (out : SinkState) × Is out × AreAnswersOver c (map Some sectors ∷ []) out replies
 
 -- How a run ends after its replies: if one says that the writer failed, the stream could not be written.
 abbrev pub ending_of : List LiveReply → Option Fault
@@ -46,14 +72,16 @@ pub record AreReplyLines (stream : Option (List ℕ)) (text : List ℕ) (ending 
   pub spelled : lines ≡ flat_map live_reply_line replies
   pub ends : ending ≡ ending_of replies
 
--- The text is a trace, and these are the lines of as many replies as it has events. No contract says what the file of an image
--- holds, and so what its machine answers.
+-- The text is a trace, and these are the lines of replies to its events, each that of a call, from a fresh machine over some sectors
+-- on. No contract says what the file of an image holds, and so which sectors these are and what a read of one gives.
 pub record AreLinesOverImage (stream : Option (List ℕ)) (text : List ℕ) (ending : Option Fault) (lines : List ℕ) : Type 0 where
   pub contents : Contents
   pub trace : IsTrace text contents
   pub may : MayPlay stream contents
   pub replies : List LiveReply
-  pub each : length replies ≡ length contents.events
+  pub sectors : List (List ℕ)
+  pub out : SinkState
+  pub answered : AreAnswersOver contents (map Some sectors ∷ []) out replies
   pub spelled : lines ≡ flat_map live_reply_line replies
   pub ends : ending ≡ ending_of replies
 

@@ -1,12 +1,13 @@
 -- What `resume` does: a machine arrives from a stream, and the guest's events continue.
-use Rattle.std.specs.Prelude.{◌≡◌, ◌⊎◌, ℕ, List, [], ◌∷◌, length, map, flat_map, Option, Some, None}
+use Rattle.std.specs.Prelude.{◌≡◌, ◌⊎◌, ℕ, List, [], ◌∷◌, map, flat_map, Option, Some, None}
 use Rattle.machine.specs.Outcome.{outcome_of}
 use Rattle.machine.specs.Run.{IsRun}
-use Rattle.machine.specs.Seen.{Marks}
+use Rattle.machine.specs.Applied.{AreApplied}
+use Rattle.machine.specs.Seen.{Marks, Seen, state_of}
 use Rattle.machine.specs.State.{MachineState, base_of}
 use Rattle.machine.specs.declared.event.Event.{Event}
 use Rattle.machine.specs.declared.reply.Reply.{Reply}
-use Rattle.receiver.specs.Receiving.{RefusesSlice}
+use Rattle.receiver.specs.Receiving.{IsArrived, RefusesSlice}
 use Rattle.receiver.specs.declared.recv_error.RecvError.{RecvError}
 use Rattle.traces.specs.Trace.{HoldsEvents, RefusesEvents}
 use Rattle.traces.specs.Replies.{reply_line}
@@ -28,6 +29,20 @@ pub record AreResumed (events : List Event) (replies : List Reply) : Type 0 wher
   pub last : MachineState
   pub run : IsRun machine events (map outcome_of replies) replies last
 
+-- A machine with the RAM, the devices and the bad sectors of some stream, whose RAM begins at the address 0. What the good sectors
+-- hold no contract says, as none says what the file of an image holds.
+pub record HasArrivedOver (machine : MachineState) : Type 0 where
+  pub bytes : List ℕ
+  pub arrived : IsArrived bytes machine
+  pub based : base_of machine.devices ≡ 0
+
+-- These are the replies of such a machine to the events, each applied to what the one before it left.
+pub record AreResumedOverImage (events : List Event) (replies : List Reply) : Type 0 where
+  pub machine : Seen
+  pub arrived : HasArrivedOver (state_of machine)
+  pub last : Seen
+  pub applied : AreApplied machine events replies last
+
 -- The text is events, and these are the lines of such replies to them, in order. The machine has no disk.
 pub record AreResumedLines (text lines : List ℕ) : Type 0 where
   pub events : List Event
@@ -36,13 +51,12 @@ pub record AreResumedLines (text lines : List ℕ) : Type 0 where
   pub answered : AreResumed events replies
   pub spelled : lines ≡ flat_map reply_line replies
 
--- The text is events, and these are the lines of as many replies. No contract says what the file of an image holds, and so
--- what the machine answers.
+-- The text is events, and these are the lines of the replies of a machine that arrived over an image.
 pub record AreLinesOverImage (text lines : List ℕ) : Type 0 where
   pub events : List Event
   pub holds : HoldsEvents text events
   pub replies : List Reply
-  pub each : length replies ≡ length events
+  pub answered : AreResumedOverImage events replies
   pub spelled : lines ≡ flat_map reply_line replies
 
 -- What is written for a text, over the image of this name or over no disk.

@@ -6,7 +6,7 @@ ghost use Rattle.machine.specs.Seen.{all_marks, state_of};
 ghost use Rattle.receiver.specs.Disks.{AreHonestDisks, disk_marks_of, sizes_of};
 ghost use Rattle.wire.specs.Stream.{shapes_in};
 ghost use Rattle.vmig.specs.Faults.{TellsOfFile};
-ghost use Rattle.vmig.specs.Feeding.{IsFedOn, IsFedQuietly, IsReceivedOn, TellsOfRest};
+ghost use Rattle.vmig.specs.Feeding.{IsArrivedOn, IsFedOn, IsFedQuietly, IsReceivedOn, TellsOfRest};
 
 use crate::fault::Fault;
 use machine::{Disk, Machine};
@@ -53,6 +53,7 @@ pub fn receive_rest<'a, F: Read, D: Disk + Drop>(
     disks: Vec<D>,
 ) -> Result<(Machine<D>, u32), Fault<'a>>
     requires { count ≤ length piece.old }
+    ensures arrived { IfOk result (λ x. IsArrivedOn (take count piece.old) (state_of x.0)) }
     ensures received { IfOk result (λ x. AreHonestDisks (disk_marks_of D.state disks.items) → IsReceivedOn (take count piece.old) (state_of x.0) x.1) }
     ensures marks { IfOk result (λ x. all_marks x.0 ≡ dealt_marks (shapes_in (state_of x.0).devices) (disk_marks_of D.state disks.items)) }
     ensures failed { IfErr result (TellsOfRest name.entry.now (take count piece.old) 0 (sizes_of D.state disks.items) (disk_marks_of D.state disks.items)) }
@@ -74,11 +75,11 @@ fn feed_rest<'a, F: Read, D: Disk + Drop>(
     piece: &mut [u8],
     receiver: &mut Receiver<D>,
 ) -> Result<(), Fault<'a>>
-    ensures base { receiver.new.base ≡ receiver.old.base }
+    ensures ram { receiver.new.ram ≡ receiver.old.ram }
     ensures sizes { receiver.new.sizes ≡ receiver.old.sizes }
     ensures marks { OnOk result (receiver.new.marks ≡ receiver.old.marks) }
     ensures quiet { OnOk result ((front : List ℕ) → IsFedOn receiver.old front → IsFedQuietly receiver.new front) }
-    ensures failed { IfErr result (λ fault. (front : List ℕ) → IsFedOn receiver.old front → TellsOfRest name.entry.now front receiver.old.base receiver.old.sizes receiver.old.marks fault) }
+    ensures failed { IfErr result (λ fault. (front : List ℕ) → IsFedOn receiver.old front → TellsOfRest name.entry.now front 0 receiver.old.sizes receiver.old.marks fault) }
 {
     for _ in 0..u64::MAX {
         if feed_piece(file, name, piece, receiver)? {
@@ -95,12 +96,12 @@ fn feed_piece<'a, F: Read, D: Disk + Drop>(
     piece: &mut [u8],
     receiver: &mut Receiver<D>,
 ) -> Result<bool, Fault<'a>>
-    ensures base { receiver.new.base ≡ receiver.old.base }
+    ensures ram { receiver.new.ram ≡ receiver.old.ram }
     ensures sizes { receiver.new.sizes ≡ receiver.old.sizes }
     ensures marks { OnOk result (receiver.new.marks ≡ receiver.old.marks) }
     ensures goes_on { OnOk result ((front : List ℕ) → IsFedOn receiver.old front → IsFedOn receiver.new front) }
     ensures quiet { IfOk result (λ ended. ended ≡ true → (front : List ℕ) → IsFedOn receiver.old front → IsFedQuietly receiver.new front) }
-    ensures failed { IfErr result (λ fault. (front : List ℕ) → IsFedOn receiver.old front → TellsOfRest name.entry.now front receiver.old.base receiver.old.sizes receiver.old.marks fault) }
+    ensures failed { IfErr result (λ fault. (front : List ℕ) → IsFedOn receiver.old front → TellsOfRest name.entry.now front 0 receiver.old.sizes receiver.old.marks fault) }
 {
     let count = match file.read(piece) {
         Ok(count) => count,

@@ -1,8 +1,9 @@
-//! The laws of machines, streams and traces: functions that do nothing, whose contracts are the laws.
+//! The laws of RAM, machines, streams and traces: functions that do nothing, whose contracts are the laws.
 
+pub use guestmem::laws::{given_back_is_written, later_in_turn, refusals_at_zero, rises_in_turn};
 pub use machine::laws::{
-    any_disk_acts_alike, effects_agree, honest_disks_give_theirs, idle_without_work,
-    malformed_asks_for_reset, malformed_is_contained, refusals_change_nothing,
+    any_disk_acts_alike, back_is_written, effects_agree, honest_disks_give_theirs,
+    idle_without_work, malformed_asks_for_reset, malformed_is_contained, refusals_change_nothing,
     refused_changes_nothing, runs_agree, shape_stays, step_keeps_shape, step_stays_sound,
     step_stays_within, steps_agree, touched_exists, untouched_stays, work_gets_on,
 };
@@ -17,12 +18,13 @@ pub use rehearsal::laws::{
 };
 pub use sender::laws::{
     after_is_run, calls_follow, calls_ignore_what_was_taken, failed_flush_follows_the_history,
-    flush_keeps_the_history, fresh_is_last, replies_settle, stale_is_not_fresh,
+    flush_keeps_the_history, fresh_is_last, honest_disks_tell_contents,
+    live_back_follows_the_history, live_back_is_served, replies_settle, stale_is_not_fresh,
     stopped_is_a_stream, taken_failed_flush_follows_the_history, taken_follows_the_history,
     taken_is_whole,
 };
 pub use traces::laws::{events_are_read_in_one_way, texts_are_read_in_one_way};
 pub use wire::laws::{
-    a_stream_has_one_count_of_rounds, a_stream_has_one_machine, no_record_begins_another,
-    whole_is_a_stream,
+    a_stream_has_one_count_of_rounds, a_stream_has_one_machine, a_stream_has_one_version,
+    each_version_has_a_stream, no_record_begins_another, whole_is_a_stream,
 };

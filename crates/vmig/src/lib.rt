@@ -2,7 +2,8 @@
 //!
 //! Machines, their events and their replies are those of `machine`; `Live`, `replay`, `save` and `saved_len` are those of `sender`,
 //! and `Receiver`, `receive` and `receive_at` those of `receiver`, over the sinks and records of `wire`; `rehearse` is that of `rehearsal`, and
-//! `parse`, `write_reply` and what belongs to them are those of `traces`.
+//! `parse`, `write_reply` and what belongs to them are those of `traces`. RAM, its logs, and the memory of a caller in which it may lie
+//! are those of `guestmem` and `region`.
 //! The functions of `laws` are the laws of all of these.
 //!
 //! `execute` is the whole program: its words, the files that they name, what it prints and its exit status. The crate
@@ -16,8 +17,8 @@
 //! or of a rehearsal that did not end in equal machines. `rehearse` writes `equal` only of machines that answered alike and
 //! have the same lines, RAM and sectors, and `differ` only where memory was refused to one of them. The contracts of files say
 //! nothing of what a file holds. So its contract does not say that the trace or the stream is the one in the file, nor that the
-//! new file holds what was sent of a machine, and of a run over an image it says only that there is a reply's line for each
-//! event: the crate `calls` tests all of this.
+//! new file holds what was sent of a machine. Over an image each reply is that of a call, from a machine over some sectors on, or, of
+//! `resume`, from the machine that arrived on; which sectors these are is not said. The crate `calls` tests what files hold.
 //!
 //! The definitions are in `specs/`: `Words` the program's words, `Faults` for which refusal each fault is, its status and its
 //! line, `Playing`, `Resuming`, `Checking` and `Comparing` what `run`, `resume`, `check` and `rehearse` write and what a fault
@@ -42,25 +43,28 @@ mod words;
 
 pub use dirtylog::BitSet;
 pub use fault_writer::FaultWriter;
-pub use guestmem::{ACCESS_MAX, NoMemory, PAGE_SIZE, PAGES_MAX, Ram, RamError, Touched, is_zero};
+pub use guestmem::{
+    ACCESS_MAX, NoLog, NoMemory, PAGE_SIZE, PAGES_MAX, Ram, RamError, TouchLog, Touched, is_zero,
+};
 pub use machine::{
     Bytes, DEVICES_MAX, DeviceState, Disk, DiskFault, Event, FaultDisk, FileDisk, Kind, Machine,
-    MemDisk, NewError, Refusal, Reply, SECTOR_SIZE, SECTORS_MAX, Shape, Stepped, SyncOwed, Work,
-    is_base,
+    MemDisk, NewError, Parked, Refusal, Reply, SECTOR_SIZE, SECTORS_MAX, Shape, Stepped, SyncOwed,
+    Work, is_base,
 };
 pub use program::execute;
 pub use receiver::{Receiver, RecvError, read_heading, receive, receive_at};
+pub use region::Region;
 pub use rehearsal::{Rehearsal, rehearse};
 pub use sender::{
-    CopyAnswer, End, Item, Live, LiveEvent, LiveReply, MigError, Phase, Remaining, Replay, Stopped,
-    replay, save, saved_len,
+    CopyAnswer, End, Item, Live, LiveEvent, LiveParked, LiveReply, MigError, Phase, Remaining,
+    Replay, Stopped, replay, save, saved_len,
 };
 pub use traces::{
     Trace, TraceError, WriteFault, parse, parse_events, write_checked, write_guest_reply,
     write_reply,
 };
 pub use wire::{
-    DecodeError, Header, Record, Sink, SinkFault, WriteSink, decode_device, decode_header,
-    decode_record, encode_commit, encode_device, encode_header, encode_page, encode_round,
-    encode_sector, encode_zero_page,
+    DecodeError, Header, Record, Sink, SinkFault, WriteSink, decode_device, decode_device_at,
+    decode_header, decode_record, encode_commit, encode_device, encode_header, encode_page,
+    encode_round, encode_sector, encode_zero_page,
 };

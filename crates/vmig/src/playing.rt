@@ -1,12 +1,13 @@
 //! The command `run`: a trace is played on a new machine.
 
-ghost use Rattle.std.specs.Prelude.{◌≡◌, [], IfOk, IfErr, OnOk, All, IsTrue, None, length, map, Some};
+ghost use Rattle.std.specs.Prelude.{◌≡◌, [], IfOk, IfErr, OnOk, All, IsTrue, None, length, map, false, Some};
 ghost use Rattle.std.specs.List.{list_any};
 ghost use Rattle.sender.specs.History.{is_fault};
 ghost use Rattle.traces.specs.Trace.{contents_of};
 ghost use Rattle.vmig.specs.Output.{Fails, FailsOnFile, HasDoneFile, HasWritten, IsOne};
 ghost use Rattle.vmig.specs.Faults.{TellsOfFile};
-ghost use Rattle.vmig.specs.Playing.{AreLinesOver, ArePlayed, AreReplies, MayPlay, TellsOfBegin, TellsOfSending, TellsOfText, TellsOver};
+ghost use Rattle.vmig.specs.Playing.{AreAnswers, AreAnswersFor, AreAnswersOver, AreLinesOver, ArePlayed, AreReplies, IsOutput, MayPlay, TellsOfBegin, TellsOfSending, TellsOfText, TellsOver};
+ghost use Rattle.wire.specs.Sinks.{SinkState, over_writer};
 ghost use Rattle.machine.specs.Seen.{AreHonest, state_of};
 ghost use Rattle.vmig.specs.declared.fault.Fault.TheVariants as faults;
 ghost use Rattle.vmig.specs.Words.{name_in};
@@ -86,7 +87,7 @@ fn replies_over<'a, R: Files + AllocGlobal>(
     image: Option<&'a str>,
     stream: Option<&'a str>,
 ) -> Result<Vec<LiveReply>, Fault<'a>>
-    ensures each { IfOk result (λ replies. length replies.items ≡ length trace.now.events.items) }
+    ensures answered { IfOk result (λ replies. AreAnswersFor (name_in image.entry) (IsOutput R.File.contents (name_in stream.entry)) (contents_of trace.now) replies.items) }
     ensures played { image.entry ≡ None → IfOk result (λ replies. AreReplies (contents_of trace.now) [] replies.items) }
     ensures failed { IfErr result (TellsOver (name_in image.entry) (name_in stream.entry) (contents_of trace.now)) }
 {
@@ -126,7 +127,7 @@ fn replies_to<'a, R: Files + AllocGlobal, D: Disk + Drop>(
     stream: Option<&'a str>,
     inputs: &[&str],
 ) -> Result<Vec<LiveReply>, Fault<'a>>
-    ensures each { IfOk result (λ replies. length replies.items ≡ length trace.now.events.items) }
+    ensures answered { IfOk result (λ replies. (out : SinkState) × IsOutput R.File.contents (name_in stream.entry) out × AreAnswersOver (contents_of trace.now) (map (λ d. map Some (D.state d).sectors) disks.items) out replies.items) }
     ensures played { All (λ d. IsTrue (D.state d).honest) disks.items → IfOk result (λ replies. AreReplies (contents_of trace.now) (map (λ d. map Some (D.state d).sectors) disks.items) replies.items) }
     ensures failed { IfErr result (TellsOfSending (name_in stream.entry) (contents_of trace.now) (map (λ d. length (D.state d).sectors) disks.items)) }
 {
@@ -151,7 +152,7 @@ fn replies_of<D: Disk + Drop, W: Write + Drop>(
     events: &[LiveEvent],
     writer: W,
 ) -> Result<Vec<LiveReply>, Fault<'static>>
-    ensures each { IfOk result (λ replies. length replies.items ≡ length events.now) }
+    ensures answered { IfOk result (λ replies. AreAnswers machine (over_writer (W.contents writer) 0 false) events.now replies.items) }
     ensures played { AreHonest machine → IfOk result (λ replies. ArePlayed (state_of machine) events.now replies.items) }
     ensures memory { IfErr result (λ fault. fault ≡ faults.NoMemory) }
 {
@@ -160,7 +161,7 @@ fn replies_of<D: Disk + Drop, W: Write + Drop>(
         out: _,
         replies,
     } = replay(alloc, machine, events, WriteSink::new(writer));
-    if replies.is_empty() && !events.is_empty() {
+    if replies.len() != events.len() {
         return Err(Fault::NoMemory);
     }
     Ok(replies)

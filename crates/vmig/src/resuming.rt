@@ -1,13 +1,18 @@
 //! The command `resume`: a machine arrives from a stream, and continues.
 
-ghost use Rattle.std.specs.Prelude.{◌≡◌, IfOk, IfErr, OnOk, None, length};
+ghost use Rattle.std.specs.Prelude.{◌≡◌, IfOk, IfErr, OnOk, None, map};
 ghost use Rattle.machine.specs.First.{dealt_marks};
-ghost use Rattle.machine.specs.Seen.{all_marks, state_of};
+ghost use Rattle.machine.specs.Applied.{AreApplied};
+ghost use Rattle.machine.specs.Run.{IsRun};
+ghost use Rattle.machine.specs.Outcome.{outcome_of};
+ghost use Rattle.machine.specs.Seen.{AreHonest, Seen, all_marks, state_of};
 ghost use Rattle.receiver.specs.Disks.{AreHonestDisks, disk_marks_of, sizes_of};
 ghost use Rattle.wire.specs.Stream.{shapes_in};
 ghost use Rattle.vmig.specs.Output.{Fails, FailsOnFile, HasDoneFile, HasWritten, Silently};
-ghost use Rattle.vmig.specs.Resuming.{AreResumed, AreResumedOver, HasArrived, TellsOfArrival, TellsOfResuming, TellsOfStreamOver};
+ghost use Rattle.vmig.specs.Resuming.{AreResumed, AreResumedOver, AreResumedOverImage, HasArrived, HasArrivedOver, TellsOfArrival, TellsOfResuming, TellsOfStreamOver};
+ghost use Rattle.machine.specs.State.{MachineState};
 ghost use Rattle.vmig.specs.Words.{name_in};
+ghost use Rattle.vmig.specs.declared.fault.Fault.TheVariants as faults;
 
 use crate::fault::Fault;
 use crate::feeding::{PIECE_SIZE, read_front, receive_rest};
@@ -58,7 +63,7 @@ fn replies_over<'a, R: Files + AllocGlobal>(
     events: &[Event],
     image: Option<&'a str>,
 ) -> Result<Vec<Reply>, Fault<'a>>
-    ensures each { IfOk result (λ replies. length replies.items ≡ length events.now) }
+    ensures answered { IfOk result (λ replies. AreResumedOverImage events.now replies.items) }
     ensures played { image.entry ≡ None → IfOk result (λ replies. AreResumed events.now replies.items) }
     ensures failed { IfErr result (TellsOfStreamOver (name_in image.entry) stream.entry.now) }
 {
@@ -78,11 +83,23 @@ fn replies_to<'a, R: Files + AllocGlobal, D: Disk + Drop>(
     events: &[Event],
     disks: Vec<D>,
 ) -> Result<Vec<Reply>, Fault<'a>>
-    ensures each { IfOk result (λ replies. length replies.items ≡ length events.now) }
+    ensures answered { IfOk result (λ replies. AreResumedOverImage events.now replies.items) }
     ensures played { AreHonestDisks (disk_marks_of D.state disks.items) → IfOk result (λ replies. AreResumed events.now replies.items) }
     ensures failed { IfErr result (TellsOfArrival stream.entry.now (sizes_of D.state disks.items) (disk_marks_of D.state disks.items)) }
 {
-    let mut machine = receive_file(rt, stream, image, disks)?;
+    let machine = receive_file(rt, stream, image, disks)?;
+    replies_of(machine, events)
+}
+
+/// The replies of a machine to these events. It is dropped at the end.
+fn replies_of<D: Disk + Drop>(
+    mut machine: Machine<D>,
+    events: &[Event],
+) -> Result<Vec<Reply>, Fault<'static>>
+    ensures applied { IfOk result (λ replies. (last : Seen) × AreApplied machine events.now replies.items last) }
+    ensures run { AreHonest machine → IfOk result (λ replies. (last : MachineState) × IsRun (state_of machine) events.now (map outcome_of replies.items) replies.items last) }
+    ensures memory { IfErr result (λ fault. fault ≡ faults.NoMemory) }
+{
     match machine.play(events) {
         Ok(replies) => Ok(replies),
         Err(_) => Err(Fault::NoMemory),
@@ -97,6 +114,7 @@ fn receive_file<'a, R: Files + AllocGlobal, D: Disk + Drop>(
     image: Option<&str>,
     disks: Vec<D>,
 ) -> Result<Machine<D>, Fault<'a>>
+    ensures over { IfOk result (λ m. HasArrivedOver (state_of m)) }
     ensures arrived { AreHonestDisks (disk_marks_of D.state disks.items) → IfOk result (λ m. HasArrived (state_of m)) }
     ensures marks { IfOk result (λ m. all_marks m ≡ dealt_marks (shapes_in (state_of m).devices) (disk_marks_of D.state disks.items)) }
     ensures failed { IfErr result (TellsOfArrival name.entry.now (sizes_of D.state disks.items) (disk_marks_of D.state disks.items)) }

@@ -1,7 +1,7 @@
-use Rattle.std.proofs.Common.{◌≡◌, ◌++◌, drop, take, rules}
+use Rattle.std.proofs.Common.{◌≡◌, ◌++◌, take, rules}
 use Rattle.std.proofs.lemmas.Result.{IfErr-weaker, IfOk-weaker}
 use Rattle.machine.specs.Seen.{state_of}
-use Rattle.wire.specs.HeaderReading.{said}
+use Rattle.wire.specs.Header.{said}
 use Rattle.vmig.proofs.Checked.{rest_told}
 use Rattle.vmig.proofs.MemoryDisks.{honest_disks}
 use Rattle.vmig.specs.Checking.{HasCome, TellsOfChecked}

@@ -4,7 +4,7 @@ use Rattle.vmig.proofs.feeding.feed_rest.Given as goal
 
 abbrev pub invariant-loop : goal.invariant-loop
 invariant-loop g l = record {
-  base : l.receiver.base ≡ l.fn.receiver.base;
+  ram : l.receiver.ram ≡ l.fn.receiver.ram;
   sizes : l.receiver.sizes ≡ l.fn.receiver.sizes;
   marks : l.receiver.marks ≡ l.fn.receiver.marks;
   fed : (front : List ℕ) → IsFedOn l.fn.receiver front → IsFedOn l.receiver front;

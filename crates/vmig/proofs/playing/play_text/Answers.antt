@@ -19,7 +19,7 @@ returns-in_err-write_all-clause-failed g c =
       record {
         ending = _;
         output = _;
-        asked = lines_are c.args.image (name_in c.args.stream) c.args.text.now (contents_of c.in_ok-trace.trace) c.in_ok-replies.replies.items c.in_ok-trace.ensures.read c.in_ok-has_stream.ensures.may c.in_ok-replies.ensures.each c.in_ok-replies.ensures.played;
+        asked = lines_are c.args.image (name_in c.args.stream) c.args.text.now (contents_of c.in_ok-trace.trace) _ c.in_ok-replies.replies.items c.in_ok-trace.ensures.read c.in_ok-has_stream.ensures.may c.in_ok-replies.ensures.answered c.in_ok-replies.ensures.played;
         begun = rw c.as_slice.ensures.value at c.in_err-write_all.ensures.err;
       },
     )))

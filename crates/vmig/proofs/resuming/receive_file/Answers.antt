@@ -13,6 +13,11 @@ returns-in_err-machine-clause-failed g c =
     let told = err_from_is_err_and c.from_residual-in_err-machine.result c.from_residual-in_err-machine.ensures.1 in
     rw told.1 (subst (λ (f : Fault). TellsOfArrival c.args.name.now sizes marks f) (sym told.2) (of_arrival c.args.name.now _ sizes marks _ c.in_err-machine.ensures.failed))
 
+pub returns-clause-over : goal.returns-clause-over
+returns-clause-over g c =
+    let arrived = c.in_ok-machine.ensures.arrived in
+    record { bytes = _ ++ arrived.more; arrived = arrived.arrived; based = arrived.based }
+
 pub returns-clause-arrived : goal.returns-clause-arrived
 returns-clause-arrived g c = λ honest.
     let arrived = c.in_ok-machine.ensures.received honest in
