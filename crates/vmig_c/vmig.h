@@ -79,8 +79,9 @@
  * and vmig_stop for what they write, which waits until it is taken: a stop of a machine of which nothing was copied before
  * writes the whole machine; vmig_give_back_marked and vmig_give_back_all for a list of 4 bytes for each page that they name,
  * which is kept for the next such call; vmig_feed, for the first bytes until the header is whole, fewer than 1,024, for a buffer
- * of 128 KiB, in which the front of a record waits for the rest, for RAM and disks, where they are not yours, as soon as the
- * header is whole and within the limits of vmig_arrive, and for devices; and vmig_finish. No other call does.
+ * of 128 KiB, in which the front of a record waits for the rest, for RAM and disks, where they are not yours, and the machine's
+ * lists, as soon as the header is whole and within the limits of vmig_arrive, and for devices. No other call does: vmig_finish
+ * makes the machine of what is there.
  *
  * A MACHINE IS SENT WHILE IT RUNS: vmig_begin, then vmig_copy until VMIG_ROUND_DONE and vmig_end_round, as often as you like,
  * then vmig_stop. The guest is served as before between these: all other calls are allowed, but for vmig_save,
@@ -254,9 +255,9 @@ enum {
     VMIG_STREAM_BAD_VERSION = 34,    /* a stream whose version is neither 1 nor 2 */
     VMIG_STREAM_BAD_SHAPE = 35,      /* the machine that it encodes is beyond the limits */
     VMIG_STREAM_SHAPE_MISMATCH = 36, /* vmig_feed, after vmig_arrive over images or RAM: its disks are not as many, or as large,
-                                      * as the images; no sector was written */
+                                      * as the images, or its pages not as many as those of your RAM; nothing was written */
     VMIG_STREAM_BAD_TAG = 37,        /* a tag that may not come there */
-    VMIG_STREAM_BAD_PAGE = 38,       /* there is no such page */
+    VMIG_STREAM_BAD_PAGE = 38,       /* there is no such page, or its 4,096 bytes are all 0 in version 2 */
     VMIG_STREAM_BAD_SECTOR = 39,     /* there is no such sector */
     VMIG_STREAM_BAD_ROUND = 40,      /* the end of a round that is not the next */
     VMIG_STREAM_BAD_DEVICE = 41,     /* a device that is not the next, or cannot be */
@@ -264,8 +265,7 @@ enum {
     VMIG_STREAM_MISSING = 43,        /* a page, a sector or a device is missing */
     VMIG_STREAM_TRAILING = 44,       /* bytes after its end */
     VMIG_STREAM_TRUNCATED = 45,      /* vmig_receive, vmig_finish: it is cut off */
-    VMIG_STREAM_NO_MEMORY = 47,      /* vmig_feed, vmig_finish: out of memory for what arrives; vmig_feed, after vmig_arrive over
-                                      * RAM: its pages are not as many as those of your RAM */
+    VMIG_STREAM_NO_MEMORY = 47,      /* vmig_feed: out of memory for what arrives */
     VMIG_STREAM_FAILED = 48,         /* vmig_feed, vmig_finish: it was refused before */
     VMIG_STREAM_TOO_LARGE = 49,      /* vmig_feed, after vmig_arrive: it announces more pages or sectors than you allow */
 
@@ -360,8 +360,10 @@ typedef struct vmig_image {
 
 #define VMIG_NO_IMAGE {0, 0}
 
-/* Memory of yours that is the RAM of a machine, or is to be: len bytes at at, which may be read and written, and which no image
- * overlaps. RAM has 1 to 16,384 pages of 4,096 bytes; VMIG_NO_RAM has no bytes. */
+/* Memory of yours that is the RAM of a machine, or is to be: len bytes at at, fewer than 2^63, which may be read and written, and
+ * which no image overlaps. They have values before the call: mmap and calloc give them, and malloc does not. RAM has 1 to 16,384 pages
+ * of 4,096 bytes; VMIG_NO_RAM has no bytes. While RAM is not lent nobody else reads or writes them: no processor of the guest, and no
+ * other process that maps them too. If a file lies behind them it is not cut. */
 typedef struct vmig_ram {
     void *at;
     size_t len;
@@ -410,7 +412,9 @@ typedef struct vmig_arrival {
     vmig_ram ram;              /* RAM, in memory of yours, which is written over; or VMIG_NO_RAM: in memory of the library */
     uint64_t base;             /* the guest-physical address at which RAM begins: that of the machine that is sent. A stream does not
                                 * say it. With another one the addresses in it can be out of RAM: then it is refused, else the driver
-                                * finds its rings at other bytes */
+                                * finds its rings at other bytes. A multiple of 4,096, else VMIG_BAD_SHAPE. RAM of the library has its
+                                * length only from the stream: one that would reach past the last address refuses the first device,
+                                * as VMIG_STREAM_BAD_DEVICE */
     uint64_t reserved[3];      /* zeros */
 } vmig_arrival;
 
@@ -508,10 +512,11 @@ uint32_t vmig_give_back_marked(vmig_machine *machine, vmig_ram *ram, const uint6
  * VMIG_NO_MACHINE, then VMIG_NOT_LENT, then VMIG_BAD_RAM, then VMIG_NO_MEMORY, and no others. */
 uint32_t vmig_give_back_all(vmig_machine *machine, vmig_ram *ram);
 
-/* A device does one piece of its work, which the pick names. A block device: pick 0 takes the next request, and pick k, from
- * 1 to 8, brings the k-th request that it has taken one unit on. An entropy device: pick 0 fills the next buffer. A network
- * device and a console: pick 0 fills the next receive buffer, and pick 1 takes the next message to be sent. A pick that names
- * no work of the device is VMIG_IDLE. Make the steps that vmig_next_work names, then read the lines.
+/* A device does one piece of its work, which the pick names. A block device: pick 0 takes the next request (none while 8 are
+ * outstanding), and pick k, from 1 to 8, brings the k-th request that it has taken one unit on. An entropy device: pick 0
+ * fills the next buffer. A network device and a console: pick 0 fills the next receive buffer, and pick 1 takes the next
+ * message to be sent. A pick that names no work of the device is VMIG_IDLE. Make the steps that vmig_next_work names, then
+ * read the lines.
  *
  * A message that is sent goes into buf. A step that may send more than size bytes is not done, and VMIG_TOO_SMALL: 1,514
  * bytes are enough for a network device, 65,536 (VMIG_SENT_MAX) for each device, and 0 for a block or an entropy device and
@@ -688,8 +693,8 @@ uint32_t vmig_take(vmig_machine *machine, uint8_t *buf, size_t size, size_t *got
 /* A machine will arrive within the limits and in the memory that the arrival names: feed its stream by vmig_feed from here on. A
  * stream that announces more pages, or more sectors in all its disks together, is VMIG_STREAM_TOO_LARGE with the piece that
  * completes its header, before memory is taken for RAM or disks; it stays refused then. One whose disks are not as many, or as
- * large, as the images is VMIG_STREAM_SHAPE_MISMATCH before a sector is written, and one of another number of pages than RAM of
- * yours has is VMIG_STREAM_NO_MEMORY before a page is written; vmig_stream_size and vmig_stream_device tell these before.
+ * large, as the images, or that has another number of pages than RAM of yours, is VMIG_STREAM_SHAPE_MISMATCH before a sector or a
+ * page is written; vmig_stream_size and vmig_stream_device tell these before.
  * VMIG_OK takes RAM and images that it names: arrival->ram is VMIG_NO_RAM then, and each of the images VMIG_NO_IMAGE, and
  * vmig_unmap gives the images back, also of a stream that was refused or is not whole. At every other status nothing changed. The
  * rest of *arrival is as it was in any case.
@@ -706,8 +711,8 @@ uint32_t vmig_arrive(vmig_arrival *arrival, vmig_machine *machine);
 uint32_t vmig_feed(vmig_machine *machine, const uint8_t *bytes, size_t len);
 
 /* All bytes have arrived: the handle has the machine, which is not being sent, with RAM and disks in memory of the library, or in
- * the memory and the images of vmig_arrive. An incomplete stream is refused, as by vmig_feed.
- * VMIG_NO_MACHINE, VMIG_IN_USE, VMIG_STREAM_TRUNCATED, VMIG_STREAM_NO_MEMORY, VMIG_STREAM_FAILED. */
+ * the memory and the images of vmig_arrive. An incomplete stream is refused, as by vmig_feed. It takes no memory.
+ * VMIG_NO_MACHINE, VMIG_IN_USE, VMIG_STREAM_TRUNCATED, VMIG_STREAM_FAILED. */
 uint32_t vmig_finish(vmig_machine *machine);
 
 /* *ended is the number of rounds that ended in the bytes so far, and 0 for a stream that was refused.

@@ -228,7 +228,7 @@ static size_t take_all(vmig_machine *m, uint8_t *stream)
     return len;
 }
 
-/* Feeds a stream in pieces. Returns whether memory was refused. */
+/* Feeds a stream in pieces. Returns whether memory was refused. The end of a stream takes none. */
 static int feed(vmig_machine *m, const uint8_t *stream, size_t len)
 {
     uint32_t rounds;
@@ -240,8 +240,7 @@ static int feed(vmig_machine *m, const uint8_t *stream, size_t len)
         expect("feed", answer, VMIG_OK);
         expect("rounds so far", CALL(vmig_rounds(m, &rounds)), VMIG_OK);
     }
-    if (CALL(vmig_finish(m)) == VMIG_STREAM_NO_MEMORY) return 1;
-    expect("finish", answer, VMIG_OK);
+    expect("finish", CALL(vmig_finish(m)), VMIG_OK);
     return 0;
 }
 

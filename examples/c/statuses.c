@@ -394,7 +394,7 @@ static void arriving_over(void)
 
     memset(room, 0x5a, sizeof room);
     expect("arrive", arrive_over(&two, &image, 1, &m), VMIG_OK);
-    expect("a page too few", vmig_feed(&m, stream, stream_len), VMIG_STREAM_NO_MEMORY);
+    expect("a page too few", vmig_feed(&m, stream, stream_len), VMIG_STREAM_SHAPE_MISMATCH);
     expect("refused for good", vmig_feed(&m, stream, stream_len), VMIG_STREAM_FAILED);
     expect("unmap", vmig_unmap(&m, &image, 1), VMIG_OK);
     expect("arrive", arrive_over(&one, NULL, 0, &m), VMIG_OK);

@@ -11,7 +11,7 @@ pub enum Error {
     /// There is no device of this number.
     NoDevice = raw::NO_DEVICE,
 
-    /// The access reaches past the end of RAM.
+    /// The access does not lie in RAM.
     OutOfRam = raw::OUT_OF_RAM,
 
     /// The access is of more than 4,096 bytes.
@@ -95,7 +95,8 @@ pub enum Error {
     /// The machine of the stream is beyond the limits.
     StreamBadShape = raw::STREAM_BAD_SHAPE,
 
-    /// The disks of the stream are not as many, or as large, as the images.
+    /// The disks of the stream are not as many, or as large, as the images, or its pages not as many as those of the memory that it arrives
+    /// in.
     StreamShapeMismatch = raw::STREAM_SHAPE_MISMATCH,
 
     /// The stream has a tag that may not come there.
@@ -125,7 +126,7 @@ pub enum Error {
     /// The stream is cut off.
     StreamTruncated = raw::STREAM_TRUNCATED,
 
-    /// Memory was refused for what arrives, or the memory that it arrives in has another number of pages.
+    /// Memory was refused for what arrives.
     StreamNoMemory = raw::STREAM_NO_MEMORY,
 
     /// The stream was refused before.
@@ -138,7 +139,7 @@ pub enum Error {
 /// Each error with its text.
 const TEXTS: &[(Error, &str)] = &[
     (Error::NoDevice, "there is no device of this number"),
-    (Error::OutOfRam, "the access reaches past the end of RAM"),
+    (Error::OutOfRam, "the access does not lie in RAM"),
     (Error::TooLong, "the access is of more than 4,096 bytes"),
     (Error::WrongKind, "a device of this kind has no such event, or no disk"),
     (Error::BadFrame, "a frame has fewer than 14 or more than 1,514 bytes"),

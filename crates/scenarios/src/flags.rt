@@ -90,9 +90,9 @@ fn agree_on(alloc: Global, ram: &mut Ram, flags: u16) -> Result<()> {
 fn found_split(alloc: Global, ram: &Ram, has_tables: bool) -> Result<Found> {
     ram.recall();
     let mut ring = if has_tables {
-        SplitRing::new(alloc, &QUEUE, WITH_TABLES, 0, Positions::FIRST)
+        SplitRing::new(alloc, &QUEUE, WITH_TABLES, Positions::FIRST)
     } else {
-        SplitRing::new(alloc, &QUEUE, WITHOUT_TABLES, 0, Positions::FIRST)
+        SplitRing::new(alloc, &QUEUE, WITHOUT_TABLES, Positions::FIRST)
     };
     found_by(alloc, &mut ring, ram)
 }
@@ -101,9 +101,9 @@ fn found_split(alloc: Global, ram: &Ram, has_tables: bool) -> Result<Found> {
 fn found_packed(alloc: Global, ram: &Ram, has_tables: bool) -> Result<Found> {
     ram.recall();
     let mut ring = if has_tables {
-        PackedRing::new(alloc, &QUEUE, PACKED_WITH_TABLES, 0, Positions::FIRST)
+        PackedRing::new(alloc, &QUEUE, PACKED_WITH_TABLES, Positions::FIRST)
     } else {
-        PackedRing::new(alloc, &QUEUE, PACKED_WITHOUT_TABLES, 0, Positions::FIRST)
+        PackedRing::new(alloc, &QUEUE, PACKED_WITHOUT_TABLES, Positions::FIRST)
     };
     found_by(alloc, &mut ring, ram)
 }

@@ -13,10 +13,7 @@ pub fn write_sector(
     out: &mut Vec<u8>,
 ) -> Result<()> {
     write!(out, "sector {dev} {n} ")?;
-    let Some(shape) = machine.shapes().get(dev as usize) else {
-        bail!("no device");
-    };
-    if n >= shape.sectors() {
+    if !machine.has_sector(dev, n) {
         bail!("no sector");
     }
     let mut bytes = [0; SECTOR_SIZE];

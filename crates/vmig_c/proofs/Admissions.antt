@@ -5,8 +5,8 @@ use Rattle.std.proofs.lemmas.List.{append-nil, append_assoc, drop_more}
 use Rattle.machine.specs.Shapes.{sector_count}
 use Rattle.machine.specs.declared.shape.Shape.{Shape}
 use Rattle.wire.specs.Header.{Begins, Opening}
-use Rattle.receiver.specs.Faults.{IsHeaderFault}
-use Rattle.receiver.specs.Heading.{TellsHead}
+use Rattle.receiver.specs.Faults.{IsHeaderFault, TellsHead}
+use Rattle.receiver.specs.declared.ram_terms.RamTerms.{RamTerms}
 use Rattle.receiver.specs.declared.recv_error.RecvError.{RecvError}
 use Rattle.receiver.specs.declared.recv_error.RecvError.TheVariants.{NoMemory}
 use Rattle.vmig_c.specs.Admission.{IsAdmitted, IsFaultyHead, IsTooLarge, is_within}
@@ -54,7 +54,7 @@ pub too_large : (limits : Limits) (bytes front more : List ℕ) (opening : Openi
 too_large limits bytes front more opening rest all begins beyond =
     rw (← all) (inl (record { opening = opening; rest = rest ++ more; begins = begins_longer front more opening rest begins; beyond = beyond; status_is = refl }))
 
-pub faulty : (limits : Limits) (bytes front more : List ℕ) (error : RecvError) (status : ℕ) → front ++ more ≡ bytes → TellsHead error ((sizes : List ℕ) → (at : ℕ) × IsHeaderFault sizes front error at) → status ≡ stream_status error
+pub faulty : (limits : Limits) (bytes front more : List ℕ) (error : RecvError) (status : ℕ) → front ++ more ≡ bytes → TellsHead error ((ram : RamTerms) (sizes : List ℕ) → (at : ℕ) × IsHeaderFault ram sizes front error at) → status ≡ stream_status error
     → IsTooLarge limits bytes status ⊎ IsFaultyHead bytes status
 faulty limits bytes front more error status all why is = inr (record { front = front; rest = more; are = sym all; refused = record { error = error; status_is = is; why = why } })
 

@@ -14,15 +14,16 @@ use Rattle.wire.proofs.PartLengths.{length_header}
 use Rattle.wire.specs.Stream.{IsStream, device_texts, opening_in, shapes_in, texts}
 use Rattle.wire.proofs.Unique.{pages_limits}
 use Rattle.receiver.specs.Disks.{AreHonestDisks, HasFailed, MarksRefused, disk_marks_of, sizes_of}
-use Rattle.receiver.specs.Receiving.{HasBeenFed, HasRounds, IsFinish, IsWholeFor, NoFault, Received, TellsNow}
+use Rattle.receiver.specs.Receiving.{HasBeenFed, HasRounds, IsFinish, end_error, IsWholeFor, NoFault, Received, TellsNow}
 use Rattle.receiver.specs.declared.recv_error.RecvError.{RecvError}
 use Rattle.receiver.specs.declared.recv_error.RecvError.TheVariants.{BadMagic, BadVersion, BadShape, ShapeMismatch, BadTag, BadPage, BadSector, BadRound, BadDevice, BadDigest, Missing, Trailing, Truncated, DiskFailed, NoMemory, AlreadyFailed}
 use Rattle.receiver.proofs.Heads.{no_header_fault}
 use Rattle.receiver.proofs.Prefixes.{header_stays, stays}
 use Rattle.receiver.specs.Faults.{Fault, IsHeaderFault}
-use Rattle.receiver.specs.Opened.{said_by}
+use Rattle.receiver.specs.Opened.{ram_at, said_by}
+use Rattle.receiver.specs.declared.ram_terms.RamTerms.{RamTerms}
 use Rattle.vmig_c.specs.ArrivalSeen.{ArrivalSeen, AtHead, AtBody, Refused, Over}
-use Rattle.vmig_c.specs.Awaited.{AreSteady, CountsRounds, GoesOnWith, IsClosed, HasArrived, HasCome, IsFaulty, IsFed, IsFedTo, IsWholeIf, TellsEnd, TellsOf, TellsWhole, TellsWhy, awaited_base, awaited_by, IsComing, IsAtHead}
+use Rattle.vmig_c.specs.Awaited.{AreSteady, CountsRounds, GoesOnWith, IsClosed, HasArrived, HasCome, IsFaulty, IsFed, IsFedTo, IsWholeIf, TellsEnd, TellsOf, TellsWhole, TellsWhy, awaited_by, awaited_ram, IsComing, IsAtHead}
 use Rattle.vmig_c.specs.declared.arrival.Progress.{Progress}
 use Rattle.vmig_c.specs.declared.arrival.Progress.TheVariants.{Head, Body, Failed}
 use Rattle.vmig_c.specs.Headed.{AreFitting, HasHeader, HasNoHeader}
@@ -58,38 +59,38 @@ pub never_failed : (r : Received) (new : List Marks) (e : RecvError) → AreStea
 never_failed r new e steady h is = no_failure r new steady (subst (λ (x : RecvError). MarksRefused r.marks x new) is h)
 
 -- What a refusal of a receiver tells.
-told : (base : ℕ) (sizes b piece : List ℕ) (e : RecvError) → AreFitting (b ++ piece) sizes → TellsNow base sizes b piece e → ¬ (e ≡ DiskFailed) → TellsWhy base (b ++ piece) e
-told base sizes b piece NoMemory fit t never = tt
-told base sizes b piece DiskFailed fit t never = absurd (never refl)
-told base sizes b piece BadMagic fit t never = record { sizes = sizes; fit = fit; at = t.0; fault = t.2 }
-told base sizes b piece BadVersion fit t never = record { sizes = sizes; fit = fit; at = t.0; fault = t.2 }
-told base sizes b piece BadShape fit t never = record { sizes = sizes; fit = fit; at = t.0; fault = t.2 }
-told base sizes b piece ShapeMismatch fit t never = record { sizes = sizes; fit = fit; at = t.0; fault = t.2 }
-told base sizes b piece BadTag fit t never = record { sizes = sizes; fit = fit; at = t.0; fault = t.2 }
-told base sizes b piece BadPage fit t never = record { sizes = sizes; fit = fit; at = t.0; fault = t.2 }
-told base sizes b piece BadSector fit t never = record { sizes = sizes; fit = fit; at = t.0; fault = t.2 }
-told base sizes b piece BadRound fit t never = record { sizes = sizes; fit = fit; at = t.0; fault = t.2 }
-told base sizes b piece BadDevice fit t never = record { sizes = sizes; fit = fit; at = t.0; fault = t.2 }
-told base sizes b piece BadDigest fit t never = record { sizes = sizes; fit = fit; at = t.0; fault = t.2 }
-told base sizes b piece Missing fit t never = record { sizes = sizes; fit = fit; at = t.0; fault = t.2 }
-told base sizes b piece Trailing fit t never = record { sizes = sizes; fit = fit; at = t.0; fault = t.2 }
-told base sizes b piece Truncated fit t never = record { sizes = sizes; fit = fit; at = t.0; fault = t.2 }
-told base sizes b piece AlreadyFailed fit t never = record { sizes = sizes; fit = fit; at = t.0; fault = t.2 }
+told : (ram : RamTerms) (sizes b piece : List ℕ) (e : RecvError) → AreFitting (b ++ piece) sizes → TellsNow ram sizes b piece e → ¬ (e ≡ DiskFailed) → TellsWhy ram (b ++ piece) e
+told ram sizes b piece NoMemory fit t never = tt
+told ram sizes b piece DiskFailed fit t never = absurd (never refl)
+told ram sizes b piece BadMagic fit t never = record { sizes = sizes; fit = fit; at = t.0; fault = t.2 }
+told ram sizes b piece BadVersion fit t never = record { sizes = sizes; fit = fit; at = t.0; fault = t.2 }
+told ram sizes b piece BadShape fit t never = record { sizes = sizes; fit = fit; at = t.0; fault = t.2 }
+told ram sizes b piece ShapeMismatch fit t never = record { sizes = sizes; fit = fit; at = t.0; fault = t.2 }
+told ram sizes b piece BadTag fit t never = record { sizes = sizes; fit = fit; at = t.0; fault = t.2 }
+told ram sizes b piece BadPage fit t never = record { sizes = sizes; fit = fit; at = t.0; fault = t.2 }
+told ram sizes b piece BadSector fit t never = record { sizes = sizes; fit = fit; at = t.0; fault = t.2 }
+told ram sizes b piece BadRound fit t never = record { sizes = sizes; fit = fit; at = t.0; fault = t.2 }
+told ram sizes b piece BadDevice fit t never = record { sizes = sizes; fit = fit; at = t.0; fault = t.2 }
+told ram sizes b piece BadDigest fit t never = record { sizes = sizes; fit = fit; at = t.0; fault = t.2 }
+told ram sizes b piece Missing fit t never = record { sizes = sizes; fit = fit; at = t.0; fault = t.2 }
+told ram sizes b piece Trailing fit t never = record { sizes = sizes; fit = fit; at = t.0; fault = t.2 }
+told ram sizes b piece Truncated fit t never = record { sizes = sizes; fit = fit; at = t.0; fault = t.2 }
+told ram sizes b piece AlreadyFailed fit t never = record { sizes = sizes; fit = fit; at = t.0; fault = t.2 }
 
 -- A receiver whose header was read is fed a piece.
 pub more_steady : (r next : Received) → AreSteady r → next.sizes ≡ r.sizes → next.marks ≡ r.marks → AreSteady next
 more_steady r next steady sizes marks = rw (sizes, marks) steady
 
-more_come : (r next : Received) (piece b : List ℕ) → next.base ≡ r.base → next.sizes ≡ r.sizes → ((b : List ℕ) → HasBeenFed r b → HasBeenFed next (b ++ piece)) → ((b : List ℕ) → HasBeenFed r b → NoFault r.base r.sizes (b ++ piece)) → HasCome (AtBody r) b → GoesOnWith (b ++ piece) (AtBody next)
-more_come r next piece b base sizes fed quiet h =
+more_come : (r next : Received) (piece b : List ℕ) → next.ram ≡ r.ram → next.sizes ≡ r.sizes → ((b : List ℕ) → HasBeenFed r b → HasBeenFed next (b ++ piece)) → ((b : List ℕ) → HasBeenFed r b → NoFault r.ram r.sizes (b ++ piece)) → HasCome (AtBody r) b → GoesOnWith (b ++ piece) (AtBody next)
+more_come r next piece b ram sizes fed quiet h =
     let header : HasHeader (b ++ piece) next.sizes = rw sizes (longer b piece r.sizes h.1) in
-    record { come = (fed b h.0, header); fit = inl header; quiet = rw (base, sizes) (quiet b h.0) }
+    record { come = (fed b h.0, header); fit = inl header; quiet = rw (ram, sizes) (quiet b h.0) }
 
-pub more_fed : (r next : Received) (piece : List ℕ) → next.base ≡ r.base → next.sizes ≡ r.sizes → ((b : List ℕ) → HasBeenFed r b → HasBeenFed next (b ++ piece)) → ((b : List ℕ) → HasBeenFed r b → NoFault r.base r.sizes (b ++ piece)) → IsFed (AtBody r) piece (AtBody next)
-more_fed r next piece base sizes fed quiet = record { went_on = tt; goes_on = λ b h. more_come r next piece b base sizes fed quiet h; base = base; place = tt }
+pub more_fed : (r next : Received) (piece : List ℕ) → next.ram ≡ r.ram → next.sizes ≡ r.sizes → ((b : List ℕ) → HasBeenFed r b → HasBeenFed next (b ++ piece)) → ((b : List ℕ) → HasBeenFed r b → NoFault r.ram r.sizes (b ++ piece)) → IsFed (AtBody r) piece (AtBody next)
+more_fed r next piece ram sizes fed quiet = record { went_on = tt; goes_on = λ b h. more_come r next piece b ram sizes fed quiet h; ram = ram; place = tt }
 
-pub more_refused : (r : Received) (new : List Marks) (piece : List ℕ) (e : RecvError) → AreSteady r → MarksRefused r.marks e new → ((b : List ℕ) → HasBeenFed r b → TellsNow r.base r.sizes b piece e) → TellsOf (AtBody r) piece e
-more_refused r new piece e steady marks tells = λ b h. told r.base r.sizes b piece e (inl (longer b piece r.sizes h.1)) (tells b h.0) (never_failed r new e steady marks)
+pub more_refused : (r : Received) (new : List Marks) (piece : List ℕ) (e : RecvError) → AreSteady r → MarksRefused r.marks e new → ((b : List ℕ) → HasBeenFed r b → TellsNow r.ram r.sizes b piece e) → TellsOf (AtBody r) piece e
+more_refused r new piece e steady marks tells = λ b h. told r.ram r.sizes b piece e (inl (longer b piece r.sizes h.1)) (tells b h.0) (never_failed r new e steady marks)
 
 -- The rest of a piece that completed the header.
 pub cut_piece : (held all piece front rest : List ℕ) (few : ℕ) → all ≡ held ++ front → front ≡ take few piece → rest ≡ drop few piece → all ++ rest ≡ held ++ piece
@@ -100,33 +101,33 @@ pub rest_taken : (result : Result Progress RecvError) (r : Received) (front rest
 rest_taken (Ok next) r front rest bytes begun all h = subst (λ (b : List ℕ). GoesOnWith b (awaited_by next)) all (h.goes_on front begun.come)
 rest_taken (Err e) r front rest bytes begun all h = tt
 
-pub rest_refused : (result : Result Progress RecvError) (base : ℕ) (r : Received) (front rest bytes : List ℕ) → r.base ≡ base → GoesOnWith front (AtBody r) → front ++ rest ≡ bytes → IfErr result (λ e. TellsOf (AtBody r) rest e) → IfErr result (λ e. TellsWhy base bytes e)
-rest_refused (Ok next) base r front rest bytes is begun all h = tt
-rest_refused (Err e) base r front rest bytes is begun all h = subst (λ (n : ℕ). TellsWhy n bytes e) is (subst (λ (b : List ℕ). TellsWhy r.base b e) all (h front begun.come))
+pub rest_refused : (result : Result Progress RecvError) (ram : RamTerms) (r : Received) (front rest bytes : List ℕ) → r.ram ≡ ram → GoesOnWith front (AtBody r) → front ++ rest ≡ bytes → IfErr result (λ e. TellsOf (AtBody r) rest e) → IfErr result (λ e. TellsWhy ram bytes e)
+rest_refused (Ok next) ram r front rest bytes is begun all h = tt
+rest_refused (Err e) ram r front rest bytes is begun all h = subst (λ (n : RamTerms). TellsWhy n bytes e) is (subst (λ (b : List ℕ). TellsWhy r.ram b e) all (h front begun.come))
 
-pub rest_based : (result : Result Progress RecvError) (base : ℕ) (r : Received) (rest : List ℕ) → r.base ≡ base → IfOk result (λ next. IsFed (AtBody r) rest (awaited_by next)) → IfOk result (λ next. awaited_base (awaited_by next) ≡ base)
-rest_based (Ok next) base r rest is h = h.base ∙ is
-rest_based (Err e) base r rest is h = tt
+pub rest_based : (result : Result Progress RecvError) (ram : RamTerms) (r : Received) (rest : List ℕ) → r.ram ≡ ram → IfOk result (λ next. IsFed (AtBody r) rest (awaited_by next)) → IfOk result (λ next. awaited_ram (awaited_by next) ≡ ram)
+rest_based (Ok next) ram r rest is h = h.ram ∙ is
+rest_based (Err e) ram r rest is h = tt
 
 -- A new receiver is fed all bytes.
-pub all_fed : (base : ℕ) (r next : Received) (bytes sizes : List ℕ) → HasBeenFed r [] → r.base ≡ base → next.base ≡ r.base → r.sizes ≡ sizes → next.sizes ≡ r.sizes → AreSteady r → next.marks ≡ r.marks → ((b : List ℕ) → HasBeenFed r b → HasBeenFed next (b ++ bytes))
-    → ((b : List ℕ) → HasBeenFed r b → NoFault r.base r.sizes (b ++ bytes)) → IsFedTo base sizes bytes next
-all_fed base r next bytes sizes first based alike are same steady marks fed quiet = record {
+pub all_fed : (ram : RamTerms) (r next : Received) (bytes sizes : List ℕ) → HasBeenFed r [] → r.ram ≡ ram → next.ram ≡ r.ram → r.sizes ≡ sizes → next.sizes ≡ r.sizes → AreSteady r → next.marks ≡ r.marks → ((b : List ℕ) → HasBeenFed r b → HasBeenFed next (b ++ bytes))
+    → ((b : List ℕ) → HasBeenFed r b → NoFault r.ram r.sizes (b ++ bytes)) → IsFedTo ram sizes bytes next
+all_fed ram r next bytes sizes first based alike are same steady marks fed quiet = record {
   fed = fed [] first;
-  base_is = alike ∙ based;
+  ram_is = alike ∙ based;
   sizes_are = same ∙ are;
   steady = rw (same, marks) steady;
   quiet = rw (← based, ← are) (quiet [] first);
 }
 
-pub all_refused : (base : ℕ) (r : Received) (new : List Marks) (bytes sizes : List ℕ) (e : RecvError) → HasBeenFed r [] → r.base ≡ base → r.sizes ≡ sizes → AreSteady r → AreFitting bytes sizes → MarksRefused r.marks e new → ((b : List ℕ) → HasBeenFed r b → TellsNow r.base r.sizes b bytes e) → TellsWhy base bytes e
-all_refused base r new bytes sizes e first based are steady fit marks tells = subst (λ (n : ℕ). TellsWhy n bytes e) based (told r.base r.sizes [] bytes e (rw are fit) (tells [] first) (never_failed r new e steady marks))
+pub all_refused : (ram : RamTerms) (r : Received) (new : List Marks) (bytes sizes : List ℕ) (e : RecvError) → HasBeenFed r [] → r.ram ≡ ram → r.sizes ≡ sizes → AreSteady r → AreFitting bytes sizes → MarksRefused r.marks e new → ((b : List ℕ) → HasBeenFed r b → TellsNow r.ram r.sizes b bytes e) → TellsWhy ram bytes e
+all_refused ram r new bytes sizes e first based are steady fit marks tells = subst (λ (n : RamTerms). TellsWhy n bytes e) based (told r.ram r.sizes [] bytes e (rw are fit) (tells [] first) (never_failed r new e steady marks))
 
 -- The header was found, or not.
-pub begun_coming : (base : ℕ) (r : Received) (bytes : List ℕ) (opening : Opening) (rest : List ℕ) → Begins bytes opening rest → IsFedTo base (disk_sizes opening.shapes) bytes r → GoesOnWith bytes (AtBody r)
-begun_coming base r bytes opening rest begins h =
+pub begun_coming : (ram : RamTerms) (r : Received) (bytes : List ℕ) (opening : Opening) (rest : List ℕ) → Begins bytes opening rest → IsFedTo ram (disk_sizes opening.shapes) bytes r → GoesOnWith bytes (AtBody r)
+begun_coming ram r bytes opening rest begins h =
     let header : HasHeader bytes r.sizes = record { opening = opening; rest = rest; begins = begins; sizes_are = h.sizes_are } in
-    record { come = (h.fed, header); fit = inl header; quiet = rw (h.base_is, h.sizes_are) (h.quiet) }
+    record { come = (h.fed, header); fit = inl header; quiet = rw (h.ram_is, h.sizes_are) (h.quiet) }
 
 pub fits_header : (bytes : List ℕ) (opening : Opening) (rest : List ℕ) → Begins bytes opening rest → AreFitting bytes (disk_sizes opening.shapes)
 fits_header bytes opening rest begins = inl (record { opening = opening; rest = rest; begins = begins; sizes_are = refl })
@@ -146,7 +147,7 @@ head_ends base held none = λ b is m. headless b (subst HasNoHeader (sym is) non
 pub honest_marks : (sizes : List ℕ) → AreHonestDisks (map (λ (n : ℕ). no_marks) sizes)
 honest_marks sizes = All-map (λ (k : Marks). IsTrue k.honest) (λ (n : ℕ). no_marks) sizes (λ k n below. refl)
 
-pub arrived : (r : Received) (m : Seen) → AreSteady r → (AreHonestDisks r.marks → (b : List ℕ) → HasBeenFed r b → IsStream b (state_of m)) → all_marks m ≡ dealt_marks (shapes_in (state_of m).devices) r.marks → base_of (state_of m).devices ≡ r.base → HasArrived (AtBody r) m
+pub arrived : (r : Received) (m : Seen) → AreSteady r → (AreHonestDisks r.marks → (b : List ℕ) → HasBeenFed r b → IsStream b (state_of m)) → all_marks m ≡ dealt_marks (shapes_in (state_of m).devices) r.marks → base_of (state_of m).devices ≡ r.ram.base → HasArrived (AtBody r) m
 arrived r m steady received marks based =
     let shapes = shapes_in (state_of m).devices in
     let over : all_marks m ≡ dealt_marks shapes (map (λ (n : ℕ). no_marks) r.sizes) = marks ∙ ap (λ (l : List Marks). dealt_marks shapes l) steady in
@@ -159,32 +160,32 @@ arrived r m steady received marks based =
     }
 
 pub arrived_if : (r : Received) (result : Result Seen RecvError) → AreSteady r → IfOk result (λ m. AreHonestDisks r.marks → (b : List ℕ) → HasBeenFed r b → IsStream b (state_of m))
-    → IfOk result (λ m. all_marks m ≡ dealt_marks (shapes_in (state_of m).devices) r.marks) → IfOk result (λ m. base_of (state_of m).devices ≡ r.base) → IfOk result (λ m. HasArrived (AtBody r) m)
+    → IfOk result (λ m. all_marks m ≡ dealt_marks (shapes_in (state_of m).devices) r.marks) → IfOk result (λ m. base_of (state_of m).devices ≡ r.ram.base) → IfOk result (λ m. HasArrived (AtBody r) m)
 arrived_if r (Ok m) steady received marks based = arrived r m steady received marks based
 arrived_if r (Err e) steady received marks based = tt
 
-pub not_arrived_if : (r : Received) (result : Result Seen RecvError) → IfErr result (λ e. (b : List ℕ) → HasBeenFed r b → IsFinish b e) → IfErr result (λ e. TellsEnd (AtBody r) e × IsClosed (AtBody r) Refused)
-not_arrived_if r (Ok m) why = tt
-not_arrived_if r (Err e) why = (λ b h. why b h.0, refl)
+pub not_arrived_if : (r : Received) (result : Result Seen RecvError) → IfErr result (λ e. e ≡ end_error r.failed) → IfErr result (λ e. (b : List ℕ) → HasBeenFed r b → IsFinish b e) → IfErr result (λ e. TellsEnd (AtBody r) e × IsClosed (AtBody r) Refused)
+not_arrived_if r (Ok m) told why = tt
+not_arrived_if r (Err e) told why = ((told, λ b h. why b h.0), refl)
 
 -- Rounds.
-pub body_counts : (r : Received) (n : ℕ) → ((b : List ℕ) → HasBeenFed r b → HasRounds r.base r.sizes b n) → CountsRounds (AtBody r) n
+pub body_counts : (r : Received) (n : ℕ) → ((b : List ℕ) → HasBeenFed r b → HasRounds r.ram r.sizes b n) → CountsRounds (AtBody r) n
 body_counts r n rounds = λ b h. rounds b h.0
 
 pub head_counts : (base : ℕ) (held : List ℕ) → HasNoHeader held → CountsRounds (AtHead base held) 0
 head_counts base held none = λ b is. record { none = λ _. refl; some = λ opening before tail front last. absurd (subst HasNoHeader (sym is) none (said_by opening) _ front.begins) }
 
 -- Whether it is whole.
-whole_if : (whole : Bool) (base : ℕ) (sizes b : List ℕ) → (whole ≡ true → IsWholeFor base sizes b) → (whole ≡ false → ¬ (IsWholeFor base sizes b)) → IsWholeIf whole base sizes b
-whole_if true base sizes b is lacks = is refl
-whole_if false base sizes b is lacks = lacks refl
+whole_if : (whole : Bool) (ram : RamTerms) (sizes b : List ℕ) → (whole ≡ true → IsWholeFor ram sizes b) → (whole ≡ false → ¬ (IsWholeFor ram sizes b)) → IsWholeIf whole ram sizes b
+whole_if true ram sizes b is lacks = is refl
+whole_if false ram sizes b is lacks = lacks refl
 
-pub body_whole : (r : Received) (whole : Bool) → (whole ≡ true → (b : List ℕ) → HasBeenFed r b → IsWholeFor r.base r.sizes b) → (whole ≡ false → (b : List ℕ) → HasBeenFed r b → ¬ (IsWholeFor r.base r.sizes b)) → TellsWhole (AtBody r) whole
-body_whole r whole is lacks = λ b h. whole_if whole r.base r.sizes b (λ yes. is yes b h.0) (λ no. lacks no b h.0)
+pub body_whole : (r : Received) (whole : Bool) → (whole ≡ true → (b : List ℕ) → HasBeenFed r b → IsWholeFor r.ram r.sizes b) → (whole ≡ false → (b : List ℕ) → HasBeenFed r b → ¬ (IsWholeFor r.ram r.sizes b)) → TellsWhole (AtBody r) whole
+body_whole r whole is lacks = λ b h. whole_if whole r.ram r.sizes b (λ yes. is yes b h.0) (λ no. lacks no b h.0)
 
-pub over_whole : (r : Received) (whole : Bool) → (whole ≡ true → (b : List ℕ) → HasBeenFed r b → IsWholeFor r.base r.sizes b) → (whole ≡ false → (b : List ℕ) → HasBeenFed r b → ¬ (IsWholeFor r.base r.sizes b)) → (r.failed ≡ true → whole ≡ false)
+pub over_whole : (r : Received) (whole : Bool) → (whole ≡ true → (b : List ℕ) → HasBeenFed r b → IsWholeFor r.ram r.sizes b) → (whole ≡ false → (b : List ℕ) → HasBeenFed r b → ¬ (IsWholeFor r.ram r.sizes b)) → (r.failed ≡ true → whole ≡ false)
     → TellsWhole (Over r) whole
-over_whole r whole is lacks failed = (failed, λ b h. whole_if whole r.base r.sizes b (λ yes. is yes b h) (λ no. lacks no b h))
+over_whole r whole is lacks failed = (failed, λ b h. whole_if whole r.ram r.sizes b (λ yes. is yes b h) (λ no. lacks no b h))
 
 pub head_whole : (base : ℕ) (held : List ℕ) → HasNoHeader held → TellsWhole (AtHead base held) false
 head_whole base held none = λ b is whole. subst HasNoHeader (sym is) none (said_by whole.opening) _ whole.front.begins
@@ -195,93 +196,93 @@ not_whole (Body r) a coming view at = absurd at
 not_whole Failed a coming view at = absurd at
 
 -- A header that is not whole.
-pub head_goes_on : (base : ℕ) (held : List ℕ) (r : Received) → HasNoHeader held → IsFedTo base [] held r → GoesOnWith held (AtHead base held)
+pub head_goes_on : (base : ℕ) (held : List ℕ) (r : Received) → HasNoHeader held → IsFedTo (ram_at base) [] held r → GoesOnWith held (AtHead base held)
 head_goes_on base held r none h = record { come = refl; fit = inr none; quiet = h.quiet }
 
-pub head_fed : (base : ℕ) (held piece : List ℕ) (next : ArrivalSeen) → awaited_base next ≡ base → GoesOnWith (held ++ piece) next → IsFed (AtHead base held) piece next
-head_fed base held piece next based h = record { went_on = tt; goes_on = λ b is. subst (λ (x : List ℕ). GoesOnWith (x ++ piece) next) (sym is) h; base = based; place = tt }
+pub head_fed : (base : ℕ) (held piece : List ℕ) (next : ArrivalSeen) → awaited_ram next ≡ ram_at base → GoesOnWith (held ++ piece) next → IsFed (AtHead base held) piece next
+head_fed base held piece next based h = record { went_on = tt; goes_on = λ b is. subst (λ (x : List ℕ). GoesOnWith (x ++ piece) next) (sym is) h; ram = based; place = tt }
 
-pub head_refused : (base : ℕ) (held piece : List ℕ) (e : RecvError) → TellsWhy base (held ++ piece) e → TellsOf (AtHead base held) piece e
-head_refused base held piece e h = λ b is. subst (λ (x : List ℕ). TellsWhy base (x ++ piece) e) (sym is) h
+pub head_refused : (base : ℕ) (held piece : List ℕ) (e : RecvError) → TellsWhy (ram_at base) (held ++ piece) e → TellsOf (AtHead base held) piece e
+head_refused base held piece e h = λ b is. subst (λ (x : List ℕ). TellsWhy (ram_at base) (x ++ piece) e) (sym is) h
 
 pub empty_head : (opening : Opening) (rest : List ℕ) → ¬ (Begins [] opening rest)
 empty_head opening rest begins = omega (arith, ap (λ (l : List ℕ). length l) begins.whole, length-append (header opening) rest, length_header opening)
 
 -- A fault in bytes that begin with a header is one of all longer bytes.
-faulty_longer : (base : ℕ) (bytes rest sizes : List ℕ) (e : RecvError) → HasHeader bytes sizes → IsFaulty base bytes e → IsFaulty base (bytes ++ rest) e
-faulty_longer base bytes rest sizes e header f = elim f.fit as (λ _. IsFaulty base (bytes ++ rest) e) [
-  | inl h ↦ record { sizes = f.sizes; fit = inl (longer bytes rest f.sizes h); at = f.at; fault = stays base f.sizes bytes rest e f.at f.fault }
+faulty_longer : (ram : RamTerms) (bytes rest sizes : List ℕ) (e : RecvError) → HasHeader bytes sizes → IsFaulty ram bytes e → IsFaulty ram (bytes ++ rest) e
+faulty_longer ram bytes rest sizes e header f = elim f.fit as (λ _. IsFaulty ram (bytes ++ rest) e) [
+  | inl h ↦ record { sizes = f.sizes; fit = inl (longer bytes rest f.sizes h); at = f.at; fault = stays ram f.sizes bytes rest e f.at f.fault }
   | inr none ↦ absurd (none header.opening header.rest header.begins)
 ]
 
-pub told_longer : (base : ℕ) (bytes rest sizes : List ℕ) (e : RecvError) → HasHeader bytes sizes → TellsWhy base bytes e → TellsWhy base (bytes ++ rest) e
-told_longer base bytes rest sizes NoMemory header t = tt
-told_longer base bytes rest sizes BadMagic header t = faulty_longer base bytes rest sizes BadMagic header t
-told_longer base bytes rest sizes BadVersion header t = faulty_longer base bytes rest sizes BadVersion header t
-told_longer base bytes rest sizes BadShape header t = faulty_longer base bytes rest sizes BadShape header t
-told_longer base bytes rest sizes ShapeMismatch header t = faulty_longer base bytes rest sizes ShapeMismatch header t
-told_longer base bytes rest sizes BadTag header t = faulty_longer base bytes rest sizes BadTag header t
-told_longer base bytes rest sizes BadPage header t = faulty_longer base bytes rest sizes BadPage header t
-told_longer base bytes rest sizes BadSector header t = faulty_longer base bytes rest sizes BadSector header t
-told_longer base bytes rest sizes BadRound header t = faulty_longer base bytes rest sizes BadRound header t
-told_longer base bytes rest sizes BadDevice header t = faulty_longer base bytes rest sizes BadDevice header t
-told_longer base bytes rest sizes BadDigest header t = faulty_longer base bytes rest sizes BadDigest header t
-told_longer base bytes rest sizes Missing header t = faulty_longer base bytes rest sizes Missing header t
-told_longer base bytes rest sizes Trailing header t = faulty_longer base bytes rest sizes Trailing header t
-told_longer base bytes rest sizes Truncated header t = faulty_longer base bytes rest sizes Truncated header t
-told_longer base bytes rest sizes DiskFailed header t = faulty_longer base bytes rest sizes DiskFailed header t
-told_longer base bytes rest sizes AlreadyFailed header t = faulty_longer base bytes rest sizes AlreadyFailed header t
+pub told_longer : (ram : RamTerms) (bytes rest sizes : List ℕ) (e : RecvError) → HasHeader bytes sizes → TellsWhy ram bytes e → TellsWhy ram (bytes ++ rest) e
+told_longer ram bytes rest sizes NoMemory header t = tt
+told_longer ram bytes rest sizes BadMagic header t = faulty_longer ram bytes rest sizes BadMagic header t
+told_longer ram bytes rest sizes BadVersion header t = faulty_longer ram bytes rest sizes BadVersion header t
+told_longer ram bytes rest sizes BadShape header t = faulty_longer ram bytes rest sizes BadShape header t
+told_longer ram bytes rest sizes ShapeMismatch header t = faulty_longer ram bytes rest sizes ShapeMismatch header t
+told_longer ram bytes rest sizes BadTag header t = faulty_longer ram bytes rest sizes BadTag header t
+told_longer ram bytes rest sizes BadPage header t = faulty_longer ram bytes rest sizes BadPage header t
+told_longer ram bytes rest sizes BadSector header t = faulty_longer ram bytes rest sizes BadSector header t
+told_longer ram bytes rest sizes BadRound header t = faulty_longer ram bytes rest sizes BadRound header t
+told_longer ram bytes rest sizes BadDevice header t = faulty_longer ram bytes rest sizes BadDevice header t
+told_longer ram bytes rest sizes BadDigest header t = faulty_longer ram bytes rest sizes BadDigest header t
+told_longer ram bytes rest sizes Missing header t = faulty_longer ram bytes rest sizes Missing header t
+told_longer ram bytes rest sizes Trailing header t = faulty_longer ram bytes rest sizes Trailing header t
+told_longer ram bytes rest sizes Truncated header t = faulty_longer ram bytes rest sizes Truncated header t
+told_longer ram bytes rest sizes DiskFailed header t = faulty_longer ram bytes rest sizes DiskFailed header t
+told_longer ram bytes rest sizes AlreadyFailed header t = faulty_longer ram bytes rest sizes AlreadyFailed header t
 
-pub told_of_all : (base : ℕ) (bytes : List ℕ) (e : RecvError) → ((rest : List ℕ) → TellsWhy base (bytes ++ rest) e) → TellsWhy base bytes e
-told_of_all base bytes e t = rw append-nil at (t [])
+pub told_of_all : (ram : RamTerms) (bytes : List ℕ) (e : RecvError) → ((rest : List ℕ) → TellsWhy ram (bytes ++ rest) e) → TellsWhy ram bytes e
+told_of_all ram bytes e t = rw append-nil at (t [])
 
 -- A fault in bytes that begin with no header is one of all longer bytes.
-other_sizes : (sizes others bytes : List ℕ) (e : RecvError) (at : ℕ) → HasNoHeader bytes → IsHeaderFault sizes bytes e at → IsHeaderFault others bytes e at
-other_sizes sizes others bytes BadMagic at none h = h
-other_sizes sizes others bytes BadVersion at none h = h
-other_sizes sizes others bytes BadShape at none h = h
-other_sizes sizes others bytes ShapeMismatch at none h = absurd (none h.opening h.more h.begins)
-other_sizes sizes others bytes BadTag at none h = absurd h
-other_sizes sizes others bytes BadPage at none h = absurd h
-other_sizes sizes others bytes BadSector at none h = absurd h
-other_sizes sizes others bytes BadRound at none h = absurd h
-other_sizes sizes others bytes BadDevice at none h = absurd h
-other_sizes sizes others bytes BadDigest at none h = absurd h
-other_sizes sizes others bytes Missing at none h = absurd h
-other_sizes sizes others bytes Trailing at none h = absurd h
-other_sizes sizes others bytes Truncated at none h = absurd h
-other_sizes sizes others bytes DiskFailed at none h = absurd h
-other_sizes sizes others bytes NoMemory at none h = absurd h
-other_sizes sizes others bytes AlreadyFailed at none h = absurd h
+other_sizes : (ram : RamTerms) (sizes others bytes : List ℕ) (e : RecvError) (at : ℕ) → HasNoHeader bytes → IsHeaderFault ram sizes bytes e at → IsHeaderFault (ram_at 0) others bytes e at
+other_sizes ram sizes others bytes BadMagic at none h = h
+other_sizes ram sizes others bytes BadVersion at none h = h
+other_sizes ram sizes others bytes BadShape at none h = h
+other_sizes ram sizes others bytes ShapeMismatch at none h = absurd (none h.opening h.more h.begins)
+other_sizes ram sizes others bytes BadTag at none h = absurd h
+other_sizes ram sizes others bytes BadPage at none h = absurd h
+other_sizes ram sizes others bytes BadSector at none h = absurd h
+other_sizes ram sizes others bytes BadRound at none h = absurd h
+other_sizes ram sizes others bytes BadDevice at none h = absurd h
+other_sizes ram sizes others bytes BadDigest at none h = absurd h
+other_sizes ram sizes others bytes Missing at none h = absurd h
+other_sizes ram sizes others bytes Trailing at none h = absurd h
+other_sizes ram sizes others bytes Truncated at none h = absurd h
+other_sizes ram sizes others bytes DiskFailed at none h = absurd h
+other_sizes ram sizes others bytes NoMemory at none h = absurd h
+other_sizes ram sizes others bytes AlreadyFailed at none h = absurd h
 
-in_header : (base : ℕ) (sizes others bytes : List ℕ) (e : RecvError) (at : ℕ) → HasNoHeader bytes → Fault base sizes bytes e at → IsHeaderFault others bytes e at
-in_header base sizes others bytes e at none (inl h) = other_sizes sizes others bytes e at none h
-in_header base sizes others bytes e at none (inr h) = absurd (none (said_by h.opening) _ h.front.begins)
+in_header : (ram : RamTerms) (sizes others bytes : List ℕ) (e : RecvError) (at : ℕ) → HasNoHeader bytes → Fault ram sizes bytes e at → IsHeaderFault (ram_at 0) others bytes e at
+in_header ram sizes others bytes e at none (inl h) = other_sizes ram sizes others bytes e at none h
+in_header ram sizes others bytes e at none (inr h) = absurd (none (said_by h.opening) _ h.front.begins)
 
-still_headless : (base : ℕ) (sizes bytes rest : List ℕ) (e : RecvError) (at : ℕ) → HasNoHeader bytes → Fault base sizes bytes e at → HasNoHeader (bytes ++ rest)
-still_headless base sizes bytes rest e at none f opening more begins =
-    no_header_fault (disk_sizes opening.shapes) (bytes ++ rest) opening more begins refl e at (header_stays (disk_sizes opening.shapes) bytes rest e at (in_header base sizes (disk_sizes opening.shapes) bytes e at none f))
+still_headless : (ram : RamTerms) (sizes bytes rest : List ℕ) (e : RecvError) (at : ℕ) → HasNoHeader bytes → Fault ram sizes bytes e at → HasNoHeader (bytes ++ rest)
+still_headless ram sizes bytes rest e at none f opening more begins =
+    no_header_fault (ram_at 0) (disk_sizes opening.shapes) (bytes ++ rest) opening more begins refl tt e at (header_stays (ram_at 0) (disk_sizes opening.shapes) bytes rest e at (in_header ram sizes (disk_sizes opening.shapes) bytes e at none f))
 
-faulty_headless : (base : ℕ) (bytes rest : List ℕ) (e : RecvError) → HasNoHeader bytes → IsFaulty base bytes e → IsFaulty base (bytes ++ rest) e
-faulty_headless base bytes rest e none f = record { sizes = f.sizes; fit = inr (still_headless base f.sizes bytes rest e f.at none f.fault); at = f.at; fault = stays base f.sizes bytes rest e f.at f.fault }
+faulty_headless : (ram : RamTerms) (bytes rest : List ℕ) (e : RecvError) → HasNoHeader bytes → IsFaulty ram bytes e → IsFaulty ram (bytes ++ rest) e
+faulty_headless ram bytes rest e none f = record { sizes = f.sizes; fit = inr (still_headless ram f.sizes bytes rest e f.at none f.fault); at = f.at; fault = stays ram f.sizes bytes rest e f.at f.fault }
 
-pub told_headless : (base : ℕ) (bytes rest : List ℕ) (e : RecvError) → HasNoHeader bytes → TellsWhy base bytes e → TellsWhy base (bytes ++ rest) e
-told_headless base bytes rest BadMagic none t = faulty_headless base bytes rest BadMagic none t
-told_headless base bytes rest BadVersion none t = faulty_headless base bytes rest BadVersion none t
-told_headless base bytes rest BadShape none t = faulty_headless base bytes rest BadShape none t
-told_headless base bytes rest ShapeMismatch none t = faulty_headless base bytes rest ShapeMismatch none t
-told_headless base bytes rest BadTag none t = faulty_headless base bytes rest BadTag none t
-told_headless base bytes rest BadPage none t = faulty_headless base bytes rest BadPage none t
-told_headless base bytes rest BadSector none t = faulty_headless base bytes rest BadSector none t
-told_headless base bytes rest BadRound none t = faulty_headless base bytes rest BadRound none t
-told_headless base bytes rest BadDevice none t = faulty_headless base bytes rest BadDevice none t
-told_headless base bytes rest BadDigest none t = faulty_headless base bytes rest BadDigest none t
-told_headless base bytes rest Missing none t = faulty_headless base bytes rest Missing none t
-told_headless base bytes rest Trailing none t = faulty_headless base bytes rest Trailing none t
-told_headless base bytes rest Truncated none t = faulty_headless base bytes rest Truncated none t
-told_headless base bytes rest DiskFailed none t = faulty_headless base bytes rest DiskFailed none t
-told_headless base bytes rest NoMemory none t = tt
-told_headless base bytes rest AlreadyFailed none t = faulty_headless base bytes rest AlreadyFailed none t
+pub told_headless : (ram : RamTerms) (bytes rest : List ℕ) (e : RecvError) → HasNoHeader bytes → TellsWhy ram bytes e → TellsWhy ram (bytes ++ rest) e
+told_headless ram bytes rest BadMagic none t = faulty_headless ram bytes rest BadMagic none t
+told_headless ram bytes rest BadVersion none t = faulty_headless ram bytes rest BadVersion none t
+told_headless ram bytes rest BadShape none t = faulty_headless ram bytes rest BadShape none t
+told_headless ram bytes rest ShapeMismatch none t = faulty_headless ram bytes rest ShapeMismatch none t
+told_headless ram bytes rest BadTag none t = faulty_headless ram bytes rest BadTag none t
+told_headless ram bytes rest BadPage none t = faulty_headless ram bytes rest BadPage none t
+told_headless ram bytes rest BadSector none t = faulty_headless ram bytes rest BadSector none t
+told_headless ram bytes rest BadRound none t = faulty_headless ram bytes rest BadRound none t
+told_headless ram bytes rest BadDevice none t = faulty_headless ram bytes rest BadDevice none t
+told_headless ram bytes rest BadDigest none t = faulty_headless ram bytes rest BadDigest none t
+told_headless ram bytes rest Missing none t = faulty_headless ram bytes rest Missing none t
+told_headless ram bytes rest Trailing none t = faulty_headless ram bytes rest Trailing none t
+told_headless ram bytes rest Truncated none t = faulty_headless ram bytes rest Truncated none t
+told_headless ram bytes rest DiskFailed none t = faulty_headless ram bytes rest DiskFailed none t
+told_headless ram bytes rest NoMemory none t = tt
+told_headless ram bytes rest AlreadyFailed none t = faulty_headless ram bytes rest AlreadyFailed none t
 
 -- A result has one error.
 pub one_error : {A E : Type 0} (r : Result A E) (x y : E) → r ≡ Err x → r ≡ Err y → x ≡ y

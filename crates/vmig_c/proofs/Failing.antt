@@ -7,8 +7,7 @@ use Rattle.machine.specs.Seen.{DeviceSeen, Seen, no_marks, state_of}
 use Rattle.machine.specs.State.{MachineState}
 use Rattle.machine.specs.Unsynced.{FailsFlushIf, makes_flush}
 use Rattle.machine.specs.declared.event.Event.TheVariants.{Step}
-use Rattle.sender.specs.LiveState.{LiveSeen, now, refusal_for}
-use Rattle.sender.specs.Stopping.{HasPlaces}
+use Rattle.sender.specs.LiveState.{HasPlaces, LiveSeen, now, refusal_for}
 use Rattle.sender.specs.Unsynced.{AnswersFlush, FailsLiveFlushIf, TriesFlush}
 use Rattle.sender.specs.declared.event.LiveEvent.TheVariants.{Guest}
 use Rattle.sender.specs.declared.mig_error.MigError.{MigError}

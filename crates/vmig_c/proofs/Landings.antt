@@ -12,6 +12,7 @@ use Rattle.machine.specs.State.{base_of}
 use Rattle.wire.specs.Stream.{IsStream, shapes_in}
 use Rattle.receiver.specs.Disks.{AreHonestDisks, MarksAfter, MarksRefused, disk_marks_of, sizes_of}
 use Rattle.receiver.specs.Receiving.{HasBeenFed, IsGivenUp, NoFault, Received, TellsNow}
+use Rattle.receiver.specs.declared.ram_terms.RamTerms.{RamTerms}
 use Rattle.receiver.specs.declared.recv_error.RecvError.{RecvError}
 use Rattle.receiver.specs.declared.recv_error.RecvError.TheVariants.{BadMagic, BadVersion, BadShape, ShapeMismatch, BadTag, BadPage, BadSector, BadRound, BadDevice, BadDigest, Missing, Trailing, Truncated, DiskFailed, NoMemory, AlreadyFailed}
 use Rattle.mapped_disk.specs.declared.image.Image.{Image}
@@ -39,25 +40,25 @@ sectors_are (i ∷ disks) = ap (λ (l : List (List (List ℕ))). i.content ∷ l
 pub first_steady : (r : Received) (disks : List Image) → r.sizes ≡ sizes_of image_state disks → r.marks ≡ disk_marks_of image_state disks → AreSteady r
 first_steady r disks sizes marks = rw (sizes, marks) (image_marks disks)
 
-pub first_awaited : (base : ℕ) (r : Received) (disks : List Image) (place : Option Ptr) → HasBeenFed r [] → r.base ≡ base → r.sizes ≡ sizes_of image_state disks → r.disks ≡ map image_state disks → r.place ≡ place
-    → IsAwaitedAt base place (contents disks) (Over r)
-first_awaited base r disks place fed based sizes are there =
-    record { fed = fed; base_is = based; sizes_are = sizes ∙ image_sizes disks; disks_are = ap (map (λ (d : DiskState). d.sectors)) are ∙ sectors_are disks; place_is = there }
+pub first_awaited : (ram : RamTerms) (r : Received) (disks : List Image) (place : Option Ptr) → HasBeenFed r [] → r.ram ≡ ram → r.sizes ≡ sizes_of image_state disks → r.disks ≡ map image_state disks → r.place ≡ place
+    → IsAwaitedAt ram place (contents disks) (Over r)
+first_awaited ram r disks place fed based sizes are there =
+    record { fed = fed; ram_is = based; sizes_are = sizes ∙ image_sizes disks; disks_are = ap (map (λ (d : DiskState). d.sectors)) are ∙ sectors_are disks; place_is = there }
 
 -- A receiver over images is fed a piece.
 not_true : (b : Bool) → ¬ (b ≡ true) → b ≡ false
 not_true true not = absurd (not refl)
 not_true false not = refl
 
-pub fed_over : (r next : Received) (piece : List ℕ) → ¬ (r.failed ≡ true) → next.base ≡ r.base → next.sizes ≡ r.sizes → ((b : List ℕ) → HasBeenFed r b → HasBeenFed next (b ++ piece)) → ((b : List ℕ) → HasBeenFed r b → NoFault r.base r.sizes (b ++ piece)) → next.place ≡ r.place → IsFed (Over r) piece (Over next)
-fed_over r next piece fine base sizes fed quiet place = record {
+pub fed_over : (r next : Received) (piece : List ℕ) → ¬ (r.failed ≡ true) → next.ram ≡ r.ram → next.sizes ≡ r.sizes → ((b : List ℕ) → HasBeenFed r b → HasBeenFed next (b ++ piece)) → ((b : List ℕ) → HasBeenFed r b → NoFault r.ram r.sizes (b ++ piece)) → next.place ≡ r.place → IsFed (Over r) piece (Over next)
+fed_over r next piece fine ram sizes fed quiet place = record {
   went_on = not_true r.failed fine;
-  goes_on = λ b h. record { come = fed b h; fit = tt; quiet = rw (base, sizes) (quiet b h) };
-  base = base;
+  goes_on = λ b h. record { come = fed b h; fit = tt; quiet = rw (ram, sizes) (quiet b h) };
+  ram = ram;
   place = place;
 }
 
-pub told_over : (r next : Received) (piece : List ℕ) (e : RecvError) → AreSteady r → next.sizes ≡ r.sizes → next.failed ≡ true → MarksRefused r.marks e next.marks → (r.failed ≡ true → e ≡ AlreadyFailed) → ((b : List ℕ) → HasBeenFed r b → TellsNow r.base r.sizes b piece e)
+pub told_over : (r next : Received) (piece : List ℕ) (e : RecvError) → AreSteady r → next.sizes ≡ r.sizes → next.failed ≡ true → MarksRefused r.marks e next.marks → (r.failed ≡ true → e ≡ AlreadyFailed) → ((b : List ℕ) → HasBeenFed r b → TellsNow r.ram r.sizes b piece e)
     → TellsOf (Over r) piece e × IsClosed (Over r) (Over next)
 told_over r next piece e steady sizes failed marks already tells = (record { already = already; why = tells; steady = never_failed r next.marks e steady marks }, (failed, sizes))
 
@@ -91,13 +92,13 @@ steady_after r next (Err e) steady sizes marks = refused_steady r next e steady 
 not_ok : {A : Type 0} (x : A) (e : RecvError) → ¬ (◌≡◌ {A = Result A RecvError} (Ok x) (Err e))
 not_ok x e is = cc
 
-pub fed_if : {A : Type 0} (r next : Received) (piece : List ℕ) (result : Result A RecvError) → (r.failed ≡ true → result ≡ Err AlreadyFailed) → next.base ≡ r.base → next.sizes ≡ r.sizes → OnOk result ((b : List ℕ) → HasBeenFed r b → HasBeenFed next (b ++ piece))
-    → OnOk result ((b : List ℕ) → HasBeenFed r b → NoFault r.base r.sizes (b ++ piece)) → next.place ≡ r.place → IfOk result (λ x. IsFed (Over r) piece (Over next))
-fed_if r next piece (Ok x) already base sizes fed quiet place = fed_over r next piece (λ failed. not_ok x AlreadyFailed (already failed)) base sizes fed quiet place
-fed_if r next piece (Err e) already base sizes fed quiet place = tt
+pub fed_if : {A : Type 0} (r next : Received) (piece : List ℕ) (result : Result A RecvError) → (r.failed ≡ true → result ≡ Err AlreadyFailed) → next.ram ≡ r.ram → next.sizes ≡ r.sizes → OnOk result ((b : List ℕ) → HasBeenFed r b → HasBeenFed next (b ++ piece))
+    → OnOk result ((b : List ℕ) → HasBeenFed r b → NoFault r.ram r.sizes (b ++ piece)) → next.place ≡ r.place → IfOk result (λ x. IsFed (Over r) piece (Over next))
+fed_if r next piece (Ok x) already ram sizes fed quiet place = fed_over r next piece (λ failed. not_ok x AlreadyFailed (already failed)) ram sizes fed quiet place
+fed_if r next piece (Err e) already ram sizes fed quiet place = tt
 
 pub told_if : {A : Type 0} (r next : Received) (piece : List ℕ) (result : Result A RecvError) → AreSteady r → next.sizes ≡ r.sizes → OnErr result (next.failed ≡ true) → MarksAfter r.marks result next.marks → (r.failed ≡ true → result ≡ Err AlreadyFailed)
-    → IfErr result (λ e. (b : List ℕ) → HasBeenFed r b → TellsNow r.base r.sizes b piece e) → IfErr result (λ e. TellsOf (Over r) piece e × IsClosed (Over r) (Over next))
+    → IfErr result (λ e. (b : List ℕ) → HasBeenFed r b → TellsNow r.ram r.sizes b piece e) → IfErr result (λ e. TellsOf (Over r) piece e × IsClosed (Over r) (Over next))
 told_if r next piece (Ok x) steady sizes failed marks already tells = tt
 told_if r next piece (Err e) steady sizes failed marks already tells = told_over r next piece e steady sizes failed marks (λ f. one_error (Err e) e AlreadyFailed refl (already f)) tells
 
@@ -137,7 +138,7 @@ gave_up Refused disks images count of many none is = absurd of
 
 -- The end.
 pub arrived_over : (r : Received) (m : Seen) → AreSteady r → r.failed ≡ false → (AreHonestDisks r.marks → (b : List ℕ) → HasBeenFed r b → IsStream b (state_of m)) → all_marks m ≡ dealt_marks (shapes_in (state_of m).devices) r.marks
-    → base_of (state_of m).devices ≡ r.base → m.memory.place ≡ r.place → HasArrived (Over r) m
+    → base_of (state_of m).devices ≡ r.ram.base → m.memory.place ≡ r.place → HasArrived (Over r) m
 arrived_over r m steady fine received marks based place =
     let a : HasArrived (AtBody r) m = arrived r m steady received marks based in
     record { went_on = fine; stream = λ b h. received (rw steady (honest_marks r.sizes)) b h; base = based; plain = a.plain; place = place }

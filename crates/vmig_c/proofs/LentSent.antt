@@ -7,10 +7,9 @@ use Rattle.guestmem.specs.Lent.{given_back}
 use Rattle.machine.specs.Seen.{DeviceSeen}
 use Rattle.machine.specs.State.{base_of}
 use Rattle.sender.specs.Follows.{Relates}
-use Rattle.sender.specs.LiveState.{LiveSeen}
+use Rattle.sender.specs.LiveState.{HasPlaces, LiveSeen}
 use Rattle.sender.specs.History.{guest_events}
 use Rattle.sender.specs.Parked.{IsLiveParked, LiveParkedSeen, live_back, live_base, page_writes}
-use Rattle.sender.specs.Stopping.{HasPlaces}
 use Rattle.sender.specs.declared.phase.Phase.{Phase}
 use Rattle.sender.specs.declared.phase.Phase.TheVariants as phases
 use Rattle.sender.proofs.LiveBack.{live_back_follows}

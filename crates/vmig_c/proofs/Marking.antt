@@ -1,10 +1,10 @@
 -- The pages that are marked in a bitmap.
-use Rattle.std.proofs.Common.{◌≡◌, ◌≤◌, ◌<◌, ◌*◌, ◌+◌, ◌-◌, ◌/◌, ◌%◌, ◌^◌, ◌++◌, ℕ, Bool, true, false, nat_lt, List, [], ◌∷◌, refl, sym, ap, ◌∙◌, subst, arith}
+use Rattle.std.proofs.Common.{◌≡◌, ◌≤◌, ◌<◌, ◌*◌, ◌+◌, ◌-◌, ◌/◌, ◌%◌, ◌^◌, ◌++◌, ℕ, Bool, true, false, nat_lt, length, List, [], ◌∷◌, refl, sym, ap, ◌∙◌, subst, arith}
 use Prim.Native.Nat.{zero, suc}
 use Rattle.std.specs.Prelude.{cond, min, slice_index}
 use Rattle.std.specs.List.{filter, range_with_len}
 use Rattle.std.proofs.lemmas.Bool.Decides.{nat_tests}
-use Rattle.std.proofs.lemmas.List.{append-nil, map-id}
+use Rattle.std.proofs.lemmas.List.{append-nil, length-append, map-id}
 use Rattle.std.proofs.lemmas.List.FromFn.{filter_of_map_range_with_len_more, map-range_with_len_more}
 use Rattle.std.proofs.Math.Nat.{zero-div}
 use Rattle.vmig_c.specs.Mirror.{are_pages}
@@ -19,6 +19,18 @@ marked_more words n =
     ap (filter (is_marked words)) (sym (map-id (numbers_below (n + 1))))
     ∙ filter_of_map_range_with_len_more (is_marked words) alike 0 n n (omega arith)
     ∙ ap (λ (l : List ℕ). filter (is_marked words) l ++ cond (is_marked words n) (n ∷ []) []) (map-id (numbers_below n))
+
+one_at_most : (b : Bool) (n : ℕ) → length (cond b (n ∷ []) []) ≤ 1
+one_at_most true n = omega arith
+one_at_most false n = omega arith
+
+pub marked_few : (words : List ℕ) (n : ℕ) → length (marked words n) ≤ n
+marked_few words zero = omega arith
+marked_few words (suc n) =
+    let more : length (marked words (n + 1)) ≡ length (marked words n) + length (cond (is_marked words n) (n ∷ []) []) = ap length (marked_more words n) ∙ length-append (marked words n) (cond (is_marked words n) (n ∷ []) []) in
+    let few : length (marked words (n + 1)) ≤ n + 1 = omega (arith, more, marked_few words n, one_at_most (is_marked words n) n) in
+    let next : suc n ≡ n + 1 = omega arith in
+    subst (λ (k : ℕ). length (marked words k) ≤ k) (sym next) few
 
 pub numbers_more : (n : ℕ) → numbers_below (n + 1) ≡ numbers_below n ++ n ∷ []
 numbers_more n = sym (map-id (numbers_below (n + 1))) ∙ map-range_with_len_more alike 0 n n (omega arith) ∙ ap (λ (l : List ℕ). l ++ n ∷ []) (map-id (numbers_below n))

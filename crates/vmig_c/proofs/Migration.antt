@@ -3,8 +3,7 @@ use Rattle.std.proofs.Common.{◌≡◌, ℕ, List, refl, sym, ap, ◌∙◌, su
 use Rattle.std.specs.Prelude.{MatchOption, Option, Some, None}
 use Rattle.machine.specs.Seen.{Seen}
 use Rattle.sender.specs.Calls.{Does, Serves}
-use Rattle.sender.specs.LiveState.{LiveSeen, refusal_for}
-use Rattle.sender.specs.Stopping.{HasPlaces}
+use Rattle.sender.specs.LiveState.{HasPlaces, LiveSeen, refusal_for}
 use Rattle.sender.specs.declared.event.LiveEvent.TheVariants as events
 use Rattle.sender.specs.declared.event.LiveReply.{LiveReply}
 use Rattle.sender.specs.declared.event.LiveReply.TheVariants as live

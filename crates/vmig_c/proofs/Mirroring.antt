@@ -19,8 +19,7 @@ use Rattle.machine.specs.declared.reply.Refusal.{Refusal}
 use Rattle.machine.specs.declared.reply.Reply.{Reply}
 use Rattle.machine.specs.declared.reply.Reply.TheVariants.{Done}
 use Rattle.sender.specs.Calls.{Does, Serves, guest_reply}
-use Rattle.sender.specs.LiveState.{LiveSeen, refusal_for}
-use Rattle.sender.specs.Stopping.{HasPlaces}
+use Rattle.sender.specs.LiveState.{HasPlaces, LiveSeen, refusal_for}
 use Rattle.sender.specs.declared.event.LiveEvent.TheVariants.{Guest}
 use Rattle.sender.specs.declared.event.LiveReply.TheVariants as live
 use Rattle.sender.specs.declared.mig_error.MigError.{MigError}

@@ -21,11 +21,11 @@ use Rattle.blk.specs.Disk.{DiskState}
 use Rattle.machine.specs.First.{dealt_marks, marks_in}
 use Rattle.machine.specs.State.{base_of}
 use Rattle.machine.specs.Shapes.{disk_sizes}
-use Rattle.wire.specs.Header.{Begins}
-use Rattle.wire.specs.HeaderReading.{said}
+use Rattle.wire.specs.Header.{Begins, said}
 use Rattle.wire.specs.declared.header.Header.{Header}
 use Rattle.wire.specs.Stream.{shapes_in}
 use Rattle.receiver.specs.Disks.{AreHonestDisks, disk_marks_of, sizes_of}
+use Rattle.receiver.specs.Opened.{ram_at}
 use Rattle.receiver.specs.Receiving.{IsReceived, RefusesSlice}
 use Rattle.receiver.specs.declared.recv_error.RecvError.{RecvError}
 use Rattle.vmig_c.proofs.Zeros.{alike}
@@ -130,15 +130,15 @@ was_received bytes disks m n received marks based =
 steady_disks : (disks : List (List (List ℕ))) (k : ℕ) → (marks_at (disk_marks_of mem_state disks) k).steady ≡ true
 steady_disks disks k = rw (plain_disks disks, slice_get-map (λ (d : List (List ℕ)). no_marks) disks k) (of_found (slice_get disks k))
 
-no_mismatch : (bytes sizes : List ℕ) (at : ℕ) → AreFitting bytes sizes → ¬ (IsMismatch sizes bytes at)
-no_mismatch bytes sizes at (inl h) is = no_header_fault sizes bytes h.opening h.rest h.begins h.sizes_are ShapeMismatch at is
+no_mismatch : (bytes sizes : List ℕ) (at : ℕ) → AreFitting bytes sizes → ¬ (IsMismatch (ram_at 0) sizes bytes at)
+no_mismatch bytes sizes at (inl h) is = no_header_fault (ram_at 0) sizes bytes h.opening h.rest h.begins h.sizes_are tt ShapeMismatch at is
 no_mismatch bytes sizes at (inr none) is = none is.opening is.more is.begins
 
-not_mismatched : (bytes sizes : List ℕ) (at : ℕ) → AreFitting bytes sizes → ¬ (Fault 0 sizes bytes ShapeMismatch at)
+not_mismatched : (bytes sizes : List ℕ) (at : ℕ) → AreFitting bytes sizes → ¬ (Fault (ram_at 0) sizes bytes ShapeMismatch at)
 not_mismatched bytes sizes at fit (inl is) = no_mismatch bytes sizes at fit is
 not_mismatched bytes sizes at fit (inr is) = is.fault
 
-not_failed_before : (bytes sizes : List ℕ) (at : ℕ) → ¬ (Fault 0 sizes bytes AlreadyFailed at)
+not_failed_before : (bytes sizes : List ℕ) (at : ℕ) → ¬ (Fault (ram_at 0) sizes bytes AlreadyFailed at)
 not_failed_before bytes sizes at (inl is) = is
 not_failed_before bytes sizes at (inr is) = is.fault
 

@@ -3,7 +3,7 @@
 use Rattle.std.specs.Prelude.{◌≡◌, ◌⊎◌, ℕ, ◌&&◌, not, nat_lt, Bool, true, false, List, ◌++◌, Option, Some, None}
 use Rattle.machine.specs.declared.shape.Shape.{Shape}
 use Rattle.wire.specs.Header.{Begins, Opening}
-use Rattle.receiver.specs.Heading.{WaitsHead}
+use Rattle.receiver.specs.Faults.{WaitsHead}
 use Rattle.receiver.specs.declared.recv_error.RecvError.TheVariants.{AlreadyFailed}
 use Rattle.vmig_c.specs.AdmissionSeen.{AdmissionSeen, Granted, Pending, Denied}
 use Rattle.vmig_c.specs.Announced.{IsRefusedAt}

@@ -1,8 +1,8 @@
 -- What the first bytes of a stream announce, before a machine arrives by them.
 use Rattle.std.specs.Prelude.{◌≡◌, ◌⊎◌, ℕ, List, length, slice_get}
 use Rattle.wire.specs.Header.{Begins, Opening}
-use Rattle.receiver.specs.Faults.{IsHeaderFault}
-use Rattle.receiver.specs.Heading.{TellsHead, WaitsHead}
+use Rattle.receiver.specs.Faults.{IsHeaderFault, TellsHead, WaitsHead}
+use Rattle.receiver.specs.declared.ram_terms.RamTerms.{RamTerms}
 use Rattle.receiver.specs.declared.recv_error.RecvError.{RecvError}
 use Rattle.vmig_c.specs.Awaited.{stream_status}
 use Rattle.vmig_c.specs.Described.{Tells}
@@ -18,7 +18,7 @@ pub record IsAwaited (bytes : List ℕ) (status : ℕ) : Type 0 where
 pub record IsRefusedAt (bytes : List ℕ) (status : ℕ) : Type 0 where
   pub error : RecvError
   pub status_is : status ≡ stream_status error
-  pub why : TellsHead error ((sizes : List ℕ) → (at : ℕ) × IsHeaderFault sizes bytes error at)
+  pub why : TellsHead error ((ram : RamTerms) (sizes : List ℕ) → (at : ℕ) × IsHeaderFault ram sizes bytes error at)
 
 abbrev pub IsNotAnnounced : List ℕ → ℕ → Type 0
 IsNotAnnounced bytes status = IsAwaited bytes status ⊎ IsRefusedAt bytes status

@@ -5,7 +5,9 @@ use Rattle.machine.specs.Seen.{Seen, no_marks, state_of}
 use Rattle.machine.specs.State.{base_of}
 use Rattle.receiver.specs.Codes.{recv_code_of}
 use Rattle.receiver.specs.Faults.{Fault}
-use Rattle.receiver.specs.Receiving.{HasBeenFed, HasRounds, IsFinish, IsWholeFor, NoFault, Received, TellsNow}
+use Rattle.receiver.specs.Receiving.{HasBeenFed, HasRounds, IsFinish, end_error, IsWholeFor, NoFault, Received, TellsNow}
+use Rattle.receiver.specs.Opened.{ram_at}
+use Rattle.receiver.specs.declared.ram_terms.RamTerms.{RamTerms}
 use Rattle.receiver.specs.declared.recv_error.RecvError.{RecvError}
 use Rattle.receiver.specs.declared.recv_error.RecvError.TheVariants.{NoMemory, DiskFailed, AlreadyFailed}
 use Rattle.wire.specs.Stream.{IsStream}
@@ -53,21 +55,28 @@ awaited_sizes (Over r) = r.sizes
 -- The address at which RAM will begin.
 abbrev pub awaited_base : ArrivalSeen → ℕ
 awaited_base (AtHead base held) = base
-awaited_base (AtBody r) = r.base
+awaited_base (AtBody r) = r.ram.base
 awaited_base Refused = 0
-awaited_base (Over r) = r.base
+awaited_base (Over r) = r.ram.base
+
+-- What was told of RAM: that address, and the length of the RAM that was handed in, which only images may come with.
+abbrev pub awaited_ram : ArrivalSeen → RamTerms
+awaited_ram (AtHead base held) = ram_at base
+awaited_ram (AtBody r) = r.ram
+awaited_ram Refused = ram_at 0
+awaited_ram (Over r) = r.ram
 
 -- The disks lie in memory: none ever failed, or will.
 abbrev pub AreSteady : Received → Type 0
 AreSteady r = r.marks ≡ map (λ size. no_marks) r.sizes
 
--- A receiver of a machine with this base, over disks in memory of these sizes, was fed these bytes, and there is no fault in them.
-pub record IsFedTo (base : ℕ) (sizes bytes : List ℕ) (r : Received) : Type 0 where
+-- A receiver that was told this of RAM, over disks in memory of these sizes, was fed these bytes, and there is no fault in them.
+pub record IsFedTo (ram : RamTerms) (sizes bytes : List ℕ) (r : Received) : Type 0 where
   pub fed : HasBeenFed r bytes
-  pub base_is : r.base ≡ base
+  pub ram_is : r.ram ≡ ram
   pub sizes_are : r.sizes ≡ sizes
   pub steady : AreSteady r
-  pub quiet : NoFault base sizes bytes
+  pub quiet : NoFault ram sizes bytes
 
 abbrev pub IsComing : Progress → Type 0
 IsComing (Head base held) = HasNoHeader held.items
@@ -89,7 +98,7 @@ AreFittingFor a bytes = AreFitting bytes (awaited_sizes a)
 pub record GoesOnWith (bytes : List ℕ) (a : ArrivalSeen) : Type 0 where
   pub come : HasCome a bytes
   pub fit : AreFittingFor a bytes
-  pub quiet : NoFault (awaited_base a) (awaited_sizes a) bytes
+  pub quiet : NoFault (awaited_ram a) (awaited_sizes a) bytes
 
 -- There was no refusal.
 abbrev pub IsOpen : ArrivalSeen → Type 0
@@ -127,39 +136,41 @@ LiesThere a m = Unit {0}
 pub record IsFed (a : ArrivalSeen) (piece : List ℕ) (next : ArrivalSeen) : Type 0 where
   pub went_on : IsOpen a
   pub goes_on : (b : List ℕ) → HasCome a b → GoesOnWith (b ++ piece) next
-  pub base : awaited_base next ≡ awaited_base a
+  pub ram : awaited_ram next ≡ awaited_ram a
   pub place : HasSamePlace a next
 
--- There is a fault in the bytes, for RAM that begins at `base` and disks of the sizes that the header says.
-pub record IsFaulty (base : ℕ) (bytes : List ℕ) (error : RecvError) : Type 0 where
+-- There is a fault in the bytes, for what was told of RAM and disks of the sizes that the header says.
+pub record IsFaulty (ram : RamTerms) (bytes : List ℕ) (error : RecvError) : Type 0 where
   pub sizes : List ℕ
   pub fit : AreFitting bytes sizes
   pub at : ℕ
-  pub fault : Fault base sizes bytes error at
+  pub fault : Fault ram sizes bytes error at
 
 -- Why bytes are refused: memory was refused, or there is a fault in them.
-abbrev pub TellsWhy : ℕ → List ℕ → RecvError → Type 0
-TellsWhy base bytes NoMemory = Unit {0}
-TellsWhy base bytes error = IsFaulty base bytes error
+abbrev pub TellsWhy : RamTerms → List ℕ → RecvError → Type 0
+TellsWhy ram bytes NoMemory = Unit {0}
+TellsWhy ram bytes error = IsFaulty ram bytes error
 
--- Why a piece is refused over images: as their receiver tells it, and never because a disk failed.
+-- Why a piece is refused over images: as their receiver tells it, which was told the length of the RAM that was handed in, and never
+-- because a disk failed.
 pub record IsToldOver (r : Received) (piece : List ℕ) (error : RecvError) : Type 0 where
   pub already : r.failed ≡ true → error ≡ AlreadyFailed
-  pub why : (b : List ℕ) → HasBeenFed r b → TellsNow r.base r.sizes b piece error
+  pub why : (b : List ℕ) → HasBeenFed r b → TellsNow r.ram r.sizes b piece error
   pub steady : error ≢ DiskFailed
 
 -- Why a piece is refused: a refusal came before, or all bytes up to the end of the piece are refused.
 abbrev pub TellsOf : ArrivalSeen → List ℕ → RecvError → Type 0
 TellsOf Refused piece error = error ≡ AlreadyFailed
 TellsOf (Over r) piece error = IsToldOver r piece error
-TellsOf a piece error = (b : List ℕ) → HasCome a b → TellsWhy (awaited_base a) (b ++ piece) error
+TellsOf a piece error = (b : List ℕ) → HasCome a b → TellsWhy (awaited_ram a) (b ++ piece) error
 
--- Why no machine is made of all bytes: a refusal came before, or memory was refused, or they are not yet the stream of a
--- machine.
+-- Why no machine is made of all bytes: a refusal came before, or they are not yet the stream of a machine. It is never that memory was
+-- refused.
 abbrev pub TellsEnd : ArrivalSeen → RecvError → Type 0
 TellsEnd Refused error = error ≡ AlreadyFailed
-TellsEnd (Over r) error = (r.failed ≡ true → error ≡ AlreadyFailed) × ((b : List ℕ) → HasBeenFed r b → IsFinish b error)
-TellsEnd a error = (b : List ℕ) → HasCome a b → IsFinish b error
+TellsEnd (Over r) error = (error ≡ end_error r.failed) × ((b : List ℕ) → HasBeenFed r b → IsFinish b error)
+TellsEnd (AtBody r) error = (error ≡ end_error r.failed) × ((b : List ℕ) → HasCome (AtBody r) b → IsFinish b error)
+TellsEnd (AtHead base held) error = (b : List ℕ) → b ≡ held → IsFinish b error
 
 -- The bytes are the stream of this machine, whose RAM begins where it was to. Its disks lie in memory.
 pub record HasArrived (a : ArrivalSeen) (m : Seen) : Type 0 where
@@ -172,18 +183,18 @@ pub record HasArrived (a : ArrivalSeen) (m : Seen) : Type 0 where
 -- This number of rounds ended in the bytes so far; after a refusal it is 0.
 abbrev pub CountsRounds : ArrivalSeen → ℕ → Type 0
 CountsRounds Refused n = n ≡ 0
-CountsRounds (Over r) n = (r.failed ≡ true → n ≡ 0) × ((b : List ℕ) → HasBeenFed r b → HasRounds r.base r.sizes b n)
-CountsRounds a n = (b : List ℕ) → HasCome a b → HasRounds (awaited_base a) (awaited_sizes a) b n
+CountsRounds (Over r) n = (r.failed ≡ true → n ≡ 0) × ((b : List ℕ) → HasBeenFed r b → HasRounds r.ram r.sizes b n)
+CountsRounds a n = (b : List ℕ) → HasCome a b → HasRounds (awaited_ram a) (awaited_sizes a) b n
 
 -- Whether the bytes so far are a whole stream, up to the digest of all of it, and nothing was refused.
-abbrev pub IsWholeIf : Bool → ℕ → List ℕ → List ℕ → Type 0
-IsWholeIf true base sizes bytes = IsWholeFor base sizes bytes
-IsWholeIf false base sizes bytes = ¬ (IsWholeFor base sizes bytes)
+abbrev pub IsWholeIf : Bool → RamTerms → List ℕ → List ℕ → Type 0
+IsWholeIf true ram sizes bytes = IsWholeFor ram sizes bytes
+IsWholeIf false ram sizes bytes = ¬ (IsWholeFor ram sizes bytes)
 
 abbrev pub TellsWhole : ArrivalSeen → Bool → Type 0
 TellsWhole Refused whole = whole ≡ false
-TellsWhole (Over r) whole = (r.failed ≡ true → whole ≡ false) × ((b : List ℕ) → HasBeenFed r b → IsWholeIf whole r.base r.sizes b)
-TellsWhole a whole = (b : List ℕ) → HasCome a b → IsWholeIf whole (awaited_base a) (awaited_sizes a) b
+TellsWhole (Over r) whole = (r.failed ≡ true → whole ≡ false) × ((b : List ℕ) → HasBeenFed r b → IsWholeIf whole r.ram r.sizes b)
+TellsWhole a whole = (b : List ℕ) → HasCome a b → IsWholeIf whole (awaited_ram a) (awaited_sizes a) b
 
 -- The status of a piece, or an end, that is refused: it always names the stream's refusal, also if memory was refused, since
 -- nothing is taken after it.

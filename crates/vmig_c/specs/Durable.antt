@@ -12,8 +12,7 @@ use Rattle.machine.specs.declared.kind.Kind.{Kind}
 use Rattle.machine.specs.declared.kind.Kind.TheVariants.{Network, Block, Console, Entropy}
 use Rattle.machine.specs.declared.reply.Refusal.TheVariants.{WrongKind}
 use Rattle.machine.specs.declared.reply.Reply.TheVariants.{DiskFailed}
-use Rattle.sender.specs.LiveState.{LiveSeen, now}
-use Rattle.sender.specs.Stopping.{HasPlaces}
+use Rattle.sender.specs.LiveState.{HasPlaces, LiveSeen, now}
 use Rattle.sender.specs.Unsynced.{FailsLiveFlushIf}
 use Rattle.sender.specs.declared.mig_error.MigError.TheVariants.{AlreadyStopped}
 use Rattle.vmig_c.specs.Kept.{KeptSeen, State, Still, Moving, Arriving, Lent, is_lost}

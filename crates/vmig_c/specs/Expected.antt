@@ -1,6 +1,7 @@
 -- One call for all machines that will arrive: what its struct names says in whose memory, and within which limits.
 use Rattle.std.specs.Prelude.{◌≡◌, ◌⊎◌, ℕ, ◌==◌, ◌&&◌, not, if◌then◌else◌, Bool, true, false, [], length, Option, Some, None}
 use Rattle.machine.specs.First.{is_base}
+use Rattle.receiver.specs.Opened.{given_at}
 use Rattle.region.specs.Empty.{empty_slot}
 use Rattle.region.specs.declared.slot.Slot.{Slot}
 use Rattle.vmig_c.specs.AdmissionSeen.{Pending}
@@ -49,7 +50,7 @@ KeepsFresh base k = IsNew false k × StandsFresh base k.state
 abbrev pub KeepsExpected : Bool → Bool → Expected → KeptSeen → Type 0
 KeepsExpected false false expected k = KeepsFresh expected.base k
 KeepsExpected false true expected k = KeepsAwaited expected.base (contents expected.images.now) k
-KeepsExpected true images expected k = KeepsAwaitedAt expected.base (Some (place_of expected.ram)) (contents expected.images.now) k
+KeepsExpected true images expected k = KeepsAwaitedAt (given_at expected.base expected.ram.content) (Some (place_of expected.ram)) (contents expected.images.now) k
 
 -- What is left of RAM.
 abbrev pub ram_left : Bool → Slot → Slot

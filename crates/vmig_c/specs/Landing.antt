@@ -2,6 +2,8 @@
 use Rattle.std.specs.Prelude.{◌≡◌, ℕ, true, List, [], length, map, Option, None}
 use denote.RawPtr.{Ptr}
 use Rattle.blk.specs.Disk.{DiskState}
+use Rattle.receiver.specs.Opened.{ram_at}
+use Rattle.receiver.specs.declared.ram_terms.RamTerms.{RamTerms}
 use Rattle.receiver.specs.Receiving.{HasBeenFed, Received}
 use Rattle.mapped_disk.specs.declared.image.Image.{Image}
 use Rattle.vmig_c.specs.ArrivalSeen.{ArrivalSeen, Over}
@@ -12,30 +14,30 @@ use Rattle.vmig_c.specs.Plain.{mem_state}
 abbrev pub image_state : Image → DiskState
 image_state i = mem_state i.content
 
--- Nothing was fed, RAM will begin at this address, the disks hold these sectors, and RAM will lie in this place, if one is known.
-pub record IsFreshOver (base : ℕ) (place : Option Ptr) (sectors : List (List (List ℕ))) (r : Received) : Type 0 where
+-- Nothing was fed, this was told of RAM, the disks hold these sectors, and RAM will lie in this place, if one is known.
+pub record IsFreshOver (ram : RamTerms) (place : Option Ptr) (sectors : List (List (List ℕ))) (r : Received) : Type 0 where
   pub fed : HasBeenFed r []
-  pub base_is : r.base ≡ base
+  pub ram_is : r.ram ≡ ram
   pub sizes_are : r.sizes ≡ map length sectors
   pub disks_are : map (λ d. d.sectors) r.disks ≡ sectors
   pub place_is : r.place ≡ place
 
-abbrev pub IsAwaitedAt : ℕ → Option Ptr → List (List (List ℕ)) → ArrivalSeen → Type 0
-IsAwaitedAt base place sectors (Over r) = IsFreshOver base place sectors r
-IsAwaitedAt base place sectors _ = ⊥
+abbrev pub IsAwaitedAt : RamTerms → Option Ptr → List (List (List ℕ)) → ArrivalSeen → Type 0
+IsAwaitedAt ram place sectors (Over r) = IsFreshOver ram place sectors r
+IsAwaitedAt ram place sectors _ = ⊥
 
 -- The disks of an arrival hold these sectors.
 abbrev pub AreDisksOf : ArrivalSeen → List (List (List ℕ)) → Type 0
 AreDisksOf (Over r) sectors = map (λ d. d.sectors) r.disks ≡ sectors
 AreDisksOf _ sectors = ⊥
 
-abbrev pub StandsAwaited : ℕ → Option Ptr → List (List (List ℕ)) → State → Type 0
-StandsAwaited base place sectors (Arriving a) = IsAwaitedAt base place sectors a
-StandsAwaited base place sectors _ = ⊥
+abbrev pub StandsAwaited : RamTerms → Option Ptr → List (List (List ℕ)) → State → Type 0
+StandsAwaited ram place sectors (Arriving a) = IsAwaitedAt ram place sectors a
+StandsAwaited ram place sectors _ = ⊥
 
-abbrev pub KeepsAwaitedAt : ℕ → Option Ptr → List (List (List ℕ)) → KeptSeen → Type 0
-KeepsAwaitedAt base place sectors k = IsNew true k × StandsAwaited base place sectors k.state
+abbrev pub KeepsAwaitedAt : RamTerms → Option Ptr → List (List (List ℕ)) → KeptSeen → Type 0
+KeepsAwaitedAt ram place sectors k = IsNew true k × StandsAwaited ram place sectors k.state
 
 -- Its RAM will lie in memory of the library.
 abbrev pub KeepsAwaited : ℕ → List (List (List ℕ)) → KeptSeen → Type 0
-KeepsAwaited base sectors k = KeepsAwaitedAt base None sectors k
+KeepsAwaited base sectors k = KeepsAwaitedAt (ram_at base) None sectors k

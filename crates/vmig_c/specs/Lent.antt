@@ -12,9 +12,8 @@ use Rattle.guestmem.specs.declared.limits.TheConstants.{PAGE_SIZE}
 use Rattle.machine.specs.Parked.{IsParked, back_with}
 use Rattle.machine.specs.Refusal.{code_of}
 use Rattle.machine.specs.declared.reply.Refusal.TheVariants.{OutOfRam}
-use Rattle.sender.specs.LiveState.{LiveSeen}
+use Rattle.sender.specs.LiveState.{HasPlaces, LiveSeen}
 use Rattle.sender.specs.Parked.{IsLiveParked, LiveParkedSeen, live_back}
-use Rattle.sender.specs.Stopping.{HasPlaces}
 use Rattle.sender.specs.declared.mig_error.MigError.TheVariants.{AlreadyStopped}
 use Rattle.vmig_c.specs.Kept.{KeptSeen, LoanSeen, StillLent, MovingLent, State, Still, Moving, Arriving, Lent, parked_in}
 use Rattle.vmig_c.specs.Mirror.{are_pages, is_stopped, memory_in}

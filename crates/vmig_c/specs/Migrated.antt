@@ -4,9 +4,8 @@ use Rattle.machine.specs.Seen.{AreHonest, Seen, state_of}
 use Rattle.sender.specs.Calls.{Serves}
 use Rattle.sender.specs.Follows.{Relates}
 use Rattle.sender.specs.History.{nothing}
-use Rattle.sender.specs.LiveState.{LiveSeen}
+use Rattle.sender.specs.LiveState.{HasPlaces, LiveSeen}
 use Rattle.sender.specs.Parked.{LiveParkedSeen}
-use Rattle.sender.specs.Stopping.{HasPlaces}
 use Rattle.sender.specs.declared.event.Item.TheVariants.{Page, Sector}
 use Rattle.sender.specs.declared.event.LiveEvent.TheVariants as events
 use Rattle.sender.specs.declared.event.LiveReply.{LiveReply}

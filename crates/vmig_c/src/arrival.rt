@@ -3,8 +3,9 @@
 ghost use Rattle.std.specs.Prelude.{◌≡◌, ◌++◌, ℕ, List, IfErr, IfOk, MatchOption};
 ghost use Rattle.machine.specs.Shapes.{disk_sizes};
 ghost use Rattle.receiver.specs.Disks.{sizes_of};
+ghost use Rattle.receiver.specs.Opened.{ram_at};
 ghost use Rattle.vmig_c.specs.ArrivalSeen.{AtBody};
-ghost use Rattle.vmig_c.specs.Awaited.{AreSteady, GoesOnWith, IsComing, IsFed, IsFedTo, TellsOf, TellsWhy, awaited_base, awaited_by};
+ghost use Rattle.vmig_c.specs.Awaited.{AreSteady, GoesOnWith, IsComing, IsFed, IsFedTo, TellsOf, TellsWhy, awaited_by, awaited_ram};
 ghost use Rattle.vmig_c.specs.Headed.{AreFitting, HasNoHeader};
 ghost use Rattle.vmig_c.specs.Plain.{mem_state};
 
@@ -171,9 +172,9 @@ fn take_body(receiver: Receiver<MemDisk>, piece: &[u8]) -> Result<Progress, Recv
 /// the header are copied.
 fn take_head(alloc: Global, base: u64, held: Vec<u8>, piece: &[u8]) -> Result<Progress, RecvError>
     ensures coming { IfOk result (λ next. IsComing next) }
-    ensures base { IfOk result (λ next. awaited_base (awaited_by next) ≡ base) }
+    ensures ram { IfOk result (λ next. awaited_ram (awaited_by next) ≡ ram_at base) }
     ensures goes_on { IfOk result (λ next. GoesOnWith (held.items ++ piece.now) (awaited_by next)) }
-    ensures refused { IfErr result (λ e. TellsWhy base (held.items ++ piece.now) e) }
+    ensures refused { IfErr result (λ e. TellsWhy (ram_at base) (held.items ++ piece.now) e) }
 {
     let mut held = held;
     let few = piece.len().min(HEADER_MAX.saturating_sub(held.len()));
@@ -198,9 +199,9 @@ fn go_on_headless(
 ) -> Result<Progress, RecvError>
     requires { HasNoHeader held.items }
     ensures coming { IfOk result (λ next. IsComing next) }
-    ensures base { IfOk result (λ next. awaited_base (awaited_by next) ≡ base) }
+    ensures ram { IfOk result (λ next. awaited_ram (awaited_by next) ≡ ram_at base) }
     ensures goes_on { IfOk result (λ next. GoesOnWith (held.items ++ rest.now) (awaited_by next)) }
-    ensures refused { IfErr result (λ e. TellsWhy base (held.items ++ rest.now) e) }
+    ensures refused { IfErr result (λ e. TellsWhy (ram_at base) (held.items ++ rest.now) e) }
 {
     if let Err(error) = fed(alloc, base, Vec::new(alloc), &held) {
         return Err(error);
@@ -217,8 +218,8 @@ fn go_on_headless(
 
 /// A receiver that was fed the bytes, if they begin with a header.
 fn headed(alloc: Global, base: u64, bytes: &[u8]) -> Result<Option<Receiver<MemDisk>>, RecvError>
-    ensures begun { IfOk result (λ found. MatchOption found (HasNoHeader bytes.now) (λ r. (r.base ≡ base) × GoesOnWith bytes.now (AtBody r) × AreSteady r)) }
-    ensures refused { IfErr result (λ e. (rest : List ℕ) → TellsWhy base (bytes.now ++ rest) e) }
+    ensures begun { IfOk result (λ found. MatchOption found (HasNoHeader bytes.now) (λ r. (r.ram ≡ ram_at base) × GoesOnWith bytes.now (AtBody r) × AreSteady r)) }
+    ensures refused { IfErr result (λ e. (rest : List ℕ) → TellsWhy (ram_at base) (bytes.now ++ rest) e) }
 {
     let Ok(found) = decode_header(alloc, bytes) else {
         return Err(RecvError::NoMemory);
@@ -236,9 +237,9 @@ fn headed(alloc: Global, base: u64, bytes: &[u8]) -> Result<Option<Receiver<MemD
 #[tactic(auto, using(crate::proofs::Awaited::head_goes_on))]
 fn begin(alloc: Global, base: u64, held: Vec<u8>) -> Result<Progress, RecvError>
     ensures coming { IfOk result (λ next. IsComing next) }
-    ensures base { IfOk result (λ next. awaited_base (awaited_by next) ≡ base) }
+    ensures ram { IfOk result (λ next. awaited_ram (awaited_by next) ≡ ram_at base) }
     ensures goes_on { IfOk result (λ next. GoesOnWith held.items (awaited_by next)) }
-    ensures refused { IfErr result (λ e. TellsWhy base held.items e) }
+    ensures refused { IfErr result (λ e. TellsWhy (ram_at base) held.items e) }
 {
     match headed(alloc, base, &held) {
         Ok(Some(receiver)) => Ok(Progress::Body(receiver)),
@@ -257,8 +258,8 @@ fn begun(
     shapes: &[Shape],
     bytes: &[u8],
 ) -> Result<Receiver<MemDisk>, RecvError>
-    ensures begun { IfOk result (λ r. IsFedTo base (disk_sizes shapes.now) bytes.now r) }
-    ensures refused { AreFitting bytes.now (disk_sizes shapes.now) → IfErr result (λ e. TellsWhy base bytes.now e) }
+    ensures begun { IfOk result (λ r. IsFedTo (ram_at base) (disk_sizes shapes.now) bytes.now r) }
+    ensures refused { AreFitting bytes.now (disk_sizes shapes.now) → IfErr result (λ e. TellsWhy (ram_at base) bytes.now e) }
 {
     let Ok(disks) = zero_disks(alloc, shapes) else {
         return Err(RecvError::NoMemory);
@@ -274,8 +275,8 @@ fn fed(
     disks: Vec<MemDisk>,
     bytes: &[u8],
 ) -> Result<Receiver<MemDisk>, RecvError>
-    ensures fed { IfOk result (λ r. IsFedTo base (sizes_of mem_state disks.items) bytes.now r) }
-    ensures refused { AreFitting bytes.now (sizes_of mem_state disks.items) → IfErr result (λ e. TellsWhy base bytes.now e) }
+    ensures fed { IfOk result (λ r. IsFedTo (ram_at base) (sizes_of mem_state disks.items) bytes.now r) }
+    ensures refused { AreFitting bytes.now (sizes_of mem_state disks.items) → IfErr result (λ e. TellsWhy (ram_at base) bytes.now e) }
 {
     let mut receiver = Receiver::new_at(alloc, disks, base);
     match receiver.feed(bytes) {

@@ -35,6 +35,7 @@ impl Model for Landing {
 
 impl Landing {
     ghost use Rattle.std.specs.Prelude.{◌≡◌, IfErr, IfOk, None, length};
+    ghost use Rattle.receiver.specs.Opened.{given_at, ram_at};
     ghost use Rattle.vmig_c.specs.Awaited.{CountsRounds, HasArrived, HasSameDisks, IsClosed, IsFed, IsOver, TellsEnd, TellsOf, TellsWhole, awaited_sizes};
     ghost use Rattle.vmig_c.specs.Landing.{AreDisksOf, IsAwaitedAt};
     ghost use Rattle.vmig_c.specs.Mapping.{contents};
@@ -42,7 +43,7 @@ impl Landing {
     /// An arrival over these disks that was fed nothing yet, of a machine whose RAM will begin at the address `base`. It takes no
     /// memory.
     fn new(alloc: Global, base: u64, disks: Vec<MappedDisk>) -> Landing
-        ensures { IsAwaitedAt base None (contents disks.items) result }
+        ensures { IsAwaitedAt (ram_at base) None (contents disks.items) result }
     {
         Landing {
             receiver: Receiver::new_at(alloc, disks, base),
@@ -51,7 +52,7 @@ impl Landing {
 
     /// As `new`, into this RAM.
     pub(crate) fn new_in(alloc: Global, base: u64, disks: Vec<MappedDisk>, ram: Ram) -> Landing
-        ensures { IsAwaitedAt base ram.place (contents disks.items) result }
+        ensures { IsAwaitedAt (given_at base ram.bytes) ram.place (contents disks.items) result }
     {
         Landing {
             receiver: Receiver::new_in_at(alloc, disks, ram, base),

@@ -1,6 +1,6 @@
 //! The numbers of the pages that a caller names by a bitmap, or of all.
 
-ghost use Rattle.std.specs.Prelude.{◌≡◌, ◌≤◌, ◌*◌, ◌<◌, ◌+◌, ◌/◌, ◌%◌, ℕ, IfOk, length, false, true};
+ghost use Rattle.std.specs.Prelude.{◌≡◌, ◌≤◌, ◌*◌, ◌<◌, ◌+◌, ◌/◌, ◌%◌, ℕ, IfOk, IsOk, length, false, true, vec_capacity};
 ghost use Rattle.guestmem.specs.declared.limits.TheConstants.{PAGES_MAX};
 ghost use Rattle.vmig_c.specs.Named.{is_marked, marked, numbers_below};
 
@@ -10,7 +10,8 @@ use guestmem::NoMemory;
 /// The bits of a word of a bitmap.
 pub(crate) const WORD_BITS: usize = 64;
 
-/// Makes the list that of the pages that are marked. It takes one look for each word, and one for each page.
+/// Makes the list that of the pages that are marked. It takes one look for each word, and one for each page, and no memory where the list
+/// has room for all pages.
 pub(crate) fn collect_marked(
     words: &[u64],
     count: usize,
@@ -18,7 +19,8 @@ pub(crate) fn collect_marked(
 ) -> Result<(), NoMemory>
     requires few { count ≤ PAGES_MAX }
     requires room { count ≤ 64 * length words.now }
-    ensures { IfOk result (λ x. numbers.new.items ≡ marked words.now count) }
+    ensures pages { IfOk result (λ x. numbers.new.items ≡ marked words.now count) }
+    ensures memory { count ≤ vec_capacity numbers.old → IsOk result }
 {
     numbers.clear();
     let mut from = 0;
@@ -48,7 +50,9 @@ fn collect_from(
     requires one_word { until ≤ from + 64 }
     requires few { until ≤ PAGES_MAX }
     requires room { until ≤ 64 * length words.now }
-    ensures { IfOk result (λ x. numbers.new.items ≡ marked words.now until) }
+    ensures pages { IfOk result (λ x. numbers.new.items ≡ marked words.now until) }
+    ensures capacity { vec_capacity numbers.old ≤ vec_capacity numbers.new }
+    ensures memory { until ≤ vec_capacity numbers.old → IsOk result }
 {
     let mut n = next_marked(words, from, until);
     while n < until {
@@ -78,10 +82,11 @@ fn next_marked(words: &[u64], from: usize, until: usize) -> usize
     }
 }
 
-/// Makes the list that of all pages.
+/// Makes the list that of all pages. It takes no memory where the list has room for them.
 pub(crate) fn collect_all(count: usize, numbers: &mut Vec<u32>) -> Result<(), NoMemory>
     requires { count ≤ PAGES_MAX }
-    ensures { IfOk result (λ x. numbers.new.items ≡ numbers_below count) }
+    ensures pages { IfOk result (λ x. numbers.new.items ≡ numbers_below count) }
+    ensures memory { count ≤ vec_capacity numbers.old → IsOk result }
 {
     numbers.clear();
     for n in 0..count {

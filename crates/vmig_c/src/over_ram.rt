@@ -1,6 +1,7 @@
 //! Machines whose RAM lies in memory of the caller.
 
 ghost use Rattle.std.specs.Prelude.{◌≡◌, [], true, length, IfErr, IfOk, None, Some};
+ghost use Rattle.receiver.specs.Opened.{given_at};
 ghost use Rattle.region.specs.Empty.{empty_slot};
 ghost use Rattle.region.specs.Slot.{region_of, slot_of};
 ghost use Rattle.vmig_c.specs.AdmissionSeen as seen;
@@ -181,7 +182,7 @@ pub(crate) fn landing_in(
     images: &mut [Image],
 ) -> Result<Box<Kept>, NoMemory>
     requires { is_ram (length ram.old.content) ≡ true }
-    ensures made { IfOk result (λ k. KeepsAwaitedAt base (Some (place_of ram.old)) (contents images.old) k.value) }
+    ensures made { IfOk result (λ k. KeepsAwaitedAt (given_at base ram.old.content) (Some (place_of ram.old)) (contents images.old) k.value) }
     ensures limits { IfOk result (λ k. k.value.admission ≡ seen.Pending limits []) }
     ensures ram { IfOk result (λ k. ram.new ≡ empty_slot) }
     ensures taken { IfOk result (λ k. AreTaken images.old images.new) }

@@ -1,5 +1,5 @@
 use Rattle.std.proofs.Common.{◌≡◌, ◌++◌, rules}
-use Rattle.wire.specs.HeaderReading.{said}
+use Rattle.wire.specs.Header.{said}
 use Rattle.vmig_c.proofs.Admissions.{admitted, faulty, full, too_large}
 use Rattle.vmig_c.proofs.Awaited.{cut_piece}
 use Rattle.vmig_c.proofs.admission.compared.Goals as goal

@@ -1,8 +1,9 @@
+use Rattle.receiver.specs.Opened.{ram_at}
 use Rattle.vmig_c.proofs.Awaited.{head_goes_on, told_of_all}
 use Rattle.vmig_c.proofs.arrival.begin.Goals as goal
 
 pub returns-in-Err-clause-refused : goal.returns-in-Err-clause-refused
-returns-in-Err-clause-refused c = told_of_all c.args.base c.args.held.items c.in-Err.error (rw c.deref.ensures.value at c.in-Err.ensures.refused)
+returns-in-Err-clause-refused c = told_of_all (ram_at c.args.base) c.args.held.items c.in-Err.error (rw c.deref.ensures.value at c.in-Err.ensures.refused)
 
 pub returns-in-Ok-clause-goes_on : goal.returns-in-Ok-clause-goes_on
 returns-in-Ok-clause-goes_on c =

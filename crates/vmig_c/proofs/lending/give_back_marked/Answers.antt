@@ -9,4 +9,4 @@ pub come_back-requires : goal.come_back-requires
 come_back-requires c =
     subst (λ (k : KeptSeen). back_refusal_of k.state (length c.return_refusal.new.ram.content) c.as_slice.result.now ≡ None) (sym c.kept.view_is)
     (marked_refusal c.args.kept.now.state c.return_refusal.new.ram c.args.ram.now c.return_refusal.result c.as_slice.result.now c.args.words.now c.pages_out-count.result
-    c.return_refusal.ensures.refusal c.in_default.is c.return_refusal.ensures.same c.pages_out-count.ensures.count (c.as_slice.ensures.value ∙ c.in-Ok.ensures))
+    c.return_refusal.ensures.refusal c.in_default.is c.return_refusal.ensures.same c.pages_out-count.ensures.count (c.as_slice.ensures.value ∙ c.in-Ok.ensures.pages))

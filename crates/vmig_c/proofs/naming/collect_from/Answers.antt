@@ -1,5 +1,5 @@
-use Rattle.std.proofs.Common.{◌∙◌, ◌+◌, ◌∷◌, ◌++◌, [], ℕ, List, ap, arith, sym}
-use Rattle.vmig_c.proofs.Marking.{marked_yes, none_between}
+use Rattle.std.proofs.Common.{◌∙◌, ◌+◌, ◌≤◌, length, ◌∷◌, ◌++◌, [], ℕ, List, ap, arith, sym}
+use Rattle.vmig_c.proofs.Marking.{marked_few, marked_yes, none_between}
 use Rattle.vmig_c.proofs.naming.collect_from.Goals as goal
 
 pub loop-n-init : goal.loop-n-init
@@ -10,6 +10,7 @@ loop-n-init c =
       low = found.from;
       within = found.until;
       found = found.marked;
+      room = omega arith;
     }
 
 pub loop-n-preserved : goal.loop-n-preserved
@@ -23,4 +24,10 @@ loop-n-preserved c =
       low = omega (arith, c.loop-n.invariant.low, next.ensures.from);
       within = next.ensures.until;
       found = next.ensures.marked;
+      room = omega (arith, c.loop-n.invariant.room, c.push.ensures.capacity);
     }
+
+pub returns-in_err-push-clause-memory : goal.returns-in_err-push-clause-memory
+returns-in_err-push-clause-memory c = λ room.
+    let few : length c.loop-n.numbers.items ≤ c.loop-n.n = rw (c.loop-n.invariant.list) (marked_few c.args.words.now c.loop-n.n) in
+    absurd (omega (arith, room, c.loop-n.invariant.room, c.in_err-push.ensures.full, few, c.loop-n-test.true))

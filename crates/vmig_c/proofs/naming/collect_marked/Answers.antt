@@ -1,4 +1,4 @@
-use Rattle.std.proofs.Common.{◌≡◌, ◌+◌, ◌*◌, ◌∙◌, ap, sym}
+use Rattle.std.proofs.Common.{arith, ◌≡◌, ◌+◌, ◌*◌, ◌∙◌, ap, sym}
 use Rattle.std.specs.Prelude.{min}
 use Rattle.vmig_c.specs.Named.{marked}
 use Rattle.vmig_c.proofs.Marking.{first_word, next_word, word_end, word_passed}
@@ -15,10 +15,12 @@ loop-word-preserved c =
     let next : c.min-until.result ≡ min (64 * (i + 1)) c.args.count = next_word i from c.args.count c.min-until.result start c.min-until.ensures in
     elim c.if-word-ne0.branch [
       | then-word-ne0+in_ok-collect_from w ↦ record {
-        list = ap (λ v. v.items) w.numbers-is ∙ w.in_ok-collect_from.ensures ∙ ap (marked words) (sym w.from-is);
+        room = rw (w.numbers-is) (omega (arith, c.loop-word.invariant.room, w.in_ok-collect_from.ensures.capacity));
+        list = ap (λ v. v.items) w.numbers-is ∙ w.in_ok-collect_from.ensures.pages ∙ ap (marked words) (sym w.from-is);
         reached = w.from-is ∙ next;
       }
       | else-word-ne0 w ↦ record {
+        room = rw (w.numbers-is) c.loop-word.invariant.room;
         list = ap (λ v. v.items) w.numbers-is ∙ c.loop-word.invariant.list ∙ sym (word_passed words i from c.min-until.result w.if-word-ne0.false start last.0 last.1) ∙ ap (marked words) (sym w.from-is);
         reached = w.from-is ∙ next;
       }

@@ -27,4 +27,4 @@ pub returns-in-Body-clause-refused : goal.returns-in-Body-clause-refused
 returns-in-Body-clause-refused c =
     let view : awaited_by c.self.inside.progress ≡ c.args.self = c.self.view_is in
     let seen : AtBody c.in-Body.receiver ≡ c.args.self = sym (ap awaited_by c.in-Body.is) ∙ view in
-    subst (λ (a : ArrivalSeen). IfErr c.finish.result (λ e. TellsEnd a e × IsClosed a Refused)) seen (not_arrived_if c.in-Body.receiver c.finish.result c.finish.ensures.refused)
+    subst (λ (a : ArrivalSeen). IfErr c.finish.result (λ e. TellsEnd a e × IsClosed a Refused)) seen (not_arrived_if c.in-Body.receiver c.finish.result c.finish.ensures.told c.finish.ensures.refused)

@@ -11,7 +11,7 @@ invariant_of-self c = steady_after c.self.inside.receiver c.feed.new.self c.feed
 pub returns-clause-fed : goal.returns-clause-fed
 returns-clause-fed c =
     subst (λ (a : ArrivalSeen). IfOk c.feed.result (λ x. IsFed a c.args.piece.now (Over c.feed.new.self))) c.self.view_is
-    (fed_if c.self.inside.receiver c.feed.new.self c.args.piece.now c.feed.result c.feed.ensures.already c.feed.ensures.base c.feed.ensures.sizes c.feed.ensures.fed c.feed.ensures.quiet c.feed.ensures.place)
+    (fed_if c.self.inside.receiver c.feed.new.self c.args.piece.now c.feed.result c.feed.ensures.already c.feed.ensures.ram c.feed.ensures.sizes c.feed.ensures.fed c.feed.ensures.quiet c.feed.ensures.place)
 
 pub returns-clause-refused : goal.returns-clause-refused
 returns-clause-refused c =

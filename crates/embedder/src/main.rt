@@ -1,0 +1,65 @@
+//! A host that knows the library by its public calls alone, with a ring, a disk, a log and a sink of its own. It makes each call, in the
+//! plainest form that there is, and compares what comes back with what the standard says. The first that differs ends the program.
+#![tactic(auto)]
+
+mod bits;
+mod durable;
+mod machines;
+mod memory;
+mod moves;
+mod own_disk;
+mod own_log;
+mod own_ring;
+mod own_sink;
+mod registers;
+mod rings;
+mod streams;
+mod texts;
+
+use anyhow::Result;
+use std::io::Write;
+
+/// Writes a line: what was compared.
+fn say(rt: &HostRuntime, compared: &str) -> Result<()> {
+    println!(rt; "{compared}")?;
+    Ok(())
+}
+
+/// What a machine is made of.
+fn parts_agree(rt: &HostRuntime) -> Result<()> {
+    let alloc = rt.alloc();
+    bits::agree(alloc)?;
+    say(rt, "sets of numbers")?;
+    memory::agrees(alloc)?;
+    say(rt, "RAM")?;
+    registers::agree()?;
+    say(rt, "registers")?;
+    rings::agree(alloc)?;
+    say(rt, "rings of both layouts, and one of our own")
+}
+
+/// A machine, and what its disk is asked for.
+fn machines_agree(rt: &HostRuntime) -> Result<()> {
+    let alloc = rt.alloc();
+    machines::agree(alloc)?;
+    say(rt, "machines")?;
+    durable::ends_after_its_flush(alloc)?;
+    say(rt, "a write that ends after its flush")
+}
+
+/// A machine on its way to another host.
+fn moves_agree(rt: &HostRuntime) -> Result<()> {
+    let alloc = rt.alloc();
+    streams::agree(alloc)?;
+    say(rt, "streams, and a sink of our own")?;
+    moves::agree(alloc)?;
+    say(rt, "machines that move")
+}
+
+fn main(rt: HostRuntime) -> Result<()> {
+    parts_agree(&rt)?;
+    machines_agree(&rt)?;
+    moves_agree(&rt)?;
+    texts::agree(&rt)?;
+    say(&rt, "texts, and the program")
+}

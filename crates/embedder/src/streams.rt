@@ -1,0 +1,143 @@
+//! Streams of machines, and their parts.
+
+use crate::own_sink::OwnSink;
+use anyhow::{Context, Result, bail, ensure};
+use std::alloc::Global;
+use vmig::{
+    Machine, MemDisk, Receiver, Record, RecvError, Shape, Sink, WriteSink, decode_device,
+    decode_header, decode_record, encode_commit, encode_device, encode_header, encode_page,
+    encode_round, encode_sector, encode_zero_page, receive, save,
+};
+
+/// The stream of a machine of one page of zeros and an entropy device, up to its device's record: the header, and a page of zeros.
+const FRONT: [u8; 22] = [
+    0x56, 0x4d, 0x49, 0x47, 2, 0, 0, 0, 1, 0, 0, 0, 1, 0, 0, 0, 4, 6, 0, 0, 0, 0,
+];
+
+/// The length of that stream: 22 bytes, the device's record of 6 and 64, and the digest's of 33.
+const LEN: usize = 125;
+
+/// Where the body of the device is.
+const BODY: usize = 28;
+
+/// Makes each call of a stream.
+pub fn agree(alloc: Global) -> Result<()> {
+    parts_are_encoded(alloc)?;
+    let stream = stream_of(alloc)?;
+    ensure!(stream.len() == LEN, "the length is {}", stream.len());
+    ensure!(stream.starts_with(&FRONT), "the front of the stream");
+    parts_are_read(alloc, stream.as_slice())?;
+    machine_arrives(alloc, stream.as_slice())?;
+    pieces_arrive(alloc, stream.as_slice())
+}
+
+/// A new machine of one page and an entropy device.
+pub fn machine_of(alloc: Global) -> Result<Machine<MemDisk>> {
+    Ok(Machine::new(alloc, 1, &[Shape::Entropy], Vec::new(alloc))?)
+}
+
+/// The whole stream of such a machine, by a sink of our own and by one over a writer.
+fn stream_of(alloc: Global) -> Result<Vec<u8>> {
+    let mut machine = machine_of(alloc)?;
+    let mut sink = OwnSink::new(alloc);
+    save(&mut machine, &mut sink)?;
+    ensure!(
+        sink.is_flushed && sink.failures == 0,
+        "the end of the stream"
+    );
+    let mut other = WriteSink::new(Vec::new(alloc));
+    save(&mut machine, &mut other)?;
+    ensure!(
+        other.into_inner().as_slice() == sink.bytes.as_slice(),
+        "two streams of one machine"
+    );
+    Ok(sink.bytes)
+}
+
+/// The parts of a stream, each in its own bytes.
+fn parts_are_encoded(alloc: Global) -> Result<()> {
+    let mut sink = OwnSink::new(alloc);
+    encode_header(1, &[Shape::Entropy], &mut sink)?;
+    encode_zero_page(0, &mut sink)?;
+    ensure!(sink.bytes.as_slice() == FRONT.as_slice(), "the front");
+    sink.bytes.clear();
+    encode_round(1, &mut sink)?;
+    ensure!(
+        sink.bytes.as_slice() == [3, 1, 0, 0, 0].as_slice(),
+        "a round"
+    );
+    sink.bytes.clear();
+    encode_sector(0, 2, None, &mut sink)?;
+    ensure!(
+        sink.bytes.as_slice() == [2, 0, 2, 0, 0, 0, 0].as_slice(),
+        "a bad sector"
+    );
+    sink.bytes.clear();
+    encode_page(0, &[1; 4096], &mut sink)?;
+    ensure!(sink.bytes.len() == 4101, "a page");
+    encode_commit(&[7; 32], &mut sink)?;
+    ensure!(sink.bytes.len() == 4134, "a digest");
+    sink.flush()?;
+    Ok(())
+}
+
+/// What the bytes say.
+fn parts_are_read(alloc: Global, stream: &[u8]) -> Result<()> {
+    let header = decode_header(alloc, stream)?.context("no header")?;
+    ensure!(
+        header.version == 2 && header.pages == 1 && header.len == 17,
+        "the header"
+    );
+    ensure!(
+        header.shapes.as_slice() == [Shape::Entropy].as_slice(),
+        "the devices"
+    );
+    let (_, records) = stream.split_at(17);
+    let (record, len) = decode_record(2, records).context("no record")?;
+    ensure!(record == Record::ZeroPage(0) && len == 5, "the page");
+    let (_, records) = stream.split_at(22);
+    let (record, len) = decode_record(2, records).context("no record")?;
+    let Record::Device { number, body } = record else {
+        bail!("no device");
+    };
+    ensure!(number == 0 && len == 70 && body.len() == 64, "the device");
+    let device = decode_device(alloc, 2, Shape::Entropy, 4096, body)?;
+    let mut sink = OwnSink::new(alloc);
+    encode_device(0, &device, &mut sink)?;
+    ensure!(sink.bytes.as_slice() == &stream[22..92], "the device again");
+    Ok(())
+}
+
+/// The machine arrives; a stream without its last byte is refused.
+fn machine_arrives(alloc: Global, stream: &[u8]) -> Result<()> {
+    let none: Vec<MemDisk> = Vec::new(alloc);
+    let (machine, rounds) = receive(alloc, stream, none)?;
+    ensure!(rounds == 0 && machine.ram().len() == 4096, "what arrived");
+    let none: Vec<MemDisk> = Vec::new(alloc);
+    let cut = stream.get(..LEN - 1).context("no beginning")?;
+    let short = receive(alloc, cut, none);
+    ensure!(code_of(short) == 13, "a stream without its last byte");
+    Ok(())
+}
+
+/// The machine arrives in two pieces.
+fn pieces_arrive(alloc: Global, stream: &[u8]) -> Result<()> {
+    let none: Vec<MemDisk> = Vec::new(alloc);
+    let mut receiver = Receiver::new(alloc, none);
+    receiver.feed(stream.get(..BODY).context("no front")?)?;
+    ensure!(
+        receiver.held() == 6 && receiver.rounds() == 0,
+        "what is held"
+    );
+    receiver.feed(stream.get(BODY..).context("no rest")?)?;
+    let _machine = receiver.finish()?;
+    Ok(())
+}
+
+/// The number of a refusal, or 0.
+fn code_of(received: Result<(Machine<MemDisk>, u32), RecvError>) -> u8 {
+    match received {
+        Ok(_) => 0,
+        Err(error) => error.code(),
+    }
+}
