@@ -12,12 +12,12 @@ and an empty line ends it. NAME would be the name of its file. A `file:` line ma
 an old text, which stands once in the file as the pairs before have made it, and the new text. A line that begins with `#` says
 something to a reader. In a file of the gate no line names the edit, and the clause is a line `# clause: FUNCTION GOAL`.
 
-The clause is the one that is false of the new text, and `compare_edits.py` compares it with what the checker reports. FUNCTION is
+The clause is the one that is false of the new text, and `.ci/compare-edits` compares it with what the checker reports. FUNCTION is
 named as the folder of its proof, FILE/TYPE/FUNCTION, or by the last parts of that. GOAL is `returns-clause-NAME` for what the
 function ensures under that name, `returns` where it ensures one thing, and else as the checker names it: `invariant_of-self`,
 `LOOP-preserved`, `CALL-requires-clause-NAME`. An edit whose clause has not been written yet has no such line.
 
-As a command, `.ci/edits.py split TOP` writes the entries of each edits.txt below TOP as files of the gate."""
+As a command, `.ci/edits.py split TOP` makes the entries of each edits.txt below TOP files of the gate, in its place."""
 
 import dataclasses
 import pathlib
@@ -41,7 +41,7 @@ class Edit:
 
     @property
     def place(self):
-        return f"{self.path}:{self.line}"
+        return f"{place_of(self.path)}:{self.line}"
 
     def pairs(self):
         """File, old text and new text of each pair in turn."""
@@ -85,6 +85,11 @@ class Edit:
         return "".join(f"{line}\n" for line in [*clause, *self.lines])
 
 
+def place_of(path):
+    """The path from the folder `crates` on, the last of this name."""
+    return "crates/" + str(path).rpartition("/crates/")[2]
+
+
 def read(path):
     return path.read_text(encoding="utf-8")
 
@@ -113,7 +118,7 @@ def of_list(path, crate):
         elif line.startswith("#"):
             continue
         elif edit is None:
-            raise BadEdit(f"{path}:{number}: no line names the edit")
+            raise BadEdit(f"{place_of(path)}:{number}: no line names the edit")
         elif line.startswith("clause: "):
             edit.clause = line.removeprefix("clause: ").strip()
         else:
@@ -121,11 +126,15 @@ def of_list(path, crate):
     return edits
 
 
+def of_gate(folder):
+    """The edits of the gate in the crate in this folder."""
+    return [of_file(path, folder.name) for path in sorted(folder.glob("must-fail/*.edit"))]
+
+
 def of_crate(folder):
     """All edits of the crate in this folder: those of the gate, and then those of its list."""
-    edits = [of_file(path, folder.name) for path in sorted(folder.glob("must-fail/*.edit"))]
     listed = folder / "edits.txt"
-    return edits + (of_list(listed, folder.name) if listed.is_file() else [])
+    return of_gate(folder) + (of_list(listed, folder.name) if listed.is_file() else [])
 
 
 def crates(top):
@@ -134,17 +143,17 @@ def crates(top):
 
 
 def split(top):
-    """Writes the entries of each edits.txt below this folder as files of the gate."""
-    for folder in crates(top):
-        for edit in of_crate(folder):
-            file = folder / "must-fail" / f"{edit.name}.edit"
-            if edit.path == file:
-                continue
+    """Makes the entries of each edits.txt below this folder files of the gate, in its place."""
+    for path in sorted(top.glob("crates/*/edits.txt")):
+        folder = path.parent / "must-fail"
+        folder.mkdir(exist_ok=True)
+        for edit in of_list(path, path.parent.name):
+            file = folder / f"{edit.name}.edit"
             if file.exists():
                 raise BadEdit(f"{edit.place}: there are two edits {edit.name}")
-            file.parent.mkdir(exist_ok=True)
             with open(file, "w", encoding="utf-8", newline="") as it:
                 it.write(edit.as_file())
+        path.unlink()
 
 
 if __name__ == "__main__":
