@@ -41,6 +41,18 @@ def spelled(text, names):
     return " ".join(text.split())
 
 
+def type_of(header):
+    """The type of an impl or a trait that begins so, and the trait that it is an impl of, or an empty text."""
+    header = header.replace("->", "")
+    while "<" in header:
+        shorter = re.sub(r"<[^<>]*>", "", header)
+        if shorter == header:
+            break
+        header = shorter
+    trait, name = re.search(r"\b(?:impl|trait)\s+(?:([\w:]+) for )?&?(?:mut )?([\w:]+)", header).groups()
+    return name.split("::")[-1], (trait or "").split("::")[-1]
+
+
 def end_of_block(text, at):
     """The place after the brace that closes the one at `at`."""
     depth = 0

@@ -19,9 +19,15 @@ function ensures under that name, `returns` where it ensures one thing, and else
 
 As a command, `.ci/edits.py split TOP` makes the entries of each edits.txt below TOP files of the gate, in its place."""
 
+import collections
 import dataclasses
 import pathlib
 import sys
+
+if __name__ == "__main__":
+    sys.dont_write_bytecode = True
+
+from texts import TOP, read
 
 
 class BadEdit(Exception):
@@ -90,10 +96,6 @@ def place_of(path):
     return "crates/" + str(path).rpartition("/crates/")[2]
 
 
-def read(path):
-    return path.read_text(encoding="utf-8")
-
-
 def of_file(path, crate):
     """The edit in this file of the gate."""
     edit = Edit(crate, path.stem, path, 1)
@@ -154,6 +156,32 @@ def split(top):
             with open(file, "w", encoding="utf-8", newline="") as it:
                 it.write(edit.as_file())
         path.unlink()
+
+
+def check_edits(differences):
+    """Each edit can be made, and no crate has two of one name."""
+    count, without = 0, collections.Counter()
+    for folder in crates(TOP):
+        try:
+            found = of_crate(folder)
+        except BadEdit as why:
+            differences.append(str(why))
+            continue
+        count += len(found)
+        without[folder.name] = sum(1 for edit in found if not edit.clause)
+        for name, times in collections.Counter(edit.name for edit in found).items():
+            if times > 1:
+                differences.append(f"crates/{folder.name}: {times} edits have the name {name}")
+        for edit in found:
+            try:
+                edit.made(folder)
+            except BadEdit as why:
+                differences.append(f"{edit.place}: {edit.name}: {why}")
+    rest = ", ".join(f"{crate} {number}" for crate, number in sorted(without.items()) if number)
+    return f"{count} edits apply; {sum(without.values())} name no clause" + (f" ({rest})" if rest else "")
+
+
+CHECKS = (check_edits,)
 
 
 if __name__ == "__main__":

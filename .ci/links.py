@@ -1,0 +1,95 @@
+#!/usr/bin/env python3
+"""Checks of links and of quoted code. As a command, `.ci/links.py FOLDER` checks the links below a folder, as of an unpacked tarball."""
+
+import pathlib
+import re
+import sys
+
+if __name__ == "__main__":
+    sys.dont_write_bytecode = True
+
+from texts import TOP, read
+
+# Documents that quote code, and where the code of each kind stands.
+QUOTING = "README.md", "docs/host-loop.md"
+QUOTED = {"rust": "crates/small_host/src/*.rt", "c": "examples/*/*.c"}
+
+
+def documents(folder):
+    """The Markdown files below a folder, but those of builds."""
+    return [path for path in sorted(folder.rglob("*.md")) if not {"out", "target"} & set(path.relative_to(folder).parts)]
+
+
+def anchors(path):
+    """The names by which a link finds the headings of a document."""
+    headings = re.findall(r"^#+ (.*)$", re.sub(r"^```.*?^```$", "", read(path), flags=re.M | re.S), flags=re.M)
+    return {re.sub(r"[^\w\- ]", "", heading.lower()).replace(" ", "-") for heading in headings}
+
+
+def dead_links(folder):
+    """The links below a folder that lead nowhere, each with its document, and the number of all."""
+    dead, count = [], 0
+    for path in documents(folder):
+        for target in re.findall(r"\]\(([^)\s]+)\)", read(path)):
+            if "://" in target or target.startswith("mailto:"):
+                continue
+            count += 1
+            name, _, anchor = target.partition("#")
+            place = path.parent / name if name else path
+            if not place.exists() or anchor and place.suffix == ".md" and anchor not in anchors(place):
+                dead.append(f"{path.relative_to(folder)}: {target} leads nowhere")
+    return dead, count
+
+
+def check_links(differences):
+    dead, count = dead_links(TOP)
+    differences += dead
+    return f"{count} links lead somewhere"
+
+
+def check_blocks(differences):
+    """What begins or ends a block of code is a line of its own."""
+    count = 0
+    for path in documents(TOP):
+        fences = re.findall(r"^```.*$", read(path), flags=re.M)
+        count += len(fences) // 2
+        if len(fences) % 2 or not all(re.fullmatch(r"```\w*", fence) for fence in fences):
+            differences.append(f"{path.relative_to(TOP)}: a block of code does not begin and end with a line of its own")
+    return f"{count} blocks of code begin and end"
+
+
+def check_quotes(differences):
+    """Code that documents quote is that of the small host and of the examples, word for word, and the program at the head of vmig.h is
+    the first example."""
+    program = read(TOP / "examples/c/first.c")
+    program = program[program.index("#include") :].rstrip("\n").splitlines()
+    if "".join(f" *   {line}".rstrip() + "\n" for line in program) not in read(TOP / "crates/vmig_c/vmig.h"):
+        differences.append("vmig.h: the program at its head is not examples/c/first.c")
+    texts = {kind: [read(path) for path in sorted(TOP.glob(pattern))] for kind, pattern in QUOTED.items()}
+    count = 0
+    for name in QUOTING:
+        for kind, quote in re.findall(r"^```(rust|c)\n(.*?)^```$", read(TOP / name), flags=re.M | re.S):
+            count += 1
+            if not any(quote in text for text in texts[kind]):
+                first = quote.splitlines()[0].strip()
+                differences.append(f"{name}: the code that begins with '{first}' is not in {QUOTED[kind]}")
+    return f"{count} quotes are those of the code"
+
+
+CHECKS = check_links, check_blocks, check_quotes
+
+
+def main(words):
+    if len(words) != 1:
+        print("links: usage: .ci/links.py FOLDER", file=sys.stderr)
+        return 2
+    dead, count = dead_links(pathlib.Path(words[0]))
+    for link in dead:
+        print(f"links: {link}", file=sys.stderr)
+    if not dead:
+        print(f"links: {count} lead somewhere")
+    return 1 if dead else 0
+
+
+if __name__ == "__main__":
+    sys.exit(main(sys.argv[1:]))
