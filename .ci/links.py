@@ -12,7 +12,7 @@ from texts import TOP, read
 
 # Documents that quote code, and where the code of each kind stands.
 QUOTING = "README.md", "docs/host-loop.md"
-QUOTED = {"rust": "crates/small_host/src/*.rt", "c": "examples/*/*.c"}
+QUOTED = {"rust": ("crates/small_host/src/*.rt",), "c": ("examples/*/*.c", "tests/c/*.c")}
 
 
 def documents(folder):
@@ -59,20 +59,20 @@ def check_blocks(differences):
 
 
 def check_quotes(differences):
-    """Code that documents quote is that of the small host and of the examples, word for word, and the program at the head of vmig.h is
+    """Code that documents quote is that of the small host, of the examples and of the tests in C, word for word, and the program at the head of vmig.h is
     the first example."""
     program = read(TOP / "examples/c/first.c")
     program = program[program.index("#include") :].rstrip("\n").splitlines()
     if "".join(f" *   {line}".rstrip() + "\n" for line in program) not in read(TOP / "crates/vmig_c/vmig.h"):
         differences.append("vmig.h: the program at its head is not examples/c/first.c")
-    texts = {kind: [read(path) for path in sorted(TOP.glob(pattern))] for kind, pattern in QUOTED.items()}
+    texts = {kind: [read(path) for pattern in patterns for path in sorted(TOP.glob(pattern))] for kind, patterns in QUOTED.items()}
     count = 0
     for name in QUOTING:
         for kind, quote in re.findall(r"^```(rust|c)\n(.*?)^```$", read(TOP / name), flags=re.M | re.S):
             count += 1
             if not any(quote in text for text in texts[kind]):
                 first = quote.splitlines()[0].strip()
-                differences.append(f"{name}: the code that begins with '{first}' is not in {QUOTED[kind]}")
+                differences.append(f"{name}: the code that begins with '{first}' is not in {' or '.join(QUOTED[kind])}")
     return f"{count} quotes are those of the code"
 
 

@@ -1,4 +1,4 @@
-/* Statuses that no other program of this folder meets, each once.
+/* Statuses that no other program in C meets, each once.
  *
  * Two are met by none: VMIG_READ_FAILED, since disks in memory never fail, and VMIG_NO_ROUND_LEFT, which comes after
  * 4,294,967,294 rounds. */
