@@ -1,6 +1,9 @@
 #!/usr/bin/env python3
-"""Checks of links and of quoted code. As a command, `.ci/links.py FOLDER` checks the links below a folder, as of an unpacked tarball."""
+"""Checks of links and of quoted code. As a command, for a release: `.ci/links.py release FOLDER` changes the links of the texts below
+this folder, which lie there as in the repository: the header lies elsewhere, and what is not released is named without a link.
+`.ci/links.py check FOLDER` looks that each link there leads somewhere, and that each trace that a text names is there."""
 
+import os
 import pathlib
 import re
 import sys
@@ -78,16 +81,49 @@ def check_quotes(differences):
 
 CHECKS = check_links, check_blocks, check_quotes
 
+# What lies elsewhere in a release, seen from its texts, and what of the repository is not in it.
+ELSEWHERE = {"crates/vmig_c/vmig.h": "../../include/vmig.h"}
+NOT_RELEASED = "examples/hypervisor", "examples/library", "examples/move-recorded", "rust", "tests", "measures", ".ci", "crates"
+
+
+def release(folder):
+    """Changes the links of the texts below this folder to what they find in a release."""
+    for path in documents(folder):
+
+        def changed(match):
+            text, target = match.groups()
+            if "://" in target or target.startswith("#"):
+                return match[0]
+            name = os.path.normpath((path.parent / target.partition("#")[0]).relative_to(folder))
+            if name in ELSEWHERE:
+                return f"[{text}]({os.path.relpath(folder / ELSEWHERE[name], path.parent)})"
+            if any(name == left or name.startswith(f"{left}/") for left in NOT_RELEASED):
+                return text
+            return match[0]
+
+        path.write_text(re.sub(r"\[([^\]]*)\]\(([^)\s]+)\)", changed, path.read_text(encoding="utf-8")), encoding="utf-8")
+
+
+def missing_traces(folder):
+    """The traces that the texts below a folder name and that are not there."""
+    named = {(path, name) for path in documents(folder) for name in re.findall(r"\bexamples/[\w-]+\.(?:trace|replies)\b", read(path))}
+    return [f"{path.relative_to(folder)}: there is no {name}" for path, name in sorted(named) if not (folder / name).is_file()]
+
 
 def main(words):
-    if len(words) != 1:
-        print("links: usage: .ci/links.py FOLDER", file=sys.stderr)
+    if len(words) != 2 or words[0] not in ("release", "check"):
+        print("links: usage: .ci/links.py release|check FOLDER", file=sys.stderr)
         return 2
-    dead, count = dead_links(pathlib.Path(words[0]))
+    folder = pathlib.Path(words[1])
+    if words[0] == "release":
+        release(folder)
+        return 0
+    dead, count = dead_links(folder)
+    dead += missing_traces(folder)
     for link in dead:
         print(f"links: {link}", file=sys.stderr)
     if not dead:
-        print(f"links: {count} lead somewhere")
+        print(f"links: {count} lead somewhere, and each trace that is named is there")
     return 1 if dead else 0
 
 
