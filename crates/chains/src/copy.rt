@@ -1,4 +1,6 @@
 //! The bytes of segments.
+//!
+//! A copy that lies in the first segment, wherever in it, is one copy without a loop.
 
 ghost use Rattle.std.specs.Prelude.{ℕ, ◌≡◌, ◌∷◌, [], ◌+◌, ◌*◌, ◌<◌, ◌≤◌, ◌^◌, IsTrue, length, take, drop, slice_index_or};
 ghost use Rattle.guestmem.specs.Item.{after_all, MayPages};

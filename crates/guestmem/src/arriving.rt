@@ -1,4 +1,7 @@
 //! The memory of a guest while its pages come.
+//!
+//! A RAM that is given has bytes already, which stay where no page comes; new memory is first written as pages come. One branch
+//! a page tells them apart.
 
 ghost use Rattle.std.specs.Prelude.{◌≡◌, ◌*◌, ◌<◌, ◌≤◌, length, replicate, IfOk, None};
 ghost use Rattle.guestmem.specs.Number.{IsBytes};

@@ -1,4 +1,7 @@
 //! RAM in memory of the library that is first written as its pages come.
+//!
+//! The bytes are a `Vec` that grows into its room, so receiving makes no pass of zeros before the first page. A page of zeros
+//! past all that came touches nothing. A page that comes ahead of others has zeros written before it.
 
 ghost use Rattle.std.specs.Prelude.{◌≡◌, ◌*◌, ◌<◌, ◌≤◌, length, replicate, IfOk, None};
 ghost use Rattle.guestmem.specs.Number.{IsBytes};
