@@ -125,7 +125,7 @@ impl<D: Disk> Parked<D> {
         self.shapes.as_slice()
     }
 
-    /// The machine whose RAM is given back: its bytes are those that lie there now, and these pages were written meanwhile, of
+    /// The machine whose RAM is given back: its bytes are those that lie there now, and these pages were written meanwhile,
     /// which the log takes in. It takes time for these pages alone, and no memory.
     pub fn give_back<L: TouchLog>(self, region: Region, pages: &[u32], log: &mut L) -> Machine<D>
         requires size { length region.content ≡ PAGE_SIZE * length self.versions }
