@@ -1,4 +1,4 @@
-//! What a record is, byte by byte: a head, and the body behind it.
+//! What a record is, byte by byte: a head, and the body that follows it.
 //!
 //! | record         | tag | fields, little-endian                        | head | body                                  |
 //! |----------------|-----|----------------------------------------------|------|---------------------------------------|
@@ -149,7 +149,7 @@ impl RecordHead {
         }
     }
 
-    /// The length of the body behind the head, in bytes.
+    /// The length of the body that follows the head, in bytes.
     pub fn body_len(self) -> usize
         ensures len { result ≡ body_len self }
         ensures short { result < 2 ^ 32 }
@@ -245,7 +245,7 @@ fn zero_page_head(fields: &[u8]) -> FoundHead
     FoundHead::Whole(RecordHead::ZeroPage { number })
 }
 
-/// The bytes of a head, with zeros behind them.
+/// The bytes of a head, followed by zeros.
 pub fn head_bytes(head: RecordHead) -> [u8; HEAD_MAX]
     ensures { take (length (spelled_head head)) result ≡ spelled_head head }
 {
