@@ -17,7 +17,7 @@
 //!   `restore` then sets them as they were.
 //!
 //! An area's address is the guest's: RAM has the bytes from its base on, and an area below the base, or one that passes RAM's end, is
-//! refused (`guestmem::is_within`). The base is told when the registers are made, and no write and no reset changes it.
+//! refused (`guestmem::is_within`). The base is given when the registers are made, and no write and no reset changes it.
 //!
 //! The crate trusts nothing below it but the standard library and that test.
 //!
