@@ -4,8 +4,8 @@ ghost use Rattle.std.specs.Prelude.{◌≡◌, IsErr, None, false};
 ghost use Rattle.wire.specs.Sinks.{Appends, Flushes};
 ghost use Rattle.wire.specs.FaultWriter.{IsFlushed, IsPut, sink_of};
 
-use std::marker::Model;
 use crate::sink::{Sink, SinkFault};
+use std::marker::Model;
 
 /// Fails after `take` bytes: the put that exceeds the limit writes what fits and fails, and so does every later one, also an empty one.
 /// Its flush fails by the plan alone, or as that of the sink below. It is for tests of what a host does when a stream can't be
