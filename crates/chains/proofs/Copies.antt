@@ -9,7 +9,7 @@ use Rattle.guestmem.specs.Address.{IsWithin, index_of}
 use Rattle.guestmem.specs.Writes.{byte_writes}
 use Rattle.chains.specs.declared.segs.Seg.{Seg}
 use Rattle.chains.specs.Places.{addresses, places, last_place, read_places, place_writes}
-use Rattle.chains.specs.PlaceLaws.{length_addresses, addresses_add, places_append, read_addresses, place_writes_take, no_bytes, run_writes}
+use Rattle.chains.proofs.PlaceLaws.{length_addresses, addresses_add, places_append, read_addresses, place_writes_take, no_bytes, run_writes}
 
 -- The places from a segment on are its own, and then those of the segments behind it.
 places_here : (segs : List Seg) (i : ℕ) (d : Seg) → i < length segs → places (drop i segs) ≡ addresses (get_or segs i d).addr (get_or segs i d).len ++ places (drop (i + 1) segs)

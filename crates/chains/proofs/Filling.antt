@@ -3,11 +3,11 @@ use Rattle.std.proofs.Common.{◌≡◌, ℕ, ◌≤◌, List, [], ◌∷◌, �
 use Rattle.guestmem.specs.Address.{index_of}
 use Rattle.guestmem.specs.Item.{Item, after_all}
 use Rattle.guestmem.specs.Writes.{Write, set_all, touched}
-use Rattle.guestmem.specs.WriteLaws.{set_all-append}
+use Rattle.guestmem.proofs.WriteLaws.{set_all-append}
 use Rattle.guestmem.specs.Memory.{Memory}
 use Rattle.guestmem.specs.Rises.{Rises}
-use Rattle.chains.specs.EffectLaws.{after_touched, rises_touched}
-use Rattle.chains.specs.PlaceLaws.{place_writes_take}
+use Rattle.chains.proofs.EffectLaws.{after_touched, rises_touched}
+use Rattle.chains.proofs.PlaceLaws.{place_writes_take}
 use Rattle.chains.specs.Places.{place_writes}
 
 -- Bytes in two parts go to the first places and to those behind.

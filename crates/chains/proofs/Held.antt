@@ -8,7 +8,7 @@ use Rattle.std.proofs.lemmas.List.Sums.{sum_by_push, sum-map}
 use Rattle.guestmem.specs.Address.{IsWithin}
 use Rattle.chains.specs.declared.descriptor.Descriptor.{Descriptor}
 use Rattle.chains.specs.declared.chain.Chain.{Chain}
-use Rattle.chains.specs.PlaceLaws.{length_places_push}
+use Rattle.chains.proofs.PlaceLaws.{length_places_push}
 use Rattle.chains.specs.Whole.{IsInOrder, segment, readable_of, writable_of}
 use Rattle.chains.specs.Held.{AreSound, AreHeld}
 

@@ -1,4 +1,14 @@
-pub mod Words
-pub mod Copies
-pub mod Filling
-pub mod Held
+mod Words
+mod Copies
+mod Filling
+mod Held
+pub mod CaseLaws
+pub mod ChainLaws
+pub mod DecoderLaws
+mod EffectLaws
+pub mod FrameLaws
+pub mod HeldLaws
+pub mod PackedLaws
+pub mod PlaceLaws
+pub mod SplitLaws
+pub mod LookLaws

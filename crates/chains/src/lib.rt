@@ -63,7 +63,7 @@
 //! - `specs/Frame`: what is asked before every step, and what holds after it;
 //! - `specs/Look`: what a device sees in a queue, by the chains that it can use;
 //! - `specs/ReceiveBuffer`, `Transmit` and `Transmitted`: what giving bytes to a chain writes, and the step that takes a message;
-//! - `specs/PlaceLaws`, `EffectLaws`, `DecoderLaws`, `HeldLaws`, `FrameLaws`, `SplitLaws`, `PackedLaws`, `ChainLaws` and `LookLaws`: what follows,
+//! - `proofs/PlaceLaws`, `EffectLaws`, `DecoderLaws`, `HeldLaws`, `FrameLaws`, `SplitLaws`, `PackedLaws`, `ChainLaws` and `LookLaws`: what follows,
 //!   for proofs above.
 //!
 //! A chain is a relation on whole lists of descriptors: it says which list is the chain, and not how to find it. What no list meets

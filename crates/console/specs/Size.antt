@@ -1,6 +1,6 @@
 -- The size of a console, and its configuration (VIRTIO 1.2, 5.3.4).
 use Rattle.std.specs.Prelude.{ℕ, ◌==◌, ◌&&◌, ◌++◌, Bool, List, not, if◌then◌else◌, replicate}
-use Rattle.guestmem.specs.ByteLaws.{little_bytes}
+use Rattle.guestmem.specs.Number.{little_bytes}
 use Rattle.mmio.specs.State.{Registers, with_common}
 use Rattle.mmio.specs.Interrupts.{configuration_changed}
 use Rattle.console.specs.declared.size.ConsoleSize.{ConsoleSize}

@@ -6,3 +6,4 @@ mod All
 mod Flags
 mod Levels
 mod Finding
+mod MemberLaws

@@ -12,7 +12,7 @@ use Rattle.guestmem.specs.Lent.{AreBelow, GivenBackIsWritten, given_back, is_nam
 use Rattle.guestmem.specs.Memory.{Memory}
 use Rattle.guestmem.specs.Page.{page_of}
 use Rattle.guestmem.specs.Rises.{Rises}
-use Rattle.guestmem.specs.RisesLaws.{rises_append, same_page}
+use Rattle.guestmem.proofs.RisesLaws.{rises_append, same_page}
 use Rattle.guestmem.specs.Write.{put_at, raise, raised, touched_of, raise_touched, written}
 use Rattle.guestmem.proofs.Later.{put_at_below, put_at_above, length-put_at}
 use Rattle.guestmem.proofs.Raising.{raise_one}

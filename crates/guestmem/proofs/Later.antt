@@ -7,7 +7,7 @@ use Rattle.std.proofs.lemmas.Bool.Decides.{nat_tests}
 use Rattle.guestmem.specs.declared.limits.TheConstants.{PAGE_SIZE}
 use Rattle.guestmem.specs.Memory.{Memory}
 use Rattle.guestmem.specs.Later.{IsLater}
-use Rattle.guestmem.specs.LaterLaws.{later_same}
+use Rattle.guestmem.proofs.LaterLaws.{later_same}
 use Rattle.guestmem.specs.Write.{put_at, raise, raised, written, refusal_of}
 
 -- An access that is not refused lies inside RAM.

@@ -1,7 +1,13 @@
 pub mod GivenBack
 pub mod Told
 pub mod Later
-pub mod Raising
-pub mod ZeroLemmas
+mod Raising
+mod ZeroLemmas
 pub mod Rising
-pub mod Filling
+mod Filling
+pub mod ByteLaws
+pub mod LaterLaws
+pub mod PageLaws
+pub mod RisesLaws
+pub mod WriteLaws
+mod Logs

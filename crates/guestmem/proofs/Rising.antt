@@ -7,7 +7,7 @@ use Rattle.guestmem.specs.Item.{page}
 use Rattle.guestmem.specs.Laws.{Among}
 use Rattle.guestmem.specs.Memory.{Memory}
 use Rattle.guestmem.specs.Rises.{Rises}
-use Rattle.guestmem.specs.RisesLaws.{rises_none, same_page}
+use Rattle.guestmem.proofs.RisesLaws.{rises_none, same_page}
 use Rattle.guestmem.specs.Write.{put_at, raise, written}
 use Rattle.guestmem.specs.Writes.{byte_writes, touched}
 use Rattle.guestmem.proofs.Later.{raise_below, raise_above, raise_inside}

@@ -161,15 +161,6 @@ impl Ram {
         LittleEndian::read_u16(&self.bytes.as_slice()[addr as usize..])
     }
 
-    /// The number in the four bytes at an address.
-    #[tactic(auto, unfolding(crate::specs::Number::number_at))]
-    pub fn u32_at(&self, addr: u64) -> u32
-        requires { addr + 4 ≤ length self.now.bytes }
-        ensures { result ≡ number_at self.now.bytes addr 4 }
-    {
-        LittleEndian::read_u32(&self.bytes.as_slice()[addr as usize..])
-    }
-
     /// The number in the eight bytes at an address.
     #[tactic(auto, unfolding(crate::specs::Number::number_at))]
     pub fn u64_at(&self, addr: u64) -> u64
@@ -225,7 +216,7 @@ impl Ram {
 
     /// Writes bytes of any number from an address on, for code that knows them to lie inside RAM, and reports to the
     /// log the pages that they went into.
-    #[tactic(auto, using(crate::specs::WriteLaws::put_at_set_all))]
+    #[tactic(auto, using(crate::proofs::WriteLaws::put_at_set_all))]
     pub fn put<L: TouchLog>(&mut self, addr: u64, bytes: &[u8], log: &mut L)
         requires inside { addr + length bytes.now ≤ length self.old.bytes }
         requires may { MayPages L.may log.old (length self.old.bytes) }
@@ -246,7 +237,7 @@ impl Ram {
 
     /// Does what `put` does, for bytes that lie in one page: at least one, and none past the end of the page of the first.
     #[inline(always)]
-    #[tactic(auto, using(crate::specs::WriteLaws::put_at_set_all))]
+    #[tactic(auto, using(crate::proofs::WriteLaws::put_at_set_all))]
     pub fn put_in_page<L: TouchLog>(&mut self, addr: u64, bytes: &[u8], log: &mut L)
         requires inside { addr + length bytes.now ≤ length self.old.bytes }
         requires some { 1 ≤ length bytes.now }

@@ -2,7 +2,7 @@
 use Rattle.std.proofs.Common.{◌≡◌, ℕ, List, [], ◌∷◌, Option, Some, None, refl, ap, sym, ◌∙◌, subst}
 use Rattle.std.specs.Prelude.{slice_get}
 use Rattle.blk.specs.Sectors.{Sector}
-use Rattle.chains.specs.LookLaws.{sight_same}
+use Rattle.chains.proofs.LookLaws.{sight_same}
 use Rattle.chains.specs.State.{RingState}
 use Rattle.chains.specs.declared.looking.Wanted.{Wanted}
 use Rattle.chains.specs.declared.next.Next.{Next}

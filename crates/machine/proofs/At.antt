@@ -14,10 +14,10 @@ use Rattle.std.proofs.lemmas.List.{map-set, length-map}
 use Rattle.std.proofs.lemmas.Option.{slice_get-get_or, slice_get_past}
 use Rattle.guestmem.specs.Item.{Item, sector}
 use Rattle.guestmem.specs.Later.{IsLater}
-use Rattle.guestmem.specs.LaterLaws.{later_same}
+use Rattle.guestmem.proofs.LaterLaws.{later_same}
 use Rattle.guestmem.specs.Memory.{Memory}
 use Rattle.guestmem.specs.Rises.{Rises, Touches}
-use Rattle.guestmem.specs.RisesLaws.{rises_none}
+use Rattle.guestmem.proofs.RisesLaws.{rises_none}
 use Rattle.guestmem.specs.Address.{access_refusal, index_of}
 use Rattle.guestmem.specs.Writes.{Write, byte_writes, set_all, touched}
 use Rattle.guestmem.specs.declared.error.RamError.{RamError}

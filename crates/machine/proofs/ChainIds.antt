@@ -1,9 +1,9 @@
 -- The id of a chain fits 16 bits.
 use Rattle.std.proofs.Common.{◌≡◌, ℕ, ◌+◌, ◌*◌, ◌%◌, ◌^◌, ◌<◌, ◌≤◌, Bool, true, false, List, [], ◌∷◌, ◌++◌, refl, arith}
 use Rattle.std.specs.Bool.{MatchBool}
-use Rattle.guestmem.specs.ByteLaws.{IsBytes-drop}
+use Rattle.guestmem.proofs.ByteLaws.{IsBytes-drop}
 use Rattle.guestmem.specs.Number.{number_at, IsBytes}
-use Rattle.chains.specs.ChainLaws.{split_bounded}
+use Rattle.chains.proofs.ChainLaws.{split_bounded}
 use Rattle.chains.specs.Descriptor.{descriptor_at, descriptor_in}
 use Rattle.chains.specs.PackedChain.{AreConsecutive, IsPackedChain}
 use Rattle.chains.specs.Ring.{IsChain}

@@ -7,7 +7,7 @@ use Rattle.guestmem.specs.Item.{Item, page, sector}
 use Rattle.guestmem.specs.Laws.{Among}
 use Rattle.guestmem.specs.Page.{page_of}
 use Rattle.guestmem.specs.Writes.{Write, set_all, touched}
-use Rattle.guestmem.specs.WriteLaws.{length-set_all}
+use Rattle.guestmem.proofs.WriteLaws.{length-set_all}
 use Rattle.blk.specs.Sectors.{Sector}
 use Rattle.machine.specs.State.{MachineState, DeviceState}
 use Rattle.machine.specs.Effect.{SectorSet, Replacement, set_on, sectors_set, replaced_in}

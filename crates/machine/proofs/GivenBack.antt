@@ -4,7 +4,7 @@ use Rattle.std.specs.Prelude.{None, Some, All}
 use Rattle.std.proofs.lemmas.Bool.Decides.{nat_tests}
 use Rattle.region.specs.Address.{address}
 use Rattle.region.specs.declared.region.Region.{Region}
-use Rattle.guestmem.specs.ByteLaws.{IsBytes-drop, IsBytes-take}
+use Rattle.guestmem.proofs.ByteLaws.{IsBytes-drop, IsBytes-take}
 use Rattle.guestmem.specs.Item.{Item, after_all}
 use Rattle.guestmem.specs.Later.{IsLater}
 use Rattle.guestmem.specs.Lent.{AreBelow, given_back, is_named, pages_written}
@@ -15,7 +15,7 @@ use Rattle.guestmem.specs.Rises.{Touches}
 use Rattle.guestmem.specs.Address.{access_refusal, index_of}
 use Rattle.guestmem.specs.Write.{written}
 use Rattle.guestmem.specs.Writes.{byte_writes, touched}
-use Rattle.guestmem.specs.WriteLaws.{put_at_set_all}
+use Rattle.guestmem.proofs.WriteLaws.{put_at_set_all}
 use Rattle.guestmem.proofs.GivenBack.{given_back_is_written, whole_page}
 use Rattle.guestmem.proofs.Later.{later_written}
 use Rattle.guestmem.proofs.Rising.{rises_written}

@@ -4,15 +4,15 @@ use Rattle.std.specs.List.{All}
 use Rattle.std.proofs.lemmas.List.{length-set}
 use Rattle.std.proofs.lemmas.Nat.{mod_below}
 use Rattle.guestmem.specs.Address.{index_of}
-use Rattle.guestmem.specs.ByteLaws.{little_bytes, IsBytes-append, IsBytes-take, IsBytes-set, IsBytes-little_bytes, length-little_bytes}
-use Rattle.guestmem.specs.Number.{IsBytes}
+use Rattle.guestmem.proofs.ByteLaws.{IsBytes-append, IsBytes-take, IsBytes-set, IsBytes-little_bytes, length-little_bytes}
+use Rattle.guestmem.specs.Number.{little_bytes, IsBytes}
 use Rattle.guestmem.specs.Writes.{Write, byte_writes, set_all}
 use Rattle.chains.specs.Places.{addresses, places, place_writes, AreSegmentsInside}
 use Rattle.chains.specs.ReceiveBuffer.{filled}
 use Rattle.chains.specs.Publish.{published, split_published, packed_published, event_note, split_note, packed_note, after_take, bit_if}
 use Rattle.chains.specs.Look.{Sees}
 use Rattle.chains.specs.Ring.{IsBoundedNext}
-use Rattle.chains.specs.LookLaws.{sight_bounded}
+use Rattle.chains.proofs.LookLaws.{sight_bounded}
 use Rattle.chains.specs.State.{RingState, HasAreas, MayRing}
 use Rattle.chains.specs.declared.chain.Chain.{Chain}
 use Rattle.chains.specs.declared.looking.Wanted.TheVariants as wanted

@@ -5,7 +5,7 @@ use Rattle.std.proofs.lemmas.List.Elements.{All-set, All-push}
 use Rattle.guestmem.specs.Memory.{Memory}
 use Rattle.guestmem.specs.Later.{IsLater}
 use Rattle.chains.specs.Decoder.{Fits}
-use Rattle.chains.specs.DecoderLaws.{fits_later}
+use Rattle.chains.proofs.DecoderLaws.{fits_later}
 use Rattle.machine.specs.AnyRing.{decoder_in}
 use Rattle.machine.specs.Rings.{FitAll, AreRings, AreNewRings}
 use Rattle.machine.specs.Seen.{DeviceSeen}

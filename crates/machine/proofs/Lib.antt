@@ -1,37 +1,37 @@
-pub mod Advancing
+mod Advancing
 pub mod Agreeing
-pub mod Answering
+mod Answering
 pub mod Effects
 pub mod Failing
-pub mod Flushing
-pub mod GettingOn
-pub mod Inside
+mod Flushing
+mod GettingOn
+mod Inside
 pub mod MadeAs
 pub mod Looking
-pub mod NextWork
-pub mod Rings
-pub mod Serving
-pub mod Staying
+mod NextWork
+mod Rings
+mod Serving
+mod Staying
 pub mod Within
-pub mod ChainIds
+mod ChainIds
 pub mod Containing
-pub mod Refusing
-pub mod Stepping
+mod Refusing
+mod Stepping
 pub mod At
-pub mod Raised
+mod Raised
 pub mod Running
 pub mod Disks
 pub mod Dealing
-pub mod Dealt
-pub mod Reading
+mod Dealt
+mod Reading
 pub mod Numbering
-pub mod Outstanding
+mod Outstanding
 pub mod Fresh
 pub mod GivenBack
-pub mod Parking
+mod Parking
 pub mod Quiet
 pub mod Honest
-pub mod Keeping
-pub mod Alike
-pub mod Unsynced
-pub mod OfShapes
+mod Keeping
+mod Alike
+mod Unsynced
+mod OfShapes

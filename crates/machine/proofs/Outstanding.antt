@@ -7,7 +7,7 @@ use Rattle.std.proofs.lemmas.Option.{get_or_from_slice_get, slice_get_within}
 use Rattle.std.proofs.lemmas.Bool.{true≢false}
 use borrow.Author.Tests.{ltb-true}
 use Rattle.guestmem.specs.Address.{index_of}
-use Rattle.guestmem.specs.ByteLaws.{IsBytes-take, IsBytes-drop}
+use Rattle.guestmem.proofs.ByteLaws.{IsBytes-take, IsBytes-drop}
 use Rattle.guestmem.specs.Number.{IsBytes}
 use Rattle.chains.specs.Places.{places, place_writes, read_places, AreSegmentsInside}
 use Rattle.chains.specs.Publish.{published}

@@ -3,12 +3,12 @@ use Rattle.std.proofs.Common.{◌≡◌, ℕ, zero, suc, ◌+◌, ◌≤◌, Boo
 use borrow.Author.Tests.{ltb-true}
 use Rattle.std.specs.Prelude.{min}
 use Rattle.std.proofs.lemmas.List.{length-drop}
-use Rattle.guestmem.specs.ByteLaws.{IsBytes-drop}
+use Rattle.guestmem.proofs.ByteLaws.{IsBytes-drop}
 use Rattle.guestmem.specs.Number.{IsBytes}
 use Rattle.chains.specs.Places.{places}
 use Rattle.chains.specs.Look.{Sees}
 use Rattle.chains.specs.Ring.{IsBounded, IsBoundedNext}
-use Rattle.chains.specs.LookLaws.{sight_bounded, usable}
+use Rattle.chains.proofs.LookLaws.{sight_bounded, usable}
 use Rattle.chains.specs.State.{RingState}
 use Rattle.chains.specs.declared.chain.Chain.{Chain}
 use Rattle.chains.specs.declared.looking.Wanted.TheVariants as wanted

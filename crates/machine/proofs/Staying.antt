@@ -8,7 +8,7 @@ use Rattle.std.proofs.lemmas.Option.{slice_get_within}
 use Rattle.std.proofs.lemmas.Nat.{mod_below}
 use Rattle.std.specs.Bool.{MatchBool}
 use Rattle.std.proofs.lemmas.List.{length-take}
-use Rattle.guestmem.specs.ByteLaws.{IsBytes-append, IsBytes-take}
+use Rattle.guestmem.proofs.ByteLaws.{IsBytes-append, IsBytes-take}
 use Rattle.guestmem.specs.Number.{IsBytes}
 use Rattle.blk.specs.Advance.{AdvanceStep, advance_step}
 use Rattle.blk.specs.Sectors.{Sector, AreWhole}

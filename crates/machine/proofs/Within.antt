@@ -8,7 +8,7 @@ use Rattle.std.proofs.lemmas.Option.{get_or_from_slice_get, slice_get-get_or, sl
 use Rattle.std.proofs.lemmas.Bool.{leb-true}
 use Rattle.guestmem.specs.Number.{IsBytes}
 use Rattle.guestmem.specs.Address.{access_refusal, index_of}
-use Rattle.guestmem.specs.WriteLaws.{length-set_all}
+use Rattle.guestmem.proofs.WriteLaws.{length-set_all}
 use Rattle.guestmem.specs.Writes.{Write, byte_writes, set_all}
 use Rattle.guestmem.specs.declared.error.RamError.{RamError}
 use Rattle.guestmem.specs.declared.error.RamError.TheVariants as ram_error

@@ -1,2 +1,2 @@
 mod Images
-pub mod Sectors
+mod Sectors

@@ -1,4 +1,4 @@
-pub mod StatusBits
+mod StatusBits
 pub mod Keeping
 pub mod StayingReady
 pub mod StayingSound

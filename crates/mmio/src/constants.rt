@@ -19,7 +19,7 @@ pub const DEVICE_NEEDS_RESET: u8 = 64;
 pub const FAILED: u8 = 128;
 
 /// Each bit of the status that has a meaning.
-pub const STATUS_BITS: u8 = ACKNOWLEDGE
+pub(crate) const STATUS_BITS: u8 = ACKNOWLEDGE
     | DRIVER
     | DRIVER_OK
     | FEATURES_OK
@@ -36,7 +36,7 @@ pub const USED_BUFFER: u8 = 1;
 pub const CONFIGURATION_CHANGE: u8 = 2;
 
 /// Each bit of the interrupt status that has a meaning.
-pub const INTERRUPT_BITS: u8 = USED_BUFFER | CONFIGURATION_CHANGE;
+pub(crate) const INTERRUPT_BITS: u8 = USED_BUFFER | CONFIGURATION_CHANGE;
 
 /// Feature bit 28: descriptors may name a table of descriptors (VIRTIO 1.2, 6).
 pub const INDIRECT_DESC: u64 = 1 << 28;

@@ -42,11 +42,10 @@ mod table;
 pub use common::Common;
 pub use constants::{
     ACKNOWLEDGE, CONFIG, CONFIGURATION_CHANGE, DEVICE_NEEDS_RESET, DRIVER, DRIVER_OK, EVENT_IDX,
-    FAILED, FEATURES_OK, INDIRECT_DESC, INTERRUPT_BITS, QUEUE_COUNT_MAX, QUEUE_SIZE_MAX,
-    RING_PACKED, STATUS_BITS, USED_BUFFER, VERSION_1,
+    FAILED, FEATURES_OK, INDIRECT_DESC, QUEUE_COUNT_MAX, QUEUE_SIZE_MAX,
+    RING_PACKED, USED_BUFFER, VERSION_1,
 };
 pub use effect::Effect;
 pub use queue::Queue;
-pub use readiness::may_be_ready;
 pub use regs::Regs;
 pub use sound::{is_sound_common, is_sound_queue};

@@ -44,7 +44,7 @@ fn is_packed(base: u64, ram_len: u64, queue: &Queue) -> bool
 /// Whether QueueReady takes the value 1 (VIRTIO 1.2, 4.2.3.2): the features are settled, the size is from 1 to QUEUE_SIZE_MAX, and the
 /// size and the areas, in a RAM of `ram_len` bytes from the guest-physical address `base` on, suit the layout that the features name.
 #[tactic(auto, unfolding(crate::specs::QueueReady::may_be_ready))]
-pub fn may_be_ready(base: u64, ram_len: u64, common: &Common, queue: &Queue) -> bool
+pub(crate) fn may_be_ready(base: u64, ram_len: u64, common: &Common, queue: &Queue) -> bool
     ensures value { result ≡ may_be_ready base ram_len common.now queue.now }
     ensures facts { IsTrue result ↔ MayBeReady base ram_len common.now queue.now }
 {

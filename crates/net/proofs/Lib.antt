@@ -1,1 +1,1 @@
-pub mod Giving
+mod Giving

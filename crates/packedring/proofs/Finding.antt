@@ -2,7 +2,7 @@ use Rattle.std.proofs.Common.{Bool, true, false, ◌≡◌, ℕ, suc, ◌+◌, �
 use Rattle.std.proofs.lemmas.List.Elements.{All-push, All-nil}
 use Rattle.std.specs.Bool.{MatchBool}
 use Rattle.guestmem.specs.Address.{index_of}
-use Rattle.chains.specs.CaseLaws.{where_true}
+use Rattle.chains.proofs.CaseLaws.{where_true}
 use Rattle.chains.specs.declared.descriptor.Descriptor.{Descriptor}
 use Rattle.chains.specs.declared.chain.Chain.{Chain}
 use Rattle.chains.specs.declared.limits.TheConstants.{SHORT_CHAIN_MAX}
@@ -12,12 +12,12 @@ use Rattle.chains.specs.State.{RingState}
 use Rattle.chains.specs.Descriptor.{descriptor_at}
 use Rattle.chains.specs.Whole.{IsTable, ArePlain, IsWhole}
 use Rattle.chains.specs.PackedChain.{AreConsecutive, IsPackedTable, IsPackedList, IsPackedChain, entries_from}
-use Rattle.chains.specs.PackedLaws.{packed_list_same}
-use Rattle.chains.specs.ChainLaws.{length_entries}
+use Rattle.chains.proofs.PackedLaws.{packed_list_same}
+use Rattle.chains.proofs.ChainLaws.{length_entries}
 use Rattle.chains.specs.LongQueue.{IsLongPacked}
 use Rattle.chains.specs.Held.{AreSound, AreHeld, EndGives}
 use Rattle.packedring.specs.Walk.{IsNoChain, ChainGives}
-use Rattle.chains.specs.HeldLaws.{held_none}
+use Rattle.chains.proofs.HeldLaws.{held_none}
 use Rattle.packedring.proofs.Leading.{Leads, leads_start, leads_more, consecutive_first, consecutive_begins}
 
 -- The descriptor at the taking position.

@@ -1,3 +1,3 @@
-pub mod Leading
-pub mod Finding
-pub mod Lists
+mod Leading
+mod Finding
+mod Lists

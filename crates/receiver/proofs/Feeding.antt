@@ -8,7 +8,7 @@ use Rattle.sha2.specs.declared.Sha256.{Sha256}
 use Rattle.blk.specs.Disk.{DiskState}
 use Rattle.guestmem.specs.Memory.{Memory}
 use Rattle.guestmem.specs.Number.{IsBytes}
-use Rattle.guestmem.specs.ByteLaws.{IsBytes-append}
+use Rattle.guestmem.proofs.ByteLaws.{IsBytes-append}
 use Rattle.wire.proofs.Spelling.{tail_same}
 use Rattle.machine.specs.First.{marks_in}
 use Rattle.machine.specs.Room.{RoomSeen}

@@ -9,7 +9,7 @@ use Rattle.blk.specs.Disk.{DiskState}
 use Rattle.guestmem.specs.Memory.{Memory}
 use Rattle.machine.specs.Room.{RoomSeen}
 use Rattle.guestmem.specs.Number.{IsBytes}
-use Rattle.guestmem.specs.ByteLaws.{IsBytes-append}
+use Rattle.guestmem.proofs.ByteLaws.{IsBytes-append}
 use Rattle.receiver.specs.Opened.{header, Opened}
 use Rattle.wire.specs.RecordHeads.{BeginsHead, body_len, spelled_head}
 use Rattle.wire.specs.Records.{Record}

@@ -13,7 +13,7 @@ use Rattle.wire.specs.Stream.{IsStream, IsEntry, texts, device_texts, before_com
 use Rattle.machine.specs.Layout.{Layout, layout_of, pages_of}
 use Rattle.machine.specs.Sound.{IsSoundDevice}
 use Rattle.machine.specs.State.{DeviceState, MachineState, base_of}
-use Rattle.guestmem.specs.ByteLaws.{IsBytes-drop}
+use Rattle.guestmem.proofs.ByteLaws.{IsBytes-drop}
 use Rattle.wire.proofs.Unique.{body_spells, stream_begins, alike}
 use Rattle.wire.proofs.HeaderLemmas.{header_of-spelled}
 use Rattle.receiver.specs.Good.{AreGood}

@@ -1,6 +1,6 @@
-pub mod Pieces
-pub mod GoingOn
-pub mod Sending
-pub mod Arriving
-pub mod Moving
+mod Pieces
+mod GoingOn
+mod Sending
+mod Arriving
+mod Moving
 pub mod Reliable

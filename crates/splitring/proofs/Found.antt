@@ -2,7 +2,7 @@ use Rattle.std.proofs.Common.{Bool, true, false, ◌≡◌, ℕ, ◌+◌, ◌/�
 use Rattle.std.proofs.lemmas.Bool.{MatchBool-at_true}
 use Rattle.std.proofs.lemmas.List.{same_from_push, get_or_at}
 use Rattle.std.proofs.lemmas.List.Elements.{All-push}
-use Rattle.chains.specs.CaseLaws.{where_true}
+use Rattle.chains.proofs.CaseLaws.{where_true}
 use Rattle.guestmem.specs.Address.{index_of}
 use Rattle.chains.specs.declared.descriptor.Descriptor.{Descriptor}
 use Rattle.chains.specs.declared.chain.Chain.{Chain}
@@ -11,7 +11,7 @@ use Rattle.chains.specs.declared.walked.Walked.TheVariants.{Listed, Missing, NoM
 use Rattle.chains.specs.State.{RingState}
 use Rattle.chains.specs.Whole.{ArePlain, IsTable, IsWhole}
 use Rattle.chains.specs.SplitChain.{IsReplaced, IsFromTable, head}
-use Rattle.chains.specs.SplitLaws.{linked_same, linked_some, replaced_same}
+use Rattle.chains.proofs.SplitLaws.{linked_same, linked_some, replaced_same}
 use Rattle.chains.specs.LongQueue.{IsLongSplit}
 use Rattle.chains.specs.Held.{AreSound, AreHeld, EndGives}
 use Rattle.splitring.specs.Walk.{IsNoneSound, AreGathered, AreBeforeTable, IsLongBehind, IsMadeOf, FollowGives, FindGives}

@@ -6,7 +6,7 @@ use Rattle.chains.specs.declared.limits.TheConstants.{SHORT_CHAIN_MAX}
 use Rattle.chains.specs.Descriptor.{descriptor_at}
 use Rattle.chains.specs.Whole.{ArePlain}
 use Rattle.chains.specs.SplitChain.{AreLinked}
-use Rattle.chains.specs.SplitLaws.{linked_some}
+use Rattle.chains.proofs.SplitLaws.{linked_some}
 use Rattle.chains.specs.LongQueue.{AreInRow}
 use Rattle.chains.specs.Held.{AreSound, AreHeld}
 use Rattle.splitring.specs.Walk.{IsNoneSound, AreGathered, AreBeforeTable, IsLongBehind}

@@ -1,4 +1,4 @@
-pub mod Spelled
-pub mod Leading
-pub mod Found
-pub mod Masks
+mod Spelled
+mod Leading
+mod Found
+mod Masks

@@ -7,7 +7,7 @@ use Rattle.guestmem.specs.Address.{index_of}
 use Rattle.chains.specs.declared.descriptor.Descriptor.{Descriptor}
 use Rattle.chains.specs.Whole.{ArePlain}
 use Rattle.chains.specs.SplitChain.{IsFromTable, IsReplaced}
-use Rattle.chains.specs.SplitLaws.{linked_some}
+use Rattle.chains.proofs.SplitLaws.{linked_some}
 use Rattle.splitring.specs.Walk.{IsSpelled}
 
 parts_more : (f x : Descriptor) (front ds : List Descriptor) (last d : Descriptor) (rest : List Descriptor) → f ≡ x

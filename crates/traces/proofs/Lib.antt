@@ -1,12 +1,12 @@
-pub mod Numerals
-pub mod Cut
-pub mod FirstWord
-pub mod Progress
-pub mod FirstBegin
+mod Numerals
+mod Cut
+mod FirstWord
+mod Progress
+mod FirstBegin
 pub mod Known
-pub mod CheckedLine
-pub mod Whole
-pub mod EventsAlone
-pub mod Decimal
-pub mod HexText
-pub mod OneReading
+mod CheckedLine
+mod Whole
+mod EventsAlone
+mod Decimal
+mod HexText
+mod OneReading

@@ -1,19 +1,18 @@
-pub mod AllReplies
-pub mod Answered
-pub mod Arriving
-pub mod ByWords
-pub mod ComparingFresh
-pub mod ComparingReplies
-pub mod ComparingSteady
-pub mod ComparingVerdict
-pub mod HonestDisks
-pub mod Likeness
-pub mod MemoryDisks
-pub mod NoMemoryTold
-pub mod PlayedLines
-pub mod Statuses
-pub mod TakenSteps
-pub mod TakenWords
-pub mod Written
-pub mod FaultWriters
-pub mod Checked
+mod AllReplies
+mod Answered
+mod Arriving
+mod ByWords
+mod ComparingFresh
+mod ComparingReplies
+mod ComparingSteady
+mod ComparingVerdict
+mod HonestDisks
+mod Likeness
+mod MemoryDisks
+mod NoMemoryTold
+mod PlayedLines
+mod Statuses
+mod TakenSteps
+mod TakenWords
+mod Written
+mod Checked

@@ -4,7 +4,6 @@ pub mod Faults
 pub mod Output
 pub mod Playing
 pub mod Feeding
-pub mod FaultWriter
 pub mod Resuming
 pub mod Checking
 pub mod Comparing

@@ -32,7 +32,6 @@
 mod checking;
 mod comparing;
 mod fault;
-mod fault_writer;
 mod feeding;
 pub mod laws;
 mod output;
@@ -42,7 +41,6 @@ mod resuming;
 mod words;
 
 pub use dirtylog::BitSet;
-pub use fault_writer::FaultWriter;
 pub use guestmem::{
     ACCESS_MAX, NoLog, NoMemory, PAGE_SIZE, PAGES_MAX, Ram, RamError, TouchLog, Touched, is_zero,
 };

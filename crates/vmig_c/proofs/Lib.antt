@@ -1,36 +1,36 @@
-pub mod Admissions
-pub mod Announcements
-pub mod ArrivalCalls
-pub mod Arrivals
-pub mod AsBox
-pub mod Awaited
-pub mod ByHandle
-pub mod ByKept
-pub mod Descriptions
-pub mod Failing
-pub mod Handing
-pub mod Imaging
-pub mod Landings
-pub mod Lengths
-pub mod Lent
-pub mod LentCalls
-pub mod LentSent
-pub mod MappingImages
-pub mod Marking
-pub mod Migration
-pub mod MigrationCalls
-pub mod Mirrored
-pub mod Mirroring
-pub mod NextWork
-pub mod Options
-pub mod OverContents
-pub mod OverRam
-pub mod Owing
-pub mod PageAddresses
-pub mod Plain
-pub mod Pulling
-pub mod Quiet
-pub mod Sending
-pub mod Sent
-pub mod Streams
-pub mod Zeros
+mod Admissions
+mod Announcements
+mod ArrivalCalls
+mod Arrivals
+mod AsBox
+mod Awaited
+mod ByHandle
+mod ByKept
+mod Descriptions
+mod Failing
+mod Handing
+mod Imaging
+mod Landings
+mod Lengths
+mod Lent
+mod LentCalls
+mod LentSent
+mod MappingImages
+mod Marking
+mod Migration
+mod MigrationCalls
+mod Mirrored
+mod Mirroring
+mod NextWork
+mod Options
+mod OverContents
+mod OverRam
+mod Owing
+mod PageAddresses
+mod Plain
+mod Pulling
+mod Quiet
+mod Sending
+mod Sent
+mod Streams
+mod Zeros

@@ -9,10 +9,10 @@ use Rattle.guestmem.specs.declared.error.RamError.TheVariants as ram_error
 use Rattle.guestmem.specs.Later.{IsLater}
 use Rattle.guestmem.specs.Memory.{IsMemory, Memory}
 use Rattle.guestmem.specs.Page.{page_of}
-use Rattle.guestmem.specs.PageLaws.{page_of_same}
+use Rattle.guestmem.proofs.PageLaws.{page_of_same}
 use Rattle.guestmem.specs.Address.{access_refusal, index_of}
 use Rattle.guestmem.specs.Write.{put_at}
-use Rattle.guestmem.specs.WriteLaws.{put_at_set_all}
+use Rattle.guestmem.proofs.WriteLaws.{put_at_set_all}
 use Rattle.guestmem.specs.Writes.{byte_writes, set_all}
 use Rattle.machine.specs.Applied.{IsApplied}
 use Rattle.machine.specs.Effect.{Effect, applied}

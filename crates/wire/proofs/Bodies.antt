@@ -4,7 +4,7 @@ use Rattle.std.specs.List.{All, AllByRecursion}
 use Rattle.std.proofs.lemmas.Nat.{and_le_l}
 use Rattle.std.proofs.lemmas.List.Elements.{recursion_from_All}
 use Rattle.std.proofs.lemmas.List.{take-append-drop, length-append, length-drop, drop_at}
-use Rattle.guestmem.specs.ByteLaws.{IsBytes-append, IsBytes-drop}
+use Rattle.guestmem.proofs.ByteLaws.{IsBytes-append, IsBytes-drop}
 use Rattle.guestmem.specs.Number.{number_at, IsBytes}
 use Rattle.chains.specs.declared.position.Positions.{Positions}
 use Rattle.mmio.specs.Sound.{IsSoundCommon, IsSoundQueue}

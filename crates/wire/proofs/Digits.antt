@@ -6,7 +6,7 @@ use Rattle.std.proofs.Math.Seq.{take-add}
 use Rattle.std.specs.Prelude.{slice_index}
 use Rattle.byteorder.specs.Endian.{little_from, little_number}
 use Rattle.byteorder.specs.Numbers.{little_from-cons, little_from-take, little_number-reads_back, little_from-lt, length-bytes_low_first}
-use Rattle.guestmem.specs.ByteLaws.{IsBytes-drop, IsBytes-take, IsBytes-low_first}
+use Rattle.guestmem.proofs.ByteLaws.{IsBytes-drop, IsBytes-take, IsBytes-low_first}
 use Rattle.guestmem.specs.Number.{number_at, IsBytes}
 use Rattle.wire.specs.Numbers.{digits, spelled, numbers, Fit, size_of, flag}
 

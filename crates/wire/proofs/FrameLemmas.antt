@@ -3,7 +3,7 @@ use Rattle.std.proofs.Common.{◌≡◌, ℕ, ◌+◌, ◌*◌, ◌≤◌, List,
 use Rattle.std.proofs.lemmas.Bool.{ltb-false, le-ltb}
 use Rattle.std.proofs.lemmas.List.{take-append-drop, take_at, drop_at, length-append, length-take}
 use Rattle.std.specs.List.{AllByRecursion, flat_map}
-use Rattle.guestmem.specs.ByteLaws.{IsBytes-drop, IsBytes-take}
+use Rattle.guestmem.proofs.ByteLaws.{IsBytes-drop, IsBytes-take}
 use Rattle.guestmem.specs.Number.{number_at, IsBytes}
 use Rattle.net.specs.Inbox.{IsFrame, is_frame_len}
 use Rattle.wire.specs.FrameReading.{frame_of}

@@ -1,7 +1,7 @@
 -- The head of a record, and the body behind it.
 use Rattle.std.proofs.Common.{◌≡◌, ◌≢◌, ℕ, zero, suc, ◌+◌, ◌==◌, if◌then◌else◌, ◌^◌, ◌<◌, ◌≤◌, Bool, true, false, nat_eq, List, [], ◌∷◌, ◌++◌, length, take, drop, Some, None, refl, sym, ap, subst, ◌∙◌, append_assoc, arith}
 use Rattle.std.proofs.lemmas.List.{take-append-drop, drop_at, length-append, length-take}
-use Rattle.guestmem.specs.ByteLaws.{IsBytes-drop, IsBytes-take}
+use Rattle.guestmem.proofs.ByteLaws.{IsBytes-drop, IsBytes-take}
 use Rattle.guestmem.specs.Number.{number_at, IsBytes}
 use Rattle.wire.specs.Numbers.{digits, flag}
 use Rattle.wire.specs.RecordHeads.{BeginsHead, BeginsNoHead, BeginsNoMark, BeginsNoTag, FitsHead, IsHeadCut, ReadsHead, body_len, spelled_head}

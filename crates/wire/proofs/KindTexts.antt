@@ -6,7 +6,7 @@ use Rattle.std.proofs.lemmas.Option.{get_or_from_slice_get, slice_get_within}
 use Rattle.std.specs.List.{AllByRecursion, flat_map}
 use Rattle.std.proofs.lemmas.List.Elements.{recursion_from_All}
 use Rattle.std.specs.Option.{IsSomeAnd, option_map}
-use Rattle.guestmem.specs.ByteLaws.{IsBytes-drop}
+use Rattle.guestmem.proofs.ByteLaws.{IsBytes-drop}
 use Rattle.net.specs.Inbox.{AreFrames, IsFrame}
 use Rattle.console.specs.declared.size.ConsoleSize.{ConsoleSize}
 use Rattle.guestmem.specs.Number.{number_at, IsBytes}

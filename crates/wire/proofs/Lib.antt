@@ -1,19 +1,20 @@
 pub mod Bodies
 pub mod Choices
-pub mod DeviceTexts
+mod DeviceTexts
 pub mod Digits
-pub mod FrameLemmas
+mod FaultWriters
+mod FrameLemmas
 pub mod HeaderLemmas
 pub mod Heads
 pub mod ItemRecords
-pub mod KindTexts
-pub mod Lists
+mod KindTexts
+mod Lists
 pub mod PageRecords
 pub mod PartLengths
-pub mod RequestFits
-pub mod RequestLemmas
+mod RequestFits
+mod RequestLemmas
 pub mod Saving
-pub mod Sinks
+mod Sinks
 pub mod Spelling
 pub mod Unique
 pub mod Whole

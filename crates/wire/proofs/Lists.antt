@@ -3,7 +3,7 @@ use Rattle.std.proofs.Common.{◌≡◌, ℕ, zero, suc, ◌+◌, ◌-◌, ◌<�
 use Rattle.std.proofs.lemmas.List.{drop_at}
 use Rattle.std.specs.List.{AllByRecursion, flat_map}
 use Rattle.std.specs.Prelude.{option_and_then}
-use Rattle.guestmem.specs.ByteLaws.{IsBytes-drop}
+use Rattle.guestmem.proofs.ByteLaws.{IsBytes-drop}
 use Rattle.guestmem.specs.Number.{IsBytes}
 use Rattle.wire.specs.Several.{in_front, several}
 use Rattle.wire.proofs.Choices.{same_found, then_found}

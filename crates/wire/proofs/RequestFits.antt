@@ -6,7 +6,7 @@ use Rattle.std.specs.Bool.{MatchBool}
 use Rattle.std.specs.List.{AllByRecursion}
 use Rattle.guestmem.specs.Address.{IsWithin}
 use Rattle.chains.specs.Places.{addresses, places}
-use Rattle.chains.specs.PlaceLaws.{length_addresses}
+use Rattle.chains.proofs.PlaceLaws.{length_addresses}
 use Rattle.chains.specs.declared.segs.Seg.{Seg}
 use Rattle.blk.specs.Request.{verdict_byte}
 use Rattle.blk.specs.Sound.{IsSoundRequest, IsSoundWork, MayEnd}

@@ -4,7 +4,7 @@ use Rattle.std.proofs.lemmas.Bool.{ltb-false, le-ltb}
 use Rattle.std.proofs.lemmas.List.{take-append-drop, take_at, drop_at, length-append, length-take, length-drop}
 use Rattle.std.proofs.Math.Seq.{take-length, take-add}
 use Rattle.std.specs.List.{AllByRecursion, flat_map}
-use Rattle.guestmem.specs.ByteLaws.{IsBytes-drop, IsBytes-take}
+use Rattle.guestmem.proofs.ByteLaws.{IsBytes-drop, IsBytes-take}
 use Rattle.guestmem.specs.Number.{number_at, IsBytes}
 use Rattle.chains.specs.declared.segs.Seg.{Seg}
 use Rattle.blk.specs.Request.{verdict_byte}

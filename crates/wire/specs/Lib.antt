@@ -1,5 +1,6 @@
 pub mod BodyReading
 pub mod DeviceBody
+pub mod FaultWriter
 pub mod FrameReading
 pub mod FrameText
 pub mod Header

@@ -29,6 +29,7 @@
 mod decode_error;
 mod device_reading;
 mod encode;
+mod fault_writer;
 mod frame_reading;
 mod frame_writing;
 mod header;
@@ -53,6 +54,7 @@ pub use device_reading::{decode_device, decode_device_at};
 pub use encode::{
     encode_commit, encode_device, encode_header, encode_page, encode_round, encode_zero_page,
 };
+pub use fault_writer::FaultWriter;
 pub use header::{FIRST_VERSION, FRONT_LEN, Header, MAGIC, VERSION, decode_header, is_version};
 pub use lengths::{
     BAD_SECTOR_LEN, COMMIT_LEN, GOOD_SECTOR_LEN, PAGE_RECORD_LEN, ZERO_PAGE_LEN, device_len,

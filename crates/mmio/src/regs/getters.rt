@@ -50,7 +50,7 @@ impl Regs {
     }
 
     /// How many queues the device has.
-    pub fn queue_count(&self) -> u8
+    pub(crate) fn queue_count(&self) -> u8
         ensures { result ≡ length self.now.queues }
     {
         self.queues().len() as u8

@@ -1,5 +1,5 @@
 use Rattle.std.proofs.Common.{◌≡◌, length, refl}
-use Rattle.guestmem.specs.RisesLaws.{touches_none}
+use Rattle.guestmem.proofs.RisesLaws.{touches_none}
 use Rattle.blk.specs.Disk.{IsSector}
 use Rattle.blk.proofs.Given.{given_itself, none_set, read_in}
 use Rattle.blk.proofs.moving.move_in.Goals as goal

@@ -1,5 +1,5 @@
 use Rattle.std.proofs.Common.{not, refl}
-use Rattle.guestmem.specs.RisesLaws.{touches_none}
+use Rattle.guestmem.proofs.RisesLaws.{touches_none}
 use Rattle.blk.specs.Move.{is_disk_failed}
 use Rattle.blk.proofs.Given.{flushed, id_read}
 use Rattle.blk.proofs.moving.move_unit.Goals as goal

@@ -1,7 +1,7 @@
 use Rattle.std.proofs.Common.{◌≡◌, ◌∙◌, sym, true, false}
 use Rattle.std.specs.Prelude.{Result, Ok, Err, OnErr, OnOk, is_err}
 use Rattle.std.proofs.lemmas.Bool.{true≢false}
-use Rattle.guestmem.specs.RisesLaws.{rises_sector}
+use Rattle.guestmem.proofs.RisesLaws.{rises_sector}
 use Rattle.blk.proofs.Given.{wrote, wrote_none}
 use Rattle.blk.proofs.moving.write_unit.Goals as goal
 

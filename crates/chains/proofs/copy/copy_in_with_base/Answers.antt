@@ -2,13 +2,13 @@ use Rattle.std.proofs.Common.{◌≡◌, ◌+◌, ◌-◌, ◌<◌, ◌++◌, �
 use Rattle.std.proofs.lemmas.List.{drop_all}
 use Rattle.std.proofs.Math.Seq.{drop-nil}
 use Rattle.guestmem.specs.Address.{index_of}
-use Rattle.guestmem.specs.LaterLaws.{later_trans}
-use Rattle.guestmem.specs.RisesLaws.{rises_none}
-use Rattle.guestmem.specs.WriteLaws.{set_all-append}
+use Rattle.guestmem.proofs.LaterLaws.{later_trans}
+use Rattle.guestmem.proofs.RisesLaws.{rises_none}
+use Rattle.guestmem.proofs.WriteLaws.{set_all-append}
 use Rattle.guestmem.specs.Writes.{byte_writes}
 use Rattle.chains.specs.declared.segs.Seg.{Seg}
-use Rattle.chains.specs.EffectLaws.{after_touched, rises_touched}
-use Rattle.chains.specs.PlaceLaws.{place_writes_take}
+use Rattle.chains.proofs.EffectLaws.{after_touched, rises_touched}
+use Rattle.chains.proofs.PlaceLaws.{place_writes_take}
 use Rattle.chains.specs.Places.{places, place_writes}
 use Rattle.chains.proofs.Copies.{length_here, passed, segment_writes, first_writes}
 use Rattle.chains.proofs.copy.copy_in_with_base.Goals as goal

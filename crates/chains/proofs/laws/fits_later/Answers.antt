@@ -1,4 +1,4 @@
-use Rattle.chains.specs.DecoderLaws.{fits_later}
+use Rattle.chains.proofs.DecoderLaws.{fits_later}
 use Rattle.chains.proofs.laws.fits_later.Goals as goal
 
 pub returns : goal.returns

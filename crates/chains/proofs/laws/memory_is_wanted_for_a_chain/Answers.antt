@@ -1,4 +1,4 @@
-use Rattle.chains.specs.ChainLaws.{wanting_waits}
+use Rattle.chains.proofs.ChainLaws.{wanting_waits}
 use Rattle.chains.proofs.laws.memory_is_wanted_for_a_chain.Goals as goal
 
 pub returns-clause-message : goal.returns-clause-message

@@ -1,4 +1,4 @@
-use Rattle.chains.specs.ChainLaws.{answer_same}
+use Rattle.chains.proofs.ChainLaws.{answer_same}
 use Rattle.chains.proofs.laws.one_answer.Goals as goal
 
 pub returns : goal.returns

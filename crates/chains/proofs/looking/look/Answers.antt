@@ -1,6 +1,6 @@
 use Rattle.std.proofs.Common.{rules}
 use Rattle.chains.specs.declared.next.Next.TheVariants.{Chain}
-use Rattle.chains.specs.FrameLaws.{fits_on}
+use Rattle.chains.proofs.FrameLaws.{fits_on}
 use Rattle.chains.proofs.looking.look.Goals as goal
 
 pub returns-then-not-fits-clause-gives : goal.returns-then-not-fits-clause-gives

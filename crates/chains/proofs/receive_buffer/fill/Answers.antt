@@ -1,7 +1,7 @@
 use Rattle.std.proofs.Common.{length, nat_lt, rules}
-use Rattle.guestmem.specs.WriteLaws.{set_all-append}
-use Rattle.chains.specs.EffectLaws.{after_touched, rises_touched}
-use Rattle.chains.specs.PlaceLaws.{place_writes_take}
+use Rattle.guestmem.proofs.WriteLaws.{set_all-append}
+use Rattle.chains.proofs.EffectLaws.{after_touched, rises_touched}
+use Rattle.chains.proofs.PlaceLaws.{place_writes_take}
 use Rattle.chains.specs.Places.{places, place_writes}
 use Rattle.chains.specs.Publish.{published, after_take}
 use Rattle.chains.proofs.receive_buffer.fill.Goals as goal

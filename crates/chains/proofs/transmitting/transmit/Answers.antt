@@ -1,4 +1,4 @@
-use Rattle.chains.specs.FrameLaws.{looked_on}
+use Rattle.chains.proofs.FrameLaws.{looked_on}
 use Rattle.chains.proofs.transmitting.transmit.Goals as goal
 
 pub returns-in-Chain-clause-after : goal.returns-in-Chain-clause-after

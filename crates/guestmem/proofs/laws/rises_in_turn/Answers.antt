@@ -1,4 +1,4 @@
-use Rattle.guestmem.specs.RisesLaws.{rises_append}
+use Rattle.guestmem.proofs.RisesLaws.{rises_append}
 use Rattle.guestmem.proofs.laws.rises_in_turn.Goals as goal
 
 pub returns-clause-further : goal.returns-clause-further

@@ -1,5 +1,5 @@
 use Rattle.std.proofs.Common.{refl, rules}
-use Rattle.guestmem.specs.RisesLaws.{rises_none}
+use Rattle.guestmem.proofs.RisesLaws.{rises_none}
 use Rattle.net.proofs.Giving.{given_first, answered_first, dropped_first, dropped_is_told}
 use Rattle.net.proofs.receiving.give_first.Goals as goal
 

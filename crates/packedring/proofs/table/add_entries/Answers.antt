@@ -1,7 +1,7 @@
 use Rattle.std.proofs.Common.{sym, refl, ◌∙◌, zero-add, arith}
 use Rattle.chains.specs.PackedChain.{entries_from}
-use Rattle.chains.specs.ChainLaws.{length_entries}
-use Rattle.chains.specs.HeldLaws.{held_none}
+use Rattle.chains.proofs.ChainLaws.{length_entries}
+use Rattle.chains.proofs.HeldLaws.{held_none}
 use Rattle.packedring.proofs.Lists.{entries_more, entries_begin}
 use Rattle.packedring.proofs.table.add_entries.Goals as goal
 

@@ -1,6 +1,6 @@
 use Rattle.std.proofs.Common.{false, []}
 use Rattle.chains.specs.RingCore.{core_state}
-use Rattle.chains.specs.HeldLaws.{held_none}
+use Rattle.chains.proofs.HeldLaws.{held_none}
 use Rattle.splitring.proofs.Found.{found_end, found_table, none_found, long_found}
 use Rattle.splitring.proofs.table.find.Goals as goal
 

@@ -1,6 +1,6 @@
 use Rattle.std.proofs.Common.{◌≡◌, ◌<◌, ◌≤◌, ◌∙◌, sym, true, false, Some, None, slice_get, length, arith, refl}
 use Rattle.std.proofs.lemmas.Option.{slice_get_read, slice_get_past, get_or_from_slice_get}
-use Rattle.guestmem.specs.RisesLaws.{touches_none}
+use Rattle.guestmem.proofs.RisesLaws.{touches_none}
 use Rattle.blk.specs.Request.{is_open}
 use Rattle.blk.specs.Sound.{IsSoundRequest}
 use Rattle.blk.proofs.Units.{goes_on}

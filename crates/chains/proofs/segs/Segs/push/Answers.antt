@@ -1,6 +1,6 @@
 use Rattle.std.proofs.Common.{arith}
 use Rattle.std.proofs.lemmas.List.{length_push}
-use Rattle.chains.specs.PlaceLaws.{length_places_push}
+use Rattle.chains.proofs.PlaceLaws.{length_places_push}
 use Rattle.chains.proofs.segs.Segs.push.Goals as goal
 
 pub invariant_of-self-2 : goal.invariant_of-self-2

@@ -1,4 +1,4 @@
-use Rattle.dirtylog.specs.MemberLaws.{no_members}
+use Rattle.dirtylog.proofs.MemberLaws.{no_members}
 use Rattle.dirtylog.proofs.bit_set.BitSet.swap_out.Goals as goal
 
 pub returns-clause-left : goal.returns-clause-left

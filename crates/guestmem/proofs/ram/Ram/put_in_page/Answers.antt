@@ -1,5 +1,5 @@
 use Rattle.std.proofs.Common.{length}
-use Rattle.guestmem.specs.Laws.{may_after_all}
+use Rattle.guestmem.proofs.Logs.{may_after_all}
 use Rattle.guestmem.proofs.Later.{later_written}
 use Rattle.guestmem.proofs.Rising.{rises_written}
 use Rattle.guestmem.proofs.Told.{told_of, length-written}

@@ -1,7 +1,7 @@
 use Rattle.std.proofs.Common.{◌≡◌, inl, inr, [], length, None, refl, ap, arith}
 use Rattle.std.specs.Prelude.{slice_get}
 use Rattle.std.proofs.lemmas.Option.{slice_get_past}
-use Rattle.guestmem.specs.RisesLaws.{touches_none}
+use Rattle.guestmem.proofs.RisesLaws.{touches_none}
 use Rattle.blk.proofs.Ending.{stayed}
 use Rattle.machine.specs.DeviceStep.{requests_of}
 use Rattle.machine.specs.Shapes.{block_of, made_as}

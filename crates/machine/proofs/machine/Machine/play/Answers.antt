@@ -1,6 +1,6 @@
 use Rattle.std.proofs.Common.{◌≡◌, ◌∷◌, ◌++◌, [], take, length, ◌+◌, refl, arith}
 use Rattle.std.proofs.lemmas.List.{length-take, take_more}
-use Rattle.guestmem.specs.LaterLaws.{later_trans}
+use Rattle.guestmem.proofs.LaterLaws.{later_trans}
 use Rattle.machine.specs.Seen.{all_marks, state_of}
 use Rattle.machine.proofs.Failing.{honest_for, honest_stays, marks_more, unsteady_more}
 use Rattle.machine.proofs.Honest.{honest_step}

@@ -1,7 +1,7 @@
 use Rattle.std.proofs.Common.{length, refl, arith}
 use Rattle.guestmem.specs.Item.{sector}
-use Rattle.guestmem.specs.LaterLaws.{later_same}
-use Rattle.guestmem.specs.RisesLaws.{touches_none}
+use Rattle.guestmem.proofs.LaterLaws.{later_same}
+use Rattle.guestmem.proofs.RisesLaws.{touches_none}
 use Rattle.machine.specs.declared.event.Event.TheVariants as events
 use Rattle.machine.specs.declared.reply.Refusal.TheVariants as refusals
 use Rattle.machine.specs.declared.reply.Reply.TheVariants as replies

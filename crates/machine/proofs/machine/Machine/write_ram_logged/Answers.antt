@@ -1,7 +1,7 @@
 use Rattle.std.proofs.Common.{◌≡◌, refl, sym, ◌∙◌, arith}
-use Rattle.guestmem.specs.LaterLaws.{later_same}
+use Rattle.guestmem.proofs.LaterLaws.{later_same}
 use Rattle.guestmem.specs.Rises.{Touches}
-use Rattle.guestmem.specs.RisesLaws.{touches_none}
+use Rattle.guestmem.proofs.RisesLaws.{touches_none}
 use Rattle.machine.specs.Outcome.{fine}
 use Rattle.machine.specs.Seen.{state_of}
 use Rattle.machine.specs.declared.event.Event.TheVariants as events

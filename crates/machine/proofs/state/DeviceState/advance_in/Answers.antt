@@ -1,5 +1,5 @@
 use Rattle.std.proofs.Common.{ap, ◌∙◌, length}
-use Rattle.chains.specs.FrameLaws.{fits_on}
+use Rattle.chains.proofs.FrameLaws.{fits_on}
 use Rattle.machine.specs.DeviceStep.{is_advance_due}
 use Rattle.machine.proofs.Staying.{due_registers}
 use Rattle.machine.proofs.Stepping.{advanced_ring, advanced_sound, advanced_step, has_queue, held_device}

@@ -1,5 +1,5 @@
 use Rattle.std.proofs.Common.{refl}
-use Rattle.guestmem.specs.RisesLaws.{touches_none}
+use Rattle.guestmem.proofs.RisesLaws.{touches_none}
 use Rattle.machine.specs.AnyRing.{ring_in}
 use Rattle.machine.specs.Stepped.{reply_in}
 use Rattle.machine.proofs.Stepping.{advanced_device, idle_step, looked_device}

@@ -1,6 +1,6 @@
 use Rattle.std.proofs.Common.{[], true, length, refl}
 use Rattle.guestmem.specs.Rises.{Touches}
-use Rattle.guestmem.specs.RisesLaws.{touches_none}
+use Rattle.guestmem.proofs.RisesLaws.{touches_none}
 use Rattle.machine.specs.AnyRing.{ring_in}
 use Rattle.machine.specs.Stepped.{reply_in}
 use Rattle.machine.proofs.Stepping.{fine_look, idle_step, looked_device, none_whole, none_without}

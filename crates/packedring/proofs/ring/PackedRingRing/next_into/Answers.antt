@@ -1,6 +1,6 @@
 use Rattle.std.proofs.Common.{refl, true}
 use Rattle.chains.specs.RingCore.{core_state}
-use Rattle.chains.specs.ChainLaws.{packed_bounded}
+use Rattle.chains.proofs.ChainLaws.{packed_bounded}
 use Rattle.packedring.proofs.ring.PackedRingRing.next_into.Goals.{in-Listed, in-Missing, in-NoMemory}
 use Rattle.packedring.proofs.ring.PackedRingRing.next_into.Goals as goal
 

@@ -1,5 +1,5 @@
 use Rattle.std.proofs.Common.{refl}
-use Rattle.chains.specs.ChainLaws.{split_bounded}
+use Rattle.chains.proofs.ChainLaws.{split_bounded}
 use Rattle.splitring.proofs.ring.SplitRingRing.next_into.Goals as goal
 
 pub returns-in-Listed-clause-bounded : goal.returns-in-Listed-clause-bounded

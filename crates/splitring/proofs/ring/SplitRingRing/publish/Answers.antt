@@ -1,6 +1,6 @@
 use Rattle.std.proofs.Common.{refl}
-use Rattle.guestmem.specs.LaterLaws.{later_trans}
-use Rattle.guestmem.specs.RisesLaws.{rises_append}
+use Rattle.guestmem.proofs.LaterLaws.{later_trans}
+use Rattle.guestmem.proofs.RisesLaws.{rises_append}
 use Rattle.chains.specs.Publish.{split_published}
 use Rattle.splitring.proofs.ring.SplitRingRing.publish.Goals as goal
 

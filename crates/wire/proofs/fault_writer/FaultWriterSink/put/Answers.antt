@@ -1,7 +1,7 @@
 use Rattle.std.proofs.Common.{◌≡◌, ◌<◌, ap, length, rules, subst, take}
-use Rattle.vmig.proofs.FaultWriters.{part_taken}
-use Rattle.vmig.specs.FaultWriter.{FaultWriterState, IsPut}
-use Rattle.vmig.proofs.fault_writer.FaultWriterSink.put.Goals as goal
+use Rattle.wire.proofs.FaultWriters.{part_taken}
+use Rattle.wire.specs.FaultWriter.{FaultWriterState, IsPut}
+use Rattle.wire.proofs.fault_writer.FaultWriterSink.put.Goals as goal
 
 pub returns-then-len-room-clause-planned : goal.returns-then-len-room-clause-planned
 returns-then-len-room-clause-planned g c =

@@ -2,10 +2,10 @@
 use Rattle.std.proofs.Common.{◌≡◌}
 use Rattle.guestmem.specs.Item.{Item}
 use Rattle.guestmem.specs.Later.{IsLater}
-use Rattle.guestmem.specs.LaterLaws.{later_trans}
+use Rattle.guestmem.proofs.LaterLaws.{later_trans}
 use Rattle.guestmem.specs.Memory.{Memory}
 use Rattle.chains.specs.Decoder.{DecoderState, Fits}
-use Rattle.chains.specs.DecoderLaws.{fits_later}
+use Rattle.chains.proofs.DecoderLaws.{fits_later}
 use Rattle.chains.specs.Frame.{HasServed, HasLooked}
 
 -- What a ring keeps fits the RAM that a step leaves which does not change it.

@@ -1,7 +1,7 @@
 -- A put that does not fit.
 use Rattle.std.proofs.Common.{◌≡◌, ◌<◌, ℕ, List, length, Some, None, Result, subst, arith}
 use Rattle.std.specs.Prelude.{IsErr}
-use Rattle.vmig.specs.FaultWriter.{FaultWriterState, HasPart, IsPut}
+use Rattle.wire.specs.FaultWriter.{FaultWriterState, HasPart, IsPut}
 
 pub part_taken : {T E : Type 0} (old new : FaultWriterState) (bytes : List ℕ) (result : Result T E) (room : ℕ) → old.room ≡ Some room → room < length bytes → new.flush_fails ≡ old.flush_fails → IsErr result → new.room ≡ None → HasPart old.inner bytes room new.inner
     → IsPut old bytes result new

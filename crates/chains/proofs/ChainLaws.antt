@@ -14,11 +14,11 @@ use Rattle.chains.specs.declared.segs.Seg.{Seg}
 use Rattle.chains.specs.State.{RingState}
 use Rattle.chains.specs.Whole.{IsWhole, segment, readable_of, writable_of}
 use Rattle.chains.specs.Places.{addresses, places, AreSegmentsInside}
-use Rattle.chains.specs.PlaceLaws.{length_addresses}
+use Rattle.chains.proofs.PlaceLaws.{length_addresses}
 use Rattle.chains.specs.SplitChain.{AreLinked, IsSplitChain, head}
-use Rattle.chains.specs.SplitLaws.{split_chain_same}
+use Rattle.chains.proofs.SplitLaws.{split_chain_same}
 use Rattle.chains.specs.PackedChain.{IsPackedChain, IsPackedTable, entries_from}
-use Rattle.chains.specs.PackedLaws.{packed_chain_same}
+use Rattle.chains.proofs.PackedLaws.{packed_chain_same}
 use Rattle.chains.specs.Ring.{IsEmptyQueue, IsChain, Answers, IsBounded, IsBoundedNext}
 use Rattle.chains.specs.Transmit.{MayWantMemory}
 use Rattle.chains.specs.declared.transmitting.MessageForm.{MessageForm}

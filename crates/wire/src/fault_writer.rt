@@ -2,10 +2,10 @@
 
 ghost use Rattle.std.specs.Prelude.{◌≡◌, IsErr, None, false};
 ghost use Rattle.wire.specs.Sinks.{Appends, Flushes};
-ghost use Rattle.vmig.specs.FaultWriter.{IsFlushed, IsPut, sink_of};
+ghost use Rattle.wire.specs.FaultWriter.{IsFlushed, IsPut, sink_of};
 
 use std::marker::Model;
-use wire::{Sink, SinkFault};
+use crate::sink::{Sink, SinkFault};
 
 /// A sink that takes so many bytes in all. Of the put that does not fit it takes the bytes that do, and fails; after it every put
 /// fails, and nothing more is taken. Its flush fails where that was said. It is for tests of what a host does when a stream can't
@@ -22,7 +22,7 @@ pub struct FaultWriter<S: Sink> {
 }
 
 impl<S: Sink> Model for FaultWriter<S> {
-    ghost use Rattle.vmig.specs.FaultWriter.{FaultWriterState};
+    ghost use Rattle.wire.specs.FaultWriter.{FaultWriterState};
 
     ghost Value = { FaultWriterState };
 

@@ -7,7 +7,7 @@ use Rattle.chains.specs.declared.next.Next.TheVariants.{Empty, Malformed, Chain 
 use Rattle.chains.specs.declared.looking.Wanted.{Wanted}
 use Rattle.chains.specs.State.{RingState}
 use Rattle.chains.specs.Ring.{Answers, IsBoundedNext}
-use Rattle.chains.specs.ChainLaws.{answer_same, next_bounded}
+use Rattle.chains.proofs.ChainLaws.{answer_same, next_bounded}
 use Rattle.chains.specs.Look.{fits, seen_as, Sees}
 
 -- A device sees one thing in a queue.

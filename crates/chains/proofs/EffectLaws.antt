@@ -3,7 +3,7 @@ use Rattle.std.proofs.Common.{ap}
 use Rattle.guestmem.specs.Item.{Item, page, after_all}
 use Rattle.guestmem.specs.Memory.{Memory}
 use Rattle.guestmem.specs.Rises.{Rises}
-use Rattle.guestmem.specs.RisesLaws.{rises_append}
+use Rattle.guestmem.proofs.RisesLaws.{rises_append}
 use Rattle.guestmem.specs.Writes.{Write, touched}
 
 -- The pages of two lists of writes, appended, are those of the first and then those of the second.
