@@ -1,8 +1,6 @@
 //! Streams of machines: how they are made and received.
 
 use crate::disks::{TestDisk, disks_for};
-use crate::journey::Journey;
-use crate::refusal::tells;
 use anyhow::{Context, Result, ensure};
 use machine::{Disk, Machine};
 use receiver::{Receiver, RecvError, receive};
@@ -15,17 +13,6 @@ pub const PIECES: [usize; 6] = [1, 2, 3, 511, 4101, 65_536];
 
 /// The number of the refusal of every piece after a refusal.
 const REFUSED_BEFORE: u8 = 16;
-
-/// Lines with a line `saved as` are a journey; those of every other scenario are streams and what a receiver reports of them.
-pub fn show(alloc: Global, lines: &str) -> Result<()> {
-    if let Some(journey) = Journey::read(lines) {
-        return journey.travel(alloc);
-    }
-    for line in lines.lines() {
-        tells(alloc, line)?;
-    }
-    Ok(())
-}
 
 /// The stream that a machine is saved as.
 pub fn saved<D: Disk>(alloc: Global, machine: &mut Machine<D>) -> Result<Vec<u8>> {

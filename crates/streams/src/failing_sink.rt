@@ -1,9 +1,8 @@
 //! A writer that fails at any byte of a stream.
 
-use crate::disks::TestDisk;
-use crate::stream::saved;
 use anyhow::{Result, ensure};
 use machine::{Machine, Shape};
+use scenarios::{TestDisk, saved};
 use sender::{MigError, save};
 use std::alloc::Global;
 use std::io::BufWriter;

@@ -1,11 +1,9 @@
 //! Machines that are saved, received, and continue.
 
-use crate::disks::TestDisk;
-use crate::playing::{play, plays_on};
-use crate::stream::{arrived, saved};
 use anyhow::{Context, Result, ensure};
 use books::{Script, spelled};
 use machine::Machine;
+use scenarios::{TestDisk, arrived, play, plays_on, saved};
 use std::alloc::Global;
 
 /// A journey: where a machine comes from, the stream that it is saved as, and a script that it plays after that.

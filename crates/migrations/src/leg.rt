@@ -1,11 +1,10 @@
 //! A part of a migration: what happens while one writer is written to.
 
-use crate::disks::{TestDisk, disks_alone, disks_of};
-use crate::playing::answer_of_machine;
 use crate::serving::{Served, Way, serve, serve_and_abort};
 use anyhow::{Context, Result};
 use books::{Question, Script};
 use machine::Machine;
+use scenarios::{TestDisk, answer_of_machine, disks_alone, disks_of};
 use sender::{LiveEvent, LiveReply, MigError};
 use std::alloc::Global;
 use std::io::Write;

@@ -1,12 +1,11 @@
 //! Bytes, and what a receiver reports of them.
 
 use crate::changes::Streams;
-use crate::disks::{TestDisk, disks_of};
-use crate::stream::{PIECES, refusal_in_pieces, refusal_of};
 use anyhow::{Context, Result, ensure};
 use books::{Script, spelled};
 use machine::{FaultDisk, MemDisk};
 use receiver::Receiver;
+use scenarios::{PIECES, TestDisk, disks_of, refusal_in_pieces, refusal_of};
 use std::alloc::Global;
 use wire::decode_header;
 

@@ -1,8 +1,8 @@
 //! Live events, played.
 
-use crate::disks::TestDisk;
 use anyhow::{Result, bail, ensure};
 use machine::Machine;
+use scenarios::TestDisk;
 use sender::{CopyAnswer, End, Live, LiveEvent, LiveReply, Remaining, Replay, Stopped, replay};
 use std::alloc::Global;
 use wire::Sink;

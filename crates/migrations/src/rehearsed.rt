@@ -1,13 +1,11 @@
 //! Machines whose move is rehearsed.
 
-use crate::disks::disks_of;
-use crate::playing::are_lines;
 use crate::recording_disk::{RecordingDisk, SectorWrite};
-use crate::stream::{PIECES, saved};
 use anyhow::{Context, Result, bail, ensure};
 use books::{Book, Scenario, Script, spelled};
 use machine::{Disk, Machine, Reply, SECTOR_SIZE};
 use rehearsal::{Rehearsal, rehearse};
+use scenarios::{PIECES, are_lines, disks_of, saved};
 use sender::LiveReply;
 use std::alloc::Global;
 use traces::{Trace, parse, write_reply};

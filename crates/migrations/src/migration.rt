@@ -1,14 +1,13 @@
 //! Machines that are migrated while they run.
 
-use crate::disks::TestDisk;
 use crate::leg::Leg;
-use crate::playing::{are_lines, plays_on};
-use crate::sameness::are_same;
 use crate::serving::{Served, Way};
-use crate::stream::{PIECES, arrived, arrived_in_pieces, saved};
 use anyhow::{Context, Result, ensure};
 use books::{Book, Scenario, spelled};
 use machine::Machine;
+use scenarios::{
+    PIECES, TestDisk, are_lines, are_same, arrived, arrived_in_pieces, plays_on, saved,
+};
 use sender::{LiveEvent, LiveReply};
 use std::alloc::Global;
 use traces::write_reply;

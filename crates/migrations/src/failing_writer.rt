@@ -1,16 +1,13 @@
 //! Migrations to a writer that takes some bytes and then fails, for each number of bytes.
 
-use crate::disks::TestDisk;
-use crate::sameness::are_same;
 use crate::serving::{Way, serve, serve_and_abort};
-use crate::stream::arrived;
 use anyhow::{Context, Result, ensure};
 use machine::Machine;
+use scenarios::{TestDisk, are_same, arrived};
 use sender::LiveReply;
 use std::alloc::Global;
 use traces::{Trace, parse, write_reply};
-use vmig::FaultWriter;
-use wire::WriteSink;
+use wire::{FaultWriter, WriteSink};
 
 /// A page is copied and then touched, and the machine stops; then everything is tried again.
 const TEXT: &[u8] =
