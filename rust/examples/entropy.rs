@@ -109,7 +109,7 @@ fn main() -> Result<(), Error> {
     set_up(&mut machine)?;
     serve(&mut machine)?;
     assert_eq!(machine.read_ram(1 << 40, &mut [0]), Err(Error::OutOfRam));
-    assert_eq!(Error::OutOfRam.to_string(), "the access does not lie in RAM");
+    assert_eq!(Error::OutOfRam.to_string(), "the access is outside RAM");
 
     machine.write_ram(0x5000, &[1, 2, 3])?;
     let stream = machine.save()?;

@@ -11,13 +11,13 @@ pub enum Error {
     /// There is no device of this number.
     NoDevice = raw::NO_DEVICE,
 
-    /// The access does not lie in RAM.
+    /// The access is outside RAM.
     OutOfRam = raw::OUT_OF_RAM,
 
-    /// The access is of more than 4,096 bytes.
+    /// The access is longer than 4,096 bytes.
     TooLong = raw::TOO_LONG,
 
-    /// A device of this kind has no such event, or no disk.
+    /// The call does not apply to this kind of device, or it has no disk.
     WrongKind = raw::WRONG_KIND,
 
     /// A frame has fewer than 14 or more than 1,514 bytes.
@@ -41,10 +41,10 @@ pub enum Error {
     /// Pages, count of devices or a device are beyond the limits.
     BadShape = raw::BAD_SHAPE,
 
-    /// The machine is being sent.
+    /// The machine is migrating.
     Moving = raw::MOVING,
 
-    /// The disks lie in memory of the library.
+    /// The disks are in memory of the library.
     NotMapped = raw::NOT_MAPPED,
 
     /// The images are not as long as the disks.
@@ -53,10 +53,10 @@ pub enum Error {
     /// The disk is lost, and the step would end a write that the driver then takes for durable: it is not made.
     DiskLost = raw::DISK_LOST,
 
-    /// The machine is not being sent.
+    /// The migration was not begun.
     NotBegun = raw::NOT_BEGUN,
 
-    /// The machine is being sent already.
+    /// The migration was begun already.
     BegunAlready = raw::BEGUN_ALREADY,
 
     /// A disk failed as a sector was read.
@@ -77,7 +77,7 @@ pub enum Error {
     /// The RAM is not lent.
     NotLent = raw::NOT_LENT,
 
-    /// The RAM lies in memory of the library.
+    /// The RAM is in memory of the library.
     NotOver = raw::NOT_OVER,
 
     /// The memory is not 1 to 16,384 whole pages, or not as long as what was lent.
@@ -86,7 +86,7 @@ pub enum Error {
     /// The library does not know what is asked for: it is older than this crate.
     NotKnown = raw::NOT_KNOWN,
 
-    /// The stream does not begin as one.
+    /// The stream does not begin with the magic number.
     StreamBadMagic = raw::STREAM_BAD_MAGIC,
 
     /// The stream has an unknown version.
@@ -99,31 +99,31 @@ pub enum Error {
     /// in.
     StreamShapeMismatch = raw::STREAM_SHAPE_MISMATCH,
 
-    /// The stream has a tag that may not come there.
+    /// A record's tag is unknown, or not allowed at this point of the stream.
     StreamBadTag = raw::STREAM_BAD_TAG,
 
-    /// The stream has a page that there is not.
+    /// There is no page of this number, or the record of a page has only zeros.
     StreamBadPage = raw::STREAM_BAD_PAGE,
 
-    /// The stream has a sector that there is not.
+    /// There is no such sector.
     StreamBadSector = raw::STREAM_BAD_SECTOR,
 
-    /// The stream ends a round that is not the next.
+    /// The number of a round's end is not the next one.
     StreamBadRound = raw::STREAM_BAD_ROUND,
 
-    /// The stream has a device that is not the next, or cannot be.
+    /// A device record is out of order, or the device's body is invalid.
     StreamBadDevice = raw::STREAM_BAD_DEVICE,
 
-    /// The digest of the stream is another.
+    /// The digest is not that of the bytes before it.
     StreamBadDigest = raw::STREAM_BAD_DIGEST,
 
     /// The stream lacks a page, a sector or a device.
     StreamMissing = raw::STREAM_MISSING,
 
-    /// The stream has bytes after its end.
+    /// Bytes follow the digest.
     StreamTrailing = raw::STREAM_TRAILING,
 
-    /// The stream is cut off.
+    /// The stream ends before its digest does.
     StreamTruncated = raw::STREAM_TRUNCATED,
 
     /// Memory was refused for what arrives.
@@ -138,48 +138,48 @@ pub enum Error {
 
 /// Each error with its text.
 const TEXTS: &[(Error, &str)] = &[
-    (Error::NoDevice, "there is no device of this number"),
-    (Error::OutOfRam, "the access does not lie in RAM"),
-    (Error::TooLong, "the access is of more than 4,096 bytes"),
-    (Error::WrongKind, "a device of this kind has no such event, or no disk"),
-    (Error::BadFrame, "a frame has fewer than 14 or more than 1,514 bytes"),
-    (Error::NoSector, "the disk has no such sector"),
-    (Error::NoMachine, "there is no machine"),
-    (Error::InUse, "there is a machine already"),
-    (Error::NoMemory, "memory was refused"),
-    (Error::TooSmall, "the buffer is too small"),
-    (Error::BadShape, "pages, count of devices or a device are beyond the limits"),
-    (Error::Moving, "the machine is being sent"),
-    (Error::NotMapped, "the disks lie in memory of the library"),
-    (Error::BadImages, "the images are not as long as the disks"),
-    (Error::DiskLost, "the disk is lost, and the write does not end"),
-    (Error::NotBegun, "the machine is not being sent"),
-    (Error::BegunAlready, "the machine is being sent already"),
-    (Error::ReadFailed, "a disk failed as a sector was read"),
-    (Error::WriterFailed, "memory was refused for bytes that wait to be taken"),
-    (Error::Stopped, "the machine was stopped"),
-    (Error::NoRoundLeft, "4,294,967,294 rounds have ended"),
+    (Error::NoDevice, "no such device"),
+    (Error::OutOfRam, "the access is outside RAM"),
+    (Error::TooLong, "the access is longer than 4,096 bytes"),
+    (Error::WrongKind, "the call does not apply to this kind of device"),
+    (Error::BadFrame, "invalid frame length: not 14 to 1,514 bytes"),
+    (Error::NoSector, "no such sector"),
+    (Error::NoMachine, "no machine"),
+    (Error::InUse, "the handle has a machine already"),
+    (Error::NoMemory, "out of memory"),
+    (Error::TooSmall, "buffer too small"),
+    (Error::BadShape, "invalid machine configuration"),
+    (Error::Moving, "the machine is migrating"),
+    (Error::NotMapped, "the disks are in memory of the library"),
+    (Error::BadImages, "the images do not match the disks"),
+    (Error::DiskLost, "the disk is lost: the write cannot be completed"),
+    (Error::NotBegun, "migration not begun"),
+    (Error::BegunAlready, "migration already begun"),
+    (Error::ReadFailed, "disk I/O error"),
+    (Error::WriterFailed, "out of memory for stream bytes: the migration failed"),
+    (Error::Stopped, "machine already stopped"),
+    (Error::NoRoundLeft, "round counter exhausted"),
     (Error::Lent, "the RAM is lent"),
     (Error::NotLent, "the RAM is not lent"),
-    (Error::NotOver, "the RAM lies in memory of the library"),
-    (Error::BadRam, "the memory is not 1 to 16,384 whole pages, or not as long as what was lent"),
-    (Error::NotKnown, "the library is older than this crate"),
-    (Error::StreamBadMagic, "the stream does not begin as one"),
-    (Error::StreamBadVersion, "the stream has an unknown version"),
-    (Error::StreamBadShape, "the machine of the stream is beyond the limits"),
-    (Error::StreamShapeMismatch, "the disks of the stream are not those of the images"),
-    (Error::StreamBadTag, "the stream has a tag that may not come there"),
-    (Error::StreamBadPage, "the stream has a page that there is not"),
-    (Error::StreamBadSector, "the stream has a sector that there is not"),
-    (Error::StreamBadRound, "the stream ends a round that is not the next"),
-    (Error::StreamBadDevice, "the stream has a device that is not the next, or cannot be"),
-    (Error::StreamBadDigest, "the digest of the stream is another"),
-    (Error::StreamMissing, "the stream lacks a page, a sector or a device"),
-    (Error::StreamTrailing, "the stream has bytes after its end"),
-    (Error::StreamTruncated, "the stream is cut off"),
-    (Error::StreamNoMemory, "memory was refused for what arrives"),
-    (Error::StreamFailed, "the stream was refused before"),
-    (Error::StreamTooLarge, "the machine of the stream is larger than was allowed"),
+    (Error::NotOver, "the RAM is in memory of the library"),
+    (Error::BadRam, "invalid RAM size: not 1 to 16,384 whole pages, or not that of the RAM that was lent"),
+    (Error::NotKnown, "not supported: the library is older than this crate"),
+    (Error::StreamBadMagic, "bad magic: not a machine stream"),
+    (Error::StreamBadVersion, "unsupported stream version"),
+    (Error::StreamBadShape, "invalid machine configuration in the stream"),
+    (Error::StreamShapeMismatch, "the disks or the RAM do not match the machine of the stream"),
+    (Error::StreamBadTag, "unexpected record in the stream"),
+    (Error::StreamBadPage, "invalid page record in the stream"),
+    (Error::StreamBadSector, "invalid sector record in the stream"),
+    (Error::StreamBadRound, "round end out of order in the stream"),
+    (Error::StreamBadDevice, "device record out of order or invalid in the stream"),
+    (Error::StreamBadDigest, "digest mismatch"),
+    (Error::StreamMissing, "missing page, sector or device in the stream"),
+    (Error::StreamTrailing, "trailing bytes after the stream"),
+    (Error::StreamTruncated, "truncated stream"),
+    (Error::StreamNoMemory, "out of memory for the machine that arrives"),
+    (Error::StreamFailed, "the stream was refused already"),
+    (Error::StreamTooLarge, "the machine of the stream exceeds the limits that were set"),
 ];
 
 impl Error {

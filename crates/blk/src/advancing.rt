@@ -1,4 +1,12 @@
 //! The step that advances a request.
+//!
+//! The status byte is written data: the used descriptor has WRITE set in the packed layout also where no data was written
+//! (VIRTIO 1.2, 2.8.3). The used length is that of the data, and with the status byte where the data ends right before it: the
+//! length counts bytes from the front (2.7.8.2). That byte goes straight to the last place of the segments, which lies in one
+//! page.
+//!
+//! A request that ends is published where it lies, and dropped there if it is the last: moving its 216 bytes would cost each
+//! step.
 
 ghost use Rattle.std.specs.Prelude.{◌≡◌, ◌≤◌, ◌<◌, ◌^◌, length, not};
 ghost use Rattle.guestmem.specs.Item.{after_all};

@@ -1,4 +1,7 @@
 //! When what a driver wrote has to be durable (VIRTIO 1.2, 5.2.6.2).
+//!
+//! No step calls `Disk::flush` for the end of a write: one more call would change the outcomes of every trace of such a driver,
+//! and an end cannot fail. So a host flushes before that step, and does not make the step where that failed.
 
 ghost use Rattle.std.specs.Prelude.{◌≡◌, slice_get};
 ghost use Rattle.blk.specs.Durable.{ends_write, is_write, owed_at, owed_by, owed_if};

@@ -1,4 +1,13 @@
 //! A disk in a file.
+//!
+//! A disk over a file is said to be neither honest nor steady, and its sectors are zeros to every contract: what a file holds
+//! is known to nobody but the file. So a proof claims nothing of the bytes that it returns, and everything else holds of it:
+//! where they go, what the log gets, that requests stay sound, which sectors are bad, that each failure is counted and
+//! reported.
+//!
+//! The system reports a lost write once, to the first sync that follows. So after one that failed each later flush fails, which
+//! a disk that is not steady may. That `FileDisk::flush` goes by the part that remembers is for a reader to see: no contract
+//! knows what a file holds.
 
 ghost use Rattle.std.specs.Prelude.{◌≡◌, ◌<◌, ◌*◌, ◌^◌, ◌||◌, IfOk, false, is_ok, not, true};
 ghost use Rattle.guestmem.specs.Failures.{counted};

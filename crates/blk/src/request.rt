@@ -1,4 +1,7 @@
 //! Requests of a driver (VIRTIO 1.2, 5.2.6).
+//!
+//! A request keeps its segments, and the range that it clears, from taking on. What a driver writes into its descriptors or its
+//! segment afterwards changes nothing.
 
 ghost use Rattle.std.specs.Prelude.{◌≡◌, ◌+◌, ◌<◌, ◌^◌};
 ghost use Rattle.blk.specs.Request.{verdict_byte, is_open, next_sector};

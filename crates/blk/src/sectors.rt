@@ -1,4 +1,7 @@
 //! The sectors of a block device: a disk, and which of its sectors are bad.
+//!
+//! A sector that a failed write left in doubt is bad until a write of it succeeds. A read of it makes no call of the disk and
+//! ends as an error: so a guest never reads bytes of which nobody knows which they are, on either host of a move.
 
 ghost use Rattle.std.specs.Prelude.{◌≡◌, ◌≤◌, ◌<◌, ◌^◌, count_by, length, map, IfOk, IsTrue, OnOk, OnErr, Some, None, false, replicate, slice_set, is_ok, not};
 ghost use Rattle.blk.specs.Disk.{AreSectors};

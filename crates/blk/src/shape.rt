@@ -1,5 +1,8 @@
 //! What a block device is to its driver (VIRTIO 1.2, 5.2): its id, its queue, its features and its configuration space; and what one
 //! may be made as.
+//!
+//! The configuration has 57 bytes (VIRTIO 1.2, 5.2.4): the capacity at 0, and at 48 the limits of WRITE_ZEROES. The fields
+//! between belong to features that are not offered, and read 0, as do bytes after the 57.
 
 ghost use Rattle.std.specs.Prelude.{◌≡◌, ◌↔◌, IsTrue};
 ghost use Rattle.blk.specs.Shape.{IsBlockShape, configuration_of, features_of, with_features};

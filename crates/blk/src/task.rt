@@ -1,4 +1,8 @@
 //! What a request asks for.
+//!
+//! A request to clear has one segment; any other length is IOERR, decided before its flags are. The flag to unmap gives leave,
+//! and no duty: the sectors are written with zeros, one a step. So a disk needs no call of its own for it, a failed write makes
+//! one sector bad, and the machine can be moved between two of them.
 
 ghost use Rattle.std.specs.Prelude.{◌≡◌, ◌≤◌, ◌<◌, ◌+◌, ◌^◌, nat_lt};
 ghost use Rattle.guestmem.specs.Number.{number_at};

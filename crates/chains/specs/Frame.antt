@@ -1,3 +1,4 @@
+-- What is asked before every step on a ring, and what every step leaves: said once, so that no function adds to it.
 use Rattle.std.specs.Prelude.{◌≡◌, ℕ, length}
 use Rattle.guestmem.specs.Item.{Item, MayPages}
 use Rattle.guestmem.specs.Later.{IsLater}

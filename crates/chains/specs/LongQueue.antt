@@ -1,3 +1,5 @@
+-- The queues at which memory may be refused. The row is counted as a walk goes, whether it comes to a chain or not: a more exact
+-- account of the walk would be the walk again.
 use Rattle.std.specs.Prelude.{◌≡◌, ℕ, ◌+◌, ◌/◌, ◌%◌, ◌<◌, ◌≤◌, ◌++◌, [], ◌∷◌, List, length, true, false, ◌⊎◌}
 use Rattle.std.specs.Bool.{MatchBool}
 use Rattle.guestmem.specs.Address.{index_of}

@@ -1,4 +1,8 @@
 //! A chain of buffers.
+//!
+//! A chain is filled in where the caller has it (`Ring::next_into`), so no chain of two lists is moved from call to call. A
+//! walk adds each buffer as its descriptor is read, and makes no list of descriptors. It stops at the first one that breaks a
+//! rule.
 
 ghost use Rattle.std.specs.Prelude.{◌≡◌, []};
 

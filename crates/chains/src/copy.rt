@@ -1,4 +1,6 @@
 //! The bytes of segments.
+//!
+//! A copy that lies in the first segment, wherever in it, is one copy without a loop.
 
 ghost use Rattle.std.specs.Prelude.{ℕ, ◌≡◌, ◌∷◌, [], ◌+◌, ◌*◌, ◌<◌, ◌≤◌, ◌^◌, IsTrue, length, take, drop, slice_index_or};
 ghost use Rattle.guestmem.specs.Item.{after_all, MayPages};
@@ -117,7 +119,7 @@ pub fn copy_in_with_base<L: TouchLog>(
 }
 
 /// Writes a byte to the last place of the segments, as `copy_in_with_base` does. Its page is reported to the log. The segments lie
-/// inside RAM, and have a byte. It looks at no segment but the last, and at empty ones behind the byte. It takes no memory.
+/// inside RAM, and have a byte. It looks at no segment but the last one with a byte, and at empty ones after it. It takes no memory.
 #[inline(always)]
 pub fn copy_in_last<L: TouchLog>(ram: &mut Ram, base: u64, segs: &[Seg], byte: u8, log: &mut L)
     requires inside { AreSegmentsInside base (length ram.old.bytes) segs.now }

@@ -1,4 +1,13 @@
 //! Reading descriptors, with those kept whose pages have not changed.
+//!
+//! No definition of a queue knows of what is kept: what a ring answers is a function of RAM as it is. The key of a kept
+//! descriptor is its address and not its index, so a queue whose table has moved finds none, and no contract ties a decoder to
+//! a queue. The caller's part is `Fits`, which a new decoder keeps for every RAM, and every later RAM keeps
+//! (`laws::fits_later`). Entries of indirect tables are not kept: these tables change with each request.
+//!
+//! Every descriptor is read from RAM by `Decoder::read_words`, which counts it. So the bound of a look, one descriptor more
+//! than there are slots, is a clause of the count, and a search for `words_at` shows that nothing reads past it. The sixteen
+//! bytes are the same in either layout: two numbers are stored in place of nine fields.
 
 ghost use Rattle.std.specs.Prelude.{◌≡◌, ◌+◌, ◌*◌, ◌%◌, ◌<◌, ◌≤◌, ◌&&◌, if◌then◌else◌, length, true, false};
 ghost use Rattle.guestmem.specs.Memory.{Memory};

@@ -1,4 +1,6 @@
 //! Descriptors of guest memory.
+//!
+//! An indirect descriptor names its table whatever its WRITE flag is: VIRTIO 1.2, 2.7.5.3.2 and 2.8.7.1 say to ignore it.
 
 ghost use Rattle.std.specs.Prelude.{◌≡◌, ◌+◌, ◌≤◌, length, IsTrue, ◌↔◌};
 ghost use Rattle.chains.specs.Words.{decoded, words_of};

@@ -1,4 +1,7 @@
 //! The look at the next chain of a ring.
+//!
+//! There is one look for all devices. `Wanted` is an enum and no trait, so that there is one for each log. What a device sees
+//! is what its step is defined by, so no step has a case for chains that it cannot use.
 
 ghost use Rattle.std.specs.Prelude.{◌≡◌, length};
 ghost use Rattle.guestmem.specs.Item.{after_all};

@@ -1,4 +1,6 @@
 //! Chains into which a device writes.
+//!
+//! Bytes of the host that wrap around at the end of their buffer are two slices, but seldom two for one chain.
 
 ghost use Rattle.std.specs.Prelude.{◌≡◌, ◌≤◌, ◌+◌, ◌++◌, length};
 ghost use Rattle.guestmem.specs.Rises.{Touches};

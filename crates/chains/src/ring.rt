@@ -1,4 +1,10 @@
 //! A ring, by what it means.
+//!
+//! `next_into` is provided over `next`, so a ring needs `next`, `take`, `publish`, `note_empty`, `decoded` and `positions`
+//! alone. The rings of these crates have their own `next_into`, which moves no chain.
+//!
+//! `publish` is told whether bytes were written, beside their count: the count is of bytes from the front, and a device may
+//! write after bytes that it leaves.
 
 ghost use Rattle.std.specs.Prelude.{◌≡◌, ◌+◌, ◌≤◌, length, IfOk, OnErr};
 ghost use Rattle.guestmem.specs.Item.{after_all};

@@ -1,4 +1,7 @@
 //! What a ring of either layout keeps.
+//!
+//! A ring is the registers of its queue and its positions, whatever the layout: only the walk, what is published and the event
+//! note differ. The areas are aligned and lie in RAM, which `mmio` proves of every ready queue, so no ring tests it.
 
 ghost use Rattle.std.specs.Prelude.{◌≡◌, ◌≤◌};
 ghost use Rattle.mmio.specs.declared.constants.TheConstants.{QUEUE_SIZE_MAX};

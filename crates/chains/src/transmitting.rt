@@ -1,4 +1,7 @@
 //! The step that takes bytes of the guest to be sent.
+//!
+//! One step serves all devices that send: a network device and a console differ in how many bytes a message may have and in how
+//! many of them are its header. `MessageForm` has these three numbers.
 
 ghost use Rattle.std.specs.Prelude.{◌≡◌, ◌≤◌, ◌<◌, ◌+◌, ◌^◌, length, IfOk, OnOk, OnErr};
 ghost use Rattle.guestmem.specs.Item.{after_all};

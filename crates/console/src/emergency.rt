@@ -1,4 +1,7 @@
 //! The emergency register of a console.
+//!
+//! The register is one address: writes of 1, 2 or 4 bytes at 0x108 print the lowest byte of the value, and those at 0x109 to
+//! 0x10b print none.
 
 ghost use Rattle.std.specs.Prelude.{◌≡◌};
 ghost use Rattle.console.specs.Emergency.{emergency_byte};

@@ -1,4 +1,6 @@
 //! The size of a console.
+//!
+//! A size that is set again as it was is no change, and is not reported to the driver.
 
 use crate::shape::SIZE;
 use mmio::Regs;

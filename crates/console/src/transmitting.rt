@@ -1,4 +1,6 @@
 //! The step that takes text of the guest.
+//!
+//! Text of no bytes is sent like any other, and its chain is published.
 
 ghost use Rattle.std.specs.Prelude.{◌≡◌, ◌≤◌, length, IfOk, OnErr};
 ghost use Rattle.guestmem.specs.Rises.{Touches};

@@ -1,3 +1,5 @@
+-- A later RAM. The relation goes through any list of writes, so every call that writes RAM promises it. What keeps bytes of a
+-- page with its version relies on it: a cache of descriptors, or a host that mirrors RAM.
 use Rattle.std.specs.Prelude.{◌≡◌, ℕ, ◌-◌, ◌/◌, ◌^◌, ◌<◌, ◌≤◌, length, slice_index}
 use Rattle.guestmem.specs.declared.limits.TheConstants.{PAGE_SIZE}
 use Rattle.guestmem.specs.Memory.{Memory}

@@ -1,3 +1,8 @@
+-- Versions that rise in exactly the pages that a step touches. A later RAM may have any version raised; a host that mirrors RAM
+-- by versions would then overwrite what it wrote into a page that no step touched. So each call that writes RAM says this too,
+-- of the items by which the log changes. A version rises by one at least, not by one: a list of writes names a page once for
+-- each byte, and a step may write into a page more than once. The relations of steps take what touching means as one argument,
+-- so that log and versions are handed on as one fact.
 use Rattle.std.specs.Prelude.{◌≡◌, ℕ, ◌≤◌, List, slice_index}
 use Rattle.guestmem.specs.Item.{Item, page, after_all}
 use Rattle.guestmem.specs.Laws.{Among}

@@ -1,4 +1,6 @@
 //! What a guest-physical address means, where RAM lies from a base on.
+//!
+//! An address has 64 bits. So an access of no bytes may lie at the end of RAM, but not past the last address.
 
 ghost use Rattle.std.specs.Prelude.{◌≡◌, ◌↔◌, IsTrue, None};
 ghost use Rattle.guestmem.specs.Address.{IsWithin, access_refusal, is_within};

@@ -1,4 +1,7 @@
 //! The memory of a guest while its pages come.
+//!
+//! A RAM that is given has bytes already, which stay where no page comes; new memory is first written as pages come. One branch
+//! a page tells them apart.
 
 ghost use Rattle.std.specs.Prelude.{◌≡◌, ◌*◌, ◌<◌, ◌≤◌, length, replicate, IfOk, None};
 ghost use Rattle.guestmem.specs.Number.{IsBytes};
@@ -83,7 +86,7 @@ impl ArrivingRam {
         }
     }
 
-    /// Sets a page. In new memory, where a page before it did not come, that page is written with zeros first.
+    /// Sets a page. In new memory, earlier pages that have not arrived are zero-filled first.
     pub fn put_page(&mut self, page: u64, bytes: &[u8])
         requires inside { page < length self.old.versions }
         requires whole { length bytes.now ≡ PAGE_SIZE }
@@ -97,7 +100,7 @@ impl ArrivingRam {
         }
     }
 
-    /// Sets a page to zeros. In new memory, one that is after all that came is zeros, and is not written.
+    /// Sets a page to zeros. In new memory, a page after all that have arrived is zeros already, and is not written.
     pub fn clear_page(&mut self, page: u64)
         requires { page < length self.old.versions }
         ensures bytes { self.new.bytes ≡ put_at self.old.bytes (PAGE_SIZE * page) (replicate PAGE_SIZE 0) }

@@ -1,4 +1,7 @@
 //! RAM in memory of the library that is first written as its pages come.
+//!
+//! The bytes are a `Vec` that grows into its room, so receiving makes no pass of zeros before the first page. A page of zeros
+//! past all that came touches nothing. A page that comes ahead of others has zeros written before it.
 
 ghost use Rattle.std.specs.Prelude.{◌≡◌, ◌*◌, ◌<◌, ◌≤◌, length, replicate, IfOk, None};
 ghost use Rattle.guestmem.specs.Number.{IsBytes};
@@ -61,7 +64,7 @@ impl FreshRam {
         self.versions.len() as u64 * PAGE_SIZE as u64
     }
 
-    /// Sets a page. Where a page before it did not come, it is written with zeros first.
+    /// Sets a page. Earlier pages that have not arrived are zero-filled first.
     pub fn put_page(&mut self, page: u64, bytes: &[u8])
         requires inside { page < length self.old.versions }
         requires whole { length bytes.now ≡ PAGE_SIZE }
@@ -79,7 +82,7 @@ impl FreshRam {
         self.bytes.extend_from_slice(bytes).unwrap();
     }
 
-    /// Sets a page to zeros. One that is after all that came is zeros, and is not written.
+    /// Sets a page to zeros. A page after all that have arrived is zeros already, and is not written.
     pub fn clear_page(&mut self, page: u64)
         requires { page < length self.old.versions }
         ensures bytes { self.new.bytes ≡ put_at self.old.bytes (PAGE_SIZE * page) (replicate PAGE_SIZE 0) }

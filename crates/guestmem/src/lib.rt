@@ -4,7 +4,7 @@
 //! occur only as `address / 4096`, where a write is reported:
 //!
 //! - each page has a version, which rises by one at every write into it and stays at the greatest `u64` once there, so that a cache
-//!   can tell whether what it read is still so;
+//!   can tell whether what it read is still current;
 //! - whoever follows a migration hands a `TouchLog` to the code that writes, and gets every page and sector that was written.
 //!   `NoLog` is for everybody else, and keeps nothing.
 //!

@@ -1,4 +1,8 @@
 //! What stays of a RAM while its bytes are lent to the caller.
+//!
+//! A type of its own, with versions and without bytes: no call that reads RAM can be made meanwhile. What the bytes were is not
+//! remembered, so giving back is total, whatever was written. That the named pages alone were written is the premise of a law
+//! (`given_back_is_written`), and of no call. A page that is named twice counts as written twice.
 
 ghost use Rattle.std.specs.Prelude.{◌≡◌, ◌*◌, ◌≤◌, length};
 ghost use Rattle.region.specs.Address.{address};

@@ -1,4 +1,8 @@
 //! The memory of a guest.
+//!
+//! What lies in one page is written by `put_in_page`, which raises one version and looks for no second page: a used descriptor
+//! of a packed ring (its area is aligned to 16) and the index of a used ring (aligned to 4). An entry of a used ring may begin
+//! four bytes before the end of a page, so it is written by `put`.
 
 ghost use Rattle.std.specs.Prelude.{◌≡◌, ◌+◌, ◌*◌, ◌/◌, ◌%◌, ◌<◌, ◌≤◌, ◌^◌, ℕ, length, replicate, take, drop, IfOk, IfErr, OnOk, OnErr, map, slice_index, false, None, Some};
 ghost use Rattle.guestmem.specs.Number.{number_at, IsBytes};

@@ -1,4 +1,7 @@
 //! Where the bytes of a RAM lie.
+//!
+//! An enum inside `Ram`, and no type parameter: an access has one branch, and nothing above is written twice or has one more
+//! parameter. `place` in the model says which it is, so contracts can say when lending is refused and what it hands out.
 
 use region::{KeptRegion, Region};
 use std::marker::Model;

@@ -78,13 +78,13 @@ new_refusal pages shapes sizes =
     else if not (are_same (disk_sizes shapes) sizes) then Some DiskMismatch
     else None
 
--- Why none is made whose RAM is so many bytes, if so: they have to be whole pages, and as many as a machine may have.
+-- Why no machine is made with this many bytes of RAM, if so: they have to be whole pages, and as many as a machine may have.
 abbrev pub over_refusal : ℕ → List Shape → List ℕ → Option NewError
 over_refusal bytes shapes sizes =
     if not (bytes % PAGE_SIZE == 0) then Some BadShape
     else new_refusal (bytes / PAGE_SIZE) shapes sizes
 
--- Whether RAM of so many bytes may begin at this guest-physical address: a multiple of a page, with no byte past the last address.
+-- Whether RAM of this many bytes may begin at this guest-physical address: a multiple of a page, with no byte past the last address.
 abbrev pub is_base : ℕ → ℕ → Bool
 is_base base bytes = base % PAGE_SIZE == 0 && nat_le (base + bytes) (2 ^ 64)
 

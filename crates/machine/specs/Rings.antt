@@ -1,5 +1,8 @@
 -- The rings of a machine: one for each queue that a device may have, with what it keeps of descriptors. They are in no definition
 -- of a machine: two machines whose rings keep different descriptors are equal.
+--
+-- A step makes the ring of its queue out of one in place, so what it keeps of descriptors is never moved. That this fits RAM is
+-- in the machine's invariant, which every write keeps, since RAM is later after it. So no call of a machine asks for it.
 use Rattle.std.specs.Prelude.{◌≡◌, ℕ, ◌+◌, ◌*◌, ◌==◌, List, All, length, Bool, true, false, if◌then◌else◌, slice_index_or, slice_set}
 use Rattle.guestmem.specs.Memory.{Memory}
 use Rattle.mmio.specs.declared.constants.TheConstants.{QUEUE_COUNT_MAX}

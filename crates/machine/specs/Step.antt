@@ -1,4 +1,8 @@
 -- Steps of a machine.
+--
+-- A step sees the queue's answer as an argument: what may be seen is a relation to RAM, with one answer for each RAM, so equal
+-- outcomes give equal steps. A step is an effect, applied: laws of effects, and what a log takes in, speak of the same list of
+-- writes.
 use Rattle.std.specs.Prelude.{min, ◌-◌, ◌++◌, ◌≡◌, ℕ, List, [], ◌∷◌, take, drop, length, Option, Some, None, slice_get, Result, Ok, Err, if◌then◌else◌}
 use Rattle.guestmem.specs.Address.{access_refusal, index_of}
 use Rattle.guestmem.specs.Item.{Item}

@@ -59,7 +59,7 @@ FailsFlushIf false old dev pick new = new ≡ old
 
 -- One flush of the disk of a device, beside all steps. The machine stays as it was, with any disk. After an Ok the disk is flushed; an
 -- error counts one more failure of that disk, which is not steady then. A device without a disk, and one that is not there, has nothing to
--- flush. Other disks are not called.
+-- flush. Other devices, and what is seen of their disks, stay as they were.
 pub record FlushesDisk {T E : Type 0} (old : Seen) (dev : ℕ) (result : Result T E) (new : Seen) : Type 0 where
   pub memory : new.memory ≡ old.memory
   pub state : state_of new ≡ state_of old

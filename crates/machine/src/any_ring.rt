@@ -1,4 +1,7 @@
 //! A ring of the layout that the driver's features name.
+//!
+//! The layout is named by feature bit 34, which is fixed while a queue is ready; devices are generic over `Ring` and see
+//! neither. This type keeps the ring of a queue and is no `Ring` itself: each of its calls would tell the layout apart again.
 
 ghost use Rattle.std.specs.Prelude.{◌≡◌, ◌<◌, true, false};
 ghost use Rattle.chains.specs.RingCore.{core_state};

@@ -1,4 +1,7 @@
 //! Which disks fit which devices.
+//!
+//! Disks are assigned in order to the devices that have one. A machine reports the marks of its disks (failures, honest,
+//! steady, flushed) as those of the disks that were handed in.
 
 ghost use Rattle.std.specs.Prelude.{◌≡◌, ◌↔◌, IsTrue, length, map};
 ghost use Rattle.machine.specs.First.{are_same};

@@ -1,4 +1,6 @@
 //! Emptying what rings keep of descriptors, when a driver has written a register.
+//!
+//! By the definitions this changes no answer, so `forget` has a clause of its own for which places are emptied.
 
 ghost use Rattle.std.specs.Prelude.{◌≡◌, ◌+◌, ◌*◌, ◌<◌, ◌≤◌, length};
 ghost use Rattle.guestmem.specs.Memory.{Memory};

@@ -1,4 +1,10 @@
 //! The kinds of devices, with the state that only each kind has.
+//!
+//! A kind holds what the device was made as together with what only such a device has. So no state is of one kind and made as
+//! another, and no proof has a case for it; a new kind adds a case and copies no field.
+//!
+//! With eight requests outstanding a block device has no work at its queue: pick 0 is idle, the queue is not looked at, and no
+//! event note is written, since the driver is not to kick for chains that are not looked at.
 
 ghost use Rattle.std.specs.Prelude.{◌≡◌, ◌≤◌, ◌<◌, ℕ, List, length, not, IfOk, OnErr, true, false};
 ghost use Rattle.guestmem.specs.Rises.{Touches};

@@ -11,11 +11,11 @@ use thiserror::Error;
 #[derive(Clone, Copy, Debug, Drop, PartialEq, Eq, Error)]
 pub enum NewError {
     /// The RAM is not of 1 to 16,384 pages, or the devices are not 1 to 16, or a device is beyond its limits.
-    #[error("the machine is beyond its limits")]
+    #[error("invalid machine configuration")]
     BadShape,
 
     /// There are more or fewer disks than block devices, or a disk is not of its device's size.
-    #[error("the disks are not those of the block devices")]
+    #[error("the disks do not match the block devices")]
     DiskMismatch,
 
     /// Memory was refused.

@@ -12,13 +12,13 @@ pub enum Refusal {
     /// There is no device of this number.
     NoDevice,
 
-    /// The access does not lie in RAM: it begins below RAM's base or reaches past its end.
+    /// The access is outside RAM: it begins below the base or reaches past the end.
     OutOfRam,
 
     /// The access is of more than 4,096 bytes. This is reported before `OutOfRam`.
     TooLong,
 
-    /// A device of this kind has no such event.
+    /// The event does not apply to this kind of device.
     WrongKind,
 
     /// A frame has fewer than 14 or more than 1,514 bytes.

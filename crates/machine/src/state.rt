@@ -1,4 +1,10 @@
 //! The state of a device, without its disk.
+//!
+//! A device's state is what all devices have, positions and host bytes among it, and its kind: saving a device is saving this.
+//! A queue that is not ready has the first positions; a write of QueueReady 0 sets them, and so does a reset.
+//!
+//! The layout is told apart once a step: `look` and `advance` match the ring of a queue, and serve it as a `SplitRing` or a
+//! `PackedRing`.
 
 mod first_pick;
 mod unsynced;
@@ -370,7 +376,7 @@ impl DeviceState {
         reply_to_advance(advanced)
     }
 
-    /// Makes the ring the one on which the request of a pick is published, and says whether there is such a request.
+    /// Sets `ring` to queue 0 if `pick` names an outstanding request; returns whether it does.
     #[inline(always)]
     fn advanced_ring(&self, alloc: Global, pick: u8, ring: &mut AnyRing) -> bool
         requires sound { (len : ℕ) × IsSoundDevice self.now.registers.ram_base len self.now }

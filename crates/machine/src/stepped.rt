@@ -1,4 +1,8 @@
 //! The answers of steps. They hold no bytes, so they are copied: a `Reply` is made of one, and of the buffer, at the end.
+//!
+//! A step leaves its message in a buffer of the caller (`step_into`), which is cut or grows to it. So a caller that keeps the
+//! buffer takes memory only for a message that is longer than all before it. In the definitions a step has one reply, with its
+//! bytes; `reply_in` puts the two together.
 
 ghost use Rattle.std.specs.Prelude.{◌≡◌};
 ghost use Rattle.machine.specs.Stepped.{reply_in};
@@ -74,6 +78,6 @@ pub(crate) enum Answered {
     /// The chain is malformed. It stays.
     Malformed,
 
-    /// A chain was published, which this answer reports. An interrupt is due or not.
+    /// The queue was served, as this answer reports; a chain was published or not. An interrupt is due or not.
     Published { stepped: Stepped, is_due: bool },
 }

@@ -1,4 +1,9 @@
 //! Sectors in the caller's memory.
+//!
+//! No clause lends an image's bytes: it becomes a region (`into_region`) and is made of one (`over`), which is proved by hand,
+//! as it is of a slot. So bytes are lent through a pointer by `Region` alone. An image that held a region would be no struct of
+//! C: what is lent through a `&` may not cross. That there is no image is shown by a count of 0 and not by a null pointer: a
+//! pointer may be compared with null in a proof only if the toolchain's own heap gave it.
 
 ghost use Rattle.std.specs.Prelude.{ℕ, List};
 ghost use Rattle.mapped_disk.specs.Image.{image_owns, image_coded};

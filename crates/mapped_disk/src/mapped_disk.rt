@@ -1,4 +1,12 @@
 //! A disk in memory that its caller owns.
+//!
+//! A disk is over a region, whose bytes are cut into sectors of 512: that a write over these bytes is the write of a sector is
+//! a lemma of lists. A `Vec` or a `Box` with an allocator that frees nothing would be ordinary code, but the toolchain makes
+//! neither of a pointer and a length. The disk keeps its own count of sectors, with the proof that each is 512 bytes: through a
+//! `&` to a struct that owns memory nothing is read without a law of its own.
+//!
+//! A disk may be dropped, and an image may not: a machine that is freed drops its disks, and what makes and receives machines
+//! asks for disks that may be dropped. The bytes are then the caller's, who has the address.
 
 ghost use Rattle.std.specs.Prelude.{◌≡◌, true};
 

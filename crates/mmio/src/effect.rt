@@ -1,4 +1,6 @@
 //! What a write to the registers means for the device.
+//!
+//! `ConfigWrite` is returned for aligned accesses of 1, 2 or 4 bytes from 0x100 on. Other accesses there are ignored.
 
 /// What a write to the registers means for the device.
 #[derive(Clone, Copy, Debug, PartialEq, Eq)]

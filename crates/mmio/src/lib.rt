@@ -17,7 +17,7 @@
 //!   `restore` then sets them as they were.
 //!
 //! An area's address is the guest's: RAM has the bytes from its base on, and an area below the base, or one that passes RAM's end, is
-//! refused (`guestmem::is_within`). The base is told when the registers are made, and no write and no reset changes it.
+//! refused (`guestmem::is_within`). The base is given when the registers are made, and no write and no reset changes it.
 //!
 //! The crate trusts nothing below it but the standard library and that test.
 //!
@@ -42,8 +42,8 @@ mod table;
 pub use common::Common;
 pub use constants::{
     ACKNOWLEDGE, CONFIG, CONFIGURATION_CHANGE, DEVICE_NEEDS_RESET, DRIVER, DRIVER_OK, EVENT_IDX,
-    FAILED, FEATURES_OK, INDIRECT_DESC, QUEUE_COUNT_MAX, QUEUE_SIZE_MAX,
-    RING_PACKED, USED_BUFFER, VERSION_1,
+    FAILED, FEATURES_OK, INDIRECT_DESC, QUEUE_COUNT_MAX, QUEUE_SIZE_MAX, RING_PACKED, USED_BUFFER,
+    VERSION_1,
 };
 pub use effect::Effect;
 pub use queue::Queue;

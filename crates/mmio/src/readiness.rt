@@ -1,4 +1,6 @@
 //! When a queue may be made ready.
+//!
+//! A queue may share its areas with another queue: nothing forbids it.
 
 ghost use Rattle.std.specs.Prelude.{◌≡◌, ◌≤◌, ◌<◌, ◌↔◌, IsTrue};
 ghost use Rattle.mmio.specs.QueueReady.{IsInside, IsSplit, IsPacked, MayBeReady, is_inside, is_split, is_packed, may_be_ready};

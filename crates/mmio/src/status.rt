@@ -1,4 +1,7 @@
 //! The device status.
+//!
+//! A write may add FEATURES_OK and DRIVER_OK at once. Bits are cleared by a reset alone, and only the value 0 resets: 0x100
+//! does nothing.
 
 ghost use Rattle.std.specs.Prelude.{◌≡◌};
 ghost use Rattle.mmio.specs.Status.{is_accepted, status_after};

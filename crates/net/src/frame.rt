@@ -10,7 +10,7 @@ use std::marker::Model;
 /// Room for a header and the longest frame.
 const ROOM: usize = HEADER_SIZE + FRAME_MAX;
 
-/// A frame, behind the header that the guest gets with it: so both are one slice.
+/// A frame, after the header that the guest gets with it: so both are one slice.
 #[derive(Drop)]
 pub(crate) struct Frame {
     room: [u8; ROOM],

@@ -1,4 +1,8 @@
 //! What the host has put in for the guest to take.
+//!
+//! Room for 64 longest frames and their headers, 98 KB, is made with it: so a frame that the host puts in is never refused
+//! memory, and a step copies it once, into guest memory. A frame that finds 64 before it is not kept, and `Accepted(0)` reports
+//! that: the oldest are not given up for it. A frame waits after its header, so a guest gets both in one copy.
 
 use crate::frame::Frame;
 use crate::limits::{FRAME_MAX, FRAME_MIN, INBOX_MAX};

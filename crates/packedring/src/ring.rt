@@ -1,4 +1,7 @@
 //! A packed ring.
+//!
+//! The flag WRITE of a used descriptor says whether bytes were written (VIRTIO 1.2, 2.8.3), so `publish` takes that beside the
+//! count.
 
 ghost use Rattle.std.specs.Prelude.{◌≡◌, ◌≤◌, ◌<◌, ◌+◌, ◌++◌, true, length, IsTrue, ◌↔◌};
 ghost use Rattle.guestmem.specs.Memory.{Memory};

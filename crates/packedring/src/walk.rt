@@ -12,8 +12,8 @@ use chains::{Chain, Decoder, Descriptor, RingCore, Walked, add, ended};
 use guestmem::Ram;
 
 /// Fills in the chain of the descriptors from the taking position on. The first is `first`, which names no table; each with NEXT
-/// is followed by another one. There is no chain if a later one names a table, or there is no end after one round, which is told
-/// by the descriptor at the first slot again: so as many as there are slots are decoded after the first.
+/// is followed by another one. There is no chain if a later one names a table, or there is no end after one round, which shows
+/// in the descriptor at the first slot again: so as many as there are slots are decoded after the first.
 #[inline(always)]
 pub(crate) fn walk(
     core: &RingCore,

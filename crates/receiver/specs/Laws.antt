@@ -1,4 +1,7 @@
 -- The laws of faults.
+--
+-- That what is saved is received is a law of its own, over `whole` and the faults, so that nobody has to put it together from
+-- what `save` and `receive` promise.
 use Rattle.std.specs.Prelude.{◌≡◌, ◌≤◌, ℕ, List, ◌++◌, length}
 use Rattle.wire.specs.Stream.{IsStream, rounds, shapes_in, whole}
 use Rattle.machine.specs.Layout.{pages_of}

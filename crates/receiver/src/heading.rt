@@ -1,4 +1,7 @@
 //! Reads the header of a stream, as far as it has arrived.
+//!
+//! A header shows its version at the eighth byte and its counts at the sixteenth. An invalid shape is reported at the shape's
+//! end, since only there all of it is known.
 
 ghost use Rattle.std.specs.Prelude.{◌≡◌, ◌↔◌, ◌≤◌, ◌<◌, ◌+◌, ◌*◌, IsTrue, IfOk, IfErr, MatchOption, drop, false, is_some, length, ℕ, List};
 ghost use Rattle.wire.specs.Header.{Begins, said};

@@ -1,4 +1,10 @@
 //! Records taken one by one from a stream.
+//!
+//! Checking a head answers yes or a refusal, and nothing more: where a sector lies is looked up when its head is checked and
+//! again when it is taken, among 16 devices at most.
+//!
+//! A good sector is written to its disk as its record ends, from the bytes that are held, without a copy. What was written
+//! stays written where a later fault is reported: the disks may hold a part of the stream, and are dropped.
 
 ghost use Rattle.std.specs.Prelude.{◌≡◌, ◌≢◌, ◌++◌, ◌+◌, ◌≤◌, ◌<◌, ◌*◌, ◌∷◌, ◌↔◌, [], ℕ, List, All, IsTrue, IfErr, IfOk, IfSome, OnOk, MatchOption, Some, None, Err, count_by, nat_lt, map, take, drop, length, slice_index_or, true};
 ghost use Rattle.receiver.specs.Opened.{Opened, layout_in};

@@ -1,4 +1,11 @@
 //! A receiver that is fed a stream in pieces.
+//!
+//! A receiver keeps only the bytes that it has not used. Its contract speaks of all bytes that were fed, by a relation and not
+//! by a function: that there are bytes of which those before the held ones have its digest and were taken in. So no caller can
+//! ask a receiver for bytes, and each clause is for all bytes that it was fed.
+//!
+//! It is given a RAM and not a region: whoever has the region makes the RAM, and is refused memory there, with the region back.
+//! What it knows of its RAM (`RamTerms`) is a parameter of all faults, as the sizes of the disks are.
 
 ghost use Rattle.std.specs.Prelude.{◌≡◌, OnErr, OnOk, Some, false, map, true};
 ghost use Rattle.wire.specs.Header.{Opening};

@@ -1,4 +1,7 @@
 //! From one stage to the next.
+//!
+//! A stream of another number of pages than the RAM that was handed in is a mismatch, as one of other disks is: what was handed
+//! in is not what the header says.
 
 ghost use Rattle.std.specs.Prelude.{◌≡◌, ◌≤◌, ◌+◌, ◌++◌, ◌*◌, [], ℕ, List, All, None, Err, IfErr, IfOk, OnErr, OnOk, IfSome, IsTrue, ◌↔◌, true, false, map, replicate, length};
 ghost use Rattle.sha2.specs.Hashers.{Holds256};

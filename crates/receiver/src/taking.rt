@@ -1,4 +1,7 @@
 //! The next bytes of a stream: from where they lie to RAM and disks, as far as they are whole records.
+//!
+//! The buffer is reserved once, for the longest record, with the first piece that is not empty. Where nothing is held, whole
+//! records are taken from where the caller has them; after bytes that are held, the next bytes are copied first.
 
 ghost use Rattle.std.specs.Prelude.{◌≡◌, ◌++◌, ◌+◌, ◌≤◌, ◌<◌, [], ℕ, List, Err, IfOk, OnOk, drop, length, map};
 ghost use Rattle.std.specs.Vec.{vec_capacity};

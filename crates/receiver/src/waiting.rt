@@ -1,4 +1,8 @@
 //! How much is still to come of the header, or of the record whose front is held.
+//!
+//! A piece within the body of the record whose front is held is only held: the head was checked when it was complete. The
+//! receiver keeps how many bytes that record lacks, so the head is not read again for each piece. What reads a header and what
+//! takes longer pieces are functions of their own, since a function pays at entry for the locals of all its branches.
 
 ghost use Rattle.std.specs.Prelude.{◌<◌, ◌≤◌, ◌+◌, ℕ, length};
 ghost use Rattle.receiver.specs.Waiting.{LacksBytes};

@@ -1,4 +1,7 @@
 //! A region that a value of its own keeps.
+//!
+//! The drop is written by hand, so that its clause can say that the bytes are the caller's, as they were: a drop that writes is
+//! refused. The drops of everything that keeps such a region are derived.
 
 ghost use Rattle.std.specs.Prelude.{◌≡◌, ◌<◌, length};
 ghost use Rattle.std.specs.Borrow.{sem};

@@ -1,4 +1,10 @@
 //! A rehearsed migration of a machine.
+//!
+//! Whether the disks fit is tested before anything is played, and reported only where a stop returned Ok. The receiver would
+//! report the same, at the end of the header; but of a disk that fails before, no contract of a receiver says which of the two
+//! it reports.
+//!
+//! What follows the stop is the guest's alone: events of a migration there are skipped.
 
 ghost use Rattle.std.specs.Prelude.{◌≡◌, ◌≤◌, [], IfErr, IfOk, IfSome, length, vec_capacity};
 ghost use Rattle.machine.specs.First.{dealt_marks};

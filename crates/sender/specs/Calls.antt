@@ -1,4 +1,6 @@
 -- What each call of a machine that is being migrated does.
+--
+-- All single calls share one clause, `Serves`, by event and reply, so that `serve` and `replay` need no second one.
 use Rattle.std.specs.Prelude.{◌≡◌, ℕ, ◌+◌, ◌<◌, ◌≤◌, ◌++◌, ◌%◌, ◌^◌, ◌||◌, List, [], ◌∷◌, replicate, Bool, true, false, IsTrue, Result, Ok, Err, slice_set, MatchOption}
 use Rattle.dirtylog.specs.Members.{HasNone, IsLeast, has}
 use Rattle.sha2.specs.Hashers.{Holds256}

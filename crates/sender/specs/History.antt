@@ -1,5 +1,9 @@
 -- What happened to a machine that is being migrated, and what follows from it: the machine after it, which items are stale and
 -- due, and what was written.
+--
+-- A history holds the effect of each event beside its reply, since what an event touches is a matter of its effect. This leaves
+-- no choice: see the law `replies_settle`. Staleness names no set: `replay` is promised by the history alone, and that the two
+-- sets are what is due and what is stale is a law beside it. So a set may be kept in any way.
 use Rattle.std.specs.Prelude.{◌≡◌, ℕ, ◌+◌, ◌-◌, ◌<◌, ◌++◌, ◌==◌, ◌||◌, ◌&&◌, not, nat_lt, if◌then◌else◌, List, [], ◌∷◌, Bool, true, false, MatchOption}
 use Rattle.guestmem.specs.Item as items
 use Rattle.machine.specs.Applied.{IsGood}

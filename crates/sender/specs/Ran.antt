@@ -1,4 +1,6 @@
 -- The machine and the writer after a list of live events.
+--
+-- That a disk that is reported as failed is not steady has no premise, for the guest's replies and for the copies alike.
 use Rattle.std.specs.Prelude.{◌≡◌, ◌++◌, ◌⊎◌, ℕ, List, [], ◌∷◌, length, true, false, IsTrue}
 use Rattle.dirtylog.specs.Members.{HasNone}
 use Rattle.sha2.specs.Hashers.{Holds256}

@@ -1,4 +1,10 @@
 //! A machine that is migrated while it runs.
+//!
+//! `remaining`, `machine`, `into_parts` and `serve` stand beside the calls of a migration: a host chooses when to stop, reads
+//! the lines of a machine that is migrated, wants its writer back, and may have its events as a list.
+//!
+//! A stop goes over its two sets side by side, and searches each on only from the member that it has just sent: a search of
+//! both from each item on would go over the rest of a set that has one late member for each item of the other.
 
 ghost use Rattle.std.specs.Prelude.{◌≡◌, ◌≢◌, ◌<◌, ◌^◌, ◌-◌, IfOk, IfErr, None, Some, [], length};
 ghost use Rattle.dirtylog.specs.Members.{HasNone, IsLeastFrom, member_count};
@@ -156,7 +162,7 @@ impl<D: Disk, W: Sink> Live<D, W> {
         let _left = &self.left;
     }
 
-    /// Lends the RAM of the machine, if it lies in memory of the caller. It takes no memory, and no longer for a larger RAM.
+    /// Lends the RAM of the machine, if it lies in memory of the caller. Takes no memory; its time does not depend on the size of RAM.
     pub fn lend(self) -> Result<(Region, LiveParked<D, W>), Live<D, W>>
         ensures lent { IfOk result (λ r. IsLiveParked self r.0 r.1) }
         ensures own { IfErr result (λ _. self.machine.memory.place ≡ None) }

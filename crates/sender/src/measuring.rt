@@ -1,4 +1,6 @@
 //! How long the stream of a saved machine is.
+//!
+//! Since version 2 the length depends on RAM, as pages of zeros have a short record. So each page is looked at.
 
 ghost use Rattle.std.specs.Prelude.{◌≡◌, ◌<◌, ◌≤◌, length};
 ghost use Rattle.machine.specs.Seen.{state_of};

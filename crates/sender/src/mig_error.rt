@@ -11,15 +11,15 @@ use wire::SinkFault;
 #[derive(Clone, Copy, Debug, Drop, PartialEq, Eq, Error)]
 pub enum MigError {
     /// The migration was not begun.
-    #[error("the migration was not begun")]
+    #[error("migration not begun")]
     NotBegun,
 
     /// The migration was begun before.
-    #[error("the migration was begun before")]
+    #[error("migration already begun")]
     AlreadyBegun,
 
     /// The disk of a device failed as this sector was read from it.
-    #[error("the disk failed")]
+    #[error("disk I/O error")]
     DiskFailed {
         /// The number of the device.
         dev: u8,
@@ -29,15 +29,15 @@ pub enum MigError {
     },
 
     /// The writer failed, now or before.
-    #[error("the writer failed")]
+    #[error("write error")]
     StreamFailed,
 
     /// The machine was stopped, and its stream is closed.
-    #[error("the machine was stopped")]
+    #[error("machine already stopped")]
     AlreadyStopped,
 
     /// The round counter is exhausted: no round after this one has a number.
-    #[error("no round is left")]
+    #[error("round counter exhausted")]
     RoundsEnded,
 }
 

@@ -1,4 +1,6 @@
 //! Plays a list of live events.
+//!
+//! Each event has a reply or none has: none means that memory was refused before anything was played.
 
 ghost use Rattle.std.specs.Prelude.{◌≡◌, ℕ, []};
 ghost use Rattle.machine.specs.Seen.{AreHonest, all_marks, marks_at, state_of};

@@ -1,4 +1,7 @@
 //! Saves a whole machine to a sink.
+//!
+//! A save asks the marks for the next bad sector, and reads every sector before it without a look at them
+//! (`Machine::read_good_sector`). A copy and a stop read one item at a time by its number, and look at its mark.
 
 ghost use Rattle.std.specs.Prelude.{◌≡◌, ◌<◌, ◌+◌, ◌++◌, ℕ, List, IfErr, IfOk, OnOk, length, true};
 ghost use Rattle.guestmem.specs.Item.{page, sector};

@@ -1,6 +1,8 @@
 //! A small host: the whole loop that a host writes around the library. A scripted driver takes the place of a VCPU. The machine
 //! is saved while a buffer of the driver still waits, is received again, and continues there; then it moves to a third host
 //! while its guest reads its disk.
+//!
+//! It uses `vmig` alone, beside `anyhow`: one crate is enough for a host. docs/host-loop.md quotes it.
 #![tactic(auto)]
 
 mod driver;

@@ -1,4 +1,7 @@
 //! The slot of an index.
+//!
+//! Every step takes two divisions fewer by the mask; a look at the size decides, so the contract is the remainder for every
+//! size.
 
 ghost use Rattle.std.specs.Prelude.{◌≡◌, ◌<◌, ◌%◌};
 

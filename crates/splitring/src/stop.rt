@@ -1,4 +1,7 @@
 //! Where a walk stopped.
+//!
+//! The descriptor that names a table is handed out beside this answer: an answer that could hold it would cost each step,
+//! though most chains name no table.
 
 /// Where a walk over a list of descriptors stopped.
 #[derive(Clone, Copy, Debug, PartialEq, Eq)]

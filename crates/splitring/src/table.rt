@@ -62,7 +62,7 @@ pub(crate) fn find(
     }
 }
 
-/// Goes on in the table that the last descriptor of the list names, behind those before it. A driver makes such a table anew for
+/// Continues in the table that the last descriptor of the list names, after those before it. A driver makes such a table anew for
 /// each chain, so none of its descriptors is kept.
 fn follow(
     core: &RingCore,

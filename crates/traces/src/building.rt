@@ -1,4 +1,8 @@
 //! A trace that is read line by line.
+//!
+//! A bad line is the first that may not be where it is: `ram 1` and then `r 0 0 4` is line 2, where a device must be. Skipped
+//! lines count. An empty file is line 1. A seventeenth device is a bad line. `ram 0` and `ram 16385` are good lines, and no
+//! machine.
 
 use crate::line::{Line, line_in};
 use crate::trace::Trace;

@@ -1,4 +1,6 @@
 //! Numbers, as words encode them.
+//!
+//! Leading zeros count towards the 20 digits of a number.
 
 ghost use Rattle.std.specs.Prelude.{◌≡◌, ◌≤◌, ◌<◌, ◌^◌, length, IfSome};
 ghost use Rattle.hex.specs.Hex.{hex_digit_value};

@@ -1,4 +1,6 @@
 //! Writes the parts of a line to a writer. A fault leaves a prefix of them written.
+//!
+//! A writer that takes 0 bytes has failed; one that was interrupted is asked again.
 
 ghost use Rattle.std.specs.Prelude.{◌≡◌, ◌≤◌, ◌++◌, OnOk, OnErr, take, decimal, length};
 ghost use Rattle.std.specs.Io.KnownBytes.{Appends};
@@ -11,7 +13,7 @@ use thiserror::Error;
 
 /// The writer failed.
 #[derive(Clone, Copy, Debug, Drop, PartialEq, Eq, Error)]
-#[error("the writer failed")]
+#[error("write error")]
 pub struct WriteFault;
 
 /// How many bytes are turned into digits at a time.

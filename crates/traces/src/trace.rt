@@ -30,7 +30,7 @@ pub struct Trace {
 pub enum TraceError {
     /// The first line that is not allowed where it is, counted from 1. If a text ends too early it is the line that is
     /// missing: one after the last.
-    #[error("line {0} is not a line of a trace")]
+    #[error("invalid trace: line {0}")]
     Line(u64),
 
     /// Memory was refused.

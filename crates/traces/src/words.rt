@@ -1,4 +1,7 @@
 //! The words of a line, split off one after another.
+//!
+//! The words of a line are found in the text, and no list of them is made: so a line takes no memory but what its event holds.
+//! A space at the end of a line is an empty word, which is neither a number nor bytes.
 
 ghost use Rattle.std.specs.Prelude.{◌≡◌, ◌∷◌, [], MatchOption, position};
 ghost use Rattle.std.specs.List.{slice_split};

@@ -1,4 +1,6 @@
 //! The command `check`: a stream is received over disks in memory.
+//!
+//! The disks have the sizes that the header gives, so a check asks for as much memory as they have.
 
 ghost use Rattle.std.specs.Prelude.{◌≡◌, ◌≤◌, ◌∷◌, ◌++◌, [], IfOk, IfErr, OnOk, OnErr, length};
 ghost use Rattle.std.specs.Io.KnownBytes.{Appends};

@@ -1,4 +1,9 @@
 //! The command `rehearse`: a trace whose machine is moved on the way, and then compared with the one that arrived.
+//!
+//! The shape is tested before a disk is made: a disk beyond the limits is `vmig: shape 1`, and not `vmig: memory`. A trace
+//! without events has no stop. Where memory is refused as the machine is received, the replies were made, so they are written,
+//! and `vmig: memory` is reported after them. Equal is what an embedder can see: replies, lines, RAM and every sector. That all
+//! else is equal too is in the contract of `rehearsal::rehearse`.
 
 ghost use Rattle.std.specs.Prelude.{◌≡◌, ◌<◌, ◌++◌, ◌↔◌, List, length, map, slice_get, IfErr, IfOk, IsTrue, None, OnErr, OnOk, flat_map};
 ghost use Rattle.std.specs.Io.KnownBytes.{Appends};

@@ -1,4 +1,8 @@
 //! The faults of the program: for which refusal each is, its exit status, and its line on standard error.
+//!
+//! Each refusal has its fault by a conversion that a clause names, so no refusal is reported as another on the way up. Where
+//! standard output fails, that is the fault, whatever else was to be reported: the lines are written first. A failure of
+//! standard error is reported nowhere.
 
 ghost use Rattle.std.specs.Prelude.{◌≡◌, OnOk, OnErr};
 ghost use Rattle.std.specs.Io.KnownBytes.{Appends};

@@ -1,4 +1,8 @@
 //! A stream is fed to a receiver as its file is read.
+//!
+//! A stream is fed as it is read, 65,536 bytes at most at once, and no more of it is held. The first piece is filled, unless
+//! the file ends: a header is shorter, so `check` knows from it which disks to make. After the first piece a fault of the
+//! stream is reported before a file that can't be read further, where it comes first.
 
 ghost use Rattle.std.specs.Prelude.{◌≡◌, ◌≤◌, ℕ, List, IfOk, IfErr, OnOk, length, take, true};
 ghost use Rattle.machine.specs.First.{dealt_marks};

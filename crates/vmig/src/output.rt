@@ -1,4 +1,7 @@
 //! The files that the program reads and makes, and its standard output.
+//!
+//! A stream is never made over what is read: where the new file is the image or the trace, also by a link or another path,
+//! nothing is made. Two names are those of one file where the system says so (device and inode).
 
 ghost use Rattle.std.specs.Prelude.{IfErr, IfOk, OnOk, OnErr, flat_map};
 ghost use Rattle.std.specs.Io.KnownBytes.{Appends, Keeps};

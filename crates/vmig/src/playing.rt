@@ -1,4 +1,14 @@
 //! The command `run`: a trace is played on a new machine.
+//!
+//! All replies are made before the first line is written. `begin` without a stream is reported only where no line is bad, not
+//! even a later one. A stream that is asked for is made also where no line begins.
+//!
+//! An image is opened for reading and writing, once the trace was found good, also for a device that its driver may only read.
+//! It is synced at the guest's flushes alone, and not before the end of a write of a driver without FLUSH: no guest of the
+//! program outlives its host, and whoever wants the image durable syncs it.
+//!
+//! The lines of a run over an image are those of calls, one after another, from a fresh machine over some sectors on: no
+//! contract says what a file holds. Over disks in memory the same function is proved to answer as the definition does.
 
 ghost use Rattle.std.specs.Prelude.{◌≡◌, [], IfOk, IfErr, OnOk, All, IsTrue, None, length, map, false, Some};
 ghost use Rattle.std.specs.List.{list_any};

@@ -1,4 +1,7 @@
 //! The command `resume`: a machine arrives from a stream, and continues.
+//!
+//! The trace is looked at first, its file and its lines, then the image, then the stream. A stream that is its own image is
+//! refused. The image is not synced at the end.
 
 ghost use Rattle.std.specs.Prelude.{◌≡◌, IfOk, IfErr, OnOk, None, map};
 ghost use Rattle.machine.specs.First.{dealt_marks};

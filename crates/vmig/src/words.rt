@@ -1,4 +1,7 @@
 //! The program's words.
+//!
+//! An option follows the files. No name of a file begins with `-`, so no option can be taken for a name. Words that are not
+//! UTF-8 are no words of the program.
 
 ghost use Rattle.std.specs.Prelude.{◌≡◌, map, true, false, IfOk, IfErr};
 ghost use Rattle.vmig.specs.Words.{are_run_options, is_check_line, is_name, is_option, is_program_line, is_rehearse_line, is_resume_line, is_run_line, is_verb_and_file, named_file, Asks};

@@ -1,4 +1,9 @@
 //! Limits on a machine that arrives, with which its header is compared before its stream is let in.
+//!
+//! Limits are checked before the receiver, and not in it. The first bytes are copied, at most 496 of them, until the header is
+//! whole; `read_heading` reads it from the copy, while the receiver gets each piece as it comes. So all kinds of arrival have
+//! the same limits, an arrival without limits pays three instructions a piece, and the clause of a piece is that of the
+//! receiver once it is let in. Sectors are limited for all disks together, since that is what memory is taken for.
 
 ghost use Rattle.std.specs.Prelude.{◌≡◌, ◌++◌, IfErr, IfOk, None, Some};
 ghost use Rattle.vmig_c.specs.Admission.{AdmitsAt, is_within};

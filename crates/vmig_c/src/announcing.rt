@@ -1,4 +1,7 @@
 //! What the first bytes of a stream announce.
+//!
+//! These calls keep nothing, so the bytes are handed in again by `vmig_feed`. That more bytes are needed (79) is no refusal, so
+//! it is above 63.
 
 ghost use Rattle.std.specs.Prelude.{◌≡◌};
 ghost use Rattle.vmig_c.specs.Announced.{Announces, AnnouncesDevice};

@@ -1,4 +1,7 @@
 //! A machine whose stream arrives in pieces.
+//!
+//! `Receiver` wants disks at first. So the first bytes wait, at most 496 of them, the longest header, and are given to a
+//! receiver without disks that reports what is wrong with them. The rest of a piece is fed as the caller's slice.
 
 ghost use Rattle.std.specs.Prelude.{◌≡◌, ◌++◌, ℕ, List, IfErr, IfOk, MatchOption};
 ghost use Rattle.machine.specs.Shapes.{disk_sizes};

@@ -1,4 +1,7 @@
 //! The calls of an arrival, applied to the contents of a handle.
+//!
+//! `vmig_finish` of a stream that is not whole refuses it for good, as `Receiver::finish` takes the receiver. Out of memory on
+//! the way has a status of its own (47), since nothing can be fed after it; 10 is reported only where nothing changed.
 
 ghost use Rattle.std.specs.Prelude.{◌≡◌, false, true, IsNone};
 ghost use Rattle.vmig_c.specs.Arriving.{CountsKept, EndsIf, Fed, FeedsKept, FeedsWithin, FinishesIf, FinishesKept, TellsWholeKept, number_of};

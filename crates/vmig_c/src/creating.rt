@@ -1,4 +1,8 @@
 //! Machines are made in a handle: with what RAM and which disks, the setup says.
+//!
+//! Where a machine over images is refused memory, the images are as they were, as every refusal leaves what it could have
+//! changed. All memory is taken before the first disk is moved, and the box behind the handle is there before an image is
+//! taken. Contracts see a `MappedDisk` as its image, with the pointer, so what comes back is known to be what was taken.
 
 ghost use Rattle.std.specs.Prelude.{◌≡◌, false};
 ghost use Rattle.vmig_c.specs.Images.{MakesWith};

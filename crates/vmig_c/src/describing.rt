@@ -1,4 +1,7 @@
 //! What the machine of a handle is.
+//!
+//! What C gets of a machine is what it was made of, in the struct that it makes machines by; fields that the kind does not need
+//! are zeros.
 
 ghost use Rattle.std.specs.Prelude.{◌≡◌, map, slice_get};
 ghost use Rattle.machine.specs.Seen.{state_of};

@@ -1,4 +1,12 @@
 //! Machines will arrive in a handle: within which limits and in whose memory, the caller says.
+//!
+//! A machine arrives in memory of the caller by a call before its first piece; all calls after it are those of any other
+//! arrival. So the call of a piece has no slots, and images have one way in and one way out: `vmig_unmap`, in each state, also
+//! on the way and after a refusal. Without that call the disks are made in memory of the library, as soon as the header says
+//! their sizes.
+//!
+//! What arrives into RAM of the caller has its disks in images, or none: disks of the library would be made when the header is
+//! whole, and RAM is given before. A host that has memory for RAM has it for disks.
 
 ghost use Rattle.std.specs.Prelude.{◌≡◌, [], IfErr, IfOk, None};
 ghost use Rattle.vmig_c.specs.AdmissionSeen as seen;

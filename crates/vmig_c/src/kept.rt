@@ -1,4 +1,15 @@
 //! The contents of a handle.
+//!
+//! One handle for all states: C has one thing to keep and to free, and what does not fit the state is reported by a status. A
+//! second handle for a machine whose RAM is lent would allocate memory at each loan, so a call at each exit of a guest could
+//! run out of memory; and the proofs over raw pointers would be needed twice.
+//!
+//! In whose memory the disks are is a type below the contents: machines over `MemDisk` and machines over `MappedDisk` are kept
+//! apart. What is seen of a machine has the sectors of its disks, and not where they lie, so with one type for both a
+//! `vmig_unmap` that gave no image back would meet its clause.
+//!
+//! `by_state` has the states once: a call names two or three answers in place of seven cases. A generic type for the states
+//! below a choice of disks would make each call two functions, with a contract of its own for the inner one.
 
 ghost use Rattle.vmig_c.specs.Kept.{admission_of, kept_of};
 

@@ -1,4 +1,11 @@
 //! A machine that arrives over images of the caller.
+//!
+//! A refused end gives the disks back (`Receiver::finish_or_back`), as a refused piece does: so a status loses no image. The
+//! images then hold some of the stream's sectors: the receiver writes each as it comes.
+//!
+//! That images are of other sizes than the stream's disks is reported at the header's end, by the receiver (36). That no sector
+//! is written before is tested, and no clause says it: of a piece that is refused `feed` promises the sizes and the marks of
+//! the disks, and nothing of their sectors.
 
 ghost use Rattle.std.specs.Prelude.{◌≡◌, [], IfErr, IfOk};
 ghost use Rattle.vmig_c.specs.AdmissionSeen as seen;

@@ -1,4 +1,11 @@
 //! RAM that is lent to the caller, in whose memory it lies, and given back.
+//!
+//! Where RAM is given back is not compared with where it was lent: no contract says whether two raw pointers are the same. The
+//! length is compared, and the bytes that are given back are RAM from then on, wherever they lie: a host may have moved its
+//! mapping. A host that gives back other bytes has written them.
+//!
+//! RAM in memory of the caller is the caller's again after `vmig_free` and `vmig_unmap`, in each state. No clause says what it
+//! holds then, since no contract sees a machine that was freed; `examples/c/lent.c` tests it.
 
 ghost use Rattle.std.specs.Prelude.{◌≡◌, ◌≤◌, ◌*◌, [], None, IfErr, IfOk, length, nat_lt, true};
 ghost use Rattle.guestmem.specs.declared.limits.TheConstants.{PAGE_SIZE, PAGES_MAX};

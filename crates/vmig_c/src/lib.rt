@@ -41,6 +41,13 @@
 //!   that needs RAM is refused.
 //! - The machines of C have their disks in memory (`specs/Plain`): they are honest and steady, and stay so.
 //! - The caller's part is C's: pointers and counts name memory as the header says.
+//!
+//! # Why it is so
+//! - Exports call nobody back: they open no file and call no function of C. So disks lie in memory.
+//! - A pointer whose count is 0 may be null, as C programmers write it. No contract says so, since a proof cannot compare a
+//!   caller's pointer with null. The module that the compiler hands to LLVM has no attribute by which a pointer is known not to
+//!   be null, and no empty slice of a caller is put into an `Option`; `tests/c/nulls.c` makes each such call.
+//! - Handles are not `const`, also where a call changes nothing: `const` would be read as leave for two threads to look at once.
 #![tactic(auto)]
 
 ghost use Rattle.std.specs.Prelude.{◌≡◌, None};

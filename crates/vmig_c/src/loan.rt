@@ -1,4 +1,8 @@
 //! What is left of a machine whose RAM is lent to the caller.
+//!
+//! A lent machine answers what touches no RAM: its lines, its shape, and what waits to be taken. The lines stay as they were,
+//! since 0 would be read as 'no interrupt'. All else is refused by one status, also where the answer could be given, such as a
+//! sector.
 
 ghost use Rattle.vmig_c.specs.Migrated.{HasTakenLent};
 

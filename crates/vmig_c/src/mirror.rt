@@ -1,4 +1,10 @@
 //! Whole pages of RAM, handed in and out: for a caller who keeps the guest's RAM in memory of its own.
+//!
+//! The pages that a step wrote are known by their versions, not by a log. One call serves for any number of steps, takes no
+//! memory, and has no list that could be too small; it is the same for a machine that is being migrated, and what it leaves is
+//! a promise about bytes: the caller's copy is the machine's RAM. It goes over 8 bytes a page, 128 KiB for the largest RAM. No
+//! event raises the version of a page that it does not write into: so of the pages that the caller noted, below the greatest
+//! version, a pull overwrites only those that a step wrote.
 
 ghost use Rattle.std.specs.Prelude.{◌≡◌, ◌*◌, ◌<◌, ◌≤◌, length, slice_set, slice_index, if◌then◌else◌, MatchOption, None, false, true};
 ghost use Rattle.guestmem.specs.Memory.{IsMemory};

@@ -1,4 +1,7 @@
 //! Machines as bytes.
+//!
+//! A machine that is being migrated is not saved (13): `Live` lends its machine to be read, and a save reads disks, which may
+//! change their count of failures. A host saves before `vmig_begin` or after `vmig_abort`.
 
 ghost use Rattle.std.specs.Prelude.{◌≡◌, ◌≤◌, ◌++◌, IfOk, IfErr, length, drop};
 ghost use Rattle.machine.specs.Seen.{state_of};

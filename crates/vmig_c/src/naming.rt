@@ -1,4 +1,7 @@
 //! The numbers of the pages that a caller names by a bitmap, or of all.
+//!
+//! The list is made before RAM is given back, and its memory stays with the machine for the next time; where it is refused
+//! nothing changed. Bits past the last page are not looked at: a bitmap has whole words.
 
 ghost use Rattle.std.specs.Prelude.{◌≡◌, ◌≤◌, ◌*◌, ◌<◌, ◌+◌, ◌/◌, ◌%◌, ℕ, IfOk, IsOk, length, false, true, vec_capacity};
 ghost use Rattle.guestmem.specs.declared.limits.TheConstants.{PAGES_MAX};

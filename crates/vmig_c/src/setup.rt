@@ -1,4 +1,17 @@
 //! How C asks for a machine: for one that is made, and for one that arrives.
+//!
+//! RAM and disks each come from the library or from the caller, and disks may be given contents: a call for each mixture would
+//! be six, with more for each later wish. A struct has a version and three reserved words, and its size never changes: a
+//! library that does not know what a word asks for refuses (27), and a program that was built with an older header leaves it 0.
+//! The base lies where older headers have such a word, so their programs ask for base 0. `vmig_make` is the simplest call;
+//! `vmig_receive`, and `vmig_feed` on a handle of no machine, are of base 0.
+//!
+//! What the struct names is in it: the call takes a `&mut` to a struct that holds slices and a slot, and its clause says what
+//! is left of each. Nothing is passed beside it that has to fit it.
+//!
+//! A field with nothing in it asks for nothing: contents of no bytes are zeros, and no images are disks of the library, also
+//! where the machine has disks. So a host whose list of images is empty by mistake gets disks of zeros. Contents beside images
+//! are refused, and pages beside RAM of the caller unless they are as many: each would say the same thing twice.
 
 ghost use Rattle.std.specs.Prelude.{◌≡◌, ◌==◌, length};
 ghost use Rattle.vmig_c.specs.Setup.{are_known, are_others, ram_bytes, setup_refusal_of};

@@ -1,4 +1,18 @@
 //! When what a guest wrote to a disk has to be durable, and what follows where it could not be made so: the disk is lost.
+//!
+//! When a mapped disk has to be brought to its file is asked before the step, by a call of its own: a step keeps its meaning, a
+//! host without a file need not know of it, and one whose `msync` fails has done nothing yet. Of a flush it is the step that
+//! makes it, and not the one that ends it, since that one can still fail; all writes that ended before are in the image then.
+//!
+//! Where `msync` failed, the flush is made as one that failed (`Machine::fail_flush`). The end of a write without FLUSH is
+//! refused (16): its sectors are in the image, and no unit is left that could fail. So the guest reads no success; its host
+//! ends it, or moves it. For any other pick the failure is remembered all the same (81), so that a host can report a sync of
+//! its own.
+//!
+//! A failed sync is for good, and the handle remembers it for the device: the system reports it once, so a host that called
+//! `msync` again would get a success, and so would its guest. It is no part of the machine: the files of a target are others.
+//!
+//! Both calls answer alike for disks in memory of the library: a host that keeps such a disk elsewhere too can use them.
 
 ghost use Rattle.std.specs.Prelude.{◌≡◌, None, slice_get};
 ghost use Rattle.machine.specs.Seen.{state_of};

@@ -1,4 +1,6 @@
 //! Images that the caller gets back.
+//!
+//! A machine whose disks are in memory of the library is refused (14): C could not free what it got.
 
 ghost use Rattle.std.specs.Prelude.{◌≡◌, None, Some, if◌then◌else◌, length};
 ghost use Rattle.vmig_c.specs.Kept.{are_mapped, is_loan_mapped, kept_of, state_in};

@@ -9,8 +9,8 @@ use thiserror::Error;
 /// Why the body of a device is not read.
 #[derive(Clone, Copy, Debug, Drop, PartialEq, Eq, Error)]
 pub enum DecodeError {
-    /// The bytes are the body of no such device.
-    #[error("not the body of such a device")]
+    /// The bytes are not a valid body of a device of this shape.
+    #[error("invalid device body")]
     BadBody,
 
     /// Memory was refused.

@@ -1,4 +1,11 @@
 //! Decodes the body of a device.
+//!
+//! How many queues a body has is given by the shape alone: a kind of device with more queues adds no case here. A body of a
+//! device that is not sound is refused: its registers, queues, positions and bytes must keep what holds of the devices of every
+//! machine.
+//!
+//! Version 1 was written by devices that did not offer WRITE_ZEROES. So it has no block device whose driver accepted that bit,
+//! once FEATURES_OK has settled it; before, a driver may have written any bits.
 
 ghost use Rattle.std.specs.Prelude.{◌≡◌, ◌≤◌, ◌*◌, ◌^◌, ◌↔◌, [], All, IsSomeAnd, IsTrue, false, IfOk, IfErr, length, slice_get, take};
 ghost use Rattle.wire.specs.BodyReading.{HasFront, HaveFlags, positions_in, queues_in};

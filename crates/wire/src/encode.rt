@@ -1,4 +1,8 @@
 //! Parts of a stream, written to any sink.
+//!
+//! `encode_page` writes the record with the bytes, whatever they are; whoever puts a stream together by hand asks `is_zero`
+//! first, as `write_page` does. A header encodes the lowest four bytes of the number of devices, so `encode_header` has no
+//! condition on the length of a list; a machine has 16 at most.
 
 ghost use Rattle.std.specs.Prelude.{◌≡◌, ◌++◌, ◌<◌, ◌^◌, ℕ, List, IsTrue, OnOk, length};
 ghost use Rattle.wire.specs.DeviceBody.{body};

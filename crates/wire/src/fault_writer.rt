@@ -4,12 +4,12 @@ ghost use Rattle.std.specs.Prelude.{◌≡◌, IsErr, None, false};
 ghost use Rattle.wire.specs.Sinks.{Appends, Flushes};
 ghost use Rattle.wire.specs.FaultWriter.{IsFlushed, IsPut, sink_of};
 
-use std::marker::Model;
 use crate::sink::{Sink, SinkFault};
+use std::marker::Model;
 
-/// A sink that takes so many bytes in all. Of the put that does not fit it takes the bytes that do, and fails; after it every put
-/// fails, and nothing more is taken. Its flush fails where that was said. It is for tests of what a host does when a stream can't
-/// be written.
+/// Fails after `take` bytes: the put that exceeds the limit writes what fits and fails, and so does every later one, also an empty one.
+/// Its flush fails by the plan alone, or as that of the sink below. It is for tests of what a host does when a stream can't be
+/// written.
 ///
 /// It is honest where the sink below is. Until it fails by its plan it fails where the sink below fails.
 #[derive(Drop)]

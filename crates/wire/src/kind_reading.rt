@@ -1,4 +1,7 @@
 //! Decodes the last part of the body of a device: what only its kind has.
+//!
+//! A body has the length of the bytes that the host put in also where there are none. Room for frames or requests is made once
+//! their number was read and found good, before they are read one by one.
 
 ghost use Rattle.std.specs.Prelude.{◌≡◌, IfOk, MatchOption, None, Some};
 ghost use Rattle.wire.specs.BodyReading.{block_kind_in, console_kind_in, entropy_kind_in, held_of, net_kind_in, kind_in};

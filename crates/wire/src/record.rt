@@ -1,4 +1,7 @@
 //! Decodes the records of a stream.
+//!
+//! The version is a parameter of `decode_record`, and may be any number: one that is not 2 has the records of version 1. A
+//! header of another version is refused before.
 
 ghost use Rattle.std.specs.Prelude.{◌≡◌, ◌≤◌, ◌↔◌, IsTrue, IfSome, MatchOption, length};
 ghost use Rattle.wire.specs.RecordHeads.{body_len};

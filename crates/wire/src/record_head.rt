@@ -1,4 +1,4 @@
-//! What a record is, byte by byte: a head, and the body behind it.
+//! What a record is, byte by byte: a head, and the body that follows it.
 //!
 //! | record         | tag | fields, little-endian                        | head | body                                  |
 //! |----------------|-----|----------------------------------------------|------|---------------------------------------|
@@ -11,6 +11,10 @@
 //! | page of zeros  | 6   | number: 4                                    | 5    | none; since version 2                 |
 //!
 //! A new record is a new row here, a new variant of `RecordHead`, and an arm in each function of this file.
+//!
+//! `decode_record` and the receiver read heads by `read_head`, what writes takes them from `head_bytes`, and the encoding of a
+//! record is defined as its head's and its body. `read_head` says how long an incomplete head will be, so a receiver that waits
+//! for the rest asks for these bytes and no more, and what follows is taken from where the caller has it.
 
 ghost use Rattle.std.specs.Prelude.{◌≡◌, ◌≤◌, ◌<◌, ◌^◌, ◌∷◌, ◌++◌, [], take, length};
 ghost use Rattle.wire.specs.Numbers.{digits};
@@ -113,10 +117,10 @@ pub enum RecordHead {
     },
 }
 
-/// What stands at the front of bytes, where a record should begin.
+/// What is at the front of the bytes, where a record should begin.
 #[derive(Clone, Copy, Debug, PartialEq, Eq)]
 pub enum FoundHead {
-    /// Less than a head. As far as it tells, the head has so many bytes.
+    /// An incomplete head, and its length as far as the bytes show.
     More(usize),
 
     /// A tag that no record has.
@@ -145,7 +149,7 @@ impl RecordHead {
         }
     }
 
-    /// The length of the body behind the head, in bytes.
+    /// The length of the body that follows the head, in bytes.
     pub fn body_len(self) -> usize
         ensures len { result ≡ body_len self }
         ensures short { result < 2 ^ 32 }
@@ -241,7 +245,7 @@ fn zero_page_head(fields: &[u8]) -> FoundHead
     FoundHead::Whole(RecordHead::ZeroPage { number })
 }
 
-/// The bytes of a head, with zeros behind them.
+/// The bytes of a head, followed by zeros.
 pub fn head_bytes(head: RecordHead) -> [u8; HEAD_MAX]
     ensures { take (length (spelled_head head)) result ≡ spelled_head head }
 {

@@ -1,4 +1,7 @@
 //! Writes the record of a sector to a sink.
+//!
+//! A bad sector has no bytes: what the source's disk holds there is nobody's. The record names its device by the number among
+//! all devices, not among the disks.
 
 ghost use Rattle.std.specs.Prelude.{◌≡◌, MatchOption, None, OnOk, Some};
 ghost use Rattle.wire.specs.Records.{sector, spelled_record};

@@ -1,11 +1,14 @@
 //! Where a stream is written to.
+//!
+//! A sink keeps itself whether it is flushed: std's contract of a writer counts no flushes, so that `WriteSink::flush` calls
+//! the writer's is not proved.
 
 use std::io::Write;
 use thiserror::Error;
 
 /// A sink failed. What it then holds is not specified.
 #[derive(Clone, Copy, Debug, Drop, PartialEq, Eq, Error)]
-#[error("the sink failed")]
+#[error("write error")]
 pub struct SinkFault;
 
 /// A destination for bytes. It holds bytes, it has a count of its failures modulo 2^64, it is honest or not, and it is

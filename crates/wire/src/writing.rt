@@ -1,4 +1,9 @@
 //! Writes records to a sink, and their bytes to a tally.
+//!
+//! A record goes out in one call, and no more are gathered. A buffer of many records would save calls of the system, but then a
+//! writer would fail at a later event than the one that wrote, and a disk at a later step than the one that wrote the sector:
+//! the reply that reports a failure, and its place in a history, are part of the contracts. For a page and a good sector head
+//! and body go into one buffer.
 
 ghost use Rattle.std.specs.Prelude.{◌≡◌, ◌∷◌, ◌++◌, take, ◌≤◌, ◌<◌, ◌^◌, ◌/◌, ◌%◌, ℕ, List, IsTrue, OnOk, length};
 ghost use Rattle.wire.specs.DeviceBody.{body, held_text, kind_text, queues_text};

@@ -1,4 +1,8 @@
 //! Events, applied to a machine.
+//!
+//! `apply` is `apply_logged` with a log that keeps nothing: a machine that nobody copies pays nothing for the log, and there is
+//! one proof. The log gets every page that is written into, also with what was there, so that no byte is compared. `play` says
+//! that its events are applied one after another, whatever the disks do: so all that is known of one event is known of each.
 
 ghost use Rattle.std.specs.Prelude.{◌≡◌, map, length, IfOk, OnErr};
 ghost use Rattle.guestmem.specs.Later.{IsLater};

@@ -1,5 +1,8 @@
 //! The events of a machine as calls of their own: for a host that has the numbers and the bytes at hand, and needs no list of
 //! events. Each is the step of its event.
+//!
+//! A host on an exit has numbers, and needs no event: it matches no reply that cannot come, and copies no bytes into an event.
+//! `Live` has the same calls, with a reply as their result, so a host may keep its machine in a `Live` from the start.
 
 ghost use Rattle.std.specs.Prelude.{◌≡◌, ◌≤◌, ◌+◌, ◌*◌, ◌==◌, if◌then◌else◌, length, OnErr};
 ghost use Rattle.guestmem.specs.Item.{MayPages};

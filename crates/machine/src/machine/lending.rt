@@ -1,4 +1,7 @@
 //! Machines whose RAM is lent to the caller, in whose memory it lies.
+//!
+//! What the rings keep of descriptors is emptied: a page that was written and not named keeps its version, so a kept descriptor
+//! could be wrong, and what a ring answers would be no function of RAM.
 
 ghost use Rattle.std.specs.Prelude.{◌≡◌, ◌*◌, ◌≤◌, length, map, None, IfOk, IfErr};
 ghost use Rattle.region.specs.Address.{address};
@@ -30,7 +33,7 @@ pub struct Parked<D: Disk> {
     ram: ParkedRam,
     shapes: Vec<Shape>,
     devices: Vec<Device<D>>,
-    // They keep nothing, since no version tells what the guest writes meanwhile.
+    // They keep nothing, since no version shows what the guest writes meanwhile.
     rings: Vec<AnyRing>,
 }
 
@@ -47,7 +50,7 @@ impl<D: Disk> Model for Parked<D> {
 }
 
 impl<D: Disk> Machine<D> {
-    /// Lends the RAM, if it lies in memory of the caller. It takes no memory, and no longer for a larger RAM.
+    /// Lends the RAM, if it lies in memory of the caller. Takes no memory; its time does not depend on the size of RAM.
     #[tactic(auto, using(crate::proofs::Parking::was_held))]
     pub fn lend(self) -> Result<(Region, Parked<D>), Machine<D>>
         ensures lent { IfOk result (λ r. IsParked self r.0 r.1) }
@@ -122,8 +125,8 @@ impl<D: Disk> Parked<D> {
         self.shapes.as_slice()
     }
 
-    /// The machine whose RAM is given back: its bytes are those that lie there now, and these pages were written meanwhile, of
-    /// which the log is told. It takes time for these pages alone, and no memory.
+    /// The machine whose RAM is given back: its bytes are those that lie there now, and these pages were written meanwhile,
+    /// which the log takes in. It takes time for these pages alone, and no memory.
     pub fn give_back<L: TouchLog>(self, region: Region, pages: &[u32], log: &mut L) -> Machine<D>
         requires size { length region.content ≡ PAGE_SIZE * length self.versions }
         requires below { AreBelow (length self.versions) pages.now }

@@ -1,4 +1,7 @@
 //! Machines that are made, or were saved.
+//!
+//! All memory is taken before the first disk is moved. So a refusal can give disks and RAM back as they were (`_or_back`), and
+//! no image of a caller is lost by it.
 
 ghost use Rattle.std.specs.Prelude.{◌≡◌, ◌*◌, ◌≤◌, ◌↔◌, IsTrue, length, map, All, Err, None, Some, IfOk, IfErr, IfSome};
 ghost use Rattle.blk.specs.Disk.{AreSectors};
@@ -64,7 +67,7 @@ impl<D: Disk + Drop> Machine<D> {
         Machine::new_at(alloc, 0, ram_pages, shapes, disks)
     }
 
-    /// As `new_or_back`, with RAM from the guest-physical address `base` on. `BadShape` is told also of a base that is no multiple of
+    /// As `new_or_back`, with RAM from the guest-physical address `base` on. `BadShape` is also the answer to a base that is no multiple of
     /// 4,096, and of one with which RAM would reach past the last address.
     pub fn new_at(
         alloc: Global,
@@ -93,7 +96,7 @@ impl<D: Disk + Drop> Machine<D> {
         }
     }
 
-    /// A new machine, as `new` makes, whose RAM is the bytes of a region, as they are. `BadShape` is told also of a region that
+    /// A new machine, as `new` makes, whose RAM is the bytes of a region, as they are. `BadShape` is also the answer to a region that
     /// does not have 1 to 16,384 times 4,096 bytes. A refusal gives the disks and the region back, as they were.
     pub fn new_over(
         alloc: Global,
@@ -113,7 +116,7 @@ impl<D: Disk + Drop> Machine<D> {
         Machine::new_over_at(alloc, 0, region, shapes, disks)
     }
 
-    /// As `new_over`, with RAM from the guest-physical address `base` on. `BadShape` is told also of a base as in `new_at`.
+    /// As `new_over`, with RAM from the guest-physical address `base` on. `BadShape` is also the answer to a base as in `new_at`.
     pub fn new_over_at(
         alloc: Global,
         base: u64,
@@ -235,7 +238,7 @@ fn refusal<D: Disk>(pages: usize, shapes: &[Shape], disks: &[D]) -> Option<NewEr
     None
 }
 
-/// Why none is made whose RAM is so many bytes, if there is a reason.
+/// Why no machine is made with this many bytes of RAM, if there is a reason.
 fn refusal_over<D: Disk>(bytes: usize, shapes: &[Shape], disks: &[D]) -> Option<NewError>
     ensures { result ≡ over_refusal bytes shapes.now (map (λ d. length (D.state d).sectors) disks.now) }
 {
@@ -245,7 +248,7 @@ fn refusal_over<D: Disk>(bytes: usize, shapes: &[Shape], disks: &[D]) -> Option<
     refusal(bytes / PAGE_SIZE, shapes, disks)
 }
 
-/// Whether RAM of so many bytes may begin at a guest-physical address: a multiple of a page, with no byte past the last address.
+/// Whether RAM of this many bytes may begin at a guest-physical address: a multiple of a page, with no byte past the last address.
 pub fn is_base(base: u64, bytes: u64) -> bool
     ensures value { result ≡ is_base base bytes }
     ensures facts { IsTrue result ↔ IsBase base bytes }

@@ -1,4 +1,8 @@
 //! Which step of a device has something to do.
+//!
+//! The loop of a host is this one call. It reads no RAM, so a queue that is notified is named although it may be empty; the
+//! step then clears the flag. In turn are all picks of a device, then the next device, from the step after the last one made:
+//! so nobody is left out, and the caller keeps two bytes.
 
 ghost use Rattle.std.specs.Prelude.{◌≡◌, ◌+◌, ◌*◌, ◌<◌, ◌≤◌, true, None, IfSome, length};
 ghost use Rattle.std.specs.List.{find};

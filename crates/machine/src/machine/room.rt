@@ -1,4 +1,6 @@
 //! The memory that a machine needs beside what it is made of.
+//!
+//! `Room` is for whoever must not fail late: a receiver takes it when a stream's header is whole.
 
 ghost use Rattle.std.specs.Prelude.{◌≡◌, ◌≤◌, [], IfOk, length, map, vec_capacity};
 ghost use Rattle.machine.specs.First.{AreMarksOf, marked, seen_devices};

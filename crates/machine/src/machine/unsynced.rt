@@ -1,4 +1,8 @@
 //! Flushes beside all steps, and flushes that fail in place of their step: the bytes of a disk did not reach the file that holds them.
+//!
+//! A flush beside all steps is no event: it changes no machine, so no list has it, and no reply. A flush that fails in place of
+//! its step is no event that is applied either (`IsApplied` counts a failure of the disk): the definition of a step stays, with
+//! the outcome that the disk failed.
 
 ghost use Rattle.std.specs.Prelude.{◌≡◌};
 ghost use Rattle.machine.specs.Seen.{state_of};

@@ -1,4 +1,8 @@
 //! What the device does to its registers.
+//!
+//! `ask_reset` does nothing without DRIVER_OK: the standard allows DEVICE_NEEDS_RESET only beside it, and a device works only
+//! then. `config_changed` takes the feature bits with which a driver may hear of the change: each device knows its own, the
+//! register file does not.
 
 ghost use Rattle.std.specs.Prelude.{◌≡◌, ◌<◌, length};
 ghost use Rattle.mmio.specs.Interrupts.{used_raised, configuration_changed, reset_asked};

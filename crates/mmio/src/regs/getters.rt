@@ -21,7 +21,7 @@ impl Regs {
         self.offered
     }
 
-    /// The guest-physical address of RAM's first byte, as it was told when the registers were made.
+    /// The guest-physical address of RAM's first byte, as given when the registers were made.
     pub fn ram_base(&self) -> u64
         ensures { result ≡ self.now.ram_base }
     {

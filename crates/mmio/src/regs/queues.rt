@@ -1,4 +1,6 @@
 //! Writes to the registers of a queue.
+//!
+//! QueueReady takes the values 1 and 0. Others are ignored, 3 and 0x10001 among them.
 
 ghost use Rattle.std.specs.Prelude.{◌≡◌};
 ghost use Rattle.mmio.specs.State.{queue_at, selected};

@@ -1,4 +1,6 @@
 //! Writes.
+//!
+//! Selectors are stored whole. After FEATURES_OK only DriverFeatures is ignored; both feature selectors stay writable.
 
 ghost use Rattle.std.specs.Prelude.{◌≡◌};
 ghost use Rattle.mmio.specs.State.{reset_registers, with_common};
