@@ -12,9 +12,8 @@ from texts import TOP, read
 PAGE = "docs/definitions.md"
 # A table of files in this page: the crates that its heading names, the names of the files of a row, and what is said of them.
 Row = collections.namedtuple("Row", "crates names says")
-# In these crates no item of specs/ is named by proofs alone. What may be yet:
+# In these crates no item of specs/ is named by proofs alone.
 CRATES_WITHOUT_LEMMAS = ("chains", "guestmem", "dirtylog")
-LEMMAS_YET = {"guestmem.specs.Item.after_all-append", "guestmem.specs.Laws.EachAmong", "guestmem.specs.Laws.module"}
 
 
 @functools.cache
@@ -156,10 +155,8 @@ def check_lemmas(differences):
         near = {f"{file}.{word}" for word in re.findall(r"(?<![\w.'-])[^\s{}()\[\],;:|.]+", text)}
         wanted |= ((near | set(named_in(text))) & own) - found
     alone = own - found
-    for name in sorted(alone - LEMMAS_YET):
+    for name in sorted(alone):
         differences.append(f"crates/{name.replace('.', '/', 2).replace('.', '.antt: ', 1)} is named by proofs alone, and stands in specs")
-    for name in sorted(LEMMAS_YET - alone):
-        differences.append(f".ci/definitions.py: {name} is no exception any more")
     return f"{len(own)} items of {', '.join(CRATES_WITHOUT_LEMMAS)} are named by more than proofs"
 
 

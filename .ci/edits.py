@@ -17,6 +17,10 @@ named as the folder of its proof, FILE/TYPE/FUNCTION, or by the last parts of th
 function ensures under that name, `returns` where it ensures one thing, and else as the checker names it: `invariant_of-self`,
 `LOOP-preserved`, `CALL-requires-clause-NAME`. An edit whose clause has not been written yet has no such line.
 
+The clause has to be what fails first, and be false: an answer that no longer fits its goal shows nothing of the contract. So an edit
+changes one value, and no call, arm or name. Where the answer of another goal, which is true, goes with that value, a pair of the edit
+changes it too: `file: proofs/FILE/FUNCTION/Answers.antt`, as that of mapped_disk's `disk_writes_another_sector`.
+
 As a command, `.ci/edits.py split TOP` makes the entries of each edits.txt below TOP files of the gate, in its place."""
 
 import collections

@@ -1,8 +1,8 @@
 -- What follows where versions rise in exactly the pages that were touched.
 use Rattle.std.proofs.Common.{◌≡◌, ℕ, ◌+◌, ◌-◌, ◌^◌, ◌≤◌, nat_lt, Bool, true, false, cond, ◌⊎◌, inl, inr, List, [], ◌∷◌, ◌++◌, get_or, refl, ap, ◌∙◌, arith}
 use Rattle.std.proofs.lemmas.Bool.{cases_lt}
+use Rattle.guestmem.specs.Among.{Among}
 use Rattle.guestmem.specs.Item.{Item, page, sector}
-use Rattle.guestmem.specs.Laws.{Among}
 use Rattle.guestmem.specs.Memory.{Memory}
 use Rattle.guestmem.specs.Rises.{Rises, Touches}
 use Rattle.guestmem.specs.Write.{raised}

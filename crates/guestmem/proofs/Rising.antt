@@ -3,8 +3,8 @@ use Rattle.std.proofs.Common.{◌≡◌, ℕ, suc, ◌+◌, ◌-◌, ◌*◌, �
 use Rattle.std.proofs.lemmas.Bool.{cases_lt}
 use Rattle.std.proofs.lemmas.List.{append-nil, take-append-drop}
 use Rattle.guestmem.specs.declared.limits.TheConstants.{PAGE_SIZE}
+use Rattle.guestmem.specs.Among.{Among}
 use Rattle.guestmem.specs.Item.{page}
-use Rattle.guestmem.specs.Laws.{Among}
 use Rattle.guestmem.specs.Memory.{Memory}
 use Rattle.guestmem.specs.Rises.{Rises}
 use Rattle.guestmem.proofs.RisesLaws.{rises_none, same_page}

@@ -1,9 +1,9 @@
 pub mod Address
+pub mod Among
 pub mod Arriving
 pub mod Failures
 pub mod Fresh
 pub mod Item
-pub mod Laws
 pub mod Memory
 pub mod Page
 pub mod Later

@@ -4,8 +4,8 @@
 -- each byte, and a step may write into a page more than once. The relations of steps take what touching means as one argument,
 -- so that log and versions are handed on as one fact.
 use Rattle.std.specs.Prelude.{◌≡◌, ℕ, ◌≤◌, List, slice_index}
+use Rattle.guestmem.specs.Among.{Among}
 use Rattle.guestmem.specs.Item.{Item, page, after_all}
-use Rattle.guestmem.specs.Laws.{Among}
 use Rattle.guestmem.specs.Memory.{Memory}
 use Rattle.guestmem.specs.Write.{raised}
 

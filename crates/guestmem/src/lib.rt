@@ -24,7 +24,7 @@
 //! The contracts speak of the record `Memory` (`specs/Memory`: the bytes in order of their addresses, the versions, and where the
 //! bytes lie) and of the bytes of a page (`specs/Page`), of the little-endian number at an address (`specs/Number`), of writes and
 //! lists of writes (`specs/Write`, `specs/Writes`), of one RAM that is another one later (`specs/Later`, and the module `laws`), of
-//! versions that rise (`specs/Rises`) and of the items that a log takes in (`specs/Item`, `specs/Laws`). Nothing is trusted here
+//! versions that rise (`specs/Rises`) and of the items that a log takes in (`specs/Item`, `specs/Among`). Nothing is trusted here
 //! beside the toolchain, `byteorder` and, where RAM is in memory of a caller, what the caller promised of its region.
 //!
 //! # RAM in memory of a caller

@@ -3,8 +3,8 @@ use Rattle.std.proofs.Common.{◌≡◌, ◌≢◌, ℕ, zero, suc, ◌+◌, ◌
 use Rattle.std.proofs.lemmas.Bool.{cases_lt}
 use Rattle.std.proofs.lemmas.List.{length-set, drop-set-lt, drop-set-add, take-set-le}
 use Rattle.std.specs.List.{slice_get, All}
+use Rattle.guestmem.specs.Among.{Among}
 use Rattle.guestmem.specs.Item.{Item, page, sector}
-use Rattle.guestmem.specs.Laws.{Among}
 use Rattle.guestmem.specs.Page.{page_of}
 use Rattle.guestmem.specs.Writes.{Write, set_all, touched}
 use Rattle.guestmem.proofs.WriteLaws.{length-set_all}

@@ -1,7 +1,7 @@
 -- What follows for every effect.
 use Rattle.std.specs.Prelude.{◌≡◌, ℕ, ◌*◌, ◌<◌, List, length, map, All, Option, Some, None, slice_get, slice_index_or}
+use Rattle.guestmem.specs.Among.{Among}
 use Rattle.guestmem.specs.Item.{Item, page, sector}
-use Rattle.guestmem.specs.Laws.{Among}
 use Rattle.guestmem.specs.Page.{page_of}
 use Rattle.blk.specs.Sectors.{Sector}
 use Rattle.machine.specs.State.{MachineState, DeviceState}

@@ -12,8 +12,8 @@ use Rattle.sha2.specs.Hashers.{Holds256}
 use Rattle.sha2.specs.Sha256.{sha256}
 use Rattle.sha2.specs.declared.Sha256.{Sha256}
 use Rattle.blk.specs.Sectors.{AreWhole, IsWhole, Sector}
+use Rattle.guestmem.specs.Among.{Among}
 use Rattle.guestmem.specs.Item as items
-use Rattle.guestmem.specs.Laws.{Among}
 use Rattle.guestmem.specs.Page.{page_of}
 use Rattle.machine.specs.Effect.{Effect, SectorSet, applied, items_of, set_on}
 use Rattle.machine.specs.EffectLaws.{HasItem, IsSameShape, sector_on}

@@ -5,8 +5,8 @@ use Rattle.std.proofs.Math.Bool.{and-true, and-false}
 use Rattle.std.proofs.lemmas.Bool.{eqb-true, eqb-false, lt-ltb, or_parts}
 use Rattle.std.proofs.lemmas.List.{map-append}
 use borrow.Author.Tests.{ltb-true, ltb-false}
+use Rattle.guestmem.specs.Among.{Among}
 use Rattle.guestmem.specs.Item as items
-use Rattle.guestmem.specs.Laws.{Among}
 use Rattle.machine.specs.Effect.{Effect, applied, items_of}
 use Rattle.machine.specs.EffectLaws.{IsSameShape}
 use Rattle.machine.specs.Layout.{Layout, item_at, layout_of, number_of, size_of}

@@ -62,7 +62,7 @@ pub use traces::{
     write_reply,
 };
 pub use wire::{
-    DecodeError, Header, Record, Sink, SinkFault, WriteSink, decode_device, decode_device_at,
-    decode_header, decode_record, encode_commit, encode_device, encode_header, encode_page,
-    encode_round, encode_sector, encode_zero_page,
+    DecodeError, FaultWriter, Header, Record, Sink, SinkFault, WriteSink, decode_device,
+    decode_device_at, decode_header, decode_record, encode_commit, encode_device, encode_header,
+    encode_page, encode_round, encode_sector, encode_zero_page,
 };
