@@ -10,6 +10,8 @@ use Rattle.chains.specs.declared.descriptor.Descriptor.{Descriptor}
 use Rattle.chains.specs.declared.chain.Chain.{Chain}
 use Rattle.chains.specs.declared.next.Next.{Next}
 use Rattle.chains.specs.declared.next.Next.TheVariants.{Empty, Malformed, Chain as Found}
+use Rattle.chains.specs.declared.next_kind.NextKind.{NextKind}
+use Rattle.chains.specs.declared.next_kind.NextKind.TheVariants as kinds
 use Rattle.chains.specs.declared.segs.Seg.{Seg}
 use Rattle.chains.specs.State.{RingState}
 use Rattle.chains.specs.Whole.{IsWhole, segment, readable_of, writable_of}
@@ -20,6 +22,7 @@ use Rattle.chains.proofs.SplitLaws.{split_chain_same}
 use Rattle.chains.specs.PackedChain.{IsPackedChain, IsPackedTable, entries_from}
 use Rattle.chains.proofs.PackedLaws.{packed_chain_same}
 use Rattle.chains.specs.Ring.{IsEmptyQueue, IsChain, Answers, IsBounded, IsBoundedNext}
+use Rattle.chains.specs.Gives.{Gives, GivesBounded}
 use Rattle.chains.specs.Transmit.{MayWantMemory}
 use Rattle.chains.specs.declared.transmitting.MessageForm.{MessageForm}
 
@@ -150,3 +153,10 @@ pub next_bounded : (ram : List ℕ) (q : RingState) (next : Next) → Answers ra
 next_bounded ram q Empty h = tt
 next_bounded ram q Malformed h = tt
 next_bounded ram q (Found c) h = chain_bounded ram q c h.1
+
+-- The chain that a ring returns keeps the bounds.
+pub gives_bounded : (ram : List ℕ) (q : RingState) (kind : NextKind) (c : Chain) → Gives ram q kind c → GivesBounded (length ram) q kind c
+gives_bounded ram q kinds.Empty c gives = tt
+gives_bounded ram q kinds.Malformed c gives = tt
+gives_bounded ram q kinds.Chain c gives = next_bounded ram q (Found c) gives
+gives_bounded ram q kinds.NoMemory c gives = tt

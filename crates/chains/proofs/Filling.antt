@@ -16,7 +16,7 @@ in_parts base [] [] back room = refl
 in_parts base [] (b ∷ front) back room = absurd (omega arith)
 in_parts base (p ∷ at) [] back room = refl
 in_parts base (p ∷ at) (b ∷ front) back room =
-    ap (λ (ws : List Write). record { address = index_of base p; byte = b } ∷ ws) (in_parts base at front back (omega arith))
+    ap (λ (ws : List Write). record { index = index_of base p; byte = b } ∷ ws) (in_parts base at front back (omega arith))
 
 -- The writes of two parts, as each part is written, and then others.
 pub parts_then : (base : ℕ) (at front back : List ℕ) (last : List Write) → length front ≤ length at

@@ -1,4 +1,3 @@
-mod Words
 mod Copies
 mod Filling
 mod Held

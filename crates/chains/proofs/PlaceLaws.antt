@@ -55,7 +55,7 @@ pub place_writes_take : (base : ℕ) (at bytes : List ℕ) → place_writes base
 place_writes_take base [] [] = refl
 place_writes_take base [] (byte ∷ bytes) = refl
 place_writes_take base (place ∷ at) [] = refl
-place_writes_take base (place ∷ at) (byte ∷ bytes) = ap (λ (ws : List Write). record { address = index_of base place; byte = byte } ∷ ws) (place_writes_take base at bytes)
+place_writes_take base (place ∷ at) (byte ∷ bytes) = ap (λ (ws : List Write). record { index = index_of base place; byte = byte } ∷ ws) (place_writes_take base at bytes)
 
 pub no_bytes : (base : ℕ) (at : List ℕ) → place_writes base at [] ≡ []
 no_bytes base [] = refl
@@ -73,4 +73,4 @@ run_writes base address (suc count) at [] back above few none =
 run_writes base address (suc count) at (b ∷ front) back above few none =
     let next : index_of base (address + 1) ≡ index_of base address + 1 = omega arith in
     let more = run_writes base (address + 1) count at front back (omega arith) (omega arith) (λ h. none (omega arith)) in
-    ap (λ (ws : List Write). record { address = index_of base address; byte = b } ∷ ws) (rw next at more)
+    ap (λ (ws : List Write). record { index = index_of base address; byte = b } ∷ ws) (rw next at more)

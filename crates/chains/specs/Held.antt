@@ -1,10 +1,10 @@
-use Rattle.std.specs.Prelude.{◌≡◌, ℕ, ◌+◌, ◌<◌, ◌≤◌, ◌^◌, [], ◌∷◌, List, length, ◌++◌, All, map, sum}
+use Rattle.std.specs.Prelude.{◌≡◌, ℕ, ◌+◌, ◌<◌, ◌≤◌, ◌^◌, [], ◌∷◌, List, length, ◌++◌, All, map, sum, Result, Ok, Err}
 use Rattle.guestmem.specs.Address.{IsWithin}
 use Rattle.chains.specs.declared.descriptor.Descriptor.{Descriptor}
 use Rattle.chains.specs.declared.chain.Chain.{Chain}
 use Rattle.chains.specs.declared.limits.TheConstants.{SHORT_CHAIN_MAX}
-use Rattle.chains.specs.declared.walked.Walked.{Walked}
-use Rattle.chains.specs.declared.walked.Walked.TheVariants.{Listed, Missing, NoMemory}
+use Rattle.chains.specs.declared.no_chain.NoChain.{NoChain}
+use Rattle.chains.specs.declared.no_chain.NoChain.TheVariants.{Malformed, NoMemory}
 use Rattle.chains.specs.Places.{places}
 use Rattle.chains.specs.Whole.{IsInOrder, readable_of, writable_of}
 
@@ -32,19 +32,13 @@ pub record AreHeld (base len : ℕ) (ds : List Descriptor) (c : Chain) : Type 0 
 
 -- What it gives to add the buffer of `d` to the segments of `ds`, by the chain that it is added to: they are the segments of
 -- both; or whatever begins with both breaks a rule; or memory was refused, and `ds` are as many as are handled without it.
-abbrev pub AddGives : ℕ → ℕ → List Descriptor → Descriptor → Chain → Walked → Type 0
-AddGives base len ds d c Listed = AreHeld base len (ds ++ d ∷ []) c
-AddGives base len ds d c Missing = (rest : List Descriptor) → AreSound base len (ds ++ d ∷ rest) → ⊥
-AddGives base len ds d c NoMemory = SHORT_CHAIN_MAX ≤ length ds
+abbrev pub AddGives : ℕ → ℕ → List Descriptor → Descriptor → Chain → Result (Unit {0}) NoChain → Type 0
+AddGives base len ds d c (Ok done) = AreHeld base len (ds ++ d ∷ []) c
+AddGives base len ds d c (Err Malformed) = (rest : List Descriptor) → AreSound base len (ds ++ d ∷ rest) → ⊥
+AddGives base len ds d c (Err NoMemory) = SHORT_CHAIN_MAX ≤ length ds
 
 -- What the last test of a chain gives, of all its bytes.
-abbrev pub EndGives : Chain → Walked → Type 0
-EndGives c Listed = byte_count c < 2 ^ 32
-EndGives c Missing = 2 ^ 32 ≤ byte_count c
-EndGives c NoMemory = ⊥
-
--- `P`, if it was added.
-abbrev pub WhereListed : Walked → Type 0 → Type 0
-WhereListed Listed P = P
-WhereListed Missing P = Unit {0}
-WhereListed NoMemory P = Unit {0}
+abbrev pub EndGives : Chain → Result (Unit {0}) NoChain → Type 0
+EndGives c (Ok done) = byte_count c < 2 ^ 32
+EndGives c (Err Malformed) = 2 ^ 32 ≤ byte_count c
+EndGives c (Err NoMemory) = ⊥

@@ -3,7 +3,6 @@ pub mod RingCore
 pub mod RingSeen
 pub mod Places
 pub mod Descriptor
-pub mod Words
 pub mod Decoder
 pub mod Whole
 pub mod Held

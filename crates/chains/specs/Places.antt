@@ -26,7 +26,7 @@ read_places base ram at = map (λ place. slice_index ram (index_of base place)) 
 abbrev pub place_writes : ℕ → List ℕ → List ℕ → List Write
 place_writes base [] bytes = []
 place_writes base (place ∷ at) [] = []
-place_writes base (place ∷ at) (byte ∷ bytes) = record { address = index_of base place; byte = byte } ∷ place_writes base at bytes
+place_writes base (place ∷ at) (byte ∷ bytes) = record { index = index_of base place; byte = byte } ∷ place_writes base at bytes
 
 -- Each segment lies inside a RAM of `len` bytes with this base. An empty one may lie at its end.
 abbrev pub AreSegmentsInside : ℕ → ℕ → List Seg → Type 0

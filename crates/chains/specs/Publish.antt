@@ -5,7 +5,8 @@ use Rattle.guestmem.specs.Writes.{Write, byte_writes}
 use Rattle.chains.specs.declared.position.Position.{Position}
 use Rattle.chains.specs.declared.descriptor.TheConstants.{DESCRIPTOR_SIZE}
 use Rattle.chains.specs.declared.flags.TheConstants.{WRITE, AVAIL, USED}
-use Rattle.chains.specs.State.{RingState, has_bit}
+use Rattle.chains.specs.State.{RingState}
+use Rattle.mmio.specs.Bits.{has}
 
 -- A position of a split ring after one more chain: both indexes count modulo 65,536 (VIRTIO 1.2, 2.7.6 and 2.7.8).
 abbrev pub next_index : Position → Position
@@ -59,7 +60,7 @@ published q id slots len wrote = if q.is_packed then packed_published q id len w
 unfoldable pub is_split_due : RingState → List ℕ → Bool
 is_split_due q ram =
     if q.has_event_index then number_at ram (q.driver + 4 + 2 * q.size) 2 == q.used.place
-    else not (has_bit (number_at ram q.driver 2) 1)
+    else not (has (number_at ram q.driver 2) 1)
 
 -- The positions of `slots` slots of a packed ring, from one position on.
 abbrev pub positions_from : ℕ → Position → ℕ → List Position
@@ -80,7 +81,7 @@ is_packed_due q slots ram =
     let event = number_at ram q.driver 2 in
     let flags = number_at ram (q.driver + 2) 2 % 4 in
     if flags == 1 then false
-    else if q.has_event_index && flags == 2 then is_among (event % 32768) (has_bit event 32768) (positions_from q.size q.used slots)
+    else if q.has_event_index && flags == 2 then is_among (event % 32768) (has event 32768) (positions_from q.size q.used slots)
     else true
 
 -- Whether an interrupt is due for a chain of `slots` slots that was published at the used position, by RAM after it.

@@ -1,6 +1,8 @@
-use Rattle.std.specs.Prelude.{◌≡◌, ℕ, ◌+◌, ◌%◌, ◌*◌, ◌<◌, ◌≤◌, ◌==◌, Bool, not, bit_and, if◌then◌else◌}
+use Rattle.std.specs.Prelude.{◌≡◌, ℕ, ◌+◌, ◌%◌, ◌*◌, ◌<◌, ◌≤◌, Bool}
 use Rattle.std.specs.Bool.{MatchBool}
 use Rattle.guestmem.specs.Address.{index_of}
+use Rattle.mmio.specs.Bits.{has}
+use Rattle.mmio.specs.Areas.{driver_alignment, driver_bytes, device_bytes}
 use Rattle.mmio.specs.declared.queue.Queue.{Queue}
 use Rattle.mmio.specs.declared.constants.TheConstants.{QUEUE_SIZE_MAX, INDIRECT_DESC, EVENT_IDX, RING_PACKED}
 use Rattle.chains.specs.declared.descriptor.TheConstants.{DESCRIPTOR_SIZE}
@@ -22,18 +24,14 @@ pub record RingState : Type 0 where
   pub taking : Position
   pub used : Position
 
--- Whether a bit, given by its value, is set in a number.
-abbrev pub has_bit : ℕ → ℕ → Bool
-has_bit number bit = not (bit_and number bit == 0)
-
 -- The ring of a queue with these feature bits (VIRTIO 1.2, 6), in a RAM with this base, at these positions. The driver gives the
 -- areas by their guest-physical addresses.
 abbrev pub state_of : Queue → ℕ → ℕ → Positions → RingState
 state_of queue features base positions = record {
   base = base;
-  is_packed = has_bit features RING_PACKED;
-  has_indirect = has_bit features INDIRECT_DESC;
-  has_event_index = has_bit features EVENT_IDX;
+  is_packed = has features RING_PACKED;
+  has_indirect = has features INDIRECT_DESC;
+  has_event_index = has features EVENT_IDX;
   size = queue.size;
   descriptors = index_of base queue.descriptors;
   driver = index_of base queue.driver;
@@ -54,20 +52,6 @@ pub record MayRing (q : RingState) : Type 0 where
   pub few : q.size ≤ QUEUE_SIZE_MAX
   pub slots : MatchBool q.is_packed ((q.taking.place < q.size) × (q.used.place < q.size)) (Unit {0})
 
--- The bytes of the driver area: flags, index, ring and event index of a split queue (VIRTIO 1.2, 2.7.6), the event
--- suppression structure of a packed one (VIRTIO 1.2, 2.8.14).
-abbrev pub driver_bytes : RingState → ℕ
-driver_bytes q = if q.is_packed then 4 else 6 + 2 * q.size
-
--- The bytes of the device area: flags, index, ring and event index of a split queue (VIRTIO 1.2, 2.7.8), the event
--- suppression structure of a packed one (VIRTIO 1.2, 2.8.14).
-abbrev pub device_bytes : RingState → ℕ
-device_bytes q = if q.is_packed then 4 else 6 + 8 * q.size
-
--- The alignment of the driver area (VIRTIO 1.2, 2.7 and 2.8.10.1).
-abbrev pub driver_alignment : RingState → ℕ
-driver_alignment q = if q.is_packed then 4 else 2
-
 -- An area of `bytes` bytes from this index on is aligned to `align`, and lies wholly inside a RAM of `len` bytes.
 pub record IsArea (len at align bytes : ℕ) : Type 0 where
   pub aligned : at % align ≡ 0
@@ -76,5 +60,5 @@ pub record IsArea (len at align bytes : ℕ) : Type 0 where
 -- The three areas of a queue are aligned (VIRTIO 1.2, 2.7 and 2.8.10.1), and lie inside a RAM of `len` bytes.
 pub record HasAreas (len : ℕ) (q : RingState) : Type 0 where
   pub descriptors : IsArea len q.descriptors 16 (DESCRIPTOR_SIZE * q.size)
-  pub driver : IsArea len q.driver (driver_alignment q) (driver_bytes q)
-  pub device : IsArea len q.device 4 (device_bytes q)
+  pub driver : IsArea len q.driver (driver_alignment q.is_packed) (driver_bytes q.is_packed q.size)
+  pub device : IsArea len q.device 4 (device_bytes q.is_packed q.size)

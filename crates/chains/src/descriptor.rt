@@ -3,7 +3,7 @@
 //! An indirect descriptor names its table whatever its WRITE flag is: VIRTIO 1.2, 2.7.5.3.2 and 2.8.7.1 say to ignore it.
 
 ghost use Rattle.std.specs.Prelude.{◌≡◌, ◌+◌, ◌≤◌, length, IsTrue, ◌↔◌};
-ghost use Rattle.chains.specs.Words.{decoded, words_of};
+ghost use Rattle.chains.specs.Descriptor.{decoded, words_of};
 
 use crate::flags::{AVAIL, INDIRECT, NEXT, USED, WRITE};
 use guestmem::{Ram, is_within};
@@ -56,14 +56,14 @@ pub struct Words {
 /// Reads the bytes of a descriptor. This is the one function that reads descriptors from RAM, and only a `Decoder` calls it, once,
 /// where it counts.
 #[inline(always)]
-pub(crate) fn words_at(ram: &Ram, address: u64) -> Words
-    requires inside { address + DESCRIPTOR_SIZE ≤ length ram.now.bytes }
-    ensures { result ≡ words_of ram.now.bytes address }
+pub(crate) fn words_at(ram: &Ram, index: u64) -> Words
+    requires inside { index + DESCRIPTOR_SIZE ≤ length ram.now.bytes }
+    ensures { result ≡ words_of ram.now.bytes index }
 {
     ram.recall();
     Words {
-        first: ram.u64_at(address),
-        second: ram.u64_at(address + 8),
+        first: ram.u64_at(index),
+        second: ram.u64_at(index + 8),
     }
 }
 
@@ -80,11 +80,11 @@ pub(crate) fn decode(is_packed: bool, words: Words) -> Descriptor
         len: (words.second % (1 << 32)) as u32,
         next: if is_packed { 0 } else { high },
         id: if is_packed { low } else { 0 },
-        has_next: flags & NEXT != 0,
-        is_writable: flags & WRITE != 0,
-        is_indirect: flags & INDIRECT != 0,
-        avail_flag: flags & AVAIL != 0,
-        used_flag: flags & USED != 0,
+        has_next: flags & NEXT == NEXT,
+        is_writable: flags & WRITE == WRITE,
+        is_indirect: flags & INDIRECT == INDIRECT,
+        avail_flag: flags & AVAIL == AVAIL,
+        used_flag: flags & USED == USED,
     }
 }
 

@@ -32,7 +32,7 @@ pub enum Wanted {
 
 impl Wanted {
     /// Whether the device can use a chain.
-    pub fn fits(self, chain: &Chain) -> bool
+    pub(crate) fn fits(self, chain: &Chain) -> bool
         ensures { result ≡ fits self chain.now }
     {
         let (readable, writable) = (chain.readable.total_len(), chain.writable.total_len());

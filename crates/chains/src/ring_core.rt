@@ -4,8 +4,9 @@
 //! note differ. The areas are aligned and lie in RAM, which `mmio` proves of every ready queue, so no ring tests it.
 
 ghost use Rattle.std.specs.Prelude.{◌≡◌, ◌≤◌};
+ghost use Rattle.mmio.specs.Bits.{has};
 ghost use Rattle.mmio.specs.declared.constants.TheConstants.{QUEUE_SIZE_MAX};
-ghost use Rattle.chains.specs.State.{state_of, has_bit, AreAbove, MayRing};
+ghost use Rattle.chains.specs.State.{state_of, AreAbove, MayRing};
 
 use crate::position::{Position, Positions};
 use mmio::{EVENT_IDX, INDIRECT_DESC, Queue, RING_PACKED};
@@ -48,29 +49,9 @@ pub struct RingCore {
 impl RingCore {
     ghost use Rattle.chains.specs.RingCore.{core_state};
 
-    /// Of a queue at these positions, under the features that the driver accepted, in a RAM with this base. It takes no memory.
+    /// Of a queue at these positions, under the features that the driver accepted, in a RAM with this base. No area of the queue begins
+    /// below it: a ready queue is such a one. It takes no memory.
     pub fn new(
-        alloc: Global,
-        queue: &Queue,
-        features: u64,
-        base: u64,
-        positions: Positions,
-    ) -> RingCore
-        requires { MayRing (state_of queue.now features base positions) }
-        ensures { core_state (has_bit features RING_PACKED) result ≡ state_of queue.now features base positions }
-    {
-        // An area of a queue that is not ready may lie anywhere: one below the base is taken to begin there.
-        let queue = Queue {
-            descriptors: queue.descriptors.max(base),
-            driver: queue.driver.max(base),
-            device: queue.device.max(base),
-            ..*queue
-        };
-        RingCore::of_ready(alloc, &queue, features, base, positions)
-    }
-
-    /// As `new`, of a queue whose areas do not begin below the base: a ready queue is such a one.
-    pub fn of_ready(
         alloc: Global,
         queue: &Queue,
         features: u64,
@@ -79,7 +60,7 @@ impl RingCore {
     ) -> RingCore
         requires may { MayRing (state_of queue.now features base positions) }
         requires above { AreAbove base queue.now }
-        ensures { core_state (has_bit features RING_PACKED) result ≡ state_of queue.now features base positions }
+        ensures { core_state (has features RING_PACKED) result ≡ state_of queue.now features base positions }
     {
         RingCore {
             alloc,
@@ -96,16 +77,16 @@ impl RingCore {
 
     /// Whether the driver accepted indirect descriptors.
     pub fn has_indirect(&self) -> bool
-        ensures { result ≡ has_bit self.now.features INDIRECT_DESC }
+        ensures { result ≡ has self.now.features INDIRECT_DESC }
     {
-        self.features & INDIRECT_DESC != 0
+        self.features & INDIRECT_DESC == INDIRECT_DESC
     }
 
     /// Whether the driver accepted event indexes.
     pub fn has_event_index(&self) -> bool
-        ensures { result ≡ has_bit self.now.features EVENT_IDX }
+        ensures { result ≡ has self.now.features EVENT_IDX }
     {
-        self.features & EVENT_IDX != 0
+        self.features & EVENT_IDX == EVENT_IDX
     }
 
     /// Both positions.

@@ -3,7 +3,7 @@
 //! Drivers of block and network devices hand over two or three buffers for ordinary requests, and an entropy or console request
 //! has one; so these steps take no memory. Four segments are 64 bytes. Where a longer list has room left a segment is put there
 //! by a call that cannot grow it: growing is a call of its own. A list keeps its count and its bytes in all, so nobody adds
-//! them up again.
+//! them up again. What a step costs with these calls apart is in docs/costs.md ("A step").
 
 ghost use Rattle.std.specs.Prelude.{◌≡◌, ◌==◌, ◌<◌, ◌≤◌, ◌^◌, [], ◌∷◌, ◌++◌, length, OnOk, OnErr, IsOk};
 ghost use Rattle.chains.specs.Places.{places};

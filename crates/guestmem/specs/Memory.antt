@@ -2,7 +2,7 @@ use Rattle.std.specs.Prelude.{◌≡◌, ℕ, ◌*◌, ◌≤◌, List, Option, 
 use denote.RawPtr.{Ptr}
 use Rattle.guestmem.specs.declared.limits.TheConstants.{PAGE_SIZE, PAGES_MAX}
 
--- Flat memory. The model of a RAM in contracts: its bytes in the order of their addresses, the version of each page, and where the
+-- Flat memory. The model of a RAM in contracts: its bytes in order, the version of each page, and where the
 -- bytes lie: at a pointer, if they lie in memory of the caller; None, if they lie in memory of the library.
 pub record Memory : Type 0 where
   pub bytes : List ℕ

@@ -6,10 +6,9 @@ use Rattle.guestmem.specs.declared.touched.Touched.TheVariants.{NoPage, Pages}
 use Rattle.guestmem.specs.declared.error.RamError.{RamError}
 use Rattle.guestmem.specs.declared.error.RamError.TheVariants.{OutOfRam, TooLong}
 
--- Why an access of `count` bytes at address `at` is refused in a RAM of `len` bytes, if it is. TooLong comes before
--- OutOfRam.
+-- Why an access of `count` bytes from an index on is refused in a RAM of `len` bytes, if it is. TooLong comes before OutOfRam.
 abbrev pub refusal_of : ℕ → ℕ → ℕ → Option RamError
-refusal_of len at count = if nat_lt ACCESS_MAX count then Some TooLong else if nat_lt len (at + count) then Some OutOfRam else None
+refusal_of len index count = if nat_lt ACCESS_MAX count then Some TooLong else if nat_lt len (index + count) then Some OutOfRam else None
 
 -- The number that stands for the reason of a refusal.
 abbrev pub code_of : RamError → ℕ
@@ -32,7 +31,7 @@ raised version = if nat_lt version (2 ^ 64 - 1) then version + 1 else version
 abbrev pub raise : List ℕ → ℕ → ℕ → List ℕ
 raise versions first last = take first versions ++ map raised (take (last + 1 - first) (drop first versions)) ++ drop (last + 1) versions
 
--- The pages that an access of `count` bytes at address `at` touches.
+-- The pages that an access of `count` bytes from index `at` on touches.
 abbrev pub touched_of : ℕ → ℕ → Touched
 touched_of at count = if count == 0 then NoPage else Pages (at / PAGE_SIZE) ((at + count - 1) / PAGE_SIZE)
 

@@ -1,7 +1,7 @@
 //! Guest memory: one flat list of bytes, whose writes are reported page by page.
 //!
-//! A `Ram` is 1 to 16,384 pages of 4,096 bytes at the addresses from 0 up. Code above reads and writes it at byte addresses; pages
-//! occur only as `address / 4096`, where a write is reported:
+//! A `Ram` is 1 to 16,384 pages of 4,096 bytes. Code above reads and writes it by the indexes of its bytes, from 0 up; pages occur only
+//! as `index / 4096`, where a write is reported. Which index a guest-physical address means is in `specs/Address` (`index_of`):
 //!
 //! - each page has a version, which rises by one at every write into it and stays at the greatest `u64` once there, so that a cache
 //!   can tell whether what it read is still current;
@@ -21,8 +21,8 @@
 //!   `rises_in_turn` this holds through any list of writes, and every call above says it of the items that it touched.
 //! - The caller's part: page numbers below the number of pages; for `get` and `put`, bytes inside RAM.
 //!
-//! The contracts speak of the record `Memory` (`specs/Memory`: the bytes in order of their addresses, the versions, and where the
-//! bytes lie) and of the bytes of a page (`specs/Page`), of the little-endian number at an address (`specs/Number`), of writes and
+//! The contracts speak of the record `Memory` (`specs/Memory`: the bytes in order, the versions, and where the
+//! bytes lie) and of the bytes of a page (`specs/Page`), of the little-endian number from an index on (`specs/Number`), of writes and
 //! lists of writes (`specs/Write`, `specs/Writes`), of one RAM that is another one later (`specs/Later`, and the module `laws`), of
 //! versions that rise (`specs/Rises`) and of the items that a log takes in (`specs/Item`, `specs/Among`). Nothing is trusted here
 //! beside the toolchain, `byteorder` and, where RAM is in memory of a caller, what the caller promised of its region.

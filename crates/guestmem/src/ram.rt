@@ -30,7 +30,7 @@ use region::Region;
 use std::alloc::{AllocError, Global};
 use std::marker::Model;
 
-/// The memory of a guest: whole pages at the addresses from 0 up, each with a version. Its bytes lie in memory of the library or in a
+/// The memory of a guest: whole pages, each with a version. Its bytes lie in memory of the library or in a
 /// region of the caller's memory.
 #[derive(Drop)]
 pub struct Ram {
@@ -156,22 +156,22 @@ impl Ram {
         }
     }
 
-    /// The number in the two bytes at an address.
+    /// The number in the two bytes from an index on.
     #[tactic(auto, unfolding(crate::specs::Number::number_at))]
-    pub fn u16_at(&self, addr: u64) -> u16
-        requires { addr + 2 ≤ length self.now.bytes }
-        ensures { result ≡ number_at self.now.bytes addr 2 }
+    pub fn u16_at(&self, index: u64) -> u16
+        requires { index + 2 ≤ length self.now.bytes }
+        ensures { result ≡ number_at self.now.bytes index 2 }
     {
-        LittleEndian::read_u16(&self.bytes.as_slice()[addr as usize..])
+        LittleEndian::read_u16(&self.bytes.as_slice()[index as usize..])
     }
 
-    /// The number in the eight bytes at an address.
+    /// The number in the eight bytes from an index on.
     #[tactic(auto, unfolding(crate::specs::Number::number_at))]
-    pub fn u64_at(&self, addr: u64) -> u64
-        requires { addr + 8 ≤ length self.now.bytes }
-        ensures { result ≡ number_at self.now.bytes addr 8 }
+    pub fn u64_at(&self, index: u64) -> u64
+        requires { index + 8 ≤ length self.now.bytes }
+        ensures { result ≡ number_at self.now.bytes index 8 }
     {
-        LittleEndian::read_u64(&self.bytes.as_slice()[addr as usize..])
+        LittleEndian::read_u64(&self.bytes.as_slice()[index as usize..])
     }
 
     /// Why an access of `count` bytes at `addr` would be refused, if it would be.
@@ -195,12 +195,12 @@ impl Ram {
         Ok(())
     }
 
-    /// Fills a buffer of any length with the bytes from an address on, for code that knows them to lie inside RAM.
-    pub fn get(&self, addr: u64, buf: &mut [u8])
-        requires { addr + length buf.old ≤ length self.now.bytes }
-        ensures { buf.new ≡ take (length buf.old) (drop addr self.now.bytes) }
+    /// Fills a buffer of any length with the bytes from an index on, for code that knows them to lie inside RAM.
+    pub fn get(&self, index: u64, buf: &mut [u8])
+        requires { index + length buf.old ≤ length self.now.bytes }
+        ensures { buf.new ≡ take (length buf.old) (drop index self.now.bytes) }
     {
-        let start = addr as usize;
+        let start = index as usize;
         buf.copy_from_slice(&self.bytes.as_slice()[start..start + buf.len()]);
     }
 
@@ -218,22 +218,22 @@ impl Ram {
         Ok(self.store(addr, bytes))
     }
 
-    /// Writes bytes of any number from an address on, for code that knows them to lie inside RAM, and reports to the
+    /// Writes bytes of any number from an index on, for code that knows them to lie inside RAM, and reports to the
     /// log the pages that they went into.
     #[tactic(auto, using(crate::proofs::WriteLaws::put_at_set_all))]
-    pub fn put<L: TouchLog>(&mut self, addr: u64, bytes: &[u8], log: &mut L)
-        requires inside { addr + length bytes.now ≤ length self.old.bytes }
+    pub fn put<L: TouchLog>(&mut self, index: u64, bytes: &[u8], log: &mut L)
+        requires inside { index + length bytes.now ≤ length self.old.bytes }
         requires may { MayPages L.may log.old (length self.old.bytes) }
-        ensures bytes { self.new.bytes ≡ set_all self.old.bytes (byte_writes addr bytes.now) }
+        ensures bytes { self.new.bytes ≡ set_all self.old.bytes (byte_writes index bytes.now) }
         ensures size { length self.new.bytes ≡ length self.old.bytes }
-        ensures versions { self.new ≡ written self.old addr bytes.now }
+        ensures versions { self.new ≡ written self.old index bytes.now }
         ensures later { IsLater self.old self.new }
-        ensures log { log.new ≡ after_all L.after log.old (touched (byte_writes addr bytes.now)) }
-        ensures rises { Rises (touched (byte_writes addr bytes.now)) self.old self.new }
+        ensures log { log.new ≡ after_all L.after log.old (touched (byte_writes index bytes.now)) }
+        ensures rises { Rises (touched (byte_writes index bytes.now)) self.old self.new }
         ensures may { MayPages L.may log.new (length self.new.bytes) }
     {
         self.recall();
-        match self.store(addr, bytes) {
+        match self.store(index, bytes) {
             Touched::NoPage => {}
             Touched::Pages(first, last) => tell_pages(log, first, last),
         }
@@ -242,20 +242,20 @@ impl Ram {
     /// Does what `put` does, for bytes that lie in one page: at least one, and none past the end of the page of the first.
     #[inline(always)]
     #[tactic(auto, using(crate::proofs::WriteLaws::put_at_set_all))]
-    pub fn put_in_page<L: TouchLog>(&mut self, addr: u64, bytes: &[u8], log: &mut L)
-        requires inside { addr + length bytes.now ≤ length self.old.bytes }
+    pub fn put_in_page<L: TouchLog>(&mut self, index: u64, bytes: &[u8], log: &mut L)
+        requires inside { index + length bytes.now ≤ length self.old.bytes }
         requires some { 1 ≤ length bytes.now }
-        requires page { addr % PAGE_SIZE + length bytes.now ≤ PAGE_SIZE }
+        requires page { index % PAGE_SIZE + length bytes.now ≤ PAGE_SIZE }
         requires may { MayPages L.may log.old (length self.old.bytes) }
-        ensures bytes { self.new.bytes ≡ set_all self.old.bytes (byte_writes addr bytes.now) }
-        ensures versions { self.new ≡ written self.old addr bytes.now }
+        ensures bytes { self.new.bytes ≡ set_all self.old.bytes (byte_writes index bytes.now) }
+        ensures versions { self.new ≡ written self.old index bytes.now }
         ensures later { IsLater self.old self.new }
-        ensures log { log.new ≡ after_all L.after log.old (touched (byte_writes addr bytes.now)) }
-        ensures rises { Rises (touched (byte_writes addr bytes.now)) self.old self.new }
+        ensures log { log.new ≡ after_all L.after log.old (touched (byte_writes index bytes.now)) }
+        ensures rises { Rises (touched (byte_writes index bytes.now)) self.old self.new }
         ensures may { MayPages L.may log.new (length self.new.bytes) }
     {
         self.recall();
-        let page = self.store_in_page(addr, bytes);
+        let page = self.store_in_page(index, bytes);
         tell_pages(log, page, page);
     }
 
@@ -278,31 +278,31 @@ impl Ram {
     }
 
     #[inline(always)]
-    fn store_in_page(&mut self, addr: u64, bytes: &[u8]) -> u64
-        requires inside { addr + length bytes.now ≤ length self.old.bytes }
+    fn store_in_page(&mut self, index: u64, bytes: &[u8]) -> u64
+        requires inside { index + length bytes.now ≤ length self.old.bytes }
         requires some { 1 ≤ length bytes.now }
-        requires page { addr % PAGE_SIZE + length bytes.now ≤ PAGE_SIZE }
-        ensures touched { Pages result result ≡ touched_of addr (length bytes.now) }
-        ensures written { self.new ≡ written self.old addr bytes.now }
+        requires page { index % PAGE_SIZE + length bytes.now ≤ PAGE_SIZE }
+        ensures touched { Pages result result ≡ touched_of index (length bytes.now) }
+        ensures written { self.new ≡ written self.old index bytes.now }
     {
         self.recall();
-        let start = addr as usize;
+        let start = index as usize;
         self.bytes.put(start, bytes);
         let page = start / PAGE_SIZE;
         raise_page(self.versions.as_mut_slice(), page);
         page as u64
     }
 
-    fn store(&mut self, addr: u64, bytes: &[u8]) -> Touched
-        requires { addr + length bytes.now ≤ length self.old.bytes }
-        ensures touched { result ≡ touched_of addr (length bytes.now) }
-        ensures written { self.new ≡ written self.old addr bytes.now }
+    fn store(&mut self, index: u64, bytes: &[u8]) -> Touched
+        requires { index + length bytes.now ≤ length self.old.bytes }
+        ensures touched { result ≡ touched_of index (length bytes.now) }
+        ensures written { self.new ≡ written self.old index bytes.now }
     {
         self.recall();
         if bytes.is_empty() {
             return Touched::NoPage;
         }
-        let start = addr as usize;
+        let start = index as usize;
         let end = start + bytes.len();
         self.bytes.put(start, bytes);
         let (first, last) = (start / PAGE_SIZE, (end - 1) / PAGE_SIZE);

@@ -60,7 +60,7 @@ like_at (s ∷ x) (t ∷ y) (suc n) marks first second =
 
 -- The addresses of writes.
 abbrev addresses : List Write → List ℕ
-addresses ws = map (λ w. w.address) ws
+addresses ws = map (λ w. w.index) ws
 
 like_places : (base : ℕ) (at bs cs : List ℕ) → length bs ≡ length cs → addresses (place_writes base at bs) ≡ addresses (place_writes base at cs)
 like_places base [] bs cs e = refl

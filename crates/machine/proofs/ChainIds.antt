@@ -1,8 +1,7 @@
 -- The id of a chain fits 16 bits.
 use Rattle.std.proofs.Common.{◌≡◌, ℕ, ◌+◌, ◌*◌, ◌%◌, ◌^◌, ◌<◌, ◌≤◌, Bool, true, false, List, [], ◌∷◌, ◌++◌, refl, arith}
 use Rattle.std.specs.Bool.{MatchBool}
-use Rattle.guestmem.proofs.ByteLaws.{IsBytes-drop}
-use Rattle.guestmem.specs.Number.{number_at, IsBytes}
+use Rattle.guestmem.specs.Number.{IsBytes}
 use Rattle.chains.proofs.ChainLaws.{split_bounded}
 use Rattle.chains.specs.Descriptor.{descriptor_at, descriptor_in}
 use Rattle.chains.specs.PackedChain.{AreConsecutive, IsPackedChain}
@@ -14,10 +13,8 @@ use Rattle.chains.specs.declared.descriptor.Descriptor.{Descriptor}
 
 -- The id in a descriptor is a number of two bytes.
 id_small : (ram : List ℕ) (table index : ℕ) → IsBytes ram → (descriptor_at true ram table index).id < 2 ^ 16
-unfolding descriptor_at descriptor_in number_at
-id_small ram table index are =
-    let byte = IsBytes-drop (table + 16 * index + 12) ram are in
-    omega (arith, byte 0, byte 1)
+unfolding descriptor_at descriptor_in
+id_small ram table index are = omega arith
 
 last_small : (ram : List ℕ) (table size slot : ℕ) (front : List Descriptor) (last : Descriptor) → IsBytes ram → AreConsecutive ram table size slot (front ++ last ∷ []) → last.id < 2 ^ 16
 last_small ram table size slot [] last are h = rw h.0 (id_small ram table slot are)

@@ -50,8 +50,8 @@ around n at other = elim (cases_lt at (4096 * n)) as (λ _. (at < 4096 * n) ⊎ 
 page_stays : (ram : List ℕ) (ws : List Write) (n : ℕ) → (Among (touched ws) (page n) → ⊥) → page_of (set_all ram ws) n ≡ page_of ram n
 page_stays ram [] n far = refl
 page_stays ram (w ∷ ws) n far =
-    let other : n ≢ w.address / 4096 = λ e. far (inl (ap page e)) in
-    page_stays (set ram w.address w.byte) ws n (λ h. far (inr h)) ∙ part_stays (4096 * n) 4096 ram w.address w.byte (around n w.address other)
+    let other : n ≢ w.index / 4096 = λ e. far (inl (ap page e)) in
+    page_stays (set ram w.index w.byte) ws n (λ h. far (inr h)) ∙ part_stays (4096 * n) 4096 ram w.index w.byte (around n w.index other)
 
 slice_get-set_other : {A : Type 0} (xs : List A) (i j : ℕ) (x : A) → j ≢ i → slice_get (set xs i x) j ≡ slice_get xs j
 slice_get-set_other [] i j x other = refl
@@ -92,9 +92,9 @@ pub untouched : UntouchedStays
 untouched m e (page n) far = page_stays m.ram e.writes n (λ h. far (among_left (touched e.writes) (map (λ (s : SectorSet). sector s.device s.number) e.sectors) (page n) h))
 untouched m e (sector dev n) far = sector_stays m.disks e.sectors dev n (λ h. far (among_right (touched e.writes) (map (λ (s : SectorSet). sector s.device s.number) e.sectors) (sector dev n) h))
 
-page_exists : (m : MachineState) (ws : List Write) (i : Item) → All (λ (w : Write). w.address < length m.ram) ws → Among (touched ws) i → HasItem m i
+page_exists : (m : MachineState) (ws : List Write) (i : Item) → All (λ (w : Write). w.index < length m.ram) ws → Among (touched ws) i → HasItem m i
 page_exists m [] i all h = absurd h
-page_exists m (w ∷ ws) i all (inl e) = subst (HasItem m) (sym e) (let low : w.address < length m.ram = all 0 w (omega arith) in omega (arith, low))
+page_exists m (w ∷ ws) i all (inl e) = subst (HasItem m) (sym e) (let low : w.index < length m.ram = all 0 w (omega arith) in omega (arith, low))
 page_exists m (w ∷ ws) i all (inr h) = page_exists m ws i (λ k d below. all (suc k) d (omega (arith, below))) h
 
 sector_exists : (m : MachineState) (ss : List SectorSet) (i : Item) → All (λ (s : SectorSet). HasItem m (sector s.device s.number)) ss → Among (map (λ (s : SectorSet). sector s.device s.number) ss) i → HasItem m i

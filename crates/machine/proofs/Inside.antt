@@ -43,13 +43,13 @@ use Rattle.machine.proofs.Rings.{IsLookedRing}
 -- Each write is one of a byte inside a RAM of so many bytes.
 abbrev pub AreInsideRam : ℕ → List Write → Type 0
 AreInsideRam len [] = Unit {0}
-AreInsideRam len (w ∷ ws) = (w.address < len) × (w.byte < 256) × AreInsideRam len ws
+AreInsideRam len (w ∷ ws) = (w.index < len) × (w.byte < 256) × AreInsideRam len ws
 
 pub inside_append : (len : ℕ) (ws vs : List Write) → AreInsideRam len ws → AreInsideRam len vs → AreInsideRam len (ws ++ vs)
 inside_append len [] vs h k = k
 inside_append len (w ∷ ws) vs h k = (h.0, h.1, inside_append len ws vs h.2 k)
 
-pub all_inside : (len : ℕ) (ws : List Write) → AreInsideRam len ws → All (λ (w : Write). w.address < len) ws
+pub all_inside : (len : ℕ) (ws : List Write) → AreInsideRam len ws → All (λ (w : Write). w.index < len) ws
 all_inside len [] h k d below = absurd (omega (arith, below))
 all_inside len (w ∷ ws) h zero d below = h.0
 all_inside len (w ∷ ws) h (suc k) d below = all_inside len ws h.2 k d (omega (arith, below))
@@ -57,7 +57,7 @@ all_inside len (w ∷ ws) h (suc k) d below = all_inside len ws h.2 k d (omega (
 -- RAM holds bytes after such writes.
 pub bytes_after : (ram : List ℕ) (ws : List Write) → IsBytes ram → AreInsideRam (length ram) ws → IsBytes (set_all ram ws)
 bytes_after ram [] are h = are
-bytes_after ram (w ∷ ws) are h = bytes_after (set ram w.address w.byte) ws (IsBytes-set ram w.address w.byte are h.1) (rw (length-set ram w.address w.byte) h.2)
+bytes_after ram (w ∷ ws) are h = bytes_after (set ram w.index w.byte) ws (IsBytes-set ram w.index w.byte are h.1) (rw (length-set ram w.index w.byte) h.2)
 
 -- Bytes from an address on.
 pub run_inside : (len at : ℕ) (bytes : List ℕ) → at + length bytes ≤ len → IsBytes bytes → AreInsideRam len (byte_writes at bytes)

@@ -9,11 +9,12 @@ use borrow.Author.Tests.{ltb-true, ltb-false}
 use Rattle.std.proofs.lemmas.Nat.Bits.{and_pow}
 use Rattle.mmio.specs.Bits.{has}
 use Rattle.guestmem.specs.Address.{index_of}
+use Rattle.mmio.specs.Areas.{driver_alignment, driver_bytes, device_bytes}
 use Rattle.mmio.specs.QueueReady.{IsInside, MayBeReady}
 use Rattle.mmio.specs.declared.common.Common.{Common}
 use Rattle.mmio.specs.declared.queue.Queue.{Queue}
 use Rattle.mmio.proofs.StayingSound.{queue_sound}
-use Rattle.chains.specs.State.{RingState, state_of, has_bit, AreAbove, MayRing, HasAreas, IsArea}
+use Rattle.chains.specs.State.{RingState, state_of, AreAbove, MayRing, HasAreas, IsArea}
 use Rattle.chains.specs.Publish.{after_take, after_publish, gone_on, after_chain}
 use Rattle.chains.specs.declared.position.Position.{Position}
 use Rattle.chains.specs.declared.position.Positions.{Positions}
@@ -21,18 +22,6 @@ use Rattle.machine.specs.Looked.{IsLookedAt}
 use Rattle.machine.specs.QueuePositions.{HavePositions, HasPositions, ArePlaced, is_packed_by, first_positions}
 use Rattle.machine.specs.Sound.{IsSoundDevice}
 use Rattle.machine.specs.State.{DeviceState}
-
--- A feature bit is there or not.
-bit_or_none : (f : ℕ) (bit : ℕ) → bit_and f (2 ^ 34) ≡ bit * 2 ^ 34 → bit ≤ 1 → has_bit f (2 ^ 34) ≡ has f (2 ^ 34)
-bit_or_none f zero is low = let e : bit_and f (2 ^ 34) ≡ 0 = omega (arith, is) in rw e refl
-bit_or_none f (suc zero) is low = let e : bit_and f (2 ^ 34) ≡ 2 ^ 34 = omega (arith, is) in rw e refl
-bit_or_none f (suc (suc n)) is low = absurd (omega (arith, low))
-
-bit_low : (n k : ℕ) → bit_at n k ≤ 1
-bit_low n k = omega arith
-
-pub packed_same : (f : ℕ) → has_bit f (2 ^ 34) ≡ has f (2 ^ 34)
-packed_same f = bit_or_none f (bit_at f 34) (and_pow f 34) (bit_low f 34)
 
 -- How far a ring has come, where each place fits.
 pub record IsPlacedRing (s : RingState) : Type 0 where
@@ -87,29 +76,26 @@ area_16 base len from bytes whole h = record { aligned = omega (arith, whole, h.
 area_4 : (base len from bytes : ℕ) → base % 4096 ≡ 0 → IsInside base len from 4 bytes → IsArea len (index_of base from) 4 bytes
 area_4 base len from bytes whole h = record { aligned = omega (arith, whole, h.aligned, h.within.above); inside = omega (arith, h.within.above, h.within.below) }
 
-area_2 : (base len from bytes : ℕ) → base % 4096 ≡ 0 → IsInside base len from 2 bytes → IsArea len (index_of base from) 2 bytes
-area_2 base len from bytes whole h = record { aligned = omega (arith, whole, h.aligned, h.within.above); inside = omega (arith, h.within.above, h.within.below) }
+driver_area : (packed : Bool) (base len from bytes : ℕ) → base % 4096 ≡ 0 → IsInside base len from (driver_alignment packed) bytes → IsArea len (index_of base from) (driver_alignment packed) bytes
+driver_area true base len from bytes whole h = area_4 base len from bytes whole h
+driver_area false base len from bytes whole h = record { aligned = omega (arith, whole, h.aligned, h.within.above); inside = omega (arith, h.within.above, h.within.below) }
 
-ring_by : (base len : ℕ) (c : Common) (q : Queue) (p : Positions) (packed : Bool) → has c.features (2 ^ 34) ≡ packed → has_bit c.features (2 ^ 34) ≡ packed → base % 4096 ≡ 0 → MayBeReady base len c q → q.is_ready ≡ true → HasPositions packed q p → IsLookedRing len (state_of q c.features base p)
-ring_by base len c q p true is bit whole may ready at =
-    let areas = may.packed (eqb-true _ _ is) in
-    let driver = area_4 base len q.driver 4 whole areas.driver in
-    let device = area_4 base len q.device 4 whole areas.device in
-    let placed : ArePlaced true q.size p = of_true q.is_ready (ArePlaced true q.size p) (p ≡ first_positions) at.where_ready ready in
+slots_by : (packed : Bool) (size : ℕ) (p : Positions) → ArePlaced packed size p → MatchBool packed ((p.taking.place < size) × (p.used.place < size)) (Unit {0})
+slots_by true size p placed = placed
+slots_by false size p placed = tt
+
+ring_by : (base len : ℕ) (c : Common) (q : Queue) (p : Positions) → base % 4096 ≡ 0 → MayBeReady base len c q → q.is_ready ≡ true → HasPositions (has c.features (2 ^ 34)) q p → IsLookedRing len (state_of q c.features base p)
+ring_by base len c q p whole may ready at =
+    let packed = has c.features (2 ^ 34) in
+    let placed : ArePlaced packed q.size p = of_true q.is_ready (ArePlaced packed q.size p) (p ≡ first_positions) at.where_ready ready in
     record {
-      may = record { some = may.some; few = may.few; slots = rw bit placed };
-      areas = record { descriptors = area_16 base len q.descriptors (16 * q.size) whole areas.descriptors; driver = rw bit driver; device = rw bit device };
-      placed = record { taking_fits = at.taking_fits; used_fits = at.used_fits; placed = rw bit placed };
-    }
-ring_by base len c q p false is bit whole may ready at =
-    let areas = may.split (eqb-false _ _ is) in
-    let driver = area_2 base len q.driver (6 + 2 * q.size) whole areas.driver in
-    let device = area_4 base len q.device (6 + 8 * q.size) whole areas.device in
-    let placed : ArePlaced false q.size p = of_true q.is_ready (ArePlaced false q.size p) (p ≡ first_positions) at.where_ready ready in
-    record {
-      may = record { some = may.some; few = may.few; slots = rw bit tt };
-      areas = record { descriptors = area_16 base len q.descriptors (16 * q.size) whole areas.descriptors; driver = rw bit driver; device = rw bit device };
-      placed = record { taking_fits = at.taking_fits; used_fits = at.used_fits; placed = rw bit placed };
+      may = record { some = may.some; few = may.few; slots = slots_by packed q.size p placed };
+      areas = record {
+        descriptors = area_16 base len q.descriptors (16 * q.size) whole may.areas.descriptors;
+        driver = driver_area packed base len q.driver (driver_bytes packed q.size) whole may.areas.driver;
+        device = area_4 base len q.device (device_bytes packed q.size) whole may.areas.device;
+      };
+      placed = record { taking_fits = at.taking_fits; used_fits = at.used_fits; placed = placed };
     }
 
 -- The ring of a ready queue of a sound device.
@@ -118,24 +104,19 @@ pub ready_ring : {base : ℕ} (len : ℕ) (d : DeviceState) (pick : ℕ) (queue 
 ready_ring len d pick queue p sound there placed ready =
     let whole : d.registers.ram_base % 4096 ≡ 0 = rw sound.ram_base sound.based.whole in
     let may : MayBeReady d.registers.ram_base len d.registers.common queue = rw sound.ram_len at ((queue_sound d.registers pick queue there sound.registers).ready ready) in
-    ring_by d.registers.ram_base len d.registers.common queue p (has d.registers.common.features (2 ^ 34)) refl (packed_same d.registers.common.features) whole may ready
+    ring_by d.registers.ram_base len d.registers.common queue p whole may ready
     (have_at (is_packed_by d.registers.common) d.registers.queues d.positions pick queue p sound.positions there placed)
 
 -- Its areas are not below the base.
-above_by : (base len : ℕ) (c : Common) (q : Queue) (packed : Bool) → has c.features (2 ^ 34) ≡ packed → MayBeReady base len c q → AreAbove base q
-above_by base len c q true is may =
-    let areas = may.packed (eqb-true _ _ is) in
-    record { descriptors = areas.descriptors.within.above; driver = areas.driver.within.above; device = areas.device.within.above }
-above_by base len c q false is may =
-    let areas = may.split (eqb-false _ _ is) in
-    record { descriptors = areas.descriptors.within.above; driver = areas.driver.within.above; device = areas.device.within.above }
+above_by : (base len : ℕ) (c : Common) (q : Queue) → MayBeReady base len c q → AreAbove base q
+above_by base len c q may = record { descriptors = may.areas.descriptors.within.above; driver = may.areas.driver.within.above; device = may.areas.device.within.above }
 
 pub above_ready : {base : ℕ} (len : ℕ) (d : DeviceState) (number : ℕ) (at queue : Queue) → IsSoundDevice base len d → slice_get d.registers.queues number ≡ Some at → at.is_ready ≡ true → slice_get d.registers.queues number ≡ Some queue
     → AreAbove d.registers.ram_base queue
 above_ready len d number at queue sound there ready is =
     let may : MayBeReady d.registers.ram_base len d.registers.common at = rw sound.ram_len at ((queue_sound d.registers number at there sound.registers).ready ready) in
     let same : at ≡ queue = cc in
-    subst (λ (q : Queue). AreAbove d.registers.ram_base q) same (above_by d.registers.ram_base len d.registers.common at (has d.registers.common.features (2 ^ 34)) refl may)
+    subst (λ (q : Queue). AreAbove d.registers.ram_base q) same (above_by d.registers.ram_base len d.registers.common at may)
 
 pub looked_ring : {base : ℕ} (len : ℕ) (d : DeviceState) (pick : ℕ) (q : RingState) → IsSoundDevice base len d → IsLookedAt d pick q → IsLookedRing len q
 looked_ring len d pick q sound h = rw h.is (ready_ring len d pick h.queue h.positions sound h.there h.placed h.ready)

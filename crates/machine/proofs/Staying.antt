@@ -52,7 +52,7 @@ use Rattle.machine.proofs.Advancing.{IsAdvancedAt, advanced_is}
 use Rattle.machine.proofs.MadeAs.{kept_as, input_as, served_as, requests_as}
 use Rattle.machine.proofs.Looking.{looked_is}
 use Rattle.machine.proofs.Outstanding.{GoesOn, goes_on_by}
-use Rattle.machine.proofs.Rings.{have_set, have_cleared, looked_ring, packed_same, ready_ring}
+use Rattle.machine.proofs.Rings.{have_set, have_cleared, looked_ring, ready_ring}
 use Rattle.machine.proofs.Serving.{IsSameRing, SoundBeside, served_on}
 use Rattle.blk.proofs.Zeros.{zero_bytes}
 
@@ -260,7 +260,7 @@ beside_by : (len : ℕ) (r : Registers) (kind : Kind) (pick : ℕ) (queue : Queu
 beside_by len r (Network mac frames) pick queue p count there sound = sound
 beside_by len r (Block sectors read_only id requests) zero queue p count there sound =
     let are : AreRequestsOf r.ram_base len (is_packed_by r.common) queue (with_features sectors read_only id r.common.features) requests = rw there at sound in
-    record { few = are.few; sound = rw (packed_same r.common.features) are.sound }
+    record { few = are.few; sound = are.sound }
 beside_by len r (Block sectors read_only id requests) (suc pick) queue p count there sound =
     let below : suc pick < length r.queues = slice_get_within r.queues (suc pick) queue there in
     absurd (omega (arith, below, count))
@@ -309,7 +309,7 @@ sound_used : {base : ℕ} (len : ℕ) (d : DeviceState) (pick : ℕ) (queue : Qu
 sound_used len d pick queue q s r kind h sound =
     let packed = is_packed_by d.registers.common in
     let new : Positions = record { taking = s.taking; used = s.used } in
-    let layout : s.is_packed ≡ packed = h.ring.layout ∙ ap (λ (q : RingState). q.is_packed) h.was ∙ packed_same d.registers.common.features in
+    let layout : s.is_packed ≡ packed = h.ring.layout ∙ ap (λ (q : RingState). q.is_packed) h.was in
     let size : s.size ≡ queue.size = h.ring.size ∙ ap (λ (q : RingState). q.size) h.was in
     let based : s.base ≡ r.ram_base = h.ring.base ∙ ap (λ (q : RingState). q.base) h.was ∙ sym h.registers.same.ram_base in
     let placed : ArePlaced packed queue.size new = rw (layout, size) at h.ring.placed.placed in

@@ -138,15 +138,15 @@ not_refused base len at count is =
     let below = leb-true (at + count) (base + len) (second_of_and _ _ within) in
     omega (arith, above, below)
 
-below_run : (len at : ℕ) (bytes : List ℕ) → at + length bytes ≤ len → All (λ (w : Write). w.address < len) (byte_writes at bytes)
+below_run : (len at : ℕ) (bytes : List ℕ) → at + length bytes ≤ len → All (λ (w : Write). w.index < len) (byte_writes at bytes)
 below_run len at [] inside k d below = absurd (omega (arith, below))
 below_run len at (b ∷ bytes) inside zero d below = omega (arith, inside)
 below_run len at (b ∷ bytes) inside (suc k) d below = below_run len (at + 1) bytes (omega (arith, inside)) k d (omega (arith, below))
 
-none_below : (len : ℕ) → All (λ (w : Write). w.address < len) []
+none_below : (len : ℕ) → All (λ (w : Write). w.index < len) []
 none_below len k d below = absurd (omega (arith, below))
 
-below_stored : (base len addr : ℕ) (bytes : List ℕ) (error : Option RamError) → access_refusal base len addr (length bytes) ≡ error → All (λ (w : Write). w.address < len) (write_ram (index_of base addr) bytes error).effect.writes
+below_stored : (base len addr : ℕ) (bytes : List ℕ) (error : Option RamError) → access_refusal base len addr (length bytes) ≡ error → All (λ (w : Write). w.index < len) (write_ram (index_of base addr) bytes error).effect.writes
 below_stored base len addr bytes (Some error) is = none_below len
 below_stored base len addr bytes None is = below_run len (index_of base addr) bytes (not_refused base len addr (length bytes) is)
 
@@ -221,7 +221,7 @@ no_writes_put : (dev : ℕ) (found : Option DeviceState) (bytes : List ℕ) → 
 no_writes_put dev None bytes = refl
 no_writes_put dev (Some d) bytes = no_writes_put_by dev d bytes (input_of d.kind bytes)
 
-below_of : (m : MachineState) (e : Event) (o : Outcome) (seen : Next) → MaySee m e o seen → IsSound m → All (λ (w : Write). w.address < length m.ram) (answer m e o seen).effect.writes
+below_of : (m : MachineState) (e : Event) (o : Outcome) (seen : Next) → MaySee m e o seen → IsSound m → All (λ (w : Write). w.index < length m.ram) (answer m e o seen).effect.writes
 below_of m (RegRead dev off width) o seen may sound = rw (no_writes_looked (slice_get m.devices dev) off width) (none_below (length m.ram))
 below_of m (RegWrite dev off width value) o seen may sound = rw (no_writes_set dev (slice_get m.devices dev) off width value) (none_below (length m.ram))
 below_of m (MemRead addr len) o seen may sound = rw (no_writes_read m.ram (index_of (base_of m.devices) addr) len (access_refusal (base_of m.devices) (length m.ram) addr len) o) (none_below (length m.ram))

@@ -18,7 +18,7 @@ HonestDisksGiveTheirs = (old new : Seen) (e : Event) (reply : Reply) (h : IsAppl
 -- Two effects that differ at most in the bytes that they write to RAM: they write at the same addresses in the same order, set
 -- the same sectors to the same contents, and leave the same device.
 pub record IsAlike (a b : Effect) : Type 0 where
-  pub addresses : map (λ w. w.address) a.writes ≡ map (λ w. w.address) b.writes
+  pub addresses : map (λ w. w.index) a.writes ≡ map (λ w. w.index) b.writes
   pub sectors : a.sectors ≡ b.sectors
   pub replaced : a.replaced ≡ b.replaced
 

@@ -42,7 +42,7 @@ MayReplace devices None = Unit {0}
 MayReplace devices (Some r) = (old : DeviceState) × (slice_get devices r.number ≡ Some old) × (made_as r.device.kind ≡ made_as old.kind)
 
 pub record IsWithin (m : MachineState) (e : Effect) : Type 0 where
-  pub writes : All (λ w. w.address < length m.ram) e.writes
+  pub writes : All (λ w. w.index < length m.ram) e.writes
   pub sectors : All (λ s. HasItem m (sector s.device s.number)) e.sectors
   pub replaced : MayReplace m.devices e.replaced
 

@@ -7,7 +7,8 @@ ghost use Rattle.std.specs.Prelude.{◌≡◌, ◌<◌, true, false};
 ghost use Rattle.chains.specs.RingCore.{core_state};
 ghost use Rattle.guestmem.specs.Memory.{Memory};
 ghost use Rattle.chains.specs.Decoder.{Fits};
-ghost use Rattle.chains.specs.State.{state_of, has_bit, AreAbove, MayRing};
+ghost use Rattle.chains.specs.State.{state_of, AreAbove, MayRing};
+ghost use Rattle.mmio.specs.Bits.{has};
 ghost use Rattle.mmio.specs.declared.constants.TheConstants.{RING_PACKED};
 ghost use Rattle.machine.specs.Rings.{emptied};
 ghost use Rattle.machine.specs.AnyRing.{ring_in, decoder_in, is_packed_in};
@@ -54,16 +55,16 @@ impl AnyRing {
         requires may { MayRing (state_of queue.now features base positions) }
         requires above { AreAbove base queue.now }
         ensures ring { ring_in self.new ≡ state_of queue.now features base positions }
-        ensures kept { is_packed_in self.old ≡ has_bit features RING_PACKED → decoder_in self.new ≡ decoder_in self.old }
+        ensures kept { is_packed_in self.old ≡ has features RING_PACKED → decoder_in self.new ≡ decoder_in self.old }
         ensures fits { (ram : Memory) → Fits (decoder_in self.old) ram → Fits (decoder_in self.new) ram }
     {
-        let is_packed = features & RING_PACKED != 0;
+        let is_packed = features & RING_PACKED == RING_PACKED;
         match self {
             AnyRing::Split(ring) if !is_packed => {
-                ring.renew(RingCore::of_ready(alloc, queue, features, base, positions));
+                ring.renew(RingCore::new(alloc, queue, features, base, positions));
             }
             AnyRing::Packed(ring) if is_packed => {
-                ring.renew(RingCore::of_ready(alloc, queue, features, base, positions));
+                ring.renew(RingCore::new(alloc, queue, features, base, positions));
             }
             _ => self.turn(alloc, queue, features, base, positions),
         }
@@ -73,19 +74,20 @@ impl AnyRing {
     #[cold]
     #[inline(never)]
     fn turn(&mut self, alloc: Global, queue: &Queue, features: u64, base: u64, positions: Positions)
-        requires { MayRing (state_of queue.now features base positions) }
+        requires may { MayRing (state_of queue.now features base positions) }
+        requires above { AreAbove base queue.now }
         ensures ring { ring_in self.new ≡ state_of queue.now features base positions }
         ensures fits { (ram : Memory) → Fits (decoder_in self.new) ram }
     {
         let core = RingCore::new(alloc, queue, features, base, positions);
-        if features & RING_PACKED != 0 {
+        if features & RING_PACKED == RING_PACKED {
             *self = AnyRing::Packed(PackedRing::of(core));
         } else {
             *self = AnyRing::Split(SplitRing::of(core));
         }
     }
 
-    /// Empties the places for descriptors.
+    /// Keeps no descriptor any more.
     pub fn forget(&mut self)
         ensures ring { self.new ≡ emptied self.old }
         ensures fits { (ram : Memory) → Fits (decoder_in self.new) ram }

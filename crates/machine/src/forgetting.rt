@@ -10,7 +10,7 @@ ghost use Rattle.machine.specs.declared.any_ring.AnyRing.{AnyRing};
 use crate::any_ring::AnyRing;
 use mmio::{Effect, QUEUE_COUNT_MAX};
 
-/// Empties the places of the rings of a device by the effect of a register write: all of them at a reset, those of a queue at
+/// Has the rings of a device keep no descriptor any more, by the effect of a register write: all of them at a reset, that of a queue at
 /// its QueueReady 0 and QueueReady 1.
 pub(crate) fn forget(rings: &mut Vec<AnyRing>, device: u8, effect: Effect)
     requires { QUEUE_COUNT_MAX * device + QUEUE_COUNT_MAX ≤ length rings.old.items }
@@ -23,7 +23,7 @@ pub(crate) fn forget(rings: &mut Vec<AnyRing>, device: u8, effect: Effect)
     forget_at(rings, first + 1, empties(effect, 1));
 }
 
-/// Empties the places of all rings: what they keep then fits every RAM.
+/// Has all rings keep no descriptor any more: what they keep then fits every RAM.
 pub(crate) fn forget_all(rings: &mut Vec<AnyRing>)
     ensures fit { (ram : Memory) → FitAll rings.new.items ram }
     ensures each { length rings.new.items ≡ length rings.old.items }
@@ -33,7 +33,7 @@ pub(crate) fn forget_all(rings: &mut Vec<AnyRing>)
     }
 }
 
-/// Empties the places of one ring, if that is to be done.
+/// Has one ring keep no descriptor any more, if that is to be done.
 fn forget_at(rings: &mut Vec<AnyRing>, place: usize, does: bool)
     requires { place < length rings.old.items }
     ensures rings { (any : AnyRing) → rings.new.items ≡ emptied_at does place any rings.old.items }
@@ -45,7 +45,7 @@ fn forget_at(rings: &mut Vec<AnyRing>, place: usize, does: bool)
     }
 }
 
-/// Whether an effect empties the places of a queue.
+/// Whether an effect has the ring of a queue keep no descriptor any more.
 fn empties(effect: Effect, queue: u8) -> bool
     ensures { result ≡ empties effect queue }
 {

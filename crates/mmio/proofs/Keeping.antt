@@ -22,8 +22,8 @@ queue_stays base ram_len c d q still same h = record {
     settled = still was.settled;
     some = was.some;
     few = was.few;
-    split = λ k. was.split (λ p. k (rw same p));
-    packed = λ k. was.packed (rw same at k);
+    power = λ k. was.power (λ p. k (rw same p));
+    areas = rw same was.areas;
   };
 }
 

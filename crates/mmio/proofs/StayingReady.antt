@@ -92,7 +92,7 @@ second_of_and false b h = cc
 has_slots : (base ram_len : ℕ) (c : Common) (q : Queue) → may_be_ready base ram_len c q ≡ true → 0 < q.size
 unfolding may_be_ready
 has_slots base ram_len c q h =
-    let few = first_of_and _ _ h in
+    let few = first_of_and _ _ (first_of_and _ _ h) in
     let some = first_of_and _ _ few in
     let slots : ltb 0 q.size ≡ true = second_of_and _ _ some in
     ltb-true 0 q.size slots

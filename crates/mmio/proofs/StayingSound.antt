@@ -1,6 +1,7 @@
 -- Sound registers stay sound, and those of the same device, whatever fits is written and whatever the device tells.
 use Rattle.std.proofs.Common.{◌≡◌, ℕ, ◌+◌, ◌-◌, ◌*◌, ◌%◌, ◌^◌, ◌<◌, ◌≤◌, length, replicate, Option, Some, None, Bool, true, false, cond, refl, sym, ◌∙◌, arith, eqb, ltb}
-use Rattle.std.specs.Prelude.{not, ◌&&◌, bit_and, bit_or}
+use Rattle.std.specs.Prelude.{not, ◌&&◌, ◌||◌, bit_and, bit_or}
+use Rattle.std.specs.Int.{is_power_of_two}
 use Rattle.std.specs.List.{slice_get}
 use Rattle.std.proofs.lemmas.Bool.{eqb-true, eqb-false, leb-true}
 use borrow.Author.Tests.{ltb-true}
@@ -9,11 +10,12 @@ use Rattle.std.proofs.lemmas.List.{length-replicate}
 use Rattle.std.proofs.lemmas.List.Elements.{All-replicate}
 use Rattle.std.proofs.lemmas.Option.{get_or_from_slice_get, slice_get_within}
 use Rattle.std.proofs.Math.ListN.{length-set}
-use Rattle.mmio.specs.Bits.{Has, with_half}
+use Rattle.mmio.specs.Bits.{has, Has, with_half}
 use Rattle.mmio.specs.State.{Registers, first_queue, first_common, first_registers, reset_registers, with_common, with_queue, queue_at, selected}
 use Rattle.mmio.specs.Effects.{IsSameDevice}
 use Rattle.mmio.specs.Interrupts.{used_raised, reset_asked}
-use Rattle.mmio.specs.QueueReady.{IsInside, IsSplit, IsPacked, MayBeReady, is_inside, is_split, is_packed, may_be_ready}
+use Rattle.mmio.specs.Areas.{driver_alignment, driver_bytes, device_bytes}
+use Rattle.mmio.specs.QueueReady.{IsInside, AreInside, MayBeReady, is_inside, are_inside, may_be_ready}
 use Rattle.mmio.specs.QueueRegisters.{queue_written, size_or_address_written, ready_written, notify_written, notified_cleared}
 use Rattle.mmio.specs.RegisterTable.{register_at}
 use Rattle.mmio.specs.RegisterWrite.{register_write, register_written, written_at, status_written}
@@ -137,43 +139,31 @@ inside_from base ram_len from align bytes h = record {
   };
 }
 
-split_from : (base ram_len : ℕ) (q : Queue) → is_split base ram_len q ≡ true → IsSplit base ram_len q
-split_from base ram_len q h =
-    let three = first_of_and _ _ h in
-    let two = first_of_and _ _ three in
-    record {
-      power = first_of_and _ _ two;
-      descriptors = inside_from base ram_len q.descriptors 16 (16 * q.size) (second_of_and _ _ two);
-      driver = inside_from base ram_len q.driver 2 (6 + 2 * q.size) (second_of_and _ _ three);
-      device = inside_from base ram_len q.device 4 (6 + 8 * q.size) (second_of_and _ _ h);
-    }
-
-packed_from : (base ram_len : ℕ) (q : Queue) → is_packed base ram_len q ≡ true → IsPacked base ram_len q
-packed_from base ram_len q h =
+are_from : (base ram_len : ℕ) (packed : Bool) (q : Queue) → are_inside base ram_len packed q ≡ true → AreInside base ram_len packed q
+are_from base ram_len packed q h =
     let two = first_of_and _ _ h in
     record {
       descriptors = inside_from base ram_len q.descriptors 16 (16 * q.size) (first_of_and _ _ two);
-      driver = inside_from base ram_len q.driver 4 4 (second_of_and _ _ two);
-      device = inside_from base ram_len q.device 4 4 (second_of_and _ _ h);
+      driver = inside_from base ram_len q.driver (driver_alignment packed) (driver_bytes packed q.size) (second_of_and _ _ two);
+      device = inside_from base ram_len q.device 4 (device_bytes packed q.size) (second_of_and _ _ h);
     }
 
-layout_from : (base ram_len : ℕ) (c : Common) (q : Queue) (packed : Bool) → eqb (bit_and c.features (2 ^ 34)) (2 ^ 34) ≡ packed → cond packed (is_packed base ram_len q) (is_split base ram_len q) ≡ true
-    → (¬ (Has c.features (2 ^ 34)) → IsSplit base ram_len q) × (Has c.features (2 ^ 34) → IsPacked base ram_len q)
-layout_from base ram_len c q true is h = ((λ k. absurd (k (eqb-true (bit_and c.features (2 ^ 34)) (2 ^ 34) is))), (λ k. packed_from base ram_len q h))
-layout_from base ram_len c q false is h = ((λ k. split_from base ram_len q h), (λ k. absurd (eqb-false (bit_and c.features (2 ^ 34)) (2 ^ 34) is k)))
+power_from : (packed power : Bool) → (packed || power) ≡ true → (packed ≡ true → ⊥) → power ≡ true
+power_from true power h other = absurd (other refl)
+power_from false power h other = h
 
 may_from : (base ram_len : ℕ) (c : Common) (q : Queue) → may_be_ready base ram_len c q ≡ true → MayBeReady base ram_len c q
 unfolding may_be_ready
 may_from base ram_len c q h =
-    let three = first_of_and _ _ h in
+    let four = first_of_and _ _ h in
+    let three = first_of_and _ _ four in
     let two = first_of_and _ _ three in
-    let layout = layout_from base ram_len c q (eqb (bit_and c.features (2 ^ 34)) (2 ^ 34)) refl (second_of_and _ _ h) in
     record {
       settled = eqb-true (bit_and c.status 8) 8 (first_of_and _ _ two);
       some = ltb-true 0 q.size (second_of_and _ _ two);
       few = leb-true q.size 256 (second_of_and _ _ three);
-      split = layout.0;
-      packed = layout.1;
+      power = λ other. power_from (has c.features (2 ^ 34)) (is_power_of_two q.size) (second_of_and _ _ four) (λ packed. other (eqb-true (bit_and c.features (2 ^ 34)) (2 ^ 34) packed));
+      areas = are_from base ram_len (has c.features (2 ^ 34)) q (second_of_and _ _ h);
     }
 
 -- Size and addresses of a queue that is not ready.
@@ -233,8 +223,8 @@ enabled r v q true is at h =
         settled = may.settled;
         some = may.some;
         few = may.few;
-        split = λ n. let s = may.split n in record { power = s.power; descriptors = s.descriptors; driver = s.driver; device = s.device };
-        packed = λ n. let s = may.packed n in record { descriptors = s.descriptors; driver = s.driver; device = s.device };
+        power = may.power;
+        areas = record { descriptors = may.areas.descriptors; driver = may.areas.driver; device = may.areas.device };
       };
     }) h
 
@@ -262,8 +252,8 @@ flag_sound r n q flag at only h =
         settled = may.settled;
         some = may.some;
         few = may.few;
-        split = λ m. let s = may.split m in record { power = s.power; descriptors = s.descriptors; driver = s.driver; device = s.device };
-        packed = λ m. let s = may.packed m in record { descriptors = s.descriptors; driver = s.driver; device = s.device };
+        power = may.power;
+        areas = record { descriptors = may.areas.descriptors; driver = may.areas.driver; device = may.areas.device };
       };
     }) h
 

@@ -5,6 +5,7 @@ pub mod Configuration
 pub mod Interrupts
 pub mod Status
 pub mod Features
+pub mod Areas
 pub mod QueueReady
 pub mod QueueRegisters
 pub mod RegisterRead

@@ -1,7 +1,8 @@
 -- When a queue may be made ready (VIRTIO 1.2, 4.2.3.2, 2.7, 2.8).
-use Rattle.std.specs.Prelude.{◌≡◌, ℕ, ◌+◌, ◌*◌, ◌%◌, ◌≤◌, ◌<◌, ◌==◌, ◌&&◌, Bool, IsTrue, if◌then◌else◌, nat_le, nat_lt}
+use Rattle.std.specs.Prelude.{◌≡◌, ℕ, ◌*◌, ◌%◌, ◌≤◌, ◌<◌, ◌==◌, ◌&&◌, ◌||◌, Bool, IsTrue, nat_le, nat_lt}
 use Rattle.std.specs.Int.{is_power_of_two}
 use Rattle.guestmem.specs.Address.{IsWithin, is_within}
+use Rattle.mmio.specs.Areas.{driver_alignment, driver_bytes, device_bytes}
 use Rattle.mmio.specs.Bits.{has, Has}
 use Rattle.mmio.specs.declared.common.Common.{Common}
 use Rattle.mmio.specs.declared.queue.Queue.{Queue}
@@ -13,49 +14,36 @@ pub record IsInside (base len from align bytes : ℕ) : Type 0 where
   pub aligned : from % align ≡ 0
   pub within : IsWithin base len from bytes
 
--- The size and the areas of a split queue (VIRTIO 1.2, 2.7).
-pub record IsSplit (base ram_len : ℕ) (q : Queue) : Type 0 where
-  pub power : IsTrue (is_power_of_two q.size)
+-- The three areas of a queue of this layout (VIRTIO 1.2, 2.7 and 2.8.10.1).
+pub record AreInside (base ram_len : ℕ) (is_packed : Bool) (q : Queue) : Type 0 where
   pub descriptors : IsInside base ram_len q.descriptors 16 (16 * q.size)
-  pub driver : IsInside base ram_len q.driver 2 (6 + 2 * q.size)
-  pub device : IsInside base ram_len q.device 4 (6 + 8 * q.size)
+  pub driver : IsInside base ram_len q.driver (driver_alignment is_packed) (driver_bytes is_packed q.size)
+  pub device : IsInside base ram_len q.device 4 (device_bytes is_packed q.size)
 
--- The areas of a packed queue (VIRTIO 1.2, 2.8.10.1). Its size need not be a power of two.
-pub record IsPacked (base ram_len : ℕ) (q : Queue) : Type 0 where
-  pub descriptors : IsInside base ram_len q.descriptors 16 (16 * q.size)
-  pub driver : IsInside base ram_len q.driver 4 4
-  pub device : IsInside base ram_len q.device 4 4
-
--- A queue may be made ready: FEATURES_OK is set, the size is from 1 to 256, and the size and the areas fit the layout that
--- the driver's features select.
+-- A queue may be made ready: FEATURES_OK is set, the size is from 1 to 256, and the areas fit the layout that the driver's features
+-- select. The size of a split queue is a power of two (VIRTIO 1.2, 2.7), that of a packed one need not be.
 pub record MayBeReady (base ram_len : ℕ) (c : Common) (q : Queue) : Type 0 where
   pub settled : Has c.status FEATURES_OK
   pub some : 0 < q.size
   pub few : q.size ≤ QUEUE_SIZE_MAX
-  pub split : ¬ (Has c.features RING_PACKED) → IsSplit base ram_len q
-  pub packed : Has c.features RING_PACKED → IsPacked base ram_len q
+  pub power : ¬ (Has c.features RING_PACKED) → IsTrue (is_power_of_two q.size)
+  pub areas : AreInside base ram_len (has c.features RING_PACKED) q
 
 -- The same conditions as a Boolean test, which the definition of register writes uses. The contract of the function
 -- `may_be_ready` says that test and conditions agree.
 abbrev pub is_inside : ℕ → ℕ → ℕ → ℕ → ℕ → Bool
 is_inside base len from align bytes = from % align == 0 && is_within base len from bytes
 
-abbrev pub is_split : ℕ → ℕ → Queue → Bool
-is_split base ram_len q =
-    is_power_of_two q.size
-    && is_inside base ram_len q.descriptors 16 (16 * q.size)
-    && is_inside base ram_len q.driver 2 (6 + 2 * q.size)
-    && is_inside base ram_len q.device 4 (6 + 8 * q.size)
-
-abbrev pub is_packed : ℕ → ℕ → Queue → Bool
-is_packed base ram_len q =
+abbrev pub are_inside : ℕ → ℕ → Bool → Queue → Bool
+are_inside base ram_len is_packed q =
     is_inside base ram_len q.descriptors 16 (16 * q.size)
-    && is_inside base ram_len q.driver 4 4
-    && is_inside base ram_len q.device 4 4
+    && is_inside base ram_len q.driver (driver_alignment is_packed) (driver_bytes is_packed q.size)
+    && is_inside base ram_len q.device 4 (device_bytes is_packed q.size)
 
 unfoldable pub may_be_ready : ℕ → ℕ → Common → Queue → Bool
 may_be_ready base ram_len c q =
     has c.status FEATURES_OK
     && nat_lt 0 q.size
     && nat_le q.size QUEUE_SIZE_MAX
-    && (if has c.features RING_PACKED then is_packed base ram_len q else is_split base ram_len q)
+    && (has c.features RING_PACKED || is_power_of_two q.size)
+    && are_inside base ram_len (has c.features RING_PACKED) q

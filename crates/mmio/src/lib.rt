@@ -22,8 +22,8 @@
 //! The crate trusts nothing below it but the standard library and that test.
 //!
 //! Its definitions are in `specs/`: `State` (what contracts see), `RegisterTable` (offsets), `RegisterRead` and `RegisterWrite` (the
-//! two tables of accesses), and what they are made of: `Bits`, `Status`, `Features`, `Interrupts`, `QueueReady` (when a queue may be
-//! made ready), `QueueRegisters` and `Configuration`; and what always holds: `Sound` and `Effects`.
+//! two tables of accesses), and what they are made of: `Bits`, `Status`, `Features`, `Interrupts`, `Areas`, `QueueReady` (when a queue may
+//! be made ready), `QueueRegisters` and `Configuration`; and what always holds: `Sound` and `Effects`.
 #![tactic(auto)]
 
 mod bits;

@@ -3,7 +3,7 @@
 //! A queue may share its areas with another queue: nothing forbids it.
 
 ghost use Rattle.std.specs.Prelude.{◌≡◌, ◌≤◌, ◌<◌, ◌↔◌, IsTrue};
-ghost use Rattle.mmio.specs.QueueReady.{IsInside, IsSplit, IsPacked, MayBeReady, is_inside, is_split, is_packed, may_be_ready};
+ghost use Rattle.mmio.specs.QueueReady.{IsInside, AreInside, MayBeReady, is_inside, are_inside, may_be_ready};
 
 use crate::common::Common;
 use crate::constants::{FEATURES_OK, QUEUE_SIZE_MAX, RING_PACKED};
@@ -19,28 +19,19 @@ fn is_inside(base: u64, ram_len: u64, from: u64, align: u64, bytes: u64) -> bool
     from % align == 0 && is_within(base, ram_len, from, bytes)
 }
 
-/// Whether the size and the areas suit the split layout.
-fn is_split(base: u64, ram_len: u64, queue: &Queue) -> bool
+/// Whether the three areas suit this layout.
+fn are_inside(base: u64, ram_len: u64, is_packed: bool, queue: &Queue) -> bool
     requires { queue.now.size ≤ QUEUE_SIZE_MAX }
-    ensures value { result ≡ is_split base ram_len queue.now }
-    ensures facts { IsTrue result ↔ IsSplit base ram_len queue.now }
+    ensures value { result ≡ are_inside base ram_len is_packed queue.now }
+    ensures facts { IsTrue result ↔ AreInside base ram_len is_packed queue.now }
 {
     let size = queue.size as u64;
-    queue.size.is_power_of_two()
-        && is_inside(base, ram_len, queue.descriptors, 16, 16 * size)
-        && is_inside(base, ram_len, queue.driver, 2, 6 + 2 * size)
-        && is_inside(base, ram_len, queue.device, 4, 6 + 8 * size)
-}
-
-/// Whether the areas suit the packed layout.
-fn is_packed(base: u64, ram_len: u64, queue: &Queue) -> bool
-    requires { queue.now.size ≤ QUEUE_SIZE_MAX }
-    ensures value { result ≡ is_packed base ram_len queue.now }
-    ensures facts { IsTrue result ↔ IsPacked base ram_len queue.now }
-{
-    is_inside(base, ram_len, queue.descriptors, 16, 16 * queue.size as u64)
-        && is_inside(base, ram_len, queue.driver, 4, 4)
-        && is_inside(base, ram_len, queue.device, 4, 4)
+    let align = if is_packed { 4 } else { 2 };
+    let driver_bytes = if is_packed { 4 } else { 6 + 2 * size };
+    let device_bytes = if is_packed { 4 } else { 6 + 8 * size };
+    is_inside(base, ram_len, queue.descriptors, 16, 16 * size)
+        && is_inside(base, ram_len, queue.driver, align, driver_bytes)
+        && is_inside(base, ram_len, queue.device, 4, device_bytes)
 }
 
 /// Whether QueueReady takes the value 1 (VIRTIO 1.2, 4.2.3.2): the features are settled, the size is from 1 to QUEUE_SIZE_MAX, and the
@@ -56,8 +47,6 @@ pub(crate) fn may_be_ready(base: u64, ram_len: u64, common: &Common, queue: &Que
     {
         return false;
     }
-    if common.features & RING_PACKED == RING_PACKED {
-        return is_packed(base, ram_len, queue);
-    }
-    is_split(base, ram_len, queue)
+    let is_packed = common.features & RING_PACKED == RING_PACKED;
+    (is_packed || queue.size.is_power_of_two()) && are_inside(base, ram_len, is_packed, queue)
 }

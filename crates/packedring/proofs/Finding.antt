@@ -1,24 +1,29 @@
-use Rattle.std.proofs.Common.{Bool, true, false, ◌≡◌, ℕ, suc, ◌+◌, ◌/◌, ◌%◌, ◌<◌, ◌≤◌, List, [], ◌∷◌, ◌++◌, length, refl, ap, sym, ◌∙◌, inl, inr, arith, length-append}
+use Rattle.std.proofs.Common.{Bool, true, false, ◌≡◌, ℕ, suc, ◌+◌, ◌/◌, ◌%◌, ◌<◌, ◌≤◌, List, [], ◌∷◌, ◌++◌, length, Result, Ok, Err, refl, ap, sym, ◌∙◌, inl, inr, arith, length-append}
 use Rattle.std.proofs.lemmas.List.Elements.{All-push, All-nil}
 use Rattle.std.specs.Bool.{MatchBool}
 use Rattle.guestmem.specs.Address.{index_of}
 use Rattle.chains.proofs.CaseLaws.{where_true}
 use Rattle.chains.specs.declared.descriptor.Descriptor.{Descriptor}
 use Rattle.chains.specs.declared.chain.Chain.{Chain}
-use Rattle.chains.specs.declared.limits.TheConstants.{SHORT_CHAIN_MAX}
-use Rattle.chains.specs.declared.walked.Walked.{Walked}
-use Rattle.chains.specs.declared.walked.Walked.TheVariants.{Listed, Missing, NoMemory}
+use Rattle.chains.specs.declared.no_chain.NoChain.{NoChain}
+use Rattle.chains.specs.declared.no_chain.NoChain.TheVariants.{Malformed, NoMemory}
+use Rattle.chains.specs.declared.ring_core.RingCore.{RingCore}
+use Rattle.chains.specs.RingCore.{core_state}
 use Rattle.chains.specs.State.{RingState}
 use Rattle.chains.specs.Descriptor.{descriptor_at}
 use Rattle.chains.specs.Whole.{IsTable, ArePlain, IsWhole}
 use Rattle.chains.specs.PackedChain.{AreConsecutive, IsPackedTable, IsPackedList, IsPackedChain, entries_from}
 use Rattle.chains.proofs.PackedLaws.{packed_list_same}
 use Rattle.chains.proofs.ChainLaws.{length_entries}
-use Rattle.chains.specs.LongQueue.{IsLongPacked}
-use Rattle.chains.specs.Held.{AreSound, AreHeld, EndGives}
-use Rattle.packedring.specs.Walk.{IsNoChain, ChainGives}
+use Rattle.chains.specs.Gives.{ChainGives}
+use Rattle.chains.specs.Held.{AreSound, AreHeld, AddGives, EndGives}
+use Rattle.packedring.specs.Walk.{EntriesGives}
 use Rattle.chains.proofs.HeldLaws.{held_none}
 use Rattle.packedring.proofs.Leading.{Leads, leads_start, leads_more, consecutive_first, consecutive_begins}
+
+-- A packed ring, by its core.
+abbrev ring : RingCore → RingState
+ring core = core_state true core
 
 -- The descriptor at the taking position.
 abbrev first_of : List ℕ → RingState → Descriptor
@@ -27,6 +32,10 @@ first_of ram q = descriptor_at true ram q.descriptors q.taking.place
 -- A chain with the segments of another one.
 abbrev pub chain_of : ℕ → ℕ → Chain → Chain
 chain_of id slots c = record { id = id; slots = slots; readable = c.readable; writable = c.writable }
+
+-- There is no chain at the taking position.
+abbrev pub IsNoChain : List ℕ → RingState → Type 0
+IsNoChain ram q = (c : Chain) → ¬ (IsPackedChain ram q c)
 
 alone_is : (ram : List ℕ) (table size slot : ℕ) (front : List Descriptor) (last : Descriptor) → front ≡ [] → AreConsecutive ram table size slot (front ++ last ∷ []) → last ≡ descriptor_at true ram table slot
 alone_is ram table size slot [] last e h = consecutive_first ram table size slot last [] h
@@ -69,15 +78,37 @@ walked_none ram q c readable writable = record {
   held = held_none q.base (length ram) c readable writable;
 }
 
--- One more, that has a next one.
-pub walked_more : (ram : List ℕ) (q : RingState) (c new : Chain) (count next : ℕ) (d : Descriptor) (w : IsWalked ram q c count next) → d ≡ descriptor_at true ram q.descriptors next
-    → d.is_indirect ≡ false → d.has_next ≡ true → AreHeld q.base (length ram) (w.walked ++ d ∷ []) new → IsWalked ram q new (count + 1) ((next + 1) % q.size)
-walked_more ram q c new count next d w here plain more held = record {
-  walked = w.walked ++ d ∷ [];
-  count_is = omega (arith, length-append w.walked (d ∷ []), w.count_is);
-  leads = leads_more ram q.descriptors q.size q.taking.place next w.walked d w.leads here more;
-  plain = All-push (λ (x : Descriptor). x.is_indirect ≡ false) w.walked d w.plain plain;
-  held = held;
+-- They are walked up to `d`, which is at the slot `here`, and the chain holds it too.
+pub record IsReached (ram : List ℕ) (q : RingState) (c : Chain) (count here : ℕ) (d : Descriptor) : Type 0 where
+  pub front : List Descriptor
+  pub count_is : length front + 1 ≡ count
+  pub leads : Leads ram q.descriptors q.size q.taking.place front here
+  pub front_plain : ArePlain front
+  pub is : d ≡ descriptor_at true ram q.descriptors here
+  pub plain : d.is_indirect ≡ false
+  pub held : AreHeld q.base (length ram) (front ++ d ∷ []) c
+
+-- One more, that was added.
+pub reached : (ram : List ℕ) (q : RingState) (c new : Chain) (count next len : ℕ) (d : Descriptor) → IsWalked ram q c count next → d ≡ descriptor_at true ram q.descriptors next → d.is_indirect ≡ false
+    → len ≡ length ram → ((ds : List Descriptor) → AreHeld q.base len ds c → AddGives q.base len ds d new (Ok tt)) → IsReached ram q new (count + 1) next d
+reached ram q c new count next len d w is plain len_is gives = record {
+  front = w.walked;
+  count_is = omega (arith, w.count_is);
+  leads = w.leads;
+  front_plain = w.plain;
+  is = is;
+  plain = plain;
+  held = rw len_is at (gives w.walked (rw len_is w.held));
+}
+
+-- One that has a next one leads to it.
+pub passed : (ram : List ℕ) (q : RingState) (c : Chain) (count here : ℕ) (d : Descriptor) → IsReached ram q c count here d → d.has_next ≡ true → IsWalked ram q c count ((here + 1) % q.size)
+passed ram q c count here d r more = record {
+  walked = r.front ++ d ∷ [];
+  count_is = omega (arith, length-append r.front (d ∷ []), r.count_is);
+  leads = leads_more ram q.descriptors q.size q.taking.place here r.front d r.leads r.is more;
+  plain = All-push (λ (x : Descriptor). x.is_indirect ≡ false) r.front d r.front_plain r.plain;
+  held = r.held;
 }
 
 -- Where a later slot names a table, there is no chain.
@@ -92,18 +123,6 @@ walked_named ram q c count next first d is plain w here named e s =
     let here' : true ≡ false = sym named ∙ ap (λ (x : Descriptor). x.is_indirect) here ∙ bad in
     absurd (cc)
 
--- Nor where one breaks a rule.
-pub walked_broken : (ram : List ℕ) (q : RingState) (c : Chain) (count next : ℕ) (first d : Descriptor) → first ≡ first_of ram q → first.is_indirect ≡ false → (w : IsWalked ram q c count next)
-    → d ≡ descriptor_at true ram q.descriptors next → ((rest : List Descriptor) → AreSound q.base (length ram) (w.walked ++ d ∷ rest) → ⊥) → IsNoChain ram q
-walked_broken ram q c count next first d is plain w here broken e s =
-    let p : (first_of ram q).is_indirect ≡ false = rw (← is) plain in
-    let whole = last_plain ram q s.front s.last s.all p s.list in
-    let a = w.leads.only (s.front ++ s.last ∷ []) s.list.consecutive in
-    let b = consecutive_begins ram q.descriptors q.size next d here a.0 a.2 in
-    let parts : s.all ≡ w.walked ++ d ∷ b.0 = whole.1 ∙ a.1 ∙ ap (λ (ys : List Descriptor). w.walked ++ ys) b.1 in
-    let sound : AreSound q.base (length ram) s.all = record { inside = s.whole.inside; in_order = s.whole.in_order } in
-    broken b.0 (rw parts at sound)
-
 -- Nor where there are more of them than slots.
 pub walked_full : (ram : List ℕ) (q : RingState) (c : Chain) (count next : ℕ) (first : Descriptor) → first ≡ first_of ram q → first.is_indirect ≡ false → IsWalked ram q c count next
     → q.size ≤ count → IsNoChain ram q
@@ -114,15 +133,25 @@ walked_full ram q c count next first is plain w full e s =
     let b = consecutive_begins ram q.descriptors q.size next (descriptor_at true ram q.descriptors next) refl a.0 a.2 in
     omega (arith, ap length whole.1, ap length a.1, length-append w.walked a.0, ap length b.1, w.count_is, s.whole.few)
 
--- One for which memory was refused ends a long row.
-pub walked_long : (ram : List ℕ) (q : RingState) (c : Chain) (count next : ℕ) (d : Descriptor) (w : IsWalked ram q c count next) → d ≡ descriptor_at true ram q.descriptors next → count < q.size
-    → SHORT_CHAIN_MAX ≤ length w.walked → IsLongPacked ram q
-walked_long ram q c count next d w here some long =
+-- One that was not added: it breaks a rule, or memory was refused for it.
+pub walked_stopped : (ram : List ℕ) (core : RingCore) (c new : Chain) (count next len : ℕ) (first d : Descriptor) (why : NoChain) → first ≡ first_of ram (ring core) → first.is_indirect ≡ false
+    → IsWalked ram (ring core) c count next → d ≡ descriptor_at true ram core.descriptors next → count < core.size → len ≡ length ram
+    → ((ds : List Descriptor) → AreHeld core.base len ds c → AddGives core.base len ds d new (Err why)) → ChainGives ram (ring core) new (Err why)
+walked_stopped ram core c new count next len first d Malformed is plain w here some len_is gives = λ e s.
+    let p : (first_of ram (ring core)).is_indirect ≡ false = rw (← is) plain in
+    let whole = last_plain ram (ring core) s.front s.last s.all p s.list in
+    let a = w.leads.only (s.front ++ s.last ∷ []) s.list.consecutive in
+    let b = consecutive_begins ram core.descriptors core.size next d here a.0 a.2 in
+    let parts : s.all ≡ w.walked ++ d ∷ b.0 = whole.1 ∙ a.1 ∙ ap (λ (ys : List Descriptor). w.walked ++ ys) b.1 in
+    let sound : AreSound core.base (length ram) s.all = record { inside = s.whole.inside; in_order = s.whole.in_order } in
+    (rw len_is at (gives w.walked (rw len_is w.held))) b.0 (rw parts at sound)
+walked_stopped ram core c new count next len first d NoMemory is plain w here some len_is gives =
+    let long = gives w.walked (rw len_is w.held) in
     let size = length-append w.walked (d ∷ []) in
     record {
       row = w.walked ++ d ∷ [];
       is_row = inl (w.leads.rows (d ∷ []) here);
-      long = omega (arith, size);
+      long = omega (arith, size, long);
       few = omega (arith, size, w.count_is);
     }
 
@@ -130,32 +159,32 @@ listed : (ram : List ℕ) (q : RingState) (front : List Descriptor) (last : Desc
     → IsPackedList ram q front last (front ++ last ∷ [])
 listed ram q front last consecutive plain last_plain = record { consecutive = consecutive; plain = plain; replaced = rw last_plain refl }
 
-whole_of : (base : ℕ) (ram : List ℕ) (size : ℕ) (all : List Descriptor) (c : Chain) → AreHeld base (length ram) all c → length all ≤ size → EndGives c Listed → IsWhole base ram size all
+whole_of : (base : ℕ) (ram : List ℕ) (size : ℕ) (all : List Descriptor) (c : Chain) → AreHeld base (length ram) all c → length all ≤ size → EndGives c (Ok tt) → IsWhole base ram size all
 whole_of base ram size all c h few small = record { few = few; inside = h.sound.inside; in_order = h.sound.in_order; total = omega (arith, h.total) }
 
 -- What the last test gives for these descriptors is what there is.
-made_of : (ram : List ℕ) (q : RingState) (front : List Descriptor) (last : Descriptor) (all : List Descriptor) (id slots : ℕ) (c : Chain) (gives : Walked) → IsPackedList ram q front last all
-    → AreHeld q.base (length ram) all c → length all ≤ q.size → id ≡ last.id → slots ≡ length front + 1 → EndGives (chain_of id slots c) gives → ChainGives ram q (chain_of id slots c) gives
-made_of ram q front last all id slots c Listed list h few id_is slots_is end = record {
+made_of : (ram : List ℕ) (core : RingCore) (front : List Descriptor) (last : Descriptor) (all : List Descriptor) (id slots : ℕ) (c : Chain) (gives : Result (Unit {0}) NoChain)
+    → IsPackedList ram (ring core) front last all → AreHeld core.base (length ram) all c → length all ≤ core.size → id ≡ last.id → slots ≡ length front + 1 → EndGives (chain_of id slots c) gives
+    → ChainGives ram (ring core) (chain_of id slots c) gives
+made_of ram core front last all id slots c (Ok done) list h few id_is slots_is end = record {
   front = front;
   last = last;
   all = all;
   list = list;
-  whole = whole_of q.base ram q.size all c h few end;
+  whole = whole_of core.base ram core.size all c h few end;
   is = rw (id_is, slots_is, h.readable, h.writable) refl;
 }
-made_of ram q front last all id slots c Missing list h few id_is slots_is end = λ e s.
-    let same = packed_list_same ram q s.front front s.last last s.all all s.list list in
+made_of ram core front last all id slots c (Err Malformed) list h few id_is slots_is end = λ e s.
+    let same = packed_list_same ram (ring core) s.front front s.last last s.all all s.list list in
     omega (arith, h.total, (rw same.2 at s.whole).total)
-made_of ram q front last all id slots c NoMemory list h few id_is slots_is end = absurd end
+made_of ram core front last all id slots c (Err NoMemory) list h few id_is slots_is end = absurd end
 
 -- The last one.
-pub walked_last : (ram : List ℕ) (q : RingState) (c new : Chain) (count next : ℕ) (d : Descriptor) (gives : Walked) (w : IsWalked ram q c count next) → d ≡ descriptor_at true ram q.descriptors next
-    → count < q.size → d.is_indirect ≡ false → d.has_next ≡ false → AreHeld q.base (length ram) (w.walked ++ d ∷ []) new → EndGives (chain_of d.id (count + 1) new) gives
-    → ChainGives ram q (chain_of d.id (count + 1) new) gives
-walked_last ram q c new count next d gives w here some plain last held end =
-    let few : length (w.walked ++ d ∷ []) ≤ q.size = omega (arith, length-append w.walked (d ∷ []), w.count_is) in
-    made_of ram q w.walked d (w.walked ++ d ∷ []) d.id (count + 1) new gives (listed ram q w.walked d (w.leads.completes (d ∷ []) (here, last)) w.plain plain) held few refl (omega (arith, w.count_is)) end
+pub reached_last : (ram : List ℕ) (core : RingCore) (c : Chain) (count here : ℕ) (d : Descriptor) (gives : Result (Unit {0}) NoChain) → IsReached ram (ring core) c count here d → count ≤ core.size
+    → d.has_next ≡ false → EndGives (chain_of d.id count c) gives → ChainGives ram (ring core) (chain_of d.id count c) gives
+reached_last ram core c count here d gives r some last end =
+    let few : length (r.front ++ d ∷ []) ≤ core.size = omega (arith, length-append r.front (d ∷ []), r.count_is) in
+    made_of ram core r.front d (r.front ++ d ∷ []) d.id count c gives (listed ram (ring core) r.front d (r.leads.completes (d ∷ []) (r.is, last)) r.front_plain r.plain) r.held few refl (sym r.count_is) end
 
 -- What a chain is where the first slot names a table.
 pub record IsNamed (ram : List ℕ) (q : RingState) (d : Descriptor) (all : List Descriptor) : Type 0 where
@@ -190,34 +219,32 @@ none_few ram q first is named many c s =
     let n = named_chain ram q first is named c s in
     omega (arith, ap length n.entries, length_entries ram (index_of q.base first.addr) 0 (first.len / 16), s.whole.few)
 
--- Nor where they break a rule.
-pub none_sound : (ram : List ℕ) (q : RingState) (first : Descriptor) → first ≡ first_of ram q → first.is_indirect ≡ true → (AreSound q.base (length ram) (entries_from ram (index_of q.base first.addr) 0 (first.len / 16)) → ⊥) → IsNoChain ram q
-none_sound ram q first is named broken c s =
-    let n = named_chain ram q first is named c s in
-    let sound : AreSound q.base (length ram) s.all = record { inside = s.whole.inside; in_order = s.whole.in_order } in
+-- Nor where they break a rule; where memory was refused for them, they are a long row.
+pub named_none : (ram : List ℕ) (core : RingCore) (first : Descriptor) (c : Chain) (why : NoChain) → first ≡ first_of ram (ring core) → first.is_indirect ≡ true → first.has_next ≡ false → (ring core).has_indirect ≡ true
+    → IsTable core.base ram first → first.len / 16 ≤ core.size → EntriesGives core.base ram (index_of core.base first.addr) (first.len / 16) c (Err why) → ChainGives ram (ring core) c (Err why)
+named_none ram core first c Malformed is named alone feature t few broken = λ d s.
+    let n = named_chain ram (ring core) first is named d s in
+    let sound : AreSound core.base (length ram) s.all = record { inside = s.whole.inside; in_order = s.whole.in_order } in
     broken (rw n.entries at sound)
-
--- The entries of the table that the first slot names are the chain.
-pub table_made : (ram : List ℕ) (q : RingState) (first : Descriptor) (c : Chain) (gives : Walked) → first ≡ first_of ram q → first.is_indirect ≡ true → first.has_next ≡ false → q.has_indirect ≡ true → IsTable q.base ram first
-    → first.len / 16 ≤ q.size → AreHeld q.base (length ram) (entries_from ram (index_of q.base first.addr) 0 (first.len / 16)) c → EndGives (chain_of first.id 1 c) gives → ChainGives ram q (chain_of first.id 1 c) gives
-table_made ram q first c gives is named alone feature t few held end =
-    let all = entries_from ram (index_of q.base first.addr) 0 (first.len / 16) in
-    let list : IsPackedList ram q [] first all = record {
-      consecutive = (is, alone);
-      plain = λ k d below. absurd (omega arith);
-      replaced = where_true first.is_indirect ((q.has_indirect ≡ true) × IsPackedTable q.base ram [] first all) (all ≡ first ∷ []) named (feature, record { alone = refl; table = t; entries = refl });
-    } in
-    let size : length all ≤ q.size = omega (arith, length_entries ram (index_of q.base first.addr) 0 (first.len / 16)) in
-    made_of ram q [] first all first.id 1 c gives list held size refl (omega arith) end
-
--- Many entries of the table that the first slot names are a long row.
-pub long_table : (ram : List ℕ) (q : RingState) (d : Descriptor) → d ≡ descriptor_at true ram q.descriptors q.taking.place → q.has_indirect ≡ true → d.is_indirect ≡ true → d.has_next ≡ false
-    → IsTable q.base ram d → SHORT_CHAIN_MAX < d.len / 16 → d.len / 16 ≤ q.size → IsLongPacked ram q
-long_table ram q d is feature named alone t long few =
-    let all : length (entries_from ram (index_of q.base d.addr) 0 (d.len / 16)) ≡ d.len / 16 = length_entries ram (index_of q.base d.addr) 0 (d.len / 16) in
+named_none ram core first c NoMemory is named alone feature t few long =
+    let all : length (entries_from ram (index_of core.base first.addr) 0 (first.len / 16)) ≡ first.len / 16 = length_entries ram (index_of core.base first.addr) 0 (first.len / 16) in
     record {
-      row = entries_from ram (index_of q.base d.addr) 0 (d.len / 16);
+      row = entries_from ram (index_of core.base first.addr) 0 (first.len / 16);
       is_row = inr (rw (← is) (record { feature = feature; named = named; alone = alone; table = t; entries = refl }));
-      long = omega arith;
+      long = omega (arith, long);
       few = omega arith;
     }
+
+-- The entries of the table that the first slot names are the chain.
+pub table_made : (ram : List ℕ) (core : RingCore) (first : Descriptor) (c : Chain) (gives : Result (Unit {0}) NoChain) → first ≡ first_of ram (ring core) → first.is_indirect ≡ true → first.has_next ≡ false
+    → (ring core).has_indirect ≡ true → IsTable core.base ram first → first.len / 16 ≤ core.size → EntriesGives core.base ram (index_of core.base first.addr) (first.len / 16) c (Ok tt) → EndGives (chain_of first.id 1 c) gives
+    → ChainGives ram (ring core) (chain_of first.id 1 c) gives
+table_made ram core first c gives is named alone feature t few held end =
+    let all = entries_from ram (index_of core.base first.addr) 0 (first.len / 16) in
+    let list : IsPackedList ram (ring core) [] first all = record {
+      consecutive = (is, alone);
+      plain = λ k d below. absurd (omega arith);
+      replaced = where_true first.is_indirect (((ring core).has_indirect ≡ true) × IsPackedTable core.base ram [] first all) (all ≡ first ∷ []) named (feature, record { alone = refl; table = t; entries = refl });
+    } in
+    let size : length all ≤ core.size = omega (arith, length_entries ram (index_of core.base first.addr) 0 (first.len / 16)) in
+    made_of ram core [] first all first.id 1 c gives list held size refl (omega arith) end

@@ -1,9 +1,15 @@
-use Rattle.std.proofs.Common.{Bool, true, false, ◌≡◌, ℕ, zero, suc, ◌+◌, ◌-◌, ◌<◌, List, [], ◌∷◌, ◌++◌, refl, ap, sym, arith, add-zero, zero-add, ◌∙◌}
+use Rattle.std.proofs.Common.{Bool, true, false, ◌≡◌, ℕ, zero, suc, ◌+◌, ◌-◌, ◌<◌, List, [], ◌∷◌, ◌++◌, length, Err, refl, ap, sym, arith, add-zero, zero-add, ◌∙◌}
 use Rattle.std.specs.Prelude.{◌==◌, ◌&&◌, ◌||◌, not, if◌then◌else◌}
 use Rattle.chains.specs.declared.descriptor.Descriptor.{Descriptor}
+use Rattle.chains.specs.declared.chain.Chain.{Chain}
+use Rattle.chains.specs.declared.no_chain.NoChain.{NoChain}
+use Rattle.chains.specs.declared.no_chain.NoChain.TheVariants.{Malformed, NoMemory}
 use Rattle.chains.specs.declared.position.Position.{Position}
 use Rattle.chains.specs.Descriptor.{descriptor_at}
+use Rattle.chains.specs.Held.{AreHeld, AddGives}
 use Rattle.chains.specs.PackedChain.{entries_from}
+use Rattle.chains.proofs.ChainLaws.{length_entries}
+use Rattle.packedring.specs.Walk.{EntriesGives}
 use Rattle.chains.specs.Publish.{gone_on, positions_from, is_among}
 
 -- One more entry of a table stands at the end.
@@ -29,12 +35,22 @@ entries_add ram table index (suc front) back =
     rw (e, entries_add ram table (index + 1) front back, f) refl
 
 -- The entries of a table begin with the first so many and the one behind them.
-pub entries_begin : (ram : List ℕ) (table index count : ℕ) → index < count
+entries_begin : (ram : List ℕ) (table index count : ℕ) → index < count
     → entries_from ram table 0 count ≡ entries_from ram table 0 index ++ descriptor_at true ram table index ∷ entries_from ram table (index + 1) (count - index - 1)
 entries_begin ram table index count below =
     let e : count ≡ index + (count - index) = omega arith in
     let f : 0 + index ≡ index = omega arith in
     ap (entries_from ram table 0) e ∙ entries_add ram table 0 index (count - index) ∙ rw (f, entries_next ram table index (count - index) (omega arith)) refl
+
+-- Where the next entry was not added, the entries break a rule, or memory was refused for them.
+pub entries_stopped : (base : ℕ) (ram : List ℕ) (table index count len : ℕ) (d : Descriptor) (c new : Chain) (why : NoChain) → index < count → len ≡ length ram → d ≡ descriptor_at true ram table index
+    → AreHeld base (length ram) (entries_from ram table 0 index) c → ((ds : List Descriptor) → AreHeld base len ds c → AddGives base len ds d new (Err why)) → EntriesGives base ram table count new (Err why)
+entries_stopped base ram table index count len d c new Malformed below len_is is held gives = λ sound.
+    let bad = gives (entries_from ram table 0 index) (rw len_is held) in
+    (rw (len_is, is) at bad) _ (rw (entries_begin ram table index count below) at sound)
+entries_stopped base ram table index count len d c new NoMemory below len_is is held gives =
+    let long = gives (entries_from ram table 0 index) (rw len_is held) in
+    omega (arith, long, length_entries ram table 0 index)
 
 -- A position is among those of some slots where it is the first of them, or among the others.
 pub among_step : (offset : ℕ) (wrap : Bool) (size : ℕ) (p : Position) (count : ℕ) → 0 < count

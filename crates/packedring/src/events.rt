@@ -2,7 +2,7 @@
 //! notified: an offset and a wrap counter in two bytes, and the flags in two more.
 
 ghost use Rattle.std.specs.Prelude.{◌≡◌, ◌+◌, ◌%◌, ◌<◌, ◌≤◌, ◌==◌, ◌&&◌, ◌++◌, not, if◌then◌else◌};
-ghost use Rattle.chains.specs.State.{has_bit};
+ghost use Rattle.mmio.specs.Bits.{has};
 ghost use Rattle.chains.specs.Publish.{positions_from, is_among, bit_if};
 ghost use Rattle.byteorder.specs.Endian.{little_bytes};
 
@@ -33,10 +33,10 @@ const WRAP: u16 = 1 << 15;
 pub(crate) fn is_covered(event: u16, from: Position, slots: u16, size: u16) -> bool
     requires place { from.place < size }
     requires few { size ≤ QUEUE_SIZE_MAX }
-    ensures { result ≡ is_among (event % 32768) (has_bit event 32768) (positions_from size from slots) }
+    ensures { result ≡ is_among (event % 32768) (has event 32768) (positions_from size from slots) }
 {
     let offset = event % WRAP;
-    let wrap = event & WRAP != 0;
+    let wrap = event & WRAP == WRAP;
     let mut position = from;
     for _step in 0..slots {
         if is_at(position, offset, wrap) {

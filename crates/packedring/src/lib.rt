@@ -12,7 +12,7 @@
 //! in one that begins at any address. Buffers and tables are
 //! named by their guest-physical addresses, and one that begins below the base is malformed, as is one that passes the end of RAM.
 //!
-//! Looking for a chain decodes at most one descriptor more than there are slots, whatever RAM holds: a walk stops after one round, and
+//! Looking for a chain decodes at most one descriptor more than there are slots, whatever RAM holds: a walk reads no slot twice, and
 //! a table with more entries than slots is refused before it is read. That is the clause `few` of the trait.
 //!
 //! Each buffer goes into the caller's chain as its descriptor is read, by `chains::add`, with its tests. `specs/Walk` has the

@@ -18,7 +18,7 @@ use crate::table::find;
 use byteorder::{ByteOrder, LittleEndian};
 use chains::flags::{AVAIL, USED, WRITE};
 use chains::{
-    Chain, DESCRIPTOR_SIZE, Decoder, Descriptor, Next, NextKind, Positions, Ring, RingCore, Walked,
+    Chain, DESCRIPTOR_SIZE, Decoder, Descriptor, Next, NextKind, Positions, Ring, RingCore,
 };
 use guestmem::{NoMemory, Ram, TouchLog};
 use mmio::Queue;
@@ -61,7 +61,8 @@ impl PackedRing {
         PackedRing::new_at(alloc, queue, features, 0, positions)
     }
 
-    /// As `new`, in a RAM that begins at the guest-physical address `base`.
+    /// As `new`, in a RAM that begins at the guest-physical address `base`. An area of a queue that is not ready may lie anywhere:
+    /// one below the base is taken to begin there.
     pub fn new_at(
         alloc: Global,
         queue: &Queue,
@@ -75,7 +76,13 @@ impl PackedRing {
         ensures decoder { result.decoder ≡ empty_decoder 0 }
         ensures fits { (ram : Memory) → Fits result.decoder ram }
     {
-        PackedRing::of(RingCore::new(alloc, queue, features, base, positions))
+        let queue = Queue {
+            descriptors: queue.descriptors.max(base),
+            driver: queue.driver.max(base),
+            device: queue.device.max(base),
+            ..*queue
+        };
+        PackedRing::of(RingCore::new(alloc, &queue, features, base, positions))
     }
 
     /// The ring of this core, which has decoded nothing.
@@ -100,7 +107,7 @@ impl PackedRing {
         self.core = core;
     }
 
-    /// Empties the places for descriptors.
+    /// Keeps no descriptor any more.
     pub fn forget(&mut self)
         ensures ring { self.new ≡ record { state = self.old.state; decoder = empty_decoder self.old.decoder.decoded } }
         ensures fits { (ram : Memory) → Fits self.new.decoder ram }
@@ -152,11 +159,7 @@ impl Ring for PackedRing {
         if !is_available(&first, taking.wrap) {
             return NextKind::Empty;
         }
-        match find(&self.core, &mut self.decoder, ram, first, chain) {
-            Walked::Listed => NextKind::Chain,
-            Walked::Missing => NextKind::Malformed,
-            Walked::NoMemory => NextKind::NoMemory,
-        }
+        NextKind::of(find(&self.core, &mut self.decoder, ram, first, chain))
     }
 
     fn take(&mut self, chain: &Chain) {

@@ -1,14 +1,17 @@
 //! Tables, each of which replaces the descriptor that names it.
 
 ghost use Rattle.std.specs.Prelude.{◌≡◌, ◌+◌, ◌*◌, ◌<◌, ◌≤◌, [], true, length};
-ghost use Rattle.chains.specs.Decoder.{Fits};
+ghost use Rattle.chains.specs.Decoder.{Fits, HasDecoded};
 ghost use Rattle.chains.specs.State.{HasAreas};
 ghost use Rattle.chains.specs.RingCore.{core_state};
 ghost use Rattle.chains.specs.Descriptor.{descriptor_at};
-ghost use Rattle.packedring.specs.Walk.{ChainGives, EntriesGives};
+ghost use Rattle.chains.specs.Gives.{ChainGives};
+ghost use Rattle.packedring.specs.Walk.{EntriesGives};
 
 use crate::walk::walk;
-use chains::{Chain, DESCRIPTOR_SIZE, Decoder, Descriptor, RingCore, Walked, add, ended, is_table};
+use chains::{
+    Chain, DESCRIPTOR_SIZE, Decoder, Descriptor, NoChain, RingCore, add, ended, is_table,
+};
 use guestmem::Ram;
 
 /// Fills in the chain at the taking position, if there is one. The first descriptor there is `first`; where it names a table, the
@@ -20,15 +23,13 @@ pub(crate) fn find(
     ram: &Ram,
     first: Descriptor,
     chain: &mut Chain,
-) -> Walked
+) -> Result<(), NoChain>
     requires areas { HasAreas (length ram.now.bytes) (core_state true core.now) }
     requires slot { core.now.taking.place < core.now.size }
     requires first { first ≡ descriptor_at true ram.now.bytes core.now.descriptors core.now.taking.place }
     requires fits { Fits decoder.old ram.now }
     ensures gives { ChainGives ram.now.bytes (core_state true core.now) chain.new result }
-    ensures fits { Fits decoder.new ram.now }
-    ensures few { decoder.new.decoded ≤ decoder.old.decoded + core.now.size }
-    ensures rises { decoder.old.decoded ≤ decoder.new.decoded }
+    ensures decoded { HasDecoded decoder.old decoder.new ram.now core.now.size }
 {
     chain.readable.clear();
     chain.writable.clear();
@@ -38,20 +39,16 @@ pub(crate) fn find(
     // INDIRECT with NEXT, or without the feature, or a table that `is_table` refuses.
     let has_indirect = core.has_indirect();
     if first.has_next || !has_indirect || !is_table(&first, core.base, ram) {
-        return Walked::Missing;
+        return Err(NoChain::Malformed);
     }
     let count = first.len / DESCRIPTOR_SIZE as u32;
     // More descriptors than slots.
     if count > core.size as u32 {
-        return Walked::Missing;
+        return Err(NoChain::Malformed);
     }
     // The index in RAM of the table, whose address is as the guest wrote it.
     let table = first.addr - core.base;
-    match add_entries(decoder, core.base, ram, table, count as u16, chain) {
-        Walked::Listed => {}
-        Walked::Missing => return Walked::Missing,
-        Walked::NoMemory => return Walked::NoMemory,
-    }
+    add_entries(decoder, core.base, ram, table, count as u16, chain)?;
     chain.id = first.id;
     chain.slots = 1;
     ended(chain)
@@ -66,25 +63,19 @@ fn add_entries(
     table: u64,
     count: u16,
     chain: &mut Chain,
-) -> Walked
+) -> Result<(), NoChain>
     requires inside { table + DESCRIPTOR_SIZE * count ≤ length ram.now.bytes }
     requires fits { Fits decoder.old ram.now }
     requires none_readable { chain.old.readable ≡ [] }
     requires none_writable { chain.old.writable ≡ [] }
     ensures gives { EntriesGives base ram.now.bytes table count chain.new result }
-    ensures fits { Fits decoder.new ram.now }
-    ensures few { decoder.new.decoded ≤ decoder.old.decoded + count }
-    ensures rises { decoder.old.decoded ≤ decoder.new.decoded }
-    ensures apart { decoder.new.places ≡ decoder.old.places }
+    ensures decoded { HasDecoded decoder.old decoder.new ram.now count }
+    ensures apart { decoder.new.kept ≡ decoder.old.kept }
 {
     let len = ram.len();
     for index in 0..count {
         let descriptor = decoder.read(ram, true, table, index, false);
-        match add(&descriptor, base, len, chain) {
-            Walked::Listed => {}
-            Walked::Missing => return Walked::Missing,
-            Walked::NoMemory => return Walked::NoMemory,
-        }
+        add(&descriptor, base, len, chain)?;
     }
-    Walked::Listed
+    Ok(())
 }

@@ -1,15 +1,17 @@
-use Rattle.std.proofs.Common.{true, false, ◌≡◌, ℕ, ◌+◌, ◌<◌, ◌≤◌, List, [], ◌∷◌, ◌++◌, length, refl, ap, sym, ◌∙◌, arith, append_assoc, append-nil, length-append}
+use Rattle.std.proofs.Common.{true, false, ◌≡◌, ℕ, ◌+◌, ◌-◌, ◌<◌, ◌≤◌, List, [], ◌∷◌, ◌++◌, length, Err, refl, ap, sym, ◌∙◌, arith, append_assoc, append-nil, length-append}
 use Rattle.std.proofs.lemmas.List.Elements.{All-push, All-nil}
 use Rattle.chains.specs.declared.descriptor.Descriptor.{Descriptor}
 use Rattle.chains.specs.declared.chain.Chain.{Chain}
-use Rattle.chains.specs.declared.limits.TheConstants.{SHORT_CHAIN_MAX}
+use Rattle.chains.specs.declared.no_chain.NoChain.{NoChain}
+use Rattle.chains.specs.declared.no_chain.NoChain.TheVariants.{Malformed, NoMemory}
 use Rattle.chains.specs.Descriptor.{descriptor_at}
 use Rattle.chains.specs.Whole.{ArePlain}
 use Rattle.chains.specs.SplitChain.{AreLinked}
 use Rattle.chains.proofs.SplitLaws.{linked_some}
 use Rattle.chains.specs.LongQueue.{AreInRow}
-use Rattle.chains.specs.Held.{AreSound, AreHeld}
-use Rattle.splitring.specs.Walk.{IsNoneSound, AreGathered, AreBeforeTable, IsLongBehind}
+use Rattle.chains.specs.Held.{AreHeld, AddGives}
+use Rattle.splitring.specs.declared.walk.Table.{Table}
+use Rattle.splitring.specs.Walk.{IsNoneSound, AreGathered, AreBeforeTable, WalkGives}
 use Rattle.splitring.proofs.Spelled.{spelled_at, spelled_next, spelled_longer}
 
 -- The list from an index on begins with these, and goes on from another index: what completes the rest completes the
@@ -123,29 +125,26 @@ walked_indirect base ram table entries first room before c count next d w is nam
     let plain : d.is_indirect ≡ false = spelled_next direct all w.walked d b.0 s parts one in
     absurd (cc)
 
--- One that breaks a rule.
-pub walked_broken : (base : ℕ) (ram : List ℕ) (table entries first room : ℕ) (before : List Descriptor) (c : Chain) (count next : ℕ) (d : Descriptor) (w : IsWalked base ram table entries first before c count next)
-    → d ≡ descriptor_at false ram table next → d.is_indirect ≡ false → ((rest : List Descriptor) → AreSound base (length ram) ((before ++ w.walked) ++ d ∷ rest) → ⊥)
-    → IsNoneSound base ram table entries first room before
-walked_broken base ram table entries first room before c count next d w is plain broken direct all h s few sound =
+-- One that was not added: it breaks a rule, or memory was refused for it.
+pub walked_stopped : (base : ℕ) (ram : List ℕ) (table : Table) (first size : ℕ) (before : List Descriptor) (c new : Chain) (count next : ℕ) (d last : Descriptor) (why : NoChain) (len : ℕ)
+    → IsWalked base ram table.at table.entries first before c count next → next < table.entries → d ≡ descriptor_at false ram table.at next → count < size - length before → d.is_indirect ≡ false → len ≡ length ram
+    → ((ds : List Descriptor) → AreHeld base len ds c → AddGives base len ds d new (Err why)) → WalkGives base ram table first size before new last (Err why)
+walked_stopped base ram table first size before c new count next d last Malformed len w below is some plain len_is gives = λ direct all h s few sound.
     let a = w.leads.only direct h in
-    let b = linked_first ram table entries next d is a.0 a.2 in
+    let b = linked_first ram table.at table.entries next d is a.0 a.2 in
     let parts : direct ≡ w.walked ++ d ∷ b.0 = a.1 ∙ ap (λ (ys : List Descriptor). w.walked ++ ys) b.1 in
     let more = spelled_at direct all w.walked d b.0 s parts plain in
     let whole : before ++ all ≡ (before ++ w.walked) ++ d ∷ more.0 = ap (λ (ys : List Descriptor). before ++ ys) more.1 ∙ sym (append_assoc before w.walked (d ∷ more.0)) in
-    broken more.0 (rw whole at sound)
-
--- One for which memory was refused.
-pub walked_long : (base : ℕ) (ram : List ℕ) (table entries first room : ℕ) (before : List Descriptor) (c : Chain) (count next : ℕ) (d : Descriptor) (w : IsWalked base ram table entries first before c count next)
-    → next < entries → d ≡ descriptor_at false ram table next → count < room → SHORT_CHAIN_MAX ≤ length (before ++ w.walked) → IsLongBehind ram table entries first room before
-walked_long base ram table entries first room before c count next d w below is some long =
-    let size = length-append w.walked (d ∷ []) in
+    (rw len_is at (gives (before ++ w.walked) (rw len_is w.held))) more.0 (rw whole at sound)
+walked_stopped base ram table first size before c new count next d last NoMemory len w below is some plain len_is gives =
+    let long = gives (before ++ w.walked) (rw len_is w.held) in
+    let ends = length-append w.walked (d ∷ []) in
     let both = length-append before w.walked in
     record {
       row = w.walked ++ d ∷ [];
       in_row = w.leads.rows (d ∷ []) (below, is);
-      few = omega (arith, size, w.count_is);
-      long = omega (arith, size, both);
+      few = omega (arith, ends, w.count_is);
+      long = omega (arith, ends, both, long);
     }
 
 -- The last one.

@@ -1,18 +1,16 @@
-use Rattle.std.specs.Prelude.{◌≡◌, ℕ, ◌+◌, ◌-◌, ◌/◌, ◌<◌, ◌≤◌, [], ◌∷◌, List, length, ◌++◌, Bool, true, false}
+use Rattle.std.specs.Prelude.{◌≡◌, ℕ, ◌+◌, ◌-◌, ◌/◌, ◌<◌, ◌≤◌, [], ◌∷◌, List, length, ◌++◌, Bool, true, false, Result, Ok, Err}
 use Rattle.guestmem.specs.Address.{index_of}
 use Rattle.chains.specs.declared.descriptor.Descriptor.{Descriptor}
 use Rattle.chains.specs.declared.descriptor.TheConstants.{DESCRIPTOR_SIZE}
 use Rattle.chains.specs.declared.limits.TheConstants.{SHORT_CHAIN_MAX}
-use Rattle.chains.specs.State.{RingState}
 use Rattle.chains.specs.Whole.{IsTable, ArePlain, IsWhole, readable_of, writable_of}
 use Rattle.chains.specs.declared.chain.Chain.{Chain}
-use Rattle.chains.specs.SplitChain.{AreLinked, IsFromTable, IsReplaced, IsSplitChain, head}
-use Rattle.chains.specs.LongQueue.{AreInRow, IsLongSplit}
-use Rattle.chains.specs.declared.walked.Walked.{Walked}
-use Rattle.chains.specs.declared.walked.Walked.TheVariants.{Listed, Missing, NoMemory}
-use Rattle.splitring.specs.declared.stop.Stop.{Stop}
-use Rattle.splitring.specs.declared.stop.Stop.TheVariants as stop
+use Rattle.chains.specs.SplitChain.{AreLinked, IsFromTable}
+use Rattle.chains.specs.LongQueue.{AreInRow}
+use Rattle.chains.specs.declared.no_chain.NoChain.{NoChain}
+use Rattle.chains.specs.declared.no_chain.NoChain.TheVariants.{Malformed, NoMemory}
 use Rattle.chains.specs.Held.{AreSound, AreHeld}
+use Rattle.splitring.specs.declared.walk.Table.{Table}
 
 -- `all` may be `direct` with its last descriptor replaced by others, if that one is indirect. None but the last is.
 pub record IsSpelled (direct all : List Descriptor) : Type 0 where
@@ -60,19 +58,13 @@ pub record IsLongBehind (ram : List ℕ) (table entries index room : ℕ) (befor
   pub few : length row ≤ room
   pub long : SHORT_CHAIN_MAX < length before + length row
 
--- What a walk gives behind `before`, by the chain that it has added to, and the last descriptor that it hands out.
-abbrev pub WalkGives : ℕ → List ℕ → ℕ → ℕ → ℕ → ℕ → List Descriptor → Chain → Descriptor → Stop → Type 0
-WalkGives base ram table entries index room before c last stop.Ended = AreGathered base ram table entries index room before c
-WalkGives base ram table entries index room before c last stop.Table = AreBeforeTable base ram table entries index room before last c
-WalkGives base ram table entries index room before c last stop.Missing = IsNoneSound base ram table entries index room before
-WalkGives base ram table entries index room before c last stop.NoMemory = IsLongBehind ram table entries index room before
-
--- `P`, if a walk stopped at a descriptor that names a table.
-abbrev pub WhereTable : Stop → Type 0 → Type 0
-WhereTable stop.Ended P = Unit {0}
-WhereTable stop.Table P = P
-WhereTable stop.Missing P = Unit {0}
-WhereTable stop.NoMemory P = Unit {0}
+-- What a walk from this entry of a table gives behind `before`, in a ring of `size` slots, by the chain that it has added to, and the
+-- last descriptor that it hands out.
+abbrev pub WalkGives : ℕ → List ℕ → Table → ℕ → ℕ → List Descriptor → Chain → Descriptor → Result Bool NoChain → Type 0
+WalkGives base ram table index size before c last (Ok false) = AreGathered base ram table.at table.entries index (size - length before) before c
+WalkGives base ram table index size before c last (Ok true) = AreBeforeTable base ram table.at table.entries index (size - length before) before last c
+WalkGives base ram table index size before c last (Err Malformed) = IsNoneSound base ram table.at table.entries index (size - length before) before
+WalkGives base ram table index size before c last (Err NoMemory) = IsLongBehind ram table.at table.entries index (size - length before) before
 
 -- These descriptors keep the rules of both layouts, and the segments of the chain are theirs.
 pub record IsMadeOf (base : ℕ) (ram : List ℕ) (size : ℕ) (all : List Descriptor) (c : Chain) : Type 0 where
@@ -95,28 +87,7 @@ pub record IsLongTable (base : ℕ) (ram : List ℕ) (has_indirect : Bool) (size
   pub behind : IsLongBehind ram (index_of base last.addr) (last.len / DESCRIPTOR_SIZE) 0 (size - length front) front
 
 -- What it gives to go on in the table that `last` names, behind `front`.
-abbrev pub FollowGives : ℕ → List ℕ → Bool → ℕ → List Descriptor → Descriptor → Chain → Walked → Type 0
-FollowGives base ram has_indirect size front last c Listed = IsFollowed base ram has_indirect size front last c
-FollowGives base ram has_indirect size front last c Missing = (all : List Descriptor) → has_indirect ≡ true → IsFromTable base ram front last all → IsWhole base ram size all → ⊥
-FollowGives base ram has_indirect size front last c NoMemory = IsLongTable base ram has_indirect size front last
-
--- The chain is made of the list that begins at the head of a queue, with an indirect descriptor replaced by its table.
-pub record IsFound (ram : List ℕ) (q : RingState) (c : Chain) : Type 0 where
-  pub direct : List Descriptor
-  pub all : List Descriptor
-  pub linked : AreLinked ram q.descriptors q.size (head ram q) direct
-  pub replaced : IsReplaced q.base ram q.has_indirect direct all
-  pub made : IsMadeOf q.base ram q.size all c
-
--- What a search for the descriptors at the head of a queue gives, by the chain whose segments it has filled in.
-abbrev pub FindGives : List ℕ → RingState → Chain → Walked → Type 0
-FindGives ram q c Listed = IsFound ram q c
-FindGives ram q c Missing =
-    (direct all : List Descriptor) → AreLinked ram q.descriptors q.size (head ram q) direct → IsReplaced q.base ram q.has_indirect direct all → IsWhole q.base ram q.size all → ⊥
-FindGives ram q c NoMemory = IsLongSplit ram q
-
--- What a search for the chain of a queue that is not empty gives, by the chain that it has filled in.
-abbrev pub ChainGives : List ℕ → RingState → Chain → Walked → Type 0
-ChainGives ram q c Listed = IsSplitChain ram q c
-ChainGives ram q c Missing = (d : Chain) → ¬ (IsSplitChain ram q d)
-ChainGives ram q c NoMemory = IsLongSplit ram q
+abbrev pub FollowGives : ℕ → List ℕ → Bool → ℕ → List Descriptor → Descriptor → Chain → Result (Unit {0}) NoChain → Type 0
+FollowGives base ram has_indirect size front last c (Ok done) = IsFollowed base ram has_indirect size front last c
+FollowGives base ram has_indirect size front last c (Err Malformed) = (all : List Descriptor) → has_indirect ≡ true → IsFromTable base ram front last all → IsWhole base ram size all → ⊥
+FollowGives base ram has_indirect size front last c (Err NoMemory) = IsLongTable base ram has_indirect size front last

@@ -20,7 +20,6 @@
 
 mod ring;
 mod slot;
-mod stop;
 mod table;
 mod walk;
 

@@ -2,7 +2,7 @@
 
 ghost use Rattle.std.specs.Prelude.{◌≡◌, ◌+◌, ◌++◌, ◌≤◌, false, length};
 ghost use Rattle.guestmem.specs.Memory.{Memory};
-ghost use Rattle.chains.specs.Decoder.{Fits, empty_decoder};
+ghost use Rattle.chains.specs.Decoder.{Fits, HasDecoded, empty_decoder};
 ghost use Rattle.chains.specs.RingCore.{core_state};
 ghost use Rattle.chains.specs.State.{state_of, MayRing, HasAreas};
 ghost use Rattle.chains.specs.SplitChain.{available_index};
@@ -12,7 +12,7 @@ ghost use Rattle.byteorder.specs.Endian.{little_bytes};
 use crate::slot::slot_of;
 use crate::table::find;
 use byteorder::{ByteOrder, LittleEndian};
-use chains::{Chain, Decoder, Next, NextKind, Positions, Ring, RingCore, Walked};
+use chains::{Chain, Decoder, Next, NextKind, NoChain, Positions, Ring, RingCore};
 use guestmem::{NoMemory, Ram, TouchLog};
 use mmio::Queue;
 use std::alloc::Global;
@@ -51,7 +51,7 @@ impl Model for SplitRing {
 }
 
 impl SplitRing {
-    ghost use Rattle.splitring.specs.Walk.{ChainGives};
+    ghost use Rattle.chains.specs.Gives.{ChainGives};
 
     /// The ring of a queue at these positions, under the features that the driver accepted, in a RAM that begins at the
     /// guest-physical address 0. It takes no memory: the allocator is for the chains that it finds. It has decoded nothing, so
@@ -66,7 +66,8 @@ impl SplitRing {
         SplitRing::new_at(alloc, queue, features, 0, positions)
     }
 
-    /// As `new`, in a RAM that begins at the guest-physical address `base`.
+    /// As `new`, in a RAM that begins at the guest-physical address `base`. An area of a queue that is not ready may lie anywhere:
+    /// one below the base is taken to begin there.
     pub fn new_at(
         alloc: Global,
         queue: &Queue,
@@ -80,7 +81,13 @@ impl SplitRing {
         ensures decoder { result.decoder ≡ empty_decoder 0 }
         ensures fits { (ram : Memory) → Fits result.decoder ram }
     {
-        SplitRing::of(RingCore::new(alloc, queue, features, base, positions))
+        let queue = Queue {
+            descriptors: queue.descriptors.max(base),
+            driver: queue.driver.max(base),
+            device: queue.device.max(base),
+            ..*queue
+        };
+        SplitRing::of(RingCore::new(alloc, &queue, features, base, positions))
     }
 
     /// The ring of this core, which has decoded nothing.
@@ -103,7 +110,7 @@ impl SplitRing {
         self.core = core;
     }
 
-    /// Empties the places for descriptors.
+    /// Keeps no descriptor any more.
     pub fn forget(&mut self)
         ensures ring { self.new ≡ record { state = self.old.state; decoder = empty_decoder self.old.decoder.decoded } }
         ensures fits { (ram : Memory) → Fits self.new.decoder ram }
@@ -114,32 +121,26 @@ impl SplitRing {
     /// Fills in the chain at the taking position, if there is one. `available` is the driver's index, which is not that
     /// position.
     #[inline(always)]
-    fn fill_chain(&mut self, ram: &Ram, available: u16, chain: &mut Chain) -> Walked
+    fn fill_chain(&mut self, ram: &Ram, available: u16, chain: &mut Chain) -> Result<(), NoChain>
         requires areas { HasAreas (length ram.now.bytes) self.old.state }
         requires available { available ≡ available_index ram.now.bytes self.old.state }
         requires fits { Fits self.old.decoder ram.now }
         ensures gives { ChainGives ram.now.bytes self.old.state chain.new result }
         ensures state { self.new.state ≡ self.old.state }
-        ensures fits { Fits self.new.decoder ram.now }
-        ensures few { self.new.decoder.decoded ≤ self.old.decoder.decoded + (self.old.state.size + 1) }
-        ensures rises { self.old.decoder.decoded ≤ self.new.decoder.decoded }
+        ensures decoded { HasDecoded self.old.decoder self.new.decoder ram.now (self.old.state.size + 1) }
     {
         ram.recall();
         let core = &self.core;
         // More chains than there are slots.
         if available.wrapping_sub(core.taking.place) > core.size {
-            return Walked::Missing;
+            return Err(NoChain::Malformed);
         }
         let slot = slot_of(core.taking.place, core.size);
         let head = ram.u16_at(core.driver + RING + HEAD_SIZE * slot as u64);
-        match find(core, &mut self.decoder, ram, head, chain) {
-            Walked::Listed => {}
-            Walked::Missing => return Walked::Missing,
-            Walked::NoMemory => return Walked::NoMemory,
-        }
+        find(core, &mut self.decoder, ram, head, chain)?;
         chain.id = head;
         chain.slots = 1;
-        Walked::Listed
+        Ok(())
     }
 
     /// Whether the driver asks for an interrupt at the used index, by what it holds in RAM now.
@@ -154,7 +155,7 @@ impl SplitRing {
             let event = ram.u16_at(core.driver + RING + HEAD_SIZE * core.size as u64);
             return event == core.used.place;
         }
-        ram.u16_at(core.driver) & NO_INTERRUPT == 0
+        ram.u16_at(core.driver) & NO_INTERRUPT != NO_INTERRUPT
     }
 }
 
@@ -180,11 +181,7 @@ impl Ring for SplitRing {
         if available == self.core.taking.place {
             return NextKind::Empty;
         }
-        match self.fill_chain(ram, available, chain) {
-            Walked::Listed => NextKind::Chain,
-            Walked::Missing => NextKind::Malformed,
-            Walked::NoMemory => NextKind::NoMemory,
-        }
+        NextKind::of(self.fill_chain(ram, available, chain))
     }
 
     fn take(&mut self, _chain: &Chain) {

@@ -1,18 +1,19 @@
 //! Tables, each of which replaces the descriptor that names it.
 
-ghost use Rattle.std.specs.Prelude.{◌≡◌, ◌+◌, ◌<◌, ◌≤◌, List, length, false};
+ghost use Rattle.std.specs.Prelude.{◌≡◌, ◌+◌, ◌-◌, ◌<◌, ◌≤◌, List, length, false};
 ghost use Rattle.chains.specs.declared.descriptor.Descriptor.{Descriptor};
-ghost use Rattle.chains.specs.Decoder.{Fits};
-ghost use Rattle.chains.specs.State.{HasAreas, has_bit};
+ghost use Rattle.chains.specs.Decoder.{Fits, HasDecoded};
+ghost use Rattle.chains.specs.State.{HasAreas};
 ghost use Rattle.chains.specs.RingCore.{core_state};
+ghost use Rattle.mmio.specs.Bits.{has};
 ghost use Rattle.mmio.specs.declared.constants.TheConstants.{INDIRECT_DESC};
-ghost use Rattle.chains.specs.SplitChain.{head};
+ghost use Rattle.chains.specs.Gives.{ChainGives};
+ghost use Rattle.chains.specs.SplitChain.{waiting, head};
 ghost use Rattle.chains.specs.Held.{AreHeld, segment_count};
-ghost use Rattle.splitring.specs.Walk.{FollowGives, FindGives};
+ghost use Rattle.splitring.specs.Walk.{FollowGives};
 
-use crate::stop::Stop;
-use crate::walk::walk;
-use chains::{Chain, DESCRIPTOR_SIZE, Decoder, Descriptor, RingCore, Walked, ended, is_table};
+use crate::walk::{Table, walk};
+use chains::{Chain, DESCRIPTOR_SIZE, Decoder, Descriptor, NoChain, RingCore, ended, is_table};
 use guestmem::Ram;
 
 /// What is where a walk puts the last descriptor, until it does.
@@ -38,63 +39,58 @@ pub(crate) fn find(
     ram: &Ram,
     first: u16,
     chain: &mut Chain,
-) -> Walked
+) -> Result<(), NoChain>
     requires areas { HasAreas (length ram.now.bytes) (core_state false core.now) }
+    requires available { waiting ram.now.bytes (core_state false core.now) ≤ core.now.size }
     requires head { first ≡ head ram.now.bytes (core_state false core.now) }
     requires fits { Fits decoder.old ram.now }
-    ensures gives { FindGives ram.now.bytes (core_state false core.now) chain.new result }
-    ensures fits { Fits decoder.new ram.now }
-    ensures few { decoder.new.decoded ≤ decoder.old.decoded + (core.now.size + 1) }
-    ensures rises { decoder.old.decoded ≤ decoder.new.decoded }
+    ensures gives { ChainGives ram.now.bytes (core_state false core.now) (record chain.new { id = first; slots = 1 }) result }
+    ensures decoded { HasDecoded decoder.old decoder.new ram.now (core.now.size + 1) }
 {
     chain.readable.clear();
     chain.writable.clear();
+    let table = Table {
+        at: core.descriptors,
+        entries: core.size as u32,
+        is_own: true,
+    };
     let mut last = NO_DESCRIPTOR;
-    let size = core.size;
-    let (table, entries) = (core.descriptors, size as u32);
-    match walk(
-        core.base, ram, decoder, table, entries, first, size, true, chain, &mut last,
-    ) {
-        Stop::Ended => ended(chain),
-        Stop::Table => follow(core, decoder, ram, &last, chain),
-        Stop::Missing => Walked::Missing,
-        Stop::NoMemory => Walked::NoMemory,
+    let is_named = walk(core, ram, decoder, table, first, chain, &mut last)?;
+    if is_named {
+        return follow(core, decoder, ram, &mut last, chain);
     }
+    ended(chain)
 }
 
-/// Continues in the table that the last descriptor of the list names, after those before it. A driver makes such a table anew for
-/// each chain, so none of its descriptors is kept.
+/// Continues in the table that `last`, the last descriptor of the list, names, after those before it. A driver makes such a table
+/// anew for each chain, so none of its descriptors is kept.
 fn follow(
     core: &RingCore,
     decoder: &mut Decoder,
     ram: &Ram,
-    last: &Descriptor,
+    last: &mut Descriptor,
     chain: &mut Chain,
-) -> Walked
+) -> Result<(), NoChain>
     requires room { segment_count chain.old < core.now.size }
     requires fits { Fits decoder.old ram.now }
-    ensures gives { (front : List Descriptor) → AreHeld core.now.base (length ram.now.bytes) front chain.old → FollowGives core.now.base ram.now.bytes (has_bit core.now.features INDIRECT_DESC) core.now.size front last.now chain.new result }
-    ensures fits { Fits decoder.new ram.now }
-    ensures few { decoder.new.decoded + segment_count chain.old ≤ decoder.old.decoded + core.now.size }
-    ensures rises { decoder.old.decoded ≤ decoder.new.decoded }
-    ensures apart { decoder.new.places ≡ decoder.old.places }
+    ensures gives { (front : List Descriptor) → AreHeld core.now.base (length ram.now.bytes) front chain.old → FollowGives core.now.base ram.now.bytes (has core.now.features INDIRECT_DESC) core.now.size front last.old chain.new result }
+    ensures decoded { HasDecoded decoder.old decoder.new ram.now (core.now.size - segment_count chain.old) }
+    ensures apart { decoder.new.kept ≡ decoder.old.kept }
 {
     // INDIRECT without the feature, or a table that `is_table` refuses.
     if !core.has_indirect() || !is_table(last, core.base, ram) {
-        return Walked::Missing;
+        return Err(NoChain::Malformed);
     }
-    let room = core.size - (chain.readable.len() + chain.writable.len()) as u16;
     // The index in RAM of the table, whose address is as the guest wrote it.
-    let table = last.addr - core.base;
-    let entries = last.len / DESCRIPTOR_SIZE as u32;
-    let mut named = NO_DESCRIPTOR;
-    match walk(
-        core.base, ram, decoder, table, entries, 0, room, false, chain, &mut named,
-    ) {
-        Stop::Ended => ended(chain),
-        // INDIRECT inside the table.
-        Stop::Table => Walked::Missing,
-        Stop::Missing => Walked::Missing,
-        Stop::NoMemory => Walked::NoMemory,
+    let table = Table {
+        at: last.addr - core.base,
+        entries: last.len / DESCRIPTOR_SIZE as u32,
+        is_own: false,
+    };
+    let is_nested = walk(core, ram, decoder, table, 0, chain, last)?;
+    // INDIRECT inside the table.
+    if is_nested {
+        return Err(NoChain::Malformed);
     }
+    ended(chain)
 }

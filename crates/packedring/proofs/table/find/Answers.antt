@@ -1,6 +1,7 @@
 use Rattle.std.proofs.Common.{true, rules}
+use Rattle.std.proofs.lemmas.Result.{err_from_is_err_and}
 use Rattle.chains.specs.RingCore.{core_state}
-use Rattle.packedring.proofs.Finding.{named_chain, none_few, none_sound, long_table, table_made}
+use Rattle.packedring.proofs.Finding.{named_chain, none_few, named_none, table_made}
 use Rattle.packedring.proofs.table.find.Goals.{then-first-via-then-first, then-first-via-else-first+then-not-has_indirect, then-first-via-else-first+else-not-has_indirect+then-not-is_table}
 use Rattle.packedring.proofs.table.find.Goals as goal
 
@@ -16,14 +17,13 @@ returns-then-first-clause-gives c = λ chain is.
 pub returns-then-count-core-clause-gives : goal.returns-then-count-core-clause-gives
 returns-then-count-core-clause-gives c = none_few _ (core_state true c.args.core.now) c.args.first c.requires.first (search rules) c.if-count-core.true
 
-pub returns-in-Missing-clause-gives : goal.returns-in-Missing-clause-gives
-returns-in-Missing-clause-gives c = none_sound _ (core_state true c.args.core.now) c.args.first c.requires.first (search rules) c.in-Missing.ensures.gives
-
-pub returns-in-NoMemory-clause-gives : goal.returns-in-NoMemory-clause-gives
-returns-in-NoMemory-clause-gives c =
-    long_table _ (core_state true c.args.core.now) c.args.first c.requires.first (search rules) (search rules) (search rules) (search rules) c.in-NoMemory.ensures.gives c.if-count-core.false
+pub returns-in_err-add_entries-clause-gives : goal.returns-in_err-add_entries-clause-gives
+returns-in_err-add_entries-clause-gives c =
+    let why = err_from_is_err_and c.from_residual.result c.from_residual.ensures.1 in
+    rw (why.1, why.2)
+    (named_none _ c.args.core.now c.args.first c.add_entries.new.chain _ c.requires.first (search rules) (search rules) (search rules) (search rules) c.if-count-core.false c.in_err-add_entries.ensures.gives)
 
 pub returns-clause-gives : goal.returns-clause-gives
 returns-clause-gives c =
-    table_made _ (core_state true c.args.core.now) c.args.first c.add_entries.new.chain c.ended.result c.requires.first (search rules) (search rules) (search rules) (search rules) c.if-count-core.false c.in-Listed.ensures.gives
-    c.ended.ensures
+    table_made _ c.args.core.now c.args.first c.add_entries.new.chain c.ended.result c.requires.first (search rules) (search rules) (search rules) (search rules) c.if-count-core.false
+    c.in_ok-add_entries.ensures.gives c.ended.ensures

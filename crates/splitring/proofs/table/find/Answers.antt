@@ -1,22 +1,22 @@
-use Rattle.std.proofs.Common.{false, []}
+use Rattle.std.proofs.Common.{false, [], refl}
+use Rattle.std.proofs.lemmas.Result.{err_from_is_err_and}
 use Rattle.chains.specs.RingCore.{core_state}
 use Rattle.chains.proofs.HeldLaws.{held_none}
-use Rattle.splitring.proofs.Found.{found_end, found_table, none_found, long_found}
+use Rattle.splitring.proofs.Found.{found_end, found_table, found_none}
 use Rattle.splitring.proofs.table.find.Goals as goal
 
-pub returns-in-Ended-clause-gives : goal.returns-in-Ended-clause-gives
-returns-in-Ended-clause-gives c =
-    found_end _ (core_state false c.args.core.now) c.args.first c.walk.new.chain _ c.requires.head (c.in-Ended.ensures.gives [] (held_none _ _ _ c.clear.ensures c.clear-2.ensures)) c.ended.ensures
+pub returns-in_err-is_named-clause-gives : goal.returns-in_err-is_named-clause-gives
+returns-in_err-is_named-clause-gives c =
+    let why = err_from_is_err_and c.from_residual.result c.from_residual.ensures.1 in
+    let none = c.in_err-is_named.ensures.gives [] (held_none _ _ _ c.clear.ensures c.clear-2.ensures) in
+    rw (why.1, why.2) (found_none _ (core_state false c.args.core.now) c.args.first c.walk.new.chain c.walk.new.chain c.walk.new.last _ refl c.requires.head none)
 
-pub returns-in-Table-clause-gives : goal.returns-in-Table-clause-gives
-returns-in-Table-clause-gives c =
-    let b = c.in-Table.ensures.gives [] (held_none _ _ _ c.clear.ensures c.clear-2.ensures) in
-    found_table _ (core_state false c.args.core.now) c.args.first c.walk.new.last c.walk.new.chain c.follow.new.chain _ c.requires.head b (c.follow.ensures.gives b.front b.held)
+pub returns-then-is_named-clause-gives : goal.returns-then-is_named-clause-gives
+returns-then-is_named-clause-gives c =
+    let b = rw c.if-is_named.true at (c.in_ok-is_named.ensures.gives [] (held_none _ _ _ c.clear.ensures c.clear-2.ensures)) in
+    found_table _ (core_state false c.args.core.now) c.args.first c.walk.new.last c.walk.new.chain c.follow.new.chain _ refl c.requires.available c.requires.head b (c.follow.ensures.gives b.front b.held)
 
-pub returns-in-Missing-clause-gives : goal.returns-in-Missing-clause-gives
-returns-in-Missing-clause-gives c =
-    none_found _ (core_state false c.args.core.now) c.args.first c.walk.new.chain c.requires.head (c.in-Missing.ensures.gives [] (held_none _ _ _ c.clear.ensures c.clear-2.ensures))
-
-pub returns-in-NoMemory-clause-gives : goal.returns-in-NoMemory-clause-gives
-returns-in-NoMemory-clause-gives c =
-    long_found _ (core_state false c.args.core.now) c.args.first c.requires.head (c.in-NoMemory.ensures.gives [] (held_none _ _ _ c.clear.ensures c.clear-2.ensures))
+pub returns-clause-gives : goal.returns-clause-gives
+returns-clause-gives c =
+    let g = rw c.if-is_named.false at (c.in_ok-is_named.ensures.gives [] (held_none _ _ _ c.clear.ensures c.clear-2.ensures)) in
+    found_end _ (core_state false c.args.core.now) c.args.first c.walk.new.chain _ refl c.requires.available c.requires.head g c.ended.ensures
