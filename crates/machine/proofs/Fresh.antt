@@ -1,23 +1,24 @@
 -- A machine as it begins is sound.
-use Rattle.std.proofs.Common.{◌≡◌, ℕ, zero, suc, ◌*◌, ◌/◌, ◌%◌, ◌^◌, ◌<◌, ◌≤◌, List, [], ◌∷◌, length, map, replicate, get_or, Bool, true, false, cond, Some, None, refl, ap, sym, ◌∙◌, arith, eqb, ltb}
-use Rattle.std.specs.Prelude.{◌||◌, not}
+use Rattle.std.proofs.Common.{◌≡◌, ℕ, zero, suc, ◌+◌, ◌*◌, ◌%◌, ◌^◌, ◌<◌, ◌≤◌, List, [], ◌∷◌, length, map, replicate, get_or, Bool, true, false, cond, Some, None, refl, ap, sym, ◌∙◌, arith, eqb, leb, ltb}
+use Rattle.std.specs.Prelude.{◌||◌, ◌&&◌, not}
 use Rattle.std.specs.List.{All}
 use Rattle.std.proofs.lemmas.List.{length-map, length-replicate}
 use Rattle.std.proofs.lemmas.List.Elements.{All-map, All-nil}
-use Rattle.std.proofs.lemmas.Bool.{eqb-false, eqb-true}
+use Rattle.std.proofs.lemmas.Bool.{eqb-false, eqb-true, leb-true}
 use borrow.Author.Tests.{ltb-false}
 use Rattle.guestmem.specs.Number.{IsBytes}
-use Rattle.blk.proofs.Zeros.{zero_bytes}
 use Rattle.blk.specs.Disk.{AreSectors, DiskState}
 use Rattle.blk.specs.Sectors.{Sector, AreWhole, IsWhole}
 use Rattle.mmio.proofs.StayingSound.{first_sound}
 use Rattle.mmio.specs.State.{first_common, first_queue}
-use Rattle.machine.specs.First.{HasBytes, are_beyond, are_same, dealt_sectors, first_machine_at, good_marks, machine_over_at, marked_sectors, new_refusal, over_refusal, saved_machine}
-use Rattle.machine.specs.Parts.{ArePartsFor, PartsSeen, machine_of}
+use Rattle.machine.specs.Board.{ram_bytes, ram_size}
+use Rattle.machine.specs.First.{AreMarksOf, HasBytes, are_beyond, are_same, dealt_sectors, good_marks, is_base, is_ram_size, made_machine, make_refusal, marked_sectors, saved_machine}
 use Rattle.machine.specs.QueuePositions.{HavePositions, first_positions, is_packed_by}
 use Rattle.machine.specs.Shapes.{device_id_of, disk_sizes, first_device, first_kind, is_beyond, made_as, offered_of, queues_of, sector_count}
 use Rattle.machine.specs.Sound.{IsBase, IsSound, IsSoundDevice, IsSoundKind, IsSoundShape}
 use Rattle.machine.specs.State.{DeviceState, base_of}
+use Rattle.machine.specs.declared.board.RamOf.{RamOf}
+use Rattle.machine.specs.declared.board.RamOf.TheVariants.{Pages, Region}
 use Rattle.machine.specs.declared.new_error.NewError.TheVariants.{BadShape, DiskMismatch}
 use Rattle.machine.specs.declared.shape.Shape.{Shape}
 use Rattle.machine.specs.declared.shape.Shape.TheVariants.{Net, Block, Console, Entropy}
@@ -26,35 +27,62 @@ use Rattle.machine.proofs.Disks.{same_sizes}
 use Rattle.machine.proofs.MadeAs.{first_as}
 use Rattle.machine.proofs.Numbering.{shape_counts}
 
+both_true : (a b : Bool) → (a && b) ≡ true → (a ≡ true) × (b ≡ true)
+both_true true b is = (refl, is)
+both_true false b is = cc
+
+-- RAM that may begin at its base, and has 1 to 16,384 whole pages.
+based_by : (base bytes : ℕ) → is_base base bytes ≡ true → IsBase base bytes
+based_by base bytes is =
+    let both = both_true (eqb (base % 4096) 0) (leb (base + bytes) (2 ^ 64)) is in
+    record { whole = eqb-true (base % 4096) 0 both.0; reach = leb-true (base + bytes) (2 ^ 64) both.1 }
+
+pub record IsRamSize (bytes : ℕ) : Type 0 where
+  pub whole : bytes % 4096 ≡ 0
+  pub some : 4096 ≤ bytes
+  pub few : bytes ≤ 67108864
+
+not_true : (b : Bool) → not b ≡ true → b ≡ false
+not_true true is = cc
+not_true false is = refl
+
+size_by : (bytes : ℕ) → is_ram_size bytes ≡ true → IsRamSize bytes
+size_by bytes is =
+    let both = both_true (eqb (bytes % 4096) 0 && not (eqb bytes 0)) (leb bytes 67108864) is in
+    let front = both_true (eqb (bytes % 4096) 0) (not (eqb bytes 0)) both.0 in
+    let whole = eqb-true (bytes % 4096) 0 front.0 in
+    let some = eqb-false bytes 0 (not_true (eqb bytes 0) front.1) in
+    record { whole = whole; some = omega (arith, whole, some); few = leb-true bytes 67108864 both.1 }
+
 -- What holds where no machine is refused.
-record HasLimits (pages : ℕ) (shapes : List Shape) (sizes : List ℕ) : Type 0 where
-  some_pages : 1 ≤ pages
-  few_pages : pages ≤ 16384
+pub record HasLimits (base bytes : ℕ) (shapes : List Shape) (sizes : List ℕ) : Type 0 where
+  pub based : IsBase base bytes
+  pub size : IsRamSize bytes
   some_devices : 1 ≤ length shapes
   few_devices : length shapes ≤ 16
   none_beyond : are_beyond shapes ≡ false
   same : are_same (disk_sizes shapes) sizes ≡ true
 
-limits_by : (pages : ℕ) (shapes : List Shape) (sizes : List ℕ) (a b c d e f : Bool) → eqb pages 0 ≡ a → ltb 16384 pages ≡ b → eqb (length shapes) 0 ≡ c → ltb 16 (length shapes) ≡ d
-    → are_beyond shapes ≡ e → are_same (disk_sizes shapes) sizes ≡ f → cond (a || b || c || d || e) (Some BadShape) (cond (not f) (Some DiskMismatch) None) ≡ None → HasLimits pages shapes sizes
-limits_by pages shapes sizes true b c d e f p q r s t u is = cc
-limits_by pages shapes sizes false true c d e f p q r s t u is = cc
-limits_by pages shapes sizes false false true d e f p q r s t u is = cc
-limits_by pages shapes sizes false false false true e f p q r s t u is = cc
-limits_by pages shapes sizes false false false false true f p q r s t u is = cc
-limits_by pages shapes sizes false false false false false false p q r s t u is = cc
-limits_by pages shapes sizes false false false false false true p q r s t u is = record {
-  some_pages = omega (arith, eqb-false pages 0 p);
-  few_pages = ltb-false 16384 pages q;
+limits_by : (base bytes : ℕ) (shapes : List Shape) (sizes : List ℕ) (a b c d e f : Bool) → is_base base bytes ≡ a → is_ram_size bytes ≡ b → eqb (length shapes) 0 ≡ c → ltb 16 (length shapes) ≡ d
+    → are_beyond shapes ≡ e → are_same (disk_sizes shapes) sizes ≡ f → cond (not a || not b || c || d || e) (Some BadShape) (cond (not f) (Some DiskMismatch) None) ≡ None → HasLimits base bytes shapes sizes
+limits_by base bytes shapes sizes false b c d e f p q r s t u is = cc
+limits_by base bytes shapes sizes true false c d e f p q r s t u is = cc
+limits_by base bytes shapes sizes true true true d e f p q r s t u is = cc
+limits_by base bytes shapes sizes true true false true e f p q r s t u is = cc
+limits_by base bytes shapes sizes true true false false true f p q r s t u is = cc
+limits_by base bytes shapes sizes true true false false false false p q r s t u is = cc
+limits_by base bytes shapes sizes true true false false false true p q r s t u is = record {
+  based = based_by base bytes p;
+  size = size_by bytes q;
   some_devices = omega (arith, eqb-false (length shapes) 0 r);
   few_devices = ltb-false 16 (length shapes) s;
   none_beyond = t;
   same = u;
 }
 
-limits : (pages : ℕ) (shapes : List Shape) (sizes : List ℕ) → new_refusal pages shapes sizes ≡ None → HasLimits pages shapes sizes
-limits pages shapes sizes is =
-    limits_by pages shapes sizes (eqb pages 0) (ltb 16384 pages) (eqb (length shapes) 0) (ltb 16 (length shapes)) (are_beyond shapes) (are_same (disk_sizes shapes) sizes) refl refl refl refl refl refl is
+pub limits : (base bytes : ℕ) (shapes : List Shape) (sizes : List ℕ) → make_refusal base bytes shapes sizes ≡ None → HasLimits base bytes shapes sizes
+limits base bytes shapes sizes is =
+    limits_by base bytes shapes sizes (is_base base bytes) (is_ram_size bytes) (eqb (length shapes) 0) (ltb 16 (length shapes)) (are_beyond shapes) (are_same (disk_sizes shapes) sizes) refl refl refl refl refl refl is
 
 -- A device that is not beyond its limits.
 sectors_by : (sectors : ℕ) (a b : Bool) → eqb sectors 0 ≡ a → ltb 2097152 sectors ≡ b → (a || b) ≡ false → (1 ≤ sectors) × (sectors ≤ 2097152)
@@ -158,37 +186,30 @@ first_base : (base bytes : ℕ) (shapes : List Shape) → 1 ≤ length shapes �
 first_base base bytes [] some = absurd (omega (arith, some))
 first_base base bytes (shape ∷ shapes) some = refl
 
--- A new machine is sound.
-machine_over_sound : (base pages : ℕ) (bytes : List ℕ) (shapes : List Shape) (sizes : List ℕ) (disks : List (List Sector)) → new_refusal pages shapes sizes ≡ None → IsBase base (length bytes) → length bytes ≡ 4096 * pages → IsBytes bytes
-    → All HasBytes shapes → map length disks ≡ sizes → All AreWhole disks → IsSound (machine_over_at base bytes shapes disks)
-machine_over_sound base pages bytes shapes sizes disks none based long are ids sizes_are whole =
-    let within = limits pages shapes sizes none in
+-- A machine as it is made is sound.
+made_sound : (base : ℕ) (bytes : List ℕ) (shapes : List Shape) (sizes : List ℕ) (disks : List (List Sector)) → HasLimits base (length bytes) shapes sizes → IsBytes bytes
+    → All HasBytes shapes → map length disks ≡ sizes → All AreWhole disks → IsSound (made_machine base bytes shapes disks)
+made_sound base bytes shapes sizes disks within are ids sizes_are whole =
     let many : length (map (first_device base (length bytes)) shapes) ≡ length shapes = rw length-map refl in
     let counts : disk_sizes shapes ≡ map length disks = same_sizes (disk_sizes shapes) sizes within.same ∙ sym sizes_are in
-    let fits : length bytes < 2 ^ 64 = omega (arith, long, within.few_pages) in
-    let low : base < 2 ^ 64 = omega (arith, based.reach, long, within.some_pages) in
+    let fits : length bytes < 2 ^ 64 = omega (arith, within.size.few) in
+    let low : base < 2 ^ 64 = omega (arith, within.based.reach, within.size.some) in
     let each = each_within shapes within.none_beyond in
     record {
-      whole_pages = omega (arith, long);
-      some_pages = omega (arith, long, within.some_pages);
-      few_pages = omega (arith, long, within.few_pages);
+      whole_pages = omega (arith, within.size.whole);
+      some_pages = omega (arith, within.size.some);
+      few_pages = omega (arith, within.size.few);
       some_devices = rw many within.some_devices;
       few_devices = rw many within.few_devices;
-      devices = rw (first_base base (length bytes) shapes within.some_devices) (All-map (IsSoundDevice base (length bytes)) (first_device base (length bytes)) shapes (λ k d below. first_device_sound base (length bytes) (get_or shapes k d) based fits low (each k d below) (ids k d below)));
+      devices = rw (first_base base (length bytes) shapes within.some_devices) (All-map (IsSoundDevice base (length bytes)) (first_device base (length bytes)) shapes (λ k d below. first_device_sound base (length bytes) (get_or shapes k d) within.based fits low (each k d below) (ids k d below)));
       bytes = are;
       disks = dealt_counts shapes disks counts ∙ sym (first_counts base (length bytes) shapes);
       sectors = dealt_whole shapes disks whole;
     }
 
--- One of zeros is one over zeros.
-first_is_over : (base pages : ℕ) (shapes : List Shape) (disks : List (List Sector)) → first_machine_at base pages shapes disks ≡ machine_over_at base (replicate (4096 * pages) 0) shapes disks
-first_is_over base pages shapes disks =
-    let long : length (replicate (4096 * pages) 0) ≡ 4096 * pages = length-replicate {A = ℕ} (4096 * pages) 0 in
-    rw long refl
-
 -- The same machine, as it is put together.
-over_is_saved : (base : ℕ) (shapes : List Shape) (disks : List (List Sector)) (bytes : List ℕ) (states : List DeviceState) → states ≡ map (first_device base (length bytes)) shapes → saved_machine bytes states disks ≡ machine_over_at base bytes shapes disks
-over_is_saved base shapes disks bytes states are = rw (are, first_shapes base (length bytes) shapes) refl
+made_is_saved : (base : ℕ) (shapes : List Shape) (disks : List (List Sector)) (bytes : List ℕ) (states : List DeviceState) → states ≡ map (first_device base (length bytes)) shapes → saved_machine bytes states disks ≡ made_machine base bytes shapes disks
+made_is_saved base shapes disks bytes states are = rw (are, first_shapes base (length bytes) shapes) refl
 
 -- The sectors of good disks.
 good_sizes : {A : Type 0} (state : A → DiskState) (xs : List A) → map length (map (λ x. map Some (state x).sectors) xs) ≡ map (λ x. length (state x).sectors) xs
@@ -198,60 +219,35 @@ good_sizes state (x ∷ xs) = rw (length-map, good_sizes state xs) refl
 good_whole : {A : Type 0} (state : A → DiskState) (xs : List A) → All (λ x. AreSectors (state x).sectors) xs → All AreWhole (map (λ x. map Some (state x).sectors) xs)
 good_whole state xs whole = All-map AreWhole (λ x. map Some (state x).sectors) xs (λ k d below. All-map IsWhole Some (state (get_or xs k d)).sectors (whole k d below))
 
--- The parts of a new machine: they are parts for its disks, and make it with them.
-pub record AreOver {A : Type 0} (state : A → DiskState) (base : ℕ) (bytes : List ℕ) (shapes : List Shape) (xs : List A) (p : PartsSeen) : Type 0 where
-  pub parts : ArePartsFor (map state xs) p
-  pub made : machine_of p (map state xs) ≡ machine_over_at base bytes shapes (map (λ x. map Some (state x).sectors) xs)
+-- What a machine is restored from as it is made: it is sound, and the machine of its board.
+pub record IsPut {A : Type 0} (state : A → DiskState) (base : ℕ) (bytes : List ℕ) (shapes : List Shape) (xs : List A) (states : List DeviceState) (bad : List (List Bool)) : Type 0 where
+  pub made : saved_machine bytes states (marked_sectors (map state xs) bad) ≡ made_machine base bytes shapes (map (λ x. map Some (state x).sectors) xs)
+  pub sound : IsSound (saved_machine bytes states (marked_sectors (map state xs) bad))
+  pub shapes_are : shapes ≡ map (λ (d : DeviceState). made_as d.kind) states
+  pub marks : AreMarksOf (map state xs) bad
 
-pub are_over : {A : Type 0} (state : A → DiskState) (base pages : ℕ) (bytes : List ℕ) (shapes : List Shape) (xs : List A) (p : PartsSeen) → new_refusal pages shapes (map (λ x. length (state x).sectors) xs) ≡ None → IsBase base (length bytes) → length bytes ≡ 4096 * pages
-    → IsBytes bytes → All HasBytes shapes → All (λ x. AreSectors (state x).sectors) xs → p.ram ≡ bytes → p.shapes ≡ shapes → p.states ≡ map (first_device base (length bytes)) shapes → p.bad ≡ good_marks (map state xs)
-    → AreOver state base bytes shapes xs p
-are_over state base pages bytes shapes xs p none based long are ids whole ram_is same states_are bad_are =
+pub is_put : {A : Type 0} (state : A → DiskState) (base : ℕ) (bytes : List ℕ) (shapes : List Shape) (xs : List A) (states : List DeviceState) (bad : List (List Bool)) → make_refusal base (length bytes) shapes (map (λ x. length (state x).sectors) xs) ≡ None
+    → IsBytes bytes → All HasBytes shapes → All (λ x. AreSectors (state x).sectors) xs → states ≡ map (first_device base (length bytes)) shapes → bad ≡ good_marks (map state xs) → IsPut state base bytes shapes xs states bad
+is_put state base bytes shapes xs states bad none are ids whole states_are bad_are =
+    let sizes : List ℕ = map (λ x. length (state x).sectors) xs in
     let disks : List (List Sector) = map (λ x. map Some (state x).sectors) xs in
-    let content : marked_sectors (map state xs) p.bad ≡ disks = ap (marked_sectors (map state xs)) bad_are ∙ good_content state xs in
-    let made : machine_of p (map state xs) ≡ machine_over_at base bytes shapes disks = ap (saved_machine p.ram p.states) content ∙ ap (λ (b : List ℕ). saved_machine b p.states disks) ram_is ∙ over_is_saved base shapes disks bytes p.states states_are in
+    let content : marked_sectors (map state xs) bad ≡ disks = ap (marked_sectors (map state xs)) bad_are ∙ good_content state xs in
+    let made : saved_machine bytes states (marked_sectors (map state xs) bad) ≡ made_machine base bytes shapes disks = ap (saved_machine bytes states) content ∙ made_is_saved base shapes disks bytes states states_are in
     record {
-      parts = record {
-        sound = rw made (machine_over_sound base pages bytes shapes (map (λ x. length (state x).sectors) xs) disks none based long are ids (good_sizes state xs) (good_whole state xs whole));
-        shapes = same ∙ sym (ap (map (λ (d : DeviceState). made_as d.kind)) states_are ∙ first_shapes base (length bytes) shapes);
-        marks = rw bad_are (good_are_marks (map state xs));
-      };
       made = made;
+      sound = rw made (made_sound base bytes shapes sizes disks (limits base (length bytes) shapes sizes none) are ids (good_sizes state xs) (good_whole state xs whole));
+      shapes_are = sym (ap (map (λ (d : DeviceState). made_as d.kind)) states_are ∙ first_shapes base (length bytes) shapes);
+      marks = rw bad_are (good_are_marks (map state xs));
     }
 
-pub record AreFirst {A : Type 0} (state : A → DiskState) (base pages : ℕ) (shapes : List Shape) (xs : List A) (p : PartsSeen) : Type 0 where
-  pub parts : ArePartsFor (map state xs) p
-  pub made : machine_of p (map state xs) ≡ first_machine_at base pages shapes (map (λ x. map Some (state x).sectors) xs)
+-- The bytes of RAM are as many as it is to have.
+pub ram_long : (ram : RamOf) → length (ram_bytes ram) ≡ ram_size ram
+ram_long (Pages pages) = length-replicate {A = ℕ} (4096 * pages) 0
+ram_long (Region region) = refl
 
-pub are_first : {A : Type 0} (state : A → DiskState) (base pages : ℕ) (shapes : List Shape) (xs : List A) (p : PartsSeen) → new_refusal pages shapes (map (λ x. length (state x).sectors) xs) ≡ None → IsBase base (4096 * pages) → All HasBytes shapes
-    → All (λ x. AreSectors (state x).sectors) xs → p.ram ≡ replicate (4096 * pages) 0 → p.shapes ≡ shapes → p.states ≡ map (first_device base (length p.ram)) shapes → p.bad ≡ good_marks (map state xs) → AreFirst state base pages shapes xs p
-are_first state base pages shapes xs p none based ids whole zeros same states_are bad_are =
-    let bytes : List ℕ = replicate (4096 * pages) 0 in
-    let long : length bytes ≡ 4096 * pages = length-replicate {A = ℕ} (4096 * pages) 0 in
-    let over : AreOver state base bytes shapes xs p =
-    are_over state base pages bytes shapes xs p none (rw long based) long (zero_bytes (4096 * pages)) ids whole zeros same (states_are ∙ ap (λ (b : List ℕ). map (first_device base (length b)) shapes) zeros) bad_are in
-    record {
-      parts = over.parts;
-      made = over.made ∙ sym (first_is_over base pages shapes (map (λ x. map Some (state x).sectors) xs));
-    }
-
--- A region that is not refused has whole pages, as many as there may be.
-pub record HasPages (bytes : ℕ) (shapes : List Shape) (sizes : List ℕ) : Type 0 where
-  pub none : new_refusal (bytes / 4096) shapes sizes ≡ None
-  pub whole : bytes ≡ 4096 * (bytes / 4096)
-  pub some : 1 ≤ bytes / 4096
-  pub few : bytes / 4096 ≤ 16384
-
-has_pages_by : (bytes : ℕ) (shapes : List Shape) (sizes : List ℕ) (b : Bool) → eqb (bytes % 4096) 0 ≡ b → cond (not b) (Some BadShape) (new_refusal (bytes / 4096) shapes sizes) ≡ None → HasPages bytes shapes sizes
-has_pages_by bytes shapes sizes false is none = cc
-has_pages_by bytes shapes sizes true is none =
-    let within = limits (bytes / 4096) shapes sizes none in
-    record {
-      none = none;
-      whole = omega (arith, eqb-true (bytes % 4096) 0 is);
-      some = within.some_pages;
-      few = within.few_pages;
-    }
-
-pub has_pages : (bytes : ℕ) (shapes : List Shape) (sizes : List ℕ) → over_refusal bytes shapes sizes ≡ None → HasPages bytes shapes sizes
-has_pages bytes shapes sizes none = has_pages_by bytes shapes sizes (eqb (bytes % 4096) 0) refl none
+-- What a board says, as it is put together.
+pub is_put_on : {A : Type 0} (state : A → DiskState) (base : ℕ) (ram : RamOf) (bytes : List ℕ) (shapes : List Shape) (xs : List A) (states : List DeviceState) (bad : List (List Bool)) → make_refusal base (ram_size ram) shapes (map (λ x. length (state x).sectors) xs) ≡ None → bytes ≡ ram_bytes ram
+    → IsBytes bytes → All HasBytes shapes → All (λ x. AreSectors (state x).sectors) xs → states ≡ map (first_device base (ram_size ram)) shapes → bad ≡ good_marks (map state xs) → IsPut state base bytes shapes xs states bad
+is_put_on state base ram bytes shapes xs states bad none is are ids whole states_are bad_are =
+    let long : length bytes ≡ ram_size ram = ap length is ∙ ram_long ram in
+    is_put state base bytes shapes xs states bad (rw long none) are ids whole (rw long states_are) bad_are

@@ -9,14 +9,16 @@ use Rattle.mmio.specs.State.{first_queue}
 use Rattle.chains.specs.State.{RingState, state_of}
 use Rattle.mmio.specs.declared.queue.Queue.{Queue}
 use Rattle.machine.specs.DeviceStep.{advanced_at, advances, looked_at, looks}
-use Rattle.machine.specs.NextWork.{HaveNoWork, has_work_at, has_work_with, next_work, number_of, picks_from, steps_between, work_of}
+use Rattle.machine.specs.NextWork.{HaveNoWork, has_work_at, has_work_with, next_from, next_work, number_of, picks_from, steps_between, work_of}
 use Rattle.machine.specs.Shapes.{made_as, queues_of}
-use Rattle.machine.specs.Sound.{IsSoundDevice}
-use Rattle.machine.specs.State.{DeviceState}
+use Rattle.machine.specs.Sound.{IsSound, IsSoundDevice}
+use Rattle.machine.specs.State.{DeviceState, MachineState}
 use Rattle.machine.specs.declared.shape.Shape.{Shape}
 use Rattle.machine.specs.declared.shape.Shape.TheVariants as shapes
 use Rattle.machine.specs.declared.work.Work.{Work}
 use Rattle.machine.proofs.Rings.{positions_long}
+use Rattle.machine.proofs.At.{own_base}
+use Rattle.machine.proofs.Within.{sound_at}
 use Rattle.machine.proofs.Stepping.{no_positions}
 
 lt_or_le : (m n : ℕ) → (m < n) ⊎ (n ≤ m)
@@ -78,15 +80,6 @@ found_in_device devices dev a d there few =
     let many : 256 * (dev + 1) - (256 * dev + a) ≡ 256 - a = omega arith in
     rw many (device_steps devices dev d a (256 * dev + a) (256 - a) there refl (omega (arith, few)))
 
--- No device, no work.
-past_steps : (devices : List DeviceState) (a n : ℕ) → 256 * length devices ≤ a → find (has_work_at devices) (map work_of (range_with_len a n)) ≡ None
-past_steps devices a zero past = refl
-past_steps devices a (suc n) past = rw (slice_get_past devices (a / 256) (omega (arith, past))) (past_steps devices (a + 1) n (omega (arith, past)))
-
-pub found_past : (devices : List DeviceState) (a b : ℕ) → 256 * length devices ≤ a → find (has_work_at devices) (steps_between a b) ≡ None
-unfolding steps_between
-found_past devices a b past = past_steps devices a (b - a) past
-
 -- What is found has work.
 has_head : (p : Work → Bool) (w : Work) (rest : Option Work) (t : Bool) → p w ≡ t → IfSome rest (λ v. p v ≡ true) → IfSome (cond t (Some w) rest) (λ v. p v ≡ true)
 has_head p w rest true h k = h
@@ -141,34 +134,140 @@ none_has devices last none dev pick d there below =
     ] in
     or_false (looked_at d pick) (advanced_at d pick) (rw (of, rest, there) at here)
 
--- The three searches in turn.
+-- The order of the search, by the step with which it begins.
 or_none : (x : Option Work) → option_or x None ≡ x
 or_none None = refl
 or_none (Some w) = refl
 
-regrouped : (later after before : Option Work) → option_or later (option_or after (option_or before later)) ≡ option_or (option_or later after) before
-regrouped (Some w) after before = refl
-regrouped None after before = ap (λ x. option_or after x) (or_none before)
+pub from_first : (devices : List DeviceState) (last : Work) (all first : ℕ) → all ≡ 256 * length devices → number_of last + 1 < all → first ≡ number_of last + 1 → next_work devices last ≡ next_from devices first
+from_first devices last all first all_is below is =
+    let low : min (number_of last + 1) (256 * length devices) ≡ number_of last + 1 = omega (arith, all_is, below) in
+    rw (low, is) refl
 
-pub in_turn : (devices : List DeviceState) (last : Work) (end : ℕ) → last.pick < 256 → end ≡ min (last.dev + 1) (length devices)
-    → option_or (find (has_work_at devices) (steps_between (number_of last + 1) (256 * (last.dev + 1)))) (option_or (find (has_work_at devices) (steps_between (256 * (last.dev + 1)) (256 * length devices))) (find (has_work_at devices) (steps_between 0 (256 * end)))) ≡ next_work devices last
-in_turn devices last end small end_is =
-    let first = number_of last + 1 in
-    let next = 256 * (last.dev + 1) in
-    let all = 256 * length devices in
+pub from_start : (devices : List DeviceState) (last : Work) → 256 * length devices ≤ number_of last + 1 → next_work devices last ≡ next_from devices 0
+from_start devices last past =
     let p = has_work_at devices in
-    rw (find-append p (steps_between first all) (steps_between 0 (min first all)))
-    (elim (lt_or_le last.dev (length devices)) as (λ _. option_or (find p (steps_between first next)) (option_or (find p (steps_between next all)) (find p (steps_between 0 (256 * end)))) ≡ option_or (find p (steps_between first all)) (find p (steps_between 0 (min first all)))) [
-      | inl there ↦
-          let low : min first all ≡ first = omega (arith, small, there) in
-          let high : 256 * end ≡ next = omega (arith, end_is, there) in
-          rw (low, high, found_in_two p first next all (omega (arith, small)) (omega (arith, there)), found_in_two p 0 first next (omega arith) (omega (arith, small)))
-          (regrouped (find p (steps_between first next)) (find p (steps_between next all)) (find p (steps_between 0 first)))
+    let all = 256 * length devices in
+    let first = number_of last + 1 in
+    let high : min first all ≡ all = omega (arith, past) in
+    rw (high, find-append p (steps_between first all) (steps_between 0 all), find-append p (steps_between 0 all) (steps_between 0 0), none_between p first all past, none_between p 0 0 (omega arith), or_none (find p (steps_between 0 all))) refl
+
+-- Where the search is at a turn, of which it is to look at the picks from `from` on: nothing was found in the devices from the first
+-- on, nor, once around, in those before it.
+pub record IsSearched (p : Work → Bool) (count first pick turn from : ℕ) : Type 0 where
+  pub few : from ≤ 256
+  pub begun : 256 * first + pick ≤ 256 * turn + from
+  pub whole : first < turn → from ≡ 0
+  pub later : find p (steps_between (256 * first + pick) (min (256 * turn + from) (256 * count))) ≡ None
+  pub around : find p (steps_between 0 (256 * (turn - count))) ≡ None
+
+pub not_searched : (p : Work → Bool) (count first pick : ℕ) → first ≤ count → pick ≤ 256 → IsSearched p count first pick first pick
+not_searched p count first pick inside small =
+    let none : first - count ≡ 0 = omega (arith, inside) in
+    record {
+      few = small;
+      begun = omega arith;
+      whole = λ h. absurd (omega (arith, h));
+      later = none_between p (256 * first + pick) (min (256 * first + pick) (256 * count)) (omega arith);
+      around = rw none (none_between p 0 0 (omega arith));
+    }
+
+none_in_both : (p : Work → Bool) (a b c : ℕ) → a ≤ b → b ≤ c → find p (steps_between a b) ≡ None → find p (steps_between b c) ≡ None → find p (steps_between a c) ≡ None
+none_in_both p a b c low high x y = rw (found_in_two p a b c low high, x) y
+
+some_in_second : (p : Work → Bool) (a b c : ℕ) (w : Work) → a ≤ b → b ≤ c → find p (steps_between a b) ≡ None → find p (steps_between b c) ≡ Some w → find p (steps_between a c) ≡ Some w
+some_in_second p a b c w low high x y = rw (found_in_two p a b c low high, x) y
+
+some_in_first : (p : Work → Bool) (a b c : ℕ) (w : Work) → a ≤ b → b ≤ c → find p (steps_between a b) ≡ Some w → find p (steps_between a c) ≡ Some w
+some_in_first p a b c w low high x = rw (found_in_two p a b c low high, x) refl
+
+-- All of the devices from the first on were searched.
+all_later : (p : Work → Bool) (count first pick turn from : ℕ) → count ≤ turn → IsSearched p count first pick turn from → find p (steps_between (256 * first + pick) (256 * count)) ≡ None
+all_later p count first pick turn from past h = let all : min (256 * turn + from) (256 * count) ≡ 256 * count = omega (arith, past) in rw all at h.later
+
+-- In one turn nothing is found, or something.
+pub searched_on : (p : Work → Bool) (count first pick turn from dev : ℕ) → first < count → (turn < count → dev ≡ turn) → (count ≤ turn → dev ≡ turn - count)
+    → IsSearched p count first pick turn from → find p (steps_between (256 * dev + from) (256 * (dev + 1))) ≡ None → IsSearched p count first pick (turn + 1) 0
+searched_on p count first pick turn from dev inside before around h none = elim (lt_or_le turn count) as (λ _. IsSearched p count first pick (turn + 1) 0) [
+  | inl below ↦
+      let here : dev ≡ turn = before below in
+      let old : min (256 * turn + from) (256 * count) ≡ 256 * turn + from = omega (arith, below, h.few) in
+      let new : min (256 * (turn + 1) + 0) (256 * count) ≡ 256 * (turn + 1) = omega (arith, below) in
+      let zero : turn + 1 - count ≡ 0 = omega (arith, below) in
+      record {
+        few = omega arith;
+        begun = omega (arith, h.begun, h.few);
+        whole = λ _. refl;
+        later = rw new (none_in_both p (256 * first + pick) (256 * turn + from) (256 * (turn + 1)) h.begun (omega (arith, h.few)) (rw old at h.later) (rw here at none));
+        around = rw zero (none_between p 0 0 (omega arith));
+      }
+  | inr past ↦
+      let here : dev ≡ turn - count = around past in
+      let all : from ≡ 0 = h.whole (omega (arith, inside, past)) in
+      let begin : 256 * dev + from ≡ 256 * (turn - count) = omega (arith, here, all) in
+      let end : 256 * (dev + 1) ≡ 256 * (turn + 1 - count) = omega (arith, here, past) in
+      let new : min (256 * (turn + 1) + 0) (256 * count) ≡ 256 * count = omega (arith, past) in
+      record {
+        few = omega arith;
+        begun = omega (arith, h.begun, all);
+        whole = λ _. refl;
+        later = rw new (all_later p count first pick turn from past h);
+        around = none_in_both p 0 (256 * (turn - count)) (256 * (turn + 1 - count)) (omega arith) (omega (arith, past)) h.around (rw (begin, end) at none);
+      }
+]
+
+found_by : (devices : List DeviceState) (first : ℕ) (x y : Option Work) → find (has_work_at devices) (steps_between first (256 * length devices)) ≡ x → find (has_work_at devices) (steps_between 0 first) ≡ y → next_from devices first ≡ option_or x y
+found_by devices first x y later before = find-append (has_work_at devices) (steps_between first (256 * length devices)) (steps_between 0 first) ∙ rw (later, before) refl
+
+-- What is found once around lies before the step with which the search began.
+before_first : (p : Work → Bool) (all first end : ℕ) (w : Work) → first ≤ all → end ≤ all → find p (steps_between first all) ≡ None → find p (steps_between 0 end) ≡ Some w → (end ≤ first) ⊎ (first ≤ end) → find p (steps_between 0 first) ≡ Some w
+before_first p all first end w low high none some (inl inside) = some_in_first p 0 end first w (omega arith) inside some
+before_first p all first end w low high none some (inr past) =
+    let here : find p (steps_between first end) ≡ None = left_none (find p (steps_between first end)) (find p (steps_between end all)) (sym (found_in_two p first end all past high) ∙ none) in
+    let both : find p (steps_between 0 end) ≡ option_or (find p (steps_between 0 first)) (find p (steps_between first end)) = found_in_two p 0 first end (omega arith) past in
+    let same : find p (steps_between 0 end) ≡ option_or (find p (steps_between 0 first)) None = rw here at both in
+    sym (same ∙ or_none (find p (steps_between 0 first))) ∙ some
+
+le_or_le : (m n : ℕ) → (m ≤ n) ⊎ (n ≤ m)
+le_or_le m n = elim (lt_or_le m n) as (λ _. (m ≤ n) ⊎ (n ≤ m)) [ inl h ↦ inl (omega (arith, h)) | inr h ↦ inr h ]
+
+pub found_in_turn : (devices : List DeviceState) (count first pick turn from dev : ℕ) (w : Work) → length devices ≡ count → first < count → pick < 256 → turn < first + count + 1 → (turn < count → dev ≡ turn) → (count ≤ turn → dev ≡ turn - count)
+    → IsSearched (has_work_at devices) count first pick turn from → find (has_work_at devices) (steps_between (256 * dev + from) (256 * (dev + 1))) ≡ Some w → next_from devices (256 * first + pick) ≡ Some w
+found_in_turn devices count first pick turn from dev w long inside small last before around h some =
+    let p = has_work_at devices in
+    let begin = 256 * first + pick in
+    elim (lt_or_le turn count) as (λ _. next_from devices begin ≡ Some w) [
+      | inl below ↦
+          let here : dev ≡ turn = before below in
+          let old : min (256 * turn + from) (256 * count) ≡ 256 * turn + from = omega (arith, below, h.few) in
+          let there : find p (steps_between begin (256 * (turn + 1))) ≡ Some w = some_in_second p begin (256 * turn + from) (256 * (turn + 1)) w h.begun (omega (arith, h.few)) (rw old at h.later) (rw here at some) in
+          found_by devices begin (Some w) (find p (steps_between 0 begin)) (rw long (some_in_first p begin (256 * (turn + 1)) (256 * count) w (omega (arith, h.begun, h.few)) (omega (arith, below)) there)) refl
       | inr past ↦
-          let low : min first all ≡ all = omega (arith, past) in
-          let high : 256 * end ≡ all = omega (arith, end_is, past) in
-          rw (low, high, found_past devices first next (omega (arith, past)), none_between p next all (omega (arith, past)), none_between p first all (omega (arith, past))) refl
-    ])
+          let here : dev ≡ turn - count = around past in
+          let all : from ≡ 0 = h.whole (omega (arith, inside, past)) in
+          let start : 256 * dev + from ≡ 256 * (turn - count) = omega (arith, here, all) in
+          let end : 256 * (dev + 1) ≡ 256 * (turn + 1 - count) = omega (arith, here, past) in
+          let later = all_later p count first pick turn from past h in
+          let there : find p (steps_between 0 (256 * (turn + 1 - count))) ≡ Some w = some_in_second p 0 (256 * (turn - count)) (256 * (turn + 1 - count)) w (omega arith) (omega (arith, past)) h.around (rw (start, end) at some) in
+          found_by devices begin None (Some w) (rw long later) (before_first p (256 * count) begin (256 * (turn + 1 - count)) w (omega (arith, inside, small)) (omega (arith, last, inside, past)) later there (le_or_le (256 * (turn + 1 - count)) begin))
+    ]
+
+pub none_in_turns : (devices : List DeviceState) (count first pick turn from : ℕ) → length devices ≡ count → first < count → pick < 256 → first + count + 1 ≤ turn → IsSearched (has_work_at devices) count first pick turn from → next_from devices (256 * first + pick) ≡ None
+none_in_turns devices count first pick turn from long inside small past h =
+    let p = has_work_at devices in
+    let begin = 256 * first + pick in
+    let before : find p (steps_between 0 begin) ≡ None =
+    left_none (find p (steps_between 0 begin)) (find p (steps_between begin (256 * (turn - count)))) (sym (found_in_two p 0 begin (256 * (turn - count)) (omega arith) (omega (arith, small, past))) ∙ h.around) in
+    found_by devices begin None None (rw long (all_later p count first pick turn from (omega (arith, past)) h)) before
+
+-- What is found in the picks of a device.
+pub none_of_device : (devices : List DeviceState) (dev from : ℕ) (d : DeviceState) (found : Option ℕ) → slice_get devices dev ≡ Some d → from ≤ 256 → found ≡ find (has_work_with d) (picks_from from) → found ≡ None
+    → find (has_work_at devices) (steps_between (256 * dev + from) (256 * (dev + 1))) ≡ None
+none_of_device devices dev from d found there few is none = found_in_device devices dev from d there few ∙ rw (← is, none) refl
+
+pub some_of_device : (devices : List DeviceState) (dev from pick : ℕ) (d : DeviceState) (found : Option ℕ) → slice_get devices dev ≡ Some d → from ≤ 256 → found ≡ find (has_work_with d) (picks_from from) → found ≡ Some pick
+    → find (has_work_at devices) (steps_between (256 * dev + from) (256 * (dev + 1))) ≡ Some (record { dev = dev; pick = pick })
+some_of_device devices dev from pick d found there few is some = found_in_device devices dev from d there few ∙ rw (← is, some) refl
 
 -- One device: its queues and its outstanding requests.
 some_queues : (shape : Shape) → 0 < queues_of shape
@@ -210,20 +309,6 @@ one_more p from pick before here k above below = elim (lt_or_le k pick) as (λ _
 pub beyond : (p : ℕ → Bool) (from pick end : ℕ) → end ≤ pick → ((k : ℕ) → from ≤ k → k < pick → p k ≡ false) → ((k : ℕ) → end ≤ k → p k ≡ false) → (k : ℕ) → from ≤ k → k < from + (256 - from) → p k ≡ false
 beyond p from pick end reached before after k above below = elim (lt_or_le k pick) as (λ _. p k ≡ false) [ inl lower ↦ before k above lower | inr upper ↦ after k (omega (arith, reached, upper)) ]
 
-pub searched : (devices : List DeviceState) (last : Work) (end : ℕ) (later after before : Option Work) → last.pick < 256 → end ≡ min (last.dev + 1) (length devices)
-    → later ≡ find (has_work_at devices) (steps_between (number_of last + 1) (256 * (last.dev + 1))) → after ≡ find (has_work_at devices) (steps_between (256 * (last.dev + 1)) (256 * length devices)) → before ≡ find (has_work_at devices) (steps_between 0 (256 * end))
-    → option_or later (option_or after before) ≡ next_work devices last
-searched devices last end later after before small end_is x y z = rw (x, y, z) (in_turn devices last end small end_is)
-
--- One more device was searched.
-pub after_none : (p : Work → Bool) (a b c : ℕ) (next : Option Work) → a ≤ b → b ≤ c → find p (steps_between a b) ≡ None → next ≡ find p (steps_between b c) → next ≡ find p (steps_between a c)
-after_none p a b c next low high none is = rw (found_in_two p a b c low high, none) is
-
-pub found_before : (p : Work → Bool) (a b c : ℕ) (w : Work) → a ≤ b → b ≤ c → Some w ≡ find p (steps_between a b) → Some w ≡ find p (steps_between a c)
-found_before p a b c w low high is = rw (found_in_two p a b c low high, ← is) refl
-
-pub all_searched : (p : Work → Bool) (first end dev : ℕ) → end ≤ dev → (first ≤ end → dev ≤ end) → find p (steps_between (256 * first) (256 * dev)) ≡ None → None ≡ find p (steps_between (256 * first) (256 * end))
-all_searched p first end dev reached not_past none = elim (lt_or_le end first) as (λ _. None ≡ find p (steps_between (256 * first) (256 * end))) [
-  | inl past ↦ sym (none_between p (256 * first) (256 * end) (omega (arith, past)))
-  | inr inside ↦ let last : dev ≤ end = not_past inside in let same : dev ≡ end = omega (arith, reached, last) in sym (rw same at none)
-]
+-- A device of a sound machine, by its number.
+pub sound_of : (m : MachineState) (dev : ℕ) (d : DeviceState) → IsSound m → slice_get m.devices dev ≡ Some d → IsSoundDevice d.registers.ram_base (length m.ram) d
+sound_of m dev d sound there = own_base (length m.ram) d (sound_at m dev d there sound)

@@ -1,5 +1,5 @@
 -- New machines, and machines as they were saved.
-use Rattle.std.specs.Prelude.{◌≡◌, ℕ, ◌+◌, ◌*◌, ◌/◌, ◌%◌, ◌^◌, ◌||◌, ◌&&◌, ◌==◌, not, nat_le, nat_lt, if◌then◌else◌, Bool, true, false, List, [], ◌∷◌, length, map, replicate, Option, Some, None}
+use Rattle.std.specs.Prelude.{◌≡◌, ℕ, ◌+◌, ◌*◌, ◌%◌, ◌^◌, ◌||◌, ◌&&◌, ◌==◌, not, nat_le, nat_lt, if◌then◌else◌, Bool, true, false, List, [], ◌∷◌, length, map, replicate, Option, Some, None}
 use Rattle.guestmem.specs.declared.limits.TheConstants.{PAGE_SIZE, PAGES_MAX}
 use Rattle.guestmem.specs.Number.{IsBytes}
 use Rattle.blk.specs.Disk.{DiskState}
@@ -36,29 +36,21 @@ dealt_sectors shapes disks = dealt [] shapes disks
 abbrev pub dealt_marks : List Shape → List Marks → List Marks
 dealt_marks shapes marks = dealt no_marks shapes marks
 
--- A new machine: RAM of zeros from the address `base` on, and each device in its initial state.
-abbrev pub first_machine_at : ℕ → ℕ → List Shape → List (List Sector) → MachineState
-first_machine_at base pages shapes disks = record {
-  ram = replicate (PAGE_SIZE * pages) 0;
-  devices = map (first_device base (PAGE_SIZE * pages)) shapes;
-  disks = dealt_sectors shapes disks;
-}
+-- The bytes of new pages.
+abbrev pub zero_pages : ℕ → List ℕ
+zero_pages pages = replicate (PAGE_SIZE * pages) 0
 
--- A new machine whose RAM begins at the address 0.
-abbrev pub first_machine : ℕ → List Shape → List (List Sector) → MachineState
-first_machine pages shapes disks = first_machine_at 0 pages shapes disks
-
--- A new machine whose RAM has these bytes, from the address `base` on.
-abbrev pub machine_over_at : ℕ → List ℕ → List Shape → List (List Sector) → MachineState
-machine_over_at base bytes shapes disks = record {
+-- A machine as it is made: RAM has these bytes from the address `base` on, and each device is in its initial state.
+abbrev pub made_machine : ℕ → List ℕ → List Shape → List (List Sector) → MachineState
+made_machine base bytes shapes disks = record {
   ram = bytes;
   devices = map (first_device base (length bytes)) shapes;
   disks = dealt_sectors shapes disks;
 }
 
--- A new machine whose RAM has these bytes, from the address 0 on.
-abbrev pub machine_over : List ℕ → List Shape → List (List Sector) → MachineState
-machine_over bytes shapes disks = machine_over_at 0 bytes shapes disks
+-- A new machine: one of zeros from the address 0 on.
+abbrev pub first_machine : ℕ → List Shape → List (List Sector) → MachineState
+first_machine pages shapes disks = made_machine 0 (zero_pages pages) shapes disks
 
 -- Some device is beyond its limits.
 abbrev pub are_beyond : List Shape → Bool
@@ -70,30 +62,30 @@ are_same [] [] = true
 are_same (a ∷ as_) (b ∷ bs) = a == b && are_same as_ bs
 are_same _ _ = false
 
--- Why no machine is made of `pages` pages, these devices, and disks of these sizes, if so. The limits are checked first, then
--- the disks: their sizes must be those of the devices that have one, in their order.
-abbrev pub new_refusal : ℕ → List Shape → List ℕ → Option NewError
-new_refusal pages shapes sizes =
-    if (pages == 0 || nat_lt PAGES_MAX pages || length shapes == 0 || nat_lt DEVICES_MAX (length shapes) || are_beyond shapes) then Some BadShape
-    else if not (are_same (disk_sizes shapes) sizes) then Some DiskMismatch
-    else None
-
--- Why no machine is made with this many bytes of RAM, if so: they have to be whole pages, and as many as a machine may have.
-abbrev pub over_refusal : ℕ → List Shape → List ℕ → Option NewError
-over_refusal bytes shapes sizes =
-    if not (bytes % PAGE_SIZE == 0) then Some BadShape
-    else new_refusal (bytes / PAGE_SIZE) shapes sizes
-
 -- Whether RAM of this many bytes may begin at this guest-physical address: a multiple of a page, with no byte past the last address.
 abbrev pub is_base : ℕ → ℕ → Bool
 is_base base bytes = base % PAGE_SIZE == 0 && nat_le (base + bytes) (2 ^ 64)
 
--- The same of a machine whose RAM is to begin at an address: one at which it may not begin is a bad shape too.
-abbrev pub new_refusal_at : ℕ → ℕ → List Shape → List ℕ → Option NewError
-new_refusal_at base pages shapes sizes = if is_base base (PAGE_SIZE * pages) then new_refusal pages shapes sizes else Some BadShape
+-- Whether RAM may have this many bytes: 1 to 16,384 whole pages.
+abbrev pub is_ram_size : ℕ → Bool
+is_ram_size bytes = bytes % PAGE_SIZE == 0 && not (bytes == 0) && nat_le bytes (PAGE_SIZE * PAGES_MAX)
 
-abbrev pub over_refusal_at : ℕ → ℕ → List Shape → List ℕ → Option NewError
-over_refusal_at base bytes shapes sizes = if is_base base bytes then over_refusal bytes shapes sizes else Some BadShape
+-- A machine is beyond its limits: by its RAM, which begins at `base`, by the number of its devices, or by one of these.
+abbrev pub is_beyond_limits : ℕ → ℕ → List Shape → Bool
+is_beyond_limits base bytes shapes =
+    not (is_base base bytes) || not (is_ram_size bytes) || length shapes == 0 || nat_lt DEVICES_MAX (length shapes) || are_beyond shapes
+
+-- Why no machine is made whose RAM has this many bytes from the address `base` on, of these devices, and of disks of these sizes, if
+-- so. The limits are checked first, then the disks: their sizes must be those of the devices that have one, in their order.
+abbrev pub make_refusal : ℕ → ℕ → List Shape → List ℕ → Option NewError
+make_refusal base bytes shapes sizes =
+    if is_beyond_limits base bytes shapes then Some BadShape
+    else if not (are_same (disk_sizes shapes) sizes) then Some DiskMismatch
+    else None
+
+-- Why no machine of so many pages from the address 0 on is made, if so.
+abbrev pub new_refusal : ℕ → List Shape → List ℕ → Option NewError
+new_refusal pages shapes sizes = make_refusal 0 (PAGE_SIZE * pages) shapes sizes
 
 -- The MAC of a network device is 6 bytes, and the id of a block device 20.
 pub record AreBytes (count : ℕ) (list : List ℕ) : Type 0 where

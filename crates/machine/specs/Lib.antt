@@ -2,6 +2,7 @@ pub mod AnyRing
 pub mod Rings
 pub mod Applied
 pub mod AppliedLaws
+pub mod Board
 pub mod DeviceStep
 pub mod DeviceWork
 pub mod Direct
@@ -16,7 +17,6 @@ pub mod Looked
 pub mod NextBad
 pub mod Outcome
 pub mod Parked
-pub mod Parts
 pub mod QueuePositions
 pub mod Refusal
 pub mod Room

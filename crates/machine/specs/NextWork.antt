@@ -51,6 +51,10 @@ in_turn_after last devices =
 abbrev pub next_work : List DeviceState → Work → Option Work
 next_work devices last = find (has_work_at devices) (in_turn_after last (length devices))
 
+-- The same, where the step of the number `first` is the one after the last.
+abbrev pub next_from : List DeviceState → ℕ → Option Work
+next_from devices first = find (has_work_at devices) (steps_between first (256 * length devices) ++ steps_between 0 first)
+
 -- No step of any device has something to do.
 abbrev pub HaveNoWork : List DeviceState → Type 0
 HaveNoWork devices = (dev pick : ℕ) (d : DeviceState) → slice_get devices dev ≡ Some d → pick < 256 → (looked_at d pick ≡ None) × (advanced_at d pick ≡ None)

@@ -63,6 +63,7 @@
 #![tactic(auto)]
 
 mod any_ring;
+mod board;
 mod device;
 mod event;
 mod fitting;
@@ -78,6 +79,7 @@ mod stepped;
 mod work;
 
 pub use blk::{Disk, DiskFault, FaultDisk, FileDisk, MemDisk, SECTOR_SIZE, SECTORS_MAX, SyncOwed};
+pub use board::{Board, RamOf, Unmade};
 pub use device::Device;
 pub use event::Event;
 pub use fitting::are_disks_of;

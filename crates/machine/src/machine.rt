@@ -7,7 +7,6 @@ mod getters;
 mod lending;
 mod making;
 mod next_work;
-mod parts;
 mod room;
 mod unsynced;
 

@@ -4,15 +4,12 @@
 //! step then clears the flag. In turn are all picks of a device, then the next device, from the step after the last one made:
 //! so nobody is left out, and the caller keeps two bytes.
 
-ghost use Rattle.std.specs.Prelude.{◌≡◌, ◌+◌, ◌*◌, ◌<◌, ◌≤◌, true, None, IfSome, length};
-ghost use Rattle.std.specs.List.{find};
-ghost use Rattle.std.specs.Option.{option_map};
-ghost use Rattle.machine.specs.NextWork.{HaveNoWork, has_work_at, next_work, number_of, steps_between};
+ghost use Rattle.std.specs.Prelude.{◌≡◌, ◌+◌, ◌-◌, ◌*◌, ◌<◌, ◌≤◌, List, true, None, IfSome, length};
+ghost use Rattle.machine.specs.NextWork.{HaveNoWork, has_work_at, next_from, next_work};
 ghost use Rattle.machine.specs.Seen.{state_of};
-ghost use Rattle.machine.specs.Sound.{IsSound};
-ghost use Rattle.machine.specs.declared.work.Work.{Work};
+ghost use Rattle.machine.specs.State.{DeviceState};
 
-use crate::machine::Machine;
+use crate::machine::{DEVICES_MAX, Machine};
 use crate::work::Work;
 use blk::Disk;
 
@@ -29,67 +26,46 @@ impl<D: Disk> Machine<D> {
         ensures some { IfSome result (λ work. has_work_at (state_of self.now).devices work ≡ true) }
         ensures none { result ≡ None → HaveNoWork (state_of self.now).devices }
     {
-        self.first_in_turn(last)
-    }
-
-    /// The first step with work in turn after the last one: among those of the same device with a greater pick, then in the
-    /// devices after it, and then in those up to it.
-    fn first_in_turn(&self, last: Work) -> Option<Work>
-        ensures { result ≡ next_work (state_of self.now).devices last }
-    {
         let devices = self.shapes().len();
-        let past = last.dev as usize + 1;
-        if let Some(work) = self.later_work(last, devices) {
-            return Some(work);
-        }
-        if let Some(work) = self.first_work(past, devices) {
-            return Some(work);
-        }
-        self.first_work(0, past.min(devices))
-    }
-
-    /// The first step with work among those of the same device with a greater pick.
-    fn later_work(&self, last: Work, devices: usize) -> Option<Work>
-        requires sound { IsSound (state_of self.now) }
-        requires count { devices ≡ length (state_of self.now).devices }
-        ensures { result ≡ find (has_work_at (state_of self.now).devices) (steps_between (number_of last + 1) (256 * (last.dev + 1))) }
-    {
-        if last.dev as usize >= devices || last.pick == u8::MAX {
-            return None;
-        }
-        self.work_of(last.dev, last.pick + 1)
-    }
-
-    /// The first step with work among all those of some devices in a row.
-    fn first_work(&self, first: usize, end: usize) -> Option<Work>
-        requires sound { IsSound (state_of self.now) }
-        requires end { end ≤ length (state_of self.now).devices }
-        ensures { result ≡ find (has_work_at (state_of self.now).devices) (steps_between (256 * first) (256 * end)) }
-    {
-        for dev in first..end {
-            if let Some(work) = self.work_of(dev as u8, 0) {
-                return Some(work);
+        let (first, pick) = first_in_turn(last, devices);
+        let mut from = pick;
+        // Once around, and then the first device once more, for its picks up to the last one.
+        for turn in first..first + devices + 1 {
+            let dev = device_in_turn(turn, devices);
+            if let Some(pick) = self.state(dev).first_pick(from) {
+                return Some(Work { dev, pick });
             }
+            from = 0;
         }
         None
     }
-
-    /// The first step with work among those of a device from a pick on.
-    fn work_of(&self, dev: u8, from: u8) -> Option<Work>
-        requires sound { IsSound (state_of self.now) }
-        requires there { dev < length (state_of self.now).devices }
-        ensures { result ≡ find (has_work_at (state_of self.now).devices) (steps_between (256 * dev + from) (256 * (dev + 1))) }
-    {
-        work_with(dev, self.state(dev).first_pick(from))
-    }
 }
 
-/// The step of a device with a pick, if there is one.
-fn work_with(dev: u8, pick: Option<u8>) -> Option<Work>
-    ensures { result ≡ option_map (λ pick. record { dev = dev; pick = pick }) pick }
+/// The device and the pick with which the search begins: the step after the last one, or the first of all.
+fn first_in_turn(last: Work, devices: usize) -> (usize, u8)
+    requires { devices ≤ DEVICES_MAX }
+    ensures there { 0 < devices → result.0 < devices }
+    ensures low { result.0 ≤ devices }
+    ensures order { (states : List DeviceState) → length states ≡ devices → next_work states last ≡ next_from states (256 * result.0 + result.1) }
 {
-    match pick {
-        Some(pick) => Some(Work { dev, pick }),
-        None => None,
+    let first = 256 * last.dev as usize + last.pick as usize + 1;
+    if first >= 256 * devices {
+        return (0, 0);
+    }
+    (first / 256, (first % 256) as u8)
+}
+
+/// The device of a turn: after the last device comes the first one.
+fn device_in_turn(turn: usize, devices: usize) -> u8
+    requires turn { turn < 2 * devices }
+    requires few { devices ≤ DEVICES_MAX }
+    ensures there { result < devices }
+    ensures before { turn < devices → result ≡ turn }
+    ensures around { devices ≤ turn → result ≡ turn - devices }
+{
+    if turn < devices {
+        turn as u8
+    } else {
+        (turn - devices) as u8
     }
 }
