@@ -38,6 +38,7 @@
 #![tactic(auto)]
 
 mod advancing;
+mod block;
 mod disk;
 mod durable;
 mod fault_disk;
@@ -53,20 +54,18 @@ mod sound;
 mod taking;
 mod task;
 
-pub use advancing::Advanced;
+pub use advancing::{Advanced, Job};
+pub use block::Block;
 pub use disk::{Disk, DiskFault, SECTOR_SIZE};
 pub use durable::SyncOwed;
 pub use fault_disk::FaultDisk;
 pub use file_disk::FileDisk;
 pub use mem_disk::MemDisk;
-pub use request::{
-    HEADER_SIZE, Kind, Request, SEGMENT_SIZE, TYPE_FLUSH, TYPE_GET_ID, TYPE_IN, TYPE_OUT,
-    TYPE_WRITE_ZEROES, Verdict,
-};
+pub use request::{Kind, Request, Verdict};
 pub use requests::{REQUESTS_MAX, Requests};
 pub use sectors::{Fetched, Sectors};
 pub use shape::{
-    BlockShape, CONFIGURATION_SIZE, DEVICE_ID, FLUSH, ID_SIZE, QUEUE_COUNT, RO, SECTORS_MAX,
-    WRITE_ZEROES, ZEROES_MAX, configuration, features, is_block_shape,
+    CONFIGURATION_SIZE, DEVICE_ID, FLUSH, ID_SIZE, QUEUE_COUNT, RO, SECTORS_MAX, WRITE_ZEROES,
+    configuration, features, is_block_shape,
 };
 pub use taking::Taken;
