@@ -162,9 +162,9 @@ fn move_flush<D: Disk>(request: &mut Request, sectors: &mut Sectors<D>) -> Advan
     ensures moved { request.new ≡ (move_flush request.old (not (is_disk_failed result))).request }
     ensures request { request.new ≡ after_unit request.old result }
     ensures kept { IsKept sectors.old (is_disk_failed result) sectors.new }
-    ensures calls { Calls D.called true sectors.old sectors.new }
     ensures same { sectors.new.content ≡ sectors.old.content }
     ensures flushed { result ≡ Moved → IsTrue sectors.new.is_flushed }
+    ensures calls { Calls D.called true sectors.old sectors.new }
 {
     if sectors.flush().is_err() {
         request.verdict = Verdict::IoError;

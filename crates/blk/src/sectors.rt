@@ -65,6 +65,7 @@ impl<D: Disk> Sectors<D> {
         requires { length bad ≡ length (D.state disk).sectors }
         ensures { result ≡ called_seen_of (D.state disk) (D.calls disk) bad }
     {
+        // From this call it is known that each of its sectors has 512 bytes.
         let _count = disk.sectors();
         Sectors { disk, bad }
     }
@@ -149,6 +150,7 @@ impl<D: Disk> Sectors<D> {
         ensures calls { Calls D.called true self.old self.new }
     {
         let written = self.disk.write(n, bytes);
+        // That each sector still has 512 bytes is known from this call alone, as a disk that is not honest may hold anything.
         let _count = self.disk.sectors();
         if let Err(fault) = written {
             self.bad.insert(n);
