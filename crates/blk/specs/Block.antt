@@ -1,5 +1,5 @@
 -- A block device: what it was made as, and its outstanding requests (VIRTIO 1.2, 5.2).
-use Rattle.std.specs.Prelude.{ℕ, ◌^◌, nat_lt, Bool, List, [], length, if◌then◌else◌}
+use Rattle.std.specs.Prelude.{ℕ, ◌^◌, nat_lt, Bool, true, false, List, [], length, if◌then◌else◌}
 use Rattle.mmio.specs.Bits.{has}
 use Rattle.blk.specs.declared.block.Block.{Block}
 use Rattle.blk.specs.declared.request.Request.{Request}
@@ -25,3 +25,7 @@ dropped_unless is_ready b = with_requests b (if is_ready then b.requests else []
 -- What a driver that accepted these features may ask for: bit 14 of them is WRITE_ZEROES (VIRTIO 1.2, 5.2.3).
 abbrev pub limits_of : Block → ℕ → Limits
 limits_of b features = record { sectors = b.sectors; read_only = b.read_only; may_clear = has features (2 ^ 14) }
+
+-- What a driver may ask for at most, of a device with so many sectors.
+abbrev pub widest : ℕ → Limits
+widest sectors = record { sectors = sectors; read_only = false; may_clear = true }

@@ -32,6 +32,10 @@ IsSoundWork Flush readable writable limits verdict first units done = MayEnd ver
 IsSoundWork GetId readable writable limits verdict first units done = (is_good verdict ≡ true) × (done ≤ units) × (units ≡ 1) × (first ≡ 0) × (ID_SIZE + 1 ≤ writable)
 IsSoundWork Zero readable writable limits verdict first units done = MayEnd verdict done units × (HEADER_SIZE + SEGMENT_SIZE ≡ readable) × (units ≤ ZEROES_MAX) × (first + units ≤ limits.sectors) × (limits.read_only ≡ false) × (limits.may_clear ≡ true)
 
+-- The same of a request.
+abbrev pub HasSoundWork : Limits → Request → Type 0
+HasSoundWork limits r = IsSoundWork r.kind (length (places r.readable)) (length (places r.writable)) limits r.verdict r.first r.units r.done
+
 -- A request that may be outstanding, in a RAM of `len` bytes with this base, on a ring of this layout with `size` slots. Its chain
 -- is one that such a ring can have: its id fits 16 bits; it takes from 1 to `size` slots, in a split ring exactly one, and there
 -- its id is the number of a slot; it has no more segments than there are slots, all inside RAM by their addresses as the guest
@@ -47,7 +51,7 @@ pub record IsSoundRequest (base len : ℕ) (is_packed : Bool) (size : ℕ) (limi
   pub total : length (places r.readable) + length (places r.writable) < 2 ^ 32
   pub header : HEADER_SIZE ≤ length (places r.readable)
   pub status : 1 ≤ length (places r.writable)
-  pub work : IsSoundWork r.kind (length (places r.readable)) (length (places r.writable)) limits r.verdict r.first r.units r.done
+  pub work : HasSoundWork limits r
 
 -- The requests that may be outstanding.
 abbrev pub AreSound : ℕ → RingState → Limits → List Request → Type 0

@@ -16,11 +16,12 @@ ghost use Rattle.chains.specs.Frame.{MayServe, HasServed};
 ghost use Rattle.chains.specs.Places.{places, AreSegmentsInside};
 ghost use Rattle.chains.specs.Publish.{after_publish, is_interrupt_due};
 ghost use Rattle.blk.specs.Advance.{end_writes, used_len, data_written, HasFlushed, IsAfterAdvancing, advance_step, asks_at};
-ghost use Rattle.blk.specs.Block.{limits_of};
+ghost use Rattle.blk.specs.Block.{widest};
 ghost use Rattle.blk.specs.Sectors.{AreWhole, Calls, IsKept};
 ghost use Rattle.blk.specs.Move.{MaySectors, is_disk_failed};
 ghost use Rattle.blk.specs.Sound.{AreSound};
 ghost use Rattle.blk.specs.declared.advancing.Advanced.TheVariants.{Completed};
+ghost use Rattle.blk.specs.declared.shape.Limits.{Limits};
 
 use crate::block::Block;
 use crate::disk::{Disk, SECTOR_SIZE};
@@ -67,9 +68,6 @@ pub struct Job {
 
     /// The guest-physical address at which RAM begins.
     pub base: u64,
-
-    /// The features that the driver accepted.
-    pub features: u64,
 }
 
 impl Block {
@@ -86,14 +84,14 @@ impl Block {
         requires base { job.base ≡ (R.state ring.old).base }
         requires ready { MayServe L.may (length ram.old.bytes) (R.state ring.old) log.old }
         requires capacity { length sectors.old.content ≡ self.old.sectors }
-        requires sound { AreSound (length ram.old.bytes) (R.state ring.old) (limits_of self.old job.features) self.old.requests }
+        requires sound { AreSound (length ram.old.bytes) (R.state ring.old) (widest self.old.sectors) self.old.requests }
         requires may_sectors { MaySectors L.may log.old job.device (length sectors.old.content) }
         ensures changes { IsAfterAdvancing (Touches L.after log.old log.new ram.old ram.new) sectors.old.honest job.device ram.old.bytes sectors.old.content (λ given. advance_step ram.old.bytes (R.state ring.old) given self.old job.k (not (is_disk_failed result))) result ram.new.bytes (R.state ring.new) sectors.new.content self.new }
         ensures kept { IsKept sectors.old (is_disk_failed result) sectors.new }
         ensures calls { Calls D.called (asks_at self.old job.k result) sectors.old sectors.new }
         ensures flushed { HasFlushed self.old job.k result sectors.new.is_flushed }
         ensures whole { AreWhole sectors.new.content }
-        ensures sound { AreSound (length ram.new.bytes) (R.state ring.new) (limits_of self.new job.features) self.new.requests }
+        ensures sound { (limits : Limits) → AreSound (length ram.old.bytes) (R.state ring.old) limits self.old.requests → AreSound (length ram.new.bytes) (R.state ring.new) limits self.new.requests }
         ensures after { HasServed L.may ram.old ram.new log.new }
         ensures decoder { R.decoder ring.new ≡ R.decoder ring.old }
     {
@@ -102,9 +100,8 @@ impl Block {
             return Advanced::Idle;
         }
         if self.requests.list[job.k].is_open() {
-            let limits = self.limits(job.features);
             let request = &mut self.requests.list[job.k];
-            let moved = move_unit(job, limits, &self.id, request, sectors, ram, log);
+            let moved = move_unit(job, &self.id, request, sectors, ram, log);
             sectors.recall();
             return moved;
         }

@@ -11,15 +11,17 @@ ghost use Rattle.blk.specs.Request.{is_open, next_sector};
 ghost use Rattle.blk.specs.Advance.{asks};
 ghost use Rattle.blk.specs.Sectors.{AreWhole, Calls, IsKept};
 ghost use Rattle.blk.specs.Move.{IsMoved, MaySectors, move_in, move_out, move_zero, move_flush, move_id, move_of, write_unit, after_unit, is_disk_failed};
-ghost use Rattle.blk.specs.Sound.{IsSoundWork};
+ghost use Rattle.blk.specs.Block.{widest};
+ghost use Rattle.blk.specs.Sound.{HasSoundWork};
 ghost use Rattle.blk.specs.declared.advancing.Advanced.TheVariants.{Moved};
 ghost use Rattle.blk.specs.declared.request.Kind.TheVariants as kinds;
+ghost use Rattle.blk.specs.declared.shape.Limits.{Limits};
 
 use crate::advancing::{Advanced, Job};
 use crate::disk::{Disk, SECTOR_SIZE};
 use crate::request::{HEADER_SIZE, Kind, Request, Verdict};
 use crate::sectors::{Fetched, Sectors};
-use crate::shape::{ID_SIZE, Limits};
+use crate::shape::ID_SIZE;
 use chains::{copy_in_with_base, copy_out_with_base};
 use guestmem::{Ram, TouchLog, recall_bytes};
 
@@ -198,10 +200,9 @@ fn move_id<L: TouchLog>(
     Advanced::Moved
 }
 
-/// Does one unit of a request of a device with this id, whose driver may ask for this.
+/// Does one unit of a request of a device with this id.
 pub(crate) fn move_unit<D: Disk, L: TouchLog>(
     job: Job,
-    limits: Limits,
     id: &[u8; ID_SIZE],
     request: &mut Request,
     sectors: &mut Sectors<D>,
@@ -209,17 +210,16 @@ pub(crate) fn move_unit<D: Disk, L: TouchLog>(
     log: &mut L,
 ) -> Advanced
     requires open { is_open request.old ≡ true }
-    requires capacity { length sectors.old.content ≡ limits.sectors }
     requires small { length sectors.old.content < 2 ^ 64 }
     requires whole { AreWhole sectors.old.content }
-    requires sound { IsSoundWork request.old.kind (length (places request.old.readable)) (length (places request.old.writable)) limits request.old.verdict request.old.first request.old.units request.old.done }
+    requires sound { HasSoundWork (widest (length sectors.old.content)) request.old }
     requires readable { AreSegmentsInside job.base (length ram.old.bytes) request.old.readable }
     requires writable { AreSegmentsInside job.base (length ram.old.bytes) request.old.writable }
     requires may { MayPages L.may log.old (length ram.old.bytes) }
     requires may_sectors { MaySectors L.may log.old job.device (length sectors.old.content) }
     ensures moved { IsMoved (Touches L.after log.old log.new ram.old ram.new) sectors.old.honest job.device ram.old.bytes sectors.old.content (λ given. move_of request.old.kind job.base id.now ram.old.bytes given request.old (not (is_disk_failed result))) result request.new ram.new.bytes sectors.new.content }
     ensures request { request.new ≡ after_unit request.old result }
-    ensures sound { IsSoundWork request.new.kind (length (places request.new.readable)) (length (places request.new.writable)) limits request.new.verdict request.new.first request.new.units request.new.done }
+    ensures sound { (limits : Limits) → HasSoundWork limits request.old → HasSoundWork limits request.new }
     ensures kept { IsKept sectors.old (is_disk_failed result) sectors.new }
     ensures calls { Calls D.called (asks request.old.kind result) sectors.old sectors.new }
     ensures flushed { request.old.kind ≡ kinds.Flush → result ≡ Moved → IsTrue sectors.new.is_flushed }

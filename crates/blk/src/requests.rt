@@ -85,7 +85,7 @@ impl Requests {
     }
 
     /// Drops all of them. Their chains are not published. The room for new ones stays.
-    pub fn clear(&mut self)
+    pub(crate) fn clear(&mut self)
         ensures { self.new ≡ [] }
     {
         self.list.clear();

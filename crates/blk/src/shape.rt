@@ -38,7 +38,7 @@ pub const CONFIGURATION_SIZE: usize = 57;
 pub const ID_SIZE: usize = 20;
 
 /// What a driver may ask for.
-#[derive(Clone, Copy, Debug, PartialEq, Eq)]
+#[derive(Clone, Copy)]
 pub struct Limits {
     /// How many sectors there are (VIRTIO 1.2, 5.2.4: the capacity).
     pub sectors: u64,

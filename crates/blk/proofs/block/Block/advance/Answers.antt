@@ -1,7 +1,7 @@
 use Rattle.std.proofs.Common.{◌≡◌, ◌<◌, ◌≤◌, ◌∙◌, sym, ap, true, false, Some, None, slice_get, length, arith, refl}
 use Rattle.std.proofs.lemmas.Option.{slice_get_read, slice_get_past, get_or_from_slice_get}
 use Rattle.guestmem.proofs.RisesLaws.{touches_none}
-use Rattle.blk.specs.Block.{limits_of, with_requests}
+use Rattle.blk.specs.Block.{with_requests}
 use Rattle.blk.specs.Request.{is_open}
 use Rattle.blk.specs.Sound.{IsSoundRequest}
 use Rattle.blk.proofs.Units.{goes_on}
@@ -45,11 +45,11 @@ returns-then-is_open-clause-calls g c =
     rw (← c.self.view_is, at, some) c.move_unit-moved.ensures.calls
 
 pub returns-then-is_open-clause-sound : goal.returns-then-is_open-clause-sound
-returns-then-is_open-clause-sound g c =
+returns-then-is_open-clause-sound g c = λ limits sound.
     let items = c.self.inside.0.1.1.1.0.list.items in
     let below : c.args.job.k < length items = omega (arith, c.if-job-len.false, c.len.ensures) in
-    rw c.move_unit-moved.ensures.after.later.bytes (goes_on (length c.args.ram.now.bytes) (g.R.Ring.state c.args.ring.now) _ items c.args.job.k c.index_mut-request.result.now c.move_unit-moved.new.request c.move_unit-moved.result
-    (rw (← c.self.view_is) at c.requires.sound) below c.index_mut-request.ensures.value c.move_unit-moved.ensures.request (rw (c.limits-limits.ensures, ← c.self.view_is) at c.move_unit-moved.ensures.sound))
+    rw c.move_unit-moved.ensures.after.later.bytes (goes_on (length c.args.ram.now.bytes) (g.R.Ring.state c.args.ring.now) limits items c.args.job.k c.index_mut-request.result.now c.move_unit-moved.new.request c.move_unit-moved.result
+    (rw (← c.self.view_is) at sound) below c.index_mut-request.ensures.value c.move_unit-moved.ensures.request (c.move_unit-moved.ensures.sound limits))
 
 pub returns-clause-changes : goal.returns-clause-changes
 returns-clause-changes g c =
@@ -74,7 +74,7 @@ returns-clause-calls g c =
     rw (← c.self.view_is, at, shut) refl
 
 pub returns-clause-sound : goal.returns-clause-sound
-returns-clause-sound g c =
+returns-clause-sound g c = λ limits sound.
     let q = g.R.Ring.state c.args.ring.now in
-    let P = IsSoundRequest q.base (length c.args.ram.now.bytes) q.is_packed q.size (limits_of c.args.self.now c.args.job.features) in
-    rw (c.complete-completed.ensures.after.later.bytes, c.complete-completed.ensures.ring, c.remove.ensures) (all_left P c.args.self.now.requests c.args.job.k c.requires.sound)
+    let P = IsSoundRequest q.base (length c.args.ram.now.bytes) q.is_packed q.size limits in
+    rw (c.complete-completed.ensures.after.later.bytes, c.complete-completed.ensures.ring, c.remove.ensures) (all_left P c.args.self.now.requests c.args.job.k sound)
