@@ -4,3 +4,4 @@ pub mod Tasks
 pub mod Ending
 pub mod Units
 pub mod Given
+pub mod Limits

@@ -7,12 +7,12 @@ use Rattle.guestmem.specs.Address.{index_of}
 use Rattle.guestmem.specs.Item.{Item, page, after_all}
 use Rattle.guestmem.specs.Writes.{touched}
 use Rattle.chains.specs.State.{RingState}
-use Rattle.chains.specs.Places.{places, place_writes}
+use Rattle.chains.specs.Places.{place_writes}
 use Rattle.blk.specs.Sectors.{Sector, is_bad, bytes_of, IsWhole}
 use Rattle.blk.specs.Move.{after_unit}
-use Rattle.blk.specs.Sound.{IsSoundWork, IsSoundRequest, AreSound}
+use Rattle.blk.specs.Sound.{HasSoundWork, IsSoundRequest, AreSound}
 use Rattle.blk.specs.declared.request.Request.{Request}
-use Rattle.blk.specs.declared.shape.BlockShape.{BlockShape}
+use Rattle.blk.specs.declared.shape.Limits.{Limits}
 use Rattle.blk.specs.declared.advancing.Advanced.{Advanced}
 use Rattle.blk.specs.declared.advancing.Advanced.TheVariants.{Idle, Moved, BadSector, DiskFailed, Completed}
 
@@ -34,21 +34,21 @@ pub whole_length : (s : Sector) → is_bad s ≡ false → IsWhole s → length 
 whole_length None good whole = absurd (true≢false good)
 whole_length (Some bytes) good whole = whole.size
 
-still_sound : (base len : ℕ) (is_packed : Bool) (size : ℕ) (shape : BlockShape) (r : Request) (a : Advanced) → IsSoundRequest base len is_packed size shape r
-    → (let new = after_unit r a in IsSoundWork new.kind (length (places new.readable)) (length (places new.writable)) shape new.verdict new.first new.units new.done)
-    → IsSoundRequest base len is_packed size shape (after_unit r a)
-still_sound base len is_packed size shape r Idle h work = h
-still_sound base len is_packed size shape r Moved h work = record { some = h.some; slots = h.slots; id_fits = h.id_fits; id = h.id; few = h.few; readable = h.readable; writable = h.writable; total = h.total; header = h.header; status = h.status; work = work }
-still_sound base len is_packed size shape r BadSector h work = record { some = h.some; slots = h.slots; id_fits = h.id_fits; id = h.id; few = h.few; readable = h.readable; writable = h.writable; total = h.total; header = h.header; status = h.status; work = work }
-still_sound base len is_packed size shape r DiskFailed h work = record { some = h.some; slots = h.slots; id_fits = h.id_fits; id = h.id; few = h.few; readable = h.readable; writable = h.writable; total = h.total; header = h.header; status = h.status; work = work }
-still_sound base len is_packed size shape r (Completed used due) h work = h
+still_sound : (base len : ℕ) (is_packed : Bool) (size : ℕ) (limits : Limits) (r : Request) (a : Advanced) → IsSoundRequest base len is_packed size limits r
+    → HasSoundWork limits (after_unit r a)
+    → IsSoundRequest base len is_packed size limits (after_unit r a)
+still_sound base len is_packed size limits r Idle h work = h
+still_sound base len is_packed size limits r Moved h work = record { some = h.some; slots = h.slots; id_fits = h.id_fits; id = h.id; few = h.few; readable = h.readable; writable = h.writable; total = h.total; header = h.header; status = h.status; work = work }
+still_sound base len is_packed size limits r BadSector h work = record { some = h.some; slots = h.slots; id_fits = h.id_fits; id = h.id; few = h.few; readable = h.readable; writable = h.writable; total = h.total; header = h.header; status = h.status; work = work }
+still_sound base len is_packed size limits r DiskFailed h work = record { some = h.some; slots = h.slots; id_fits = h.id_fits; id = h.id; few = h.few; readable = h.readable; writable = h.writable; total = h.total; header = h.header; status = h.status; work = work }
+still_sound base len is_packed size limits r (Completed used due) h work = h
 
 -- Requests of which one went on by a unit are sound.
-pub goes_on : (len : ℕ) (q : RingState) (shape : BlockShape) (rs : List Request) (k : ℕ) (r new : Request) (a : Advanced) → AreSound len q shape rs → k < length rs → r ≡ get_or rs k r → new ≡ after_unit r a
-    → IsSoundWork new.kind (length (places new.readable)) (length (places new.writable)) shape new.verdict new.first new.units new.done
-    → AreSound len q shape (set rs k new)
-goes_on len q shape rs k r new a sound below at is work =
-    let P = IsSoundRequest q.base len q.is_packed q.size shape in
+pub goes_on : (len : ℕ) (q : RingState) (limits : Limits) (rs : List Request) (k : ℕ) (r new : Request) (a : Advanced) → AreSound len q limits rs → k < length rs → r ≡ get_or rs k r → new ≡ after_unit r a
+    → (HasSoundWork limits r → HasSoundWork limits new)
+    → AreSound len q limits (set rs k new)
+goes_on len q limits rs k r new a sound below at is work =
+    let P = IsSoundRequest q.base len q.is_packed q.size limits in
     let old : P r = rw (← at) at (sound k r below) in
-    let next : P new = rw is (still_sound q.base len q.is_packed q.size shape r a old (rw is at work)) in
+    let next : P new = rw is (still_sound q.base len q.is_packed q.size limits r a old (rw is at (work old.work))) in
     All-set P rs k new next sound

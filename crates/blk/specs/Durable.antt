@@ -1,8 +1,9 @@
 -- When what a driver wrote has to be durable (VIRTIO 1.2, 5.2.6.2).
-use Rattle.std.specs.Prelude.{ℕ, ◌==◌, ◌&&◌, ◌^◌, not, Bool, true, false, if◌then◌else◌, List, Option, Some, None, slice_get}
+use Rattle.std.specs.Prelude.{ℕ, ◌==◌, ◌&&◌, ◌^◌, not, Bool, true, false, if◌then◌else◌, Option, Some, None, slice_get}
 use Rattle.mmio.specs.Bits.{has}
 use Rattle.blk.specs.Flush.{flushes}
 use Rattle.blk.specs.Request.{is_good}
+use Rattle.blk.specs.declared.block.Block.{Block}
 use Rattle.blk.specs.declared.durable.SyncOwed.{SyncOwed}
 use Rattle.blk.specs.declared.durable.SyncOwed.TheVariants.{Nothing, Flush, EndOfWrite}
 use Rattle.blk.specs.declared.request.Kind.{Kind}
@@ -32,5 +33,10 @@ owed_if features None = Nothing
 owed_if features (Some r) = owed_by features r
 
 -- What the next step of the k-th outstanding request, from 0, owes.
-abbrev pub owed_at : ℕ → List Request → ℕ → SyncOwed
-owed_at features requests k = owed_if features (slice_get requests k)
+abbrev pub owed_at : ℕ → Block → ℕ → SyncOwed
+owed_at features b k = owed_if features (slice_get b.requests k)
+
+abbrev pub is_flush_owed : SyncOwed → Bool
+is_flush_owed Nothing = false
+is_flush_owed Flush = true
+is_flush_owed EndOfWrite = false

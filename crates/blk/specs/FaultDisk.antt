@@ -16,9 +16,13 @@ pub record FaultState : Type 0 where
 abbrev pub disk_of : FaultState → DiskState
 disk_of f = record { sectors = f.disk.sectors; failures = f.failures; honest = f.disk.honest; steady = false; is_flushed = f.disk.is_flushed }
 
--- The number of the next call: calls are counted from 1, and the count stays once it is 2^64 - 1.
+-- A count of calls after one more: it stays once it is 2^64 - 1.
+abbrev pub one_more_call : ℕ → ℕ
+one_more_call calls = if nat_lt calls (2 ^ 64 - 1) then calls + 1 else calls
+
+-- The number of the next call: calls are counted from 1.
 abbrev pub next_call : FaultState → ℕ
-next_call f = if nat_lt f.calls (2 ^ 64 - 1) then f.calls + 1 else f.calls
+next_call f = one_more_call f.calls
 
 -- Whether the next call is to fail.
 abbrev pub is_planned : FaultState → Bool

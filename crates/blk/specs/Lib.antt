@@ -6,6 +6,7 @@ pub mod Durable
 pub mod Sectors
 pub mod Request
 pub mod Shape
+pub mod Block
 pub mod Task
 pub mod Take
 pub mod Sound

@@ -101,6 +101,14 @@ is_disk_failed BadSector = false
 is_disk_failed DiskFailed = true
 is_disk_failed (Completed len is_due) = false
 
+-- Whether the sector was bad, by the answer.
+abbrev pub is_bad_sector : Advanced → Bool
+is_bad_sector Idle = false
+is_bad_sector Moved = false
+is_bad_sector BadSector = true
+is_bad_sector DiskFailed = false
+is_bad_sector (Completed len is_due) = false
+
 -- The request after one unit, by the answer.
 abbrev pub after_unit : Request → Advanced → Request
 after_unit r Idle = r

@@ -44,17 +44,22 @@ pub record IsGiven (honest : Bool) (content given : List Sector) : Type 0 where
 abbrev pub sector_in : List Sector → ℕ → Sector
 sector_in content n = slice_index_or content n None
 
--- The model of a disk with its marks of bad sectors: the sectors, how often a call failed (modulo 2^64), and whether the
--- disk is honest, steady, and flushed.
+-- The model of a disk with its marks of bad sectors: the sectors, how often a call failed (modulo 2^64), whether the disk is honest,
+-- steady, and flushed, and the count of its calls.
 pub record SectorsState : Type 0 where
   pub content : List Sector
   pub failures : ℕ
   pub honest : Bool
   pub steady : Bool
   pub is_flushed : Bool
+  pub calls : ℕ
 
+-- A disk of which no call is counted.
 abbrev pub seen_of : DiskState → List Bool → SectorsState
-seen_of d marks = record { content = sectors_of d.sectors marks; failures = d.failures; honest = d.honest; steady = d.steady; is_flushed = d.is_flushed }
+seen_of d marks = record { content = sectors_of d.sectors marks; failures = d.failures; honest = d.honest; steady = d.steady; is_flushed = d.is_flushed; calls = 0 }
+
+abbrev pub called_seen_of : DiskState → ℕ → List Bool → SectorsState
+called_seen_of d calls marks = record (seen_of d marks) { calls = calls }
 
 -- The same state, with sector n replaced.
 abbrev pub set_sector : SectorsState → ℕ → Sector → SectorsState
@@ -72,6 +77,15 @@ pub record IsKept (old : SectorsState) (failed : Bool) (new : SectorsState) : Ty
   pub steady : new.steady ≡ old.steady
   pub size : length new.content ≡ length old.content
   pub never_fails : IsTrue old.steady → failed ≡ false
+
+-- One call of the disk was made, or none; `called` is what one more call makes of the count.
+abbrev pub Calls : (ℕ → ℕ) → Bool → SectorsState → SectorsState → Type 0
+Calls called made old new = new.calls ≡ (if made then called old.calls else old.calls)
+
+abbrev pub is_asked : Fetched → Bool
+is_asked Bad = false
+is_asked Failed = true
+is_asked Read = true
 
 abbrev pub is_failed : Fetched → Bool
 is_failed Bad = false

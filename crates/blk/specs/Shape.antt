@@ -2,8 +2,6 @@
 use Rattle.std.specs.Prelude.{◌≡◌, ◌≤◌, ℕ, ◌+◌, ◌^◌, Bool, List, [], ◌∷◌, ◌++◌, length, replicate, if◌then◌else◌}
 use Rattle.byteorder.specs.Endian.{little_bytes}
 use Rattle.guestmem.specs.Number.{IsBytes}
-use Rattle.mmio.specs.Bits.{has}
-use Rattle.blk.specs.declared.shape.BlockShape.{BlockShape}
 use Rattle.blk.specs.declared.shape.TheConstants.{SECTORS_MAX}
 
 -- The feature bits that a block device offers in addition to those of every device: FLUSH 9, WRITE_ZEROES 14, and RO 5 if it
@@ -16,10 +14,6 @@ features_of read_only = if read_only then 2 ^ 9 + 2 ^ 14 + 2 ^ 5 else 2 ^ 9 + 2 
 -- features that the device does not offer, and are 0.
 unfoldable pub configuration_of : ℕ → List ℕ
 configuration_of sectors = little_bytes 8 sectors ++ (replicate 40 0 ++ (little_bytes 4 4096 ++ (little_bytes 4 1 ++ 0 ∷ [])))
-
--- What a block device was made as, once its driver accepted these features: bit 14 of them is WRITE_ZEROES (VIRTIO 1.2, 5.2.3).
-abbrev pub with_features : ℕ → Bool → List ℕ → ℕ → BlockShape
-with_features sectors read_only id features = record { sectors = sectors; read_only = read_only; id = id; write_zeroes = has features (2 ^ 14) }
 
 -- What a block device may be made as: it has 1 to 2,097,152 sectors, and an id of 20 bytes.
 pub record IsBlockShape (sectors : ℕ) (id : List ℕ) : Type 0 where

@@ -15,18 +15,20 @@ ghost use Rattle.guestmem.specs.Rises.{Rises, Touches};
 ghost use Rattle.chains.specs.Frame.{MayServe, HasServed};
 ghost use Rattle.chains.specs.Places.{places, AreSegmentsInside};
 ghost use Rattle.chains.specs.Publish.{after_publish, is_interrupt_due};
-ghost use Rattle.blk.specs.Advance.{end_writes, used_len, data_written, HasFlushed, IsAfterAdvancing, advance_step};
-ghost use Rattle.blk.specs.Sectors.{IsKept, AreWhole};
+ghost use Rattle.blk.specs.Advance.{end_writes, used_len, data_written, HasFlushed, IsAfterAdvancing, advance_step, asks_at};
+ghost use Rattle.blk.specs.Block.{widest};
+ghost use Rattle.blk.specs.Sectors.{AreWhole, Calls, IsKept};
 ghost use Rattle.blk.specs.Move.{MaySectors, is_disk_failed};
 ghost use Rattle.blk.specs.Sound.{AreSound};
 ghost use Rattle.blk.specs.declared.advancing.Advanced.TheVariants.{Completed};
+ghost use Rattle.blk.specs.declared.shape.Limits.{Limits};
 
+use crate::block::Block;
 use crate::disk::{Disk, SECTOR_SIZE};
 use crate::moving::move_unit;
 use crate::request::{Kind, Request};
-use crate::requests::Requests;
 use crate::sectors::Sectors;
-use crate::shape::{BlockShape, ID_SIZE};
+use crate::shape::ID_SIZE;
 use chains::{Ring, copy_in_last};
 use guestmem::{Ram, TouchLog};
 
@@ -55,45 +57,56 @@ pub enum Advanced {
     },
 }
 
-impl Requests {
-    /// Advances the k-th outstanding request, from 0, by one unit, or ends it. It takes no memory. Sectors are reported
-    /// to the log under the number `device`. RAM begins at the guest-physical address `base`.
+/// Which request of a device a step advances, and where.
+#[derive(Clone, Copy)]
+pub struct Job {
+    /// Which of its outstanding requests it is, from 0.
+    pub k: usize,
+
+    /// The number of the device, under which sectors are reported to a log.
+    pub device: u8,
+
+    /// The guest-physical address at which RAM begins.
+    pub base: u64,
+}
+
+impl Block {
+    /// Advances an outstanding request by one unit, or ends it. It takes no memory, and calls the disk once where a unit reads, writes,
+    /// clears or flushes, and not otherwise: not for a bad sector, nor for the id, nor for the end.
     pub fn advance<R: Ring, D: Disk, L: TouchLog>(
         &mut self,
-        k: usize,
+        job: Job,
         ring: &mut R,
-        base: u64,
-        shape: &BlockShape,
         sectors: &mut Sectors<D>,
-        device: u8,
         ram: &mut Ram,
         log: &mut L,
     ) -> Advanced
-        requires base { base ≡ (R.state ring.old).base }
+        requires base { job.base ≡ (R.state ring.old).base }
         requires ready { MayServe L.may (length ram.old.bytes) (R.state ring.old) log.old }
-        requires capacity { length sectors.old.content ≡ shape.now.sectors }
-        requires sound { AreSound (length ram.old.bytes) (R.state ring.old) shape.now self.old }
-        requires may_sectors { MaySectors L.may log.old device (length sectors.old.content) }
-        ensures changes { IsAfterAdvancing (Touches L.after log.old log.new ram.old ram.new) sectors.old.honest device ram.old.bytes sectors.old.content (λ given. advance_step shape.now ram.old.bytes (R.state ring.old) given self.old k (not (is_disk_failed result))) result ram.new.bytes (R.state ring.new) sectors.new.content self.new }
+        requires capacity { length sectors.old.content ≡ self.old.sectors }
+        requires sound { AreSound (length ram.old.bytes) (R.state ring.old) (widest self.old.sectors) self.old.requests }
+        requires may_sectors { MaySectors L.may log.old job.device (length sectors.old.content) }
+        ensures changes { IsAfterAdvancing (Touches L.after log.old log.new ram.old ram.new) sectors.old.honest job.device ram.old.bytes sectors.old.content (λ given. advance_step ram.old.bytes (R.state ring.old) given self.old job.k (not (is_disk_failed result))) result ram.new.bytes (R.state ring.new) sectors.new.content self.new }
         ensures kept { IsKept sectors.old (is_disk_failed result) sectors.new }
-        ensures flushed { HasFlushed self.old k result sectors.new.is_flushed }
+        ensures calls { Calls D.called (asks_at self.old job.k result) sectors.old sectors.new }
+        ensures flushed { HasFlushed self.old job.k result sectors.new.is_flushed }
         ensures whole { AreWhole sectors.new.content }
-        ensures sound { AreSound (length ram.new.bytes) (R.state ring.new) shape.now self.new }
+        ensures sound { (limits : Limits) → AreSound (length ram.old.bytes) (R.state ring.old) limits self.old.requests → AreSound (length ram.new.bytes) (R.state ring.new) limits self.new.requests }
         ensures after { HasServed L.may ram.old ram.new log.new }
         ensures decoder { R.decoder ring.new ≡ R.decoder ring.old }
     {
-        if k >= self.list.len() {
-            sectors.recall();
+        sectors.recall();
+        if job.k >= self.requests.list.len() {
             return Advanced::Idle;
         }
-        if self.list[k].is_open() {
-            let moved = move_unit(&mut self.list[k], shape, sectors, device, base, ram, log);
+        if self.requests.list[job.k].is_open() {
+            let request = &mut self.requests.list[job.k];
+            let moved = move_unit(job, &self.id, request, sectors, ram, log);
             sectors.recall();
             return moved;
         }
-        sectors.recall();
-        let completed = complete(ring, base, &self.list[k], ram, log);
-        self.remove(k);
+        let completed = complete(job.base, ring, &self.requests.list[job.k], ram, log);
+        self.requests.remove(job.k);
         completed
     }
 }
@@ -102,8 +115,8 @@ impl Requests {
 #[tactic(auto, unfolding(crate::specs::Advance::end_writes))]
 #[inline(always)]
 fn complete<R: Ring, L: TouchLog>(
-    ring: &mut R,
     base: u64,
+    ring: &mut R,
     request: &Request,
     ram: &mut Ram,
     log: &mut L,

@@ -3,11 +3,12 @@
 //! No step calls `Disk::flush` for the end of a write: one more call would change the outcomes of every trace of such a driver,
 //! and an end cannot fail. So a host flushes before that step, and does not make the step where that failed.
 
-ghost use Rattle.std.specs.Prelude.{◌≡◌, slice_get};
-ghost use Rattle.blk.specs.Durable.{ends_write, is_write, owed_at, owed_by, owed_if};
+ghost use Rattle.std.specs.Prelude.{◌≡◌};
+ghost use Rattle.blk.specs.Durable.{ends_write, is_flush_owed, is_write, owed_at, owed_by};
+ghost use Rattle.blk.specs.Flush.{flushes, flushes_at};
 
+use crate::block::Block;
 use crate::request::{Kind, Request, Verdict};
-use crate::requests::Requests;
 use crate::shape::FLUSH;
 
 /// Whether what was written to a disk has to be durable before a step, and why.
@@ -16,7 +17,7 @@ pub enum SyncOwed {
     /// It need not be.
     Nothing,
 
-    /// The step flushes the disk, since the driver asked for it. It flushes by itself: `Requests::advance` calls the disk.
+    /// The step flushes the disk, since the driver asked for it. It flushes by itself: `Block::advance` calls the disk.
     Flush,
 
     /// The step ends a write, or a clearing, of a driver that did not accept the feature FLUSH. Such a driver takes it for durable from
@@ -24,21 +25,23 @@ pub enum SyncOwed {
     EndOfWrite,
 }
 
-impl Requests {
+impl Block {
     /// Whether what was written to the disk has to be durable before the next step of the k-th outstanding request, from 0, whose driver
     /// accepted these features.
-    pub fn must_sync(&self, k: usize, features: u64) -> SyncOwed
-        ensures { result ≡ owed_at features self.now k }
+    pub fn due_sync(&self, k: usize, features: u64) -> SyncOwed
+        ensures owed { result ≡ owed_at features self.now k }
+        ensures flush { is_flush_owed result ≡ flushes_at self.now k }
     {
-        if k >= self.list.len() {
-            return SyncOwed::Nothing;
+        match self.requests.as_slice().get(k) {
+            Some(request) => owed_by(request, features),
+            None => SyncOwed::Nothing,
         }
-        owed_by(&self.list[k], features)
     }
 }
 
 fn owed_by(request: &Request, features: u64) -> SyncOwed
-    ensures { result ≡ owed_by features request.now }
+    ensures owed { result ≡ owed_by features request.now }
+    ensures flush { is_flush_owed result ≡ flushes request.now }
 {
     if request.flushes() {
         return SyncOwed::Flush;

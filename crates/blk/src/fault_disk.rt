@@ -2,7 +2,7 @@
 
 ghost use Rattle.std.specs.Prelude.{◌≡◌, ◌<◌, length, ◌+◌, ◌%◌, ◌^◌, IsErr};
 ghost use Rattle.blk.specs.Disk.{Reads, Writes, Flushes};
-ghost use Rattle.blk.specs.FaultDisk.{disk_of, next_call, is_planned, IsCalled};
+ghost use Rattle.blk.specs.FaultDisk.{disk_of, next_call, one_more_call, is_planned, IsCalled};
 
 use crate::disk::{Disk, DiskFault};
 use std::marker::Model;
@@ -61,6 +61,10 @@ impl<D: Disk> FaultDisk<D> {
 
 impl<D: Disk> Disk for FaultDisk<D> {
     ghost state = { disk_of };
+
+    ghost calls = { λ d. d.calls };
+
+    ghost called = { one_more_call };
 
     fn sectors(&self) -> u64 {
         self.disk.sectors()

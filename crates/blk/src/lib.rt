@@ -1,9 +1,10 @@
 //! The block device (VIRTIO 1.2, 5.2): its disk, its outstanding requests, and the steps that serve them.
 //!
-//! `Requests::take` takes the next chain of a ring of either layout as a `Request`. It reads the header of the request then,
-//! and keeps the segments of the chain, with the addresses as the guest wrote them: they are never read again, whatever the driver
-//! writes later. `Requests::advance` advances an outstanding request by one unit, with one call of the disk at most, or reports its
-//! verdict and publishes its chain. What both read and write lies at the index in RAM of such an address, by the base of the ring.
+//! `Block` is a device: how many sectors its disk has, whether a driver may only read it, its id, and its outstanding requests.
+//! `Block::take` takes the next chain of a ring of either layout as a `Request`. It reads the header of the request then, and keeps the
+//! segments of the chain, with the addresses as the guest wrote them: they are never read again, whatever the driver writes later.
+//! `Block::advance` advances an outstanding request by one unit, or reports its verdict and publishes its chain. What both read and
+//! write lies at the index in RAM of such an address, by the base of the ring.
 //!
 //! The disk is any type that keeps the contract of the trait `Disk` (`specs/Disk`): `MemDisk` in memory, `FileDisk` in a file,
 //! and `FaultDisk`, which fails by a plan. `Sectors` is a disk and the marks of those of its sectors that are bad: a write that
@@ -14,30 +15,36 @@
 //! of one segment, which writes zeros a sector at a time.
 //!
 //! # What the layers above may rely on
-//! - `Requests::take(ring, shape, ram, log)` is `take_step` (`specs/Take`) over any `Ring`, with fewer than 8 requests
-//!   outstanding. An error is out of memory, comes only at a long queue, and leaves all as it was.
-//! - `Requests::advance(k, ring, shape, sectors, device, ram, log)` is `advance_step` (`specs/Advance`), with any disk: the
-//!   answer, RAM, the ring, the requests, the log and which sectors are bad are those of the step with the sectors as the disk
-//!   gave them in it. Where no sector was written the sectors are known too. What a written sector holds, and that a disk gives
-//!   what it holds, is said of honest disks. It takes no memory.
+//! - `Block::take(site, features, ring, ram, log)` is `take_step` (`specs/Take`) over any `Ring`, where `Block::has_room`: a ninth request
+//!   is not taken. Memory is refused only at a long queue, and then all is as it was.
+//! - `Block::advance(job, ring, sectors, ram, log)` is `advance_step` (`specs/Advance`), with any disk: the answer, RAM, the ring, the
+//!   device, the log and which sectors are bad are those of the step with the sectors as the disk gave them in it. Where no sector was
+//!   written the sectors are known too. What a written sector holds, and that a disk gives what it holds, is said of honest disks.
+//!   It takes no memory.
+//! - It calls the disk once where it reads, writes, clears or flushes, and not where the sector is bad, for the id, nor where the request
+//!   ends (`asks_at`): no body that calls it twice keeps the clause. Taking calls no disk.
 //! - The count of failures rises by one exactly where the answer is `DiskFailed`, and a steady disk never fails. Requests stay
 //!   sound and sectors whole, whatever the disk does.
-//! - `Requests::fail_flush(k)` makes an outstanding flush as one whose disk failed, and calls no disk (`specs/Flush`): for a host that
-//!   could not bring the bytes of the disk to the file that holds them.
-//! - `Requests::must_sync(k, features)` says whether what was written has to be durable before the next step of a request: that step
+//! - `Block::drop_requests_unless(is_ready)` drops the requests, as a reset does, unless their queue is ready.
+//! - `Block::due_sync(k, features)` says whether what was written has to be durable before the next step of a request: that step
 //!   makes a flush, or it ends a write of a driver that did not accept the feature FLUSH (`specs/Durable`). `advance` flushes the disk
 //!   for the first, and never for the second, which is the host's part.
-//! - `Requests::are_sound` tests what every outstanding request keeps in a RAM with this base, for requests that come from elsewhere.
+//! - `Block::fail_flush(k)` makes an outstanding flush as one whose disk failed, and calls no disk (`specs/Flush`): for a host that
+//!   could not bring the bytes of the disk to the file that holds them.
+//! - `Block::has_sound_requests` tests what every outstanding request keeps in a RAM with this base, for requests that come from
+//!   elsewhere.
+//! - `Disk::sectors` is called where a disk comes in, and once with each write.
 //! - `Sectors::next_bad` names the least bad sector from one on, and `Sectors::read_good` reads one that is not bad, with no look
 //!   at the marks.
 //!
 //! Other definitions: `specs/Task` (what a request asks for, by its header and the segment that may follow it), `specs/Move`
-//! (one unit of a request), `specs/Sound` (what every outstanding request keeps), `specs/Shape` (the features that a device
-//! offers, and its configuration space), `specs/Request`, `specs/FaultDisk` and `specs/FileDisk`. Nothing is trusted here
+//! (one unit of a request), `specs/Sound` (what every outstanding request keeps), `specs/Block`, `specs/Shape` (the features that a
+//! device offers, and its configuration space), `specs/Request`, `specs/FaultDisk` and `specs/FileDisk`. Nothing is trusted here
 //! beside `byteorder` and the crates below; and what a file holds between two calls is not known to any contract.
 #![tactic(auto)]
 
 mod advancing;
+mod block;
 mod disk;
 mod durable;
 mod fault_disk;
@@ -53,20 +60,17 @@ mod sound;
 mod taking;
 mod task;
 
-pub use advancing::Advanced;
+pub use advancing::{Advanced, Job};
+pub use block::Block;
 pub use disk::{Disk, DiskFault, SECTOR_SIZE};
 pub use durable::SyncOwed;
 pub use fault_disk::FaultDisk;
 pub use file_disk::FileDisk;
 pub use mem_disk::MemDisk;
-pub use request::{
-    HEADER_SIZE, Kind, Request, SEGMENT_SIZE, TYPE_FLUSH, TYPE_GET_ID, TYPE_IN, TYPE_OUT,
-    TYPE_WRITE_ZEROES, Verdict,
-};
+pub use request::{Kind, Request, Verdict};
 pub use requests::{REQUESTS_MAX, Requests};
 pub use sectors::{Fetched, Sectors};
 pub use shape::{
-    BlockShape, CONFIGURATION_SIZE, DEVICE_ID, FLUSH, ID_SIZE, QUEUE_COUNT, RO, SECTORS_MAX,
-    WRITE_ZEROES, ZEROES_MAX, configuration, features, is_block_shape,
+    CONFIGURATION_SIZE, DEVICE_ID, FLUSH, ID_SIZE, QUEUE_COUNT, RO, SECTORS_MAX, WRITE_ZEROES,
+    configuration, features, is_block_shape,
 };
-pub use taking::Taken;

@@ -8,39 +8,42 @@ ghost use Rattle.guestmem.specs.Rises.{Rises, Touches};
 ghost use Rattle.chains.specs.Frame.{HasServed};
 ghost use Rattle.chains.specs.Places.{places, AreSegmentsInside};
 ghost use Rattle.blk.specs.Request.{is_open, next_sector};
-ghost use Rattle.blk.specs.Sectors.{IsKept, AreWhole};
+ghost use Rattle.blk.specs.Advance.{asks};
+ghost use Rattle.blk.specs.Sectors.{AreWhole, Calls, IsKept};
 ghost use Rattle.blk.specs.Move.{IsMoved, MaySectors, move_in, move_out, move_zero, move_flush, move_id, move_of, write_unit, after_unit, is_disk_failed};
-ghost use Rattle.blk.specs.Sound.{IsSoundWork};
+ghost use Rattle.blk.specs.Block.{widest};
+ghost use Rattle.blk.specs.Sound.{HasSoundWork};
 ghost use Rattle.blk.specs.declared.advancing.Advanced.TheVariants.{Moved};
 ghost use Rattle.blk.specs.declared.request.Kind.TheVariants as kinds;
+ghost use Rattle.blk.specs.declared.shape.Limits.{Limits};
 
-use crate::advancing::Advanced;
+use crate::advancing::{Advanced, Job};
 use crate::disk::{Disk, SECTOR_SIZE};
 use crate::request::{HEADER_SIZE, Kind, Request, Verdict};
 use crate::sectors::{Fetched, Sectors};
-use crate::shape::{BlockShape, ID_SIZE};
+use crate::shape::ID_SIZE;
 use chains::{copy_in_with_base, copy_out_with_base};
 use guestmem::{Ram, TouchLog, recall_bytes};
 
 /// Reads one sector into the writable bytes of a request.
 fn move_in<D: Disk, L: TouchLog>(
+    job: Job,
     request: &mut Request,
     sectors: &mut Sectors<D>,
-    device: u8,
-    base: u64,
     ram: &mut Ram,
     log: &mut L,
 ) -> Advanced
-    requires inside { AreSegmentsInside base (length ram.old.bytes) request.old.writable }
+    requires inside { AreSegmentsInside job.base (length ram.old.bytes) request.old.writable }
     requires places { SECTOR_SIZE * request.old.done + SECTOR_SIZE ≤ length (places request.old.writable) }
     requires sector { request.old.first + request.old.done < length sectors.old.content }
     requires open { request.old.done < request.old.units }
     requires small { length sectors.old.content < 2 ^ 64 }
     requires whole { AreWhole sectors.old.content }
     requires may { MayPages L.may log.old (length ram.old.bytes) }
-    ensures moved { IsMoved (Touches L.after log.old log.new ram.old ram.new) sectors.old.honest device ram.old.bytes sectors.old.content (λ given. move_in base given request.old (not (is_disk_failed result))) result request.new ram.new.bytes sectors.new.content }
+    ensures moved { IsMoved (Touches L.after log.old log.new ram.old ram.new) sectors.old.honest job.device ram.old.bytes sectors.old.content (λ given. move_in job.base given request.old (not (is_disk_failed result))) result request.new ram.new.bytes sectors.new.content }
     ensures request { request.new ≡ after_unit request.old result }
     ensures kept { IsKept sectors.old (is_disk_failed result) sectors.new }
+    ensures calls { Calls D.called (asks kinds.In result) sectors.old sectors.new }
     ensures after { HasServed L.may ram.old ram.new log.new }
 {
     let n = request.next_sector();
@@ -58,7 +61,7 @@ fn move_in<D: Disk, L: TouchLog>(
             recall_bytes(&buffer);
             copy_in_with_base(
                 ram,
-                base,
+                job.base,
                 request.writable.as_slice(),
                 SECTOR_SIZE as u64 * request.done as u64,
                 &buffer,
@@ -72,73 +75,77 @@ fn move_in<D: Disk, L: TouchLog>(
 
 /// Writes the readable bytes of one unit into a sector.
 fn move_out<D: Disk, L: TouchLog>(
+    job: Job,
     request: &mut Request,
     sectors: &mut Sectors<D>,
-    device: u8,
-    base: u64,
     ram: &mut Ram,
     log: &mut L,
 ) -> Advanced
-    requires inside { AreSegmentsInside base (length ram.old.bytes) request.old.readable }
+    requires inside { AreSegmentsInside job.base (length ram.old.bytes) request.old.readable }
     requires places { HEADER_SIZE + SECTOR_SIZE * request.old.done + SECTOR_SIZE ≤ length (places request.old.readable) }
     requires sector { request.old.first + request.old.done < length sectors.old.content }
     requires open { request.old.done < request.old.units }
     requires small { length sectors.old.content < 2 ^ 64 }
+    requires whole { AreWhole sectors.old.content }
     requires may { MayPages L.may log.old (length ram.old.bytes) }
-    requires may_sectors { MaySectors L.may log.old device (length sectors.old.content) }
-    ensures moved { IsMoved (Touches L.after log.old log.new ram.old ram.new) sectors.old.honest device ram.old.bytes sectors.old.content (λ given. move_out base ram.old.bytes request.old (not (is_disk_failed result))) result request.new ram.new.bytes sectors.new.content }
+    requires may_sectors { MaySectors L.may log.old job.device (length sectors.old.content) }
+    ensures moved { IsMoved (Touches L.after log.old log.new ram.old ram.new) sectors.old.honest job.device ram.old.bytes sectors.old.content (λ given. move_out job.base ram.old.bytes request.old (not (is_disk_failed result))) result request.new ram.new.bytes sectors.new.content }
     ensures request { request.new ≡ after_unit request.old result }
     ensures kept { IsKept sectors.old (is_disk_failed result) sectors.new }
+    ensures calls { Calls D.called true sectors.old sectors.new }
     ensures after { HasServed L.may ram.old ram.new log.new }
 {
     let mut buffer = [0; SECTOR_SIZE];
     copy_out_with_base(
         ram,
-        base,
+        job.base,
         request.readable.as_slice(),
         HEADER_SIZE as u64 + SECTOR_SIZE as u64 * request.done as u64,
         &mut buffer,
     );
-    write_unit(request, sectors, device, &buffer, log)
+    write_unit(job.device, &buffer, request, sectors, log)
 }
 
 /// Clears the sector of one unit.
 fn move_zero<D: Disk, L: TouchLog>(
+    device: u8,
     request: &mut Request,
     sectors: &mut Sectors<D>,
-    device: u8,
     log: &mut L,
 ) -> Advanced
     requires sector { request.old.first + request.old.done < length sectors.old.content }
     requires open { request.old.done < request.old.units }
     requires small { length sectors.old.content < 2 ^ 64 }
+    requires whole { AreWhole sectors.old.content }
     requires may_sectors { MaySectors L.may log.old device (length sectors.old.content) }
     ensures moved { (ram : Memory) → IsMoved (Touches L.after log.old log.new ram ram) sectors.old.honest device ram.bytes sectors.old.content (λ given. move_zero request.old (not (is_disk_failed result))) result request.new ram.bytes sectors.new.content }
     ensures request { request.new ≡ after_unit request.old result }
     ensures kept { IsKept sectors.old (is_disk_failed result) sectors.new }
+    ensures calls { Calls D.called true sectors.old sectors.new }
     ensures log { log.new ≡ L.after log.old (sector device (next_sector request.old)) }
 {
-    write_unit(request, sectors, device, &[0; SECTOR_SIZE], log)
+    write_unit(device, &[0; SECTOR_SIZE], request, sectors, log)
 }
 
 /// Writes these bytes into the sector of one unit.
 fn write_unit<D: Disk, L: TouchLog>(
-    request: &mut Request,
-    sectors: &mut Sectors<D>,
     device: u8,
     bytes: &[u8; SECTOR_SIZE],
+    request: &mut Request,
+    sectors: &mut Sectors<D>,
     log: &mut L,
 ) -> Advanced
     requires sector { request.old.first + request.old.done < length sectors.old.content }
     requires open { request.old.done < request.old.units }
     requires small { length sectors.old.content < 2 ^ 64 }
+    requires whole { AreWhole sectors.old.content }
     requires may_sectors { MaySectors L.may log.old device (length sectors.old.content) }
     ensures moved { (ram : Memory) → IsMoved (Touches L.after log.old log.new ram ram) sectors.old.honest device ram.bytes sectors.old.content (λ given. write_unit bytes.now request.old (not (is_disk_failed result))) result request.new ram.bytes sectors.new.content }
     ensures request { request.new ≡ after_unit request.old result }
     ensures kept { IsKept sectors.old (is_disk_failed result) sectors.new }
+    ensures calls { Calls D.called true sectors.old sectors.new }
     ensures log { log.new ≡ L.after log.old (sector device (next_sector request.old)) }
 {
-    sectors.recall();
     let n = request.next_sector();
     let written = sectors.write(n, bytes);
     log.sector(device, n);
@@ -159,6 +166,7 @@ fn move_flush<D: Disk>(request: &mut Request, sectors: &mut Sectors<D>) -> Advan
     ensures kept { IsKept sectors.old (is_disk_failed result) sectors.new }
     ensures same { sectors.new.content ≡ sectors.old.content }
     ensures flushed { result ≡ Moved → IsTrue sectors.new.is_flushed }
+    ensures calls { Calls D.called true sectors.old sectors.new }
 {
     if sectors.flush().is_err() {
         request.verdict = Verdict::IoError;
@@ -170,9 +178,9 @@ fn move_flush<D: Disk>(request: &mut Request, sectors: &mut Sectors<D>) -> Advan
 
 /// Writes the id of the device into the first writable bytes of a request.
 fn move_id<L: TouchLog>(
-    request: &mut Request,
-    id: &[u8; ID_SIZE],
     base: u64,
+    id: &[u8; ID_SIZE],
+    request: &mut Request,
     ram: &mut Ram,
     log: &mut L,
 ) -> Advanced
@@ -192,37 +200,37 @@ fn move_id<L: TouchLog>(
     Advanced::Moved
 }
 
-/// Does one unit of a request.
+/// Does one unit of a request of a device with this id.
 pub(crate) fn move_unit<D: Disk, L: TouchLog>(
+    job: Job,
+    id: &[u8; ID_SIZE],
     request: &mut Request,
-    shape: &BlockShape,
     sectors: &mut Sectors<D>,
-    device: u8,
-    base: u64,
     ram: &mut Ram,
     log: &mut L,
 ) -> Advanced
     requires open { is_open request.old ≡ true }
-    requires capacity { length sectors.old.content ≡ shape.now.sectors }
-    requires sound { IsSoundWork request.old.kind (length (places request.old.readable)) (length (places request.old.writable)) shape.now request.old.verdict request.old.first request.old.units request.old.done }
-    requires readable { AreSegmentsInside base (length ram.old.bytes) request.old.readable }
-    requires writable { AreSegmentsInside base (length ram.old.bytes) request.old.writable }
+    requires small { length sectors.old.content < 2 ^ 64 }
+    requires whole { AreWhole sectors.old.content }
+    requires sound { HasSoundWork (widest (length sectors.old.content)) request.old }
+    requires readable { AreSegmentsInside job.base (length ram.old.bytes) request.old.readable }
+    requires writable { AreSegmentsInside job.base (length ram.old.bytes) request.old.writable }
     requires may { MayPages L.may log.old (length ram.old.bytes) }
-    requires may_sectors { MaySectors L.may log.old device (length sectors.old.content) }
-    ensures moved { IsMoved (Touches L.after log.old log.new ram.old ram.new) sectors.old.honest device ram.old.bytes sectors.old.content (λ given. move_of request.old.kind base shape.now.id ram.old.bytes given request.old (not (is_disk_failed result))) result request.new ram.new.bytes sectors.new.content }
+    requires may_sectors { MaySectors L.may log.old job.device (length sectors.old.content) }
+    ensures moved { IsMoved (Touches L.after log.old log.new ram.old ram.new) sectors.old.honest job.device ram.old.bytes sectors.old.content (λ given. move_of request.old.kind job.base id.now ram.old.bytes given request.old (not (is_disk_failed result))) result request.new ram.new.bytes sectors.new.content }
     ensures request { request.new ≡ after_unit request.old result }
-    ensures sound { IsSoundWork request.new.kind (length (places request.new.readable)) (length (places request.new.writable)) shape.now request.new.verdict request.new.first request.new.units request.new.done }
+    ensures sound { (limits : Limits) → HasSoundWork limits request.old → HasSoundWork limits request.new }
     ensures kept { IsKept sectors.old (is_disk_failed result) sectors.new }
+    ensures calls { Calls D.called (asks request.old.kind result) sectors.old sectors.new }
     ensures flushed { request.old.kind ≡ kinds.Flush → result ≡ Moved → IsTrue sectors.new.is_flushed }
     ensures after { HasServed L.may ram.old ram.new log.new }
 {
-    sectors.recall();
     match request.kind {
-        Kind::In => move_in(request, sectors, device, base, ram, log),
-        Kind::Out => move_out(request, sectors, device, base, ram, log),
+        Kind::In => move_in(job, request, sectors, ram, log),
+        Kind::Out => move_out(job, request, sectors, ram, log),
         Kind::Flush => move_flush(request, sectors),
-        Kind::GetId => move_id(request, &shape.id, base, ram, log),
-        Kind::Zero => move_zero(request, sectors, device, log),
+        Kind::GetId => move_id(job.base, id, request, ram, log),
+        Kind::Zero => move_zero(job.device, request, sectors, log),
         Kind::Refused => Advanced::Idle,
     }
 }

@@ -119,7 +119,7 @@ impl Request {
     }
 
     /// Whether it has units to do, and no error yet.
-    pub fn is_open(&self) -> bool
+    pub(crate) fn is_open(&self) -> bool
         ensures { result ≡ is_open self.now }
     {
         match self.verdict {

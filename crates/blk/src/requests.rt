@@ -2,9 +2,6 @@
 //!
 //! A pick is an index in this list, from 1 on, in the order of taking. When a request ends, those after it move up. So a host
 //! may serve them in any order, and a recorded run says which one it served.
-//!
-//! A request lives while its queue is ready: a write of 0 to QueueReady drops all, like a reset. So the slots that a request
-//! gives back are always those of the ring that it came from.
 
 ghost use Rattle.std.specs.Prelude.{◌≡◌, ◌==◌, ◌≤◌, ◌<◌, ◌++◌, ◌∷◌, [], length, IfOk, vec_capacity};
 ghost use Rattle.std.specs.List.{remove};
@@ -66,13 +63,6 @@ impl Requests {
         self.list.is_empty()
     }
 
-    /// Whether there are as many as there can be.
-    pub fn is_full(&self) -> bool
-        ensures { result ≡ (length self.now == REQUESTS_MAX) }
-    {
-        self.len() == REQUESTS_MAX
-    }
-
     /// Adds one at the end, where there is room. It takes no memory.
     pub fn push(&mut self, request: Request)
         requires { length self.old < REQUESTS_MAX }
@@ -95,7 +85,7 @@ impl Requests {
     }
 
     /// Drops all of them. Their chains are not published. The room for new ones stays.
-    pub fn clear(&mut self)
+    pub(crate) fn clear(&mut self)
         ensures { self.new ≡ [] }
     {
         self.list.clear();

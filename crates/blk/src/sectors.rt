@@ -2,11 +2,13 @@
 //!
 //! A sector that a failed write left in doubt is bad until a write of it succeeds. A read of it makes no call of the disk and
 //! ends as an error: so a guest never reads bytes of which nobody knows which they are, on either host of a move.
+//!
+//! How many sectors a disk has, and that each has 512 bytes, only the disk knows, after a write too. It is asked where it comes in, and
+//! once with each write; between two of these calls nothing changes it.
 
-ghost use Rattle.std.specs.Prelude.{◌≡◌, ◌≤◌, ◌<◌, ◌^◌, count_by, length, map, IfOk, IsTrue, OnOk, OnErr, Some, None, false, replicate, slice_set, is_ok, not};
-ghost use Rattle.blk.specs.Disk.{AreSectors};
+ghost use Rattle.std.specs.Prelude.{◌≡◌, ◌≤◌, ◌<◌, ◌^◌, count_by, length, map, IfOk, IsTrue, OnOk, OnErr, Some, None, true, false, replicate, slice_set, is_ok, not};
 ghost use Rattle.dirtylog.specs.Members.{IsLeastFrom};
-ghost use Rattle.blk.specs.Sectors.{bytes_of, seen_of, sector_in, is_bad, set_sector, AreWhole, IsKept, IsFetched, is_failed};
+ghost use Rattle.blk.specs.Sectors.{AreWhole, Calls, IsFetched, IsKept, bytes_of, called_seen_of, is_asked, is_bad, is_failed, sector_in};
 
 use crate::disk::{Disk, DiskFault, SECTOR_SIZE};
 use dirtylog::BitSet;
@@ -37,13 +39,14 @@ pub struct Sectors<D: Disk> {
 
 impl<D: Disk> Model for Sectors<D> {
     ghost use Rattle.std.specs.Prelude.{length, ◌≡◌};
-    ghost use Rattle.blk.specs.Sectors.{SectorsState, seen_of};
+    ghost use Rattle.blk.specs.Disk.{AreSectors};
+    ghost use Rattle.blk.specs.Sectors.{SectorsState, called_seen_of};
 
     ghost Value = { SectorsState };
 
-    ghost view = { λ s. seen_of (D.state s.disk) s.bad };
+    ghost view = { λ s. called_seen_of (D.state s.disk) (D.calls s.disk) s.bad };
 
-    ghost invariant = { λ s. length s.bad ≡ length (D.state s.disk).sectors };
+    ghost invariant = { λ s. (length s.bad ≡ length (D.state s.disk).sectors) × AreSectors (D.state s.disk).sectors };
 }
 
 impl<D: Disk> Sectors<D> {
@@ -51,7 +54,7 @@ impl<D: Disk> Sectors<D> {
     pub fn new(alloc: Global, disk: D) -> Result<Sectors<D>, NoMemory>
     where
         D: Drop,
-        ensures { IfOk result (λ sectors. sectors ≡ seen_of (D.state disk) (replicate (length (D.state disk).sectors) false)) }
+        ensures { IfOk result (λ sectors. sectors ≡ called_seen_of (D.state disk) (D.calls disk) (replicate (length (D.state disk).sectors) false)) }
     {
         let bad = BitSet::new(alloc, disk.sectors())?;
         Ok(Sectors { disk, bad })
@@ -60,33 +63,35 @@ impl<D: Disk> Sectors<D> {
     /// The sectors of a disk, of which these are bad. It takes no memory.
     pub fn with_marks(disk: D, bad: BitSet) -> Sectors<D>
         requires { length bad ≡ length (D.state disk).sectors }
-        ensures { result ≡ seen_of (D.state disk) bad }
+        ensures { result ≡ called_seen_of (D.state disk) (D.calls disk) bad }
     {
+        // From this call it is known that each of its sectors has 512 bytes.
+        let _count = disk.sectors();
         Sectors { disk, bad }
     }
 
     /// The disk, and which of its sectors are bad.
     pub fn into_parts(self) -> (D, BitSet)
-        ensures parts { self ≡ seen_of (D.state result.0) result.1 }
+        ensures parts { self ≡ called_seen_of (D.state result.0) (D.calls result.0) result.1 }
         ensures length { length result.1 ≡ length (D.state result.0).sectors }
     {
         (self.disk, self.bad)
     }
 
     /// States for proofs that the sectors that are not bad have 512 bytes each, and that the count of sectors fits 64
-    /// bits (see the page of `guestmem`).
+    /// bits (see the page of `guestmem`). The disk is not asked.
     pub fn recall(&self)
         ensures whole { AreWhole self.now.content }
         ensures few { length self.now.content < 2 ^ 64 }
     {
-        let _count = self.disk.sectors();
+        let _count = self.bad.len();
     }
 
-    /// How many there are.
+    /// How many there are. The disk is not asked.
     pub fn count(&self) -> u64
         ensures { result ≡ length self.now.content }
     {
-        self.disk.sectors()
+        self.bad.len()
     }
 
     /// How many sectors are bad. It takes constant time.
@@ -94,14 +99,6 @@ impl<D: Disk> Sectors<D> {
         ensures { result ≡ count_by is_bad self.now.content }
     {
         self.bad.count()
-    }
-
-    /// Whether a sector is bad. The disk is not asked.
-    pub fn is_bad(&self, n: u64) -> bool
-        requires { n < length self.now.content }
-        ensures { result ≡ is_bad (sector_in self.now.content n) }
-    {
-        self.bad.contains(n)
     }
 
     /// The least bad sector from sector `from` on, or None if there is none. The disk is not asked.
@@ -112,14 +109,6 @@ impl<D: Disk> Sectors<D> {
         self.bad.first_from(from)
     }
 
-    /// Makes a sector bad. The disk is not asked.
-    pub fn mark_bad(&mut self, n: u64)
-        requires { n < length self.old.content }
-        ensures { self.new ≡ set_sector self.old n None }
-    {
-        self.bad.insert(n);
-    }
-
     /// Reads a sector. The disk is not asked for a bad one. Where the sector is not read, the buffer may hold anything.
     pub fn read(&mut self, n: u64, buf: &mut [u8; SECTOR_SIZE]) -> Fetched
         requires { n < length self.old.content }
@@ -127,6 +116,7 @@ impl<D: Disk> Sectors<D> {
         ensures same { self.new.content ≡ self.old.content }
         ensures flushed { self.new.is_flushed ≡ self.old.is_flushed }
         ensures fetched { IsFetched self.old.honest (sector_in self.old.content n) buf.new result }
+        ensures calls { Calls D.called (is_asked result) self.old self.new }
     {
         if self.bad.contains(n) {
             return Fetched::Bad;
@@ -145,6 +135,7 @@ impl<D: Disk> Sectors<D> {
         ensures same { self.new.content ≡ self.old.content }
         ensures flushed { self.new.is_flushed ≡ self.old.is_flushed }
         ensures fetched { OnOk result (IsTrue self.old.honest → buf.new ≡ bytes_of (sector_in self.old.content n)) }
+        ensures calls { Calls D.called true self.old self.new }
     {
         self.disk.read(n, buf)
     }
@@ -156,8 +147,12 @@ impl<D: Disk> Sectors<D> {
         ensures ok { OnOk result (IsTrue self.old.honest → self.new.content ≡ slice_set self.old.content n (Some bytes.now)) }
         ensures good { OnOk result (map is_bad self.new.content ≡ map is_bad (slice_set self.old.content n (Some bytes.now))) }
         ensures err { OnErr result (self.new.content ≡ slice_set self.old.content n None) }
+        ensures calls { Calls D.called true self.old self.new }
     {
-        if let Err(fault) = self.disk.write(n, bytes) {
+        let written = self.disk.write(n, bytes);
+        // That each sector still has 512 bytes is known from this call alone, as a disk that is not honest may hold anything.
+        let _count = self.disk.sectors();
+        if let Err(fault) = written {
             self.bad.insert(n);
             return Err(fault);
         }
@@ -170,6 +165,7 @@ impl<D: Disk> Sectors<D> {
         ensures kept { IsKept self.old (not (is_ok result)) self.new }
         ensures same { self.new.content ≡ self.old.content }
         ensures flushed { OnOk result (IsTrue self.new.is_flushed) }
+        ensures calls { Calls D.called true self.old self.new }
     {
         self.disk.flush()
     }

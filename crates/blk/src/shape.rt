@@ -5,7 +5,7 @@
 //! between belong to features that are not offered, and read 0, as do bytes after the 57.
 
 ghost use Rattle.std.specs.Prelude.{◌≡◌, ◌↔◌, IsTrue};
-ghost use Rattle.blk.specs.Shape.{IsBlockShape, configuration_of, features_of, with_features};
+ghost use Rattle.blk.specs.Shape.{IsBlockShape, configuration_of, features_of};
 
 use byteorder::{ByteOrder, LittleEndian};
 use guestmem::recall_bytes;
@@ -37,34 +37,17 @@ pub const CONFIGURATION_SIZE: usize = 57;
 /// Bytes in the id of a device (VIRTIO 1.2, 5.2.6).
 pub const ID_SIZE: usize = 20;
 
-/// What a block device was made as, and what its driver accepted of it.
-#[derive(Clone, Copy, Debug, PartialEq, Eq)]
-pub struct BlockShape {
-    /// How many sectors its disk has (VIRTIO 1.2, 5.2.4: the capacity).
+/// What a driver may ask for.
+#[derive(Clone, Copy)]
+pub struct Limits {
+    /// How many sectors there are (VIRTIO 1.2, 5.2.4: the capacity).
     pub sectors: u64,
 
-    /// Whether the driver may only read it (VIRTIO 1.2, 5.2.3: the feature RO).
+    /// Whether it may only read them (VIRTIO 1.2, 5.2.3: the feature RO).
     pub read_only: bool,
 
-    /// The id that it reports.
-    pub id: [u8; ID_SIZE],
-
-    /// Whether the driver accepted WRITE_ZEROES (VIRTIO 1.2, 5.2.3), so that it may ask for ranges to be cleared.
-    pub write_zeroes: bool,
-}
-
-impl BlockShape {
-    /// What a block device was made as whose driver accepted these features.
-    pub fn new(sectors: u64, read_only: bool, id: [u8; ID_SIZE], features: u64) -> BlockShape
-        ensures { result ≡ with_features sectors read_only id features }
-    {
-        BlockShape {
-            sectors,
-            read_only,
-            id,
-            write_zeroes: features & WRITE_ZEROES == WRITE_ZEROES,
-        }
-    }
+    /// Whether it accepted WRITE_ZEROES (VIRTIO 1.2, 5.2.3), so that it may ask for ranges to be cleared.
+    pub may_clear: bool,
 }
 
 /// Whether a block device may have `sectors` sectors and this id.

@@ -4,65 +4,47 @@ ghost use Rattle.std.specs.Prelude.{◌≡◌, ◌≤◌, ◌<◌, ◌+◌, ◌^
 ghost use Rattle.std.specs.Bool.{MatchBool};
 ghost use Rattle.chains.specs.Places.{places, AreSegmentsInside};
 ghost use Rattle.blk.specs.Request.{is_good};
-ghost use Rattle.blk.specs.Sound.{AreRequestsOf, IsSoundRequest, IsSoundWork, MayEnd};
+ghost use Rattle.blk.specs.Sound.{IsSoundRequest, IsSoundWork, MayEnd};
 
 use crate::disk::SECTOR_SIZE;
 use crate::request::{HEADER_SIZE, Kind, Request, SEGMENT_SIZE, Verdict};
-use crate::requests::{REQUESTS_MAX, Requests};
-use crate::shape::{BlockShape, ID_SIZE, ZEROES_MAX};
+use crate::requests::Requests;
+use crate::shape::{ID_SIZE, Limits, ZEROES_MAX};
 use chains::Seg;
 use guestmem::is_within;
-use mmio::Queue;
 
 impl Requests {
-    /// Whether a device of this shape with this queue may have them outstanding, in a RAM of `ram_len` bytes with this base: they
-    /// are not too many, each may be outstanding, and there are none unless the queue is ready.
-    pub fn are_of(
-        &self,
-        base: u64,
-        ram_len: u64,
-        is_packed: bool,
-        queue: &Queue,
-        shape: &BlockShape,
-    ) -> bool
-        ensures { IsTrue result ↔ AreRequestsOf base ram_len is_packed queue.now shape.now self.now }
-    {
-        self.len() <= REQUESTS_MAX
-            && self.are_sound(base, ram_len, is_packed, queue.size, shape)
-            && (queue.is_ready || self.is_empty())
-    }
-
-    /// Whether each of them may be outstanding (see `Request::is_sound`).
-    pub fn are_sound(
+    /// Whether each of them may be outstanding, where the driver may ask for this (see `Request::is_sound`).
+    pub(crate) fn are_sound(
         &self,
         base: u64,
         ram_len: u64,
         is_packed: bool,
         size: u32,
-        shape: &BlockShape,
+        limits: Limits,
     ) -> bool
-        ensures { IsTrue result ↔ All (IsSoundRequest base ram_len is_packed size shape.now) self.now }
+        ensures { IsTrue result ↔ All (IsSoundRequest base ram_len is_packed size limits) self.now }
     {
-        self.list.iter().all(|request| request.is_sound(base, ram_len, is_packed, size, shape))
+        self.list.iter().all(|request| request.is_sound(base, ram_len, is_packed, size, limits))
     }
 }
 
 impl Request {
-    /// Whether it may be outstanding, in a RAM of `ram_len` bytes with this base, on a ring of this layout with `size` slots, in
-    /// a device of this shape.
-    pub fn is_sound(
+    /// Whether it may be outstanding, in a RAM of `ram_len` bytes with this base, on a ring of this layout with `size` slots,
+    /// where the driver may ask for this.
+    pub(crate) fn is_sound(
         &self,
         base: u64,
         ram_len: u64,
         is_packed: bool,
         size: u32,
-        shape: &BlockShape,
+        limits: Limits,
     ) -> bool
-        ensures { IsTrue result ↔ IsSoundRequest base ram_len is_packed size shape.now self.now }
+        ensures { IsTrue result ↔ IsSoundRequest base ram_len is_packed size limits self.now }
     {
         self.is_of_ring(is_packed, size)
             && self.has_segments(base, ram_len, size)
-            && self.has_sound_bytes(shape)
+            && self.has_sound_bytes(limits)
     }
 
     /// Whether a ring can have its chain.
@@ -89,8 +71,8 @@ impl Request {
     }
 
     /// Whether its bytes are not too many, have room for its header and its verdict, and fit its kind.
-    fn has_sound_bytes(&self, shape: &BlockShape) -> bool
-        ensures { IsTrue result ↔ ((length (places self.now.readable) + length (places self.now.writable) < 2 ^ 32) × (HEADER_SIZE ≤ length (places self.now.readable)) × (1 ≤ length (places self.now.writable)) × IsSoundWork self.now.kind (length (places self.now.readable)) (length (places self.now.writable)) shape.now self.now.verdict self.now.first self.now.units self.now.done) }
+    fn has_sound_bytes(&self, limits: Limits) -> bool
+        ensures { IsTrue result ↔ ((length (places self.now.readable) + length (places self.now.writable) < 2 ^ 32) × (HEADER_SIZE ≤ length (places self.now.readable)) × (1 ≤ length (places self.now.writable)) × IsSoundWork self.now.kind (length (places self.now.readable)) (length (places self.now.writable)) limits self.now.verdict self.now.first self.now.units self.now.done) }
     {
         let readable = self.readable.total_len();
         let writable = self.writable.total_len();
@@ -99,12 +81,12 @@ impl Request {
             && writable < most - readable
             && readable >= HEADER_SIZE as u64
             && writable >= 1
-            && self.is_sound_work(readable, writable, shape)
+            && self.is_sound_work(readable, writable, limits)
     }
 
     /// Whether what it keeps fits its kind, for `readable` readable and `writable` writable bytes.
-    fn is_sound_work(&self, readable: u64, writable: u64, shape: &BlockShape) -> bool
-        ensures { IsTrue result ↔ IsSoundWork self.now.kind readable writable shape.now self.now.verdict self.now.first self.now.units self.now.done }
+    fn is_sound_work(&self, readable: u64, writable: u64, limits: Limits) -> bool
+        ensures { IsTrue result ↔ IsSoundWork self.now.kind readable writable limits self.now.verdict self.now.first self.now.units self.now.done }
     {
         let (units, may_end) = (self.units as u64, self.may_end());
         match self.kind {
@@ -113,12 +95,12 @@ impl Request {
             }
             Kind::In => may_end
                 && SECTOR_SIZE as u64 * units + 1 == writable
-                && self.is_within(shape.sectors),
+                && self.is_within(limits.sectors),
             Kind::Out => {
                 may_end
                     && SECTOR_SIZE as u64 * units + HEADER_SIZE as u64 == readable
-                    && self.is_within(shape.sectors)
-                    && !shape.read_only
+                    && self.is_within(limits.sectors)
+                    && !limits.read_only
             }
             Kind::Flush => may_end && self.units == 1 && self.first == 0,
             Kind::GetId => {
@@ -128,19 +110,19 @@ impl Request {
                     && self.first == 0
                     && writable > ID_SIZE as u64
             }
-            Kind::Zero => may_end && self.is_sound_range(readable, shape),
+            Kind::Zero => may_end && self.is_sound_range(readable, limits),
         }
     }
 
     /// Whether it names sectors that a request with `readable` readable bytes may clear.
-    fn is_sound_range(&self, readable: u64, shape: &BlockShape) -> bool
-        ensures { IsTrue result ↔ ((HEADER_SIZE + SEGMENT_SIZE ≡ readable) × (self.now.units ≤ ZEROES_MAX) × (self.now.first + self.now.units ≤ shape.now.sectors) × (shape.now.read_only ≡ false) × (shape.now.write_zeroes ≡ true)) }
+    fn is_sound_range(&self, readable: u64, limits: Limits) -> bool
+        ensures { IsTrue result ↔ ((HEADER_SIZE + SEGMENT_SIZE ≡ readable) × (self.now.units ≤ ZEROES_MAX) × (self.now.first + self.now.units ≤ limits.sectors) × (limits.read_only ≡ false) × (limits.may_clear ≡ true)) }
     {
         readable == (HEADER_SIZE + SEGMENT_SIZE) as u64
             && self.units <= ZEROES_MAX
-            && self.is_within(shape.sectors)
-            && !shape.read_only
-            && shape.write_zeroes
+            && self.is_within(limits.sectors)
+            && !limits.read_only
+            && limits.may_clear
     }
 
     /// Whether its verdict fits what is done of it.

@@ -1,89 +1,68 @@
 //! The step that takes a request.
 
-ghost use Rattle.std.specs.Prelude.{◌≡◌, ◌≤◌, ◌<◌, ◌+◌, ◌^◌, length, IfOk, OnErr};
+ghost use Rattle.std.specs.Prelude.{◌≡◌, ◌≤◌, ◌<◌, ◌+◌, ◌^◌, ℕ, List, length, true};
 ghost use Rattle.guestmem.specs.Number.{number_at};
-ghost use Rattle.guestmem.specs.Rises.{Touches};
-ghost use Rattle.chains.specs.Frame.{MayLook, HasLooked, IsUntouched};
+ghost use Rattle.chains.specs.Frame.{MayLook, HasLooked};
 ghost use Rattle.chains.specs.Places.{places, AreSegmentsInside};
-ghost use Rattle.chains.specs.LongQueue.{IsLongQueue};
+ghost use Rattle.chains.specs.Served.{HasRun, scene};
+ghost use Rattle.chains.specs.declared.looking.Wanted.TheVariants as wanted;
+ghost use Rattle.blk.specs.Block.{has_room, limits_of};
 ghost use Rattle.blk.specs.Sound.{AreSound};
-ghost use Rattle.blk.specs.Take.{IsTaken, task_for, request_for, segment_of};
+ghost use Rattle.blk.specs.Take.{request_for, segment_of, take_step, task_for};
 
+use crate::block::Block;
 use crate::request::{HEADER_SIZE, Request, SEGMENT_SIZE, TYPE_WRITE_ZEROES};
-use crate::requests::{REQUESTS_MAX, Requests};
-use crate::shape::BlockShape;
+use crate::shape::Limits;
 use crate::task::{Task, task_of, type_of};
-use chains::{Chain, NextKind, Ring, Wanted, copy_out_with_base, look};
-use guestmem::{NoMemory, Ram, TouchLog};
-use std::alloc::Global;
+use chains::{Chain, Done, Ring, Served, Site, Unserved, Wanted, copy_out_with_base, look};
+use guestmem::{Ram, TouchLog};
 
-/// How taking a request went.
-#[derive(Clone, Copy, Debug, PartialEq, Eq)]
-pub enum Taken {
-    /// The queue was empty, and the event note is written.
-    Empty,
-
-    /// The chain is malformed, or not one of a request: it has fewer readable bytes than a header, or no writable one. It stays.
-    Malformed,
-
-    /// The request was taken.
-    Taken,
-}
-
-impl Requests {
-    /// Takes the next request of the queue, where there is room for one: its header is read now, and its segments are
-    /// kept. RAM begins at the guest-physical address `base`. Its only error is out of memory for the chain, and then nothing has
-    /// changed.
+impl Block {
+    /// Takes the next request of the queue, of a driver that accepted these features, where there is room for one: its header is read
+    /// now, and its segments are kept. A chain with fewer readable bytes than a header, or with no writable one, is malformed, and stays.
     #[inline(never)]
     pub fn take<R: Ring, L: TouchLog>(
         &mut self,
-        alloc: Global,
+        site: Site,
+        features: u64,
         ring: &mut R,
-        base: u64,
-        shape: &BlockShape,
         ram: &mut Ram,
         log: &mut L,
-    ) -> Result<Taken, NoMemory>
-        requires room { length self.old < REQUESTS_MAX }
-        requires base { base ≡ (R.state ring.old).base }
+    ) -> Result<Served, Unserved>
+        requires room { has_room self.old ≡ true }
+        requires base { site.base ≡ (R.state ring.old).base }
         requires ready { MayLook L.may ram.old (R.state ring.old) (R.decoder ring.old) log.old }
-        requires sound { AreSound (length ram.old.bytes) (R.state ring.old) shape.now self.old }
-        ensures taken { IfOk result (λ answer. IsTaken (Touches L.after log.old log.new ram.old ram.new) ram.old.bytes (R.state ring.old) shape.now self.old answer ram.new.bytes (R.state ring.new) self.new) }
-        ensures memory { OnErr result (IsLongQueue ram.old.bytes (R.state ring.old)) }
-        ensures untouched { OnErr result (IsUntouched ram.old ram.new (R.state ring.old) (R.state ring.new) log.old log.new) }
-        ensures requests_stay { OnErr result (self.new ≡ self.old) }
-        ensures sound { AreSound (length ram.new.bytes) (R.state ring.new) shape.now self.new }
+        requires sound { AreSound (length ram.old.bytes) (R.state ring.old) (limits_of self.old features) self.old.requests }
+        ensures taken { (sent : List ℕ) → HasRun L.after (scene ram.old log.old (R.state ring.old) self.old) (scene ram.new log.new (R.state ring.new) self.new) (wanted.Request HEADER_SIZE) (take_step features) result sent }
+        ensures sound { AreSound (length ram.new.bytes) (R.state ring.new) (limits_of self.new features) self.new.requests }
         ensures after { HasLooked L.may ram.old ram.new (R.decoder ring.new) log.new }
     {
-        let mut chain = Chain::new(alloc);
-        match look(
+        let mut chain = Chain::new(site.alloc);
+        look(
             ring,
             Wanted::Request(HEADER_SIZE as u32),
             &mut chain,
             ram,
             log,
-        ) {
-            NextKind::Empty => Ok(Taken::Empty),
-            NextKind::Malformed => Ok(Taken::Malformed),
-            NextKind::Chain => {
-                let task = task_for(base, ram, shape, &chain);
-                ring.take(&chain);
-                self.push(request_for(chain, task));
-                Ok(Taken::Taken)
-            }
-            NextKind::NoMemory => Err(NoMemory),
-        }
+        )?;
+        let task = task_for(site.base, ram, self.limits(features), &chain);
+        ring.take(&chain);
+        self.requests.push(request_for(chain, task));
+        Ok(Served {
+            done: Done::Taken,
+            is_due: false,
+        })
     }
 }
 
 /// What the request of a chain asks for.
 #[inline(always)]
-fn task_for(base: u64, ram: &Ram, shape: &BlockShape, chain: &Chain) -> Task
+fn task_for(base: u64, ram: &Ram, limits: Limits, chain: &Chain) -> Task
     requires inside { AreSegmentsInside base (length ram.now.bytes) chain.now.readable }
     requires header { HEADER_SIZE ≤ length (places chain.now.readable) }
     requires status { 1 ≤ length (places chain.now.writable) }
     requires total { length (places chain.now.readable) + length (places chain.now.writable) < 2 ^ 32 }
-    ensures { result ≡ task_for base ram.now.bytes shape.now chain.now }
+    ensures { result ≡ task_for base ram.now.bytes limits chain.now }
 {
     let mut header = [0; HEADER_SIZE];
     copy_out_with_base(ram, base, chain.readable.as_slice(), 0, &mut header);
@@ -93,7 +72,7 @@ fn task_for(base: u64, ram: &Ram, shape: &BlockShape, chain: &Chain) -> Task
         &segment,
         chain.readable.total_len(),
         chain.writable.total_len(),
-        shape,
+        limits,
     )
 }
 

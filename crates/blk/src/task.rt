@@ -14,7 +14,7 @@ use crate::request::{
     HEADER_SIZE, Kind, SEGMENT_SIZE, TYPE_FLUSH, TYPE_GET_ID, TYPE_IN, TYPE_OUT, TYPE_WRITE_ZEROES,
     Verdict,
 };
-use crate::shape::{BlockShape, ID_SIZE, ZEROES_MAX};
+use crate::shape::{ID_SIZE, Limits, ZEROES_MAX};
 use byteorder::{ByteOrder, LittleEndian};
 
 /// What a request asks for.
@@ -77,13 +77,13 @@ fn transfer(kind: Kind, first: u64, bytes: u64, capacity: u64) -> Task
 
 /// Clears the range of sectors that this segment names, by a request with `readable` readable bytes.
 #[tactic(auto, unfolding(guestmem::specs::Number::number_at))]
-fn clear(segment: &[u8; SEGMENT_SIZE], readable: u64, shape: &BlockShape) -> Task
-    ensures { result ≡ clear segment.now readable shape.now }
+fn clear(segment: &[u8; SEGMENT_SIZE], readable: u64, limits: Limits) -> Task
+    ensures { result ≡ clear segment.now readable limits }
 {
     let first = LittleEndian::read_u64(&segment[..]);
     let count = LittleEndian::read_u32(&segment[8..]);
     let flags = LittleEndian::read_u32(&segment[12..]);
-    if !shape.write_zeroes {
+    if !limits.may_clear {
         return refused(Verdict::Unsupported);
     }
     if readable != (HEADER_SIZE + SEGMENT_SIZE) as u64 {
@@ -92,7 +92,7 @@ fn clear(segment: &[u8; SEGMENT_SIZE], readable: u64, shape: &BlockShape) -> Tas
     if flags > UNMAP {
         return refused(Verdict::Unsupported);
     }
-    if shape.read_only || count > ZEROES_MAX || is_past(first, count as u64, shape.sectors) {
+    if limits.read_only || count > ZEROES_MAX || is_past(first, count as u64, limits.sectors) {
         return refused(Verdict::IoError);
     }
     Task {
@@ -120,34 +120,34 @@ fn sector_of(header: &[u8; HEADER_SIZE]) -> u64
 }
 
 /// What a request asks for, by its header, the segment that may follow it, the numbers of its readable and writable
-/// bytes, and what its device is.
+/// bytes, and what its driver may ask for.
 #[tactic(auto, unfolding(crate::specs::Task::task_of))]
 pub fn task_of(
     header: &[u8; HEADER_SIZE],
     segment: &[u8; SEGMENT_SIZE],
     readable: u64,
     writable: u64,
-    shape: &BlockShape,
+    limits: Limits,
 ) -> Task
     requires readable { HEADER_SIZE ≤ readable }
     requires writable { 1 ≤ writable }
     requires total { readable + writable < 2 ^ 32 }
-    ensures { result ≡ task_of header.now segment.now readable writable shape.now }
+    ensures { result ≡ task_of header.now segment.now readable writable limits }
 {
     let sector = sector_of(header);
     match type_of(header) {
-        TYPE_IN => transfer(Kind::In, sector, writable - 1, shape.sectors),
-        TYPE_OUT if shape.read_only => refused(Verdict::IoError),
+        TYPE_IN => transfer(Kind::In, sector, writable - 1, limits.sectors),
+        TYPE_OUT if limits.read_only => refused(Verdict::IoError),
         TYPE_OUT => transfer(
             Kind::Out,
             sector,
             readable - HEADER_SIZE as u64,
-            shape.sectors,
+            limits.sectors,
         ),
         TYPE_FLUSH => at_once(Kind::Flush),
         TYPE_GET_ID if writable - 1 < ID_SIZE as u64 => refused(Verdict::IoError),
         TYPE_GET_ID => at_once(Kind::GetId),
-        TYPE_WRITE_ZEROES => clear(segment, readable, shape),
+        TYPE_WRITE_ZEROES => clear(segment, readable, limits),
         _ => refused(Verdict::Unsupported),
     }
 }

@@ -11,3 +11,4 @@ pub mod PackedLaws
 pub mod PlaceLaws
 pub mod SplitLaws
 pub mod LookLaws
+pub mod ServedLaws

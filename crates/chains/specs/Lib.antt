@@ -16,4 +16,5 @@ pub mod ReceiveBuffer
 pub mod Transmit
 pub mod Frame
 pub mod Look
-pub mod Transmitted
+pub mod Service
+pub mod Served

@@ -1,5 +1,5 @@
 -- The look of a device at the next chain of a queue.
-use Rattle.std.specs.Prelude.{◌≡◌, ℕ, nat_lt, ◌==◌, ◌&&◌, not, Bool, true, List, [], length, if◌then◌else◌}
+use Rattle.std.specs.Prelude.{◌≡◌, ℕ, nat_lt, ◌==◌, ◌&&◌, not, Bool, true, List, [], length, if◌then◌else◌, Result, Ok, Err}
 use Rattle.guestmem.specs.Writes.{Write}
 use Rattle.chains.specs.State.{RingState}
 use Rattle.chains.specs.Places.{places}
@@ -9,10 +9,10 @@ use Rattle.chains.specs.LongQueue.{IsLongQueue}
 use Rattle.chains.specs.declared.chain.Chain.{Chain}
 use Rattle.chains.specs.declared.next.Next.{Next}
 use Rattle.chains.specs.declared.next.Next.TheVariants.{Empty, Malformed, Chain as Found}
-use Rattle.chains.specs.declared.next_kind.NextKind.{NextKind}
-use Rattle.chains.specs.declared.next_kind.NextKind.TheVariants as kinds
 use Rattle.chains.specs.declared.looking.Wanted.{Wanted}
 use Rattle.chains.specs.declared.looking.Wanted.TheVariants.{Room, Message, Request}
+use Rattle.chains.specs.declared.served.Unserved.{Unserved}
+use Rattle.chains.specs.declared.served.Unserved.TheVariants as why
 use Rattle.chains.specs.Transmit.{is_message}
 
 -- A chain that a device can use. Into one that takes bytes it only writes: the receive queues of a network device and of a
@@ -36,22 +36,22 @@ pub record Sees (wanted : Wanted) (ram : List ℕ) (q : RingState) (seen : Next)
   pub is : seen ≡ seen_as wanted answer
 
 -- What a look may return, with the chain that it has filled in.
-abbrev pub LookGives : Wanted → List ℕ → RingState → NextKind → Chain → Type 0
-LookGives wanted ram q kinds.Empty c = Sees wanted ram q Empty
-LookGives wanted ram q kinds.Malformed c = Sees wanted ram q Malformed
-LookGives wanted ram q kinds.Chain c = Sees wanted ram q (Found c) × (fits wanted c ≡ true)
-LookGives wanted ram q kinds.NoMemory c = IsLongQueue ram q
+abbrev pub LookGives : Wanted → List ℕ → RingState → Result (Unit {0}) Unserved → Chain → Type 0
+LookGives wanted ram q (Err why.Empty) c = Sees wanted ram q Empty
+LookGives wanted ram q (Err why.Malformed) c = Sees wanted ram q Malformed
+LookGives wanted ram q (Err why.NoMemory) c = IsLongQueue ram q
+LookGives wanted ram q (Ok done) c = Sees wanted ram q (Found c) × (fits wanted c ≡ true)
 
 -- What a look writes: the event note if the queue is empty.
-abbrev pub look_writes : RingState → NextKind → List Write
-look_writes q kinds.Empty = event_note q
-look_writes q kinds.Malformed = []
-look_writes q kinds.Chain = []
-look_writes q kinds.NoMemory = []
+abbrev pub look_writes : RingState → Result (Unit {0}) Unserved → List Write
+look_writes q (Err why.Empty) = event_note q
+look_writes q (Err why.Malformed) = []
+look_writes q (Err why.NoMemory) = []
+look_writes q (Ok done) = []
 
 -- `P`, unless the queue is empty.
-abbrev pub UnlessEmpty : NextKind → Type 0 → Type 0
-UnlessEmpty kinds.Empty P = Unit {0}
-UnlessEmpty kinds.Malformed P = P
-UnlessEmpty kinds.Chain P = P
-UnlessEmpty kinds.NoMemory P = P
+abbrev pub UnlessEmpty : Result (Unit {0}) Unserved → Type 0 → Type 0
+UnlessEmpty (Err why.Empty) P = Unit {0}
+UnlessEmpty (Err why.Malformed) P = P
+UnlessEmpty (Err why.NoMemory) P = P
+UnlessEmpty (Ok done) P = P

@@ -6,6 +6,7 @@ use Rattle.guestmem.specs.Writes.{Write, set_all, touched}
 use Rattle.chains.specs.State.{RingState}
 use Rattle.chains.specs.Places.{places, place_writes}
 use Rattle.chains.specs.Publish.{published, is_interrupt_due, after_take, after_publish}
+use Rattle.chains.specs.Service.{Completed, Did, Service}
 use Rattle.chains.specs.declared.chain.Chain.{Chain}
 
 -- What giving bytes to a chain writes: they go to the first writable places, and the chain is published with their count as
@@ -14,6 +15,15 @@ abbrev pub filled : RingState → Chain → List ℕ → List Write
 filled q c bytes =
     place_writes q.base (places c.writable) bytes
     ++ published (after_take q c.slots) c.id c.slots (length bytes) (nat_lt 0 (length bytes))
+
+-- These bytes are given to a chain, and this state is left.
+unfoldable pub give : {S : Type 0} → List ℕ → RingState → List ℕ → S → Chain → Service S
+give ram q bytes left c = record {
+  answer = Did (Completed (length bytes)) (is_interrupt_due (after_take q c.slots) c.slots (set_all ram (filled q c bytes)));
+  writes = filled q c bytes;
+  ring = after_publish (after_take q c.slots) c.slots;
+  state = left;
+}
 
 -- Bytes were given to a chain: whether an interrupt is due, RAM and the ring after it, and which items were touched. What touching is,
 -- as that a log has taken them in, `touches` says.

@@ -1,36 +1,17 @@
 -- The step of a queue through which the guest sends: the transmit queue of a network device (VIRTIO 1.2, 5.1.6.2) and of
 -- a console (VIRTIO 1.2, 5.3.6).
-use Rattle.std.specs.Prelude.{◌≡◌, ℕ, nat_lt, ◌&&◌, not, Bool, true, false, List, [], length, drop, ◌⊎◌}
+use Rattle.std.specs.Prelude.{◌≡◌, ℕ, nat_lt, ◌&&◌, not, Bool, true, false, List, length, drop, ◌⊎◌}
 use Rattle.guestmem.specs.Writes.{Write, set_all}
 use Rattle.chains.specs.State.{RingState}
 use Rattle.chains.specs.Places.{places, read_places}
-use Rattle.chains.specs.Publish.{published, event_note, is_interrupt_due, after_take, after_publish}
+use Rattle.chains.specs.Publish.{published, is_interrupt_due, after_take, after_publish}
 use Rattle.chains.specs.Ring.{Answers}
+use Rattle.chains.specs.Service.{Did, Sent, Service, service_of}
 use Rattle.chains.specs.LongQueue.{IsLongQueue}
 use Rattle.chains.specs.declared.chain.Chain.{Chain}
 use Rattle.chains.specs.declared.next.Next.{Next}
 use Rattle.chains.specs.declared.next.Next.TheVariants as next
 use Rattle.chains.specs.declared.transmitting.MessageForm.{MessageForm}
-use Rattle.chains.specs.declared.transmitting.Transmitted.{Transmitted}
-use Rattle.chains.specs.declared.transmitting.Transmitted.TheVariants as transmitted
-
--- What a step answers: that the queue is empty, that its chain is malformed, or what was sent and whether an interrupt is due.
-pub data Sending : Type 0 where
-  Empty : Sending
-  Malformed : Sending
-  Sent : List ℕ → Bool → Sending
-
--- The answer of a call that leaves the message in a buffer.
-abbrev pub sending_in : Transmitted → List ℕ → Sending
-sending_in transmitted.Empty message = Empty
-sending_in transmitted.Malformed message = Malformed
-sending_in (transmitted.Sent is_due) message = Sent message is_due
-
--- What a step returns and changes: its answer, writes of RAM, and the ring's positions.
-pub record Transmission : Type 0 where
-  pub answer : Sending
-  pub writes : List Write
-  pub ring : RingState
 
 -- A chain that holds a message: its readable bytes are neither too few nor too many. Its writable bytes do not count.
 abbrev pub is_message : MessageForm → Chain → Bool
@@ -44,22 +25,18 @@ message_of base ram header c = drop header (read_places base ram (places c.reada
 abbrev pub handed_back : RingState → Chain → List Write
 handed_back q c = published (after_take q c.slots) c.id c.slots 0 false
 
-abbrev pub send : List ℕ → RingState → ℕ → Chain → Transmission
-send ram q header c = record {
-  answer = Sent (message_of q.base ram header c) (is_interrupt_due (after_take q c.slots) c.slots (set_all ram (handed_back q c)));
+-- The message of a chain is sent, and the chain is published.
+abbrev pub send : {S : Type 0} → ℕ → List ℕ → RingState → S → Chain → Service S
+send header ram q state c = record {
+  answer = Did (Sent (message_of q.base ram header c)) (is_interrupt_due (after_take q c.slots) c.slots (set_all ram (handed_back q c)));
   writes = handed_back q c;
   ring = after_publish (after_take q c.slots) c.slots;
+  state = state;
 }
 
--- The chain is not taken, and nothing is written.
-abbrev pub refuse_message : RingState → Transmission
-refuse_message q = record { answer = Malformed; writes = []; ring = q }
-
--- The step, by what the device sees in the queue. If the queue is empty the event note is written.
-abbrev pub transmit_step : List ℕ → RingState → MessageForm → Next → Transmission
-transmit_step ram q form next.Empty = record { answer = Empty; writes = event_note q; ring = q }
-transmit_step ram q form next.Malformed = refuse_message q
-transmit_step ram q form (next.Chain c) = send ram q form.header c
+-- The step, by what the device sees in the queue. It changes nothing beside RAM and the ring.
+abbrev pub transmit_step : {S : Type 0} → MessageForm → List ℕ → RingState → S → Next → Service S
+transmit_step form ram q state seen = service_of q state (send form.header ram q state) seen
 
 -- A message waits in a queue.
 pub record HasMessage (ram : List ℕ) (q : RingState) (form : MessageForm) : Type 0 where

@@ -35,10 +35,14 @@
 //! - `fill(ring, base, chain, bytes, ram, log)` gives bytes to a chain: they go to its first writable bytes, and the chain is published
 //!   with their count. `fill_in_parts` does the same with the bytes of two slices, one after the other.
 //! - `look(ring, wanted, chain, ram, log)` is the look of every device: it finds the ring empty, which is noted, or malformed, or
-//!   fills in a chain that the device can use, by what it has `Wanted`. A chain that it cannot use is malformed for it.
-//! - `transmit(alloc, ring, base, form, message, ram, log)` is `transmit_step` over any `Ring`: it reads the message of the next chain, which a
-//!   `MessageForm` separates from a malformed one, and publishes the chain with nothing written. An error is out of memory, at a long
-//!   chain or where a message waits, and changes nothing.
+//!   fills in a chain that the device can use, by what it has `Wanted`. A chain that it cannot use is malformed for it. So a step is
+//!   `look(..)?`, and then what its device does with a chain.
+//! - Each step at a queue ends in a `Result<Served, Unserved>`: what was done with the chain and whether an interrupt is due, or why
+//!   nothing was done with one. One relation, `HasRun` (`specs/Served`), says it of every step: the step is the written one, by what
+//!   the device sees; or memory was refused, where that may be, and RAM, ring, log and the device's state are as they were.
+//! - `transmit(site, ring, form, message, ram, log)` is `transmit_step` over any `Ring`: it reads the message of the next chain, which a
+//!   `MessageForm` separates from a malformed one, and publishes the chain with nothing written. Memory may be refused at a long queue,
+//!   or where a message waits.
 //! - `add(descriptor, base, len, chain)` adds the buffer of a descriptor to a chain that a ring gathers as it walks, with the tests of
 //!   one buffer; `ended(chain)` is the last test, of all bytes together. Both layouts gather by these.
 //! - The module `laws`: a queue has at most one chain, and so one answer; every chain is bounded, whatever the driver wrote; memory
@@ -61,7 +65,9 @@
 //! - `specs/Publish`: what publishing and the event note write, and when an interrupt is due;
 //! - `specs/Frame`: what is asked before every step, and what holds after it;
 //! - `specs/Look`: what a device sees in a queue, by the chains that it can use;
-//! - `specs/ReceiveBuffer`, `Transmit` and `Transmitted`: what giving bytes to a chain writes, and the step that takes a message;
+//! - `specs/Service`: what a step at a queue returns and changes, by what its device does with a chain;
+//! - `specs/Served`: that such a step was made, or was refused memory, and where it may be refused;
+//! - `specs/ReceiveBuffer` and `Transmit`: what giving bytes to a chain writes, and the step that takes a message;
 //! - `proofs/PlaceLaws`, `EffectLaws`, `DecoderLaws`, `HeldLaws`, `FrameLaws`, `SplitLaws`, `PackedLaws`, `ChainLaws` and `LookLaws`: what follows,
 //!   for proofs above.
 //!
@@ -86,6 +92,8 @@ mod receive_buffer;
 mod ring;
 mod ring_core;
 mod segs;
+mod served;
+mod site;
 mod transmitting;
 
 pub use adding::{add, ended};
@@ -103,4 +111,6 @@ pub use receive_buffer::{fill, fill_in_parts};
 pub use ring::Ring;
 pub use ring_core::RingCore;
 pub use segs::{Seg, Segs};
-pub use transmitting::{MessageForm, Transmitted, transmit};
+pub use served::{Done, Served, Unserved};
+pub use site::Site;
+pub use transmitting::{MessageForm, transmit};

@@ -3,17 +3,18 @@
 //! There is one look for all devices. `Wanted` is an enum and no trait, so that there is one for each log. What a device sees
 //! is what its step is defined by, so no step has a case for chains that it cannot use.
 
-ghost use Rattle.std.specs.Prelude.{◌≡◌, length};
+ghost use Rattle.std.specs.Prelude.{◌≡◌, length, OnOk};
 ghost use Rattle.guestmem.specs.Item.{after_all};
 ghost use Rattle.guestmem.specs.Rises.{Rises};
 ghost use Rattle.guestmem.specs.Writes.{set_all, touched};
 ghost use Rattle.chains.specs.Frame.{MayLook, HasLooked};
-ghost use Rattle.chains.specs.Gives.{GivesBounded};
+ghost use Rattle.chains.specs.Ring.{IsBounded};
 ghost use Rattle.chains.specs.Look.{fits, LookGives, look_writes, UnlessEmpty};
 
 use crate::chain::Chain;
 use crate::next_kind::NextKind;
 use crate::ring::Ring;
+use crate::served::Unserved;
 use crate::transmitting::MessageForm;
 use guestmem::{Ram, TouchLog};
 
@@ -53,10 +54,10 @@ pub fn look<R: Ring, L: TouchLog>(
     chain: &mut Chain,
     ram: &mut Ram,
     log: &mut L,
-) -> NextKind
+) -> Result<(), Unserved>
     requires ready { MayLook L.may ram.old (R.state ring.old) (R.decoder ring.old) log.old }
     ensures gives { LookGives wanted ram.old.bytes (R.state ring.old) result chain.new }
-    ensures bounded { GivesBounded (length ram.old.bytes) (R.state ring.old) result chain.new }
+    ensures bounded { OnOk result (IsBounded (length ram.old.bytes) (R.state ring.old) chain.new) }
     ensures bytes { ram.new.bytes ≡ set_all ram.old.bytes (look_writes (R.state ring.old) result) }
     ensures log { log.new ≡ after_all L.after log.old (touched (look_writes (R.state ring.old) result)) }
     ensures rises { Rises (touched (look_writes (R.state ring.old) result)) ram.old ram.new }
@@ -67,15 +68,15 @@ pub fn look<R: Ring, L: TouchLog>(
     match ring.next_into(ram, chain) {
         NextKind::Empty => {
             ring.note_empty(ram, log);
-            NextKind::Empty
+            Err(Unserved::Empty)
         }
-        NextKind::Malformed => NextKind::Malformed,
+        NextKind::Malformed => Err(Unserved::Malformed),
         NextKind::Chain => {
             if !wanted.fits(chain) {
-                return NextKind::Malformed;
+                return Err(Unserved::Malformed);
             }
-            NextKind::Chain
+            Ok(())
         }
-        NextKind::NoMemory => NextKind::NoMemory,
+        NextKind::NoMemory => Err(Unserved::NoMemory),
     }
 }

@@ -3,24 +3,25 @@
 //! One step serves all devices that send: a network device and a console differ in how many bytes a message may have and in how
 //! many of them are its header. `MessageForm` has these three numbers.
 
-ghost use Rattle.std.specs.Prelude.{◌≡◌, ◌≤◌, ◌<◌, ◌+◌, ◌^◌, length, IfOk, OnOk, OnErr};
+ghost use Rattle.std.specs.Prelude.{◌≡◌, ◌≤◌, ◌<◌, ◌+◌, ◌^◌, length, OnOk};
 ghost use Rattle.guestmem.specs.Item.{after_all};
-ghost use Rattle.guestmem.specs.Rises.{Rises, Touches};
+ghost use Rattle.guestmem.specs.Rises.{Rises};
 ghost use Rattle.guestmem.specs.Writes.{set_all, touched};
-ghost use Rattle.chains.specs.Frame.{MayServe, HasServed, MayLook, HasLooked, IsUntouched};
+ghost use Rattle.chains.specs.Frame.{MayServe, HasServed, MayLook, HasLooked};
 ghost use Rattle.chains.specs.Places.{places, AreSegmentsInside};
 ghost use Rattle.chains.specs.Publish.{is_interrupt_due, after_take, after_publish};
 ghost use Rattle.chains.specs.Ring.{IsBounded};
-ghost use Rattle.chains.specs.Transmit.{message_of, handed_back, sending_in, MayWantMemory};
-ghost use Rattle.chains.specs.Transmitted.{IsTransmitted};
+ghost use Rattle.chains.specs.Served.{HasRun, bare_scene};
+ghost use Rattle.chains.specs.Transmit.{message_of, handed_back, transmit_step};
+ghost use Rattle.chains.specs.declared.looking.Wanted.TheVariants.{Message};
 
 use crate::chain::Chain;
 use crate::copy::copy_out_with_base;
 use crate::looking::{Wanted, look};
-use crate::next_kind::NextKind;
 use crate::ring::Ring;
+use crate::served::{Done, Served, Unserved};
+use crate::site::Site;
 use guestmem::{NoMemory, Ram, TouchLog};
-use std::alloc::Global;
 
 /// What the readable bytes of a chain are, for a device that sends them.
 #[derive(Clone, Copy, Debug, PartialEq, Eq)]
@@ -35,54 +36,32 @@ pub struct MessageForm {
     pub most: u32,
 }
 
-/// How a step on a queue of transmit buffers went.
-#[derive(Clone, Copy, Debug, PartialEq, Eq)]
-pub enum Transmitted {
-    /// The queue was empty, and the event note is written.
-    Empty,
-
-    /// The chain is malformed, or has too few or too many readable bytes. It stays.
-    Malformed,
-
-    /// The chain was read, and published with no byte written into it.
-    Sent {
-        /// Whether an interrupt is due.
-        is_due: bool,
-    },
-}
-
 /// Reads the message of the next chain of a ring into a buffer, and publishes the chain. The buffer is cut or grows to the message,
 /// and where nothing is sent it may hold anything. The only error is out of memory, for the chain or for a buffer that has to grow, and
 /// then RAM, ring and log are as they were.
 #[inline(never)]
 pub fn transmit<R: Ring, L: TouchLog>(
-    alloc: Global,
+    site: Site,
     ring: &mut R,
-    base: u64,
     form: MessageForm,
     message: &mut Vec<u8>,
     ram: &mut Ram,
     log: &mut L,
-) -> Result<Transmitted, NoMemory>
+) -> Result<Served, Unserved>
     requires ready { MayLook L.may ram.old (R.state ring.old) (R.decoder ring.old) log.old }
-    requires base { base ≡ (R.state ring.old).base }
+    requires base { site.base ≡ (R.state ring.old).base }
     requires form { form.header ≤ form.least }
-    ensures transmitted { IfOk result (λ answer. IsTransmitted (Touches L.after log.old log.new ram.old ram.new) ram.old.bytes (R.state ring.old) form (sending_in answer message.new.items) ram.new.bytes (R.state ring.new)) }
-    ensures memory { OnErr result (MayWantMemory ram.old.bytes (R.state ring.old) form) }
-    ensures untouched { OnErr result (IsUntouched ram.old ram.new (R.state ring.old) (R.state ring.new) log.old log.new) }
+    ensures served { HasRun L.after (bare_scene ram.old log.old (R.state ring.old)) (bare_scene ram.new log.new (R.state ring.new)) (Message form) (transmit_step form) result message.new.items }
     ensures after { HasLooked L.may ram.old ram.new (R.decoder ring.new) log.new }
 {
-    let mut chain = Chain::new(alloc);
-    match look(ring, Wanted::Message(form), &mut chain, ram, log) {
-        NextKind::Empty => Ok(Transmitted::Empty),
-        NextKind::Malformed => Ok(Transmitted::Malformed),
-        NextKind::Chain => {
-            read_message(form.header, &chain, message, base, ram)?;
-            let is_due = hand_back(ring, &chain, ram, log);
-            Ok(Transmitted::Sent { is_due })
-        }
-        NextKind::NoMemory => Err(NoMemory),
-    }
+    let mut chain = Chain::new(site.alloc);
+    look(ring, Wanted::Message(form), &mut chain, ram, log)?;
+    read_message(form.header, &chain, message, site.base, ram)?;
+    let is_due = hand_back(ring, &chain, ram, log);
+    Ok(Served {
+        done: Done::Sent,
+        is_due,
+    })
 }
 
 /// Reads the bytes after the header, with one copy.

@@ -23,7 +23,7 @@ mod transmitting;
 
 pub use emergency::{EMERGENCY, emergency_byte};
 pub use host_bytes::{HOST_BYTES_MAX, HostBytes};
-pub use receiving::{Received, receive};
+pub use receiving::receive;
 pub use shape::{DEVICE_ID, EMERGENCY_WRITE, FEATURES, QUEUE_COUNT, SIZE, recall_console};
 pub use size::{CONFIGURATION_SIZE, ConsoleSize};
 pub use transmitting::{TEXT_MAX, transmit};

@@ -1,80 +1,52 @@
 //! The step that gives bytes to the guest.
 
-ghost use Rattle.std.specs.Prelude.{◌≡◌, ◌≤◌, ◌<◌, ◌+◌, ◌^◌, length, IfOk, OnErr, Some};
+ghost use Rattle.std.specs.Prelude.{◌≡◌, ◌≤◌, ◌<◌, ◌+◌, ◌^◌, ℕ, List, length, Some};
 ghost use Rattle.guestmem.specs.Rises.{Touches};
-ghost use Rattle.chains.specs.Frame.{MayServe, HasServed, MayLook, HasLooked, IsUntouched};
+ghost use Rattle.chains.specs.Frame.{MayServe, HasServed, MayLook, HasLooked};
 ghost use Rattle.chains.specs.Ring.{IsBounded};
-ghost use Rattle.chains.specs.LongQueue.{IsLongQueue};
-ghost use Rattle.console.specs.Receive.{give, IsAfter, IsReceived};
+ghost use Rattle.chains.specs.Served.{HasRun, IsDone, scene};
+ghost use Rattle.chains.specs.Service.{Did, deed_in};
+ghost use Rattle.chains.specs.declared.looking.Wanted.TheVariants.{Room};
+ghost use Rattle.console.specs.Receive.{give_some, receive_step};
 
 use crate::host_bytes::HostBytes;
-use chains::{Chain, NextKind, Ring, Wanted, fill_in_parts, look};
-use guestmem::{NoMemory, Ram, TouchLog};
-use std::alloc::Global;
+use chains::{Chain, Done, Ring, Served, Site, Unserved, Wanted, fill_in_parts, look};
+use guestmem::{Ram, TouchLog};
 
-/// How a step on a queue of receive buffers went.
-#[derive(Clone, Copy, Debug, PartialEq, Eq)]
-pub enum Received {
-    /// The queue was empty, and the event note is written.
-    Empty,
-
-    /// The chain is malformed, or not one to write into: it has a readable byte, or no writable one. It stays.
-    Malformed,
-
-    /// The chain was published.
-    Completed {
-        /// The used length: how many bytes were written into it.
-        len: u32,
-
-        /// Whether an interrupt is due.
-        is_due: bool,
-    },
-}
-
-/// Gives the first of the bytes held to the next chain, as many as it takes, and publishes it. RAM begins at the guest-physical
-/// address `base`. Its only error is out of memory for the chain, and then nothing has changed.
+/// Gives the first of the bytes held to the next chain, as many as it takes, and publishes it. A malformed chain stays, which one with
+/// a readable byte or without a writable one is too.
 #[inline(never)]
 pub fn receive<R: Ring, L: TouchLog>(
-    alloc: Global,
+    site: Site,
     ring: &mut R,
-    base: u64,
     held: &mut HostBytes,
     ram: &mut Ram,
     log: &mut L,
-) -> Result<Received, NoMemory>
+) -> Result<Served, Unserved>
     requires ready { MayLook L.may ram.old (R.state ring.old) (R.decoder ring.old) log.old }
-    requires base { base ≡ (R.state ring.old).base }
-    ensures received { IfOk result (λ answer. IsReceived (Touches L.after log.old log.new ram.old ram.new) ram.old.bytes (R.state ring.old) held.old answer ram.new.bytes (R.state ring.new) held.new) }
-    ensures memory { OnErr result (IsLongQueue ram.old.bytes (R.state ring.old)) }
-    ensures untouched { OnErr result (IsUntouched ram.old ram.new (R.state ring.old) (R.state ring.new) log.old log.new) }
-    ensures held_stay { OnErr result (held.new ≡ held.old) }
+    requires base { site.base ≡ (R.state ring.old).base }
+    ensures served { (sent : List ℕ) → HasRun L.after (scene ram.old log.old (R.state ring.old) held.old) (scene ram.new log.new (R.state ring.new) held.new) Room receive_step result sent }
     ensures after { HasLooked L.may ram.old ram.new (R.decoder ring.new) log.new }
 {
-    let mut chain = Chain::new(alloc);
-    match look(ring, Wanted::Room, &mut chain, ram, log) {
-        NextKind::Empty => Ok(Received::Empty),
-        NextKind::Malformed => Ok(Received::Malformed),
-        NextKind::Chain => Ok(give(ring, base, held, &chain, ram, log)),
-        NextKind::NoMemory => Err(NoMemory),
-    }
+    let mut chain = Chain::new(site.alloc);
+    look(ring, Wanted::Room, &mut chain, ram, log)?;
+    Ok(give_some(ring, site.base, held, &chain, ram, log))
 }
 
 /// Writes the first of the bytes held into a chain, and publishes it.
 #[inline(always)]
-#[tactic(auto, unfolding(crate::specs::Receive::give))]
-fn give<R: Ring, L: TouchLog>(
+fn give_some<R: Ring, L: TouchLog>(
     ring: &mut R,
     base: u64,
     held: &mut HostBytes,
     chain: &Chain,
     ram: &mut Ram,
     log: &mut L,
-) -> Received
+) -> Served
     requires ready { MayServe L.may (length ram.old.bytes) (R.state ring.old) log.old }
     requires bounded { IsBounded (length ram.old.bytes) (R.state ring.old) chain.now }
     requires base { base ≡ (R.state ring.old).base }
-    ensures answer { result ≡ (give ram.old.bytes (R.state ring.old) held.old chain.now).answer }
-    ensures changes { IsAfter (Touches L.after log.old log.new ram.old ram.new) ram.old.bytes (give ram.old.bytes (R.state ring.old) held.old chain.now) ram.new.bytes (R.state ring.new) held.new }
+    ensures done { (sent : List ℕ) → IsDone (Touches L.after log.old log.new ram.old ram.new) ram.old.bytes (give_some ram.old.bytes (R.state ring.old) held.old chain.now) (Did (deed_in result.done sent) result.is_due) ram.new.bytes (R.state ring.new) held.new }
     ensures after { HasServed L.may ram.old ram.new log.new }
     ensures decoder { R.decoder ring.new ≡ R.decoder ring.old }
 {
@@ -85,6 +57,8 @@ fn give<R: Ring, L: TouchLog>(
     let (front, back) = (&front[..first], &back[..count - first]);
     let is_due = fill_in_parts(ring, base, chain, front, back, ram, log);
     held.take_out(count);
-    let len = count as u32;
-    Received::Completed { len, is_due }
+    Served {
+        done: Done::Completed(count as u32),
+        is_due,
+    }
 }

@@ -2,16 +2,15 @@
 //!
 //! Text of no bytes is sent like any other, and its chain is published.
 
-ghost use Rattle.std.specs.Prelude.{◌≡◌, ◌≤◌, length, IfOk, OnErr};
-ghost use Rattle.guestmem.specs.Rises.{Touches};
-ghost use Rattle.chains.specs.Frame.{MayLook, HasLooked, IsUntouched};
-ghost use Rattle.chains.specs.Transmit.{MayWantMemory, sending_in};
-ghost use Rattle.chains.specs.Transmitted.{IsTransmitted};
+ghost use Rattle.std.specs.Prelude.{◌≡◌, ◌≤◌};
+ghost use Rattle.chains.specs.Frame.{MayLook, HasLooked};
+ghost use Rattle.chains.specs.Served.{HasRun, bare_scene};
+ghost use Rattle.chains.specs.Transmit.{transmit_step};
+ghost use Rattle.chains.specs.declared.looking.Wanted.TheVariants.{Message};
 ghost use Rattle.console.specs.Transmit.{text_form};
 
-use chains::{MessageForm, Ring, Transmitted};
-use guestmem::{NoMemory, Ram, TouchLog};
-use std::alloc::Global;
+use chains::{MessageForm, Ring, Served, Site, Unserved};
+use guestmem::{Ram, TouchLog};
 
 /// The most bytes of text that one chain may hold.
 pub const TEXT_MAX: u32 = 65_536;
@@ -23,22 +22,19 @@ const TEXT: MessageForm = MessageForm {
     most: TEXT_MAX,
 };
 
-/// Reads all the text of the next chain of the transmit queue, and publishes the chain. RAM begins at the guest-physical address
-/// `base`. Its only error is out of memory, for the chain or for the text, and then nothing has changed.
+/// Reads all the text of the next chain of the transmit queue, and publishes the chain. Memory may be refused for a long chain, or for
+/// the text.
 pub fn transmit<R: Ring, L: TouchLog>(
-    alloc: Global,
+    site: Site,
     ring: &mut R,
-    base: u64,
     message: &mut Vec<u8>,
     ram: &mut Ram,
     log: &mut L,
-) -> Result<Transmitted, NoMemory>
+) -> Result<Served, Unserved>
     requires ready { MayLook L.may ram.old (R.state ring.old) (R.decoder ring.old) log.old }
-    requires base { base ≡ (R.state ring.old).base }
-    ensures transmitted { IfOk result (λ answer. IsTransmitted (Touches L.after log.old log.new ram.old ram.new) ram.old.bytes (R.state ring.old) text_form (sending_in answer message.new.items) ram.new.bytes (R.state ring.new)) }
-    ensures memory { OnErr result (MayWantMemory ram.old.bytes (R.state ring.old) text_form) }
-    ensures untouched { OnErr result (IsUntouched ram.old ram.new (R.state ring.old) (R.state ring.new) log.old log.new) }
+    requires base { site.base ≡ (R.state ring.old).base }
+    ensures served { HasRun L.after (bare_scene ram.old log.old (R.state ring.old)) (bare_scene ram.new log.new (R.state ring.new)) (Message text_form) (transmit_step text_form) result message.new.items }
     ensures after { HasLooked L.may ram.old ram.new (R.decoder ring.new) log.new }
 {
-    chains::transmit(alloc, ring, base, TEXT, message, ram, log)
+    chains::transmit(site, ring, TEXT, message, ram, log)
 }

@@ -3,7 +3,7 @@ use Rattle.std.proofs.Common.{◌≡◌, ℕ, ◌-◌, ◌<◌, List, [], length
 use Rattle.std.specs.Prelude.{slice_get}
 use Rattle.std.specs.Bool.{MatchBool}
 use borrow.Author.Tests.{ltb-true}
-use Rattle.blk.specs.Shape.{with_features}
+use Rattle.blk.specs.Block.{limits_of}
 use Rattle.blk.specs.Sound.{AreRequestsOf}
 use Rattle.blk.specs.declared.request.Request.{Request}
 use Rattle.mmio.specs.State.{Registers, queue_at}
@@ -36,9 +36,9 @@ ready_by false requests k h below = let none : length requests ≡ 0 = rw h refl
 
 kind_ready : (len : ℕ) (r : Registers) (kind : Kind) (queue : Queue) (k : ℕ) → queue_at r 0 ≡ Some queue → IsSoundKind len r kind → k < length (requests_of kind) → queue.is_ready ≡ true
 kind_ready len r (Network mac frames) queue k there sound below = absurd (omega (arith, below))
-kind_ready len r (Block sectors read_only id requests) queue k there sound below =
-    let are : AreRequestsOf r.ram_base len (is_packed_by r.common) queue (with_features sectors read_only id r.common.features) requests = rw there at sound in
-    ready_by queue.is_ready requests k are.where_ready below
+kind_ready len r (Block block) queue k there sound below =
+    let are : AreRequestsOf r.ram_base len (is_packed_by r.common) queue (limits_of block r.common.features) block.requests = rw there at sound in
+    ready_by queue.is_ready block.requests k are.where_ready below
 kind_ready len r (Console size held) queue k there sound below = absurd (omega (arith, below))
 kind_ready len r (Entropy pool) queue k there sound below = absurd (omega (arith, below))
 

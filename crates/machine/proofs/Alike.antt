@@ -14,13 +14,16 @@ use Rattle.blk.specs.Sectors.{AreWhole, IsGiven, IsWhole, Sector, bytes_of, is_b
 use Rattle.blk.specs.declared.request.Kind.{Kind}
 use Rattle.blk.specs.declared.request.Kind.TheVariants.{Refused, In, Out, Flush, GetId, Zero}
 use Rattle.blk.specs.declared.request.Request.{Request}
-use Rattle.blk.specs.declared.shape.BlockShape.{BlockShape}
+use Rattle.blk.specs.Block.{with_requests}
+use Rattle.blk.specs.declared.block.Block as blocks
 use Rattle.machine.specs.AppliedLaws.{AnyDiskActsAlike, IsAlike}
-use Rattle.machine.specs.DeviceStep.{DeviceAnswer, advance_at, advance_on, advanced_at, device_step, looked_at, requests_of, step_at}
+use Rattle.machine.specs.DeviceStep.{DeviceAnswer, advance_at, advance_on, advanced_at, device_step, looked_at, step_at, unmoved}
 use Rattle.machine.specs.Effect.{sets_on}
 use Rattle.machine.specs.Outcome.{Outcome, disk_does, outcome_of}
 use Rattle.machine.specs.Seen.{all_marks, marks_at, state_of}
-use Rattle.machine.specs.Shapes.{block_of, made_as}
+use Rattle.machine.specs.declared.kind.Kind as kinds
+use Rattle.machine.specs.declared.kind.Kind.TheVariants.{Network, Block, Console, Entropy}
+use Rattle.machine.specs.declared.reply.Reply.TheVariants.{Idle}
 use Rattle.machine.specs.State.{DeviceState}
 use Rattle.machine.specs.Step.{Answer, answer, disk_of, disk_or_none, step_device}
 use Rattle.machine.specs.declared.event.Event.TheVariants.{RegRead, RegWrite, MemRead, MemWrite, Step, Input, Resize}
@@ -101,22 +104,22 @@ record AreLikeSteps (a b : AdvanceStep) : Type 0 where
   writes : addresses a.writes ≡ addresses b.writes
   sets : a.sets ≡ b.sets
   ring : a.ring ≡ b.ring
-  requests : a.requests ≡ b.requests
+  block : a.block ≡ b.block
 
 one_step : (s : AdvanceStep) → AreLikeSteps s s
-one_step s = record { answer = refl; writes = refl; sets = refl; ring = refl; requests = refl }
+one_step s = record { answer = refl; writes = refl; sets = refl; ring = refl; block = refl }
 
-like_by : (shape : BlockShape) (ram : List ℕ) (q : RingState) (x y : List Sector) (requests : List Request) (k : ℕ) (is_fine : Bool) (r : Request) (at_work : Bool) → is_open r ≡ at_work → HaveSameMarks x y
-    → AreLikeSteps (advance_one shape ram q x requests k is_fine (Some r)) (advance_one shape ram q y requests k is_fine (Some r))
-like_by shape ram q x y requests k is_fine r true at_work h =
-    let m = like_moves r.kind q.base shape.id ram x y r is_fine h in
-    rw at_work (record { answer = m.answer; writes = m.writes; sets = m.sets; ring = refl; requests = ap (set requests k) m.request })
-like_by shape ram q x y requests k is_fine r false at_work h = rw at_work (one_step _)
+like_by : (ram : List ℕ) (q : RingState) (x y : List Sector) (b : blocks.Block) (k : ℕ) (is_fine : Bool) (r : Request) (at_work : Bool) → is_open r ≡ at_work → HaveSameMarks x y
+    → AreLikeSteps (advance_one ram q x b k is_fine (Some r)) (advance_one ram q y b k is_fine (Some r))
+like_by ram q x y b k is_fine r true at_work h =
+    let m = like_moves r.kind q.base b.id ram x y r is_fine h in
+    rw at_work (record { answer = m.answer; writes = m.writes; sets = m.sets; ring = refl; block = ap (λ (r : Request). with_requests b (set b.requests k r)) m.request })
+like_by ram q x y b k is_fine r false at_work h = rw at_work (one_step _)
 
-like_one : (shape : BlockShape) (ram : List ℕ) (q : RingState) (x y : List Sector) (requests : List Request) (k : ℕ) (is_fine : Bool) (found : Option Request) → HaveSameMarks x y
-    → AreLikeSteps (advance_one shape ram q x requests k is_fine found) (advance_one shape ram q y requests k is_fine found)
-like_one shape ram q x y requests k is_fine None h = one_step (advance_one shape ram q x requests k is_fine None)
-like_one shape ram q x y requests k is_fine (Some r) h = like_by shape ram q x y requests k is_fine r (is_open r) refl h
+like_one : (ram : List ℕ) (q : RingState) (x y : List Sector) (b : blocks.Block) (k : ℕ) (is_fine : Bool) (found : Option Request) → HaveSameMarks x y
+    → AreLikeSteps (advance_one ram q x b k is_fine found) (advance_one ram q y b k is_fine found)
+like_one ram q x y b k is_fine None h = one_step (advance_one ram q x b k is_fine None)
+like_one ram q x y b k is_fine (Some r) h = like_by ram q x y b k is_fine r (is_open r) refl h
 
 -- A step of a device.
 record AreLikeAnswers (a b : DeviceAnswer) : Type 0 where
@@ -128,14 +131,17 @@ record AreLikeAnswers (a b : DeviceAnswer) : Type 0 where
 one_answer : (a : DeviceAnswer) → AreLikeAnswers a a
 one_answer a = record { reply = refl; writes = refl; sets = refl; device = refl }
 
-like_advances : (d : DeviceState) (ram : List ℕ) (x y : List Sector) (pick : ℕ) (q : RingState) (o : Outcome) → HaveSameMarks x y → AreLikeAnswers (advance_on d ram x pick q o) (advance_on d ram y pick q o)
-like_advances d ram x y pick q o h =
-    let s = like_one (block_of (made_as d.kind) d.registers.common.features) ram q x y (requests_of d.kind) (pick - 1) (disk_does o) (slice_get (requests_of d.kind) (pick - 1)) h in
-    record { reply = rw (s.answer) refl; writes = s.writes; sets = s.sets; device = rw (s.answer, s.ring, s.requests) refl }
+like_advances : (d : DeviceState) (kind : kinds.Kind) (ram : List ℕ) (x y : List Sector) (pick : ℕ) (q : RingState) (o : Outcome) → HaveSameMarks x y → AreLikeAnswers (advance_on d kind ram x pick q o) (advance_on d kind ram y pick q o)
+like_advances d (Block block) ram x y pick q o h =
+    let s = like_one ram q x y block (pick - 1) (disk_does o) (slice_get block.requests (pick - 1)) h in
+    record { reply = rw (s.answer) refl; writes = s.writes; sets = s.sets; device = rw (s.answer, s.ring, s.block) refl }
+like_advances d (Network mac frames) ram x y pick q o h = one_answer (unmoved d Idle)
+like_advances d (Console size held) ram x y pick q o h = one_answer (unmoved d Idle)
+like_advances d (Entropy pool) ram x y pick q o h = one_answer (unmoved d Idle)
 
 like_at_ring : (d : DeviceState) (ram : List ℕ) (x y : List Sector) (pick : ℕ) (ring : Option RingState) (o : Outcome) → HaveSameMarks x y → AreLikeAnswers (advance_at d ram x pick ring o) (advance_at d ram y pick ring o)
 like_at_ring d ram x y pick None o h = one_answer (advance_at d ram x pick None o)
-like_at_ring d ram x y pick (Some q) o h = like_advances d ram x y pick q o h
+like_at_ring d ram x y pick (Some q) o h = like_advances d d.kind ram x y pick q o h
 
 like_looks : (d : DeviceState) (ram : List ℕ) (x y : List Sector) (pick : ℕ) (ring : Option RingState) (o : Outcome) (seen : Next) → HaveSameMarks x y → AreLikeAnswers (step_at d ram x pick ring o seen) (step_at d ram y pick ring o seen)
 like_looks d ram x y pick None o seen h = like_at_ring d ram x y pick (advanced_at d pick) o h

@@ -1,62 +1,63 @@
 -- How a step that served a queue is answered.
-use Rattle.std.proofs.Common.{◌≡◌, ℕ, zero, suc, List, refl}
-use Rattle.blk.specs.declared.taking.Taken.{Taken}
-use Rattle.blk.specs.declared.taking.Taken.TheVariants as taken
+use Rattle.std.proofs.Common.{◌≡◌, ℕ, zero, suc, Bool, true, false, cond, ltb, List, [], ◌∷◌, ◌++◌, length, refl}
+use Rattle.chains.specs.Places.{places}
+use Rattle.chains.specs.ReceiveBuffer.{give}
+use Rattle.chains.specs.Service.{Answer, Deed, Empty, Malformed, Did, Service, service_of}
+use Rattle.chains.specs.Service as service
 use Rattle.chains.specs.State.{RingState}
+use Rattle.chains.specs.Transmit.{send}
+use Rattle.chains.specs.declared.chain.Chain.{Chain}
 use Rattle.chains.specs.declared.next.Next.{Next}
-use Rattle.chains.specs.Transmit.{Sending}
-use Rattle.chains.specs.Transmit as messages
-use Rattle.console.specs.declared.receiving.Received.{Received}
-use Rattle.console.specs.declared.receiving.Received.TheVariants as received
-use Rattle.net.specs.declared.receiving.Received as net
-use Rattle.net.specs.declared.receiving.Received.TheVariants as frames
-use Rattle.machine.specs.DeviceStep.{reply_of, serve, served_frame, served_message, served_of, served_taking}
+use Rattle.chains.specs.declared.next.Next.TheVariants as next
+use Rattle.chains.specs.declared.transmitting.MessageForm.{MessageForm}
+use Rattle.blk.specs.Take.{take_chain}
+use Rattle.console.specs.Receive.{give_some}
+use Rattle.console.specs.Transmit.{text_form}
+use Rattle.net.specs.Header.{header}
+use Rattle.net.specs.Receive.{drop_frame, give_first}
+use Rattle.net.specs.Transmit.{frame_form}
+use Rattle.machine.specs.DeviceStep.{reply_of, serve}
 use Rattle.machine.specs.Outcome.{fine, outcome_of}
 use Rattle.machine.specs.StepLaws.{IsRefusal}
 use Rattle.machine.specs.declared.kind.Kind.{Kind}
 use Rattle.machine.specs.declared.kind.Kind.TheVariants.{Network, Block, Console, Entropy}
 use Rattle.machine.specs.declared.reply.Reply.TheVariants.{Idle, NeedsReset}
-use Rattle.machine.specs.Served.{Served}
-use Rattle.machine.specs.Served as served
 
 -- By no refusal; and by a call for a reset, or as idle, only where the queue is malformed, or empty.
-pub record IsAnswered (s : Served) : Type 0 where
-  pub outcome : outcome_of (reply_of s) ≡ fine
-  pub quiet : IsRefusal (reply_of s) → ⊥
-  pub idle : reply_of s ≡ Idle → s ≡ served.Empty
-  pub reset : reply_of s ≡ NeedsReset → s ≡ served.Malformed
+pub record IsAnswered (a : Answer) : Type 0 where
+  pub outcome : outcome_of (reply_of a) ≡ fine
+  pub quiet : IsRefusal (reply_of a) → ⊥
+  pub idle : reply_of a ≡ Idle → a ≡ Empty
+  pub reset : reply_of a ≡ NeedsReset → a ≡ Malformed
 
-empty : IsAnswered served.Empty
-empty = record { outcome = refl; quiet = λ h. h; idle = λ h. refl; reset = λ h. cc }
+did : (deed : Deed) (is_due : Bool) → IsAnswered (Did deed is_due)
+did service.Taken is_due = record { outcome = refl; quiet = λ h. h; idle = λ h. cc; reset = λ h. cc }
+did (service.Completed len) is_due = record { outcome = refl; quiet = λ h. h; idle = λ h. cc; reset = λ h. cc }
+did (service.Sent bytes) is_due = record { outcome = refl; quiet = λ h. h; idle = λ h. cc; reset = λ h. cc }
+did service.Dropped is_due = record { outcome = refl; quiet = λ h. h; idle = λ h. cc; reset = λ h. cc }
 
-malformed : IsAnswered served.Malformed
-malformed = record { outcome = refl; quiet = λ h. h; idle = λ h. cc; reset = λ h. refl }
+-- Of a chain, each of these steps does something.
+pub given : {S : Type 0} (ram : List ℕ) (q : RingState) (bytes : List ℕ) (left : S) (c : Chain) → IsAnswered (give ram q bytes left c).answer
+unfolding give
+given ram q bytes left c = did _ _
 
-of_bytes : (x : Received) → IsAnswered (served_of x)
-of_bytes received.Empty = empty
-of_bytes received.Malformed = malformed
-of_bytes (received.Completed len due) = record { outcome = refl; quiet = λ h. h; idle = λ h. cc; reset = λ h. cc }
+pub one_framed : (ram : List ℕ) (q : RingState) (frame : List ℕ) (rest : List (List ℕ)) (c : Chain) (short : Bool) → IsAnswered (cond short (drop_frame q rest) (give ram q (header ++ frame) rest c)).answer
+one_framed ram q frame rest c true = did _ _
+one_framed ram q frame rest c false = given ram q (header ++ frame) rest c
 
-of_request : (x : Taken) → IsAnswered (served_taking x)
-of_request taken.Empty = empty
-of_request taken.Malformed = malformed
-of_request taken.Taken = record { outcome = refl; quiet = λ h. h; idle = λ h. cc; reset = λ h. cc }
+framed : (ram : List ℕ) (q : RingState) (frames : List (List ℕ)) (c : Chain) → IsAnswered (give_first ram q frames c).answer
+framed ram q [] c = did _ _
+framed ram q (frame ∷ rest) c = one_framed ram q frame rest c (ltb (length (places c.writable)) (length (header ++ frame)))
 
-of_frame : (x : net.Received) → IsAnswered (served_frame x)
-of_frame frames.Empty = empty
-of_frame frames.Malformed = malformed
-of_frame frames.Dropped = record { outcome = refl; quiet = λ h. h; idle = λ h. cc; reset = λ h. cc }
-of_frame (frames.Completed len due) = record { outcome = refl; quiet = λ h. h; idle = λ h. cc; reset = λ h. cc }
+by_seen : {S : Type 0} (q : RingState) (state : S) (on_chain : Chain → Service S) (seen : Next) → ((c : Chain) → IsAnswered (on_chain c).answer) → IsAnswered (service_of q state on_chain seen).answer
+by_seen q state on_chain next.Empty all = record { outcome = refl; quiet = λ h. h; idle = λ h. refl; reset = λ h. cc }
+by_seen q state on_chain next.Malformed all = record { outcome = refl; quiet = λ h. h; idle = λ h. cc; reset = λ h. refl }
+by_seen q state on_chain (next.Chain c) all = all c
 
-of_message : (x : Sending) → IsAnswered (served_message x)
-of_message messages.Empty = empty
-of_message messages.Malformed = malformed
-of_message (messages.Sent bytes due) = record { outcome = refl; quiet = λ h. h; idle = λ h. cc; reset = λ h. cc }
-
-pub answered : (features : ℕ) (kind : Kind) (number : ℕ) (ram : List ℕ) (q : RingState) (seen : Next) → IsAnswered (serve features kind number ram q seen).served
-answered features (Network mac held) zero ram q seen = of_frame _
-answered features (Network mac held) (suc number) ram q seen = of_message _
-answered features (Block sectors read_only id requests) number ram q seen = of_request _
-answered features (Console size held) zero ram q seen = of_bytes _
-answered features (Console size held) (suc number) ram q seen = of_message _
-answered features (Entropy pool) number ram q seen = of_bytes _
+pub answered : (features : ℕ) (kind : Kind) (number : ℕ) (ram : List ℕ) (q : RingState) (seen : Next) → IsAnswered (serve features kind number ram q seen).answer
+answered features (Network mac frames) zero ram q seen = by_seen q frames (give_first ram q frames) seen (framed ram q frames)
+answered features (Network mac frames) (suc number) ram q seen = by_seen q (Network mac frames) (send frame_form.header ram q (Network mac frames)) seen (λ c. did _ _)
+answered features (Block block) number ram q seen = by_seen q block (take_chain features ram q block) seen (λ c. did _ _)
+answered features (Console size held) zero ram q seen = by_seen q held (give_some ram q held) seen (λ c. given ram q _ _ c)
+answered features (Console size held) (suc number) ram q seen = by_seen q (Console size held) (send text_form.header ram q (Console size held)) seen (λ c. did _ _)
+answered features (Entropy pool) number ram q seen = by_seen q pool (give_some ram q pool) seen (λ c. given ram q _ _ c)

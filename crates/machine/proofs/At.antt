@@ -118,7 +118,7 @@ size_answer m ds dev cols rows d new (Console old held) result kind_is at same s
       changed = changed_at m m ds dev d new [] at (ap (λ (x : DeviceSeen). x.sectors) same) refl;
     })
 size_answer m ds dev cols rows d new (Network mac frames) result kind_is at same state_is h = size_refused m ds dev cols rows d new (Network mac frames) result kind_is at same state_is h.0 h.1 h.2 refl
-size_answer m ds dev cols rows d new (Block sectors read_only id requests) result kind_is at same state_is h = size_refused m ds dev cols rows d new (Block sectors read_only id requests) result kind_is at same state_is h.0 h.1 h.2 refl
+size_answer m ds dev cols rows d new (Block block) result kind_is at same state_is h = size_refused m ds dev cols rows d new (Block block) result kind_is at same state_is h.0 h.1 h.2 refl
 size_answer m ds dev cols rows d new (Entropy pool) result kind_is at same state_is h = size_refused m ds dev cols rows d new (Entropy pool) result kind_is at same state_is h.0 h.1 h.2 refl
 
 pub size_step : (m : Memory) (ds : List DeviceSeen) (dev cols rows : ℕ) (d new : DeviceSeen) (result : Result (Unit {0}) Refusal) → IsAt ds dev d → new ≡ record d { state = new.state }
@@ -133,7 +133,7 @@ same_frames mac frames bytes false refusal h = refl
 
 same_kind : (kind : Kind) (bytes : List ℕ) (refusal : Refusal) → input_of kind bytes ≡ Err refusal → kind_with_input kind bytes ≡ kind
 same_kind (Network mac frames) bytes refusal h = same_frames mac frames bytes (is_frame_len (length bytes)) refusal h
-same_kind (Block sectors read_only id requests) bytes refusal h = refl
+same_kind (Block block) bytes refusal h = refl
 same_kind (Console size held) bytes refusal h = cc
 same_kind (Entropy pool) bytes refusal h = cc
 

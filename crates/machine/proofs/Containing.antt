@@ -1,5 +1,5 @@
 -- Malformed chains, and events that change nothing.
-use Rattle.std.proofs.Common.{◌≡◌, ℕ, zero, suc, ◌+◌, set, Bool, true, false, cond, ltb, List, [], ◌∷◌, length, Option, Some, None, refl, ap, sym, ◌∙◌, subst}
+use Rattle.std.proofs.Common.{◌≡◌, ℕ, zero, suc, ◌+◌, set, Bool, true, false, cond, ltb, List, [], ◌∷◌, ◌++◌, length, Option, Some, None, refl, ap, sym, ◌∙◌, subst}
 use Rattle.std.specs.Prelude.{◌-◌, bit_or, slice_get, Result, Ok, Err}
 use Rattle.guestmem.specs.Address.{access_refusal, index_of}
 use Rattle.guestmem.specs.declared.error.RamError.{RamError}
@@ -16,13 +16,13 @@ use Rattle.chains.specs.State.{RingState}
 use Rattle.chains.specs.Places.{places}
 use Rattle.console.specs.declared.size.ConsoleSize.{ConsoleSize}
 use Rattle.net.specs.Receive as net
-use Rattle.net.specs.declared.header.TheConstants.{HEADER_SIZE}
-use Rattle.console.specs.Receive.{give}
-use Rattle.machine.specs.DeviceStep.{advance_at, advanced_at, device_step, looked_at, MayLook, wanted_of, requests_of, reply_to_advance, step_at, serve, served_frame, registers_after}
+use Rattle.net.specs.Header.{header}
+use Rattle.chains.specs.ReceiveBuffer.{give}
+use Rattle.chains.specs.Service as service
+use Rattle.machine.specs.DeviceStep.{advance_at, advance_on, advanced_at, device_step, looked_at, MayLook, wanted_of, reply_to_advance, step_at, serve, registers_after}
 use Rattle.machine.specs.Effect.{Effect, applied, sets_on}
 use Rattle.machine.specs.Looked.{IsLookedAt, LooksAtMalformed}
 use Rattle.machine.specs.Outcome.{Outcome, fine, disk_failed, no_memory, disk_does}
-use Rattle.machine.specs.Shapes.{block_of, made_as}
 use Rattle.machine.specs.State.{MachineState, DeviceState, base_of}
 use Rattle.machine.specs.Step.{answer, disk_of, input_of, MaySeeAt, HasEffect, out_reply, put_by, set_size, size_by, written_out, read_register, write_register, read_ram, write_ram, put_in, step_device}
 use Rattle.machine.specs.StepLaws.{IsContained, MalformedIsContained, MalformedAsksForReset, IsRefusal, RefusalsChangeNothing}
@@ -32,54 +32,45 @@ use Rattle.machine.specs.declared.kind.Kind.{Kind}
 use Rattle.machine.specs.declared.kind.Kind.TheVariants.{Network, Block, Console, Entropy}
 use Rattle.machine.specs.declared.reply.Refusal.{Refusal}
 use Rattle.machine.specs.declared.reply.Reply.TheVariants.{NeedsReset}
-use Rattle.machine.specs.Served as served
 use Rattle.machine.proofs.Agreeing.{effects_same}
 use Rattle.machine.proofs.Answering.{answered}
-use Rattle.machine.proofs.Looking.{looked_is, is_looked, left_of_and}
+use Rattle.machine.proofs.Looking.{looked_is, is_looked, left_of_and, positions_stay, set_same}
 
 -- A device that asked for a reset.
-asked : (r : Registers) → has r.common.status 4 ≡ true → (pick : ℕ) → registers_after r pick served.Malformed ≡ with_common r (record r.common { status = bit_or r.common.status 64; interrupts = bit_or r.common.interrupts 2 })
+asked : (r : Registers) → has r.common.status 4 ≡ true → (pick : ℕ) → registers_after r pick service.Malformed ≡ with_common r (record r.common { status = bit_or r.common.status 64; interrupts = bit_or r.common.interrupts 2 })
 asked r drives pick = rw drives refl
 
 -- A queue that is malformed stays, with all else of its ring.
-served_malformed : (features : ℕ) (kind : Kind) (number : ℕ) (ram : List ℕ) (q : RingState) → serve features kind number ram q next.Malformed ≡ record { served = served.Malformed; writes = []; ring = q; kind = kind }
+served_malformed : (features : ℕ) (kind : Kind) (number : ℕ) (ram : List ℕ) (q : RingState) → serve features kind number ram q next.Malformed ≡ record { answer = service.Malformed; writes = []; ring = q; state = kind }
 served_malformed features (Network mac frames) zero ram q = refl
 served_malformed features (Network mac frames) (suc number) ram q = refl
-served_malformed features (Block sectors read_only id requests) number ram q = refl
+served_malformed features (Block block) number ram q = refl
 served_malformed features (Console size held) zero ram q = refl
 served_malformed features (Console size held) (suc number) ram q = refl
 served_malformed features (Entropy pool) number ram q = refl
 
 -- A queue is served as malformed only if the device sees it so.
-frame_so : (ram : List ℕ) (q : RingState) (frame : List ℕ) (rest : List (List ℕ)) (c : Chain) (short : Bool) → served_frame (cond short (net.drop_frame q rest) (net.give ram q frame rest c)).answer ≡ served.Malformed → ⊥
-unfolding net.give
+frame_so : (ram : List ℕ) (q : RingState) (frame : List ℕ) (rest : List (List ℕ)) (c : Chain) (short : Bool) → (cond short (net.drop_frame q rest) (give ram q (header ++ frame) rest c)).answer ≡ service.Malformed → ⊥
+unfolding give
 frame_so ram q frame rest c true h = cc
 frame_so ram q frame rest c false h = cc
 
-seen_so : (features : ℕ) (kind : Kind) (number : ℕ) (ram : List ℕ) (q : RingState) (seen : Next) → (serve features kind number ram q seen).served ≡ served.Malformed → seen ≡ next.Malformed
+seen_so : (features : ℕ) (kind : Kind) (number : ℕ) (ram : List ℕ) (q : RingState) (seen : Next) → (serve features kind number ram q seen).answer ≡ service.Malformed → seen ≡ next.Malformed
 unfolding give
 seen_so features kind number ram q next.Malformed h = refl
 seen_so features (Network mac frames) zero ram q next.Empty h = cc
 seen_so features (Network mac []) zero ram q (next.Chain c) h = cc
-seen_so features (Network mac (frame ∷ rest)) zero ram q (next.Chain c) h = absurd (frame_so ram q frame rest c (ltb (length (places c.writable)) (HEADER_SIZE + length frame)) h)
+seen_so features (Network mac (frame ∷ rest)) zero ram q (next.Chain c) h = absurd (frame_so ram q frame rest c (ltb (length (places c.writable)) (length (header ++ frame))) h)
 seen_so features (Network mac frames) (suc number) ram q next.Empty h = cc
 seen_so features (Network mac frames) (suc number) ram q (next.Chain c) h = cc
-seen_so features (Block sectors read_only id requests) number ram q next.Empty h = cc
-seen_so features (Block sectors read_only id requests) number ram q (next.Chain c) h = cc
+seen_so features (Block block) number ram q next.Empty h = cc
+seen_so features (Block block) number ram q (next.Chain c) h = cc
 seen_so features (Console size held) zero ram q next.Empty h = cc
 seen_so features (Console size held) zero ram q (next.Chain c) h = cc
 seen_so features (Console size held) (suc number) ram q next.Empty h = cc
 seen_so features (Console size held) (suc number) ram q (next.Chain c) h = cc
 seen_so features (Entropy pool) number ram q next.Empty h = cc
 seen_so features (Entropy pool) number ram q (next.Chain c) h = cc
-
-set_same : {A : Type 0} (xs : List A) (n : ℕ) (x : A) → slice_get xs n ≡ Some x → set xs n x ≡ xs
-set_same [] n x h = refl
-set_same (y ∷ ys) zero x h = cc
-set_same (y ∷ ys) (suc n) x h = ap (λ zs. y ∷ zs) (set_same ys n x h)
-
-positions_stay : (d : DeviceState) (pick : ℕ) (q : RingState) → IsLookedAt d pick q → set d.positions pick (record { taking = q.taking; used = q.used }) ≡ d.positions
-positions_stay d pick q h = rw h.is (set_same d.positions pick h.positions h.placed)
 
 -- Advancing a request is answered by no call for a reset, and by no refusal.
 advance_quiet : (a : Advanced) → (reply_to_advance a ≡ NeedsReset → ⊥) × (IsRefusal (reply_to_advance a) → ⊥)
@@ -89,9 +80,15 @@ advance_quiet advanced.BadSector = ((λ h. cc), (λ h. h))
 advance_quiet advanced.DiskFailed = ((λ h. cc), (λ h. h))
 advance_quiet (advanced.Completed len due) = ((λ h. cc), (λ h. h))
 
+no_reset_on : (d : DeviceState) (kind : Kind) (ram : List ℕ) (content : List Sector) (pick : ℕ) (q : RingState) (o : Outcome) → (advance_on d kind ram content pick q o).reply ≡ NeedsReset → ⊥
+no_reset_on d (Block block) ram content pick q o h = (advance_quiet (advance_step ram q content block (pick - 1) (disk_does o)).answer).0 h
+no_reset_on d (Network mac frames) ram content pick q o h = cc
+no_reset_on d (Console size held) ram content pick q o h = cc
+no_reset_on d (Entropy pool) ram content pick q o h = cc
+
 no_reset : (d : DeviceState) (ram : List ℕ) (content : List Sector) (pick : ℕ) (ring : Option RingState) (o : Outcome) → (advance_at d ram content pick ring o).reply ≡ NeedsReset → ⊥
 no_reset d ram content pick None o h = cc
-no_reset d ram content pick (Some q) o h = (advance_quiet (advance_step (block_of (made_as d.kind) d.registers.common.features) ram q content (requests_of d.kind) (pick - 1) (disk_does o)).answer).0 h
+no_reset d ram content pick (Some q) o h = no_reset_on d d.kind ram content pick q o h
 
 contained_ring : (m after : MachineState) (dev pick : ℕ) (seen : Next) (d : DeviceState) → slice_get m.devices dev ≡ Some d → (ring : Option RingState) → looked_at d pick ≡ ring → (o : Outcome)
     → NeedsReset ≡ (step_at d m.ram (disk_of m dev) pick ring o seen).reply
@@ -157,9 +154,15 @@ asks m dev pick o r after h = (
 same_record : (m : MachineState) (devices : List DeviceState) → devices ≡ m.devices → record m { devices = devices } ≡ m
 same_record m devices is = rw is refl
 
+quiet_on : (d : DeviceState) (kind : Kind) (ram : List ℕ) (content : List Sector) (pick : ℕ) (q : RingState) (o : Outcome) → IsRefusal (advance_on d kind ram content pick q o).reply → ⊥
+quiet_on d (Block block) ram content pick q o h = (advance_quiet (advance_step ram q content block (pick - 1) (disk_does o)).answer).1 h
+quiet_on d (Network mac frames) ram content pick q o h = h
+quiet_on d (Console size held) ram content pick q o h = h
+quiet_on d (Entropy pool) ram content pick q o h = h
+
 pub quiet_advance : (d : DeviceState) (ram : List ℕ) (content : List Sector) (pick : ℕ) (ring : Option RingState) (o : Outcome) → IsRefusal (advance_at d ram content pick ring o).reply → ⊥
 quiet_advance d ram content pick None o h = h
-quiet_advance d ram content pick (Some q) o h = (advance_quiet (advance_step (block_of (made_as d.kind) d.registers.common.features) ram q content (requests_of d.kind) (pick - 1) (disk_does o)).answer).1 h
+quiet_advance d ram content pick (Some q) o h = quiet_on d d.kind ram content pick q o h
 
 quiet_ring : (m : MachineState) (dev pick : ℕ) (seen : Next) (d : DeviceState) → slice_get m.devices dev ≡ Some d → (ring : Option RingState) (o : Outcome) → IsRefusal (step_at d m.ram (disk_of m dev) pick ring o seen).reply
     → applied m (record { writes = (step_at d m.ram (disk_of m dev) pick ring o seen).writes; sectors = sets_on dev (step_at d m.ram (disk_of m dev) pick ring o seen).sets; replaced = Some (record { number = dev; device = (step_at d m.ram (disk_of m dev) pick ring o seen).device }) }) ≡ m
@@ -205,7 +208,7 @@ quiet_put m dev (Some d) bytes h = quiet_put_by m dev d bytes (input_of d.kind b
 
 quiet_size_by : (m : MachineState) (dev : ℕ) (d : DeviceState) (kind : Kind) (size : ConsoleSize) → IsRefusal (size_by dev d kind size).reply → applied m (size_by dev d kind size).effect ≡ m
 quiet_size_by m dev d (Network mac frames) size h = refl
-quiet_size_by m dev d (Block sectors read_only id requests) size h = refl
+quiet_size_by m dev d (Block block) size h = refl
 quiet_size_by m dev d (Console old held) size h = absurd h
 quiet_size_by m dev d (Entropy pool) size h = refl
 

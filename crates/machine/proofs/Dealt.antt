@@ -5,7 +5,7 @@ use Rattle.std.proofs.lemmas.List.{length-replicate, map-append, take_more}
 use Rattle.guestmem.specs.Memory.{Memory}
 use Rattle.blk.specs.Disk.{DiskState}
 use Rattle.blk.specs.Sectors.{SectorsState, sectors_of}
-use Rattle.machine.specs.First.{AreMarksOf, dealt_sectors, dealt_marks, given, good_marks, marked, marked_sectors, marks_in, next_disk, left_over, saved_machine, seen_with, seen_devices}
+use Rattle.machine.specs.First.{AreMarksOf, dealt_sectors, dealt_marks, given, good_marks, marked, marked_sectors, marks_in, next_disk, left_over, saved_machine, seen_with, seen_devices, uncounted}
 use Rattle.machine.specs.Held.{IsHeld}
 use Rattle.machine.specs.Seen.{DeviceSeen, Marks, disk_marks, marks_of, no_marks, sectors_of as content_of, state_of}
 use Rattle.machine.specs.Shapes.{disk_size_of, made_as}
@@ -122,3 +122,14 @@ marked_marks state (x ∷ xs) (marks ∷ bad) are = let rest : AreMarksOf (map s
 pub devices_long : (states : List DeviceState) (disks : List SectorsState) → length (seen_devices states disks) ≡ length states
 devices_long [] disks = refl
 devices_long (d ∷ ds) disks = ap suc (devices_long ds (left_over (disk_size_of (made_as d.kind)) disks))
+
+-- Whatever calls were counted.
+next_uncounted : (size : Option ℕ) (state : DeviceState) (disks : List SectorsState) → seen_with state (next_disk size (map uncounted disks)) ≡ seen_with state (next_disk size disks)
+next_uncounted None state disks = refl
+next_uncounted (Some size) state [] = refl
+next_uncounted (Some size) state (disk ∷ disks) = refl
+
+pub seen_uncounted : (states : List DeviceState) (disks : List SectorsState) → seen_devices states (map uncounted disks) ≡ seen_devices states disks
+seen_uncounted [] disks = refl
+seen_uncounted (d ∷ states) disks =
+    rw (next_uncounted (disk_size_of (made_as d.kind)) d disks, ← left_mapped uncounted (disk_size_of (made_as d.kind)) disks, seen_uncounted states (left_over (disk_size_of (made_as d.kind)) disks)) refl

@@ -11,10 +11,12 @@ use Rattle.blk.specs.declared.advancing.Advanced.TheVariants as advanced
 use Rattle.blk.specs.declared.request.Kind as request
 use Rattle.blk.specs.declared.request.Kind.TheVariants.{Refused, In, Out, Flush, GetId, Zero}
 use Rattle.blk.specs.declared.request.Request.{Request}
-use Rattle.machine.specs.DeviceStep.{advances, requests_of, reply_to_advance}
+use Rattle.blk.specs.declared.block.Block as blocks
+use Rattle.machine.specs.DeviceStep.{advances, reply_to_advance}
 use Rattle.machine.specs.Seen.{DeviceSeen, failed_if}
 use Rattle.machine.specs.State.{DeviceState}
-use Rattle.machine.specs.Unsynced.{FlushesDisk, HasFlushed}
+use Rattle.machine.specs.Unsynced.{FlushesDisk, HasFlushed, kind_flushes}
+use Rattle.machine.specs.declared.kind.Kind.TheVariants.{Block}
 use Rattle.machine.specs.declared.reply.Reply.{Reply}
 use Rattle.machine.specs.declared.reply.Reply.TheVariants.{Moved}
 use Rattle.machine.proofs.At.{IsAt, flushed_there, found_marks, map-set_same}
@@ -74,10 +76,11 @@ moved_on advanced.BadSector is = cc
 moved_on advanced.DiskFailed is = cc
 moved_on (advanced.Completed len due) is = cc
 
-flushed_by : (requests : List Request) (k : ℕ) (found : Option Request) (a : Advanced) (is_flushed : Bool) → slice_get requests k ≡ found → flushes_in found ≡ true → a ≡ advanced.Moved → blk.HasFlushed requests k a is_flushed → IsTrue is_flushed
-flushed_by requests k None a is_flushed there is moved has = cc
-flushed_by requests k (Some r) a is_flushed there is moved has = has r there (kind_flush r.kind (right_of_and (is_open r) (is_flush r.kind) is)) moved
+flushed_by : (b : blocks.Block) (k : ℕ) (found : Option Request) (a : Advanced) (is_flushed : Bool) → slice_get b.requests k ≡ found → flushes_in found ≡ true → a ≡ advanced.Moved → blk.HasFlushed b k a is_flushed → IsTrue is_flushed
+flushed_by b k None a is_flushed there is moved has = cc
+flushed_by b k (Some r) a is_flushed there is moved has = has r there (kind_flush r.kind (right_of_and (is_open r) (is_flush r.kind) is)) moved
 
-pub advanced_flush : (d : DeviceState) (pick : ℕ) (a : Advanced) (reply : Reply) (is_flushed : Bool) → reply ≡ reply_to_advance a → blk.HasFlushed (requests_of d.kind) (pick - 1) a is_flushed → HasFlushed d pick reply is_flushed
-advanced_flush d pick a reply is_flushed reply_is has = λ makes done.
-    flushed_by (requests_of d.kind) (pick - 1) (slice_get (requests_of d.kind) (pick - 1)) a is_flushed refl (right_of_and (advances d pick) (flushes_in (slice_get (requests_of d.kind) (pick - 1))) makes) (moved_on a (sym reply_is ∙ done)) has
+pub advanced_flush : (d : DeviceState) (b : blocks.Block) (pick : ℕ) (a : Advanced) (reply : Reply) (is_flushed : Bool) → d.kind ≡ Block b → reply ≡ reply_to_advance a → blk.HasFlushed b (pick - 1) a is_flushed → HasFlushed d pick reply is_flushed
+advanced_flush d b pick a reply is_flushed kind_is reply_is has = λ makes done.
+    let flush : kind_flushes d.kind (pick - 1) ≡ true = right_of_and (advances d pick) (kind_flushes d.kind (pick - 1)) makes in
+    flushed_by b (pick - 1) (slice_get b.requests (pick - 1)) a is_flushed refl (rw kind_is at flush) (moved_on a (sym reply_is ∙ done)) has

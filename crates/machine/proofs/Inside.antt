@@ -8,7 +8,7 @@ use Rattle.guestmem.proofs.ByteLaws.{IsBytes-append, IsBytes-take, IsBytes-set, 
 use Rattle.guestmem.specs.Number.{little_bytes, IsBytes}
 use Rattle.guestmem.specs.Writes.{Write, byte_writes, set_all}
 use Rattle.chains.specs.Places.{addresses, places, place_writes, AreSegmentsInside}
-use Rattle.chains.specs.ReceiveBuffer.{filled}
+use Rattle.chains.specs.ReceiveBuffer.{filled, give}
 use Rattle.chains.specs.Publish.{published, split_published, packed_published, event_note, split_note, packed_note, after_take, bit_if}
 use Rattle.chains.specs.Look.{Sees}
 use Rattle.chains.specs.Ring.{IsBoundedNext}
@@ -25,11 +25,9 @@ use Rattle.console.specs.Transmit.{text_form}
 use Rattle.net.specs.Header.{header}
 use Rattle.net.specs.Receive as net
 use Rattle.net.specs.Transmit.{frame_form}
-use Rattle.net.specs.declared.header.TheConstants.{HEADER_SIZE}
-use Rattle.console.specs.Receive.{receive_step, give, count_into}
+use Rattle.console.specs.Receive.{receive_step, count_into}
 use Rattle.blk.specs.Take.{take_step}
-use Rattle.blk.specs.declared.request.Request.{Request}
-use Rattle.blk.specs.declared.shape.BlockShape.{BlockShape}
+use Rattle.blk.specs.declared.block.Block as blocks
 use Rattle.mmio.specs.State.{Registers}
 use Rattle.machine.specs.DeviceStep.{serve, wanted_of}
 use Rattle.machine.specs.Sound.{IsSoundKind}
@@ -37,7 +35,6 @@ use Rattle.net.specs.Inbox.{AreFrames}
 use Rattle.machine.specs.declared.kind.Kind.{Kind}
 use Rattle.machine.specs.declared.kind.Kind.TheVariants.{Network, Block, Console, Entropy}
 use Rattle.console.specs.Shape.{AreHostBytes}
-use Rattle.blk.specs.Shape.{with_features}
 use Rattle.machine.proofs.Rings.{IsLookedRing}
 
 -- Each write is one of a byte inside a RAM of so many bytes.
@@ -180,10 +177,10 @@ given_inside ram q held (next.Chain c) looked bounded are =
     filled_inside (length ram) q c (take (count_into held c) held) looked bounded.writable (IsBytes-take (count_into held c) held are.are)
 
 -- What the step that takes a request writes.
-taken_inside : (ram : List ℕ) (q : RingState) (shape : BlockShape) (requests : List Request) (seen : Next) → IsLookedRing (length ram) q → AreInsideRam (length ram) (take_step ram q shape requests seen).writes
-taken_inside ram q shape requests next.Empty looked = note_inside (length ram) q looked.areas
-taken_inside ram q shape requests next.Malformed looked = tt
-taken_inside ram q shape requests (next.Chain c) looked = tt
+taken_inside : (features : ℕ) (ram : List ℕ) (q : RingState) (b : blocks.Block) (seen : Next) → IsLookedRing (length ram) q → AreInsideRam (length ram) (take_step features ram q b seen).writes
+taken_inside features ram q b next.Empty looked = note_inside (length ram) q looked.areas
+taken_inside features ram q b next.Malformed looked = tt
+taken_inside features ram q b (next.Chain c) looked = tt
 
 -- What the step that gives a frame writes.
 header_bytes : IsBytes header
@@ -203,8 +200,8 @@ header_bytes (suc (suc (suc (suc (suc (suc (suc (suc (suc (suc (suc zero))))))))
 header_bytes (suc (suc (suc (suc (suc (suc (suc (suc (suc (suc (suc (suc i)))))))))))) = omega arith
 
 one_framed : (ram : List ℕ) (q : RingState) (frame : List ℕ) (rest : List (List ℕ)) (c : Chain) (short : Bool) → IsLookedRing (length ram) q → AreSegmentsInside q.base (length ram) c.writable → IsBytes frame
-    → AreInsideRam (length ram) (cond short (net.drop_frame q rest) (net.give ram q frame rest c)).writes
-unfolding net.give
+    → AreInsideRam (length ram) (cond short (net.drop_frame q rest) (give ram q (header ++ frame) rest c)).writes
+unfolding give
 one_framed ram q frame rest c true looked inside are = tt
 one_framed ram q frame rest c false looked inside are = filled_inside (length ram) q c (header ++ frame) looked inside (IsBytes-append header frame header_bytes are)
 
@@ -213,19 +210,19 @@ framed_inside ram q frames next.Empty looked bounded are = note_inside (length r
 framed_inside ram q frames next.Malformed looked bounded are = tt
 framed_inside ram q [] (next.Chain c) looked bounded are = tt
 framed_inside ram q (frame ∷ rest) (next.Chain c) looked bounded are =
-    one_framed ram q frame rest c (ltb (length (places c.writable)) (HEADER_SIZE + length frame)) looked bounded.writable (are.are 0 frame (omega arith)).are
+    one_framed ram q frame rest c (ltb (length (places c.writable)) (length (header ++ frame))) looked bounded.writable (are.are 0 frame (omega arith)).are
 
 -- What the step that takes a message writes.
-sent_inside : (ram : List ℕ) (q : RingState) (form : MessageForm) (seen : Next) → IsLookedRing (length ram) q → AreInsideRam (length ram) (transmit_step ram q form seen).writes
-sent_inside ram q form next.Empty looked = note_inside (length ram) q looked.areas
-sent_inside ram q form next.Malformed looked = tt
-sent_inside ram q form (next.Chain c) looked = published_inside (length ram) (after_take q c.slots) c.id c.slots 0 false (may_publish_taken (length ram) q c.slots looked)
+sent_inside : {S : Type 0} (ram : List ℕ) (q : RingState) (form : MessageForm) (state : S) (seen : Next) → IsLookedRing (length ram) q → AreInsideRam (length ram) (transmit_step form ram q state seen).writes
+sent_inside ram q form state next.Empty looked = note_inside (length ram) q looked.areas
+sent_inside ram q form state next.Malformed looked = tt
+sent_inside ram q form state (next.Chain c) looked = published_inside (length ram) (after_take q c.slots) c.id c.slots 0 false (may_publish_taken (length ram) q c.slots looked)
 
 -- What serving a queue writes.
 pub served_inside : (len : ℕ) (r : Registers) (kind : Kind) (number : ℕ) (ram : List ℕ) (q : RingState) (seen : Next) → IsLookedRing (length ram) q → Sees (wanted_of kind number) ram q seen → IsSoundKind len r kind → AreInsideRam (length ram) (serve r.common.features kind number ram q seen).writes
-served_inside len r (Block sectors read_only id requests) number ram q seen looked sees sound = taken_inside ram q (with_features sectors read_only id r.common.features) requests seen looked
+served_inside len r (Block block) number ram q seen looked sees sound = taken_inside r.common.features ram q block seen looked
 served_inside len r (Network mac frames) zero ram q seen looked sees sound = framed_inside ram q frames seen looked (sight_bounded wanted.Room ram q seen sees) sound
-served_inside len r (Network mac frames) (suc number) ram q seen looked sees sound = sent_inside ram q frame_form seen looked
+served_inside len r (Network mac frames) (suc number) ram q seen looked sees sound = sent_inside ram q frame_form (Network mac frames) seen looked
 served_inside len r (Console size held) zero ram q seen looked sees sound = given_inside ram q held seen looked (sight_bounded wanted.Room ram q seen sees) sound.text
-served_inside len r (Console size held) (suc number) ram q seen looked sees sound = sent_inside ram q text_form seen looked
+served_inside len r (Console size held) (suc number) ram q seen looked sees sound = sent_inside ram q text_form (Console size held) seen looked
 served_inside len r (Entropy pool) number ram q seen looked sees sound = given_inside ram q pool seen looked (sight_bounded wanted.Room ram q seen sees) sound

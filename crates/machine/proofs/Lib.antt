@@ -1,3 +1,4 @@
+mod Turns
 mod Advancing
 pub mod Agreeing
 mod Answering

@@ -1,5 +1,5 @@
 -- The queue that a step of a device looks at.
-use Rattle.std.proofs.Common.{◌≡◌, ℕ, ◌<◌, ◌≤◌, List, length, take, get_or, Option, Some, None, Bool, true, false, cond, refl, sym, ap, ◌∙◌, arith}
+use Rattle.std.proofs.Common.{◌≡◌, ℕ, zero, suc, ◌<◌, ◌≤◌, List, [], ◌∷◌, length, set, take, get_or, Option, Some, None, Bool, true, false, cond, refl, sym, ap, ◌∙◌, arith}
 use Rattle.std.specs.Prelude.{◌&&◌, slice_get}
 use Rattle.std.proofs.lemmas.List.{get_or-take}
 use Rattle.std.proofs.lemmas.Option.{slice_get-get_or, slice_get_past}
@@ -77,3 +77,12 @@ some_looked d pick dflt first held below held_is long h =
     let place : slice_get d.positions pick ≡ Some (get_or d.positions pick first) = slice_get-get_or d.positions pick first (omega (arith, below, long)) in
     let same : get_or d.positions pick first ≡ get_or held pick first = ap (λ ps. get_or ps pick first) held_is ∙ get_or-take (length d.registers.queues) held pick first below in
     rw (slice_get-get_or d.registers.queues pick dflt below, place, same, ← h) refl
+
+-- What is put where it is already.
+pub set_same : {A : Type 0} (xs : List A) (n : ℕ) (x : A) → slice_get xs n ≡ Some x → set xs n x ≡ xs
+set_same [] n x h = refl
+set_same (y ∷ ys) zero x h = cc
+set_same (y ∷ ys) (suc n) x h = ap (λ zs. y ∷ zs) (set_same ys n x h)
+
+pub positions_stay : (d : DeviceState) (pick : ℕ) (q : RingState) → IsLookedAt d pick q → set d.positions pick (record { taking = q.taking; used = q.used }) ≡ d.positions
+positions_stay d pick q h = rw h.is (set_same d.positions pick h.positions h.placed)

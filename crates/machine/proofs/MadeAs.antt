@@ -1,12 +1,26 @@
 -- A device stays what it was made as.
-use Rattle.std.proofs.Common.{◌≡◌, ℕ, zero, suc, Bool, true, false, cond, List, length, refl}
+use Rattle.std.proofs.Common.{◌≡◌, ℕ, zero, suc, ◌-◌, Bool, true, false, cond, List, length, Option, Some, None, refl, ap, sym, ◌∙◌}
+use Rattle.std.specs.Prelude.{slice_get}
 use Rattle.net.specs.Inbox.{is_frame_len, frames_with}
+use Rattle.net.specs.Transmit.{frame_form}
+use Rattle.console.specs.Transmit.{text_form}
+use Rattle.blk.specs.Advance.{advance_one, after_move, completed}
+use Rattle.blk.specs.Move.{Move, move_of}
+use Rattle.blk.specs.Request.{is_open}
+use Rattle.blk.specs.Sectors.{Sector}
+use Rattle.blk.specs.Take.{take_step}
+use Rattle.blk.specs.declared.block.Block as blocks
 use Rattle.blk.specs.declared.request.Request.{Request}
 use Rattle.chains.specs.State.{RingState}
+use Rattle.chains.specs.Transmit.{transmit_step}
 use Rattle.chains.specs.declared.next.Next.{Next}
+use Rattle.chains.specs.declared.next.Next.TheVariants as next
+use Rattle.chains.specs.declared.transmitting.MessageForm.{MessageForm}
 use Rattle.mmio.specs.declared.queue.Queue.{Queue}
-use Rattle.machine.specs.DeviceStep.{serve, with_requests}
+use Rattle.machine.specs.DeviceStep.{advance_on, serve}
+use Rattle.machine.specs.Outcome.{Outcome, disk_does}
 use Rattle.machine.specs.Shapes.{first_kind, made_as}
+use Rattle.machine.specs.State.{DeviceState}
 use Rattle.machine.specs.Step.{kept_kind, kind_with_input}
 use Rattle.machine.specs.declared.kind.Kind.{Kind}
 use Rattle.machine.specs.declared.kind.Kind.TheVariants.{Network, Block, Console, Entropy}
@@ -15,7 +29,7 @@ use Rattle.machine.specs.declared.shape.Shape.TheVariants as shapes
 
 pub kept_as : (queues : List Queue) (kind : Kind) → made_as (kept_kind queues kind) ≡ made_as kind
 kept_as queues (Network mac frames) = refl
-kept_as queues (Block sectors read_only id requests) = refl
+kept_as queues (Block block) = refl
 kept_as queues (Console size held) = refl
 kept_as queues (Entropy pool) = refl
 
@@ -25,23 +39,41 @@ frames_as mac more frames false = refl
 
 pub input_as : (kind : Kind) (bytes : List ℕ) → made_as (kind_with_input kind bytes) ≡ made_as kind
 input_as (Network mac frames) bytes = frames_as mac (frames_with frames bytes) frames (is_frame_len (length bytes))
-input_as (Block sectors read_only id requests) bytes = refl
+input_as (Block block) bytes = refl
 input_as (Console size held) bytes = refl
 input_as (Entropy pool) bytes = refl
 
-pub served_as : (features : ℕ) (kind : Kind) (number : ℕ) (ram : List ℕ) (q : RingState) (seen : Next) → made_as (serve features kind number ram q seen).kind ≡ made_as kind
+pub sent_state : {S : Type 0} (form : MessageForm) (ram : List ℕ) (q : RingState) (state : S) (seen : Next) → (transmit_step form ram q state seen).state ≡ state
+sent_state form ram q state next.Empty = refl
+sent_state form ram q state next.Malformed = refl
+sent_state form ram q state (next.Chain c) = refl
+
+taken_as : (features : ℕ) (ram : List ℕ) (q : RingState) (block : blocks.Block) (seen : Next) → made_as (Block (take_step features ram q block seen).state) ≡ made_as (Block block)
+taken_as features ram q block next.Empty = refl
+taken_as features ram q block next.Malformed = refl
+taken_as features ram q block (next.Chain c) = refl
+
+pub served_as : (features : ℕ) (kind : Kind) (number : ℕ) (ram : List ℕ) (q : RingState) (seen : Next) → made_as (serve features kind number ram q seen).state ≡ made_as kind
 served_as features (Network mac frames) zero ram q seen = refl
-served_as features (Network mac frames) (suc number) ram q seen = refl
-served_as features (Block sectors read_only id requests) number ram q seen = refl
+served_as features (Network mac frames) (suc number) ram q seen = ap made_as (sent_state frame_form ram q (Network mac frames) seen)
+served_as features (Block block) number ram q seen = taken_as features ram q block seen
 served_as features (Console size held) zero ram q seen = refl
-served_as features (Console size held) (suc number) ram q seen = refl
+served_as features (Console size held) (suc number) ram q seen = ap made_as (sent_state text_form ram q (Console size held) seen)
 served_as features (Entropy pool) number ram q seen = refl
 
-pub requests_as : (kind : Kind) (requests : List Request) → made_as (with_requests kind requests) ≡ made_as kind
-requests_as (Network mac frames) requests = refl
-requests_as (Block sectors read_only id old) requests = refl
-requests_as (Console size held) requests = refl
-requests_as (Entropy pool) requests = refl
+going_as : (ram : List ℕ) (q : RingState) (block : blocks.Block) (k : ℕ) (m : Move) (r : Request) (opens : Bool) → made_as (Block (cond opens (after_move q block k m) (completed ram q block k r)).block) ≡ made_as (Block block)
+going_as ram q block k m r true = refl
+going_as ram q block k m r false = refl
+
+one_as : (ram : List ℕ) (q : RingState) (content : List Sector) (block : blocks.Block) (k : ℕ) (is_fine : Bool) (found : Option Request) → made_as (Block (advance_one ram q content block k is_fine found).block) ≡ made_as (Block block)
+one_as ram q content block k is_fine None = refl
+one_as ram q content block k is_fine (Some r) = going_as ram q block k (move_of r.kind q.base block.id ram content r is_fine) r (is_open r)
+
+pub advanced_as : (d : DeviceState) (kind : Kind) (ram : List ℕ) (content : List Sector) (pick : ℕ) (q : RingState) (o : Outcome) → d.kind ≡ kind → made_as (advance_on d kind ram content pick q o).device.kind ≡ made_as d.kind
+advanced_as d (Block block) ram content pick q o is = one_as ram q content block (pick - 1) (disk_does o) (slice_get block.requests (pick - 1)) ∙ ap made_as (sym is)
+advanced_as d (Network mac frames) ram content pick q o is = refl
+advanced_as d (Console size held) ram content pick q o is = refl
+advanced_as d (Entropy pool) ram content pick q o is = refl
 
 pub first_as : (shape : Shape) → made_as (first_kind shape) ≡ shape
 first_as (shapes.Net mac) = refl

@@ -18,14 +18,16 @@ use Rattle.blk.specs.Advance.{AdvanceStep, advance_one, advance_step, completed,
 use Rattle.blk.specs.Move.{Move, SectorSet, move_of, move_out, move_zero, move_flush, write_unit, moved, disk_failed, bad_sector, unit_bytes, one_done, failed}
 use Rattle.blk.specs.Request.{is_good, is_open, next_sector, verdict_byte}
 use Rattle.blk.specs.Sectors.{Sector, sector_in, bytes_of, is_bad, IsWhole, AreWhole}
-use Rattle.blk.specs.Sound.{AreSound, IsSoundRequest, IsSoundWork}
+use Rattle.blk.specs.Sound.{AreSound, IsSoundRequest, IsSoundWork, HasSoundWork}
 use Rattle.blk.specs.declared.advancing.Advanced.TheVariants as advanced
 use Rattle.blk.specs.declared.request.Kind.{Kind}
 use Rattle.blk.specs.declared.request.Kind.TheVariants.{Refused, In, Out, Flush, GetId, Zero}
 use Rattle.blk.specs.declared.request.Request.{Request}
 use Rattle.blk.specs.declared.request.Verdict.{Verdict}
 use Rattle.blk.specs.declared.request.Verdict.TheVariants.{Good, IoError, Unsupported}
-use Rattle.blk.specs.declared.shape.BlockShape.{BlockShape}
+use Rattle.blk.specs.Block.{limits_of, with_requests}
+use Rattle.blk.specs.declared.block.Block as blocks
+use Rattle.blk.specs.declared.shape.Limits.{Limits}
 use Rattle.machine.proofs.Inside.{AreInsideRam, MayPublish, AreAddresses, first_inside, inside_append, places_inside, placed_inside, published_inside, may_publish}
 use Rattle.machine.proofs.Rings.{IsLookedRing, placed_published}
 use Rattle.machine.proofs.Serving.{IsSameRing, same_ring}
@@ -52,13 +54,13 @@ pub open_is : (r : Request) → is_open r ≡ true → IsOpen r
 open_is r h = record { good = good_is r.verdict (left_true (is_good r.verdict) (ltb r.done r.units) h); left = ltb-true r.done r.units (right_true (is_good r.verdict) (ltb r.done r.units) h) }
 
 -- The work of an open request after one more unit, and after a failure.
-one_more : (k : Kind) (readable writable : ℕ) (shape : BlockShape) (first units done : ℕ) → done < units → IsSoundWork k readable writable shape Good first units done → IsSoundWork k readable writable shape Good first units (done + 1)
-one_more Refused readable writable shape first units done left h = absurd (true≢false h.0)
-one_more In readable writable shape first units done left h = (omega (arith, left), h.1, h.2)
-one_more Out readable writable shape first units done left h = (omega (arith, left), h.1, h.2, h.3)
-one_more Flush readable writable shape first units done left h = (omega (arith, left), h.1, h.2)
-one_more GetId readable writable shape first units done left h = (h.0, omega (arith, left), h.2, h.3, h.4)
-one_more Zero readable writable shape first units done left h = (omega (arith, left), h.1, h.2, h.3, h.4, h.5)
+one_more : (k : Kind) (readable writable : ℕ) (limits : Limits) (first units done : ℕ) → done < units → IsSoundWork k readable writable limits Good first units done → IsSoundWork k readable writable limits Good first units (done + 1)
+one_more Refused readable writable limits first units done left h = absurd (true≢false h.0)
+one_more In readable writable limits first units done left h = (omega (arith, left), h.1, h.2)
+one_more Out readable writable limits first units done left h = (omega (arith, left), h.1, h.2, h.3)
+one_more Flush readable writable limits first units done left h = (omega (arith, left), h.1, h.2)
+one_more GetId readable writable limits first units done left h = (h.0, omega (arith, left), h.2, h.3, h.4)
+one_more Zero readable writable limits first units done left h = (omega (arith, left), h.1, h.2, h.3, h.4, h.5)
 
 -- Whether a kind of request calls the disk.
 abbrev Calls : Kind → Type 0
@@ -69,13 +71,13 @@ Calls Flush = Unit {0}
 Calls GetId = ⊥
 Calls Zero = Unit {0}
 
-gone_wrong : (k : Kind) (readable writable : ℕ) (shape : BlockShape) (first units done : ℕ) → Calls k → done < units → IsSoundWork k readable writable shape Good first units done → IsSoundWork k readable writable shape IoError first units done
-gone_wrong Refused readable writable shape first units done calls left h = absurd calls
-gone_wrong In readable writable shape first units done calls left h = (left, h.1, h.2)
-gone_wrong Out readable writable shape first units done calls left h = (left, h.1, h.2, h.3)
-gone_wrong Flush readable writable shape first units done calls left h = (left, h.1, h.2)
-gone_wrong GetId readable writable shape first units done calls left h = absurd calls
-gone_wrong Zero readable writable shape first units done calls left h = (left, h.1, h.2, h.3, h.4, h.5)
+gone_wrong : (k : Kind) (readable writable : ℕ) (limits : Limits) (first units done : ℕ) → Calls k → done < units → IsSoundWork k readable writable limits Good first units done → IsSoundWork k readable writable limits IoError first units done
+gone_wrong Refused readable writable limits first units done calls left h = absurd calls
+gone_wrong In readable writable limits first units done calls left h = (left, h.1, h.2)
+gone_wrong Out readable writable limits first units done calls left h = (left, h.1, h.2, h.3)
+gone_wrong Flush readable writable limits first units done calls left h = (left, h.1, h.2)
+gone_wrong GetId readable writable limits first units done calls left h = absurd calls
+gone_wrong Zero readable writable limits first units done calls left h = (left, h.1, h.2, h.3, h.4, h.5)
 
 -- What one unit brings.
 pub record IsGoodSet (count : ℕ) (s : SectorSet) : Type 0 where
@@ -86,23 +88,20 @@ abbrev pub AreGoodSets : ℕ → List SectorSet → Type 0
 AreGoodSets count [] = Unit {0}
 AreGoodSets count (s ∷ ss) = IsGoodSet count s × AreGoodSets count ss
 
-abbrev WorkOf : BlockShape → Request → Type 0
-WorkOf shape r = IsSoundWork r.kind (length (places r.readable)) (length (places r.writable)) shape r.verdict r.first r.units r.done
-
-record IsMove (len : ℕ) (shape : BlockShape) (r : Request) (m : Move) : Type 0 where
-  goes : (k : ℕ) (q : RingState) (rs : List Request) → AreSound len q shape rs → k < length rs → r ≡ get_or rs k r → AreSound len q shape (set rs k m.request)
+record IsMove (len : ℕ) (limits : Limits) (r : Request) (m : Move) : Type 0 where
+  goes : (k : ℕ) (q : RingState) (rs : List Request) → AreSound len q limits rs → k < length rs → r ≡ get_or rs k r → AreSound len q limits (set rs k m.request)
   inside : AreInsideRam len m.writes
-  sets : AreGoodSets shape.sectors m.sets
+  sets : AreGoodSets limits.sectors m.sets
 
-moved_after : (len : ℕ) (shape : BlockShape) (r : Request) → IsOpen r → WorkOf shape r → (k : ℕ) (q : RingState) (rs : List Request) → AreSound len q shape rs → k < length rs → r ≡ get_or rs k r → AreSound len q shape (set rs k (one_done r))
-moved_after len shape r at_work work k q rs sound below is =
-    goes_on len q shape rs k r (one_done r) advanced.Moved sound below is refl
-    (rw at_work.good (one_more r.kind (length (places r.readable)) (length (places r.writable)) shape r.first r.units r.done at_work.left (rw at_work.good at work)))
+moved_after : (len : ℕ) (limits : Limits) (r : Request) → IsOpen r → HasSoundWork limits r → (k : ℕ) (q : RingState) (rs : List Request) → AreSound len q limits rs → k < length rs → r ≡ get_or rs k r → AreSound len q limits (set rs k (one_done r))
+moved_after len limits r at_work work k q rs sound below is =
+    goes_on len q limits rs k r (one_done r) advanced.Moved sound below is refl
+    (rw at_work.good (λ _. one_more r.kind (length (places r.readable)) (length (places r.writable)) limits r.first r.units r.done at_work.left (rw at_work.good at work)))
 
-failed_after : (len : ℕ) (shape : BlockShape) (r : Request) → IsOpen r → Calls r.kind → WorkOf shape r → (k : ℕ) (q : RingState) (rs : List Request) → AreSound len q shape rs → k < length rs → r ≡ get_or rs k r → AreSound len q shape (set rs k (failed r))
-failed_after len shape r at_work calls work k q rs sound below is =
-    goes_on len q shape rs k r (failed r) advanced.DiskFailed sound below is refl
-    (gone_wrong r.kind (length (places r.readable)) (length (places r.writable)) shape r.first r.units r.done calls at_work.left (rw at_work.good at work))
+failed_after : (len : ℕ) (limits : Limits) (r : Request) → IsOpen r → Calls r.kind → HasSoundWork limits r → (k : ℕ) (q : RingState) (rs : List Request) → AreSound len q limits rs → k < length rs → r ≡ get_or rs k r → AreSound len q limits (set rs k (failed r))
+failed_after len limits r at_work calls work k q rs sound below is =
+    goes_on len q limits rs k r (failed r) advanced.DiskFailed sound below is refl
+    (λ _. gone_wrong r.kind (length (places r.readable)) (length (places r.writable)) limits r.first r.units r.done calls at_work.left (rw at_work.good at work))
 
 -- Places further on.
 rest_inside : (base len n : ℕ) (at : List ℕ) → AreAddresses base len at → AreAddresses base len (drop n at)
@@ -120,15 +119,15 @@ whole_bytes : (s : Sector) → IsWhole s → IsBytes (bytes_of s)
 whole_bytes None h = no_bytes
 whole_bytes (Some bytes) h = h.bytes
 
-in_by : (base len : ℕ) (shape : BlockShape) (content : List Sector) (r : Request) (bad is_fine : Bool) → IsOpen r → r.kind ≡ In → WorkOf shape r → AreSegmentsInside base len r.writable → IsWhole (sector_in content (next_sector r))
-    → IsMove len shape r (cond bad (bad_sector r) (cond is_fine (moved r (place_writes base (take 512 (drop (512 * r.done) (places r.writable))) (bytes_of (sector_in content (next_sector r)))) []) (disk_failed r [])))
-in_by base len shape content r true is_fine at_work kind work inside whole = record { goes = failed_after len shape r at_work (rw kind tt) work; inside = tt; sets = tt }
-in_by base len shape content r false true at_work kind work inside whole = record {
-  goes = moved_after len shape r at_work work;
+in_by : (base len : ℕ) (limits : Limits) (content : List Sector) (r : Request) (bad is_fine : Bool) → IsOpen r → r.kind ≡ In → HasSoundWork limits r → AreSegmentsInside base len r.writable → IsWhole (sector_in content (next_sector r))
+    → IsMove len limits r (cond bad (bad_sector r) (cond is_fine (moved r (place_writes base (take 512 (drop (512 * r.done) (places r.writable))) (bytes_of (sector_in content (next_sector r)))) []) (disk_failed r [])))
+in_by base len limits content r true is_fine at_work kind work inside whole = record { goes = failed_after len limits r at_work (rw kind tt) work; inside = tt; sets = tt }
+in_by base len limits content r false true at_work kind work inside whole = record {
+  goes = moved_after len limits r at_work work;
   inside = some_inside base len 512 (512 * r.done) r (bytes_of (sector_in content (next_sector r))) inside (whole_bytes (sector_in content (next_sector r)) whole);
   sets = tt;
 }
-in_by base len shape content r false false at_work kind work inside whole = record { goes = failed_after len shape r at_work (rw kind tt) work; inside = tt; sets = tt }
+in_by base len limits content r false false at_work kind work inside whole = record { goes = failed_after len limits r at_work (rw kind tt) work; inside = tt; sets = tt }
 
 -- The bytes of a unit.
 read_bytes : (base : ℕ) (ram at : List ℕ) → IsBytes ram → IsBytes (read_places base ram at)
@@ -150,50 +149,50 @@ unit_whole base ram r units are left long =
     }
 
 -- A unit that writes bytes to its sector.
-write_by : (len : ℕ) (shape : BlockShape) (bytes : List ℕ) (r : Request) (is_fine : Bool) → IsWhole (Some bytes) → next_sector r < shape.sectors → IsOpen r → Calls r.kind → WorkOf shape r → IsMove len shape r (write_unit bytes r is_fine)
-write_by len shape bytes r true whole there at_work calls work = record {
-  goes = moved_after len shape r at_work work;
+write_by : (len : ℕ) (limits : Limits) (bytes : List ℕ) (r : Request) (is_fine : Bool) → IsWhole (Some bytes) → next_sector r < limits.sectors → IsOpen r → Calls r.kind → HasSoundWork limits r → IsMove len limits r (write_unit bytes r is_fine)
+write_by len limits bytes r true whole there at_work calls work = record {
+  goes = moved_after len limits r at_work work;
   inside = tt;
   sets = (record { there = there; whole = whole }, tt);
 }
-write_by len shape bytes r false whole there at_work calls work = record {
-  goes = failed_after len shape r at_work calls work;
+write_by len limits bytes r false whole there at_work calls work = record {
+  goes = failed_after len limits r at_work calls work;
   inside = tt;
   sets = (record { there = there; whole = tt }, tt);
 }
 
-out_by : (base len : ℕ) (shape : BlockShape) (ram : List ℕ) (r : Request) (is_fine : Bool) → IsBytes ram → IsOpen r → r.kind ≡ Out → WorkOf shape r → IsMove len shape r (move_out base ram r is_fine)
-out_by base len shape ram r is_fine are at_work kind work =
-    let w : IsSoundWork Out (length (places r.readable)) (length (places r.writable)) shape r.verdict r.first r.units r.done = rw kind at work in
-    write_by len shape (unit_bytes base ram r) r is_fine (unit_whole base ram r r.units are at_work.left w.1) (omega (arith, at_work.left, w.2)) at_work (rw kind tt) work
+out_by : (base len : ℕ) (limits : Limits) (ram : List ℕ) (r : Request) (is_fine : Bool) → IsBytes ram → IsOpen r → r.kind ≡ Out → HasSoundWork limits r → IsMove len limits r (move_out base ram r is_fine)
+out_by base len limits ram r is_fine are at_work kind work =
+    let w : IsSoundWork Out (length (places r.readable)) (length (places r.writable)) limits r.verdict r.first r.units r.done = rw kind at work in
+    write_by len limits (unit_bytes base ram r) r is_fine (unit_whole base ram r r.units are at_work.left w.1) (omega (arith, at_work.left, w.2)) at_work (rw kind tt) work
 
 zeros_whole : IsWhole (Some (replicate 512 0))
 zeros_whole = record { size = refl; bytes = zero_bytes 512 }
 
-zero_by : (len : ℕ) (shape : BlockShape) (r : Request) (is_fine : Bool) → IsOpen r → r.kind ≡ Zero → WorkOf shape r → IsMove len shape r (move_zero r is_fine)
-zero_by len shape r is_fine at_work kind work =
-    let w : IsSoundWork Zero (length (places r.readable)) (length (places r.writable)) shape r.verdict r.first r.units r.done = rw kind at work in
-    write_by len shape (replicate 512 0) r is_fine zeros_whole (omega (arith, at_work.left, w.3)) at_work (rw kind tt) work
+zero_by : (len : ℕ) (limits : Limits) (r : Request) (is_fine : Bool) → IsOpen r → r.kind ≡ Zero → HasSoundWork limits r → IsMove len limits r (move_zero r is_fine)
+zero_by len limits r is_fine at_work kind work =
+    let w : IsSoundWork Zero (length (places r.readable)) (length (places r.writable)) limits r.verdict r.first r.units r.done = rw kind at work in
+    write_by len limits (replicate 512 0) r is_fine zeros_whole (omega (arith, at_work.left, w.3)) at_work (rw kind tt) work
 
-flush_by : (len : ℕ) (shape : BlockShape) (r : Request) (is_fine : Bool) → IsOpen r → r.kind ≡ Flush → WorkOf shape r → IsMove len shape r (move_flush r is_fine)
-flush_by len shape r true at_work kind work = record { goes = moved_after len shape r at_work work; inside = tt; sets = tt }
-flush_by len shape r false at_work kind work = record { goes = failed_after len shape r at_work (rw kind tt) work; inside = tt; sets = tt }
+flush_by : (len : ℕ) (limits : Limits) (r : Request) (is_fine : Bool) → IsOpen r → r.kind ≡ Flush → HasSoundWork limits r → IsMove len limits r (move_flush r is_fine)
+flush_by len limits r true at_work kind work = record { goes = moved_after len limits r at_work work; inside = tt; sets = tt }
+flush_by len limits r false at_work kind work = record { goes = failed_after len limits r at_work (rw kind tt) work; inside = tt; sets = tt }
 
-move_by : (base len : ℕ) (shape : BlockShape) (ram : List ℕ) (content : List Sector) (r : Request) (is_fine : Bool) (k : Kind) → r.kind ≡ k → IsBytes ram → IsBytes shape.id → length content ≡ shape.sectors → AreWhole content → IsOpen r → WorkOf shape r → AreSegmentsInside base len r.writable
-    → IsMove len shape r (move_of k base shape.id ram content r is_fine)
-move_by base len shape ram content r is_fine Refused kind are id long whole at_work work inside =
-    let w : IsSoundWork Refused (length (places r.readable)) (length (places r.writable)) shape Good r.first r.units r.done = rw (kind, at_work.good) at work in
+move_by : (base len : ℕ) (limits : Limits) (id ram : List ℕ) (content : List Sector) (r : Request) (is_fine : Bool) (k : Kind) → r.kind ≡ k → IsBytes ram → IsBytes id → length content ≡ limits.sectors → AreWhole content → IsOpen r → HasSoundWork limits r → AreSegmentsInside base len r.writable
+    → IsMove len limits r (move_of k base id ram content r is_fine)
+move_by base len limits id ram content r is_fine Refused kind are id_bytes long whole at_work work inside =
+    let w : IsSoundWork Refused (length (places r.readable)) (length (places r.writable)) limits Good r.first r.units r.done = rw (kind, at_work.good) at work in
     absurd (true≢false w.0)
-move_by base len shape ram content r is_fine In kind are id long whole at_work work inside =
-    let w : IsSoundWork In (length (places r.readable)) (length (places r.writable)) shape r.verdict r.first r.units r.done = rw kind at work in
+move_by base len limits id ram content r is_fine In kind are id_bytes long whole at_work work inside =
+    let w : IsSoundWork In (length (places r.readable)) (length (places r.writable)) limits r.verdict r.first r.units r.done = rw kind at work in
     let there : next_sector r < length content = omega (arith, at_work.left, w.2, long) in
-    in_by base len shape content r (is_bad (sector_in content (next_sector r))) is_fine at_work kind work inside (whole (next_sector r) None there)
-move_by base len shape ram content r is_fine Out kind are id long whole at_work work inside = out_by base len shape ram r is_fine are at_work kind work
-move_by base len shape ram content r is_fine Flush kind are id long whole at_work work inside = flush_by len shape r is_fine at_work kind work
-move_by base len shape ram content r is_fine Zero kind are id long whole at_work work inside = zero_by len shape r is_fine at_work kind work
-move_by base len shape ram content r is_fine GetId kind are id long whole at_work work inside = record {
-  goes = moved_after len shape r at_work work;
-  inside = some_inside base len 20 0 r shape.id inside id;
+    in_by base len limits content r (is_bad (sector_in content (next_sector r))) is_fine at_work kind work inside (whole (next_sector r) None there)
+move_by base len limits id ram content r is_fine Out kind are id_bytes long whole at_work work inside = out_by base len limits ram r is_fine are at_work kind work
+move_by base len limits id ram content r is_fine Flush kind are id_bytes long whole at_work work inside = flush_by len limits r is_fine at_work kind work
+move_by base len limits id ram content r is_fine Zero kind are id_bytes long whole at_work work inside = zero_by len limits r is_fine at_work kind work
+move_by base len limits id ram content r is_fine GetId kind are id_bytes long whole at_work work inside = record {
+  goes = moved_after len limits r at_work work;
+  inside = some_inside base len 20 0 r id inside id_bytes;
   sets = tt;
 }
 
@@ -228,47 +227,52 @@ length-remove (x ∷ xs) zero = omega arith
 length-remove (x ∷ xs) (suc n) = omega (arith, length-remove xs n)
 
 -- What advancing brings.
-pub record GoesOn (len : ℕ) (q : RingState) (shape : BlockShape) (requests : List Request) (s : AdvanceStep) : Type 0 where
-  pub sound : AreSound len q shape s.requests
+pub record GoesOn (len : ℕ) (q : RingState) (features : ℕ) (b : blocks.Block) (s : AdvanceStep) : Type 0 where
+  pub block : s.block ≡ with_requests b s.block.requests
+  pub sound : AreSound len q (limits_of b features) s.block.requests
   pub ring : IsSameRing q s.ring
-  pub few : length s.requests ≤ length requests
+  pub few : length s.block.requests ≤ length b.requests
   pub inside : AreInsideRam len s.writes
-  pub sets : AreGoodSets shape.sectors s.sets
+  pub sets : AreGoodSets b.sectors s.sets
 
-advanced_one : (len : ℕ) (shape : BlockShape) (ram : List ℕ) (q : RingState) (content : List Sector) (requests : List Request) (k : ℕ) (is_fine : Bool) (r : Request) (at_work : Bool) → is_open r ≡ at_work → slice_get requests k ≡ Some r
-    → IsLookedRing len q → IsBytes ram → IsBytes shape.id → length content ≡ shape.sectors → AreWhole content → AreSound len q shape requests
-    → GoesOn len q shape requests (cond at_work (after_move q requests k (move_of r.kind q.base shape.id ram content r is_fine)) (completed ram q requests k r))
-advanced_one len shape ram q content requests k is_fine r true at_work at may are id long whole sound =
-    let below : k < length requests = slice_get_within requests k r at in
-    let is : r ≡ get_or requests k r = sym (get_or_from_slice_get requests k r r at) in
-    let one : IsSoundRequest q.base len q.is_packed q.size shape r = rw (← is) at (sound k r below) in
-    let m = move_by q.base len shape ram content r is_fine r.kind refl are id long whole (open_is r at_work) one.work one.writable in
+advanced_one : (len features : ℕ) (ram : List ℕ) (q : RingState) (content : List Sector) (b : blocks.Block) (k : ℕ) (is_fine : Bool) (r : Request) (at_work : Bool) → is_open r ≡ at_work → slice_get b.requests k ≡ Some r
+    → IsLookedRing len q → IsBytes ram → IsBytes b.id → length content ≡ b.sectors → AreWhole content → AreSound len q (limits_of b features) b.requests
+    → GoesOn len q features b (cond at_work (after_move q b k (move_of r.kind q.base b.id ram content r is_fine)) (completed ram q b k r))
+advanced_one len features ram q content b k is_fine r true at_work at may are id long whole sound =
+    let limits = limits_of b features in
+    let below : k < length b.requests = slice_get_within b.requests k r at in
+    let is : r ≡ get_or b.requests k r = sym (get_or_from_slice_get b.requests k r r at) in
+    let one : IsSoundRequest q.base len q.is_packed q.size limits r = rw (← is) at (sound k r below) in
+    let m = move_by q.base len limits b.id ram content r is_fine r.kind refl are id long whole (open_is r at_work) one.work one.writable in
     record {
-      sound = m.goes k q requests sound below is;
+      block = refl;
+      sound = m.goes k q b.requests sound below is;
       ring = same_ring q may.placed;
-      few = omega (arith, length-set requests k (move_of r.kind q.base shape.id ram content r is_fine).request);
+      few = omega (arith, length-set b.requests k (move_of r.kind q.base b.id ram content r is_fine).request);
       inside = m.inside;
       sets = m.sets;
     }
-advanced_one len shape ram q content requests k is_fine r false at_work at may are id long whole sound =
-    let below : k < length requests = slice_get_within requests k r at in
-    let is : r ≡ get_or requests k r = sym (get_or_from_slice_get requests k r r at) in
-    let one : IsSoundRequest q.base len q.is_packed q.size shape r = rw (← is) at (sound k r below) in
+advanced_one len features ram q content b k is_fine r false at_work at may are id long whole sound =
+    let limits = limits_of b features in
+    let below : k < length b.requests = slice_get_within b.requests k r at in
+    let is : r ≡ get_or b.requests k r = sym (get_or_from_slice_get b.requests k r r at) in
+    let one : IsSoundRequest q.base len q.is_packed q.size limits r = rw (← is) at (sound k r below) in
     record {
-      sound = All-remove (IsSoundRequest q.base len q.is_packed q.size shape) requests k sound;
+      block = refl;
+      sound = All-remove (IsSoundRequest q.base len q.is_packed q.size limits) b.requests k sound;
       ring = record { base = refl; layout = refl; size = refl; placed = placed_published q r.slots q.is_packed refl may.may may.placed one.slots };
-      few = length-remove requests k;
+      few = length-remove b.requests k;
       inside = end_inside len q r (may_publish len q may) one.writable;
       sets = tt;
     }
 
-advanced_by : (len : ℕ) (shape : BlockShape) (ram : List ℕ) (q : RingState) (content : List Sector) (requests : List Request) (k : ℕ) (is_fine : Bool) (found : Option Request) → slice_get requests k ≡ found
-    → IsLookedRing len q → IsBytes ram → IsBytes shape.id → length content ≡ shape.sectors → AreWhole content → AreSound len q shape requests
-    → GoesOn len q shape requests (advance_one shape ram q content requests k is_fine found)
-advanced_by len shape ram q content requests k is_fine None at may are id long whole sound = record { sound = sound; ring = same_ring q may.placed; few = omega arith; inside = tt; sets = tt }
-advanced_by len shape ram q content requests k is_fine (Some r) at may are id long whole sound = advanced_one len shape ram q content requests k is_fine r (is_open r) refl at may are id long whole sound
+advanced_by : (len features : ℕ) (ram : List ℕ) (q : RingState) (content : List Sector) (b : blocks.Block) (k : ℕ) (is_fine : Bool) (found : Option Request) → slice_get b.requests k ≡ found
+    → IsLookedRing len q → IsBytes ram → IsBytes b.id → length content ≡ b.sectors → AreWhole content → AreSound len q (limits_of b features) b.requests
+    → GoesOn len q features b (advance_one ram q content b k is_fine found)
+advanced_by len features ram q content b k is_fine None at may are id long whole sound = record { block = refl; sound = sound; ring = same_ring q may.placed; few = omega arith; inside = tt; sets = tt }
+advanced_by len features ram q content b k is_fine (Some r) at may are id long whole sound = advanced_one len features ram q content b k is_fine r (is_open r) refl at may are id long whole sound
 
-pub goes_on_by : (len : ℕ) (shape : BlockShape) (ram : List ℕ) (q : RingState) (content : List Sector) (requests : List Request) (k : ℕ) (is_fine : Bool)
-    → IsLookedRing len q → IsBytes ram → IsBytes shape.id → length content ≡ shape.sectors → AreWhole content → AreSound len q shape requests
-    → GoesOn len q shape requests (advance_step shape ram q content requests k is_fine)
-goes_on_by len shape ram q content requests k is_fine may are id long whole sound = advanced_by len shape ram q content requests k is_fine (slice_get requests k) refl may are id long whole sound
+pub goes_on_by : (len features : ℕ) (ram : List ℕ) (q : RingState) (content : List Sector) (b : blocks.Block) (k : ℕ) (is_fine : Bool)
+    → IsLookedRing len q → IsBytes ram → IsBytes b.id → length content ≡ b.sectors → AreWhole content → AreSound len q (limits_of b features) b.requests
+    → GoesOn len q features b (advance_step ram q content b k is_fine)
+goes_on_by len features ram q content b k is_fine may are id long whole sound = advanced_by len features ram q content b k is_fine (slice_get b.requests k) refl may are id long whole sound

@@ -12,10 +12,12 @@ use Rattle.guestmem.proofs.ByteLaws.{IsBytes-append, IsBytes-take}
 use Rattle.guestmem.specs.Number.{IsBytes}
 use Rattle.blk.specs.Advance.{AdvanceStep, advance_step}
 use Rattle.blk.specs.Sectors.{Sector, AreWhole}
-use Rattle.blk.specs.Shape.{with_features}
-use Rattle.blk.specs.Sound.{AreRequestsOf, AreSound}
+use Rattle.blk.specs.Block.{limits_of}
+use Rattle.blk.specs.Shape.{IsBlockShape}
+use Rattle.blk.specs.Sound.{AreRequestsOf}
 use Rattle.blk.specs.declared.request.Request.{Request}
-use Rattle.blk.specs.declared.shape.BlockShape.{BlockShape}
+use Rattle.blk.specs.declared.block.Block as blocks
+use Rattle.blk.specs.declared.shape.Limits.{Limits}
 use Rattle.chains.specs.Look.{Sees}
 use Rattle.chains.specs.State.{RingState, state_of}
 use Rattle.chains.specs.declared.next.Next.{Next}
@@ -34,27 +36,24 @@ use Rattle.mmio.specs.State.{Registers, queue_at, with_common}
 use Rattle.mmio.specs.declared.queue.Queue.{Queue}
 use Rattle.mmio.proofs.StayingReady.{write_stays}
 use Rattle.mmio.proofs.StayingSound.{StaysSound, write_sound, used_sound, asked_sound, cleared_sound}
-use Rattle.machine.specs.DeviceStep.{serve, registers_after, after_service, after_advance, is_advance_due, requests_of, with_requests, advance_at, advanced_at, step_at, looked_at, device_step, wanted_of, MayLook}
+use Rattle.machine.specs.DeviceStep.{serve, registers_after, after_service, after_advance, is_advance_due, advance_at, advance_on, advanced_at, step_at, looked_at, device_step, wanted_of, MayLook}
 use Rattle.machine.specs.Looked.{IsLookedAt}
 use Rattle.machine.specs.Outcome.{Outcome, fine, disk_failed, no_memory, disk_does}
 use Rattle.machine.specs.QueuePositions.{HavePositions, HasPositions, ArePlaced, first_positions, kept_positions, is_packed_by}
-use Rattle.machine.specs.Shapes.{block_of, made_as, queues_of, sector_count}
-use Rattle.machine.specs.Sound.{IsSoundDevice, IsSoundKind, IsSoundShape}
+use Rattle.machine.specs.Shapes.{made_as, queues_of, sector_count}
+use Rattle.machine.specs.Sound.{AreSoundBeside, IsSoundDevice, IsSoundKind}
 use Rattle.machine.specs.State.{DeviceState}
-use Rattle.machine.specs.Step.{register_set, kept_in, kept_kind, kept_requests, kind_with_input, with_input}
+use Rattle.machine.specs.Step.{register_set, is_first_ready, kept_in, kept_kind, kind_with_input, with_input}
 use Rattle.machine.specs.declared.kind.Kind.{Kind}
 use Rattle.machine.specs.declared.kind.Kind.TheVariants.{Network, Block, Console, Entropy}
-use Rattle.machine.specs.Served.{Served}
-use Rattle.machine.specs.Served as served
-use Rattle.machine.specs.declared.shape.Shape.{Shape}
-use Rattle.machine.specs.declared.shape.Shape.TheVariants as shapes
+use Rattle.chains.specs.Service.{Answer}
+use Rattle.chains.specs.Service as service
 use Rattle.machine.proofs.Advancing.{IsAdvancedAt, advanced_is}
-use Rattle.machine.proofs.MadeAs.{kept_as, input_as, served_as, requests_as}
+use Rattle.machine.proofs.MadeAs.{kept_as, input_as, served_as}
 use Rattle.machine.proofs.Looking.{looked_is}
 use Rattle.machine.proofs.Outstanding.{GoesOn, goes_on_by}
 use Rattle.machine.proofs.Rings.{have_set, have_cleared, looked_ring, ready_ring}
-use Rattle.machine.proofs.Serving.{IsSameRing, SoundBeside, served_on}
-use Rattle.blk.proofs.Zeros.{zero_bytes}
+use Rattle.machine.proofs.Serving.{AreOutstanding, IsSameRing, SoundBeside, served_on}
 
 -- A device stays sound if it stays what it was made as, its registers stay sound, and its positions and what only its kind has
 -- are such as it can have.
@@ -129,34 +128,34 @@ none_where : (b : Bool) → MatchBool b (Unit {0}) (NoRequests ≡ [])
 none_where true = tt
 none_where false = refl
 
-no_requests : (base len : ℕ) (packed : Bool) (q : Queue) (shape : BlockShape) → AreRequestsOf base len packed q shape []
-no_requests base len packed q shape = record { few = omega arith; sound = λ k d below. absurd (omega (arith, below)); where_ready = none_where q.is_ready }
+no_requests : (base len : ℕ) (packed : Bool) (q : Queue) (limits : Limits) → AreRequestsOf base len packed q limits []
+no_requests base len packed q limits = record { few = omega arith; sound = λ k d below. absurd (omega (arith, below)); where_ready = none_where q.is_ready }
 
 any_where : (b : Bool) (requests : List Request) → b ≡ true → MatchBool b (Unit {0}) (requests ≡ [])
 any_where true requests is = tt
 any_where false requests is = cc
 
-kept_by : (base len : ℕ) (was is : ℕ) (old new : Queue) (shape : ℕ → BlockShape) (requests : List Request) (ready : Bool) → new.is_ready ≡ ready → StaysReady was is old new → AreRequestsOf base len (is_packed was) old (shape was) requests
-    → AreRequestsOf base len (is_packed is) new (shape is) (cond ready requests [])
-kept_by base len was is old new shape requests false at stays are = no_requests base len (is_packed is) new (shape is)
-kept_by base len was is old new shape requests true at stays are = elim (stays at) as (λ _. AreRequestsOf base len (is_packed is) new (shape is) requests) [
+kept_by : (base len : ℕ) (was is : ℕ) (old new : Queue) (limits : ℕ → Limits) (requests : List Request) (ready : Bool) → new.is_ready ≡ ready → StaysReady was is old new → AreRequestsOf base len (is_packed was) old (limits was) requests
+    → AreRequestsOf base len (is_packed is) new (limits is) (cond ready requests [])
+kept_by base len was is old new limits requests false at stays are = no_requests base len (is_packed is) new (limits is)
+kept_by base len was is old new limits requests true at stays are = elim (stays at) as (λ _. AreRequestsOf base len (is_packed is) new (limits is) requests) [
   | inl made ↦
       (let none : requests ≡ [] = of_idle old.is_ready (Unit {0}) (requests ≡ []) are.where_ready made.0 in
-      rw none (no_requests base len (is_packed is) new (shape is)))
+      rw none (no_requests base len (is_packed is) new (limits is)))
   | inr stayed ↦ record { few = are.few; sound = rw (stayed.1, stayed.2) are.sound; where_ready = any_where new.is_ready requests at }
 ]
 
-kept_requests_sound : (base len : ℕ) (was is : ℕ) (os ns : List Queue) (shape : ℕ → BlockShape) (requests : List Request) → EachStaysReady was is os ns
-    → IsSomeAnd (slice_get os 0) (λ q. AreRequestsOf base len (is_packed was) q (shape was) requests) → IsSomeAnd (slice_get ns 0) (λ q. AreRequestsOf base len (is_packed is) q (shape is) (kept_requests ns requests))
-kept_requests_sound base len was is [] ns shape requests stay are = absurd are
-kept_requests_sound base len was is (o ∷ os) [] shape requests stay are = absurd stay
-kept_requests_sound base len was is (o ∷ os) (n ∷ ns) shape requests stay are = kept_by base len was is o n shape requests n.is_ready refl stay.0 are
+kept_requests_sound : (base len : ℕ) (was is : ℕ) (os ns : List Queue) (limits : ℕ → Limits) (requests : List Request) → EachStaysReady was is os ns
+    → IsSomeAnd (slice_get os 0) (λ q. AreRequestsOf base len (is_packed was) q (limits was) requests) → IsSomeAnd (slice_get ns 0) (λ q. AreRequestsOf base len (is_packed is) q (limits is) (cond (is_first_ready ns) requests []))
+kept_requests_sound base len was is [] ns limits requests stay are = absurd are
+kept_requests_sound base len was is (o ∷ os) [] limits requests stay are = absurd stay
+kept_requests_sound base len was is (o ∷ os) (n ∷ ns) limits requests stay are = kept_by base len was is o n limits requests n.is_ready refl stay.0 are
 
 kind_kept : (len : ℕ) (r new : Registers) (kind : Kind) → new.ram_base ≡ r.ram_base → EachStaysReady r.common.features new.common.features r.queues new.queues → IsSoundKind len r kind → IsSoundKind len new (kept_kind new.queues kind)
 kind_kept len r new (Network mac frames) same stay sound = sound
-kind_kept len r new (Block sectors read_only id requests) same stay sound =
-    subst (λ (base : ℕ). IsSomeAnd (slice_get new.queues 0) (λ q. AreRequestsOf base len (is_packed_by new.common) q (with_features sectors read_only id new.common.features) (kept_requests new.queues requests))) (sym same)
-    (kept_requests_sound r.ram_base len r.common.features new.common.features r.queues new.queues (with_features sectors read_only id) requests stay sound)
+kind_kept len r new (Block block) same stay sound =
+    subst (λ (base : ℕ). IsSomeAnd (slice_get new.queues 0) (λ q. AreRequestsOf base len (is_packed_by new.common) q (limits_of block new.common.features) (cond (is_first_ready new.queues) block.requests []))) (sym same)
+    (kept_requests_sound r.ram_base len r.common.features new.common.features r.queues new.queues (limits_of block) block.requests stay sound)
 kind_kept len r new (Console size held) same stay sound = sound
 kind_kept len r new (Entropy pool) same stay sound = sound
 
@@ -204,7 +203,7 @@ frames_put len r mac frames bytes true true is less sound are =
 
 sound_put : (len : ℕ) (r : Registers) (kind : Kind) (bytes : List ℕ) → IsSoundKind len r kind → IsBytes bytes → IsSoundKind len r (kind_with_input kind bytes)
 sound_put len r (Network mac frames) bytes sound are = frames_put len r mac frames bytes (is_frame_len (length bytes)) (ltb (length frames) 64) refl refl sound are
-sound_put len r (Block sectors read_only id requests) bytes sound are = sound
+sound_put len r (Block block) bytes sound are = sound
 sound_put len r (Console size held) bytes sound are = record { columns = sound.columns; rows = sound.rows; text = bytes_put held bytes sound.text are }
 sound_put len r (Entropy pool) bytes sound are = bytes_put pool bytes sound are
 
@@ -258,10 +257,10 @@ sound_resized len d old size held is columns rows sound =
 -- What only a kind has, beside the ring of a queue.
 beside_by : (len : ℕ) (r : Registers) (kind : Kind) (pick : ℕ) (queue : Queue) (p : Positions) → length r.queues ≡ queues_of (made_as kind) → queue_at r pick ≡ Some queue → IsSoundKind len r kind → SoundBeside len (state_of queue r.common.features r.ram_base p) r.common.features kind
 beside_by len r (Network mac frames) pick queue p count there sound = sound
-beside_by len r (Block sectors read_only id requests) zero queue p count there sound =
-    let are : AreRequestsOf r.ram_base len (is_packed_by r.common) queue (with_features sectors read_only id r.common.features) requests = rw there at sound in
+beside_by len r (Block block) zero queue p count there sound =
+    let are : AreRequestsOf r.ram_base len (is_packed_by r.common) queue (limits_of block r.common.features) block.requests = rw there at sound in
     record { few = are.few; sound = are.sound }
-beside_by len r (Block sectors read_only id requests) (suc pick) queue p count there sound =
+beside_by len r (Block block) (suc pick) queue p count there sound =
     let below : suc pick < length r.queues = slice_get_within r.queues (suc pick) queue there in
     absurd (omega (arith, below, count))
 beside_by len r (Console size held) pick queue p count there sound = sound
@@ -281,11 +280,11 @@ record IsReadyAt (r : Registers) (pick : ℕ) (features : ℕ) (size : ℕ) : Ty
 -- Back from what a kind has beside the ring of such a queue.
 back : (len : ℕ) (r : Registers) (kind : Kind) (pick features size : ℕ) (s : RingState) → length r.queues ≡ queues_of (made_as kind) → IsReadyAt r pick features size → s.is_packed ≡ is_packed features → s.size ≡ size → s.base ≡ r.ram_base → SoundBeside len s features kind → IsSoundKind len r kind
 back len r (Network mac frames) pick features size s count at layout long based sound = sound
-back len r (Block sectors read_only id requests) zero features size s count at layout long based sound =
-    let are : AreRequestsOf r.ram_base len (is_packed_by r.common) at.queue (with_features sectors read_only id r.common.features) requests =
-    record { few = sound.few; sound = rw (at.accepted, at.size_is, ← layout, ← long, ← based) sound.sound; where_ready = any_where at.queue.is_ready requests at.ready } in
+back len r (Block block) zero features size s count at layout long based sound =
+    let are : AreRequestsOf r.ram_base len (is_packed_by r.common) at.queue (limits_of block r.common.features) block.requests =
+    record { few = sound.few; sound = rw (at.accepted, at.size_is, ← layout, ← long, ← based) sound.sound; where_ready = any_where at.queue.is_ready block.requests at.ready } in
     rw at.there are
-back len r (Block sectors read_only id requests) (suc pick) features size s count at layout long based sound =
+back len r (Block block) (suc pick) features size s count at layout long based sound =
     let below : suc pick < length r.queues = slice_get_within r.queues (suc pick) at.queue at.there in
     absurd (omega (arith, below, count))
 back len r (Console columns held) pick features size s count at layout long based sound = sound
@@ -324,11 +323,11 @@ sound_used len d pick queue q s r kind h sound =
     sound
 
 -- A queue was served.
-pub served_registers : (r : Registers) (pick : ℕ) (s : Served) → IsSoundRegisters r → StaysSound r (registers_after r pick s)
-served_registers r pick served.Empty sound = cleared_sound r pick (queue_at r pick) refl sound
-served_registers r pick served.Malformed sound = asked_sound r sound
-served_registers r pick (served.Published reply true) sound = used_sound r sound
-served_registers r pick (served.Published reply false) sound = same_registers r sound
+pub served_registers : (r : Registers) (pick : ℕ) (s : Answer) → IsSoundRegisters r → StaysSound r (registers_after r pick s)
+served_registers r pick service.Empty sound = cleared_sound r pick (queue_at r pick) refl sound
+served_registers r pick service.Malformed sound = asked_sound r sound
+served_registers r pick (service.Did deed true) sound = used_sound r sound
+served_registers r pick (service.Did deed false) sound = same_registers r sound
 
 have_cleared_at : (r : Registers) (pick : ℕ) (q : Option Queue) (ps : List Positions) → queue_at r pick ≡ q → HavePositions (is_packed_by r.common) r.queues ps
     → HavePositions (is_packed_by (notified_cleared r pick q).common) (notified_cleared r pick q).queues ps
@@ -340,12 +339,12 @@ have_asked : (r : Registers) (driven : Bool) (ps : List Positions) → HavePosit
 have_asked r true ps have = have
 have_asked r false ps have = have
 
-have_after : (r : Registers) (pick : ℕ) (s : Served) (ps : List Positions) → HavePositions (is_packed_by r.common) r.queues ps
+have_after : (r : Registers) (pick : ℕ) (s : Answer) (ps : List Positions) → HavePositions (is_packed_by r.common) r.queues ps
     → HavePositions (is_packed_by (registers_after r pick s).common) (registers_after r pick s).queues ps
-have_after r pick served.Empty ps have = have_cleared_at r pick (queue_at r pick) ps refl have
-have_after r pick served.Malformed ps have = have_asked r (eqb (bit_and r.common.status 4) 4) ps have
-have_after r pick (served.Published reply true) ps have = have
-have_after r pick (served.Published reply false) ps have = have
+have_after r pick service.Empty ps have = have_cleared_at r pick (queue_at r pick) ps refl have
+have_after r pick service.Malformed ps have = have_asked r (eqb (bit_and r.common.status 4) 4) ps have
+have_after r pick (service.Did deed true) ps have = have
+have_after r pick (service.Did deed false) ps have = have
 
 set_there : (qs : List Queue) (pick : ℕ) (q new : Queue) → slice_get qs pick ≡ Some q → slice_get (set qs pick new) pick ≡ Some new
 set_there [] pick q new at = cc
@@ -356,32 +355,32 @@ asked_features : (r : Registers) (driven : Bool) → (cond driven (record r.comm
 asked_features r true = refl
 asked_features r false = refl
 
-after_ready : (r : Registers) (pick : ℕ) (s : Served) (features size : ℕ) → IsReadyAt r pick features size → IsReadyAt (registers_after r pick s) pick features size
-after_ready r pick served.Empty features size h = rw h.there (record {
+after_ready : (r : Registers) (pick : ℕ) (s : Answer) (features size : ℕ) → IsReadyAt r pick features size → IsReadyAt (registers_after r pick s) pick features size
+after_ready r pick service.Empty features size h = rw h.there (record {
   queue = record h.queue { is_notified = false };
   there = set_there r.queues pick h.queue (record h.queue { is_notified = false }) h.there;
   ready = h.ready;
   size_is = h.size_is;
   accepted = h.accepted;
 })
-after_ready r pick served.Malformed features size h = record { queue = h.queue; there = h.there; ready = h.ready; size_is = h.size_is; accepted = asked_features r (eqb (bit_and r.common.status 4) 4) ∙ h.accepted }
-after_ready r pick (served.Published reply true) features size h = record { queue = h.queue; there = h.there; ready = h.ready; size_is = h.size_is; accepted = h.accepted }
-after_ready r pick (served.Published reply false) features size h = h
+after_ready r pick service.Malformed features size h = record { queue = h.queue; there = h.there; ready = h.ready; size_is = h.size_is; accepted = asked_features r (eqb (bit_and r.common.status 4) 4) ∙ h.accepted }
+after_ready r pick (service.Did deed true) features size h = record { queue = h.queue; there = h.there; ready = h.ready; size_is = h.size_is; accepted = h.accepted }
+after_ready r pick (service.Did deed false) features size h = h
 
 sound_served : {base : ℕ} (d : DeviceState) (ram : List ℕ) (pick : ℕ) (q : RingState) (seen : Next) → IsBytes ram → IsLookedAt d pick q → Sees (wanted_of d.kind pick) ram q seen → IsSoundDevice base (length ram) d → IsSoundDevice base (length ram) (after_service d pick (serve d.registers.common.features d.kind pick ram q seen))
 sound_served d ram pick q seen bytes look sees sound =
     let features = d.registers.common.features in
     let s = serve features d.kind pick ram q seen in
     let on = served_on features d.kind pick ram q seen look.work bytes (looked_ring (length ram) d pick q sound look) sees (beside (length ram) d pick look.queue look.positions q sound look.there look.is) in
-    sound_used (length ram) d pick look.queue q s.ring (registers_after d.registers pick s.served) s.kind (record {
+    sound_used (length ram) d pick look.queue q s.ring (registers_after d.registers pick s.answer) s.state (record {
       there = look.there;
       ready = look.ready;
       positions = look.positions;
       was = look.is;
       ring = on.ring;
-      registers = served_registers d.registers pick s.served sound.registers;
-      stays = after_ready d.registers pick s.served features look.queue.size;
-      have = have_after d.registers pick s.served;
+      registers = served_registers d.registers pick s.answer sound.registers;
+      stays = after_ready d.registers pick s.answer features look.queue.size;
+      have = have_after d.registers pick s.answer;
       same = served_as features d.kind pick ram q seen;
       beside = on.kind_is;
     }) sound
@@ -400,18 +399,16 @@ have_due : (r : Registers) (is_due : Bool) (ps : List Positions) → HavePositio
 have_due r true ps have = have
 have_due r false ps have = have
 
-kind_goes_on : (len : ℕ) (q : RingState) (features : ℕ) (kind : Kind) (s : AdvanceStep) → GoesOn len q (block_of (made_as kind) features) (requests_of kind) s → SoundBeside len q features kind
-    → SoundBeside len s.ring features (with_requests kind s.requests)
-kind_goes_on len q features (Network mac frames) s on sound = sound
-kind_goes_on len q features (Block sectors read_only id requests) s on sound = record { few = omega (arith, on.few, sound.few); sound = rw (on.ring.base, on.ring.layout, on.ring.size) on.sound }
-kind_goes_on len q features (Console size held) s on sound = sound
-kind_goes_on len q features (Entropy pool) s on sound = sound
+block_goes_on : (len : ℕ) (q : RingState) (features : ℕ) (block : blocks.Block) (s : AdvanceStep) → GoesOn len q features block s → AreOutstanding len q (limits_of block features) block.requests → AreOutstanding len s.ring (limits_of s.block features) s.block.requests
+block_goes_on len q features block s on sound =
+    rw (on.block) (record { few = omega (arith, on.few, sound.few); sound = rw (on.ring.base, on.ring.layout, on.ring.size) on.sound })
 
-sound_advanced : {base : ℕ} (len : ℕ) (d : DeviceState) (pick : ℕ) (q : RingState) (s : AdvanceStep) → (look : IsAdvancedAt d pick q) → IsSoundDevice base len d → GoesOn len q (block_of (made_as d.kind) d.registers.common.features) (requests_of d.kind) s → IsSoundDevice base len (after_advance d s)
-sound_advanced len d pick q s look sound on =
+sound_advanced : {base : ℕ} (len : ℕ) (d : DeviceState) (block : blocks.Block) (pick : ℕ) (q : RingState) (s : AdvanceStep) → d.kind ≡ Block block → (look : IsAdvancedAt d pick q) → IsSoundDevice base len d → GoesOn len q d.registers.common.features block s → IsSoundDevice base len (after_advance d s)
+sound_advanced len d block pick q s kind_is look sound on =
     let features = d.registers.common.features in
     let due = is_advance_due s.answer in
-    sound_used len d 0 look.queue q s.ring (after_advance d s).registers (with_requests d.kind s.requests) (record {
+    let old : AreOutstanding len q (limits_of block features) block.requests = rw kind_is at (beside len d 0 look.queue look.positions q sound look.there look.is) in
+    sound_used len d 0 look.queue q s.ring (after_advance d s).registers (Block s.block) (record {
       there = look.there;
       ready = look.ready;
       positions = look.positions;
@@ -420,8 +417,8 @@ sound_advanced len d pick q s look sound on =
       registers = due_registers d.registers due sound.registers;
       stays = due_ready d.registers due 0 features look.queue.size;
       have = have_due d.registers due;
-      same = requests_as d.kind s.requests;
-      beside = kind_goes_on len q features d.kind s on (beside len d 0 look.queue look.positions q sound look.there look.is);
+      same = ap (λ (b : blocks.Block). made_as (Block b)) on.block ∙ ap made_as (sym kind_is);
+      beside = block_goes_on len q features block s on old;
     }) sound
 
 -- What a step of a device has to do with: sectors of its disk, whole and as many as its shape says.
@@ -429,37 +426,32 @@ pub record HasSectors (d : DeviceState) (content : List Sector) : Type 0 where
   pub count : length content ≡ sector_count (made_as d.kind)
   pub whole : AreWhole content
 
-pub block_count : (shape : Shape) (features : ℕ) → (block_of shape features).sectors ≡ sector_count shape
-block_count (shapes.Net mac) features = refl
-block_count (shapes.Block sectors read_only id) features = refl
-block_count shapes.Console features = refl
-block_count shapes.Entropy features = refl
+pub outstanding : (len : ℕ) (q : RingState) (features : ℕ) (kind : Kind) → SoundBeside len q features kind → AreSoundBeside len q features kind
+outstanding len q features (Network mac frames) h = tt
+outstanding len q features (Block block) h = h.sound
+outstanding len q features (Console size held) h = tt
+outstanding len q features (Entropy pool) h = tt
 
-block_id : (shape : Shape) (features : ℕ) → IsSoundShape shape → IsBytes (block_of shape features).id
-block_id (shapes.Net mac) features h = zero_bytes 20
-block_id (shapes.Block sectors read_only id) features h = h.id_bytes
-block_id shapes.Console features h = zero_bytes 20
-block_id shapes.Entropy features h = zero_bytes 20
-
-pub outstanding : (len : ℕ) (q : RingState) (features : ℕ) (kind : Kind) → SoundBeside len q features kind → AreSound len q (block_of (made_as kind) features) (requests_of kind)
-outstanding len q features (Network mac frames) h = λ k d below. absurd (omega (arith, below))
-outstanding len q features (Block sectors read_only id requests) h = h.sound
-outstanding len q features (Console size held) h = λ k d below. absurd (omega (arith, below))
-outstanding len q features (Entropy pool) h = λ k d below. absurd (omega (arith, below))
-
-pub advanced_goes_on : {base : ℕ} (d : DeviceState) (ram : List ℕ) (content : List Sector) (pick : ℕ) (q : RingState) (is_fine : Bool) → (look : IsAdvancedAt d pick q) → IsBytes ram → IsSoundDevice base (length ram) d → HasSectors d content
-    → GoesOn (length ram) q (block_of (made_as d.kind) d.registers.common.features) (requests_of d.kind) (advance_step (block_of (made_as d.kind) d.registers.common.features) ram q content (requests_of d.kind) (pick - 1) is_fine)
-advanced_goes_on d ram content pick q is_fine look are sound has =
+pub advanced_goes_on : {base : ℕ} (d : DeviceState) (block : blocks.Block) (ram : List ℕ) (content : List Sector) (pick : ℕ) (q : RingState) (is_fine : Bool) → d.kind ≡ Block block → (look : IsAdvancedAt d pick q) → IsBytes ram → IsSoundDevice base (length ram) d → HasSectors d content
+    → GoesOn (length ram) q d.registers.common.features block (advance_step ram q content block (pick - 1) is_fine)
+advanced_goes_on d block ram content pick q is_fine kind_is look are sound has =
     let ring = ready_ring (length ram) d 0 look.queue look.positions sound look.there look.placed look.ready in
     let features = d.registers.common.features in
-    let old = beside (length ram) d 0 look.queue look.positions q sound look.there look.is in
-    goes_on_by (length ram) (block_of (made_as d.kind) features) ram q content (requests_of d.kind) (pick - 1) is_fine (rw look.is ring) are (block_id (made_as d.kind) features sound.shape) (has.count ∙ sym (block_count (made_as d.kind) features)) has.whole (outstanding (length ram) q features d.kind old)
+    let old : AreOutstanding (length ram) q (limits_of block features) block.requests = rw kind_is at (beside (length ram) d 0 look.queue look.positions q sound look.there look.is) in
+    let shape : IsBlockShape block.sectors block.id = rw kind_is at sound.shape in
+    goes_on_by (length ram) features ram q content block (pick - 1) is_fine (rw look.is ring) are shape.id_bytes (has.count ∙ ap (λ (k : Kind). sector_count (made_as k)) kind_is) has.whole old.sound
+
+sound_advance_on : {base : ℕ} (d : DeviceState) (kind : Kind) (ram : List ℕ) (content : List Sector) (pick : ℕ) (q : RingState) (o : Outcome) → d.kind ≡ kind → advanced_at d pick ≡ Some q → IsBytes ram → IsSoundDevice base (length ram) d → HasSectors d content → IsSoundDevice base (length ram) (advance_on d kind ram content pick q o).device
+sound_advance_on d (Block block) ram content pick q o kind_is is are sound has =
+    let look = advanced_is (length ram) d pick q sound is in
+    sound_advanced (length ram) d block pick q _ kind_is look sound (advanced_goes_on d block ram content pick q (disk_does o) kind_is look are sound has)
+sound_advance_on d (Network mac frames) ram content pick q o kind_is is are sound has = sound
+sound_advance_on d (Console size held) ram content pick q o kind_is is are sound has = sound
+sound_advance_on d (Entropy pool) ram content pick q o kind_is is are sound has = sound
 
 sound_advance_at : {base : ℕ} (d : DeviceState) (ram : List ℕ) (content : List Sector) (pick : ℕ) (ring : Option RingState) (o : Outcome) → advanced_at d pick ≡ ring → IsBytes ram → IsSoundDevice base (length ram) d → HasSectors d content → IsSoundDevice base (length ram) (advance_at d ram content pick ring o).device
 sound_advance_at d ram content pick None o is are sound has = sound
-sound_advance_at d ram content pick (Some q) o is are sound has =
-    let look = advanced_is (length ram) d pick q sound is in
-    sound_advanced (length ram) d pick q _ look sound (advanced_goes_on d ram content pick q (disk_does o) look are sound has)
+sound_advance_at d ram content pick (Some q) o is are sound has = sound_advance_on d d.kind ram content pick q o refl is are sound has
 
 sound_stepped_at : {base : ℕ} (d : DeviceState) (ram : List ℕ) (content : List Sector) (pick : ℕ) (ring : Option RingState) (o : Outcome) (seen : Next) → looked_at d pick ≡ ring → MayLook (wanted_of d.kind pick) ring ram o seen → IsBytes ram → IsSoundDevice base (length ram) d → HasSectors d content
     → IsSoundDevice base (length ram) (step_at d ram content pick ring o seen).device

@@ -1,41 +1,51 @@
 -- Steps of a device as they are made: its positions are held in an array with room to spare.
-use Rattle.std.proofs.Common.{◌≡◌, ℕ, zero, suc, ◌-◌, ◌<◌, ◌≤◌, Bool, true, false, cond, List, [], ◌∷◌, length, take, set, get_or, Option, Some, None, refl, ap, ◌∙◌, arith, append-nil}
+use Rattle.std.proofs.Common.{◌≡◌, ℕ, zero, suc, ◌-◌, ◌<◌, ◌≤◌, Bool, true, false, cond, List, [], ◌∷◌, length, take, set, get_or, Option, Some, None, Result, Ok, Err, refl, ap, ◌∙◌, arith, append-nil}
 use Rattle.std.specs.Prelude.{not, slice_get}
 use Rattle.std.proofs.lemmas.Option.{slice_get-get_or, slice_get_past, slice_get_within}
 use Rattle.std.proofs.Math.Seq.{take-set-lt}
 use Rattle.guestmem.specs.Item.{Item}
+use Rattle.guestmem.specs.Memory.{Memory}
+use Rattle.guestmem.specs.Rises.{Touches}
+use Rattle.guestmem.proofs.RisesLaws.{touches_none}
 use Rattle.blk.specs.Advance.{advance_step, IsAfterAdvancing}
+use Rattle.blk.specs.Block.{limits_of}
 use Rattle.blk.specs.Move.{is_disk_failed}
 use Rattle.blk.specs.Sectors.{AreWhole, Sector}
 use Rattle.blk.specs.Sound.{AreSound}
 use Rattle.blk.specs.declared.advancing.Advanced.{Advanced}
 use Rattle.blk.specs.declared.advancing.Advanced.TheVariants as advanced
+use Rattle.blk.specs.declared.block.Block as blocks
 use Rattle.mmio.specs.Interrupts.{used_raised}
 use Rattle.mmio.specs.State.{Registers, first_queue, queue_at, with_common}
 use Rattle.mmio.specs.declared.queue.Queue.{Queue}
-use Rattle.chains.specs.declared.looking.Wanted.{Wanted}
+use Rattle.chains.specs.Served.{HasRun, IsServed, scene}
+use Rattle.chains.specs.Service.{Answer, Did, Empty, Malformed, deed_in}
 use Rattle.chains.specs.State.{AreAbove, RingState, state_of}
 use Rattle.chains.specs.declared.next.Next.{Next}
 use Rattle.chains.specs.declared.next.Next.TheVariants as next
 use Rattle.chains.specs.declared.position.Positions.{Positions}
-use Rattle.machine.specs.DeviceStep.{advances, advanced_at, advanced_by, device_step, is_advance_due, looks, looked_at, looked_step, MayLookAt, requests_of, reply_to_advance, wanted_of, MayRefuse, reply_of, registers_after, with_requests}
-use Rattle.machine.specs.DeviceWork.{IsServed, IsAdvancedStep, IsDeviceStep, IsLookedStep}
+use Rattle.chains.specs.declared.served.Done.{Done}
+use Rattle.chains.specs.declared.served.Done.TheVariants as done
+use Rattle.chains.specs.declared.served.Served.{Served}
+use Rattle.chains.specs.declared.served.Unserved.{Unserved}
+use Rattle.chains.specs.declared.served.Unserved.TheVariants as why
+use Rattle.machine.specs.DeviceStep.{advances, advanced_at, advanced_by, device_step, is_advance_due, looks, looked_at, looked_step, requests_of, reply_of, reply_to, reply_to_advance, registers_after, serve, wanted_of}
+use Rattle.machine.specs.DeviceWork.{IsDeviceStep}
 use Rattle.machine.specs.Outcome.{Outcome, fine, disk_failed, no_memory, disk_does, is_failure, outcome_of}
-use Rattle.machine.specs.Shapes.{block_of, made_as, sector_count}
-use Rattle.machine.specs.Sound.{IsSoundDevice, IsSoundShape}
+use Rattle.machine.specs.Shapes.{made_as, sector_count}
+use Rattle.machine.specs.Sound.{AreSoundBeside, IsSoundDevice, IsSoundShape}
 use Rattle.machine.specs.State.{DeviceState}
+use Rattle.machine.specs.Stepped.{looked_registers, looked_reply}
 use Rattle.machine.specs.declared.kind.Kind.{Kind}
 use Rattle.machine.specs.declared.kind.Kind.TheVariants.{Network, Block, Console, Entropy}
 use Rattle.machine.specs.declared.reply.Reply.{Reply}
-use Rattle.machine.specs.declared.reply.Reply.TheVariants.{DiskFailed, Idle, NoMemory}
-use Rattle.machine.specs.declared.reply.Reply.TheVariants as replies
-use Rattle.machine.specs.Served.{Served}
+use Rattle.machine.specs.declared.reply.Reply.TheVariants.{Idle}
 use Rattle.blk.proofs.Given.{given_itself, none_set}
 use Rattle.machine.proofs.Advancing.{advanced_is}
 use Rattle.machine.proofs.Answering.{answered}
-use Rattle.machine.proofs.Looking.{looked_is, some_looked}
+use Rattle.machine.proofs.Looking.{looked_is, positions_stay, some_looked}
 use Rattle.machine.proofs.Rings.{IsLookedRing, above_ready, looked_ring, positions_long, ready_ring}
-use Rattle.machine.proofs.Staying.{beside, outstanding}
+use Rattle.machine.proofs.Staying.{beside, outstanding, served_registers}
 
 -- A device as it is held.
 abbrev pub held_device : Kind → Registers → List Positions → DeviceState
@@ -93,12 +103,22 @@ advanced_ring len d pick q sound is =
     let look = advanced_is len d pick q sound is in
     rw look.is (ready_ring len d 0 look.queue look.positions sound look.there look.placed look.ready)
 
-pub advanced_sound : {base : ℕ} (len : ℕ) (d : DeviceState) (pick : ℕ) (q : RingState) → IsSoundDevice base len d → advanced_at d pick ≡ Some q → AreSound len q (block_of (made_as d.kind) d.registers.common.features) (requests_of d.kind)
-advanced_sound len d pick q sound is =
+pub advanced_sound : {base : ℕ} (len : ℕ) (d : DeviceState) (block : blocks.Block) (pick : ℕ) (q : RingState) → IsSoundDevice base len d → advanced_at d pick ≡ Some q → d.kind ≡ Block block → AreSound len q (limits_of block d.registers.common.features) block.requests
+advanced_sound len d block pick q sound is kind_is =
     let look = advanced_is len d pick q sound is in
-    outstanding len q d.registers.common.features d.kind (beside len d 0 look.queue look.positions q sound look.there look.is)
+    rw kind_is at (outstanding len q d.registers.common.features d.kind (beside len d 0 look.queue look.positions q sound look.there look.is))
 
-pub looked_sound : {base : ℕ} (len : ℕ) (d : DeviceState) (pick : ℕ) (q : RingState) → IsSoundDevice base len d → looked_at d pick ≡ Some q → AreSound len q (block_of (made_as d.kind) d.registers.common.features) (requests_of d.kind)
+-- A device that advances a request is a block device.
+kind_by : (kind : Kind) (k : ℕ) → k < length (requests_of kind) → (block : blocks.Block) × (kind ≡ Block block)
+kind_by (Block block) k below = (block, refl)
+kind_by (Network mac frames) k below = absurd (omega (arith, below))
+kind_by (Console size held) k below = absurd (omega (arith, below))
+kind_by (Entropy pool) k below = absurd (omega (arith, below))
+
+pub is_block : {base : ℕ} (len : ℕ) (d : DeviceState) (pick : ℕ) (q : RingState) → IsSoundDevice base len d → advanced_at d pick ≡ Some q → (block : blocks.Block) × (d.kind ≡ Block block)
+is_block len d pick q sound is = kind_by d.kind (pick - 1) (advanced_is len d pick q sound is).below
+
+pub looked_sound : {base : ℕ} (len : ℕ) (d : DeviceState) (pick : ℕ) (q : RingState) → IsSoundDevice base len d → looked_at d pick ≡ Some q → AreSoundBeside len q d.registers.common.features d.kind
 looked_sound len d pick q sound is =
     let look = looked_is d pick q is in
     outstanding len q d.registers.common.features d.kind (beside len d pick look.queue look.positions q sound look.there look.is)
@@ -109,7 +129,7 @@ has_queue d pick q len sound is = let look = advanced_is len d pick q sound is i
 -- A device without a disk has no requests.
 empty_handed : (kind : Kind) → IsSoundShape (made_as kind) → sector_count (made_as kind) ≡ 0 → length (requests_of kind) ≡ 0
 empty_handed (Network mac frames) limits none = refl
-empty_handed (Block sectors read_only id requests) limits none = absurd (omega (arith, limits.some, none))
+empty_handed (Block block) limits none = absurd (omega (arith, limits.some, none))
 empty_handed (Console size held) limits none = refl
 empty_handed (Entropy pool) limits none = refl
 
@@ -167,74 +187,77 @@ idle_step touches number honest ram content d pick whole none no_request untouch
   items_are = rw (none, no_request) untouched;
 }
 
--- A look that is refused memory, and one that serves a queue.
-pub refused_look : (touches : List Item → Type 0) (ram : List ℕ) (d : DeviceState) (pick : ℕ) (q : RingState) → MayRefuse (wanted_of d.kind pick) ram q → touches [] → IsLookedStep touches ram d pick q NoMemory ram d
-refused_look touches ram d pick q full untouched = record { seen = next.Empty; may_look = full; reply_is = refl; device_is = refl; ram_is = refl; items_are = untouched }
-
-pub served_look : (touches : List Item → Type 0) (ram : List ℕ) (kind : Kind) (r : Registers) (held : List Positions) (pick : ℕ) (q : RingState) (s : Served) (new_ram : List ℕ) (new_ring : RingState) (new_kind : Kind) (new_r : Registers)
-    → pick < length r.queues → IsServed touches ram q r.common.features kind pick s new_ram new_ring new_kind → new_r ≡ registers_after r pick s → length new_r.queues ≡ length r.queues
-    → IsLookedStep touches ram (held_device kind r held) pick q (reply_of s) new_ram (held_device new_kind new_r (set held pick (record { taking = new_ring.taking; used = new_ring.used })))
-served_look touches ram kind r held pick q s new_ram new_ring new_kind new_r there h registers count =
-    let new : Positions = record { taking = new_ring.taking; used = new_ring.used } in
-    let was_fine : outcome_of (reply_of s) ≡ fine = rw h.served_is (answered r.common.features kind pick ram q h.seen).outcome in
-    let place : take (length new_r.queues) (set held pick new) ≡ set (take (length r.queues) held) pick new = ap (λ n. take n (set held pick new)) count ∙ take-set-lt (length r.queues) held pick new there in
-    record {
-      seen = h.seen;
-      may_look = rw was_fine h.sees;
-      reply_is = rw was_fine (ap reply_of h.served_is);
-      device_is = rw (was_fine, place, registers, h.ring_is, h.kind_is, h.served_is) refl;
-      ram_is = rw was_fine h.ram_is;
-      items_are = rw was_fine h.items_are;
-    }
-
+-- A look that served a queue, or found nothing there.
 no_sets : (d : DeviceState) (ram : List ℕ) (pick : ℕ) (q : RingState) (o : Outcome) (seen : Next) → (looked_step d ram pick q o seen).sets ≡ []
 no_sets d ram pick q fine seen = refl
 no_sets d ram pick q disk_failed seen = refl
 no_sets d ram pick q no_memory seen = refl
 
-pub looked_device : (touches : List Item → Type 0) (number : ℕ) (honest : Bool) (ram : List ℕ) (content : List Sector) (d : DeviceState) (pick : ℕ) (q : RingState) (reply : Reply) (new_ram : List ℕ) (new : DeviceState) → AreWhole content → looked_at d pick ≡ Some q
-    → IsLookedStep touches ram d pick q reply new_ram new → IsDeviceStep touches number honest ram content d pick reply new_ram content new
+served_look : (touches : List Item → Type 0) (number : ℕ) (honest : Bool) (ram : List ℕ) (content : List Sector) (kind : Kind) (r : Registers) (held : List Positions) (pick : ℕ) (q : RingState) (a : Answer) (reply : Reply) (new_ram : List ℕ) (new_q : RingState) (new_kind : Kind) (new_r : Registers)
+    → AreWhole content → pick < length r.queues → looked_at (held_device kind r held) pick ≡ Some q → IsServed touches ram q (wanted_of kind pick) (λ seen. serve r.common.features kind pick ram q seen) a new_ram new_q new_kind
+    → reply ≡ reply_of a → new_r ≡ registers_after r pick a → length new_r.queues ≡ length r.queues
+    → IsDeviceStep touches number honest ram content (held_device kind r held) pick reply new_ram content (held_device new_kind new_r (set held pick (record { taking = new_q.taking; used = new_q.used })))
 unfolding device_step
-looked_device touches number honest ram content d pick q reply new_ram new whole some h =
-    let none = no_sets d ram pick q (outcome_of reply) h.seen in
+served_look touches number honest ram content kind r held pick q a reply new_ram new_q new_kind new_r whole there some h reply_is registers count =
+    let new : Positions = record { taking = new_q.taking; used = new_q.used } in
+    let s = serve r.common.features kind pick ram q h.seen in
+    let was_fine : outcome_of reply ≡ fine = ap outcome_of (reply_is ∙ ap reply_of h.done.answer_is) ∙ (answered r.common.features kind pick ram q h.seen).outcome in
+    let place : take (length new_r.queues) (set held pick new) ≡ set (take (length r.queues) held) pick new = ap (λ n. take n (set held pick new)) count ∙ take-set-lt (length r.queues) held pick new there in
     record {
       given = content;
       is_given = given_itself honest content whole;
       seen = h.seen;
-      may_look = rw some h.may_look;
-      reply_is = rw some h.reply_is;
-      device_is = rw some h.device_is;
-      ram_is = rw some h.ram_is;
-      content_is = rw (some, none) (none_set honest content content refl);
-      items_are = rw (some, none, append-nil) h.items_are;
+      may_look = rw (some, was_fine) h.sees;
+      reply_is = rw (some, was_fine) (reply_is ∙ ap reply_of h.done.answer_is);
+      device_is = rw (some, was_fine, place, registers, h.done.ring_is, h.done.state_is, h.done.answer_is) refl;
+      ram_is = rw (some, was_fine) h.done.ram_is;
+      content_is = rw (some, was_fine) (none_set honest content content refl);
+      items_are = rw (some, was_fine, append-nil) h.done.items_are;
     }
 
-no_failure : (reply : Reply) → (reply ≡ DiskFailed → ⊥) → is_failure reply ≡ false
-no_failure (replies.Value x) h = refl
-no_failure replies.Done h = refl
-no_failure (replies.OutByte x) h = refl
-no_failure (replies.Bytes x) h = refl
-no_failure (replies.Sent x) h = refl
-no_failure replies.Dropped h = refl
-no_failure replies.Idle h = refl
-no_failure replies.Taken h = refl
-no_failure replies.Moved h = refl
-no_failure replies.BadSector h = refl
-no_failure replies.DiskFailed h = absurd (h refl)
-no_failure (replies.Completed x) h = refl
-no_failure (replies.Accepted x) h = refl
-no_failure replies.NeedsReset h = refl
-no_failure replies.NoMemory h = refl
-no_failure (replies.Refused x) h = refl
+pub looked_step_made : {base : ℕ} {L : Type 0} (after : L → Item → L) (log new_log : L) (ram new_ram : Memory) (number : ℕ) (honest : Bool) (content : List Sector) (kind new_kind : Kind) (r new_r : Registers) (held : List Positions) (pick : ℕ) (q new_q : RingState) (result : Result Served Unserved) (sent : List ℕ) (reply : Reply)
+    → IsSoundDevice base (length ram.bytes) (held_device kind r held) → AreWhole content → pick < length r.queues → looked_at (held_device kind r held) pick ≡ Some q
+    → HasRun after (scene ram log q kind) (scene new_ram new_log new_q new_kind) (wanted_of kind pick) (λ ram q kind seen. serve r.common.features kind pick ram q seen) result sent
+    → reply ≡ looked_reply result sent → new_r ≡ looked_registers r pick result
+    → IsDeviceStep (Touches after log new_log ram new_ram) number honest ram.bytes content (held_device kind r held) pick reply new_ram.bytes content (held_device new_kind new_r (set held pick (record { taking = new_q.taking; used = new_q.used })))
+unfolding device_step
+looked_step_made after log new_log ram new_ram number honest content kind new_kind r new_r held pick q new_q (Ok s) sent reply sound whole there some h reply_is registers =
+    served_look (Touches after log new_log ram new_ram) number honest ram.bytes content kind r held pick q (Did (deed_in s.done sent) s.is_due) reply new_ram.bytes new_q new_kind new_r whole there some h reply_is registers
+    (ap (λ (x : Registers). length x.queues) registers ∙ (served_registers r pick (Did (deed_in s.done sent) s.is_due) sound.registers).same.queue_count)
+looked_step_made after log new_log ram new_ram number honest content kind new_kind r new_r held pick q new_q (Err why.Empty) sent reply sound whole there some h reply_is registers =
+    served_look (Touches after log new_log ram new_ram) number honest ram.bytes content kind r held pick q Empty reply new_ram.bytes new_q new_kind new_r whole there some h reply_is registers
+    (ap (λ (x : Registers). length x.queues) registers ∙ (served_registers r pick Empty sound.registers).same.queue_count)
+looked_step_made after log new_log ram new_ram number honest content kind new_kind r new_r held pick q new_q (Err why.Malformed) sent reply sound whole there some h reply_is registers =
+    served_look (Touches after log new_log ram new_ram) number honest ram.bytes content kind r held pick q Malformed reply new_ram.bytes new_q new_kind new_r whole there some h reply_is registers
+    (ap (λ (x : Registers). length x.queues) registers ∙ (served_registers r pick Malformed sound.registers).same.queue_count)
+looked_step_made after log new_log ram new_ram number honest content kind new_kind r new_r held pick q new_q (Err why.NoMemory) sent reply sound whole there some h reply_is registers =
+    let d = held_device kind r held in
+    let old : Positions = record { taking = q.taking; used = q.used } in
+    let place : take (length r.queues) (set held pick old) ≡ take (length r.queues) held = take-set-lt (length r.queues) held pick old there ∙ positions_stay d pick q (looked_is d pick q some) in
+    record {
+      given = content;
+      is_given = given_itself honest content whole;
+      seen = next.Empty;
+      may_look = rw (some, reply_is) h.may;
+      reply_is = rw (some, reply_is) refl;
+      device_is = rw (some, reply_is, registers, h.state_is, h.untouched.ring_is, place) refl;
+      ram_is = rw (some, reply_is, h.untouched.ram_is) refl;
+      content_is = rw (some, reply_is) (none_set honest content content refl);
+      items_are = rw (some, reply_is) (touches_none after log new_log ram new_ram h.untouched.log_is h.untouched.ram_is);
+    }
 
 -- A look never tells that the disk failed.
-not_failed : (want : Wanted) (ram : List ℕ) (q : RingState) (seen : Next) (o : Outcome) → o ≡ disk_failed → MayLookAt want q ram o seen → ⊥
-not_failed want ram q seen fine is h = cc
-not_failed want ram q seen disk_failed is h = h
-not_failed want ram q seen no_memory is h = cc
+fine_deed : (deed : Done) (sent : List ℕ) → is_failure (reply_to (deed_in deed sent)) ≡ false
+fine_deed done.Taken sent = refl
+fine_deed (done.Completed len) sent = refl
+fine_deed done.Sent sent = refl
+fine_deed done.Dropped sent = refl
 
-pub fine_look : (touches : List Item → Type 0) (ram : List ℕ) (d : DeviceState) (pick : ℕ) (q : RingState) (reply : Reply) (new_ram : List ℕ) (new : DeviceState) → IsLookedStep touches ram d pick q reply new_ram new → is_failure reply ≡ false
-fine_look touches ram d pick q reply new_ram new h = no_failure reply (λ is. not_failed (wanted_of d.kind pick) ram q h.seen (outcome_of reply) (rw is refl) h.may_look)
+pub fine_look : (result : Result Served Unserved) (sent : List ℕ) (reply : Reply) → reply ≡ looked_reply result sent → is_failure reply ≡ false
+fine_look (Ok s) sent reply is = rw is (fine_deed s.done sent)
+fine_look (Err why.Empty) sent reply is = rw is refl
+fine_look (Err why.Malformed) sent reply is = rw is refl
+fine_look (Err why.NoMemory) sent reply is = rw is refl
 
 -- A request that went on.
 does_by : (a : Advanced) → disk_does (outcome_of (reply_to_advance a)) ≡ not (is_disk_failed a)
@@ -251,36 +274,23 @@ failure_by advanced.BadSector = refl
 failure_by advanced.DiskFailed = refl
 failure_by (advanced.Completed len due) = refl
 
-pub advanced_step : (touches : List Item → Type 0) (number : ℕ) (honest : Bool) (ram : List ℕ) (content : List Sector) (kind : Kind) (r : Registers) (held : List Positions) (pick : ℕ) (q : RingState) (a : Advanced) (new_ram : List ℕ) (new_ring : RingState) (new_content : List Sector) (new_kind : Kind) (new_r : Registers)
-    → 0 < length r.queues → IsAfterAdvancing touches honest number ram content (λ given. advance_step (block_of (made_as kind) r.common.features) ram q given (requests_of kind) (pick - 1) (not (is_disk_failed a))) a new_ram new_ring new_content (requests_of new_kind)
-    → new_kind ≡ with_requests kind (requests_of new_kind) → new_r ≡ cond (is_advance_due a) (with_common r (used_raised r.common)) r → length new_r.queues ≡ length r.queues
-    → IsAdvancedStep touches number honest ram content (held_device kind r held) pick q (reply_to_advance a) new_ram new_content (held_device new_kind new_r (set held 0 (record { taking = new_ring.taking; used = new_ring.used })))
-advanced_step touches number honest ram content kind r held pick q a new_ram new_ring new_content new_kind new_r there h kind_is registers count =
+pub advanced_step : (touches : List Item → Type 0) (number : ℕ) (honest : Bool) (ram : List ℕ) (content : List Sector) (block : blocks.Block) (r : Registers) (held : List Positions) (pick : ℕ) (q : RingState) (a : Advanced) (new_ram : List ℕ) (new_ring : RingState) (new_content : List Sector) (new_block : blocks.Block) (new_r : Registers)
+    → 0 < length r.queues → looked_at (held_device (Block block) r held) pick ≡ None → advanced_at (held_device (Block block) r held) pick ≡ Some q
+    → IsAfterAdvancing touches honest number ram content (λ given. advance_step ram q given block (pick - 1) (not (is_disk_failed a))) a new_ram new_ring new_content new_block
+    → new_r ≡ cond (is_advance_due a) (with_common r (used_raised r.common)) r → length new_r.queues ≡ length r.queues
+    → IsDeviceStep touches number honest ram content (held_device (Block block) r held) pick (reply_to_advance a) new_ram new_content (held_device (Block new_block) new_r (set held 0 (record { taking = new_ring.taking; used = new_ring.used })))
+unfolding device_step
+advanced_step touches number honest ram content block r held pick q a new_ram new_ring new_content new_block new_r there none some h registers count =
     let new : Positions = record { taking = new_ring.taking; used = new_ring.used } in
-    let s = advance_step (block_of (made_as kind) r.common.features) ram q h.given (requests_of kind) (pick - 1) (not (is_disk_failed a)) in
     let place : take (length new_r.queues) (set held 0 new) ≡ set (take (length r.queues) held) 0 new = ap (λ n. take n (set held 0 new)) count ∙ take-set-lt (length r.queues) held 0 new there in
-    let requests : with_requests kind (requests_of new_kind) ≡ with_requests kind s.requests = ap (with_requests kind) h.requests_are in
     record {
       given = h.given;
       is_given = h.is_given;
-      reply_is = rw (does_by a) (ap reply_to_advance h.answer_is);
-      device_is = rw (does_by a, place, registers, h.ring_is, kind_is, requests, ← h.answer_is) refl;
-      ram_is = rw (does_by a) h.ram_is;
-      content_is = rw (does_by a) h.content_is;
-      items_are = rw (does_by a) h.items_are;
+      seen = next.Empty;
+      may_look = rw none tt;
+      reply_is = rw (none, some, does_by a) (ap reply_to_advance h.answer_is);
+      device_is = rw (none, some, does_by a, place, registers, h.ring_is, h.block_is, ← h.answer_is) refl;
+      ram_is = rw (none, some, does_by a) h.ram_is;
+      content_is = rw (none, some, does_by a) h.content_is;
+      items_are = rw (none, some, does_by a) h.items_are;
     }
-
-pub advanced_device : (touches : List Item → Type 0) (number : ℕ) (honest : Bool) (ram : List ℕ) (content : List Sector) (d : DeviceState) (pick : ℕ) (q : RingState) (reply : Reply) (new_ram : List ℕ) (new_content : List Sector) (new : DeviceState) → looked_at d pick ≡ None → advanced_at d pick ≡ Some q
-    → IsAdvancedStep touches number honest ram content d pick q reply new_ram new_content new → IsDeviceStep touches number honest ram content d pick reply new_ram new_content new
-unfolding device_step
-advanced_device touches number honest ram content d pick q reply new_ram new_content new none some h = record {
-  given = h.given;
-  is_given = h.is_given;
-  seen = next.Empty;
-  may_look = rw none tt;
-  reply_is = rw (none, some) h.reply_is;
-  device_is = rw (none, some) h.device_is;
-  ram_is = rw (none, some) h.ram_is;
-  content_is = rw (none, some) h.content_is;
-  items_are = rw (none, some) h.items_are;
-}

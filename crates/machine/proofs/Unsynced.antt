@@ -1,7 +1,7 @@
 -- A flush that fails in place of its step.
 use Rattle.std.proofs.Common.{◌≡◌, ℕ, ◌-◌, ◌<◌, Bool, true, false, cond, List, [], length, set, Option, Some, None, refl, ap, ◌∙◌, arith}
 use Rattle.std.specs.Prelude.{◌&&◌, slice_get}
-use Rattle.std.proofs.lemmas.Option.{slice_get-get_or, slice_get_within}
+use Rattle.std.proofs.lemmas.Option.{slice_get-get_or}
 use borrow.Author.Tests.{ltb-true}
 use Rattle.guestmem.specs.Memory.{Memory}
 use Rattle.mmio.specs.State.{first_queue}
@@ -9,7 +9,7 @@ use Rattle.chains.specs.State.{RingState}
 use Rattle.chains.specs.declared.next.Next.{Next}
 use Rattle.chains.specs.declared.next.Next.TheVariants as next
 use Rattle.blk.specs.Advance.{AdvanceStep, advance_step}
-use Rattle.blk.specs.Flush.{failed_if_flush, flush_failed, flushes_at, flushes_in, is_flush}
+use Rattle.blk.specs.Flush.{failed_if_flush, flush_failed, flushes_in, is_flush}
 use Rattle.blk.specs.Flush as blk
 use Rattle.blk.specs.Move.{disk_failed, move_of}
 use Rattle.blk.specs.Request.{is_open}
@@ -18,8 +18,9 @@ use Rattle.blk.specs.declared.advancing.Advanced.TheVariants as advanced
 use Rattle.blk.specs.declared.request.Kind as request
 use Rattle.blk.specs.declared.request.Kind.TheVariants.{Refused, In, Out, Flush, GetId, Zero}
 use Rattle.blk.specs.declared.request.Request.{Request}
-use Rattle.blk.specs.declared.shape.BlockShape.{BlockShape}
-use Rattle.machine.specs.DeviceStep.{DeviceAnswer, advances, device_step, looked_at, requests_of, with_requests}
+use Rattle.blk.specs.Block.{with_requests}
+use Rattle.blk.specs.declared.block.Block as blocks
+use Rattle.machine.specs.DeviceStep.{DeviceAnswer, advances, device_step, looked_at}
 use Rattle.machine.specs.Held.{IsHeld}
 use Rattle.machine.specs.Outcome as outcome
 use Rattle.machine.specs.Seen.{DeviceSeen, Seen}
@@ -30,7 +31,7 @@ use Rattle.machine.specs.State.{DeviceState}
 use Rattle.machine.specs.Effect.{applied}
 use Rattle.machine.specs.Step.{HasEffect, IsStep, disk_of}
 use Rattle.machine.specs.StepLaws.{Fits}
-use Rattle.machine.specs.Unsynced.{FailsFlush, FailsFlushIf, flushes, makes_flush, with_flush_failed}
+use Rattle.machine.specs.Unsynced.{FailsFlush, FailsFlushIf, flushes, kind_flush_failed, kind_flushes, makes_flush, with_flush_failed}
 use Rattle.machine.specs.declared.event.Event.TheVariants.{Step}
 use Rattle.machine.specs.declared.kind.Kind.{Kind}
 use Rattle.machine.specs.declared.kind.Kind.TheVariants.{Network, Block, Console, Entropy}
@@ -55,11 +56,11 @@ moved_so Out base id ram content r h = cc
 moved_so GetId base id ram content r h = cc
 moved_so Zero base id ram content r h = cc
 
-advanced_so : (shape : BlockShape) (ram : List ℕ) (q : RingState) (content : List Sector) (rs : List Request) (k : ℕ) (r : Request) → slice_get rs k ≡ Some r → blk.flushes r ≡ true
-    → ◌≡◌ {A = AdvanceStep} (advance_step shape ram q content rs k false) (record { answer = advanced.DiskFailed; writes = []; sets = []; ring = q; requests = flush_failed rs k })
-advanced_so shape ram q content rs k r there h =
+advanced_so : (ram : List ℕ) (q : RingState) (content : List Sector) (b : blocks.Block) (k : ℕ) (r : Request) → slice_get b.requests k ≡ Some r → blk.flushes r ≡ true
+    → ◌≡◌ {A = AdvanceStep} (advance_step ram q content b k false) (record { answer = advanced.DiskFailed; writes = []; sets = []; ring = q; block = flush_failed b k })
+advanced_so ram q content b k r there h =
     let opens = left_of_and (is_open r) (is_flush r.kind) h in
-    rw (there, h, opens, moved_so r.kind q.base shape.id ram content r (right_of_and (is_open r) (is_flush r.kind) h)) refl
+    rw (there, h, opens, moved_so r.kind q.base b.id ram content r (right_of_and (is_open r) (is_flush r.kind) h)) refl
 
 -- The request that flushes is there.
 record HasFlush (rs : List Request) (k : ℕ) : Type 0 where
@@ -71,21 +72,26 @@ flush_in : (rs : List Request) (k : ℕ) (r : Option Request) → slice_get rs k
 flush_in rs k None there h = cc
 flush_in rs k (Some r) there h = record { request = r; there = there; is = h }
 
--- Its device, which has one queue.
-one_queue : (kind : Kind) → 0 < length (requests_of kind) → queues_of (made_as kind) ≡ 1
-one_queue (Block sectors read_only id requests) some = refl
-one_queue (Network mac frames) some = absurd (omega (arith, some))
-one_queue (Console size held) some = absurd (omega (arith, some))
-one_queue (Entropy pool) some = absurd (omega (arith, some))
+-- Its device is a block device.
+record HasBlock (kind : Kind) (k : ℕ) : Type 0 where
+  block : blocks.Block
+  is : kind ≡ Block block
+  flush : HasFlush block.requests k
 
-same_kind : (kind : Kind) → with_requests kind (requests_of kind) ≡ kind
-same_kind (Block sectors read_only id requests) = refl
-same_kind (Network mac frames) = refl
-same_kind (Console size held) = refl
-same_kind (Entropy pool) = refl
+block_in : (kind : Kind) (k : ℕ) → kind_flushes kind k ≡ true → HasBlock kind k
+block_in (Block block) k h = record { block = block; is = refl; flush = flush_in block.requests k (slice_get block.requests k) refl h }
+block_in (Network mac frames) k h = cc
+block_in (Console size held) k h = cc
+block_in (Entropy pool) k h = cc
 
-same_by : (d : DeviceState) (pick : ℕ) (b : Bool) → (b && flushes_at (requests_of d.kind) (pick - 1)) ≡ false → cond b (record d { kind = with_requests d.kind (flush_failed (requests_of d.kind) (pick - 1)) }) d ≡ d
-same_by d pick true h = ap (λ (kind : Kind). record d { kind = kind }) (ap (with_requests d.kind) (same_if (requests_of d.kind) (pick - 1) (slice_get (requests_of d.kind) (pick - 1)) h) ∙ same_kind d.kind)
+same_kind : (kind : Kind) (k : ℕ) → kind_flushes kind k ≡ false → kind_flush_failed kind k ≡ kind
+same_kind (Block block) k h = ap (λ (rs : List Request). Block (with_requests block rs)) (same_if block.requests k (slice_get block.requests k) h)
+same_kind (Network mac frames) k h = refl
+same_kind (Console size held) k h = refl
+same_kind (Entropy pool) k h = refl
+
+same_by : (d : DeviceState) (pick : ℕ) (b : Bool) → (b && kind_flushes d.kind (pick - 1)) ≡ false → cond b (record d { kind = kind_flush_failed d.kind (pick - 1) }) d ≡ d
+same_by d pick true h = ap (λ (kind : Kind). record d { kind = kind }) (same_kind d.kind (pick - 1) h)
 same_by d pick false h = refl
 
 pub same_device : (d : DeviceState) (pick : ℕ) → flushes d pick ≡ false → with_flush_failed d pick ≡ d
@@ -94,19 +100,19 @@ same_device d pick h = same_by d pick (advances d pick) h
 record IsFlushing (d : DeviceState) (pick : ℕ) : Type 0 where
   advancing : advances d pick ≡ true
   some : 0 < pick
-  flush : HasFlush (requests_of d.kind) (pick - 1)
+  has : HasBlock d.kind (pick - 1)
 
 flushing : (d : DeviceState) (pick : ℕ) → flushes d pick ≡ true → IsFlushing d pick
 flushing d pick h =
-    let all = left_of_and (advances d pick) (flushes_at (requests_of d.kind) (pick - 1)) h in
+    let all = left_of_and (advances d pick) (kind_flushes d.kind (pick - 1)) h in
     record {
       advancing = all;
       some = ltb-true 0 pick (right_of_and _ _ (left_of_and _ _ all));
-      flush = flush_in (requests_of d.kind) (pick - 1) (slice_get (requests_of d.kind) (pick - 1)) refl (right_of_and (advances d pick) (flushes_at (requests_of d.kind) (pick - 1)) h);
+      has = block_in d.kind (pick - 1) (right_of_and (advances d pick) (kind_flushes d.kind (pick - 1)) h);
     }
 
 one_of : {base : ℕ} (len : ℕ) (d : DeviceState) (pick : ℕ) → IsSoundDevice base len d → IsFlushing d pick → length d.registers.queues ≡ 1
-one_of len d pick sound f = sound.queues ∙ one_queue d.kind (omega (arith, slice_get_within (requests_of d.kind) (pick - 1) f.flush.request f.flush.there))
+one_of len d pick sound f = sound.queues ∙ ap (λ (kind : Kind). queues_of (made_as kind)) f.has.is
 
 unlooked : {base : ℕ} (len : ℕ) (d : DeviceState) (pick : ℕ) → IsSoundDevice base len d → IsFlushing d pick → looked_at d pick ≡ None
 unlooked len d pick sound f = none_past d pick (omega (arith, one_of len d pick sound f, f.some))
@@ -118,8 +124,8 @@ step_fails len d ram content pick seen sound f =
     let one = one_of len d pick sound f in
     let long : length d.positions ≡ length d.registers.queues = positions_long _ d.registers.queues d.positions sound.positions in
     let placed = slice_get-get_or d.positions 0 no_positions (omega (arith, one, long)) in
-    rw (unlooked len d pick sound f, slice_get-get_or d.registers.queues 0 first_queue (omega (arith, one)), placed, f.advancing)
-    (rw (advanced_so _ ram _ content (requests_of d.kind) (pick - 1) f.flush.request f.flush.there f.flush.is, set_itself d.positions 0 _ placed) refl)
+    rw (unlooked len d pick sound f, slice_get-get_or d.registers.queues 0 first_queue (omega (arith, one)), placed, f.advancing, f.has.is)
+    (rw (advanced_so ram _ content f.has.block (pick - 1) f.has.flush.request f.has.flush.there f.has.flush.is, set_itself d.positions 0 _ placed) refl)
 
 -- Its machine.
 pub at_device : (m : Memory) (ds : List DeviceSeen) (dev pick : ℕ) (d : DeviceSeen) → IsAt ds dev d → makes_flush (seen.state_of (record { memory = m; devices = ds })) dev pick ≡ flushes d.state pick

@@ -18,12 +18,12 @@ use Rattle.guestmem.specs.Item.{sector}
 use Rattle.chains.specs.State.{RingState}
 use Rattle.console.specs.declared.size.ConsoleSize.{ConsoleSize}
 use Rattle.chains.specs.declared.next.Next.{Next}
-use Rattle.machine.specs.DeviceStep.{advance_at, advanced_at, device_step, looked_at, wanted_of, MayLook, step_at}
+use Rattle.machine.specs.DeviceStep.{advance_at, advance_on, advanced_at, device_step, looked_at, wanted_of, MayLook, step_at}
 use Rattle.machine.specs.Effect as effects
 use Rattle.machine.specs.Effect.{Effect, Replacement, applied, replaced_in}
 use Rattle.machine.specs.EffectLaws.{HasItem, IsSameShape, MayReplace, sector_on}
 use Rattle.machine.specs.Outcome.{Outcome, fine, disk_failed, no_memory, disk_does}
-use Rattle.machine.specs.Shapes.{block_of, made_as, sector_count}
+use Rattle.machine.specs.Shapes.{made_as, sector_count}
 use Rattle.machine.specs.Sound.{IsSound, IsSoundDevice}
 use Rattle.machine.specs.State.{MachineState, DeviceState, base_of}
 use Rattle.machine.specs.Step.{answer, disk_of, disk_or_none, input_of, MaySee, MaySeeAt, read_register, write_register, read_ram, write_ram, put_by, put_in, set_size, size_by, step_device}
@@ -34,7 +34,7 @@ use Rattle.machine.specs.declared.kind.Kind.{Kind}
 use Rattle.machine.specs.declared.kind.Kind.TheVariants.{Network, Block, Console, Entropy}
 use Rattle.machine.specs.declared.reply.Refusal.{Refusal}
 use Rattle.machine.specs.declared.event.Event.TheVariants.{RegRead, RegWrite, MemRead, MemWrite, Step, Input, Resize}
-use Rattle.machine.proofs.MadeAs.{kept_as, input_as, served_as, requests_as}
+use Rattle.machine.proofs.MadeAs.{advanced_as, kept_as, input_as, served_as}
 use Rattle.machine.proofs.Effects.{replaced_shapes, all_sizes_stay}
 use Rattle.machine.proofs.Inside.{AreInsideRam, all_inside, bytes_after, run_inside, served_inside}
 use Rattle.machine.proofs.Advancing.{advanced_is}
@@ -42,7 +42,7 @@ use Rattle.machine.proofs.Looking.{looked_is}
 use Rattle.machine.proofs.Numbering.{shape_counts}
 use Rattle.machine.proofs.Outstanding.{AreGoodSets}
 use Rattle.machine.proofs.Rings.{looked_ring}
-use Rattle.machine.proofs.Staying.{HasSectors, advanced_goes_on, block_count, sound_resized, sound_written, sound_input, sound_stepped}
+use Rattle.machine.proofs.Staying.{HasSectors, advanced_goes_on, sound_resized, sound_written, sound_input, sound_stepped}
 
 -- The effect of an answer: writes of bytes inside RAM, no sector, and one device replaced by a sound one of its shape.
 abbrev pub StaysSoundAt : ℕ → ℕ → Option Replacement → Type 0
@@ -64,7 +64,7 @@ may_put devices number (Some d) bytes is = may_put_by devices number d bytes (in
 
 may_size_by : (devices : List DeviceState) (number : ℕ) (d : DeviceState) (kind : Kind) (size : ConsoleSize) → d.kind ≡ kind → slice_get devices number ≡ Some d → MayReplace devices (size_by number d kind size).effect.replaced
 may_size_by devices number d (Network mac frames) size of is = tt
-may_size_by devices number d (Block sectors read_only id requests) size of is = tt
+may_size_by devices number d (Block block) size of is = tt
 may_size_by devices number d (Console old held) size of is = (d, is, ap made_as (sym of))
 may_size_by devices number d (Entropy pool) size of is = tt
 
@@ -74,7 +74,7 @@ may_size devices number (Some d) size is = may_size_by devices number d d.kind s
 
 shape_advanced : (d : DeviceState) (ram : List ℕ) (content : List Sector) (pick : ℕ) (ring : Option RingState) (o : Outcome) → made_as (advance_at d ram content pick ring o).device.kind ≡ made_as d.kind
 shape_advanced d ram content pick None o = refl
-shape_advanced d ram content pick (Some q) o = requests_as d.kind _
+shape_advanced d ram content pick (Some q) o = advanced_as d d.kind ram content pick q o refl
 
 pub shape_at : (d : DeviceState) (ram : List ℕ) (content : List Sector) (pick : ℕ) (ring : Option RingState) (o : Outcome) (seen : Next) → made_as (step_at d ram content pick ring o seen).device.kind ≡ made_as d.kind
 shape_at d ram content pick None o seen = shape_advanced d ram content pick (advanced_at d pick) o
@@ -173,9 +173,15 @@ disk_at (x ∷ ds) (disk ∷ disks) (suc dev) d sizes whole there =
 pub has_sectors : (m : MachineState) (dev : ℕ) (d : DeviceState) → slice_get m.devices dev ≡ Some d → IsSound m → HasSectors d (disk_of m dev)
 has_sectors m dev d there sound = disk_at m.devices m.disks dev d sound.disks sound.sectors there
 
+on_inside : {base : ℕ} (d : DeviceState) (kind : Kind) (ram : List ℕ) (content : List Sector) (pick : ℕ) (q : RingState) (o : Outcome) → d.kind ≡ kind → advanced_at d pick ≡ Some q → IsBytes ram → IsSoundDevice base (length ram) d → HasSectors d content → AreInsideRam (length ram) (advance_on d kind ram content pick q o).writes
+on_inside d (Block block) ram content pick q o kind_is is are sound has = (advanced_goes_on d block ram content pick q (disk_does o) kind_is (advanced_is (length ram) d pick q sound is) are sound has).inside
+on_inside d (Network mac frames) ram content pick q o kind_is is are sound has = tt
+on_inside d (Console size held) ram content pick q o kind_is is are sound has = tt
+on_inside d (Entropy pool) ram content pick q o kind_is is are sound has = tt
+
 advance_inside : {base : ℕ} (d : DeviceState) (ram : List ℕ) (content : List Sector) (pick : ℕ) (ring : Option RingState) (o : Outcome) → advanced_at d pick ≡ ring → IsBytes ram → IsSoundDevice base (length ram) d → HasSectors d content → AreInsideRam (length ram) (advance_at d ram content pick ring o).writes
 advance_inside d ram content pick None o is are sound has = tt
-advance_inside d ram content pick (Some q) o is are sound has = (advanced_goes_on d ram content pick q (disk_does o) (advanced_is (length ram) d pick q sound is) are sound has).inside
+advance_inside d ram content pick (Some q) o is are sound has = on_inside d d.kind ram content pick q o refl is are sound has
 
 worked_at : {base : ℕ} (d : DeviceState) (ram : List ℕ) (content : List Sector) (pick : ℕ) (ring : Option RingState) (o : Outcome) (seen : Next) → looked_at d pick ≡ ring → MayLook (wanted_of d.kind pick) ring ram o seen → IsBytes ram → IsSoundDevice base (length ram) d → HasSectors d content → AreInsideRam (length ram) (step_at d ram content pick ring o seen).writes
 worked_at d ram content pick None o seen is may are sound has = advance_inside d ram content pick (advanced_at d pick) o refl are sound has
@@ -205,7 +211,7 @@ no_writes_read ram addr len None no_memory = refl
 
 no_writes_size_by : (dev : ℕ) (d : DeviceState) (kind : Kind) (size : ConsoleSize) → (size_by dev d kind size).effect.writes ≡ []
 no_writes_size_by dev d (Network mac frames) size = refl
-no_writes_size_by dev d (Block sectors read_only id requests) size = refl
+no_writes_size_by dev d (Block block) size = refl
 no_writes_size_by dev d (Console old held) size = refl
 no_writes_size_by dev d (Entropy pool) size = refl
 
@@ -256,11 +262,17 @@ good_sets : (m : MachineState) (dev : ℕ) (sets : List blk.SectorSet) → AreGo
 good_sets m dev [] h = tt
 good_sets m dev (s ∷ ss) h = ((good_sector (slice_get m.disks dev) s.number h.0.there, h.0.whole), good_sets m dev ss h.1)
 
+on_sets : {base : ℕ} (d : DeviceState) (kind : Kind) (ram : List ℕ) (content : List Sector) (pick : ℕ) (q : RingState) (o : Outcome) → d.kind ≡ kind → advanced_at d pick ≡ Some q → IsBytes ram → IsSoundDevice base (length ram) d → HasSectors d content → AreGoodSets (length content) (advance_on d kind ram content pick q o).sets
+on_sets d (Block block) ram content pick q o kind_is is are sound has =
+    let count : length content ≡ block.sectors = has.count ∙ ap (λ (k : Kind). sector_count (made_as k)) kind_is in
+    rw count (advanced_goes_on d block ram content pick q (disk_does o) kind_is (advanced_is (length ram) d pick q sound is) are sound has).sets
+on_sets d (Network mac frames) ram content pick q o kind_is is are sound has = tt
+on_sets d (Console size held) ram content pick q o kind_is is are sound has = tt
+on_sets d (Entropy pool) ram content pick q o kind_is is are sound has = tt
+
 advance_sets : {base : ℕ} (d : DeviceState) (ram : List ℕ) (content : List Sector) (pick : ℕ) (ring : Option RingState) (o : Outcome) → advanced_at d pick ≡ ring → IsBytes ram → IsSoundDevice base (length ram) d → HasSectors d content → AreGoodSets (length content) (advance_at d ram content pick ring o).sets
 advance_sets d ram content pick None o is are sound has = tt
-advance_sets d ram content pick (Some q) o is are sound has =
-    let count : length content ≡ (block_of (made_as d.kind) d.registers.common.features).sectors = has.count ∙ sym (block_count (made_as d.kind) d.registers.common.features) in
-    rw count (advanced_goes_on d ram content pick q (disk_does o) (advanced_is (length ram) d pick q sound is) are sound has).sets
+advance_sets d ram content pick (Some q) o is are sound has = on_sets d d.kind ram content pick q o refl is are sound has
 
 worked_sets : {base : ℕ} (d : DeviceState) (ram : List ℕ) (content : List Sector) (pick : ℕ) (ring : Option RingState) (o : Outcome) (seen : Next) → IsBytes ram → IsSoundDevice base (length ram) d → HasSectors d content → AreGoodSets (length content) (step_at d ram content pick ring o seen).sets
 worked_sets d ram content pick None o seen are sound has = advance_sets d ram content pick (advanced_at d pick) o refl are sound has
@@ -294,7 +306,7 @@ no_sectors_stored addr bytes None = refl
 
 no_sectors_size_by : (dev : ℕ) (d : DeviceState) (kind : Kind) (size : ConsoleSize) → (size_by dev d kind size).effect.sectors ≡ []
 no_sectors_size_by dev d (Network mac frames) size = refl
-no_sectors_size_by dev d (Block sectors read_only id requests) size = refl
+no_sectors_size_by dev d (Block block) size = refl
 no_sectors_size_by dev d (Console old held) size = refl
 no_sectors_size_by dev d (Entropy pool) size = refl
 
@@ -340,7 +352,7 @@ set_sound len dev devices (Some d) offset width value there all small =
 
 size_sound_by : {base : ℕ} (len dev : ℕ) (d : DeviceState) (kind : Kind) (size : ConsoleSize) → d.kind ≡ kind → size.columns < 2 ^ 16 → size.rows < 2 ^ 16 → IsSoundDevice base len d → StaysSoundAt base len (size_by dev d kind size).effect.replaced
 size_sound_by len dev d (Network mac frames) size is columns rows sound = tt
-size_sound_by len dev d (Block sectors read_only id requests) size is columns rows sound = tt
+size_sound_by len dev d (Block block) size is columns rows sound = tt
 size_sound_by len dev d (Console old held) size is columns rows sound = sound_resized len d old size held is columns rows sound
 size_sound_by len dev d (Entropy pool) size is columns rows sound = tt
 

@@ -3,6 +3,7 @@ use Rattle.std.specs.Prelude.{ℕ, ◌*◌, List, length, replicate, Option, Som
 use denote.RawPtr.{Ptr}
 use Rattle.guestmem.specs.declared.limits.TheConstants.{PAGE_SIZE}
 use Rattle.region.specs.Address.{address}
+use Rattle.region.specs.declared.region.Region as regions
 use Rattle.machine.specs.First.{zero_pages}
 use Rattle.machine.specs.declared.board.RamOf.{RamOf}
 use Rattle.machine.specs.declared.board.RamOf.TheVariants.{Pages, Region}
@@ -21,3 +22,8 @@ ram_bytes (Region region) = region.content
 abbrev pub ram_place : RamOf → Option Ptr
 ram_place (Pages pages) = None
 ram_place (Region region) = Some (address region)
+
+-- The region that it is, if it is one.
+abbrev pub ram_region : RamOf → Option regions.Region
+ram_region (Pages pages) = None
+ram_region (Region region) = Some region

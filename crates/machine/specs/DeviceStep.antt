@@ -7,45 +7,35 @@ use Rattle.mmio.specs.Interrupts.{used_raised, reset_asked}
 use Rattle.mmio.specs.QueueRegisters.{notified_cleared}
 use Rattle.mmio.specs.declared.queue.Queue.{Queue}
 use Rattle.chains.specs.State.{RingState, state_of}
-use Rattle.chains.specs.LongQueue.{IsLongQueue}
-use Rattle.chains.specs.Transmit.{MayWantMemory, Sending, transmit_step}
-use Rattle.chains.specs.Transmit as messages
-use Rattle.chains.specs.declared.transmitting.MessageForm.{MessageForm}
+use Rattle.chains.specs.Served.{MayRefuse}
+use Rattle.chains.specs.Service.{Answer, Deed, Service, with_state}
+use Rattle.chains.specs.Service as service
+use Rattle.chains.specs.Transmit.{transmit_step}
 use Rattle.chains.specs.Look.{Sees}
 use Rattle.chains.specs.declared.looking.Wanted.{Wanted}
 use Rattle.chains.specs.declared.looking.Wanted.TheVariants as wanted
 use Rattle.chains.specs.declared.next.Next.{Next}
 use Rattle.chains.specs.declared.position.Positions.{Positions}
 use Rattle.blk.specs.Advance.{AdvanceStep, advance_step}
+use Rattle.blk.specs.Block.{has_room}
 use Rattle.blk.specs.Move.{SectorSet}
 use Rattle.blk.specs.Sectors.{Sector}
-use Rattle.blk.specs.Shape.{with_features}
 use Rattle.blk.specs.Take.{take_step}
 use Rattle.blk.specs.declared.advancing.Advanced.{Advanced}
 use Rattle.blk.specs.declared.advancing.Advanced.TheVariants as advanced
 use Rattle.blk.specs.declared.request.Request.{Request}
 use Rattle.blk.specs.declared.request.TheConstants.{HEADER_SIZE}
-use Rattle.blk.specs.declared.requests.TheConstants.{REQUESTS_MAX}
-use Rattle.blk.specs.declared.taking.Taken.{Taken}
-use Rattle.blk.specs.declared.taking.Taken.TheVariants as taken
-use Rattle.console.specs.Receive.{receive_step}
+use Rattle.console.specs.Receive as console
 use Rattle.console.specs.Transmit.{text_form}
-use Rattle.net.specs.Receive as receiving
+use Rattle.net.specs.Receive as net
 use Rattle.net.specs.Transmit.{frame_form}
-use Rattle.net.specs.declared.receiving.Received as net
-use Rattle.net.specs.declared.receiving.Received.TheVariants as frames
-use Rattle.console.specs.declared.receiving.Received.{Received}
-use Rattle.console.specs.declared.receiving.Received.TheVariants as received
 use Rattle.machine.specs.Outcome.{Outcome, fine, disk_failed, no_memory, disk_does}
-use Rattle.machine.specs.Shapes.{block_of, made_as}
 use Rattle.machine.specs.State.{DeviceState}
 use Rattle.machine.specs.declared.kind.Kind.{Kind}
 use Rattle.machine.specs.declared.kind.Kind.TheVariants.{Network, Block, Console, Entropy}
 use Rattle.machine.specs.declared.reply.Reply.{Reply}
 use Rattle.machine.specs.declared.reply.Reply.TheVariants.{Idle, Moved, BadSector, DiskFailed, Completed, Sent, Dropped, NeedsReset, NoMemory}
 use Rattle.machine.specs.declared.reply.Reply.TheVariants as replies
-use Rattle.machine.specs.Served.{Served}
-use Rattle.machine.specs.Served as served
 
 -- A device has something to do at its queue of this number. At queue 0 a network device has a frame to deliver, and a console
 -- has input; at queue 1 both always have (VIRTIO 1.2, 5.1.6 and 5.3.6). A block device has room for one more request (5.2.6),
@@ -55,7 +45,7 @@ has_work (Network mac frames) zero = not (length frames == 0)
 has_work (Network mac frames) (suc number) = true
 has_work (Console size held) zero = not (length held == 0)
 has_work (Console size held) (suc number) = true
-has_work (Block sectors read_only id requests) number = nat_lt (length requests) REQUESTS_MAX
+has_work (Block block) number = has_room block
 has_work (Entropy pool) number = not (length pool == 0)
 
 -- A step looks at a queue exactly if DRIVER_OK is set and DEVICE_NEEDS_RESET is not, the queue is ready and notified, and the
@@ -78,15 +68,8 @@ wanted_of (Network mac frames) zero = wanted.Room
 wanted_of (Network mac frames) (suc number) = wanted.Message frame_form
 wanted_of (Console size held) zero = wanted.Room
 wanted_of (Console size held) (suc number) = wanted.Message text_form
-wanted_of (Block sectors read_only id requests) number = wanted.Request HEADER_SIZE
+wanted_of (Block block) number = wanted.Request HEADER_SIZE
 wanted_of (Entropy pool) number = wanted.Room
-
--- Memory may be refused only at a queue with a longer row of descriptors than is handled without an allocation, or for a
--- message.
-abbrev pub MayRefuse : Wanted → List ℕ → RingState → Type 0
-MayRefuse wanted.Room ram q = IsLongQueue ram q
-MayRefuse (wanted.Request header) ram q = IsLongQueue ram q
-MayRefuse (wanted.Message form) ram q = MayWantMemory ram q form
 
 -- What a look at a queue may see: with the outcome `fine`, what a device that wants such chains sees there. The disk does not
 -- fail in a look.
@@ -101,12 +84,8 @@ MayLook want (Some q) ram o seen = MayLookAt want q ram o seen
 
 -- The outstanding requests of a device: only a block device has any.
 abbrev pub requests_of : Kind → List Request
-requests_of (Block sectors read_only id requests) = requests
+requests_of (Block block) = block.requests
 requests_of _ = []
-
-abbrev pub with_requests : Kind → List Request → Kind
-with_requests (Block sectors read_only id old) requests = Block sectors read_only id requests
-with_requests kind requests = kind
 
 -- With DRIVER_OK set and DEVICE_NEEDS_RESET not, a step whose pick is n > 0 advances the n-th outstanding request, counted from
 -- 1 in the order of taking, if there is one (VIRTIO 1.2, 5.2.6).
@@ -121,69 +100,33 @@ advanced_by d pick q p = None
 abbrev pub advanced_at : DeviceState → ℕ → Option RingState
 advanced_at d pick = advanced_by d pick (queue_at d.registers 0) (slice_get d.positions 0)
 
--- The result of serving a queue: how it went, the bytes written, the ring with its positions, and the kind with its state after
--- it.
-pub record Service : Type 0 where
-  pub served : Served
-  pub writes : List Write
-  pub ring : RingState
-  pub kind : Kind
-
-abbrev pub served_of : Received → Served
-served_of received.Empty = served.Empty
-served_of received.Malformed = served.Malformed
-served_of (received.Completed len due) = served.Published (Completed len) due
-
-abbrev pub served_taking : Taken → Served
-served_taking taken.Empty = served.Empty
-served_taking taken.Malformed = served.Malformed
-served_taking taken.Taken = served.Published replies.Taken false
-
-abbrev pub served_frame : net.Received → Served
-served_frame frames.Empty = served.Empty
-served_frame frames.Malformed = served.Malformed
-served_frame frames.Dropped = served.Published Dropped false
-served_frame (frames.Completed len due) = served.Published (Completed len) due
-
-abbrev pub served_message : Sending → Served
-served_message messages.Empty = served.Empty
-served_message messages.Malformed = served.Malformed
-served_message (messages.Sent bytes due) = served.Published (Sent bytes) due
-
--- A message is taken from a queue; the state that only its kind has is unchanged.
-abbrev pub take_message : MessageForm → Kind → List ℕ → RingState → Next → Service
-take_message form kind ram q seen =
-    let s = transmit_step ram q form seen in
-    record { served = served_message s.answer; writes = s.writes; ring = s.ring; kind = kind }
-
 -- Serving the queue of this number, given the features that the driver accepted and what the device sees there.
-abbrev pub serve : ℕ → Kind → ℕ → List ℕ → RingState → Next → Service
-serve features (Network mac frames) zero ram q seen =
-    let s = receiving.receive_step ram q frames seen in
-    record { served = served_frame s.answer; writes = s.writes; ring = s.ring; kind = Network mac s.left }
-serve features (Network mac frames) (suc number) ram q seen = take_message frame_form (Network mac frames) ram q seen
-serve features (Console size held) zero ram q seen =
-    let s = receive_step ram q held seen in
-    record { served = served_of s.answer; writes = s.writes; ring = s.ring; kind = Console size s.left }
-serve features (Console size held) (suc number) ram q seen = take_message text_form (Console size held) ram q seen
-serve features (Block sectors read_only id requests) number ram q seen =
-    let s = take_step ram q (with_features sectors read_only id features) requests seen in
-    record { served = served_taking s.answer; writes = s.writes; ring = s.ring; kind = Block sectors read_only id s.requests }
-serve features (Entropy pool) number ram q seen =
-    let s = receive_step ram q pool seen in
-    record { served = served_of s.answer; writes = s.writes; ring = s.ring; kind = Entropy s.left }
+abbrev pub serve : ℕ → Kind → ℕ → List ℕ → RingState → Next → Service Kind
+serve features (Network mac frames) zero ram q seen = with_state (Network mac) (net.receive_step ram q frames seen)
+serve features (Network mac frames) (suc number) ram q seen = transmit_step frame_form ram q (Network mac frames) seen
+serve features (Console size held) zero ram q seen = with_state (Console size) (console.receive_step ram q held seen)
+serve features (Console size held) (suc number) ram q seen = transmit_step text_form ram q (Console size held) seen
+serve features (Block block) number ram q seen = with_state Block (take_step features ram q block seen)
+serve features (Entropy pool) number ram q seen = with_state Entropy (console.receive_step ram q pool seen)
 
-abbrev pub reply_of : Served → Reply
-reply_of served.Empty = Idle
-reply_of served.Malformed = NeedsReset
-reply_of (served.Published reply is_due) = reply
+-- The reply to a step that did this with a chain.
+abbrev pub reply_to : Deed → Reply
+reply_to service.Taken = replies.Taken
+reply_to (service.Completed len) = Completed len
+reply_to (service.Sent sent) = Sent sent
+reply_to service.Dropped = Dropped
+
+abbrev pub reply_of : Answer → Reply
+reply_of service.Empty = Idle
+reply_of service.Malformed = NeedsReset
+reply_of (service.Did deed is_due) = reply_to deed
 
 -- The registers after a queue was served: for an empty queue the notified flag is cleared, a malformed chain makes the device
--- ask for a reset, and for a chain that was published the used-buffer interrupt is raised if it is due.
-abbrev pub registers_after : Registers → ℕ → Served → Registers
-registers_after r pick served.Empty = notified_cleared r pick (queue_at r pick)
-registers_after r pick served.Malformed = with_common r (reset_asked r.common)
-registers_after r pick (served.Published reply is_due) = if is_due then with_common r (used_raised r.common) else r
+-- ask for a reset, and else the used-buffer interrupt is raised if it is due.
+abbrev pub registers_after : Registers → ℕ → Answer → Registers
+registers_after r pick service.Empty = notified_cleared r pick (queue_at r pick)
+registers_after r pick service.Malformed = with_common r (reset_asked r.common)
+registers_after r pick (service.Did deed is_due) = if is_due then with_common r (used_raised r.common) else r
 
 -- The result of a step of a device: the reply, the bytes that it writes, the sectors of its disk that it sets, and the device
 -- after it.
@@ -196,15 +139,15 @@ pub record DeviceAnswer : Type 0 where
 abbrev pub unmoved : DeviceState → Reply → DeviceAnswer
 unmoved d reply = record { reply = reply; writes = []; sets = []; device = d }
 
-abbrev pub after_service : DeviceState → ℕ → Service → DeviceState
+abbrev pub after_service : DeviceState → ℕ → Service Kind → DeviceState
 after_service d pick s = record d {
-  registers = registers_after d.registers pick s.served;
+  registers = registers_after d.registers pick s.answer;
   positions = slice_set d.positions pick (record { taking = s.ring.taking; used = s.ring.used });
-  kind = s.kind;
+  kind = s.state;
 }
 
-abbrev pub after_serving : DeviceState → ℕ → Service → DeviceAnswer
-after_serving d pick s = record { reply = reply_of s.served; writes = s.writes; sets = []; device = after_service d pick s }
+abbrev pub after_serving : DeviceState → ℕ → Service Kind → DeviceAnswer
+after_serving d pick s = record { reply = reply_of s.answer; writes = s.writes; sets = []; device = after_service d pick s }
 
 abbrev pub reply_to_advance : Advanced → Reply
 reply_to_advance advanced.Idle = Idle
@@ -223,20 +166,21 @@ abbrev pub after_advance : DeviceState → AdvanceStep → DeviceState
 after_advance d s = record d {
   registers = if is_advance_due s.answer then with_common d.registers (used_raised d.registers.common) else d.registers;
   positions = slice_set d.positions 0 (record { taking = s.ring.taking; used = s.ring.used });
-  kind = with_requests d.kind s.requests;
+  kind = Block s.block;
 }
 
 abbrev pub after_advancing : DeviceState → AdvanceStep → DeviceAnswer
 after_advancing d s = record { reply = reply_to_advance s.answer; writes = s.writes; sets = s.sets; device = after_advance d s }
 
--- Advances the outstanding request that this pick names, on this ring.
-abbrev pub advance_on : DeviceState → List ℕ → List Sector → ℕ → RingState → Outcome → DeviceAnswer
-advance_on d ram content pick q o = after_advancing d (advance_step (block_of (made_as d.kind) d.registers.common.features) ram q content (requests_of d.kind) (pick - 1) (disk_does o))
+-- Advances the outstanding request that this pick names, on this ring. Only a block device has any.
+abbrev pub advance_on : DeviceState → Kind → List ℕ → List Sector → ℕ → RingState → Outcome → DeviceAnswer
+advance_on d (Block block) ram content pick q o = after_advancing d (advance_step ram q content block (pick - 1) (disk_does o))
+advance_on d kind ram content pick q o = unmoved d Idle
 
 -- A step that looks at no queue, given the ring of the request that it advances. Without one it is idle.
 abbrev pub advance_at : DeviceState → List ℕ → List Sector → ℕ → Option RingState → Outcome → DeviceAnswer
 advance_at d ram content pick None o = unmoved d Idle
-advance_at d ram content pick (Some q) o = advance_on d ram content pick q o
+advance_at d ram content pick (Some q) o = advance_on d d.kind ram content pick q o
 
 -- A look at the next chain of a ring, given the outcome and what the device sees there.
 abbrev pub looked_step : DeviceState → List ℕ → ℕ → RingState → Outcome → Next → DeviceAnswer

@@ -111,6 +111,10 @@ marked [] bad = []
 marked (d ∷ ds) [] = []
 marked (d ∷ ds) (marks ∷ bad) = seen_of d marks ∷ marked ds bad
 
+-- A disk as it is seen where no call of it is counted.
+abbrev pub uncounted : SectorsState → SectorsState
+uncounted s = record s { calls = 0 }
+
 abbrev pub marked_sectors : List DiskState → List (List Bool) → List (List Sector)
 marked_sectors disks bad = map (λ s. s.content) (marked disks bad)
 

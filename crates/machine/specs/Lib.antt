@@ -27,6 +27,5 @@ pub mod Sound
 pub mod State
 pub mod Step
 pub mod StepLaws
-pub mod Served
 pub mod Stepped
 pub mod Unsynced

@@ -1,7 +1,7 @@
 -- What the kind of a device determines, and what it was made as (its shape).
 use Rattle.std.specs.Prelude.{ℕ, ◌+◌, ◌^◌, ◌==◌, ◌||◌, nat_lt, Bool, false, List, [], ◌∷◌, Option, Some, None, replicate}
 use Rattle.blk.specs.Shape as blocks
-use Rattle.blk.specs.declared.shape.BlockShape.{BlockShape}
+use Rattle.blk.specs.Block.{first_block}
 use Rattle.console.specs.Size as sizes
 use Rattle.blk.specs.declared.shape.TheConstants as blk
 use Rattle.console.specs.declared.size.ConsoleSize.{ConsoleSize}
@@ -19,7 +19,7 @@ use Rattle.machine.specs.QueuePositions.{first_positions}
 -- What a device of this kind was made as.
 abbrev pub made_as : Kind → Shape
 made_as (kinds.Network mac frames) = Net mac
-made_as (kinds.Block sectors read_only id requests) = Block sectors read_only id
+made_as (kinds.Block block) = Block block.sectors block.read_only block.id
 made_as (kinds.Console size held) = Console
 made_as (kinds.Entropy pool) = Entropy
 
@@ -54,7 +54,7 @@ queues_of Entropy = 1
 -- console that of its size (5.3.4); an entropy device has none (5.4.4).
 abbrev pub configuration_of : Kind → List ℕ
 configuration_of (kinds.Network mac frames) = mac
-configuration_of (kinds.Block sectors read_only id requests) = blocks.configuration_of sectors
+configuration_of (kinds.Block block) = blocks.configuration_of block.sectors
 configuration_of (kinds.Console size held) = sizes.configuration_of size
 configuration_of (kinds.Entropy pool) = []
 
@@ -82,11 +82,6 @@ abbrev pub disk_sizes : List Shape → List ℕ
 disk_sizes [] = []
 disk_sizes (shape ∷ shapes) = with_size (disk_size_of shape) (disk_sizes shapes)
 
--- The shape as that of a block device whose driver accepted these features. For a device of another kind it has no sectors.
-abbrev pub block_of : Shape → ℕ → BlockShape
-block_of (Block sectors read_only id) features = blocks.with_features sectors read_only id features
-block_of _ features = blocks.with_features 0 false (replicate blk.ID_SIZE 0) 0
-
 -- Whether a shape is beyond its limits: a block device has 1 to 2,097,152 sectors; other devices have no such limit.
 abbrev pub is_beyond : Shape → Bool
 is_beyond (Block sectors read_only id) = sectors == 0 || nat_lt blk.SECTORS_MAX sectors
@@ -99,7 +94,7 @@ first_size = record { columns = 80; rows = 25 }
 -- A new device that is made as this.
 abbrev pub first_kind : Shape → Kind
 first_kind (Net mac) = kinds.Network mac []
-first_kind (Block sectors read_only id) = kinds.Block sectors read_only id []
+first_kind (Block sectors read_only id) = kinds.Block (first_block sectors read_only id)
 first_kind Console = kinds.Console first_size []
 first_kind Entropy = kinds.Entropy []
 

@@ -7,10 +7,11 @@ use Rattle.console.specs.Shape.{AreHostBytes, IsSoundConsole}
 use Rattle.net.specs.Inbox.{AreFrames}
 use Rattle.net.specs.Shape.{IsMac}
 use Rattle.blk.specs.Sectors.{AreWhole}
-use Rattle.blk.specs.Shape.{IsBlockShape, with_features}
-use Rattle.blk.specs.Sound.{AreRequestsOf}
-use Rattle.blk.specs.declared.request.Request.{Request}
-use Rattle.blk.specs.declared.shape.BlockShape.{BlockShape}
+use Rattle.blk.specs.Block.{limits_of}
+use Rattle.blk.specs.Shape.{IsBlockShape}
+use Rattle.blk.specs.Sound.{AreRequestsOf, AreSound}
+use Rattle.chains.specs.State.{RingState}
+use Rattle.blk.specs.declared.block.Block as blocks
 use Rattle.mmio.specs.State.{Registers, queue_at}
 use Rattle.machine.specs.State.{DeviceState, MachineState, base_of}
 use Rattle.machine.specs.QueuePositions.{HavePositions, is_packed_by}
@@ -28,16 +29,21 @@ IsSoundShape (Block sectors read_only id) = IsBlockShape sectors id
 IsSoundShape Console = Unit {0}
 IsSoundShape Entropy = Unit {0}
 
--- Requests that a block device of this shape with these registers can have outstanding: they are those of its queue 0.
-abbrev pub AreRequests : ℕ → Registers → BlockShape → List Request → Type 0
-AreRequests bytes r shape requests = IsSomeAnd (queue_at r 0) (λ q. AreRequestsOf r.ram_base bytes (is_packed_by r.common) q shape requests)
+-- The outstanding requests of a block device can be so with these registers: they are those of its queue 0.
+abbrev pub AreRequests : ℕ → Registers → blocks.Block → Type 0
+AreRequests bytes r block = IsSomeAnd (queue_at r 0) (λ q. AreRequestsOf r.ram_base bytes (is_packed_by r.common) q (limits_of block r.common.features) block.requests)
 
 -- What only its kind has is such as a device with these registers can have, in a machine with `bytes` bytes of RAM.
 abbrev pub IsSoundKind : ℕ → Registers → Kind → Type 0
 IsSoundKind bytes r (kinds.Network mac frames) = AreFrames frames
-IsSoundKind bytes r (kinds.Block sectors read_only id requests) = AreRequests bytes r (with_features sectors read_only id r.common.features) requests
+IsSoundKind bytes r (kinds.Block block) = AreRequests bytes r block
 IsSoundKind bytes r (kinds.Console size held) = IsSoundConsole size held
 IsSoundKind bytes r (kinds.Entropy pool) = AreHostBytes pool
+
+-- The outstanding requests of a block device are sound beside the ring of its queue, where the driver accepted these features.
+abbrev pub AreSoundBeside : ℕ → RingState → ℕ → Kind → Type 0
+AreSoundBeside len q features (kinds.Block block) = AreSound len q (limits_of block features) block.requests
+AreSoundBeside len q features kind = Unit {0}
 
 -- RAM of `bytes` bytes may begin at this guest-physical address: a multiple of a page, with no byte past the last address.
 pub record IsBase (base bytes : ℕ) : Type 0 where

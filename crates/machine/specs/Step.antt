@@ -3,7 +3,7 @@
 -- A step sees the queue's answer as an argument: what may be seen is a relation to RAM, with one answer for each RAM, so equal
 -- outcomes give equal steps. A step is an effect, applied: laws of effects, and what a log takes in, speak of the same list of
 -- writes.
-use Rattle.std.specs.Prelude.{min, ◌-◌, ◌++◌, ◌≡◌, ℕ, List, [], ◌∷◌, take, drop, length, Option, Some, None, slice_get, Result, Ok, Err, if◌then◌else◌}
+use Rattle.std.specs.Prelude.{min, ◌-◌, ◌++◌, ◌≡◌, ℕ, Bool, false, List, [], ◌∷◌, take, drop, length, Option, Some, None, slice_get, Result, Ok, Err, if◌then◌else◌}
 use Rattle.guestmem.specs.Address.{access_refusal, index_of}
 use Rattle.guestmem.specs.Item.{Item}
 use Rattle.guestmem.specs.Writes.{byte_writes}
@@ -20,7 +20,7 @@ use Rattle.console.specs.declared.host_bytes.TheConstants.{HOST_BYTES_MAX}
 use Rattle.console.specs.declared.size.ConsoleSize.{ConsoleSize}
 use Rattle.net.specs.Inbox.{is_frame_len, kept_of, frames_with}
 use Rattle.blk.specs.Sectors.{Sector}
-use Rattle.blk.specs.declared.request.Request.{Request}
+use Rattle.blk.specs.Block.{dropped_unless}
 use Rattle.machine.specs.DeviceStep.{device_step, looked_at, wanted_of, MayLook}
 use Rattle.machine.specs.Effect.{Effect, no_effect, sets_on, applied, items_of}
 use Rattle.machine.specs.Outcome.{Outcome, fine, disk_failed, no_memory, outcome_of}
@@ -66,13 +66,14 @@ abbrev pub read_register : Option DeviceState → ℕ → ℕ → Answer
 read_register None offset width = refused NoDevice
 read_register (Some d) offset width = unchanged (Value (register_value_of d offset width))
 
--- The outstanding requests of a block device are those of its queue 0, and are dropped if that queue is not ready.
-abbrev pub kept_requests : List Queue → List Request → List Request
-kept_requests [] requests = []
-kept_requests (q ∷ qs) requests = if q.is_ready then requests else []
+-- Queue 0 is ready.
+abbrev pub is_first_ready : List Queue → Bool
+is_first_ready [] = false
+is_first_ready (q ∷ qs) = q.is_ready
 
+-- The outstanding requests of a block device are those of its queue 0, and are dropped if that queue is not ready.
 abbrev pub kept_kind : List Queue → Kind → Kind
-kept_kind queues (Block sectors read_only id requests) = Block sectors read_only id (kept_requests queues requests)
+kept_kind queues (Block block) = Block (dropped_unless (is_first_ready queues) block)
 kept_kind queues kind = kind
 
 -- A device with these registers: for a queue that is not ready in them the positions are the first ones again, and the requests
@@ -122,13 +123,13 @@ kept_in pool bytes = min (length bytes) (HOST_BYTES_MAX - length pool)
 -- The count of bytes that are kept, or why the input is refused.
 abbrev pub input_of : Kind → List ℕ → Result ℕ Refusal
 input_of (Network mac frames) bytes = if is_frame_len (length bytes) then Ok (kept_of frames bytes) else Err BadFrame
-input_of (Block sectors read_only id requests) bytes = Err WrongKind
+input_of (Block block) bytes = Err WrongKind
 input_of (Console size held) bytes = Ok (kept_in held bytes)
 input_of (Entropy pool) bytes = Ok (kept_in pool bytes)
 
 abbrev pub kind_with_input : Kind → List ℕ → Kind
 kind_with_input (Network mac frames) bytes = if is_frame_len (length bytes) then Network mac (frames_with frames bytes) else Network mac frames
-kind_with_input (Block sectors read_only id requests) bytes = Block sectors read_only id requests
+kind_with_input (Block block) bytes = Block block
 kind_with_input (Console size held) bytes = Console size (held ++ take (kept_in held bytes) bytes)
 kind_with_input (Entropy pool) bytes = Entropy (pool ++ take (kept_in pool bytes) bytes)
 

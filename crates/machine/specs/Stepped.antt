@@ -1,11 +1,15 @@
 -- The answers of steps, as replies. The bytes of a message are in a buffer.
-use Rattle.std.specs.Prelude.{ℕ, List}
-use Rattle.machine.specs.Served.{Served}
-use Rattle.machine.specs.Served as served
+use Rattle.std.specs.Prelude.{ℕ, List, Result, Ok, Err, if◌then◌else◌}
+use Rattle.mmio.specs.State.{Registers, with_common, queue_at}
+use Rattle.mmio.specs.Interrupts.{used_raised, reset_asked}
+use Rattle.mmio.specs.QueueRegisters.{notified_cleared}
+use Rattle.chains.specs.Service.{deed_in}
+use Rattle.chains.specs.declared.served.Served.{Served}
+use Rattle.chains.specs.declared.served.Unserved.{Unserved}
+use Rattle.chains.specs.declared.served.Unserved.TheVariants as why
+use Rattle.machine.specs.DeviceStep.{reply_to}
 use Rattle.machine.specs.declared.reply.Reply.{Reply}
 use Rattle.machine.specs.declared.reply.Reply.TheVariants as replies
-use Rattle.machine.specs.declared.stepped.Answered.{Answered}
-use Rattle.machine.specs.declared.stepped.Answered.TheVariants as answered
 use Rattle.machine.specs.declared.stepped.Stepped.{Stepped}
 use Rattle.machine.specs.declared.stepped.Stepped.TheVariants as stepped
 
@@ -23,8 +27,16 @@ reply_in stepped.NeedsReset sent = replies.NeedsReset
 reply_in stepped.NoMemory sent = replies.NoMemory
 reply_in (stepped.Refused refusal) sent = replies.Refused refusal
 
--- How serving a queue went, where the buffer holds these bytes.
-abbrev pub served_in : Answered → List ℕ → Served
-served_in answered.Empty sent = served.Empty
-served_in answered.Malformed sent = served.Malformed
-served_in (answered.Published stepped is_due) sent = served.Published (reply_in stepped sent) is_due
+-- The reply of a step that looked at a queue, where the call at the queue answered so and the buffer holds these bytes.
+abbrev pub looked_reply : Result Served Unserved → List ℕ → Reply
+looked_reply (Ok s) sent = reply_to (deed_in s.done sent)
+looked_reply (Err why.Empty) sent = replies.Idle
+looked_reply (Err why.Malformed) sent = replies.NeedsReset
+looked_reply (Err why.NoMemory) sent = replies.NoMemory
+
+-- The registers after such a call.
+abbrev pub looked_registers : Registers → ℕ → Result Served Unserved → Registers
+looked_registers r pick (Ok s) = if s.is_due then with_common r (used_raised r.common) else r
+looked_registers r pick (Err why.Empty) = notified_cleared r pick (queue_at r pick)
+looked_registers r pick (Err why.Malformed) = with_common r (reset_asked r.common)
+looked_registers r pick (Err why.NoMemory) = r

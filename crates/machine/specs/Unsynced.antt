@@ -5,7 +5,7 @@ use Rattle.blk.specs.Durable.{owed_at}
 use Rattle.blk.specs.Flush.{flush_failed, flushes_at}
 use Rattle.blk.specs.declared.durable.SyncOwed.{SyncOwed}
 use Rattle.blk.specs.declared.durable.SyncOwed.TheVariants.{Nothing}
-use Rattle.machine.specs.DeviceStep.{advances, requests_of, with_requests}
+use Rattle.machine.specs.DeviceStep.{advances}
 use Rattle.machine.specs.Effect.{Effect, applied, items_of}
 use Rattle.machine.specs.EffectLaws.{IsSameShape}
 use Rattle.machine.specs.Outcome.{disk_failed}
@@ -13,13 +13,28 @@ use Rattle.machine.specs.Seen.{Seen, state_of, all_marks, failed_at, is_flushed_
 use Rattle.machine.specs.Sound.{IsSound}
 use Rattle.machine.specs.State.{DeviceState, MachineState}
 use Rattle.machine.specs.Step.{HasEffect}
+use Rattle.machine.specs.declared.kind.Kind.{Kind}
+use Rattle.machine.specs.declared.kind.Kind.TheVariants.{Block}
 use Rattle.machine.specs.declared.event.Event.TheVariants.{Step}
 use Rattle.machine.specs.declared.reply.Reply.{Reply}
 use Rattle.machine.specs.declared.reply.Reply.TheVariants.{DiskFailed, Moved}
 
+-- The k-th outstanding request, from 0, flushes the disk next. Only a block device has any.
+abbrev pub kind_flushes : Kind → ℕ → Bool
+kind_flushes (Block block) k = flushes_at block k
+kind_flushes kind k = false
+
+abbrev pub kind_owed : ℕ → Kind → ℕ → SyncOwed
+kind_owed features (Block block) k = owed_at features block k
+kind_owed features kind k = Nothing
+
+abbrev pub kind_flush_failed : Kind → ℕ → Kind
+kind_flush_failed (Block block) k = Block (flush_failed block k)
+kind_flush_failed kind k = kind
+
 -- The step of this pick flushes the disk of the device: it advances a request whose next unit is a flush.
 abbrev pub flushes : DeviceState → ℕ → Bool
-flushes d pick = advances d pick && flushes_at (requests_of d.kind) (pick - 1)
+flushes d pick = advances d pick && kind_flushes d.kind (pick - 1)
 
 -- After such a step, if it answered that this is done, the disk is flushed.
 abbrev pub HasFlushed : DeviceState → ℕ → Reply → Bool → Type 0
@@ -34,11 +49,11 @@ makes_flush m dev pick = flushes_if (slice_get m.devices dev) pick
 
 -- What the step of this pick owes before it is made (VIRTIO 1.2, 5.2.6.2).
 abbrev pub owed : DeviceState → ℕ → SyncOwed
-owed d pick = if advances d pick then owed_at d.registers.common.features (requests_of d.kind) (pick - 1) else Nothing
+owed d pick = if advances d pick then kind_owed d.registers.common.features d.kind (pick - 1) else Nothing
 
 -- The device after that step, if its disk failed. Where the step makes no flush, the device stays as it is.
 abbrev pub with_flush_failed : DeviceState → ℕ → DeviceState
-with_flush_failed d pick = if advances d pick then record d { kind = with_requests d.kind (flush_failed (requests_of d.kind) (pick - 1)) } else d
+with_flush_failed d pick = if advances d pick then record d { kind = kind_flush_failed d.kind (pick - 1) } else d
 
 -- The step of this pick was made as one whose disk failed: it has that reply and that effect. But the disk was not called, so the
 -- marks of all disks are as they were, with their counts of failures. No page and no sector was written.

@@ -5,7 +5,7 @@
 
 ghost use Rattle.std.specs.Prelude.{◌≡◌, ◌≤◌, ◌*◌, ◌%◌, IfOk, IfErr};
 ghost use Rattle.guestmem.specs.declared.limits.TheConstants.{PAGE_SIZE, PAGES_MAX};
-ghost use Rattle.machine.specs.Board.{ram_bytes, ram_place, ram_size};
+ghost use Rattle.machine.specs.Board.{ram_bytes, ram_place, ram_region, ram_size};
 
 use crate::new_error::NewError;
 use crate::shape::Shape;
@@ -81,11 +81,36 @@ impl RamOf {
         }
     }
 
+    /// The region, if it is one.
+    pub fn into_region(self) -> Option<Region>
+        ensures { result ≡ ram_region self }
+    {
+        match self {
+            RamOf::Pages(_) => None,
+            RamOf::Region(region) => Some(region),
+        }
+    }
+
     /// Lets it go. The bytes of a region stay where they lie, and are the caller's again.
     pub fn gone(self) {
         match self {
             RamOf::Pages(_) => {}
             RamOf::Region(region) => region.forget(),
         }
+    }
+}
+
+impl<D: Drop> Unmade<D> {
+    /// Why there is no machine. The disks are dropped, and the bytes of a region stay where they lie.
+    pub fn reason(self) -> NewError
+        ensures { result ≡ self.error }
+    {
+        let Unmade {
+            error,
+            ram,
+            disks: _,
+        } = self;
+        ram.gone();
+        error
     }
 }

@@ -9,6 +9,7 @@ use crate::any_ring::AnyRing;
 use crate::reply::Refusal;
 use crate::state::DeviceState;
 use crate::stepped::Stepped;
+use crate::work::Work;
 use blk::{Disk, DiskFault, Fetched, Sectors};
 use console::ConsoleSize;
 use guestmem::{NoMemory, Ram, TouchLog};
@@ -38,7 +39,6 @@ impl<D: Disk> Device<D> {
     ghost use Rattle.mmio.specs.RegisterWrite.{register_write};
     ghost use Rattle.guestmem.specs.Item.{MayPages};
     ghost use Rattle.guestmem.specs.Later.{IsLater};
-    ghost use Rattle.guestmem.specs.Number.{IsBytes};
     ghost use Rattle.machine.specs.Sound.{IsSoundDevice};
     ghost use Rattle.blk.specs.Move.{MaySectors};
     ghost use Rattle.blk.specs.Sectors.{AreWhole, IsFetched, bytes_of, is_bad, is_failed, sector_in};
@@ -125,12 +125,12 @@ impl<D: Disk> Device<D> {
         }
     }
 
+    /// Does one piece of the work of the device, which has this number, on a ring that it makes that of the queue which the pick names.
     #[inline(always)]
     pub(crate) fn step<L: TouchLog>(
         &mut self,
         alloc: Global,
-        number: u8,
-        pick: u8,
+        work: Work,
         ring: &mut AnyRing,
         sent: &mut Vec<u8>,
         ram: &mut Ram,
@@ -139,38 +139,34 @@ impl<D: Disk> Device<D> {
         requires fits { Fits (decoder_in ring.old) ram.old }
         requires sound { IsSoundDevice self.old.state.registers.ram_base (length ram.old.bytes) self.old.state }
         requires capacity { length self.old.sectors ≡ sector_count (made_as self.old.state.kind) }
+        requires whole { AreWhole self.old.sectors }
         requires may { MayPages L.may log.old (length ram.old.bytes) }
-        requires may_sectors { MaySectors L.may log.old number (length self.old.sectors) }
-        ensures step { IsDeviceStep (Touches L.after log.old log.new ram.old ram.new) number self.old.marks.honest ram.old.bytes self.old.sectors self.old.state pick (reply_in result sent.new.items) ram.new.bytes self.new.sectors self.new.state }
+        requires may_sectors { MaySectors L.may log.old work.dev (length self.old.sectors) }
+        ensures step { IsDeviceStep (Touches L.after log.old log.new ram.old ram.new) work.dev self.old.marks.honest ram.old.bytes self.old.sectors self.old.state work.pick (reply_in result sent.new.items) ram.new.bytes self.new.sectors self.new.state }
         ensures marks { self.new.marks ≡ failed_if (is_failure (reply_in result sent.new.items)) self.old.marks }
         ensures unsteady { is_failure (reply_in result sent.new.items) ≡ true → self.old.marks.steady ≡ false }
-        ensures flushed { HasFlushed self.old.state pick (reply_in result sent.new.items) self.new.is_flushed }
+        ensures flushed { HasFlushed self.old.state work.pick (reply_in result sent.new.items) self.new.is_flushed }
         ensures capacity { length self.new.sectors ≡ length self.old.sectors }
-        ensures bytes { IsBytes ram.new.bytes }
         ensures whole { AreWhole self.new.sectors }
         ensures later { IsLater ram.old ram.new }
         ensures fits { Fits (decoder_in ring.new) ram.new }
     {
-        let stepped = match &mut self.disk {
-            Some(sectors) => self
-                .state
-                .step(alloc, number, pick, ring, sectors, sent, ram, log),
-            None => self
-                .state
-                .step_without_disk(alloc, pick, ring, sent, ram, log),
-        };
-        ram.recall();
-        self.recall();
-        stepped
-    }
-
-    /// States for proofs that the sectors of the disk are whole (see the page of `guestmem`).
-    fn recall(&self)
-        ensures { AreWhole self.now.sectors }
-    {
-        if let Some(sectors) = &self.disk {
-            sectors.recall();
+        if self.state.looked_ring(alloc, work.pick, ring) {
+            return match ring {
+                AnyRing::Split(ring) => self.state.look(alloc, work.pick, ring, sent, ram, log),
+                AnyRing::Packed(ring) => self.state.look(alloc, work.pick, ring, sent, ram, log),
+            };
         }
+        let Some(sectors) = &mut self.disk else {
+            return Stepped::Idle;
+        };
+        if self.state.advanced_ring(alloc, work.pick, ring) {
+            return match ring {
+                AnyRing::Split(ring) => self.state.advance(work, ring, sectors, ram, log),
+                AnyRing::Packed(ring) => self.state.advance(work, ring, sectors, ram, log),
+            };
+        }
+        Stepped::Idle
     }
 
     /// How many sectors of its disk are bad.

@@ -3,32 +3,25 @@
 //! A kind holds what the device was made as together with what only such a device has. So no state is of one kind and made as
 //! another, and no proof has a case for it; a new kind adds a case and copies no field.
 //!
-//! With eight requests outstanding a block device has no work at its queue: pick 0 is idle, the queue is not looked at, and no
-//! event note is written, since the driver is not to kick for chains that are not looked at.
+//! With eight requests outstanding a block device has no room, and so no work at its queue: pick 0 is idle, the queue is not looked at,
+//! and no event note is written, since the driver is not to kick for chains that are not looked at.
 
-ghost use Rattle.std.specs.Prelude.{◌≡◌, ◌≤◌, ◌<◌, ℕ, List, length, not, IfOk, OnErr, true, false};
-ghost use Rattle.guestmem.specs.Rises.{Touches};
-ghost use Rattle.chains.specs.Transmit.{sending_in};
-ghost use Rattle.chains.specs.Frame.{MayServe, HasServed, MayLook, HasLooked, IsUntouched};
-ghost use Rattle.blk.specs.Advance.{HasFlushed, IsAfterAdvancing, advance_step};
-ghost use Rattle.blk.specs.Durable.{owed_at};
-ghost use Rattle.blk.specs.Flush.{flush_failed, flushes_at};
-ghost use Rattle.blk.specs.Move.{MaySectors, is_disk_failed};
-ghost use Rattle.blk.specs.Sectors.{AreWhole, IsKept};
-ghost use Rattle.blk.specs.Sound.{AreSound};
-ghost use Rattle.machine.specs.DeviceStep.{has_work, wanted_of, MayRefuse, served_frame, served_message, served_of, served_taking, requests_of, with_requests};
-ghost use Rattle.machine.specs.DeviceWork.{IsServed};
-ghost use Rattle.machine.specs.Shapes.{block_of, configuration_of, first_kind, made_as, sector_count};
-ghost use Rattle.machine.specs.Stepped.{served_in};
-ghost use Rattle.machine.specs.Step.{IsResized, input_of, kept_kind, kind_with_input, written_out};
+ghost use Rattle.std.specs.Prelude.{◌≡◌, length, IfOk, true};
+ghost use Rattle.chains.specs.Frame.{MayLook, HasLooked};
+ghost use Rattle.chains.specs.Served.{HasRun, scene};
+ghost use Rattle.blk.specs.Durable.{is_flush_owed};
+ghost use Rattle.machine.specs.DeviceStep.{has_work, serve, wanted_of, requests_of};
+ghost use Rattle.machine.specs.Shapes.{configuration_of, first_kind, made_as};
+ghost use Rattle.machine.specs.Sound.{AreSoundBeside};
+ghost use Rattle.machine.specs.Step.{IsResized, input_of, is_first_ready, kept_kind, kind_with_input, written_out};
+ghost use Rattle.machine.specs.Unsynced.{kind_flush_failed, kind_flushes, kind_owed};
 ghost use Rattle.mmio.specs.RegisterRead.{register_read};
 
 use crate::reply::Refusal;
 use crate::shape::Shape;
-use crate::stepped::{Answered, Stepped};
-use blk::{Advanced, BlockShape, Disk, ID_SIZE, REQUESTS_MAX, Requests, Sectors, SyncOwed, Taken};
-use chains::{Ring, Transmitted};
-use console::{ConsoleSize, HostBytes, Received, emergency_byte, receive};
+use blk::{Block, SyncOwed};
+use chains::{Ring, Served, Site, Unserved};
+use console::{ConsoleSize, HostBytes, emergency_byte, receive};
 use guestmem::{NoMemory, Ram, TouchLog};
 use mmio::{Queue, Regs};
 use net::{Inbox, is_frame_len};
@@ -47,19 +40,7 @@ pub enum Kind {
     },
 
     /// A block device (VIRTIO 1.2, 5.2).
-    Block {
-        /// How many sectors of 512 bytes its disk has.
-        sectors: u64,
-
-        /// Whether the driver may only read it.
-        read_only: bool,
-
-        /// What it answers to a driver that asks for its id.
-        id: [u8; ID_SIZE],
-
-        /// The requests that it has taken and not yet ended, in the order of taking.
-        requests: Requests,
-    },
+    Block(Block),
 
     /// A console (VIRTIO 1.2, 5.3).
     Console {
@@ -72,6 +53,18 @@ pub enum Kind {
 
     /// An entropy device (VIRTIO 1.2, 5.4): the bytes that the host has put in and the guest has not yet taken.
     Entropy(HostBytes),
+}
+
+/// What a step at a queue is told.
+#[derive(Clone, Copy)]
+pub(crate) struct Turn {
+    pub site: Site,
+
+    /// The features that the driver accepted.
+    pub features: u64,
+
+    /// The number of the queue.
+    pub number: u8,
 }
 
 impl Kind {
@@ -88,12 +81,7 @@ impl Kind {
                 sectors,
                 read_only,
                 id,
-            } => Ok(Kind::Block {
-                sectors,
-                read_only,
-                id,
-                requests: Requests::new(alloc)?,
-            }),
+            } => Ok(Kind::Block(Block::new(alloc, sectors, read_only, id)?)),
             Shape::Console => Ok(Kind::Console {
                 size: ConsoleSize::FIRST,
                 held: HostBytes::new(alloc)?,
@@ -108,15 +96,10 @@ impl Kind {
     {
         match self {
             Kind::Network { mac, .. } => Shape::Net { mac: *mac },
-            Kind::Block {
-                sectors,
-                read_only,
-                id,
-                ..
-            } => Shape::Block {
-                sectors: *sectors,
-                read_only: *read_only,
-                id: *id,
+            Kind::Block(block) => Shape::Block {
+                sectors: block.sectors,
+                read_only: block.read_only,
+                id: block.id,
             },
             Kind::Console { .. } => Shape::Console,
             Kind::Entropy(_) => Shape::Entropy,
@@ -129,8 +112,8 @@ impl Kind {
     {
         match self {
             Kind::Network { mac, .. } => registers.read(offset, width, mac.as_slice()),
-            Kind::Block { sectors, .. } => {
-                registers.read(offset, width, &blk::configuration(*sectors))
+            Kind::Block(block) => {
+                registers.read(offset, width, &blk::configuration(block.sectors))
             }
             Kind::Console { size, .. } => registers.read(offset, width, &size.configuration()),
             Kind::Entropy(_) => registers.read(offset, width, &[]),
@@ -143,7 +126,7 @@ impl Kind {
     {
         match self {
             Kind::Network { inbox, .. } => number > 0 || !inbox.is_empty(),
-            Kind::Block { requests, .. } => requests.len() < REQUESTS_MAX,
+            Kind::Block(block) => block.has_room(),
             Kind::Console { held, .. } => number > 0 || !held.is_empty(),
             Kind::Entropy(pool) => !pool.is_empty(),
         }
@@ -154,24 +137,17 @@ impl Kind {
         ensures { result ≡ length (requests_of self.now) }
     {
         match self {
-            Kind::Block { requests, .. } => requests.len(),
+            Kind::Block(block) => block.requests.len(),
             Kind::Network { .. } | Kind::Console { .. } | Kind::Entropy(_) => 0,
         }
     }
 
-    /// Called after each register write: drops the outstanding requests if queue 0 is no longer ready.
-    pub(crate) fn keep(&mut self, queues: &[Queue])
+    /// Called after each register write: drops the outstanding requests unless queue 0 is ready.
+    pub(crate) fn drop_requests_of(&mut self, queues: &[Queue])
         ensures { self.new ≡ kept_kind queues.now self.old }
     {
         match self {
-            Kind::Block { requests, .. } => match queues {
-                [first, ..] => {
-                    if !first.is_ready {
-                        requests.clear();
-                    }
-                }
-                [] => requests.clear(),
-            },
+            Kind::Block(block) => block.drop_requests_unless(is_first_ready(queues)),
             Kind::Network { .. } | Kind::Console { .. } | Kind::Entropy(_) => {}
         }
     }
@@ -188,7 +164,7 @@ impl Kind {
                 }
                 Ok(inbox.push(bytes) as u32)
             }
-            Kind::Block { .. } => Err(Refusal::WrongKind),
+            Kind::Block(_) => Err(Refusal::WrongKind),
             Kind::Console { held, .. } => Ok(held.put_in(bytes) as u32),
             Kind::Entropy(pool) => Ok(pool.put_in(bytes) as u32),
         }
@@ -203,7 +179,7 @@ impl Kind {
                 old.resize(size, registers);
                 Ok(())
             }
-            Kind::Network { .. } | Kind::Block { .. } | Kind::Entropy(_) => Err(Refusal::WrongKind),
+            Kind::Network { .. } | Kind::Block(_) | Kind::Entropy(_) => Err(Refusal::WrongKind),
         }
     }
 
@@ -213,201 +189,74 @@ impl Kind {
     {
         match self {
             Kind::Console { .. } => emergency_byte(offset, width, value),
-            Kind::Network { .. } | Kind::Block { .. } | Kind::Entropy(_) => None,
+            Kind::Network { .. } | Kind::Block(_) | Kind::Entropy(_) => None,
         }
     }
 
-    /// Serves the queue `number`, in a RAM that begins at the guest-physical address `base`. The bytes of a message that it sends go
-    /// into the buffer. Its only error is out of memory, and then nothing has changed.
+    /// Serves a queue. The bytes of a message that it sends go into the buffer. Where memory is refused nothing has changed.
     #[inline(always)]
     pub(crate) fn serve<R: Ring, L: TouchLog>(
         &mut self,
-        alloc: Global,
-        features: u64,
-        number: u8,
+        turn: Turn,
         ring: &mut R,
-        base: u64,
         sent: &mut Vec<u8>,
         ram: &mut Ram,
         log: &mut L,
-    ) -> Result<Answered, NoMemory>
+    ) -> Result<Served, Unserved>
         requires ready { MayLook L.may ram.old (R.state ring.old) (R.decoder ring.old) log.old }
-        requires base { base ≡ (R.state ring.old).base }
-        requires room { has_work self.old number ≡ true }
-        requires sound { AreSound (length ram.old.bytes) (R.state ring.old) (block_of (made_as self.old) features) (requests_of self.old) }
-        ensures served { IfOk result (λ answered. IsServed (Touches L.after log.old log.new ram.old ram.new) ram.old.bytes (R.state ring.old) features self.old number (served_in answered sent.new.items) ram.new.bytes (R.state ring.new) self.new) }
-        ensures memory { OnErr result (MayRefuse (wanted_of self.old number) ram.old.bytes (R.state ring.old)) }
-        ensures untouched { OnErr result (IsUntouched ram.old ram.new (R.state ring.old) (R.state ring.new) log.old log.new) }
-        ensures kind_stays { OnErr result (self.new ≡ self.old) }
+        requires base { turn.site.base ≡ (R.state ring.old).base }
+        requires room { has_work self.old turn.number ≡ true }
+        requires sound { AreSoundBeside (length ram.old.bytes) (R.state ring.old) turn.features self.old }
+        ensures served { HasRun L.after (scene ram.old log.old (R.state ring.old) self.old) (scene ram.new log.new (R.state ring.new) self.new) (wanted_of self.old turn.number) (λ ram q kind seen. serve turn.features kind turn.number ram q seen) result sent.new.items }
         ensures after { HasLooked L.may ram.old ram.new (R.decoder ring.new) log.new }
     {
-        let shape = self.as_block(features);
         match self {
             Kind::Network { inbox, .. } => {
-                if number > 0 {
-                    return Ok(served_message(net::transmit(alloc, ring, base, sent, ram, log)?));
+                if turn.number > 0 {
+                    return net::transmit(turn.site, ring, sent, ram, log);
                 }
-                Ok(served_frame(net::receive(alloc, ring, base, inbox, ram, log)?))
+                net::receive(turn.site, ring, inbox, ram, log)
             }
-            Kind::Block { requests, .. } => {
-                Ok(served_taking(requests.take(alloc, ring, base, &shape, ram, log)?))
-            }
+            Kind::Block(block) => block.take(turn.site, turn.features, ring, ram, log),
             Kind::Console { held, .. } => {
-                if number > 0 {
-                    return Ok(served_message(console::transmit(
-                        alloc, ring, base, sent, ram, log,
-                    )?));
+                if turn.number > 0 {
+                    return console::transmit(turn.site, ring, sent, ram, log);
                 }
-                Ok(served(receive(alloc, ring, base, held, ram, log)?))
+                receive(turn.site, ring, held, ram, log)
             }
-            Kind::Entropy(pool) => Ok(served(receive(alloc, ring, base, pool, ram, log)?)),
-        }
-    }
-
-    /// Advances the k-th outstanding request, from 0, by one unit, or ends it, in a RAM that begins at the guest-physical address
-    /// `base`. A device that is no block device has none.
-    pub(crate) fn advance<R: Ring, D: Disk, L: TouchLog>(
-        &mut self,
-        features: u64,
-        k: usize,
-        ring: &mut R,
-        base: u64,
-        sectors: &mut Sectors<D>,
-        device: u8,
-        ram: &mut Ram,
-        log: &mut L,
-    ) -> Advanced
-        requires ready { MayServe L.may (length ram.old.bytes) (R.state ring.old) log.old }
-        requires base { base ≡ (R.state ring.old).base }
-        requires capacity { length sectors.old.content ≡ sector_count (made_as self.old) }
-        requires sound { AreSound (length ram.old.bytes) (R.state ring.old) (block_of (made_as self.old) features) (requests_of self.old) }
-        requires may_sectors { MaySectors L.may log.old device (length sectors.old.content) }
-        ensures changes { IsAfterAdvancing (Touches L.after log.old log.new ram.old ram.new) sectors.old.honest device ram.old.bytes sectors.old.content (λ given. advance_step (block_of (made_as self.old) features) ram.old.bytes (R.state ring.old) given (requests_of self.old) k (not (is_disk_failed result))) result ram.new.bytes (R.state ring.new) sectors.new.content (requests_of self.new) }
-        ensures kind { self.new ≡ with_requests self.old (requests_of self.new) }
-        ensures kept { IsKept sectors.old (is_disk_failed result) sectors.new }
-        ensures flushed { HasFlushed (requests_of self.old) k result sectors.new.is_flushed }
-        ensures whole { AreWhole sectors.new.content }
-        ensures sound { AreSound (length ram.new.bytes) (R.state ring.new) (block_of (made_as self.old) features) (requests_of self.new) }
-        ensures after { HasServed L.may ram.old ram.new log.new }
-        ensures decoder { R.decoder ring.new ≡ R.decoder ring.old }
-    {
-        let shape = self.as_block(features);
-        match self {
-            Kind::Block { requests, .. } => {
-                requests.advance(k, ring, base, &shape, sectors, device, ram, log)
-            }
-            Kind::Network { .. } | Kind::Console { .. } | Kind::Entropy(_) => {
-                sectors.recall();
-                Advanced::Idle
-            }
-        }
-    }
-
-    /// Whether the k-th outstanding request, from 0, flushes the disk next.
-    pub(crate) fn flushes_at(&self, k: usize) -> bool
-        ensures { result ≡ flushes_at (requests_of self.now) k }
-    {
-        match self {
-            Kind::Block { requests, .. } => requests.flushes_at(k),
-            Kind::Network { .. } | Kind::Console { .. } | Kind::Entropy(_) => false,
+            Kind::Entropy(pool) => receive(turn.site, ring, pool, ram, log),
         }
     }
 
     /// What the next step of the k-th outstanding request, from 0, owes.
-    pub(crate) fn must_sync(&self, k: usize, features: u64) -> SyncOwed
-        ensures { result ≡ owed_at features (requests_of self.now) k }
+    pub(crate) fn due_sync(&self, k: usize, features: u64) -> SyncOwed
+        ensures owed { result ≡ kind_owed features self.now k }
+        ensures flush { is_flush_owed result ≡ kind_flushes self.now k }
     {
         match self {
-            Kind::Block { requests, .. } => requests.must_sync(k, features),
+            Kind::Block(block) => block.due_sync(k, features),
             Kind::Network { .. } | Kind::Console { .. } | Kind::Entropy(_) => SyncOwed::Nothing,
         }
     }
 
     /// Fails the k-th outstanding request, from 0, if it flushes the disk next. The result says whether it does.
     pub(crate) fn fail_flush(&mut self, k: usize) -> bool
-        ensures was { result ≡ flushes_at (requests_of self.old) k }
-        ensures kind { self.new ≡ with_requests self.old (flush_failed (requests_of self.old) k) }
+        ensures was { result ≡ kind_flushes self.old k }
+        ensures kind { self.new ≡ kind_flush_failed self.old k }
     {
         match self {
-            Kind::Block { requests, .. } => requests.fail_flush(k),
+            Kind::Block(block) => block.fail_flush(k),
             Kind::Network { .. } | Kind::Console { .. } | Kind::Entropy(_) => false,
         }
     }
-
-    /// What it is as a block device whose driver accepted these features. Another device has no sectors.
-    fn as_block(&self, features: u64) -> BlockShape
-        ensures { result ≡ block_of (made_as self.now) features }
-    {
-        match self {
-            Kind::Block {
-                sectors,
-                read_only,
-                id,
-                ..
-            } => BlockShape::new(*sectors, *read_only, *id, features),
-            Kind::Network { .. } | Kind::Console { .. } | Kind::Entropy(_) => {
-                BlockShape::new(0, false, [0; ID_SIZE], 0)
-            }
-        }
-    }
 }
 
-/// How a queue of frames for the guest was served.
-fn served_frame(received: net::Received) -> Answered
-    ensures { (sent : List ℕ) → served_in result sent ≡ served_frame received }
+/// Whether queue 0 is ready.
+fn is_first_ready(queues: &[Queue]) -> bool
+    ensures { result ≡ is_first_ready queues.now }
 {
-    match received {
-        net::Received::Empty => Answered::Empty,
-        net::Received::Malformed => Answered::Malformed,
-        net::Received::Dropped => Answered::Published {
-            stepped: Stepped::Dropped,
-            is_due: false,
-        },
-        net::Received::Completed { len, is_due } => Answered::Published {
-            stepped: Stepped::Completed(len),
-            is_due,
-        },
-    }
-}
-
-/// How a queue of messages was served.
-fn served_message(transmitted: Transmitted) -> Answered
-    ensures { (sent : List ℕ) → served_in result sent ≡ served_message (sending_in transmitted sent) }
-{
-    match transmitted {
-        Transmitted::Empty => Answered::Empty,
-        Transmitted::Malformed => Answered::Malformed,
-        Transmitted::Sent { is_due } => Answered::Published {
-            stepped: Stepped::Sent,
-            is_due,
-        },
-    }
-}
-
-/// How a queue of requests was served.
-fn served_taking(taken: Taken) -> Answered
-    ensures { (sent : List ℕ) → served_in result sent ≡ served_taking taken }
-{
-    match taken {
-        Taken::Empty => Answered::Empty,
-        Taken::Malformed => Answered::Malformed,
-        Taken::Taken => Answered::Published {
-            stepped: Stepped::Taken,
-            is_due: false,
-        },
-    }
-}
-
-/// How a queue of buffers for bytes was served.
-fn served(received: Received) -> Answered
-    ensures { (sent : List ℕ) → served_in result sent ≡ served_of received }
-{
-    match received {
-        Received::Empty => Answered::Empty,
-        Received::Malformed => Answered::Malformed,
-        Received::Completed { len, is_due } => Answered::Published {
-            stepped: Stepped::Completed(len),
-            is_due,
-        },
+    match queues {
+        [] => false,
+        [first, ..] => first.is_ready,
     }
 }

@@ -3,8 +3,7 @@
 //! A device's state is what all devices have, positions and host bytes among it, and its kind: saving a device is saving this.
 //! A queue that is not ready has the first positions; a write of QueueReady 0 sets them, and so does a reset.
 //!
-//! The layout is told apart once a step: `look` and `advance` match the ring of a queue, and serve it as a `SplitRing` or a
-//! `PackedRing`.
+//! A look and an advance are made on a ring in its layout, a `SplitRing` or a `PackedRing`: `Device::step` tells them apart.
 
 mod first_pick;
 mod unsynced;
@@ -13,18 +12,19 @@ ghost use Rattle.std.specs.Prelude.{◌≡◌, ◌≤◌, ◌<◌, ℕ, List, If
 ghost use Rattle.guestmem.specs.Rises.{Touches};
 ghost use Rattle.mmio.specs.State.{with_common};
 ghost use Rattle.mmio.specs.Interrupts.{used_raised};
-ghost use Rattle.machine.specs.DeviceStep.{reply_of, reply_to_advance, is_advance_due, registers_after};
+ghost use Rattle.machine.specs.DeviceStep.{reply_to_advance, is_advance_due};
 ghost use Rattle.machine.specs.QueuePositions.{first_positions, kept_positions};
 ghost use Rattle.machine.specs.Shapes.{device_id_of, offered_of, queues_of};
-ghost use Rattle.machine.specs.Stepped.{reply_in, served_in};
+ghost use Rattle.machine.specs.Stepped.{looked_registers, reply_in};
 
 use crate::any_ring::AnyRing;
-use crate::kind::Kind;
+use crate::kind::{Kind, Turn};
 use crate::reply::Refusal;
 use crate::shape::Shape;
-use crate::stepped::{Answered, Stepped};
-use blk::{Advanced, Disk, Sectors};
-use chains::{Positions, Ring};
+use crate::stepped::Stepped;
+use crate::work::Work;
+use blk::{Advanced, Disk, Job, Sectors};
+use chains::{Positions, Ring, Served, Site, Unserved};
 use console::{ConsoleSize, entropy};
 use guestmem::{NoMemory, Ram, TouchLog};
 use mmio::{Common, Effect, QUEUE_COUNT_MAX, Queue, Regs};
@@ -50,16 +50,16 @@ impl Model for DeviceState {
 }
 
 impl DeviceState {
-    ghost use Rattle.std.specs.Prelude.{◌≡◌, ◌≤◌, ◌<◌, ℕ, List, [], true, false, IfOk, None, Some, length, take};
+    ghost use Rattle.std.specs.Prelude.{◌≡◌, ◌≤◌, ◌<◌, ℕ, List, Bool, true, false, IfOk, None, Some, length, take};
     ghost use Rattle.guestmem.specs.Item.{MayPages};
     ghost use Rattle.guestmem.specs.Later.{IsLater};
     ghost use Rattle.guestmem.specs.Memory.{Memory};
     ghost use Rattle.chains.specs.Decoder.{Fits};
     ghost use Rattle.machine.specs.AnyRing.{ring_in, decoder_in};
-    ghost use Rattle.blk.specs.Move.{MaySectors, is_disk_failed};
-    ghost use Rattle.blk.specs.Sectors.{IsKept, AreWhole};
+    ghost use Rattle.blk.specs.Move.{MaySectors};
+    ghost use Rattle.blk.specs.Sectors.{IsKept, AreWhole, Sector};
     ghost use Rattle.machine.specs.DeviceStep.{advances, advanced_at, looks, looked_at};
-    ghost use Rattle.machine.specs.DeviceWork.{IsDeviceStep, IsLookedStep, IsAdvancedStep};
+    ghost use Rattle.machine.specs.DeviceWork.{IsDeviceStep};
     ghost use Rattle.machine.specs.Outcome.{is_failure};
     ghost use Rattle.machine.specs.Shapes.{first_device, made_as, saved_device, sector_count};
     ghost use Rattle.mmio.specs.RegisterWrite.{register_write};
@@ -172,7 +172,7 @@ impl DeviceState {
         let effect = self.registers.write(offset, width, value);
         let queues = self.registers.queues();
         self.positions = kept(queues, self.positions);
-        self.kind.keep(queues);
+        self.kind.drop_requests_of(queues);
         (out, effect)
     }
 
@@ -191,96 +191,9 @@ impl DeviceState {
         self.kind.input(bytes)
     }
 
-    /// Does one piece of the device's work, with the sectors of its disk. `device` is the number under which these are
-    /// reported to the log.
+    /// Looks at the next chain of a queue. The disk is not called, and nothing of it is changed.
     #[inline(always)]
-    pub(crate) fn step<D: Disk, L: TouchLog>(
-        &mut self,
-        alloc: Global,
-        device: u8,
-        pick: u8,
-        ring: &mut AnyRing,
-        sectors: &mut Sectors<D>,
-        sent: &mut Vec<u8>,
-        ram: &mut Ram,
-        log: &mut L,
-    ) -> Stepped
-        requires fits { Fits (decoder_in ring.old) ram.old }
-        requires sound { IsSoundDevice self.old.registers.ram_base (length ram.old.bytes) self.old }
-        requires capacity { length sectors.old.content ≡ sector_count (made_as self.old.kind) }
-        requires may { MayPages L.may log.old (length ram.old.bytes) }
-        requires may_sectors { MaySectors L.may log.old device (length sectors.old.content) }
-        ensures step { IsDeviceStep (Touches L.after log.old log.new ram.old ram.new) device sectors.old.honest ram.old.bytes sectors.old.content self.old pick (reply_in result sent.new.items) ram.new.bytes sectors.new.content self.new }
-        ensures kept { IsKept sectors.old (is_failure (reply_in result sent.new.items)) sectors.new }
-        ensures flushed { HasFlushed self.old pick (reply_in result sent.new.items) sectors.new.is_flushed }
-        ensures later { IsLater ram.old ram.new }
-        ensures fits { Fits (decoder_in ring.new) ram.new }
-    {
-        sectors.recall();
-        if self.looked_ring(alloc, pick, ring) {
-            return self.look(alloc, pick, ring, sent, ram, log);
-        }
-        if self.advanced_ring(alloc, pick, ring) {
-            return self.advance(device, pick, ring, sectors, ram, log);
-        }
-        Stepped::Idle
-    }
-
-    /// Does one piece of the work of a device that has no disk.
-    #[inline(always)]
-    pub(crate) fn step_without_disk<L: TouchLog>(
-        &mut self,
-        alloc: Global,
-        pick: u8,
-        ring: &mut AnyRing,
-        sent: &mut Vec<u8>,
-        ram: &mut Ram,
-        log: &mut L,
-    ) -> Stepped
-        requires fits { Fits (decoder_in ring.old) ram.old }
-        requires sound { IsSoundDevice self.old.registers.ram_base (length ram.old.bytes) self.old }
-        requires without { sector_count (made_as self.old.kind) ≡ 0 }
-        requires may { MayPages L.may log.old (length ram.old.bytes) }
-        ensures step { (device : ℕ) → IsDeviceStep (Touches L.after log.old log.new ram.old ram.new) device true ram.old.bytes [] self.old pick (reply_in result sent.new.items) ram.new.bytes [] self.new }
-        ensures fine { is_failure (reply_in result sent.new.items) ≡ false }
-        ensures later { IsLater ram.old ram.new }
-        ensures fits { Fits (decoder_in ring.new) ram.new }
-    {
-        if self.looked_ring(alloc, pick, ring) {
-            return self.look(alloc, pick, ring, sent, ram, log);
-        }
-        Stepped::Idle
-    }
-
-    /// Looks at the next chain of a queue.
-    #[inline(always)]
-    fn look<L: TouchLog>(
-        &mut self,
-        alloc: Global,
-        pick: u8,
-        ring: &mut AnyRing,
-        sent: &mut Vec<u8>,
-        ram: &mut Ram,
-        log: &mut L,
-    ) -> Stepped
-        requires sound { IsSoundDevice self.old.registers.ram_base (length ram.old.bytes) self.old }
-        requires looked { looked_at self.old pick ≡ Some (ring_in ring.old) }
-        requires fits { Fits (decoder_in ring.old) ram.old }
-        requires there { pick < length self.old.registers.queues }
-        requires may { MayPages L.may log.old (length ram.old.bytes) }
-        ensures looked { IsLookedStep (Touches L.after log.old log.new ram.old ram.new) ram.old.bytes self.old pick (ring_in ring.old) (reply_in result sent.new.items) ram.new.bytes self.new }
-        ensures later { IsLater ram.old ram.new }
-        ensures fits { Fits (decoder_in ring.new) ram.new }
-    {
-        match ring {
-            AnyRing::Split(ring) => self.look_in(alloc, pick, ring, sent, ram, log),
-            AnyRing::Packed(ring) => self.look_in(alloc, pick, ring, sent, ram, log),
-        }
-    }
-
-    /// As `look`, with the ring in its layout.
-    #[inline(always)]
-    fn look_in<R: Ring, L: TouchLog>(
+    pub(crate) fn look<R: Ring, L: TouchLog>(
         &mut self,
         alloc: Global,
         pick: u8,
@@ -294,60 +207,30 @@ impl DeviceState {
         requires fits { Fits (R.decoder ring.old) ram.old }
         requires there { pick < length self.old.registers.queues }
         requires may { MayPages L.may log.old (length ram.old.bytes) }
-        ensures looked { IsLookedStep (Touches L.after log.old log.new ram.old ram.new) ram.old.bytes self.old pick (R.state ring.old) (reply_in result sent.new.items) ram.new.bytes self.new }
+        ensures step { (number : ℕ) (honest : Bool) (content : List Sector) → AreWhole content → IsDeviceStep (Touches L.after log.old log.new ram.old ram.new) number honest ram.old.bytes content self.old pick (reply_in result sent.new.items) ram.new.bytes content self.new }
+        ensures fine { is_failure (reply_in result sent.new.items) ≡ false }
         ensures later { IsLater ram.old ram.new }
         ensures fits { Fits (R.decoder ring.new) ram.new }
     {
-        let features = self.registers.features();
-        let base = self.registers.ram_base();
-        match self
-            .kind
-            .serve(alloc, features, pick, ring, base, sent, ram, log)
-        {
-            Ok(answered) => {
-                let stepped = tell(&mut self.registers, pick, answered);
-                self.positions[pick as usize] = ring.positions();
-                stepped
-            }
-            Err(_) => Stepped::NoMemory,
-        }
+        let turn = Turn {
+            site: Site {
+                alloc,
+                base: self.registers.ram_base(),
+            },
+            features: self.registers.features(),
+            number: pick,
+        };
+        let served = self.kind.serve(turn, ring, sent, ram, log);
+        self.positions[pick as usize] = ring.positions();
+        tell(&mut self.registers, pick, served);
+        Stepped::of_served(served)
     }
 
-    /// Advances an outstanding request by one unit, or ends it.
+    /// Advances an outstanding request by one unit, or ends it. Sectors are reported to the log under the number of the device.
     #[inline(always)]
-    fn advance<D: Disk, L: TouchLog>(
+    pub(crate) fn advance<R: Ring, D: Disk, L: TouchLog>(
         &mut self,
-        device: u8,
-        pick: u8,
-        ring: &mut AnyRing,
-        sectors: &mut Sectors<D>,
-        ram: &mut Ram,
-        log: &mut L,
-    ) -> Stepped
-        requires sound { IsSoundDevice self.old.registers.ram_base (length ram.old.bytes) self.old }
-        requires capacity { length sectors.old.content ≡ sector_count (made_as self.old.kind) }
-        requires advanced { advanced_at self.old pick ≡ Some (ring_in ring.old) }
-        requires fits { Fits (decoder_in ring.old) ram.old }
-        requires may { MayPages L.may log.old (length ram.old.bytes) }
-        requires may_sectors { MaySectors L.may log.old device (length sectors.old.content) }
-        ensures advanced { (sent : List ℕ) → IsAdvancedStep (Touches L.after log.old log.new ram.old ram.new) device sectors.old.honest ram.old.bytes sectors.old.content self.old pick (ring_in ring.old) (reply_in result sent) ram.new.bytes sectors.new.content self.new }
-        ensures kept { (sent : List ℕ) → IsKept sectors.old (is_failure (reply_in result sent)) sectors.new }
-        ensures flushed { (sent : List ℕ) → HasFlushed self.old pick (reply_in result sent) sectors.new.is_flushed }
-        ensures later { IsLater ram.old ram.new }
-        ensures fits { Fits (decoder_in ring.new) ram.new }
-    {
-        match ring {
-            AnyRing::Split(ring) => self.advance_in(device, pick, ring, sectors, ram, log),
-            AnyRing::Packed(ring) => self.advance_in(device, pick, ring, sectors, ram, log),
-        }
-    }
-
-    /// As `advance`, with the ring in its layout.
-    #[inline(always)]
-    fn advance_in<R: Ring, D: Disk, L: TouchLog>(
-        &mut self,
-        device: u8,
-        pick: u8,
+        work: Work,
         ring: &mut R,
         sectors: &mut Sectors<D>,
         ram: &mut Ram,
@@ -355,22 +238,27 @@ impl DeviceState {
     ) -> Stepped
         requires sound { IsSoundDevice self.old.registers.ram_base (length ram.old.bytes) self.old }
         requires capacity { length sectors.old.content ≡ sector_count (made_as self.old.kind) }
-        requires advanced { advanced_at self.old pick ≡ Some (R.state ring.old) }
+        requires unlooked { looked_at self.old work.pick ≡ None }
+        requires advanced { advanced_at self.old work.pick ≡ Some (R.state ring.old) }
         requires fits { Fits (R.decoder ring.old) ram.old }
         requires may { MayPages L.may log.old (length ram.old.bytes) }
-        requires may_sectors { MaySectors L.may log.old device (length sectors.old.content) }
-        ensures advanced { (sent : List ℕ) → IsAdvancedStep (Touches L.after log.old log.new ram.old ram.new) device sectors.old.honest ram.old.bytes sectors.old.content self.old pick (R.state ring.old) (reply_in result sent) ram.new.bytes sectors.new.content self.new }
+        requires may_sectors { MaySectors L.may log.old work.dev (length sectors.old.content) }
+        ensures step { (sent : List ℕ) → IsDeviceStep (Touches L.after log.old log.new ram.old ram.new) work.dev sectors.old.honest ram.old.bytes sectors.old.content self.old work.pick (reply_in result sent) ram.new.bytes sectors.new.content self.new }
         ensures kept { (sent : List ℕ) → IsKept sectors.old (is_failure (reply_in result sent)) sectors.new }
-        ensures flushed { (sent : List ℕ) → HasFlushed self.old pick (reply_in result sent) sectors.new.is_flushed }
+        ensures flushed { (sent : List ℕ) → HasFlushed self.old work.pick (reply_in result sent) sectors.new.is_flushed }
+        ensures whole { AreWhole sectors.new.content }
         ensures later { IsLater ram.old ram.new }
         ensures fits { Fits (R.decoder ring.new) ram.new }
     {
-        let k = pick as usize - 1;
-        let features = self.registers.features();
-        let base = self.registers.ram_base();
-        let advanced = self
-            .kind
-            .advance(features, k, ring, base, sectors, device, ram, log);
+        let job = Job {
+            k: work.pick as usize - 1,
+            device: work.dev,
+            base: self.registers.ram_base(),
+        };
+        let Kind::Block(block) = &mut self.kind else {
+            unreachable!()
+        };
+        let advanced = block.advance(job, ring, sectors, ram, log);
         self.positions[0] = ring.positions();
         raise_if(&mut self.registers, is_due(advanced));
         reply_to_advance(advanced)
@@ -378,7 +266,7 @@ impl DeviceState {
 
     /// Sets `ring` to queue 0 if `pick` names an outstanding request; returns whether it does.
     #[inline(always)]
-    fn advanced_ring(&self, alloc: Global, pick: u8, ring: &mut AnyRing) -> bool
+    pub(crate) fn advanced_ring(&self, alloc: Global, pick: u8, ring: &mut AnyRing) -> bool
         requires sound { (len : ℕ) × IsSoundDevice self.now.registers.ram_base len self.now }
         ensures ring { result ≡ true → advanced_at self.now pick ≡ Some (ring_in ring.new) }
         ensures none { result ≡ false → advanced_at self.now pick ≡ None }
@@ -405,7 +293,7 @@ impl DeviceState {
 
     /// Makes the ring the one that a step with this pick looks at, and says whether it looks at one.
     #[inline(always)]
-    fn looked_ring(&self, alloc: Global, pick: u8, ring: &mut AnyRing) -> bool
+    pub(crate) fn looked_ring(&self, alloc: Global, pick: u8, ring: &mut AnyRing) -> bool
         requires sound { (len : ℕ) × IsSoundDevice self.now.registers.ram_base len self.now }
         ensures ring { result ≡ true → looked_at self.now pick ≡ Some (ring_in ring.new) }
         ensures none { result ≡ false → looked_at self.now pick ≡ None }
@@ -460,26 +348,17 @@ fn is_due(advanced: Advanced) -> bool
     }
 }
 
-/// Reports to the driver by the registers how a queue was served, and returns the reply to the step.
+/// Reports to the driver by the registers how serving a queue ended.
 #[inline(always)]
-fn tell(registers: &mut Regs, pick: u8, answered: Answered) -> Stepped
+fn tell(registers: &mut Regs, pick: u8, served: Result<Served, Unserved>)
     requires { pick < length registers.old.queues }
-    ensures reply { (sent : List ℕ) → reply_in result sent ≡ reply_of (served_in answered sent) }
-    ensures registers { (sent : List ℕ) → registers.new ≡ registers_after registers.old pick (served_in answered sent) }
+    ensures { registers.new ≡ looked_registers registers.old pick served }
 {
-    match answered {
-        Answered::Empty => {
-            registers.clear_notified(pick);
-            Stepped::Idle
-        }
-        Answered::Malformed => {
-            registers.ask_reset();
-            Stepped::NeedsReset
-        }
-        Answered::Published { stepped, is_due } => {
-            raise_if(registers, is_due);
-            stepped
-        }
+    match served {
+        Ok(served) => raise_if(registers, served.is_due),
+        Err(Unserved::Empty) => registers.clear_notified(pick),
+        Err(Unserved::Malformed) => registers.ask_reset(),
+        Err(Unserved::NoMemory) => {}
     }
 }
 

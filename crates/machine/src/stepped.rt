@@ -4,10 +4,11 @@
 //! buffer takes memory only for a message that is longer than all before it. In the definitions a step has one reply, with its
 //! bytes; `reply_in` puts the two together.
 
-ghost use Rattle.std.specs.Prelude.{◌≡◌};
-ghost use Rattle.machine.specs.Stepped.{reply_in};
+ghost use Rattle.std.specs.Prelude.{◌≡◌, ℕ, List};
+ghost use Rattle.machine.specs.Stepped.{looked_reply, reply_in};
 
 use crate::reply::{Refusal, Reply};
+use chains::{Done, Served, Unserved};
 use guestmem::Bytes;
 
 /// What a machine answers to a step of a device that leaves the bytes of a message in a buffer of the caller. Each answer is that of
@@ -49,6 +50,24 @@ pub enum Stepped {
 }
 
 impl Stepped {
+    /// The answer of a step at a queue, where the call at the queue ended so.
+    #[inline(always)]
+    pub(crate) fn of_served(served: Result<Served, Unserved>) -> Stepped
+        ensures { (sent : List ℕ) → reply_in result sent ≡ looked_reply served sent }
+    {
+        match served {
+            Ok(served) => match served.done {
+                Done::Taken => Stepped::Taken,
+                Done::Completed(len) => Stepped::Completed(len),
+                Done::Sent => Stepped::Sent,
+                Done::Dropped => Stepped::Dropped,
+            },
+            Err(Unserved::Empty) => Stepped::Idle,
+            Err(Unserved::Malformed) => Stepped::NeedsReset,
+            Err(Unserved::NoMemory) => Stepped::NoMemory,
+        }
+    }
+
     /// The reply of the step that left these bytes in the buffer.
     pub fn reply(self, sent: Vec<u8>) -> Reply
         ensures { result ≡ reply_in self sent.items }
@@ -67,17 +86,4 @@ impl Stepped {
             Stepped::Refused(refusal) => Reply::Refused(refusal),
         }
     }
-}
-
-/// How serving a queue went.
-#[derive(Clone, Copy)]
-pub(crate) enum Answered {
-    /// The queue was empty, and the event note is written.
-    Empty,
-
-    /// The chain is malformed. It stays.
-    Malformed,
-
-    /// The queue was served, as this answer reports; a chain was published or not. An interrupt is due or not.
-    Published { stepped: Stepped, is_due: bool },
 }

@@ -28,6 +28,6 @@ pub use frame::is_frame_len;
 pub use header::HEADER_SIZE;
 pub use inbox::Inbox;
 pub use limits::{FRAME_MAX, FRAME_MIN, INBOX_MAX};
-pub use receiving::{Received, receive};
+pub use receiving::receive;
 pub use shape::{DEVICE_ID, FEATURES, MAC, QUEUE_COUNT};
 pub use transmitting::transmit;

@@ -1,74 +1,43 @@
 //! The step that gives frames to the guest.
 
-ghost use Rattle.std.specs.Prelude.{◌≡◌, ◌≤◌, ◌<◌, ◌+◌, ◌∷◌, length, drop, IfOk, OnErr, slice_get, Some};
+ghost use Rattle.std.specs.Prelude.{◌≡◌, ◌≤◌, ◌<◌, ◌+◌, ◌∷◌, ℕ, List, length, drop, slice_get, Some};
 ghost use Rattle.guestmem.specs.Rises.{Touches};
-ghost use Rattle.chains.specs.Frame.{MayServe, HasServed, MayLook, HasLooked, IsUntouched};
+ghost use Rattle.chains.specs.Frame.{MayServe, HasServed, MayLook, HasLooked};
 ghost use Rattle.chains.specs.Places.{places};
 ghost use Rattle.chains.specs.Ring.{IsBounded};
-ghost use Rattle.chains.specs.LongQueue.{IsLongQueue};
-ghost use Rattle.net.specs.Receive.{give_first, IsAfter, IsReceived};
+ghost use Rattle.chains.specs.Served.{HasRun, IsDone, scene};
+ghost use Rattle.chains.specs.Service.{Did, deed_in};
+ghost use Rattle.chains.specs.declared.looking.Wanted.TheVariants.{Room};
+ghost use Rattle.net.specs.Receive.{give_first, receive_step};
 
 use crate::inbox::Inbox;
-use chains::{Chain, NextKind, Ring, Wanted, fill, look};
-use guestmem::{NoMemory, Ram, TouchLog};
-use std::alloc::Global;
+use chains::{Chain, Done, Ring, Served, Site, Unserved, Wanted, fill, look};
+use guestmem::{Ram, TouchLog};
 
-/// How a step on the receive queue went.
-#[derive(Clone, Copy, Debug, PartialEq, Eq)]
-pub enum Received {
-    /// The queue was empty, and the event note is written.
-    Empty,
-
-    /// The chain is malformed, or not one to write into: it has a readable byte, or no writable one. It stays, and so does
-    /// the frame.
-    Malformed,
-
-    /// The frame did not fit into the chain with its header, and is gone. The chain stays.
-    Dropped,
-
-    /// The frame was given, and the chain published.
-    Completed {
-        /// The used length: how many bytes were written into it.
-        len: u32,
-
-        /// Whether an interrupt is due.
-        is_due: bool,
-    },
-}
-
-/// Gives a header, followed by the oldest frame, to the next chain, and publishes it. RAM begins at the guest-physical address
-/// `base`. Its only error is out of memory for the chain, and then nothing has changed.
+/// Gives a header, followed by the oldest frame, to the next chain, and publishes it. A frame that does not fit is dropped, and its
+/// chain stays; where the chain is malformed, which one with a readable byte or without a writable one is too, the frame stays.
 #[inline(never)]
 pub fn receive<R: Ring, L: TouchLog>(
-    alloc: Global,
+    site: Site,
     ring: &mut R,
-    base: u64,
     inbox: &mut Inbox,
     ram: &mut Ram,
     log: &mut L,
-) -> Result<Received, NoMemory>
+) -> Result<Served, Unserved>
     requires ready { MayLook L.may ram.old (R.state ring.old) (R.decoder ring.old) log.old }
-    requires base { base ≡ (R.state ring.old).base }
+    requires base { site.base ≡ (R.state ring.old).base }
     requires waiting { 0 < length inbox.old }
-    ensures received { IfOk result (λ answer. IsReceived (Touches L.after log.old log.new ram.old ram.new) ram.old.bytes (R.state ring.old) inbox.old answer ram.new.bytes (R.state ring.new) inbox.new) }
-    ensures memory { OnErr result (IsLongQueue ram.old.bytes (R.state ring.old)) }
-    ensures untouched { OnErr result (IsUntouched ram.old ram.new (R.state ring.old) (R.state ring.new) log.old log.new) }
-    ensures frames_stay { OnErr result (inbox.new ≡ inbox.old) }
+    ensures served { (sent : List ℕ) → HasRun L.after (scene ram.old log.old (R.state ring.old) inbox.old) (scene ram.new log.new (R.state ring.new) inbox.new) Room receive_step result sent }
     ensures after { HasLooked L.may ram.old ram.new (R.decoder ring.new) log.new }
 {
-    let mut chain = Chain::new(alloc);
-    match look(ring, Wanted::Room, &mut chain, ram, log) {
-        NextKind::Empty => Ok(Received::Empty),
-        NextKind::Malformed => Ok(Received::Malformed),
-        NextKind::Chain => Ok(give_first(ring, base, inbox, &chain, ram, log)),
-        NextKind::NoMemory => Err(NoMemory),
-    }
+    let mut chain = Chain::new(site.alloc);
+    look(ring, Wanted::Room, &mut chain, ram, log)?;
+    Ok(give_first(ring, site.base, inbox, &chain, ram, log))
 }
 
 /// Writes a header, followed by the oldest frame, into a chain, and publishes it. Where the frame does not fit, it is
 /// dropped.
 #[inline(always)]
-#[tactic(auto, unfolding(crate::specs::Receive::give, crate::specs::Header::header))]
 fn give_first<R: Ring, L: TouchLog>(
     ring: &mut R,
     base: u64,
@@ -76,13 +45,12 @@ fn give_first<R: Ring, L: TouchLog>(
     chain: &Chain,
     ram: &mut Ram,
     log: &mut L,
-) -> Received
+) -> Served
     requires ready { MayServe L.may (length ram.old.bytes) (R.state ring.old) log.old }
     requires bounded { IsBounded (length ram.old.bytes) (R.state ring.old) chain.now }
     requires base { base ≡ (R.state ring.old).base }
     requires waiting { 0 < length inbox.old }
-    ensures answer { result ≡ (give_first ram.old.bytes (R.state ring.old) inbox.old chain.now).answer }
-    ensures changes { IsAfter (Touches L.after log.old log.new ram.old ram.new) ram.old.bytes (give_first ram.old.bytes (R.state ring.old) inbox.old chain.now) ram.new.bytes (R.state ring.new) inbox.new }
+    ensures done { (sent : List ℕ) → IsDone (Touches L.after log.old log.new ram.old ram.new) ram.old.bytes (give_first ram.old.bytes (R.state ring.old) inbox.old chain.now) (Did (deed_in result.done sent) result.is_due) ram.new.bytes (R.state ring.new) inbox.new }
     ensures after { HasServed L.may ram.old ram.new log.new }
     ensures decoder { R.decoder ring.new ≡ R.decoder ring.old }
 {
@@ -90,12 +58,15 @@ fn give_first<R: Ring, L: TouchLog>(
     let len = frame.len();
     if chain.writable.total_len() < len as u64 {
         inbox.remove_first();
-        return Received::Dropped;
+        return Served {
+            done: Done::Dropped,
+            is_due: false,
+        };
     }
     let is_due = fill(ring, base, chain, frame, ram, log);
     inbox.remove_first();
-    Received::Completed {
-        len: len as u32,
+    Served {
+        done: Done::Completed(len as u32),
         is_due,
     }
 }

@@ -4,7 +4,7 @@ use crate::disks::{TestDisk, disks_of};
 use crate::sectors::write_sector;
 use anyhow::{Result, bail, ensure};
 use books::{Book, Question, Scenario, Script};
-use machine::{Event, Machine};
+use machine::{Board, Event, Machine, RamOf};
 use sender::LiveEvent;
 use std::alloc::Global;
 use std::io::Write;
@@ -27,9 +27,15 @@ pub fn play(alloc: Global, script: &Script) -> Result<Machine<TestDisk>> {
         begin_line: _,
     } = parse(alloc, script.trace())?;
     let disks = disks_of(alloc, script, shapes.as_slice())?;
-    let mut machine = match Machine::new_at(alloc, script.base(), pages, shapes.as_slice(), disks) {
+    let board = Board {
+        base: script.base(),
+        ram: RamOf::Pages(pages),
+        shapes: shapes.as_slice(),
+        disks,
+    };
+    let mut machine = match Machine::make(alloc, board) {
         Ok(machine) => machine,
-        Err((error, _disks)) => return Err(error.into()),
+        Err(unmade) => return Err(unmade.reason().into()),
     };
     let events = guest_events(alloc, events, script.base())?;
     agrees(alloc, &mut machine, script, events.as_slice())?;

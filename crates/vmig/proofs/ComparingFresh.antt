@@ -1,15 +1,13 @@
 -- The fresh machine of a trace, of which a machine without disks tells whether there is one.
-use Rattle.std.proofs.Common.{◌≡◌, ℕ, ◌||◌, Bool, true, false, not, if◌then◌else◌, List, [], ◌∷◌, length, map, replicate, Option, Some, None, Result, Ok, Err, IfSome, IfErr, MatchOption, refl, ap, sym, subst, ◌∙◌}
-use Rattle.std.specs.Prelude.{◌==◌, nat_lt}
+use Rattle.std.proofs.Common.{◌≡◌, ℕ, ◌*◌, Bool, true, false, not, if◌then◌else◌, List, [], ◌∷◌, length, map, replicate, Option, Some, None, Result, Ok, Err, IfSome, IfErr, MatchOption, refl, ap, sym, subst, ◌∙◌}
 use Rattle.std.specs.List.{AllByRecursion}
 use Rattle.std.proofs.lemmas.List.Elements.{All-from_recursion}
-use Rattle.guestmem.specs.declared.limits.TheConstants.{PAGES_MAX}
+use Rattle.guestmem.specs.declared.limits.TheConstants.{PAGE_SIZE}
 use Rattle.machine.proofs.MadeAs.{first_as}
-use Rattle.machine.specs.First.{are_beyond, are_same, dealt_marks, first_machine, marks_in, new_refusal}
+use Rattle.machine.specs.First.{are_same, dealt_marks, first_machine, is_beyond_limits, marks_in, new_refusal}
 use Rattle.machine.specs.Seen.{Marks, Seen, all_marks, state_of}
 use Rattle.machine.specs.Shapes.{disk_sizes, first_device, made_as}
 use Rattle.machine.specs.State.{DeviceState}
-use Rattle.machine.specs.declared.machine.TheConstants.{DEVICES_MAX}
 use Rattle.machine.specs.declared.new_error.NewError.{NewError}
 use Rattle.machine.specs.declared.new_error.NewError.TheVariants.{BadShape, DiskMismatch, NoMemory}
 use Rattle.machine.specs.declared.shape.Shape.{Shape}
@@ -32,9 +30,6 @@ use Rattle.vmig.specs.declared.fault.Fault.TheVariants as faults
 abbrev refusal_by : Bool → Bool → Option NewError
 refusal_by beyond same = if beyond then Some BadShape else if not same then Some DiskMismatch else None
 
-abbrev is_beyond_limits : ℕ → List Shape → Bool
-is_beyond_limits pages shapes = pages == 0 || nat_lt PAGES_MAX pages || length shapes == 0 || nat_lt DEVICES_MAX (length shapes) || are_beyond shapes
-
 none_same : (sizes : List ℕ) → are_same sizes [] ≡ true → sizes ≡ []
 none_same [] same = refl
 none_same (size ∷ sizes) same = cc
@@ -53,10 +48,10 @@ still_none beyond same within fits = rw (within, fits) refl
 
 -- A machine that is made without disks wants none.
 pub without_disks : (pages : ℕ) (shapes : List Shape) → new_refusal pages shapes [] ≡ None → disk_sizes shapes ≡ []
-without_disks pages shapes none = none_same (disk_sizes shapes) (not_refused (is_beyond_limits pages shapes) (are_same (disk_sizes shapes) []) none).fits
+without_disks pages shapes none = none_same (disk_sizes shapes) (not_refused (is_beyond_limits 0 (PAGE_SIZE * pages) shapes) (are_same (disk_sizes shapes) []) none).fits
 
 pub none_with_disks : (pages : ℕ) (shapes : List Shape) → new_refusal pages shapes [] ≡ None → new_refusal pages shapes (disk_sizes shapes) ≡ None
-none_with_disks pages shapes none = still_none (is_beyond_limits pages shapes) (are_same (disk_sizes shapes) (disk_sizes shapes)) (not_refused (is_beyond_limits pages shapes) (are_same (disk_sizes shapes) []) none).within (same_self (disk_sizes shapes))
+none_with_disks pages shapes none = still_none (is_beyond_limits 0 (PAGE_SIZE * pages) shapes) (are_same (disk_sizes shapes) (disk_sizes shapes)) (not_refused (is_beyond_limits 0 (PAGE_SIZE * pages) shapes) (are_same (disk_sizes shapes) []) none).within (same_self (disk_sizes shapes))
 
 -- What a refusal without disks tells, but for their want.
 other_by : (beyond same again : Bool) (e : NewError) (fault : Fault) → again ≡ true → ¬ (e ≡ DiskMismatch) → fault ≡ shape_fault e → MatchOption (refusal_by beyond same) (e ≡ NoMemory) (λ x. e ≡ x)
@@ -81,7 +76,7 @@ pub told_first : {M : Type 0} (pages : ℕ) (shapes : List Shape) (sizes : List 
     → MatchOption (new_refusal pages shapes (disk_sizes shapes)) (fault ≡ faults.NoMemory) (λ refusal. fault ≡ shape_fault refusal)
 told_first pages shapes sizes r e fault none is refused memory other told =
     let P : List ℕ → Type 0 = λ xs. MatchOption (new_refusal pages shapes xs) (e ≡ NoMemory) (λ x. e ≡ x) in
-    other_by (is_beyond_limits pages shapes) (are_same (disk_sizes shapes) []) (are_same (disk_sizes shapes) (disk_sizes shapes)) e fault (same_self (disk_sizes shapes)) other told
+    other_by (is_beyond_limits 0 (PAGE_SIZE * pages) shapes) (are_same (disk_sizes shapes) []) (are_same (disk_sizes shapes) (disk_sizes shapes)) e fault (same_self (disk_sizes shapes)) other told
     (subst P none (why_not (new_refusal pages shapes sizes) r e is refused memory))
 
 -- What one with disks tells.
@@ -110,7 +105,7 @@ pub wants_disks : {M : Type 0} (pages : ℕ) (shapes : List Shape) (sizes : List
     → (new_refusal pages shapes sizes ≡ None → IfErr r (λ x. x ≡ NoMemory)) → new_refusal pages shapes (disk_sizes shapes) ≡ None
 wants_disks pages shapes sizes r none is refused memory =
     let P : List ℕ → Type 0 = λ xs. new_refusal pages shapes xs ≡ Some DiskMismatch in
-    mismatch_by (is_beyond_limits pages shapes) (are_same (disk_sizes shapes) []) (are_same (disk_sizes shapes) (disk_sizes shapes)) (same_self (disk_sizes shapes))
+    mismatch_by (is_beyond_limits 0 (PAGE_SIZE * pages) shapes) (are_same (disk_sizes shapes) []) (are_same (disk_sizes shapes) (disk_sizes shapes)) (same_self (disk_sizes shapes))
     (subst P none (mismatch_is (new_refusal pages shapes sizes) (why_not (new_refusal pages shapes sizes) r DiskMismatch is refused memory)))
 
 -- A machine over disks of zeros is fresh.

@@ -10,7 +10,7 @@ use Rattle.blk.specs.Sectors.{Sector}
 use Rattle.machine.proofs.Numbering.{has_item}
 use Rattle.machine.specs.Applied.{ReadsSector}
 use Rattle.machine.specs.EffectLaws.{HasItem, sector_on, sectors_on}
-use Rattle.machine.specs.First.{dealt_marks, first_machine_at}
+use Rattle.machine.specs.First.{dealt_marks, made_machine, zero_pages}
 use Rattle.machine.specs.Seen.{DeviceSeen, Marks, Seen, all_marks, marks_at, no_marks, state_of}
 use Rattle.machine.specs.Shapes.{disk_size_of, disk_sizes, or_zero, sector_count, made_as}
 use Rattle.machine.specs.Sound.{IsSound}
@@ -115,7 +115,7 @@ sector_more disk next image n sectors size below so_far is =
 
 -- The first machine over disks that hold the images.
 pub made_with : (base : ℕ) (pages : ℕ) (shapes : List Shape) (images : List ℕ) (disks : List (List (List ℕ))) (m : Seen) → AreImages images (disk_sizes shapes) disks
-    → state_of m ≡ first_machine_at base pages shapes (map (λ (d : List (List ℕ)). map Some d) disks)
+    → state_of m ≡ made_machine base (zero_pages pages) shapes (map (λ (d : List (List ℕ)). map Some d) disks)
     → all_marks m ≡ dealt_marks shapes (map (λ (d : List (List ℕ)). no_marks) disks) → IsSound (state_of m) → IsMadeWith base pages shapes images m
 made_with base pages shapes images disks m are first marks sound = record {
   disks = disks;

@@ -5,7 +5,7 @@ use Rattle.std.specs.Prelude.{All, Option, Some, None, is_some, slice_set}
 use Rattle.std.proofs.lemmas.List.{drop-set-lt, drop_all, drop_more, length-drop, take_all, take_more, take_more_set, length-set}
 use Rattle.std.proofs.lemmas.List.Elements.{All-append}
 use Rattle.machine.proofs.Disks.{none_left}
-use Rattle.machine.specs.First.{are_same, dealt_marks, first_machine_at}
+use Rattle.machine.specs.First.{are_same, dealt_marks, made_machine, zero_pages}
 use Rattle.machine.specs.Seen.{DeviceSeen, Seen, all_marks, no_marks, state_of}
 use Rattle.machine.specs.Shapes.{disk_sizes}
 use Rattle.machine.specs.Sound.{IsSound}
@@ -113,7 +113,7 @@ disks_good [] = refl
 disks_good (i ∷ images) = ap (λ (l : List (List (Option (List ℕ)))). map Some i.content ∷ l) (disks_good images)
 
 pub made_over : (base : ℕ) (pages : ℕ) (shapes : List Shape) (images disks : List Image) (m : Seen) → disks ≡ images
-    → state_of m ≡ first_machine_at base pages shapes (map (λ (d : Image). map Some d.content) disks)
+    → state_of m ≡ made_machine base (zero_pages pages) shapes (map (λ (d : Image). map Some d.content) disks)
     → all_marks m ≡ dealt_marks shapes (map (λ (d : Image). no_marks) disks) → IsSound (state_of m) → IsMapped base pages shapes (contents images) m
 made_over base pages shapes images disks m are first marks sound = record {
   first = first ∙ rw (are, disks_good images) refl;

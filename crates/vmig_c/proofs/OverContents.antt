@@ -6,7 +6,7 @@ use Rattle.region.specs.Empty.{empty_slot}
 use Rattle.region.specs.Slot.{region_of}
 use Rattle.region.specs.declared.region.Region.{Region}
 use Rattle.region.specs.declared.slot.Slot.{Slot}
-use Rattle.machine.specs.First.{dealt_marks, machine_over_at}
+use Rattle.machine.specs.First.{dealt_marks, made_machine}
 use Rattle.machine.specs.Seen.{Seen, all_marks, no_marks, state_of}
 use Rattle.machine.specs.Shapes.{disk_sizes}
 use Rattle.machine.specs.Sound.{IsSound}
@@ -38,7 +38,7 @@ with_done base None after m ram new_ram shapes contents is fine becomes made lef
 with_done base (Some old) after m ram new_ram shapes contents is fine becomes made left = absurd (true≢false is)
 
 pub over_contents : (base : ℕ) (ram : Slot) (region : Region) (shapes : List Shape) (contents : List ℕ) (disks : List (List (List ℕ))) (m : Seen) → region ≡ region_of ram → AreImages contents (disk_sizes shapes) disks
-    → state_of m ≡ machine_over_at base region.content shapes (map (λ (d : List (List ℕ)). map Some d) disks) → m.memory.place ≡ Some (address region)
+    → state_of m ≡ made_machine base region.content shapes (map (λ (d : List (List ℕ)). map Some d) disks) → m.memory.place ≡ Some (address region)
     → all_marks m ≡ dealt_marks shapes (map (λ (d : List (List ℕ)). no_marks) disks) → IsSound (state_of m) → IsMadeOverWith base ram shapes contents m
 over_contents base ram region shapes contents disks m is are first place marks sound = record {
   disks = disks;

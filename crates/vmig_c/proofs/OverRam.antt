@@ -6,7 +6,7 @@ use Rattle.region.specs.Empty.{empty_slot}
 use Rattle.region.specs.Slot.{region_of, slot_of}
 use Rattle.region.specs.declared.region.Region.{Region}
 use Rattle.region.specs.declared.slot.Slot.{Slot}
-use Rattle.machine.specs.First.{dealt_marks, machine_over_at}
+use Rattle.machine.specs.First.{dealt_marks, made_machine}
 use Rattle.machine.specs.Seen.{DeviceSeen, Seen, all_marks, no_marks, state_of}
 use Rattle.machine.specs.Shapes.{disk_sizes}
 use Rattle.machine.specs.Sound.{IsSound}
@@ -45,17 +45,17 @@ over_done base (Some old) after m ram new_ram shapes images next is fine becomes
 
 -- The new machine, whatever its disks are, which never fail.
 pub made_in : {D : Type 0} (base : ℕ) (ram : Slot) (region : Region) (shapes : List Shape) (sectors : List (List Sector)) (disks : List D) (m : Seen) → region ≡ region_of ram
-    → state_of m ≡ machine_over_at base region.content shapes sectors → m.memory.place ≡ Some (address region)
+    → state_of m ≡ made_machine base region.content shapes sectors → m.memory.place ≡ Some (address region)
     → all_marks m ≡ dealt_marks shapes (map (λ (d : D). no_marks) disks) → IsSound (state_of m) → IsMadeOver base ram shapes sectors m
 made_in base ram region shapes sectors disks m is first place marks sound = record {
-  first = first ∙ ap (λ (r : Region). machine_over_at base r.content shapes sectors) is;
+  first = first ∙ ap (λ (r : Region). made_machine base r.content shapes sectors) is;
   place = place ∙ ap (λ (r : Region). Some (address r)) is;
   plain = as_many no_marks (λ (d : DeviceSeen). d.marks) m.devices shapes (marks ∙ alike shapes disks);
   sound = sound;
 }
 
 pub over_zeros : (base : ℕ) (ram : Slot) (region : Region) (shapes : List Shape) (disks : List (List (List ℕ))) (m : Seen) → region ≡ region_of ram → disks ≡ map zeros (disk_sizes shapes)
-    → state_of m ≡ machine_over_at base region.content shapes (map (λ (d : List (List ℕ)). map Some d) disks) → m.memory.place ≡ Some (address region)
+    → state_of m ≡ made_machine base region.content shapes (map (λ (d : List (List ℕ)). map Some d) disks) → m.memory.place ≡ Some (address region)
     → all_marks m ≡ dealt_marks shapes (map (λ (d : List (List ℕ)). no_marks) disks) → IsSound (state_of m) → IsMadeOver base ram shapes (first_disks shapes []) m
 over_zeros base ram region shapes disks m is are first place marks sound =
     made_in base ram region shapes (first_disks shapes []) disks m is (first ∙ rw (are, good_zeros (disk_sizes shapes)) refl) place marks sound
@@ -65,11 +65,11 @@ with_images shapes [] some = absurd (true≢false (sym some))
 with_images shapes (i ∷ images) some = refl
 
 pub over_images : (base : ℕ) (ram : Slot) (region : Region) (shapes : List Shape) (images disks : List Image) (m : Seen) → region ≡ region_of ram → has_images images ≡ true → disks ≡ images
-    → state_of m ≡ machine_over_at base region.content shapes (map (λ (d : Image). map Some d.content) disks) → m.memory.place ≡ Some (address region)
+    → state_of m ≡ made_machine base region.content shapes (map (λ (d : Image). map Some d.content) disks) → m.memory.place ≡ Some (address region)
     → all_marks m ≡ dealt_marks shapes (map (λ (d : Image). no_marks) disks) → IsSound (state_of m) → IsMadeOver base ram shapes (first_disks shapes images) m
 over_images base ram region shapes images disks m is some are first place marks sound =
     made_in base ram region shapes (first_disks shapes images) disks m is
-    (first ∙ ap (machine_over_at base region.content shapes) (ap (map (λ (d : Image). map Some d.content)) are ∙ disks_good images ∙ with_images shapes images some)) place marks sound
+    (first ∙ ap (made_machine base region.content shapes) (ap (map (λ (d : Image). map Some d.content)) are ∙ disks_good images ∙ with_images shapes images some)) place marks sound
 
 -- What was put back lies there as it lay.
 pub back_again : (ram after : Slot) (region back : Region) → region ≡ region_of ram → back ≡ region → after ≡ slot_of back → after ≡ ram

@@ -6,10 +6,12 @@ use Rattle.blk.specs.Flush as blk
 use Rattle.blk.specs.declared.durable.SyncOwed.{SyncOwed}
 use Rattle.blk.specs.declared.durable.SyncOwed.TheVariants.{Nothing, Flush, EndOfWrite}
 use Rattle.blk.specs.declared.request.Request.{Request}
-use Rattle.machine.specs.DeviceStep.{advances, requests_of}
+use Rattle.machine.specs.DeviceStep.{advances}
 use Rattle.machine.specs.Seen.{Seen, state_of}
 use Rattle.machine.specs.State.{DeviceState, MachineState}
-use Rattle.machine.specs.Unsynced.{flushes, flushes_if, makes_flush, owed}
+use Rattle.machine.specs.Unsynced.{flushes, flushes_if, kind_flushes, kind_owed, makes_flush, owed}
+use Rattle.machine.specs.declared.kind.Kind.{Kind}
+use Rattle.machine.specs.declared.kind.Kind.TheVariants.{Network, Block, Console, Entropy}
 use Rattle.machine.specs.declared.event.Event.TheVariants.{Step}
 use Rattle.machine.specs.declared.reply.Reply.{Reply}
 use Rattle.machine.specs.declared.reply.Reply.TheVariants.{Value, Done, OutByte, Bytes, Idle, Taken, Moved, BadSector, DiskFailed, Completed, Sent, Dropped, Accepted, NeedsReset, NoMemory, Refused}
@@ -33,13 +35,22 @@ made_by true e is = refl
 made_by false true is = absurd cc
 made_by false false is = absurd cc
 
-made_if : (a : Bool) (features : ℕ) (r : Option Request) → (if a then owed_if features r else Nothing) ≡ Flush → (a && blk.flushes_in r) ≡ true
-made_if true features (Some r) is = made_by (blk.flushes r) (ends_write features r) is
-made_if true features None is = absurd cc
-made_if false features r is = absurd cc
+made_of : (features : ℕ) (r : Option Request) → owed_if features r ≡ Flush → blk.flushes_in r ≡ true
+made_of features (Some r) is = made_by (blk.flushes r) (ends_write features r) is
+made_of features None is = absurd cc
+
+made_kind : (features : ℕ) (kind : Kind) (k : ℕ) → kind_owed features kind k ≡ Flush → kind_flushes kind k ≡ true
+made_kind features (Block block) k is = made_of features (slice_get block.requests k) is
+made_kind features (Network mac frames) k is = absurd cc
+made_kind features (Console size held) k is = absurd cc
+made_kind features (Entropy pool) k is = absurd cc
+
+made_if : (a : Bool) (features : ℕ) (kind : Kind) (k : ℕ) → (if a then kind_owed features kind k else Nothing) ≡ Flush → (a && kind_flushes kind k) ≡ true
+made_if true features kind k is = made_kind features kind k is
+made_if false features kind k is = absurd cc
 
 made : (d : DeviceState) (pick : ℕ) → owed d pick ≡ Flush → flushes d pick ≡ true
-made d pick is = made_if (advances d pick) d.registers.common.features (slice_get (requests_of d.kind) (pick - 1)) is
+made d pick is = made_if (advances d pick) d.registers.common.features d.kind (pick - 1) is
 
 made_for : (d : Option DeviceState) (pick : ℕ) → owed_for d pick ≡ Flush → flushes_if d pick ≡ true
 made_for None pick is = absurd cc

@@ -1,7 +1,7 @@
 -- Machines over disks of zeros.
 use Rattle.std.proofs.Common.{◌≡◌, ℕ, zero, suc, List, [], ◌∷◌, refl, ap, ◌∙◌, map, replicate}
 use Rattle.std.specs.Prelude.{Option, Some, None}
-use Rattle.machine.specs.First.{dealt, dealt_marks, first_machine_at, given, left_over}
+use Rattle.machine.specs.First.{dealt, dealt_marks, given, left_over, made_machine, zero_pages}
 use Rattle.machine.specs.Seen.{Seen, Marks, all_marks, no_marks, state_of}
 use Rattle.machine.specs.Shapes.{disk_size_of, disk_sizes}
 use Rattle.machine.specs.Sound.{IsSound}
@@ -38,7 +38,7 @@ alike [] disks = refl
 alike (shape ∷ shapes) disks = alike_by (disk_size_of shape) shapes disks (alike shapes)
 
 pub made : (base : ℕ) (pages : ℕ) (shapes : List Shape) (disks : List (List (List ℕ))) (m : Seen) → disks ≡ map zeros (disk_sizes shapes)
-    → state_of m ≡ first_machine_at base pages shapes (map (λ (d : List (List ℕ)). map Some d) disks)
+    → state_of m ≡ made_machine base (zero_pages pages) shapes (map (λ (d : List (List ℕ)). map Some d) disks)
     → all_marks m ≡ dealt_marks shapes (map (λ (d : List (List ℕ)). no_marks) disks) → IsSound (state_of m) → IsMade base pages shapes m
 made base pages shapes disks m are first marks sound =
     record {

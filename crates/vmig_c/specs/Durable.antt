@@ -100,7 +100,7 @@ FailsKept _ dev pick status _ = ⊥
 
 -- Why no disk is lost: there is no such device, it has no disk, or there is no machine that makes steps.
 abbrev pub kind_refusal : Kind → Option ℕ
-kind_refusal (Block sectors read_only id requests) = None
+kind_refusal (Block block) = None
 kind_refusal (Network mac frames) = Some (code_of WrongKind)
 kind_refusal (Console size held) = Some (code_of WrongKind)
 kind_refusal (Entropy pool) = Some (code_of WrongKind)

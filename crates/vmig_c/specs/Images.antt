@@ -4,7 +4,7 @@ use Rattle.std.specs.List.{concat, flat_map}
 use Rattle.blk.specs.Disk.{AreSectors}
 use Rattle.blk.specs.Sectors.{Sector}
 use Rattle.machine.specs.EffectLaws.{sector_on, sectors_on}
-use Rattle.machine.specs.First.{first_machine_at}
+use Rattle.machine.specs.First.{made_machine, zero_pages}
 use Rattle.machine.specs.Refusal.{code_of}
 use Rattle.machine.specs.Seen.{Seen, state_of}
 use Rattle.machine.specs.Shapes.{disk_size_of, disk_sizes, sector_count, made_as}
@@ -37,7 +37,7 @@ pub record AreImages (images sizes : List ℕ) (disks : List (List (List ℕ))) 
 pub record IsMadeWith (base : ℕ) (pages : ℕ) (shapes : List Shape) (images : List ℕ) (m : Seen) : Type 0 where
   pub disks : List (List (List ℕ))
   pub are : AreImages images (disk_sizes shapes) disks
-  pub first : state_of m ≡ first_machine_at base pages shapes (map (λ d. map Some d) disks)
+  pub first : state_of m ≡ made_machine base (zero_pages pages) shapes (map (λ d. map Some d) disks)
   pub plain : ArePlain m
   pub sound : IsSound (state_of m)
 

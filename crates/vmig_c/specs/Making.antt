@@ -2,7 +2,7 @@
 use Rattle.std.specs.Prelude.{◌≡◌, ◌⊎◌, ℕ, ◌==◌, ◌||◌, ◌&&◌, not, nat_lt, Bool, true, false, List, [], ◌∷◌, length, map, replicate, Option, Some, None, if◌then◌else◌}
 use Rattle.guestmem.specs.declared.limits.TheConstants.{PAGES_MAX}
 use Rattle.blk.specs.Sectors.{Sector}
-use Rattle.machine.specs.First.{first_machine_at}
+use Rattle.machine.specs.First.{made_machine, zero_pages}
 use Rattle.machine.specs.Seen.{Seen, state_of}
 use Rattle.machine.specs.Shapes.{disk_sizes, is_beyond}
 use Rattle.machine.specs.Sound.{IsSound}
@@ -48,7 +48,7 @@ zero_sectors count = replicate count (Some (replicate 512 0))
 
 -- The new machine of these pages and devices, over disks of zeros.
 pub record IsMade (base : ℕ) (pages : ℕ) (shapes : List Shape) (m : Seen) : Type 0 where
-  pub first : state_of m ≡ first_machine_at base pages shapes (map zero_sectors (disk_sizes shapes))
+  pub first : state_of m ≡ made_machine base (zero_pages pages) shapes (map zero_sectors (disk_sizes shapes))
   pub plain : ArePlain m
   pub sound : IsSound (state_of m)
 

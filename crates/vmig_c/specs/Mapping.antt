@@ -1,6 +1,6 @@
 -- Machines whose disks lie in memory of the caller.
 use Rattle.std.specs.Prelude.{◌≡◌, ◌⊎◌, ℕ, if◌then◌else◌, true, List, [], All, length, map, Option, Some, None}
-use Rattle.machine.specs.First.{are_same, first_machine_at}
+use Rattle.machine.specs.First.{are_same, made_machine, zero_pages}
 use Rattle.machine.specs.Seen.{Seen, state_of}
 use Rattle.machine.specs.Shapes.{disk_sizes}
 use Rattle.machine.specs.Sound.{IsSound}
@@ -26,7 +26,7 @@ pub record AreTaken (old new : List Image) : Type 0 where
 
 -- The new machine of these pages and devices, over disks of these sectors.
 pub record IsMapped (base : ℕ) (pages : ℕ) (shapes : List Shape) (disks : List (List (List ℕ))) (m : Seen) : Type 0 where
-  pub first : state_of m ≡ first_machine_at base pages shapes (map (map Some) disks)
+  pub first : state_of m ≡ made_machine base (zero_pages pages) shapes (map (map Some) disks)
   pub plain : ArePlain m
   pub sound : IsSound (state_of m)
 

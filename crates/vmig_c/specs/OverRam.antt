@@ -4,7 +4,7 @@ use Rattle.region.specs.Empty.{empty_slot}
 use Rattle.region.specs.declared.slot.Slot.{Slot}
 use Rattle.guestmem.specs.declared.limits.TheConstants.{PAGE_SIZE, PAGES_MAX}
 use Rattle.blk.specs.Sectors.{Sector}
-use Rattle.machine.specs.First.{are_same, machine_over_at}
+use Rattle.machine.specs.First.{are_same, made_machine}
 use Rattle.machine.specs.Seen.{Seen, state_of}
 use Rattle.machine.specs.Shapes.{disk_sizes}
 use Rattle.machine.specs.Sound.{IsSound}
@@ -34,7 +34,7 @@ has_images images = true
 
 -- The new machine of these devices whose RAM is the bytes in the slot, and lies where they lie.
 pub record IsMadeOver (base : ℕ) (ram : Slot) (shapes : List Shape) (disks : List (List Sector)) (m : Seen) : Type 0 where
-  pub first : state_of m ≡ machine_over_at base ram.content shapes disks
+  pub first : state_of m ≡ made_machine base ram.content shapes disks
   pub place : m.memory.place ≡ Some (place_of ram)
   pub plain : ArePlain m
   pub sound : IsSound (state_of m)

@@ -11,7 +11,7 @@ ghost use Rattle.vmig_c.specs.Kept.{Still};
 
 use crate::device_shape::DeviceShape;
 use crate::kept::{Contents, Kept, by_state};
-use crate::making::shapes_of;
+use crate::making::{shapes_of, zeroed_machine};
 use crate::moving::put_front;
 use crate::status::{
     BAD_SECTOR, DISK_FAILED, DONE, IS_MOVING, LENT, NO_DEVICE, NO_MACHINE, NO_SECTOR, TOO_SMALL,
@@ -64,7 +64,7 @@ pub(crate) fn machine_with(
 {
     let shapes = shapes_of(alloc, shapes)?;
     let disks = image_disks(alloc, &shapes, images)?;
-    let Ok(machine) = Machine::new_at(alloc, base, pages, &shapes, disks) else {
+    let Ok(machine) = zeroed_machine(alloc, base, pages, &shapes, disks) else {
         return Err(NoMemory);
     };
     let boxed = Box::new(alloc, Kept::new(alloc, Contents::Still(machine)))?;

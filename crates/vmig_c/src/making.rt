@@ -1,13 +1,16 @@
 //! Machines that C asks for.
 
-ghost use Rattle.std.specs.Prelude.{◌≡◌, map, replicate, IfOk};
+ghost use Rattle.std.specs.Prelude.{◌≡◌, map, replicate, Some, IfErr, IfOk};
+ghost use Rattle.machine.specs.First.{dealt_marks, made_machine, marks_in, zero_pages};
+ghost use Rattle.machine.specs.Seen.{all_marks, state_of};
+ghost use Rattle.machine.specs.Sound.{IsSound};
 ghost use Rattle.machine.specs.Shapes.{disk_sizes};
 ghost use Rattle.vmig_c.specs.Making.{KeepsMade, are_beyond_limits, are_plain, shapes_of};
 
 use crate::device_shape::DeviceShape;
 use crate::kept::{Contents, Kept};
 use guestmem::{NoMemory, PAGES_MAX};
-use machine::{DEVICES_MAX, Machine, MemDisk, Shape};
+use machine::{Board, DEVICES_MAX, Disk, Machine, MemDisk, RamOf, Shape, Unmade};
 use std::alloc::Global;
 
 /// Whether no machine can have `pages` pages and these devices.
@@ -43,11 +46,47 @@ pub(crate) fn machine_of(
 {
     let shapes = shapes_of(alloc, shapes)?;
     let disks = zero_disks(alloc, &shapes)?;
-    let Ok(machine) = Machine::new_at(alloc, base, pages, &shapes, disks) else {
+    let Ok(machine) = zeroed_machine(alloc, base, pages, &shapes, disks) else {
         return Err(NoMemory);
     };
     let boxed = Box::new(alloc, Kept::new(alloc, Contents::Still(machine)))?;
     Ok(boxed)
+}
+
+/// A machine of `pages` pages of zeros from the address `base` on. Where it is not made, the disks come back.
+pub(crate) fn zeroed_machine<D: Disk + Drop>(
+    alloc: Global,
+    base: u64,
+    pages: u32,
+    shapes: &[Shape],
+    disks: Vec<D>,
+) -> Result<Machine<D>, Vec<D>>
+    ensures made { IfOk result (λ m. state_of m ≡ made_machine base (zero_pages pages) shapes.now (map (λ d. map Some (D.state d).sectors) disks.items)) }
+    ensures marks { IfOk result (λ m. all_marks m ≡ dealt_marks shapes.now (map (λ d. marks_in (D.state d)) disks.items)) }
+    ensures sound { IfOk result (λ m. IsSound (state_of m)) }
+    ensures disks { IfErr result (λ back. back.items ≡ disks.items) }
+{
+    let ram = RamOf::Pages(pages);
+    match Machine::make(
+        alloc,
+        Board {
+            base,
+            ram,
+            shapes,
+            disks,
+        },
+    ) {
+        Ok(machine) => Ok(machine),
+        Err(unmade) => {
+            let Unmade {
+                error: _,
+                ram,
+                disks,
+            } = unmade;
+            ram.gone();
+            Err(disks)
+        }
+    }
 }
 
 /// The shapes of the machine's devices.

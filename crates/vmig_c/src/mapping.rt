@@ -9,9 +9,9 @@ ghost use Rattle.vmig_c.specs.Mapping.{AreTaken, KeepsMapped, contents, counts};
 use crate::arrival::Arrival;
 use crate::device_shape::DeviceShape;
 use crate::kept::{Contents, Kept};
-use crate::making::shapes_of;
+use crate::making::{shapes_of, zeroed_machine};
 use guestmem::NoMemory;
-use machine::{Machine, Shape};
+use machine::Shape;
 use mapped_disk::{Image, MappedDisk};
 use std::alloc::Global;
 
@@ -53,12 +53,12 @@ pub(crate) fn machine_over(
         Kept::new(alloc, Contents::Arriving(Arrival::new(alloc, 0))),
     )?;
     let disks = mapped_disks(alloc, images)?;
-    match Machine::new_at(alloc, base, pages, &shapes, disks) {
+    match zeroed_machine(alloc, base, pages, &shapes, disks) {
         Ok(machine) => {
             *boxed = Kept::new(alloc, Contents::StillMapped(machine));
             Ok(boxed)
         }
-        Err((_, disks)) => {
+        Err(disks) => {
             give_back(disks, images);
             Err(NoMemory)
         }

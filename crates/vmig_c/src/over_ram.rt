@@ -1,6 +1,10 @@
 //! Machines whose RAM lies in memory of the caller.
 
-ghost use Rattle.std.specs.Prelude.{◌≡◌, [], true, length, IfErr, IfOk, None, Some};
+ghost use Rattle.std.specs.Prelude.{◌≡◌, [], true, length, map, IfErr, IfOk, None, Some};
+ghost use Rattle.machine.specs.First.{dealt_marks, made_machine, marks_in};
+ghost use Rattle.machine.specs.Seen.{all_marks, state_of};
+ghost use Rattle.machine.specs.Sound.{IsSound};
+ghost use Rattle.region.specs.Address.{address};
 ghost use Rattle.receiver.specs.Opened.{given_at};
 ghost use Rattle.region.specs.Empty.{empty_slot};
 ghost use Rattle.region.specs.Slot.{region_of, slot_of};
@@ -22,7 +26,7 @@ use crate::making::{are_beyond_limits, shapes_of, zero_disks};
 use crate::mapping::{are_counted, give_back, mapped_disks};
 use crate::status::{BAD_IMAGES, BAD_RAM, BAD_SHAPE};
 use guestmem::{NoMemory, PAGE_SIZE, PAGES_MAX, Ram};
-use machine::Machine;
+use machine::{Board, Disk, Machine, RamOf, Shape, Unmade};
 use mapped_disk::Image;
 use region::{Region, Slot};
 use std::alloc::Global;
@@ -111,9 +115,9 @@ fn machine_over_zeros(
     let shapes = shapes_of(alloc, shapes)?;
     let disks = zero_disks(alloc, &shapes)?;
     let boxed = stand_in(alloc)?;
-    match Machine::new_over_at(alloc, base, taken_ram(ram), &shapes, disks) {
+    match machine_over_region(alloc, base, taken_ram(ram), &shapes, disks) {
         Ok(machine) => Ok(filled(boxed, Kept::new(alloc, Contents::Still(machine)))),
-        Err((_, _disks, region)) => {
+        Err((_disks, region)) => {
             put_back(region, ram);
             Err(NoMemory)
         }
@@ -136,9 +140,9 @@ pub(crate) fn machine_over_contents(
     let shapes = shapes_of(alloc, shapes)?;
     let disks = image_disks(alloc, &shapes, contents)?;
     let boxed = stand_in(alloc)?;
-    match Machine::new_over_at(alloc, base, taken_ram(ram), &shapes, disks) {
+    match machine_over_region(alloc, base, taken_ram(ram), &shapes, disks) {
         Ok(machine) => Ok(filled(boxed, Kept::new(alloc, Contents::Still(machine)))),
-        Err((_, _disks, region)) => {
+        Err((_disks, region)) => {
             put_back(region, ram);
             Err(NoMemory)
         }
@@ -162,12 +166,52 @@ fn machine_over_images(
     let shapes = shapes_of(alloc, shapes)?;
     let boxed = stand_in(alloc)?;
     let disks = mapped_disks(alloc, images)?;
-    match Machine::new_over_at(alloc, base, taken_ram(ram), &shapes, disks) {
+    match machine_over_region(alloc, base, taken_ram(ram), &shapes, disks) {
         Ok(machine) => Ok(filled(boxed, Kept::new(alloc, Contents::StillMapped(machine)))),
-        Err((_, disks, region)) => {
+        Err((disks, region)) => {
             give_back(disks, images);
             put_back(region, ram);
             Err(NoMemory)
+        }
+    }
+}
+
+/// A machine whose RAM is the bytes of a region. Where it is not made, the disks and the region come back.
+fn machine_over_region<D: Disk + Drop>(
+    alloc: Global,
+    base: u64,
+    region: Region,
+    shapes: &[Shape],
+    disks: Vec<D>,
+) -> Result<Machine<D>, (Vec<D>, Region)>
+    ensures made { IfOk result (λ m. state_of m ≡ made_machine base region.content shapes.now (map (λ d. map Some (D.state d).sectors) disks.items)) }
+    ensures place { IfOk result (λ m. m.memory.place ≡ Some (address region)) }
+    ensures marks { IfOk result (λ m. all_marks m ≡ dealt_marks shapes.now (map (λ d. marks_in (D.state d)) disks.items)) }
+    ensures sound { IfOk result (λ m. IsSound (state_of m)) }
+    ensures disks { IfErr result (λ back. back.0.items ≡ disks.items) }
+    ensures region { IfErr result (λ back. back.1 ≡ region) }
+{
+    let ram = RamOf::Region(region);
+    match Machine::make(
+        alloc,
+        Board {
+            base,
+            ram,
+            shapes,
+            disks,
+        },
+    ) {
+        Ok(machine) => Ok(machine),
+        Err(unmade) => {
+            let Unmade {
+                error: _,
+                ram,
+                disks,
+            } = unmade;
+            let Some(region) = ram.into_region() else {
+                unreachable!()
+            };
+            Err((disks, region))
         }
     }
 }

@@ -136,7 +136,7 @@ fn kind_refusal(kind: &Kind) -> Option<u32>
     ensures { result ≡ kind_refusal kind.now }
 {
     match kind {
-        Kind::Block { .. } => None,
+        Kind::Block(_) => None,
         Kind::Network { .. } | Kind::Console { .. } | Kind::Entropy { .. } => Some(WRONG_KIND),
     }
 }

@@ -15,7 +15,8 @@ use Rattle.mmio.specs.Sound.{IsSoundQueue, IsSoundRegisters}
 use Rattle.mmio.specs.State.{Registers, queue_at}
 use Rattle.mmio.specs.declared.queue.Queue.{Queue}
 use Rattle.machine.specs.QueuePositions.{is_packed_by}
-use Rattle.blk.specs.Shape.{with_features}
+use Rattle.blk.specs.Block.{limits_of}
+use Rattle.blk.specs.declared.block.Block as blocks
 use Rattle.machine.specs.Shapes.{made_as}
 use Rattle.machine.specs.Sound.{IsSoundKind, IsSoundShape}
 use Rattle.blk.specs.Sound.{AreRequestsOf}
@@ -31,7 +32,7 @@ use Rattle.wire.specs.Several.{several}
 use Rattle.wire.specs.DeviceBody.{held_text, kind_text, size_numbers, size_text, size_widths}
 use Rattle.wire.specs.FrameReading.{frame_of}
 use Rattle.wire.specs.FrameText.{frame_text, frames_text}
-use Rattle.wire.specs.BodyReading.{all_of, block_kind_in, console_kind_in, entropy_kind_in, held_of, net_kind_in, kind_in, size_from, size_of}
+use Rattle.wire.specs.BodyReading.{block_with, all_of, block_kind_in, console_kind_in, entropy_kind_in, held_of, net_kind_in, kind_in, size_from, size_of}
 use Rattle.wire.proofs.Choices.{map_found, same_found, not_chosen, neither, so}
 use Rattle.wire.proofs.Digits.{digits-number_at, number_at-digits, numbers-spelled, spelled-numbers, length-digits, IsBytes-digits, IsBytes-append, IsBytes-spelled}
 use Rattle.wire.proofs.FrameLemmas.{frame_of-text, frames_bytes, frames_short, text-frame_of}
@@ -180,7 +181,7 @@ frames_written mac bytes o are e =
 
 -- Of a block device.
 
-requests_read : (sectors : ℕ) (read_only : Bool) (id : List ℕ) (rs : List Request) → RequestsFit rs → block_kind_in sectors read_only id (requests_text rs) ≡ Some (kinds.Block sectors read_only id rs)
+requests_read : (sectors : ℕ) (read_only : Bool) (id : List ℕ) (rs : List Request) → RequestsFit rs → block_kind_in sectors read_only id (requests_text rs) ≡ Some (block_with sectors read_only id rs)
 unfolding block_kind_in
 requests_read sectors read_only id rs fit =
     let few : nat_lt 8 (length rs) ≡ false = le-ltb _ _ fit.few in
@@ -192,7 +193,7 @@ requests_short : (rs : List Request) → AllByRecursion HasFewSegments rs → le
 requests_short [] h = omega arith
 requests_short (r ∷ rs) h = omega (arith, length-append (request_text r) (flat_map request_text rs), length-request_text r, h.0, requests_short rs h.1)
 
-requests_own : (sectors : ℕ) (read_only : Bool) (id : List ℕ) (rs : List Request) → RequestsFit rs → ReadsKind (kinds.Block sectors read_only id rs)
+requests_own : (sectors : ℕ) (read_only : Bool) (id : List ℕ) (rs : List Request) → RequestsFit rs → ReadsKind (block_with sectors read_only id rs)
 requests_own sectors read_only id rs fit = record {
   read = requests_read sectors read_only id rs fit;
   bytes = IsBytes-append (digits 1 (length rs)) (flat_map request_text rs) (IsBytes-digits 1 (length rs) (omega (arith, fit.few))) (requests_bytes rs fit.each);
@@ -204,7 +205,7 @@ unfolding block_kind_in
 requests_written sectors read_only id [] o are e = absurd cc
 requests_written sectors read_only id (count ∷ bytes) o are e =
     let good = not_chosen (nat_lt 8 count) _ o e in
-    let all = all_read (kinds.Block sectors read_only id) (several request_of count bytes) o good.1 in
+    let all = all_read (block_with sectors read_only id) (several request_of count bytes) o good.1 in
     let were = spelled-several request_of request_text Any text-request_of count bytes (all.things, []) (λ i. are (suc i)) all.found_is in
     let texts : bytes ≡ flat_map request_text all.things = were.whole ∙ append-nil (flat_map request_text all.things) in
     ap (λ (x : List ℕ). count ∷ x) texts ∙ ap (λ (n : ℕ). n ∷ flat_map request_text all.things) (sym were.count) ∙ ap kind_text (sym all.kind_is)
@@ -218,17 +219,17 @@ kind_written Console bytes o are e = console_written bytes o are e
 kind_written Entropy bytes o are e = pool_written bytes o are e
 
 -- The requests of a device's first queue.
-queue_requests : (base len sectors : ℕ) (read_only : Bool) (id : List ℕ) (r : Registers) (rs : List Request) (found : Option Queue) → queue_at r 0 ≡ found → sectors ≤ 2097152 → IsSoundRegisters r
-    → IsSomeAnd found (λ q. AreRequestsOf base len (is_packed_by r.common) q (with_features sectors read_only id r.common.features) rs) → RequestsFit rs
-queue_requests base len sectors read_only id r rs None at few sound are = absurd are
-queue_requests base len sectors read_only id r rs (Some q) at few sound are =
+queue_requests : (base len : ℕ) (block : blocks.Block) (r : Registers) (found : Option Queue) → queue_at r 0 ≡ found → block.sectors ≤ 2097152 → IsSoundRegisters r
+    → IsSomeAnd found (λ q. AreRequestsOf base len (is_packed_by r.common) q (limits_of block r.common.features) block.requests) → RequestsFit block.requests
+queue_requests base len block r None at few sound are = absurd are
+queue_requests base len block r (Some q) at few sound are =
     let queue : IsSoundQueue r.ram_base r.ram_len r.common q = rw (get_or_from_slice_get r.queues 0 q q at) at (sound.queues 0 q (slice_get_within r.queues 0 q at)) in
-    requests_fit base len (is_packed_by r.common) q r.common (with_features sectors read_only id r.common.features) rs few queue are
+    requests_fit base len (is_packed_by r.common) q r.common (limits_of block r.common.features) block.requests few queue are
 
 pub kind_reads : (len : ℕ) (r : Registers) (k : Kind) → IsSoundShape (made_as k) → IsSoundRegisters r → IsSoundKind len r k → ReadsKind k
 kind_reads len r (kinds.Network mac frames) shape sound are = frames_own mac frames are
-kind_reads len r (kinds.Block sectors read_only id rs) shape sound are =
-    requests_own sectors read_only id rs (queue_requests r.ram_base len sectors read_only id r rs (queue_at r 0) refl shape.few sound are)
+kind_reads len r (kinds.Block block) shape sound are =
+    requests_own block.sectors block.read_only block.id block.requests (queue_requests r.ram_base len block r (queue_at r 0) refl shape.few sound are)
 kind_reads len r (kinds.Console size held) shape sound are = console_own size held are
 kind_reads len r (kinds.Entropy pool) shape sound are = pool_own pool are
 
@@ -245,7 +246,7 @@ requests_made : (sectors : ℕ) (read_only : Bool) (id bytes : List ℕ) (o : Ki
 unfolding block_kind_in
 requests_made sectors read_only id [] o e = absurd cc
 requests_made sectors read_only id (count ∷ bytes) o e =
-    all_made (kinds.Block sectors read_only id) (Block sectors read_only id) (λ things. refl) (several request_of count bytes) o (not_chosen (nat_lt 8 count) _ o e).1
+    all_made (block_with sectors read_only id) (Block sectors read_only id) (λ things. refl) (several request_of count bytes) o (not_chosen (nat_lt 8 count) _ o e).1
 
 console_made : (bytes : List ℕ) (o : Kind) → console_kind_in bytes ≡ Some o → made_as o ≡ Console
 unfolding console_kind_in

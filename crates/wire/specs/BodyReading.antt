@@ -2,6 +2,7 @@
 use Rattle.std.specs.Prelude.{ℕ, zero, suc, ◌+◌, ◌*◌, ◌≤◌, ◌==◌, ◌||◌, not, nat_eq, nat_lt, if◌then◌else◌, List, [], ◌∷◌, drop, length, Option, Some, None, Bool}
 use Rattle.std.specs.Option.{option_map}
 use Rattle.guestmem.specs.Number.{number_at}
+use Rattle.blk.specs.declared.request.Request.{Request}
 use Rattle.blk.specs.declared.requests.TheConstants.{REQUESTS_MAX}
 use Rattle.chains.specs.declared.position.Positions.{Positions}
 use Rattle.console.specs.declared.host_bytes.TheConstants.{HOST_BYTES_MAX}
@@ -82,10 +83,14 @@ net_kind_in mac bytes =
     if nat_lt (length bytes) 2 || nat_lt INBOX_MAX (number_at bytes 0 2) then None
     else all_of (kinds.Network mac) (several frame_of (number_at bytes 0 2) (drop 2 bytes))
 
+-- A block device that was made as this, with these requests.
+abbrev pub block_with : ℕ → Bool → List ℕ → List Request → Kind
+block_with sectors read_only id requests = kinds.Block (record { sectors = sectors; read_only = read_only; id = id; requests = requests })
+
 -- A block device that was made as this: its requests.
 unfoldable pub block_kind_in : ℕ → Bool → List ℕ → List ℕ → Option Kind
 block_kind_in sectors read_only id [] = None
-block_kind_in sectors read_only id (count ∷ bytes) = if nat_lt REQUESTS_MAX count then None else all_of (kinds.Block sectors read_only id) (several request_of count bytes)
+block_kind_in sectors read_only id (count ∷ bytes) = if nat_lt REQUESTS_MAX count then None else all_of (block_with sectors read_only id) (several request_of count bytes)
 
 -- Bytes of the host, which are all that follows their count in two bytes, and at most 4,096.
 unfoldable pub held_of : List ℕ → Option (List ℕ)

@@ -67,7 +67,7 @@ size_text s = spelled size_widths (size_numbers s)
 -- its pool.
 abbrev pub kind_text : Kind → List ℕ
 kind_text (Network mac frames) = frames_text frames
-kind_text (Block sectors read_only id requests) = requests_text requests
+kind_text (Block block) = requests_text block.requests
 kind_text (Console size held) = size_text size ++ held_text held
 kind_text (Entropy pool) = held_text pool
 

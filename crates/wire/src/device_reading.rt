@@ -11,6 +11,7 @@ ghost use Rattle.std.specs.Prelude.{◌≡◌, ◌≤◌, ◌*◌, ◌^◌, ◌�
 ghost use Rattle.wire.specs.BodyReading.{HasFront, HaveFlags, positions_in, queues_in};
 ghost use Rattle.wire.specs.DeviceBody.{IsBodyOf, RefusesBody, has_zeroes};
 ghost use Rattle.machine.specs.QueuePositions.{HasPositions, HavePositions, is_packed_by};
+ghost use Rattle.blk.specs.Block.{limits_of};
 ghost use Rattle.blk.specs.Sound.{AreRequestsOf};
 ghost use Rattle.machine.specs.Shapes.{made_as, queues_of, saved_device};
 ghost use Rattle.machine.specs.Sound.{IsSoundDevice, IsSoundKind, IsSoundShape};
@@ -22,7 +23,7 @@ use crate::decode_error::DecodeError;
 use crate::header::FIRST_VERSION;
 use crate::kind_reading::kind_at;
 use crate::registers_text::{COMMON_LEN, QUEUE_LEN, common_at, has_flags, positions_at, queue_at};
-use blk::{BlockShape, Requests, WRITE_ZEROES, is_block_shape};
+use blk::{Block, WRITE_ZEROES, is_block_shape};
 use chains::{Position, Positions};
 use console::recall_console;
 use guestmem::recall_bytes;
@@ -231,15 +232,7 @@ fn is_sound_kind(base: u64, ram_len: u64, common: &Common, queues: &[Queue], kin
             inbox.recall();
             true
         }
-        Kind::Block {
-            sectors,
-            read_only,
-            id,
-            requests,
-        } => {
-            let shape = BlockShape::new(*sectors, *read_only, *id, common.features);
-            are_requests_of(base, ram_len, is_packed(common), queues, &shape, requests)
-        }
+        Kind::Block(block) => has_sound_requests(base, ram_len, common, queues, block),
         Kind::Console { size, held } => {
             recall_console(size, held);
             true
@@ -251,19 +244,21 @@ fn is_sound_kind(base: u64, ram_len: u64, common: &Common, queues: &[Queue], kin
     }
 }
 
-/// Whether a block device with these queues may have these requests outstanding.
-fn are_requests_of(
+/// Whether a block device with these registers and queues may have its requests outstanding.
+fn has_sound_requests(
     base: u64,
     ram_len: u64,
-    is_packed: bool,
+    common: &Common,
     queues: &[Queue],
-    shape: &BlockShape,
-    requests: &Requests,
+    block: &Block,
 ) -> bool
-    ensures { IsTrue result ↔ IsSomeAnd (slice_get queues.now 0) (λ q. AreRequestsOf base ram_len is_packed q shape.now requests.now) }
+    ensures { IsTrue result ↔ IsSomeAnd (slice_get queues.now 0) (λ q. AreRequestsOf base ram_len (is_packed_by common.now) q (limits_of block.now common.now.features) block.now.requests) }
 {
     match queues {
-        [first, ..] => requests.are_of(base, ram_len, is_packed, first, shape),
+        [first, ..] => {
+            let features = common.features;
+            block.has_sound_requests(base, ram_len, is_packed(common), first, features)
+        }
         [] => false,
     }
 }

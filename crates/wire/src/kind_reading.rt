@@ -10,7 +10,7 @@ use crate::frame_reading::frames_at;
 use crate::numbers::{COUNT_LEN, u16_at};
 use crate::request_text::requests_at;
 use crate::size_text::{SIZE_LEN, size_at};
-use blk::{ID_SIZE, REQUESTS_MAX};
+use blk::{Block, ID_SIZE, REQUESTS_MAX};
 use console::{HOST_BYTES_MAX, HostBytes};
 use guestmem::NoMemory;
 use machine::{Kind, Shape};
@@ -73,12 +73,12 @@ fn block_kind_at(
     if !rest.is_empty() {
         return Ok(None);
     }
-    Ok(Some(Kind::Block {
+    Ok(Some(Kind::Block(Block {
         sectors,
         read_only,
         id,
         requests,
-    }))
+    })))
 }
 
 #[tactic(auto, unfolding(crate::specs::BodyReading::console_kind_in))]

@@ -224,7 +224,7 @@ fn kind_len(kind: &Kind) -> u32
 {
     match kind {
         Kind::Network { inbox, .. } => frames_len(inbox),
-        Kind::Block { requests, .. } => requests_len(requests),
+        Kind::Block(block) => requests_len(&block.requests),
         Kind::Console { held, .. } => (SIZE_LEN + COUNT_LEN + held.len()) as u32,
         Kind::Entropy(pool) => (COUNT_LEN + pool.len()) as u32,
     }
@@ -272,7 +272,7 @@ fn write_kind<S: Sink, T: Tally>(kind: &Kind, out: &mut S, tally: &mut T) -> Res
 {
     match kind {
         Kind::Network { inbox, .. } => write_frames(inbox, out, tally),
-        Kind::Block { requests, .. } => write_requests(requests, out, tally),
+        Kind::Block(block) => write_requests(&block.requests, out, tally),
         Kind::Console { size, held } => {
             put(&size_bytes(size), out, tally)?;
             write_held(held, out, tally)

@@ -23,6 +23,7 @@ use crate::forgetting::forget;
 use crate::machine::Machine;
 use crate::reply::{Refusal, Reply};
 use crate::stepped::Stepped;
+use crate::work::Work;
 use blk::Disk;
 use console::ConsoleSize;
 use guestmem::{NoLog, TouchLog, access_refusal, recall_bytes};
@@ -161,8 +162,11 @@ impl<D: Disk> Machine<D> {
             return Stepped::Refused(Refusal::NoDevice);
         }
         let device = &mut self.devices[number];
-        let ring = &mut self.rings[ring_place(dev, pick)];
-        device.step(self.alloc, dev, pick, ring, sent, &mut self.ram, log)
+        let ring = &mut self.rings[ring_of(dev, pick)];
+        let work = Work { dev, pick };
+        let stepped = device.step(self.alloc, work, ring, sent, &mut self.ram, log);
+        self.ram.recall();
+        stepped
     }
 
     pub(super) fn step_logged<L: TouchLog>(&mut self, dev: u8, pick: u8, log: &mut L) -> Reply
@@ -175,9 +179,9 @@ impl<D: Disk> Machine<D> {
     }
 }
 
-/// Which of the rings a step of a device makes its own: that of the queue which the pick names, or the second for a request of
-/// a block device, which has one queue.
-fn ring_place(dev: u8, pick: u8) -> usize
+/// The index of the ring that a step of a device makes its own: that of the queue which the pick names, or the second of the device for
+/// a request of a block device, which has one queue.
+fn ring_of(dev: u8, pick: u8) -> usize
     ensures { result ≡ QUEUE_COUNT_MAX * dev + (if pick == 0 then 0 else 1) }
 {
     let first = QUEUE_COUNT_MAX * dev as usize;

@@ -44,11 +44,7 @@ impl<D: Disk + Drop> Machine<D> {
         let ram = RamOf::Pages(ram_pages);
         match Machine::make(alloc, Board { base: 0, ram, shapes, disks }) {
             Ok(machine) => Ok(machine),
-            Err(unmade) => {
-                let Unmade { error, ram, disks: _ } = unmade;
-                ram.gone();
-                Err(error)
-            }
+            Err(unmade) => Err(unmade.reason()),
         }
     }
 

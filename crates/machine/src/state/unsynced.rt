@@ -11,7 +11,7 @@ impl DeviceState {
     pub fn flushes(&self, pick: u8) -> bool
         ensures { result ≡ flushes self.now pick }
     {
-        self.advances(pick) && self.kind.flushes_at(pick as usize - 1)
+        matches!(self.must_sync(pick), SyncOwed::Flush)
     }
 
     /// Whether what the driver wrote has to be durable before a step with this pick, and why: the step flushes the disk, or it ends a
@@ -25,7 +25,7 @@ impl DeviceState {
             return SyncOwed::Nothing;
         }
         let features = self.registers.features();
-        self.kind.must_sync(pick as usize - 1, features)
+        self.kind.due_sync(pick as usize - 1, features)
     }
 
     /// Fails the flush that a step with this pick makes, if it makes one.

@@ -38,5 +38,5 @@ returns-in-Read-clause-moved g c =
     let got = rw c.next_sector-n.ensures at c.in-Read.ensures.fetched in
     let full : length c.read.new.buf ≡ 512 = c.read.array_long in
     let sector : IsSector c.read.new.buf = record { size = full; bytes = c.recall_bytes.ensures } in
-    read_in _ c.args.sectors.now.honest c.args.device c.args.base c.args.ram.now.bytes c.args.sectors.now.content r c.read.new.buf c.copy_in_with_base.new.ram.bytes c.read.new.self.content c.requires.sector c.requires.whole sector got.0 got.1
+    read_in _ c.args.sectors.now.honest c.args.job.device c.args.job.base c.args.ram.now.bytes c.args.sectors.now.content r c.read.new.buf c.copy_in_with_base.new.ram.bytes c.read.new.self.content c.requires.sector c.requires.whole sector got.0 got.1
     (rw (c.as_slice.ensures, full) at c.copy_in_with_base.ensures.bytes) c.read.ensures.same (record { log_is = rw (c.as_slice.ensures, full) at c.copy_in_with_base.ensures.log; rises = rw (c.as_slice.ensures, full) at c.copy_in_with_base.ensures.rises })

@@ -1,6 +1,6 @@
 use Rattle.std.proofs.Common.{◌≡◌, List, map, refl, subst, sym, ◌∙◌, ℕ}
 use Rattle.std.specs.Prelude.{Some}
-use Rattle.machine.specs.First.{dealt_marks, first_machine_at}
+use Rattle.machine.specs.First.{dealt_marks, made_machine, zero_pages}
 use Rattle.machine.specs.Seen.{all_marks, no_marks, state_of}
 use Rattle.machine.specs.Shapes.{disk_sizes}
 use Rattle.machine.specs.declared.shape.Shape.{Shape}
@@ -19,7 +19,7 @@ returns c =
     let images = c.args.images.now in
     let m = c.in-Ok.machine in
     let are : AreImages images (disk_sizes shapes) disks = rw (← c.deref.ensures.value) c.in_ok-disks.ensures in
-    let first : state_of m ≡ first_machine_at base pages shapes (map (λ (d : List (List ℕ)). map Some d) disks) = rw (← c.deref-2.ensures.value) c.in-Ok.ensures.made in
+    let first : state_of m ≡ made_machine base (zero_pages pages) shapes (map (λ (d : List (List ℕ)). map Some d) disks) = rw (← c.deref-2.ensures.value) c.in-Ok.ensures.made in
     let marks : all_marks m ≡ dealt_marks shapes (map (λ (d : List (List ℕ)). no_marks) disks) = rw (← c.deref-2.ensures.value) c.in-Ok.ensures.marks in
     let new : IsMadeWith base pages shapes images m = made_with base pages shapes images disks m are first marks c.in-Ok.ensures.sound in
     let asked : IsMadeWith base pages (shapes_of c.args.shapes.now) images m = subst (λ (l : List Shape). IsMadeWith base pages l images m) c.in_ok-shapes.ensures new in

@@ -1,6 +1,6 @@
 use Rattle.std.proofs.Common.{◌≡◌, List, map, refl, subst, sym}
 use Rattle.std.specs.Prelude.{Some}
-use Rattle.machine.specs.First.{dealt_marks, first_machine_at}
+use Rattle.machine.specs.First.{dealt_marks, made_machine, zero_pages}
 use Rattle.machine.specs.Seen.{all_marks, no_marks, state_of}
 use Rattle.machine.specs.declared.shape.Shape.{Shape}
 use Rattle.mapped_disk.specs.declared.image.Image.{Image}
@@ -18,7 +18,7 @@ returns-in-Ok-clause-made c =
     let pages = c.args.pages in
     let images = c.args.images.now in
     let m = c.in-Ok.machine in
-    let first : state_of m ≡ first_machine_at base pages shapes (map (λ (d : Image). map Some d.content) disks) = rw (← c.deref.ensures.value) c.in-Ok.ensures.made in
+    let first : state_of m ≡ made_machine base (zero_pages pages) shapes (map (λ (d : Image). map Some d.content) disks) = rw (← c.deref.ensures.value) c.in-Ok.ensures.made in
     let marks : all_marks m ≡ dealt_marks shapes (map (λ (d : Image). no_marks) disks) = rw (← c.deref.ensures.value) c.in-Ok.ensures.marks in
     let new : IsMapped base pages shapes (contents images) m = made_over base pages shapes images disks m c.in_ok-disks.ensures.disks first marks c.in-Ok.ensures.sound in
     let asked : IsMapped base pages (shapes_of c.args.shapes.now) (contents images) m = subst (λ (l : List Shape). IsMapped base pages l (contents images) m) c.in_ok-shapes.ensures new in

@@ -1,6 +1,6 @@
 use Rattle.std.proofs.Common.{◌≡◌, ◌∙◌, List, ℕ, map, refl, subst, sym}
 use Rattle.std.specs.Prelude.{Some}
-use Rattle.machine.specs.First.{dealt_marks, machine_over_at}
+use Rattle.machine.specs.First.{dealt_marks, made_machine}
 use Rattle.machine.specs.Seen.{all_marks, no_marks, state_of}
 use Rattle.machine.specs.Shapes.{disk_sizes}
 use Rattle.machine.specs.declared.shape.Shape.{Shape}
@@ -22,7 +22,7 @@ returns-in-Ok-clause-made c =
     let m = c.in-Ok.machine in
     let contents = c.args.contents.now in
     let are : AreImages contents (disk_sizes shapes) disks = rw (← c.deref.ensures.value) c.in_ok-disks.ensures in
-    let first : state_of m ≡ machine_over_at base region.content shapes (map (λ (d : List (List ℕ)). map Some d) disks) = rw (← c.deref-2.ensures.value) c.in-Ok.ensures.made in
+    let first : state_of m ≡ made_machine base region.content shapes (map (λ (d : List (List ℕ)). map Some d) disks) = rw (← c.deref-2.ensures.value) c.in-Ok.ensures.made in
     let marks : all_marks m ≡ dealt_marks shapes (map (λ (d : List (List ℕ)). no_marks) disks) = rw (← c.deref-2.ensures.value) c.in-Ok.ensures.marks in
     let new : IsMadeOverWith base ram shapes contents m = over_contents base ram region shapes contents disks m c.taken_ram.ensures.region are first c.in-Ok.ensures.place marks c.in-Ok.ensures.sound in
     let asked : IsMadeOverWith base ram (shapes_of c.args.shapes.now) contents m = subst (λ (l : List Shape). IsMadeOverWith base ram l contents m) c.in_ok-shapes.ensures new in

@@ -1,6 +1,6 @@
 use Rattle.std.proofs.Common.{◌≡◌, ◌∙◌, List, map, refl, subst, sym}
 use Rattle.std.specs.Prelude.{Some}
-use Rattle.machine.specs.First.{dealt_marks, machine_over_at}
+use Rattle.machine.specs.First.{dealt_marks, made_machine}
 use Rattle.machine.specs.Seen.{all_marks, no_marks, state_of}
 use Rattle.machine.specs.declared.shape.Shape.{Shape}
 use Rattle.mapped_disk.specs.declared.image.Image.{Image}
@@ -19,7 +19,7 @@ returns-in-Ok-clause-made c =
     let ram = c.args.ram.now in
     let region = c.taken_ram.result in
     let m = c.in-Ok.machine in
-    let first : state_of m ≡ machine_over_at base region.content shapes (map (λ (d : Image). map Some d.content) disks) = rw (← c.deref.ensures.value) c.in-Ok.ensures.made in
+    let first : state_of m ≡ made_machine base region.content shapes (map (λ (d : Image). map Some d.content) disks) = rw (← c.deref.ensures.value) c.in-Ok.ensures.made in
     let marks : all_marks m ≡ dealt_marks shapes (map (λ (d : Image). no_marks) disks) = rw (← c.deref.ensures.value) c.in-Ok.ensures.marks in
     let new : IsMadeOver base ram shapes (first_disks shapes images) m = over_images base ram region shapes images disks m c.taken_ram.ensures.region c.requires c.in_ok-disks.ensures.disks first c.in-Ok.ensures.place marks c.in-Ok.ensures.sound in
     let asked : IsMadeOver base ram (shapes_of c.args.shapes.now) (first_disks (shapes_of c.args.shapes.now) images) m = subst (λ (l : List Shape). IsMadeOver base ram l (first_disks l images) m) c.in_ok-shapes.ensures new in

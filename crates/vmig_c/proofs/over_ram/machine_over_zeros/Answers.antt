@@ -1,6 +1,6 @@
 use Rattle.std.proofs.Common.{◌≡◌, ◌∙◌, List, ℕ, [], map, refl, replicate, subst, sym}
 use Rattle.std.specs.Prelude.{Some}
-use Rattle.machine.specs.First.{dealt_marks, machine_over_at}
+use Rattle.machine.specs.First.{dealt_marks, made_machine}
 use Rattle.machine.specs.Seen.{all_marks, no_marks, state_of}
 use Rattle.machine.specs.Shapes.{disk_sizes}
 use Rattle.machine.specs.declared.shape.Shape.{Shape}
@@ -19,7 +19,7 @@ returns-in-Ok-clause-made c =
     let region = c.taken_ram.result in
     let m = c.in-Ok.machine in
     let zeros : disks ≡ map (λ (n : ℕ). replicate n (replicate {A = ℕ} 512 0)) (disk_sizes shapes) = rw (← c.deref.ensures.value) c.in_ok-disks.ensures in
-    let first : state_of m ≡ machine_over_at base region.content shapes (map (λ (d : List (List ℕ)). map Some d) disks) = rw (← c.deref-2.ensures.value) c.in-Ok.ensures.made in
+    let first : state_of m ≡ made_machine base region.content shapes (map (λ (d : List (List ℕ)). map Some d) disks) = rw (← c.deref-2.ensures.value) c.in-Ok.ensures.made in
     let marks : all_marks m ≡ dealt_marks shapes (map (λ (d : List (List ℕ)). no_marks) disks) = rw (← c.deref-2.ensures.value) c.in-Ok.ensures.marks in
     let new : IsMadeOver base ram shapes (first_disks shapes []) m = over_zeros base ram region shapes disks m c.taken_ram.ensures.region zeros first c.in-Ok.ensures.place marks c.in-Ok.ensures.sound in
     let asked : IsMadeOver base ram (shapes_of c.args.shapes.now) (first_disks (shapes_of c.args.shapes.now) []) m = subst (λ (l : List Shape). IsMadeOver base ram l (first_disks l []) m) c.in_ok-shapes.ensures new in

@@ -14,6 +14,6 @@ returns-clause-fetched g c =
     let bad = c.self.inside.bad in
     let h : c.args.n < length (sectors_of ss bad) = rw (← c.self.view_is) at c.requires.inside in
     let below : c.args.n < length ss = omega (arith, h, length_sectors ss bad) in
-    let marked = bad_marked ss bad c.args.n c.self.invariant below in
+    let marked = bad_marked ss bad c.args.n c.self.invariant.0 below in
     let good : get_or bad c.args.n false ≡ false = sym marked ∙ (rw (← c.self.view_is) at c.requires.good) in
-    rw (← c.self.view_is, sector_marked ss bad c.args.n c.self.invariant below, good) c.read.ensures.found
+    rw (← c.self.view_is, sector_marked ss bad c.args.n c.self.invariant.0 below, good) c.read.ensures.read.found
