@@ -2,13 +2,15 @@
 use Rattle.std.specs.Prelude.{◌≡◌, ℕ, ◌+◌, ◌*◌, ◌==◌, Bool, IsTrue, true, false, not, List, [], ◌∷◌, ◌++◌, length, slice_set, slice_get, Option, Some, None, if◌then◌else◌}
 use Rattle.std.specs.List.{remove}
 use Rattle.guestmem.specs.Item.{Item}
+use Rattle.guestmem.specs.Rises.{Touches}
 use Rattle.guestmem.specs.Writes.{Write, set_all, touched}
+use Rattle.chains.specs.Served.{Scene}
 use Rattle.chains.specs.State.{RingState}
 use Rattle.chains.specs.Places.{places, last_place, place_writes}
 use Rattle.chains.specs.Publish.{published, is_interrupt_due, after_publish}
-use Rattle.blk.specs.Sectors.{IsGiven, Sector}
+use Rattle.blk.specs.Sectors.{IsGiven, Sector, SectorsState}
 use Rattle.blk.specs.Request.{verdict_byte, is_open}
-use Rattle.blk.specs.Move.{AreSet, Move, SectorSet, is_bad_sector, sectors_touched, move_of}
+use Rattle.blk.specs.Move.{AreSet, Move, SectorSet, is_bad_sector, is_disk_failed, sectors_touched, move_of}
 use Rattle.blk.specs.declared.disk.TheConstants.{SECTOR_SIZE}
 use Rattle.blk.specs.declared.shape.TheConstants.{ID_SIZE}
 use Rattle.blk.specs.declared.request.Kind.{Kind}
@@ -84,6 +86,11 @@ pub record IsAfterAdvancing (touches : List Item → Type 0) (honest : Bool) (de
   pub content_is : AreSet honest content (step given).sets new_content
   pub block_is : new_block ≡ (step given).block
   pub items_are : touches (touched (step given).writes ++ sectors_touched device (step given).sets)
+
+-- A step was made with this answer, which advanced the k-th request, from 0, of the device with this number.
+abbrev pub HasAdvanced : {L : Type 0} → (L → Item → L) → ℕ → ℕ → Scene L Block → SectorsState → Scene L Block → SectorsState → Advanced → Type 0
+HasAdvanced after device k old sectors new new_sectors answer =
+    IsAfterAdvancing (Touches after old.log new.log old.ram new.ram) sectors.honest device old.ram.bytes sectors.content (λ given. advance_step old.ram.bytes old.ring given old.state k (not (is_disk_failed answer))) answer new.ram.bytes new.ring new_sectors.content new.state
 
 -- A request to flush that advanced has left its disk flushed.
 abbrev pub HasFlushed : Block → ℕ → Advanced → Bool → Type 0

@@ -1,9 +1,11 @@
 -- One unit of a request (VIRTIO 1.2, 5.2.6).
-use Rattle.std.specs.Prelude.{◌≡◌, ℕ, ◌+◌, ◌*◌, ◌<◌, Bool, true, false, List, [], ◌∷◌, ◌++◌, take, drop, map, replicate, slice_set, Some, None, IsTrue, if◌then◌else◌}
+use Rattle.std.specs.Prelude.{◌≡◌, ℕ, ◌+◌, ◌*◌, ◌<◌, Bool, true, false, not, List, [], ◌∷◌, ◌++◌, take, drop, map, replicate, slice_set, Some, None, IsTrue, if◌then◌else◌}
 use Rattle.guestmem.specs.Item.{Item, sector}
+use Rattle.guestmem.specs.Memory.{Memory}
+use Rattle.guestmem.specs.Rises.{Touches}
 use Rattle.guestmem.specs.Writes.{Write, set_all, touched}
 use Rattle.chains.specs.Places.{places, read_places, place_writes}
-use Rattle.blk.specs.Sectors.{IsGiven, Sector, sector_in, is_bad, bytes_of}
+use Rattle.blk.specs.Sectors.{IsGiven, Sector, SectorsState, sector_in, is_bad, bytes_of}
 use Rattle.blk.specs.Request.{next_sector}
 use Rattle.blk.specs.declared.disk.TheConstants.{SECTOR_SIZE}
 use Rattle.blk.specs.declared.request.TheConstants.{HEADER_SIZE}
@@ -139,6 +141,22 @@ pub record IsMoved (touches : List Item → Type 0) (honest : Bool) (device : �
   pub ram_is : new_ram ≡ set_all ram (move given).writes
   pub content_is : AreSet honest content (move given).sets new_content
   pub items_are : touches (touched (move given).writes ++ sectors_touched device (move given).sets)
+
+-- What a unit finds, or leaves: RAM, a log, the sectors of the disk, and the request.
+pub record UnitScene (L : Type 0) : Type 0 where
+  pub ram : Memory
+  pub log : L
+  pub sectors : SectorsState
+  pub request : Request
+
+abbrev pub unit_scene : {L : Type 0} → Memory → L → SectorsState → Request → UnitScene L
+unit_scene ram log sectors request = record { ram = ram; log = log; sectors = sectors; request = request }
+
+-- A unit was done with this answer, by what it does with the sectors as the disk returned them, the request, and whether a call of the
+-- disk succeeds.
+abbrev pub HasMoved : {L : Type 0} → (L → Item → L) → ℕ → UnitScene L → UnitScene L → (List Sector → Request → Bool → Move) → Advanced → Type 0
+HasMoved after device old new move answer =
+    IsMoved (Touches after old.log new.log old.ram new.ram) old.sectors.honest device old.ram.bytes old.sectors.content (λ given. move given old.request (not (is_disk_failed answer))) answer new.request new.ram.bytes new.sectors.content
 
 -- Every sector of a disk of `count` sectors, of the device with this number, may be passed to the log.
 abbrev pub MaySectors : {L : Type 0} → (L → Item → Type 0) → L → ℕ → ℕ → Type 0

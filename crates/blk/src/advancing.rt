@@ -8,14 +8,15 @@
 //! A request that ends is published where it lies, and dropped there if it is the last: moving its 216 bytes would cost each
 //! step.
 
-ghost use Rattle.std.specs.Prelude.{◌≡◌, ◌≤◌, ◌<◌, ◌^◌, length, not};
+ghost use Rattle.std.specs.Prelude.{◌≡◌, ◌≤◌, ◌<◌, ◌^◌, length};
 ghost use Rattle.guestmem.specs.Item.{after_all};
 ghost use Rattle.guestmem.specs.Writes.{set_all, touched};
-ghost use Rattle.guestmem.specs.Rises.{Rises, Touches};
+ghost use Rattle.guestmem.specs.Rises.{Rises};
 ghost use Rattle.chains.specs.Frame.{MayServe, HasServed};
 ghost use Rattle.chains.specs.Places.{places, AreSegmentsInside};
+ghost use Rattle.chains.specs.Served.{scene};
 ghost use Rattle.chains.specs.Publish.{after_publish, is_interrupt_due};
-ghost use Rattle.blk.specs.Advance.{end_writes, used_len, data_written, HasFlushed, IsAfterAdvancing, advance_step, asks_at};
+ghost use Rattle.blk.specs.Advance.{end_writes, used_len, data_written, HasAdvanced, HasFlushed, asks_at};
 ghost use Rattle.blk.specs.Block.{widest};
 ghost use Rattle.blk.specs.Sectors.{AreWhole, Calls, IsKept};
 ghost use Rattle.blk.specs.Move.{MaySectors, is_disk_failed};
@@ -86,7 +87,7 @@ impl Block {
         requires capacity { length sectors.old.content ≡ self.old.sectors }
         requires sound { AreSound (length ram.old.bytes) (R.state ring.old) (widest self.old.sectors) self.old.requests }
         requires may_sectors { MaySectors L.may log.old job.device (length sectors.old.content) }
-        ensures changes { IsAfterAdvancing (Touches L.after log.old log.new ram.old ram.new) sectors.old.honest job.device ram.old.bytes sectors.old.content (λ given. advance_step ram.old.bytes (R.state ring.old) given self.old job.k (not (is_disk_failed result))) result ram.new.bytes (R.state ring.new) sectors.new.content self.new }
+        ensures changes { HasAdvanced L.after job.device job.k (scene ram.old log.old (R.state ring.old) self.old) sectors.old (scene ram.new log.new (R.state ring.new) self.new) sectors.new result }
         ensures kept { IsKept sectors.old (is_disk_failed result) sectors.new }
         ensures calls { Calls D.called (asks_at self.old job.k result) sectors.old sectors.new }
         ensures flushed { HasFlushed self.old job.k result sectors.new.is_flushed }

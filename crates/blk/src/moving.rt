@@ -4,13 +4,13 @@ ghost use Rattle.std.specs.Prelude.{◌≡◌, ◌≤◌, ◌<◌, ◌+◌, ◌^
 ghost use Rattle.guestmem.specs.Item.{MayPages, after_all, sector};
 ghost use Rattle.guestmem.specs.Memory.{Memory};
 ghost use Rattle.guestmem.specs.Writes.{set_all, touched};
-ghost use Rattle.guestmem.specs.Rises.{Rises, Touches};
+ghost use Rattle.guestmem.specs.Rises.{Rises};
 ghost use Rattle.chains.specs.Frame.{HasServed};
 ghost use Rattle.chains.specs.Places.{places, AreSegmentsInside};
 ghost use Rattle.blk.specs.Request.{is_open, next_sector};
 ghost use Rattle.blk.specs.Advance.{asks};
 ghost use Rattle.blk.specs.Sectors.{AreWhole, Calls, IsKept};
-ghost use Rattle.blk.specs.Move.{IsMoved, MaySectors, move_in, move_out, move_zero, move_flush, move_id, move_of, write_unit, after_unit, is_disk_failed};
+ghost use Rattle.blk.specs.Move.{HasMoved, MaySectors, unit_scene, move_in, move_out, move_zero, move_flush, move_id, move_of, write_unit, after_unit, is_disk_failed};
 ghost use Rattle.blk.specs.Block.{widest};
 ghost use Rattle.blk.specs.Sound.{HasSoundWork};
 ghost use Rattle.blk.specs.declared.advancing.Advanced.TheVariants.{Moved};
@@ -40,7 +40,7 @@ fn move_in<D: Disk, L: TouchLog>(
     requires small { length sectors.old.content < 2 ^ 64 }
     requires whole { AreWhole sectors.old.content }
     requires may { MayPages L.may log.old (length ram.old.bytes) }
-    ensures moved { IsMoved (Touches L.after log.old log.new ram.old ram.new) sectors.old.honest job.device ram.old.bytes sectors.old.content (λ given. move_in job.base given request.old (not (is_disk_failed result))) result request.new ram.new.bytes sectors.new.content }
+    ensures moved { HasMoved L.after job.device (unit_scene ram.old log.old sectors.old request.old) (unit_scene ram.new log.new sectors.new request.new) (move_in job.base) result }
     ensures request { request.new ≡ after_unit request.old result }
     ensures kept { IsKept sectors.old (is_disk_failed result) sectors.new }
     ensures calls { Calls D.called (asks kinds.In result) sectors.old sectors.new }
@@ -89,7 +89,7 @@ fn move_out<D: Disk, L: TouchLog>(
     requires whole { AreWhole sectors.old.content }
     requires may { MayPages L.may log.old (length ram.old.bytes) }
     requires may_sectors { MaySectors L.may log.old job.device (length sectors.old.content) }
-    ensures moved { IsMoved (Touches L.after log.old log.new ram.old ram.new) sectors.old.honest job.device ram.old.bytes sectors.old.content (λ given. move_out job.base ram.old.bytes request.old (not (is_disk_failed result))) result request.new ram.new.bytes sectors.new.content }
+    ensures moved { HasMoved L.after job.device (unit_scene ram.old log.old sectors.old request.old) (unit_scene ram.new log.new sectors.new request.new) (λ given. move_out job.base ram.old.bytes) result }
     ensures request { request.new ≡ after_unit request.old result }
     ensures kept { IsKept sectors.old (is_disk_failed result) sectors.new }
     ensures calls { Calls D.called true sectors.old sectors.new }
@@ -118,7 +118,7 @@ fn move_zero<D: Disk, L: TouchLog>(
     requires small { length sectors.old.content < 2 ^ 64 }
     requires whole { AreWhole sectors.old.content }
     requires may_sectors { MaySectors L.may log.old device (length sectors.old.content) }
-    ensures moved { (ram : Memory) → IsMoved (Touches L.after log.old log.new ram ram) sectors.old.honest device ram.bytes sectors.old.content (λ given. move_zero request.old (not (is_disk_failed result))) result request.new ram.bytes sectors.new.content }
+    ensures moved { (ram : Memory) → HasMoved L.after device (unit_scene ram log.old sectors.old request.old) (unit_scene ram log.new sectors.new request.new) (λ given. move_zero) result }
     ensures request { request.new ≡ after_unit request.old result }
     ensures kept { IsKept sectors.old (is_disk_failed result) sectors.new }
     ensures calls { Calls D.called true sectors.old sectors.new }
@@ -140,7 +140,7 @@ fn write_unit<D: Disk, L: TouchLog>(
     requires small { length sectors.old.content < 2 ^ 64 }
     requires whole { AreWhole sectors.old.content }
     requires may_sectors { MaySectors L.may log.old device (length sectors.old.content) }
-    ensures moved { (ram : Memory) → IsMoved (Touches L.after log.old log.new ram ram) sectors.old.honest device ram.bytes sectors.old.content (λ given. write_unit bytes.now request.old (not (is_disk_failed result))) result request.new ram.bytes sectors.new.content }
+    ensures moved { (ram : Memory) → HasMoved L.after device (unit_scene ram log.old sectors.old request.old) (unit_scene ram log.new sectors.new request.new) (λ given. write_unit bytes.now) result }
     ensures request { request.new ≡ after_unit request.old result }
     ensures kept { IsKept sectors.old (is_disk_failed result) sectors.new }
     ensures calls { Calls D.called true sectors.old sectors.new }
@@ -217,7 +217,7 @@ pub(crate) fn move_unit<D: Disk, L: TouchLog>(
     requires writable { AreSegmentsInside job.base (length ram.old.bytes) request.old.writable }
     requires may { MayPages L.may log.old (length ram.old.bytes) }
     requires may_sectors { MaySectors L.may log.old job.device (length sectors.old.content) }
-    ensures moved { IsMoved (Touches L.after log.old log.new ram.old ram.new) sectors.old.honest job.device ram.old.bytes sectors.old.content (λ given. move_of request.old.kind job.base id.now ram.old.bytes given request.old (not (is_disk_failed result))) result request.new ram.new.bytes sectors.new.content }
+    ensures moved { HasMoved L.after job.device (unit_scene ram.old log.old sectors.old request.old) (unit_scene ram.new log.new sectors.new request.new) (move_of request.old.kind job.base id.now ram.old.bytes) result }
     ensures request { request.new ≡ after_unit request.old result }
     ensures sound { (limits : Limits) → HasSoundWork limits request.old → HasSoundWork limits request.new }
     ensures kept { IsKept sectors.old (is_disk_failed result) sectors.new }

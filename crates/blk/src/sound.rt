@@ -4,7 +4,7 @@ ghost use Rattle.std.specs.Prelude.{◌≡◌, ◌≤◌, ◌<◌, ◌+◌, ◌^
 ghost use Rattle.std.specs.Bool.{MatchBool};
 ghost use Rattle.chains.specs.Places.{places, AreSegmentsInside};
 ghost use Rattle.blk.specs.Request.{is_good};
-ghost use Rattle.blk.specs.Sound.{IsSoundRequest, IsSoundWork, MayEnd};
+ghost use Rattle.blk.specs.Sound.{HasSoundWork, IsSoundRequest, IsSoundWork, MayEnd};
 
 use crate::disk::SECTOR_SIZE;
 use crate::request::{HEADER_SIZE, Kind, Request, SEGMENT_SIZE, Verdict};
@@ -72,7 +72,7 @@ impl Request {
 
     /// Whether its bytes are not too many, have room for its header and its verdict, and fit its kind.
     fn has_sound_bytes(&self, limits: Limits) -> bool
-        ensures { IsTrue result ↔ ((length (places self.now.readable) + length (places self.now.writable) < 2 ^ 32) × (HEADER_SIZE ≤ length (places self.now.readable)) × (1 ≤ length (places self.now.writable)) × IsSoundWork self.now.kind (length (places self.now.readable)) (length (places self.now.writable)) limits self.now.verdict self.now.first self.now.units self.now.done) }
+        ensures { IsTrue result ↔ ((length (places self.now.readable) + length (places self.now.writable) < 2 ^ 32) × (HEADER_SIZE ≤ length (places self.now.readable)) × (1 ≤ length (places self.now.writable)) × HasSoundWork limits self.now) }
     {
         let readable = self.readable.total_len();
         let writable = self.writable.total_len();

@@ -1,11 +1,11 @@
 //! Segments of guest memory.
 //!
 //! Drivers of block and network devices hand over two or three buffers for ordinary requests, and an entropy or console request
-//! has one; so these steps take no memory. Four segments are 64 bytes. Where a longer list has room left a segment is put there
-//! by a call that cannot grow it: growing is a call of its own. A list keeps its count and its bytes in all, so nobody adds
-//! them up again. What a step costs with these calls apart is in docs/costs.md ("A step").
+//! has one; so these steps take no memory. Four segments are 64 bytes. A list that has to grow does so in a call of its own, which
+//! a step of few segments does not carry along (docs/costs.md, "A step"). A list keeps its count and its bytes in all, so nobody
+//! adds them up again.
 
-ghost use Rattle.std.specs.Prelude.{◌≡◌, ◌==◌, ◌<◌, ◌≤◌, ◌^◌, [], ◌∷◌, ◌++◌, length, OnOk, OnErr, IsOk};
+ghost use Rattle.std.specs.Prelude.{◌≡◌, ◌==◌, ◌<◌, ◌≤◌, ◌+◌, ◌^◌, [], ◌∷◌, ◌++◌, length, OnOk, OnErr, IsOk};
 ghost use Rattle.chains.specs.Places.{places};
 
 use crate::limits::SHORT_CHAIN_MAX;
@@ -85,7 +85,11 @@ impl Segs {
         ensures err { OnErr result (self.new ≡ self.old) }
         ensures short { length self.old < SHORT_CHAIN_MAX → IsOk result }
     {
-        push(&mut self.list, self.count, seg)?;
+        // The inline places are filled without a look at how the list is kept.
+        if self.count >= SHORT_CHAIN_MAX {
+            grow(&mut self.list)?;
+        }
+        self.list.push_reserved(seg);
         self.count += 1;
         self.total += seg.len as u64;
         Ok(())
@@ -120,52 +124,14 @@ impl Segs {
     }
 }
 
-/// Adds a segment at the end of a list of `count` that has at least the inline places. These are filled without a look at how the
-/// list is kept.
-#[inline(always)]
-fn push(list: &mut SmallVec<Seg, SHORT_CHAIN_MAX>, count: usize, seg: Seg) -> Result<(), NoMemory>
-    requires inline { SHORT_CHAIN_MAX ≤ list.old.capacity }
-    requires count { count ≡ length list.old.items }
-    ensures ok { OnOk result (list.new.items ≡ list.old.items ++ seg ∷ []) }
-    ensures err { OnErr result (list.new ≡ list.old) }
-    ensures short { length list.old.items < SHORT_CHAIN_MAX → IsOk result }
-    ensures capacity { list.old.capacity ≤ list.new.capacity }
-{
-    if count < SHORT_CHAIN_MAX {
-        list.push_reserved(seg);
-        return Ok(());
-    }
-    push_far(list, count, seg)
-}
-
-/// Does what `push` does, for a list whose inline places are filled. Memory is asked for only where there is no room left.
+/// Makes room for one more segment, where there is none. Its only error is out of memory, and then nothing has changed.
 #[cold]
 #[inline(never)]
-fn push_far(
-    list: &mut SmallVec<Seg, SHORT_CHAIN_MAX>,
-    count: usize,
-    seg: Seg,
-) -> Result<(), NoMemory>
-    requires count { count ≡ length list.old.items }
-    ensures ok { OnOk result (list.new.items ≡ list.old.items ++ seg ∷ []) }
+fn grow(list: &mut SmallVec<Seg, SHORT_CHAIN_MAX>) -> Result<(), NoMemory>
+    ensures items { list.new.items ≡ list.old.items }
+    ensures room { OnOk result (length list.new.items + 1 ≤ list.new.capacity) }
     ensures err { OnErr result (list.new ≡ list.old) }
     ensures capacity { list.old.capacity ≤ list.new.capacity }
 {
-    if count < list.capacity() {
-        list.push_reserved(seg);
-        return Ok(());
-    }
-    push_grown(list, seg)
-}
-
-/// Adds a segment at the end of a list that has to grow.
-#[cold]
-#[inline(never)]
-fn push_grown(list: &mut SmallVec<Seg, SHORT_CHAIN_MAX>, seg: Seg) -> Result<(), NoMemory>
-    ensures ok { OnOk result (list.new.items ≡ list.old.items ++ seg ∷ []) }
-    ensures err { OnErr result (list.new ≡ list.old) }
-    ensures capacity { list.old.capacity ≤ list.new.capacity }
-{
-    list.push(seg)?;
-    Ok(())
+    list.reserve(1)
 }

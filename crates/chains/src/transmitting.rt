@@ -3,16 +3,11 @@
 //! One step serves all devices that send: a network device and a console differ in how many bytes a message may have and in how
 //! many of them are its header. `MessageForm` has these three numbers.
 
-ghost use Rattle.std.specs.Prelude.{◌≡◌, ◌≤◌, ◌<◌, ◌+◌, ◌^◌, length, OnOk};
-ghost use Rattle.guestmem.specs.Item.{after_all};
-ghost use Rattle.guestmem.specs.Rises.{Rises};
-ghost use Rattle.guestmem.specs.Writes.{set_all, touched};
-ghost use Rattle.chains.specs.Frame.{MayServe, HasServed, MayLook, HasLooked};
+ghost use Rattle.std.specs.Prelude.{◌≡◌, ◌≤◌, ◌<◌, ◌^◌, length, OnOk};
+ghost use Rattle.chains.specs.Frame.{MayLook, HasLooked};
 ghost use Rattle.chains.specs.Places.{places, AreSegmentsInside};
-ghost use Rattle.chains.specs.Publish.{is_interrupt_due, after_take, after_publish};
-ghost use Rattle.chains.specs.Ring.{IsBounded};
 ghost use Rattle.chains.specs.Served.{HasRun, bare_scene};
-ghost use Rattle.chains.specs.Transmit.{message_of, handed_back, transmit_step};
+ghost use Rattle.chains.specs.Transmit.{message_of, transmit_step};
 ghost use Rattle.chains.specs.declared.looking.Wanted.TheVariants.{Message};
 
 use crate::chain::Chain;
@@ -57,7 +52,8 @@ pub fn transmit<R: Ring, L: TouchLog>(
     let mut chain = Chain::new(site.alloc);
     look(ring, Wanted::Message(form), &mut chain, ram, log)?;
     read_message(form.header, &chain, message, site.base, ram)?;
-    let is_due = hand_back(ring, &chain, ram, log);
+    ring.take(&chain);
+    let is_due = ring.publish(chain.id, chain.slots, 0, false, ram, log);
     Ok(Served {
         done: Done::Sent,
         is_due,
@@ -83,21 +79,4 @@ fn read_message(
     let segs = chain.readable.as_slice();
     copy_out_with_base(ram, base, segs, header as u64, message.as_mut_slice());
     Ok(())
-}
-
-/// Publishes a chain whose message was read. The result is whether an interrupt is due.
-#[inline(always)]
-fn hand_back<R: Ring, L: TouchLog>(ring: &mut R, chain: &Chain, ram: &mut Ram, log: &mut L) -> bool
-    requires ready { MayServe L.may (length ram.old.bytes) (R.state ring.old) log.old }
-    requires bounded { IsBounded (length ram.old.bytes) (R.state ring.old) chain.now }
-    ensures due { result ≡ is_interrupt_due (after_take (R.state ring.old) chain.now.slots) chain.now.slots ram.new.bytes }
-    ensures bytes { ram.new.bytes ≡ set_all ram.old.bytes (handed_back (R.state ring.old) chain.now) }
-    ensures state { R.state ring.new ≡ after_publish (after_take (R.state ring.old) chain.now.slots) chain.now.slots }
-    ensures log { log.new ≡ after_all L.after log.old (touched (handed_back (R.state ring.old) chain.now)) }
-    ensures rises { Rises (touched (handed_back (R.state ring.old) chain.now)) ram.old ram.new }
-    ensures after { HasServed L.may ram.old ram.new log.new }
-    ensures decoder { R.decoder ring.new ≡ R.decoder ring.old }
-{
-    ring.take(chain);
-    ring.publish(chain.id, chain.slots, 0, false, ram, log)
 }

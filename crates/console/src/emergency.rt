@@ -9,7 +9,7 @@ ghost use Rattle.console.specs.Emergency.{emergency_byte};
 use mmio::CONFIG;
 
 /// The offset of the emergency register in the window of the device (VIRTIO 1.2, 5.3.4).
-pub const EMERGENCY: u32 = CONFIG + 8;
+pub(crate) const EMERGENCY: u32 = CONFIG + 8;
 
 /// The byte that a write of the driver prints: the lowest one of the value, where it is a write of 1, 2 or 4 bytes at
 /// the emergency register. It is printed whatever the status of the device is. No other write prints a byte.

@@ -90,7 +90,7 @@ impl HostBytes {
     }
 
     /// Takes out the first of the bytes.
-    pub fn take_out(&mut self, count: usize)
+    pub(crate) fn take_out(&mut self, count: usize)
         requires { count ≤ length self.old }
         ensures { self.new ≡ drop count self.old }
     {

@@ -1,9 +1,9 @@
 //! The steps that serve a console (VIRTIO 1.2, 5.3) and an entropy device (VIRTIO 1.2, 5.4), and what both keep.
 //!
 //! # What the layers above may rely on
-//! - `receive(ring, bytes, ram, log)` is `receive_step` (`specs/Receive`) over any `Ring`: RAM, ring, bytes held, log and answer
-//!   after it. It serves the receive queue of a console and the queue of an entropy device. An error is out of memory, comes only at
-//!   a long queue, and leaves all four as they were.
+//! - `receive(site, ring, held, ram, log)` is `receive_step` (`specs/Receive`) over any `Ring`: RAM, ring, bytes held, log and answer
+//!   after it. It serves the receive queue of a console and the queue of an entropy device. Memory may be refused at a long queue,
+//!   which leaves all four as they were.
 //! - `HostBytes` holds at most 4,096 bytes that the host has put in, in room made with it.
 //! - `transmit` is the step of `chains` that takes a message, with at most 65,536 bytes and no header (`specs/Transmit`).
 //! - `ConsoleSize` has the bytes of the configuration; `resize` reports a size that differs by the registers, and no other
@@ -21,9 +21,9 @@ mod shape;
 mod size;
 mod transmitting;
 
-pub use emergency::{EMERGENCY, emergency_byte};
+pub use emergency::emergency_byte;
 pub use host_bytes::{HOST_BYTES_MAX, HostBytes};
 pub use receiving::receive;
-pub use shape::{DEVICE_ID, EMERGENCY_WRITE, FEATURES, QUEUE_COUNT, SIZE, recall_console};
-pub use size::{CONFIGURATION_SIZE, ConsoleSize};
-pub use transmitting::{TEXT_MAX, transmit};
+pub use shape::{DEVICE_ID, FEATURES, QUEUE_COUNT, recall_console};
+pub use size::ConsoleSize;
+pub use transmitting::transmit;

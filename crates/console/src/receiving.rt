@@ -1,13 +1,10 @@
 //! The step that gives bytes to the guest.
 
-ghost use Rattle.std.specs.Prelude.{◌≡◌, ◌≤◌, ◌<◌, ◌+◌, ◌^◌, ℕ, List, length, Some};
-ghost use Rattle.guestmem.specs.Rises.{Touches};
-ghost use Rattle.chains.specs.Frame.{MayServe, HasServed, MayLook, HasLooked};
-ghost use Rattle.chains.specs.Ring.{IsBounded};
-ghost use Rattle.chains.specs.Served.{HasRun, IsDone, scene};
-ghost use Rattle.chains.specs.Service.{Did, deed_in};
+ghost use Rattle.std.specs.Prelude.{◌≡◌, ℕ, List};
+ghost use Rattle.chains.specs.Frame.{MayLook, HasLooked};
+ghost use Rattle.chains.specs.Served.{HasRun, scene};
 ghost use Rattle.chains.specs.declared.looking.Wanted.TheVariants.{Room};
-ghost use Rattle.console.specs.Receive.{give_some, receive_step};
+ghost use Rattle.console.specs.Receive.{receive_step};
 
 use crate::host_bytes::HostBytes;
 use chains::{Chain, Done, Ring, Served, Site, Unserved, Wanted, fill_in_parts, look};
@@ -30,35 +27,15 @@ pub fn receive<R: Ring, L: TouchLog>(
 {
     let mut chain = Chain::new(site.alloc);
     look(ring, Wanted::Room, &mut chain, ram, log)?;
-    Ok(give_some(ring, site.base, held, &chain, ram, log))
-}
-
-/// Writes the first of the bytes held into a chain, and publishes it.
-#[inline(always)]
-fn give_some<R: Ring, L: TouchLog>(
-    ring: &mut R,
-    base: u64,
-    held: &mut HostBytes,
-    chain: &Chain,
-    ram: &mut Ram,
-    log: &mut L,
-) -> Served
-    requires ready { MayServe L.may (length ram.old.bytes) (R.state ring.old) log.old }
-    requires bounded { IsBounded (length ram.old.bytes) (R.state ring.old) chain.now }
-    requires base { base ≡ (R.state ring.old).base }
-    ensures done { (sent : List ℕ) → IsDone (Touches L.after log.old log.new ram.old ram.new) ram.old.bytes (give_some ram.old.bytes (R.state ring.old) held.old chain.now) (Did (deed_in result.done sent) result.is_due) ram.new.bytes (R.state ring.new) held.new }
-    ensures after { HasServed L.may ram.old ram.new log.new }
-    ensures decoder { R.decoder ring.new ≡ R.decoder ring.old }
-{
     let room = chain.writable.total_len();
     let count = room.min(held.len() as u64) as usize;
     let (front, back) = held.as_slices();
     let first = front.len().min(count);
     let (front, back) = (&front[..first], &back[..count - first]);
-    let is_due = fill_in_parts(ring, base, chain, front, back, ram, log);
+    let is_due = fill_in_parts(ring, site.base, &chain, front, back, ram, log);
     held.take_out(count);
-    Served {
+    Ok(Served {
         done: Done::Completed(count as u32),
         is_due,
-    }
+    })
 }

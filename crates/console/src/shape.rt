@@ -14,10 +14,10 @@ pub const QUEUE_COUNT: u8 = 2;
 
 /// The feature SIZE: the configuration gives the size of the console, and changes of it are reported to the driver (VIRTIO 1.2,
 /// 5.3.3).
-pub const SIZE: u64 = 1 << 0;
+pub(crate) const SIZE: u64 = 1 << 0;
 
 /// The feature EMERG_WRITE: the driver may write a byte to the emergency register (VIRTIO 1.2, 5.3.3).
-pub const EMERGENCY_WRITE: u64 = 1 << 2;
+const EMERGENCY_WRITE: u64 = 1 << 2;
 
 /// The features that a console offers, beside those that every device offers (VIRTIO 1.2, 5.3.3).
 pub const FEATURES: u64 = SIZE | EMERGENCY_WRITE;

@@ -6,7 +6,7 @@ use crate::shape::SIZE;
 use mmio::Regs;
 
 /// How many bytes the configuration of a console has.
-pub const CONFIGURATION_SIZE: usize = 12;
+pub(crate) const CONFIGURATION_SIZE: usize = 12;
 
 /// The size of a console, in characters.
 #[derive(Clone, Copy, Debug, PartialEq, Eq)]

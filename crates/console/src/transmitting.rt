@@ -13,7 +13,7 @@ use chains::{MessageForm, Ring, Served, Site, Unserved};
 use guestmem::{Ram, TouchLog};
 
 /// The most bytes of text that one chain may hold.
-pub const TEXT_MAX: u32 = 65_536;
+pub(crate) const TEXT_MAX: u32 = 65_536;
 
 /// Text has no header, and may be of no bytes (VIRTIO 1.2, 5.3.6).
 const TEXT: MessageForm = MessageForm {

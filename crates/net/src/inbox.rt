@@ -67,7 +67,7 @@ impl Inbox {
     }
 
     /// Whether there is no room for a frame.
-    pub fn is_full(&self) -> bool
+    fn is_full(&self) -> bool
         ensures { result ≡ not (nat_lt (length self.now) INBOX_MAX) }
     {
         self.frames.len() >= INBOX_MAX
@@ -112,7 +112,7 @@ impl Inbox {
     }
 
     /// Takes out the oldest frame, if there is one.
-    pub fn remove_first(&mut self)
+    pub(crate) fn remove_first(&mut self)
         ensures { self.new ≡ drop 1 self.old }
     {
         let left = self.len().saturating_sub(1);

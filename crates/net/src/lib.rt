@@ -3,9 +3,9 @@
 //! # What the layers above may rely on
 //! - `Inbox` is a list of at most 64 frames of 14 to 1,514 bytes, the oldest first. Its room is made by `new`, and no other call takes
 //!   memory: a full inbox keeps nothing of a frame and returns 0.
-//! - `receive(ring, inbox, ram, log)` is `receive_step` (`specs/Receive`) over any `Ring`, with a frame waiting: RAM, ring, frames,
-//!   log and answer after it. A frame that does not fit is lost, and its chain stays; a malformed chain keeps the frame. An error is
-//!   out of memory for the chain, and leaves all four as they were.
+//! - `receive(site, ring, inbox, ram, log)` is `receive_step` (`specs/Receive`) over any `Ring`, with a frame waiting: RAM, ring,
+//!   frames, log and answer after it. A frame that does not fit is lost, and its chain stays; a malformed chain keeps the frame. Memory
+//!   may be refused at a long queue, which leaves all four as they were.
 //! - `transmit` is the step of `chains` that takes a message, with 26 to 1,526 bytes, of which the first 12 are the header
 //!   (`specs/Transmit`).
 //! - The caller's part: a frame waits in the inbox; a frame put in has 14 to 1,514 bytes, for which `is_frame_len` is the test.
@@ -25,9 +25,8 @@ mod shape;
 mod transmitting;
 
 pub use frame::is_frame_len;
-pub use header::HEADER_SIZE;
 pub use inbox::Inbox;
-pub use limits::{FRAME_MAX, FRAME_MIN, INBOX_MAX};
+pub use limits::{FRAME_MAX, INBOX_MAX};
 pub use receiving::receive;
-pub use shape::{DEVICE_ID, FEATURES, MAC, QUEUE_COUNT};
+pub use shape::{DEVICE_ID, FEATURES, QUEUE_COUNT};
 pub use transmitting::transmit;

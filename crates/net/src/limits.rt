@@ -1,7 +1,7 @@
 //! How long frames are, and how many wait.
 
 /// The fewest bytes of a frame: an Ethernet header.
-pub const FRAME_MIN: usize = 14;
+pub(crate) const FRAME_MIN: usize = 14;
 
 /// The most bytes of a frame: an Ethernet header and a payload of 1,500 bytes.
 pub const FRAME_MAX: usize = 1514;

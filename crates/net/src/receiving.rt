@@ -1,14 +1,10 @@
 //! The step that gives frames to the guest.
 
-ghost use Rattle.std.specs.Prelude.{◌≡◌, ◌≤◌, ◌<◌, ◌+◌, ◌∷◌, ℕ, List, length, drop, slice_get, Some};
-ghost use Rattle.guestmem.specs.Rises.{Touches};
-ghost use Rattle.chains.specs.Frame.{MayServe, HasServed, MayLook, HasLooked};
-ghost use Rattle.chains.specs.Places.{places};
-ghost use Rattle.chains.specs.Ring.{IsBounded};
-ghost use Rattle.chains.specs.Served.{HasRun, IsDone, scene};
-ghost use Rattle.chains.specs.Service.{Did, deed_in};
+ghost use Rattle.std.specs.Prelude.{◌≡◌, ◌<◌, ℕ, List, length};
+ghost use Rattle.chains.specs.Frame.{MayLook, HasLooked};
+ghost use Rattle.chains.specs.Served.{HasRun, scene};
 ghost use Rattle.chains.specs.declared.looking.Wanted.TheVariants.{Room};
-ghost use Rattle.net.specs.Receive.{give_first, receive_step};
+ghost use Rattle.net.specs.Receive.{receive_step};
 
 use crate::inbox::Inbox;
 use chains::{Chain, Done, Ring, Served, Site, Unserved, Wanted, fill, look};
@@ -32,41 +28,19 @@ pub fn receive<R: Ring, L: TouchLog>(
 {
     let mut chain = Chain::new(site.alloc);
     look(ring, Wanted::Room, &mut chain, ram, log)?;
-    Ok(give_first(ring, site.base, inbox, &chain, ram, log))
-}
-
-/// Writes a header, followed by the oldest frame, into a chain, and publishes it. Where the frame does not fit, it is
-/// dropped.
-#[inline(always)]
-fn give_first<R: Ring, L: TouchLog>(
-    ring: &mut R,
-    base: u64,
-    inbox: &mut Inbox,
-    chain: &Chain,
-    ram: &mut Ram,
-    log: &mut L,
-) -> Served
-    requires ready { MayServe L.may (length ram.old.bytes) (R.state ring.old) log.old }
-    requires bounded { IsBounded (length ram.old.bytes) (R.state ring.old) chain.now }
-    requires base { base ≡ (R.state ring.old).base }
-    requires waiting { 0 < length inbox.old }
-    ensures done { (sent : List ℕ) → IsDone (Touches L.after log.old log.new ram.old ram.new) ram.old.bytes (give_first ram.old.bytes (R.state ring.old) inbox.old chain.now) (Did (deed_in result.done sent) result.is_due) ram.new.bytes (R.state ring.new) inbox.new }
-    ensures after { HasServed L.may ram.old ram.new log.new }
-    ensures decoder { R.decoder ring.new ≡ R.decoder ring.old }
-{
     let frame = inbox.first_with_header();
     let len = frame.len();
     if chain.writable.total_len() < len as u64 {
         inbox.remove_first();
-        return Served {
+        return Ok(Served {
             done: Done::Dropped,
             is_due: false,
-        };
+        });
     }
-    let is_due = fill(ring, base, chain, frame, ram, log);
+    let is_due = fill(ring, site.base, &chain, frame, ram, log);
     inbox.remove_first();
-    Served {
+    Ok(Served {
         done: Done::Completed(len as u32),
         is_due,
-    }
+    })
 }

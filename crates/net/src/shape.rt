@@ -8,7 +8,7 @@ pub const DEVICE_ID: u32 = 1;
 pub const QUEUE_COUNT: u8 = 2;
 
 /// The feature MAC: the configuration gives the MAC address (VIRTIO 1.2, 5.1.3).
-pub const MAC: u64 = 1 << 5;
+const MAC: u64 = 1 << 5;
 
 /// The features that a network device offers, beside those that every device offers (VIRTIO 1.2, 5.1.3).
 pub const FEATURES: u64 = MAC;
