@@ -9,7 +9,6 @@ use Rattle.chains.specs.Transmit.{send}
 use Rattle.chains.specs.declared.chain.Chain.{Chain}
 use Rattle.chains.specs.declared.next.Next.{Next}
 use Rattle.chains.specs.declared.next.Next.TheVariants as next
-use Rattle.chains.specs.declared.transmitting.MessageForm.{MessageForm}
 use Rattle.blk.specs.Take.{take_chain}
 use Rattle.console.specs.Receive.{give_some}
 use Rattle.console.specs.Transmit.{text_form}

@@ -1,5 +1,5 @@
 -- Malformed chains, and events that change nothing.
-use Rattle.std.proofs.Common.{◌≡◌, ℕ, zero, suc, ◌+◌, set, Bool, true, false, cond, ltb, List, [], ◌∷◌, ◌++◌, length, Option, Some, None, refl, ap, sym, ◌∙◌, subst}
+use Rattle.std.proofs.Common.{◌≡◌, ℕ, zero, suc, set, Bool, true, false, cond, ltb, List, [], ◌∷◌, ◌++◌, length, Option, Some, None, refl, ap, sym, ◌∙◌, subst}
 use Rattle.std.specs.Prelude.{◌-◌, bit_or, slice_get, Result, Ok, Err}
 use Rattle.guestmem.specs.Address.{access_refusal, index_of}
 use Rattle.guestmem.specs.declared.error.RamError.{RamError}
@@ -21,7 +21,7 @@ use Rattle.chains.specs.ReceiveBuffer.{give}
 use Rattle.chains.specs.Service as service
 use Rattle.machine.specs.DeviceStep.{advance_at, advance_on, advanced_at, device_step, looked_at, MayLook, wanted_of, reply_to_advance, step_at, serve, registers_after}
 use Rattle.machine.specs.Effect.{Effect, applied, sets_on}
-use Rattle.machine.specs.Looked.{IsLookedAt, LooksAtMalformed}
+use Rattle.machine.specs.Looked.{LooksAtMalformed}
 use Rattle.machine.specs.Outcome.{Outcome, fine, disk_failed, no_memory, disk_does}
 use Rattle.machine.specs.State.{MachineState, DeviceState, base_of}
 use Rattle.machine.specs.Step.{answer, disk_of, input_of, MaySeeAt, HasEffect, out_reply, put_by, set_size, size_by, written_out, read_register, write_register, read_ram, write_ram, put_in, step_device}

@@ -21,17 +21,17 @@ use Rattle.machine.specs.DeviceStep.{advance_on, serve}
 use Rattle.machine.specs.Outcome.{Outcome, disk_does}
 use Rattle.machine.specs.Shapes.{first_kind, made_as}
 use Rattle.machine.specs.State.{DeviceState}
-use Rattle.machine.specs.Step.{kept_kind, kind_with_input}
+use Rattle.machine.specs.Step.{dropped_unready, kind_with_input}
 use Rattle.machine.specs.declared.kind.Kind.{Kind}
 use Rattle.machine.specs.declared.kind.Kind.TheVariants.{Network, Block, Console, Entropy}
 use Rattle.machine.specs.declared.shape.Shape.{Shape}
 use Rattle.machine.specs.declared.shape.Shape.TheVariants as shapes
 
-pub kept_as : (queues : List Queue) (kind : Kind) → made_as (kept_kind queues kind) ≡ made_as kind
-kept_as queues (Network mac frames) = refl
-kept_as queues (Block block) = refl
-kept_as queues (Console size held) = refl
-kept_as queues (Entropy pool) = refl
+pub dropped_as : (queues : List Queue) (kind : Kind) → made_as (dropped_unready queues kind) ≡ made_as kind
+dropped_as queues (Network mac frames) = refl
+dropped_as queues (Block block) = refl
+dropped_as queues (Console size held) = refl
+dropped_as queues (Entropy pool) = refl
 
 frames_as : (mac : List ℕ) (more frames : List (List ℕ)) (good : Bool) → made_as (cond good (Network mac more) (Network mac frames)) ≡ shapes.Net mac
 frames_as mac more frames true = refl

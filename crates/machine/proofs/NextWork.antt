@@ -4,7 +4,7 @@ use Rattle.std.specs.Prelude.{◌||◌, IfSome, slice_get}
 use Rattle.std.specs.List.{find, range_with_len}
 use Rattle.std.specs.Option.{is_some, option_map, option_or}
 use Rattle.std.proofs.lemmas.List.Folds.{find-append}
-use Rattle.std.proofs.lemmas.Option.{slice_get-get_or, slice_get_past, slice_get_within}
+use Rattle.std.proofs.lemmas.Option.{slice_get-get_or, slice_get_within}
 use Rattle.mmio.specs.State.{first_queue}
 use Rattle.chains.specs.State.{RingState, state_of}
 use Rattle.mmio.specs.declared.queue.Queue.{Queue}

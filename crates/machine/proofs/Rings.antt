@@ -1,12 +1,9 @@
 -- The ring of a queue that is looked at: what holds of it before and after the step.
 use Rattle.std.proofs.Common.{◌≡◌, ℕ, zero, suc, ◌+◌, ◌-◌, ◌*◌, ◌%◌, ◌^◌, ◌<◌, ◌≤◌, Bool, true, false, cond, ltb, List, [], ◌∷◌, length, set, Some, refl, ap, subst, arith}
-use Rattle.std.specs.Prelude.{not, bit_and}
+use Rattle.std.specs.Prelude.{not}
 use Rattle.std.specs.Bool.{MatchBool}
 use Rattle.std.specs.List.{slice_get}
-use Rattle.std.specs.Int.{bit_at}
-use Rattle.std.proofs.lemmas.Bool.{eqb-true, eqb-false}
 use borrow.Author.Tests.{ltb-true, ltb-false}
-use Rattle.std.proofs.lemmas.Nat.Bits.{and_pow}
 use Rattle.mmio.specs.Bits.{has}
 use Rattle.guestmem.specs.Address.{index_of}
 use Rattle.mmio.specs.Areas.{driver_alignment, driver_bytes, device_bytes}

@@ -39,17 +39,17 @@ use Rattle.mmio.proofs.StayingSound.{StaysSound, write_sound, used_sound, asked_
 use Rattle.machine.specs.DeviceStep.{serve, registers_after, after_service, after_advance, is_advance_due, advance_at, advance_on, advanced_at, step_at, looked_at, device_step, wanted_of, MayLook}
 use Rattle.machine.specs.Looked.{IsLookedAt}
 use Rattle.machine.specs.Outcome.{Outcome, fine, disk_failed, no_memory, disk_does}
-use Rattle.machine.specs.QueuePositions.{HavePositions, HasPositions, ArePlaced, first_positions, kept_positions, is_packed_by}
+use Rattle.machine.specs.QueuePositions.{HavePositions, HasPositions, ArePlaced, first_positions, restarted_positions, is_packed_by}
 use Rattle.machine.specs.Shapes.{made_as, queues_of, sector_count}
 use Rattle.machine.specs.Sound.{AreSoundBeside, IsSoundDevice, IsSoundKind}
 use Rattle.machine.specs.State.{DeviceState}
-use Rattle.machine.specs.Step.{register_set, is_first_ready, kept_in, kept_kind, kind_with_input, with_input}
+use Rattle.machine.specs.Step.{register_set, is_first_ready, accepted_in, dropped_unready, kind_with_input, with_input}
 use Rattle.machine.specs.declared.kind.Kind.{Kind}
 use Rattle.machine.specs.declared.kind.Kind.TheVariants.{Network, Block, Console, Entropy}
 use Rattle.chains.specs.Service.{Answer}
 use Rattle.chains.specs.Service as service
 use Rattle.machine.proofs.Advancing.{IsAdvancedAt, advanced_is}
-use Rattle.machine.proofs.MadeAs.{kept_as, input_as, served_as}
+use Rattle.machine.proofs.MadeAs.{dropped_as, input_as, served_as}
 use Rattle.machine.proofs.Looking.{looked_is}
 use Rattle.machine.proofs.Outstanding.{GoesOn, goes_on_by}
 use Rattle.machine.proofs.Rings.{have_set, have_cleared, looked_ring, ready_ring}
@@ -112,7 +112,7 @@ one_kept was is old new p false at stays has = record {
   where_ready = subst (λ b. MatchBool b (ArePlaced (is_packed is) new.size first_positions) (first_positions ≡ first_positions)) (sym at) refl;
 }
 
-all_kept : (was is : ℕ) (os ns : List Queue) (ps : List Positions) → EachStaysReady was is os ns → HavePositions (is_packed was) os ps → HavePositions (is_packed is) ns (kept_positions ns ps)
+all_kept : (was is : ℕ) (os ns : List Queue) (ps : List Positions) → EachStaysReady was is os ns → HavePositions (is_packed was) os ps → HavePositions (is_packed is) ns (restarted_positions ns ps)
 all_kept was is [] [] [] stay have = tt
 all_kept was is [] [] (p ∷ ps) stay have = absurd have
 all_kept was is [] (n ∷ ns) ps stay have = absurd stay
@@ -151,7 +151,7 @@ kept_requests_sound base len was is [] ns limits requests stay are = absurd are
 kept_requests_sound base len was is (o ∷ os) [] limits requests stay are = absurd stay
 kept_requests_sound base len was is (o ∷ os) (n ∷ ns) limits requests stay are = kept_by base len was is o n limits requests n.is_ready refl stay.0 are
 
-kind_kept : (len : ℕ) (r new : Registers) (kind : Kind) → new.ram_base ≡ r.ram_base → EachStaysReady r.common.features new.common.features r.queues new.queues → IsSoundKind len r kind → IsSoundKind len new (kept_kind new.queues kind)
+kind_kept : (len : ℕ) (r new : Registers) (kind : Kind) → new.ram_base ≡ r.ram_base → EachStaysReady r.common.features new.common.features r.queues new.queues → IsSoundKind len r kind → IsSoundKind len new (dropped_unready new.queues kind)
 kind_kept len r new (Network mac frames) same stay sound = sound
 kind_kept len r new (Block block) same stay sound =
     subst (λ (base : ℕ). IsSomeAnd (slice_get new.queues 0) (λ q. AreRequestsOf base len (is_packed_by new.common) q (limits_of block new.common.features) (cond (is_first_ready new.queues) block.requests []))) (sym same)
@@ -165,16 +165,16 @@ sound_written len d offset width value small sound =
     let new = (register_write d.registers offset width value).1 in
     let stays : StaysSound d.registers new = write_sound d.registers offset width value small sound.registers in
     let ready = write_stays d.registers offset width value sound.registers in
-    stays_sound len d (register_set d offset width value) (kept_as new.queues d.kind) stays
+    stays_sound len d (register_set d offset width value) (dropped_as new.queues d.kind) stays
     (all_kept d.registers.common.features new.common.features d.registers.queues new.queues d.positions ready sound.positions) (kind_kept len d.registers new d.kind stays.same.ram_base ready sound.kind) sound
 
 -- The host puts bytes in.
 host_bytes_more : (pool bytes : List ℕ) → AreHostBytes pool → IsBytes bytes → length pool + length bytes ≤ 4096 → AreHostBytes (pool ++ bytes)
 host_bytes_more pool bytes h are room = record { few = omega (arith, length-append pool bytes, room); are = IsBytes-append pool bytes h.are are }
 
-bytes_put : (pool bytes : List ℕ) → AreHostBytes pool → IsBytes bytes → AreHostBytes (pool ++ take (kept_in pool bytes) bytes)
+bytes_put : (pool bytes : List ℕ) → AreHostBytes pool → IsBytes bytes → AreHostBytes (pool ++ take (accepted_in pool bytes) bytes)
 bytes_put pool bytes sound are =
-    let n = kept_in pool bytes in
+    let n = accepted_in pool bytes in
     host_bytes_more pool (take n bytes) sound (IsBytes-take n bytes are) (omega (arith, length-take n bytes, sound.few))
 
 both_sides : (len : ℕ) (a b : Bool) → ltb len 14 ≡ a → ltb 1514 len ≡ b → (not a && not b) ≡ true → (14 ≤ len) × (len ≤ 1514)

@@ -1,5 +1,5 @@
 -- A step at a queue, of a kind of device: it is that of the state which only the kind has.
-use Rattle.std.proofs.Common.{◌≡◌, ℕ, List, Result, Ok, Err, refl, ap}
+use Rattle.std.proofs.Common.{◌≡◌, ℕ, List, Result, Ok, Err, ap}
 use Rattle.guestmem.specs.Item.{Item}
 use Rattle.guestmem.specs.Memory.{Memory}
 use Rattle.chains.proofs.ServedLaws.{done_whole}

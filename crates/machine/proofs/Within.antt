@@ -34,7 +34,7 @@ use Rattle.machine.specs.declared.kind.Kind.{Kind}
 use Rattle.machine.specs.declared.kind.Kind.TheVariants.{Network, Block, Console, Entropy}
 use Rattle.machine.specs.declared.reply.Refusal.{Refusal}
 use Rattle.machine.specs.declared.event.Event.TheVariants.{RegRead, RegWrite, MemRead, MemWrite, Step, Input, Resize}
-use Rattle.machine.proofs.MadeAs.{advanced_as, kept_as, input_as, served_as}
+use Rattle.machine.proofs.MadeAs.{advanced_as, dropped_as, input_as, served_as}
 use Rattle.machine.proofs.Effects.{replaced_shapes, all_sizes_stay}
 use Rattle.machine.proofs.Inside.{AreInsideRam, all_inside, bytes_after, run_inside, served_inside}
 use Rattle.machine.proofs.Advancing.{advanced_is}
@@ -52,7 +52,7 @@ StaysSoundAt base len (Some r) = IsSoundDevice base len r.device
 -- A device is replaced by one of its shape.
 may_write : (devices : List DeviceState) (number : ℕ) (found : Option DeviceState) (offset width value : ℕ) → slice_get devices number ≡ found → MayReplace devices (write_register number found offset width value).effect.replaced
 may_write devices number None offset width value is = tt
-may_write devices number (Some d) offset width value is = (d, is, kept_as (register_write d.registers offset width value).1.queues d.kind)
+may_write devices number (Some d) offset width value is = (d, is, dropped_as (register_write d.registers offset width value).1.queues d.kind)
 
 may_put_by : (devices : List DeviceState) (number : ℕ) (d : DeviceState) (bytes : List ℕ) (answer : Result ℕ Refusal) → slice_get devices number ≡ Some d → MayReplace devices (put_by number d bytes answer).effect.replaced
 may_put_by devices number d bytes (Ok count) is = (d, is, input_as d.kind bytes)

@@ -1,5 +1,5 @@
 -- What the RAM of a machine is made of.
-use Rattle.std.specs.Prelude.{ℕ, ◌*◌, List, length, replicate, Option, Some, None}
+use Rattle.std.specs.Prelude.{ℕ, ◌*◌, List, length, Option, Some, None}
 use denote.RawPtr.{Ptr}
 use Rattle.guestmem.specs.declared.limits.TheConstants.{PAGE_SIZE}
 use Rattle.region.specs.Address.{address}

@@ -15,10 +15,10 @@ first_positions = record { taking = first_position; used = first_position }
 
 -- The positions in queues after a register write: a queue that is not ready goes back to the first positions, and one that is
 -- ready keeps its own.
-abbrev pub kept_positions : List Queue → List Positions → List Positions
-kept_positions [] ps = []
-kept_positions (q ∷ qs) [] = []
-kept_positions (q ∷ qs) (p ∷ ps) = (if q.is_ready then p else first_positions) ∷ kept_positions qs ps
+abbrev pub restarted_positions : List Queue → List Positions → List Positions
+restarted_positions [] ps = []
+restarted_positions (q ∷ qs) [] = []
+restarted_positions (q ∷ qs) (p ∷ ps) = (if q.is_ready then p else first_positions) ∷ restarted_positions qs ps
 
 -- Whether the driver's features name the packed layout.
 abbrev pub is_packed_by : Common → Bool

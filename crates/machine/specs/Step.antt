@@ -24,7 +24,7 @@ use Rattle.blk.specs.Block.{dropped_unless}
 use Rattle.machine.specs.DeviceStep.{device_step, looked_at, wanted_of, MayLook}
 use Rattle.machine.specs.Effect.{Effect, no_effect, sets_on, applied, items_of}
 use Rattle.machine.specs.Outcome.{Outcome, fine, disk_failed, no_memory, outcome_of}
-use Rattle.machine.specs.QueuePositions.{kept_positions}
+use Rattle.machine.specs.QueuePositions.{restarted_positions}
 use Rattle.machine.specs.Shapes.{configuration_of}
 use Rattle.machine.specs.State.{DeviceState, MachineState, base_of}
 use Rattle.machine.specs.declared.event.Event.{Event}
@@ -72,14 +72,14 @@ is_first_ready [] = false
 is_first_ready (q ∷ qs) = q.is_ready
 
 -- The outstanding requests of a block device are those of its queue 0, and are dropped if that queue is not ready.
-abbrev pub kept_kind : List Queue → Kind → Kind
-kept_kind queues (Block block) = Block (dropped_unless (is_first_ready queues) block)
-kept_kind queues kind = kind
+abbrev pub dropped_unready : List Queue → Kind → Kind
+dropped_unready queues (Block block) = Block (dropped_unless (is_first_ready queues) block)
+dropped_unready queues kind = kind
 
 -- A device with these registers: for a queue that is not ready in them the positions are the first ones again, and the requests
 -- of a block device whose queue 0 is not ready are dropped.
 abbrev pub with_registers : DeviceState → Registers → DeviceState
-with_registers d r = record d { registers = r; positions = kept_positions r.queues d.positions; kind = kept_kind r.queues d.kind }
+with_registers d r = record d { registers = r; positions = restarted_positions r.queues d.positions; kind = dropped_unready r.queues d.kind }
 
 -- The reply to a write of a register. It does not say whether the write was accepted; but a console gives out the byte that is
 -- written into its emergency register (VIRTIO 1.2, 5.3.5).
@@ -117,21 +117,21 @@ write_ram at bytes None = record {
 
 -- The host puts bytes in. A console and an entropy device keep the first ones that fit; a network device keeps a frame whole,
 -- if there is room; a block device takes none.
-abbrev pub kept_in : List ℕ → List ℕ → ℕ
-kept_in pool bytes = min (length bytes) (HOST_BYTES_MAX - length pool)
+abbrev pub accepted_in : List ℕ → List ℕ → ℕ
+accepted_in pool bytes = min (length bytes) (HOST_BYTES_MAX - length pool)
 
 -- The count of bytes that are kept, or why the input is refused.
 abbrev pub input_of : Kind → List ℕ → Result ℕ Refusal
 input_of (Network mac frames) bytes = if is_frame_len (length bytes) then Ok (kept_of frames bytes) else Err BadFrame
 input_of (Block block) bytes = Err WrongKind
-input_of (Console size held) bytes = Ok (kept_in held bytes)
-input_of (Entropy pool) bytes = Ok (kept_in pool bytes)
+input_of (Console size held) bytes = Ok (accepted_in held bytes)
+input_of (Entropy pool) bytes = Ok (accepted_in pool bytes)
 
 abbrev pub kind_with_input : Kind → List ℕ → Kind
 kind_with_input (Network mac frames) bytes = if is_frame_len (length bytes) then Network mac (frames_with frames bytes) else Network mac frames
 kind_with_input (Block block) bytes = Block block
-kind_with_input (Console size held) bytes = Console size (held ++ take (kept_in held bytes) bytes)
-kind_with_input (Entropy pool) bytes = Entropy (pool ++ take (kept_in pool bytes) bytes)
+kind_with_input (Console size held) bytes = Console size (held ++ take (accepted_in held bytes) bytes)
+kind_with_input (Entropy pool) bytes = Entropy (pool ++ take (accepted_in pool bytes) bytes)
 
 abbrev pub with_input : DeviceState → List ℕ → DeviceState
 with_input d bytes = record d { kind = kind_with_input d.kind bytes }

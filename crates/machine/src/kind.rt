@@ -13,7 +13,7 @@ ghost use Rattle.blk.specs.Durable.{is_flush_owed};
 ghost use Rattle.machine.specs.DeviceStep.{has_work, serve, wanted_of, requests_of};
 ghost use Rattle.machine.specs.Shapes.{configuration_of, first_kind, made_as};
 ghost use Rattle.machine.specs.Sound.{AreSoundBeside};
-ghost use Rattle.machine.specs.Step.{IsResized, input_of, is_first_ready, kept_kind, kind_with_input, written_out};
+ghost use Rattle.machine.specs.Step.{IsResized, input_of, is_first_ready, dropped_unready, kind_with_input, written_out};
 ghost use Rattle.machine.specs.Unsynced.{kind_flush_failed, kind_flushes, kind_owed};
 ghost use Rattle.mmio.specs.RegisterRead.{register_read};
 
@@ -144,7 +144,7 @@ impl Kind {
 
     /// Called after each register write: drops the outstanding requests unless queue 0 is ready.
     pub(crate) fn drop_requests_of(&mut self, queues: &[Queue])
-        ensures { self.new ≡ kept_kind queues.now self.old }
+        ensures { self.new ≡ dropped_unready queues.now self.old }
     {
         match self {
             Kind::Block(block) => block.drop_requests_unless(is_first_ready(queues)),

@@ -39,14 +39,13 @@
 //!   sector of a disk, and `read_good_sector` reads one that is not bad, with no look at the marks.
 //! - `play(events)` is a run of steps (`specs/Run`), with a reply to each: one event after another is applied. Where it is refused
 //!   memory, nothing was played.
-//! - `Machine::new` gives zeros and first values, or the first of its refusals; `new_or_back` also gives the disks back.
-//!   RAM begins at a guest-physical address, its base: at 0 there, and at the address that `new_at` and `new_over_at` are given. All
-//!   addresses of the guest count from it, and all devices of a machine hold the same one (`specs/Sound`).
+//! - `Machine::make` makes a machine of a `Board`: where RAM begins, what it is made of, what the devices are, and their disks. RAM is
+//!   pages of zeros, or the bytes that lie in a `region::Region` and stay where they are; all else has first values. A refusal is the
+//!   first one that holds, and gives the disks and the region back (`specs/First`). `Machine::new` makes one of zeros, at address 0.
+//!   All addresses of the guest count from where RAM begins, and all devices of a machine hold the same base (`specs/Sound`).
 //!   `restore` gives the machine of what was saved. Where the memory for that is to be had early, `Room::new` takes it, and
 //!   `restore_in` takes no more and cannot fail. Every machine is sound (`specs/Sound`), and stays so. `lines` is the
 //!   interrupt lines.
-//! - `Machine::new_over` is `new` over a `region::Region`: RAM is the bytes that lie there, which stay where they are. A refusal gives
-//!   the region and the disks back.
 //! - `lend` gives the region to the caller, whose guest may write there, and keeps all else as a `Parked` machine (`specs/Parked`), to
 //!   which no event is applied. `Parked::give_back` takes the region back with the pages that were written: their versions rise, and
 //!   the log takes them in. Where no other page was written, that is what writes of these whole pages by the guest are

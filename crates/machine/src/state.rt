@@ -13,7 +13,7 @@ ghost use Rattle.guestmem.specs.Rises.{Touches};
 ghost use Rattle.mmio.specs.State.{with_common};
 ghost use Rattle.mmio.specs.Interrupts.{used_raised};
 ghost use Rattle.machine.specs.DeviceStep.{reply_to_advance, is_advance_due};
-ghost use Rattle.machine.specs.QueuePositions.{first_positions, kept_positions};
+ghost use Rattle.machine.specs.QueuePositions.{first_positions, restarted_positions};
 ghost use Rattle.machine.specs.Shapes.{device_id_of, offered_of, queues_of};
 ghost use Rattle.machine.specs.Stepped.{looked_registers, reply_in};
 
@@ -171,7 +171,7 @@ impl DeviceState {
         let out = self.kind.written(offset, width, value);
         let effect = self.registers.write(offset, width, value);
         let queues = self.registers.queues();
-        self.positions = kept(queues, self.positions);
+        self.positions = restarted(queues, self.positions);
         self.kind.drop_requests_of(queues);
         (out, effect)
     }
@@ -373,20 +373,23 @@ fn raise_if(registers: &mut Regs, is_due: bool)
 }
 
 /// The positions in queues whose registers were written.
-fn kept(queues: &[Queue], positions: [Positions; QUEUE_COUNT_MAX]) -> [Positions; QUEUE_COUNT_MAX]
+fn restarted(
+    queues: &[Queue],
+    positions: [Positions; QUEUE_COUNT_MAX],
+) -> [Positions; QUEUE_COUNT_MAX]
     requires { length queues.now ≤ QUEUE_COUNT_MAX }
-    ensures { take (length queues.now) result ≡ kept_positions queues.now (take (length queues.now) positions) }
+    ensures { take (length queues.now) result ≡ restarted_positions queues.now (take (length queues.now) positions) }
 {
     let [first, second] = positions;
     match queues {
         [] => positions,
-        [only] => [kept_one(only, first), second],
-        [one, other, ..] => [kept_one(one, first), kept_one(other, second)],
+        [only] => [restarted_one(only, first), second],
+        [one, other, ..] => [restarted_one(one, first), restarted_one(other, second)],
     }
 }
 
 /// A queue that is not ready starts again at the first positions.
-fn kept_one(queue: &Queue, positions: Positions) -> Positions
+fn restarted_one(queue: &Queue, positions: Positions) -> Positions
     ensures { result ≡ (if queue.now.is_ready then positions else first_positions) }
 {
     if queue.is_ready {

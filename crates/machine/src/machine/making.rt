@@ -42,7 +42,15 @@ impl<D: Disk + Drop> Machine<D> {
         ensures memory { new_refusal ram_pages shapes.now (map (λ d. length (D.state d).sectors) disks.items) ≡ None → IfErr result (λ error. error ≡ new_error.NoMemory) }
     {
         let ram = RamOf::Pages(ram_pages);
-        match Machine::make(alloc, Board { base: 0, ram, shapes, disks }) {
+        match Machine::make(
+            alloc,
+            Board {
+                base: 0,
+                ram,
+                shapes,
+                disks,
+            },
+        ) {
             Ok(machine) => Ok(machine),
             Err(unmade) => Err(unmade.reason()),
         }

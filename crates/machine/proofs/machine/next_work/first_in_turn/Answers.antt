@@ -1,4 +1,4 @@
-use Rattle.std.proofs.Common.{◌≡◌, length, arith}
+use Rattle.std.proofs.Common.{arith}
 use Rattle.machine.proofs.NextWork.{from_start}
 use Rattle.machine.proofs.machine.next_work.first_in_turn.Goals as goal
 
