@@ -24,6 +24,7 @@ pub record IsAdvancedAt (d : DeviceState) (pick : ℕ) (q : RingState) : Type 0 
   pub positions : Positions
   pub there : queue_at d.registers 0 ≡ Some queue
   pub placed : slice_get d.positions 0 ≡ Some positions
+  pub advances : advances d pick ≡ true
   pub some : 0 < pick
   pub below : pick - 1 < length (requests_of d.kind)
   pub ready : queue.is_ready ≡ true
@@ -52,6 +53,7 @@ advance_if len d pick queue p q true sound all there placed is =
       positions = p;
       there = there;
       placed = placed;
+      advances = all;
       some = ltb-true 0 pick (right_of_and _ _ two);
       below = below;
       ready = kind_ready len d.registers d.kind queue (pick - 1) there sound.kind below;

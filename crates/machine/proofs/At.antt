@@ -220,7 +220,7 @@ unstored_step touches m ds addr bytes error refusal some is untouched = record {
   items_are = untouched;
 }
 
-past : (ds : List DeviceSeen) (dev : ℕ) → length ds ≤ dev → slice_get (map (λ (x : DeviceSeen). x.state) ds) dev ≡ None
+pub past : (ds : List DeviceSeen) (dev : ℕ) → length ds ≤ dev → slice_get (map (λ (x : DeviceSeen). x.state) ds) dev ≡ None
 past ds dev h = slice_get_past (map (λ (x : DeviceSeen). x.state) ds) dev (rw length-map h)
 
 -- There is no such device.

@@ -5,9 +5,9 @@ use Rattle.std.proofs.lemmas.List.{length-replicate, map-append, take_more}
 use Rattle.guestmem.specs.Memory.{Memory}
 use Rattle.blk.specs.Disk.{DiskState}
 use Rattle.blk.specs.Sectors.{SectorsState, sectors_of}
-use Rattle.machine.specs.First.{AreMarksOf, dealt_sectors, dealt_marks, given, good_marks, marked, marked_sectors, marks_in, next_disk, left_over, saved_machine, seen_with, seen_devices, uncounted}
+use Rattle.machine.specs.First.{AreMarksOf, dealt_sectors, dealt_marks, given, good_marks, marked, marked_sectors, marks_in, next_disk, left_over, saved_machine, seen_with, seen_devices, counted, dealt_calls}
 use Rattle.machine.specs.Held.{IsHeld}
-use Rattle.machine.specs.Seen.{DeviceSeen, Marks, disk_marks, marks_of, no_marks, sectors_of as content_of, state_of}
+use Rattle.machine.specs.Seen.{DeviceSeen, Marks, calls_of, disk_marks, marks_of, no_marks, sectors_of as content_of, state_of}
 use Rattle.machine.specs.Shapes.{disk_size_of, made_as}
 use Rattle.machine.specs.Sound.{IsSound}
 use Rattle.machine.specs.State.{DeviceState}
@@ -78,6 +78,11 @@ marks_given None disks = refl
 marks_given (Some size) [] = refl
 marks_given (Some size) (disk ∷ disks) = refl
 
+calls_given : (size : Option ℕ) (disks : List SectorsState) → calls_of (next_disk size disks) ≡ given None size (map (λ (s : SectorsState). Some s.calls) disks)
+calls_given None disks = refl
+calls_given (Some size) [] = refl
+calls_given (Some size) (disk ∷ disks) = refl
+
 seen_sectors : (states : List DeviceState) (disks : List SectorsState) → map (λ (x : DeviceSeen). x.sectors) (seen_devices states disks) ≡ dealt_sectors (map (λ (d : DeviceState). made_as d.kind) states) (map (λ (s : SectorsState). s.content) disks)
 seen_sectors [] disks = refl
 seen_sectors (d ∷ states) disks =
@@ -87,6 +92,11 @@ pub seen_marks : (states : List DeviceState) (disks : List SectorsState) → map
 seen_marks [] disks = refl
 seen_marks (d ∷ states) disks =
     rw (marks_given (disk_size_of (made_as d.kind)) disks, seen_marks states (left_over (disk_size_of (made_as d.kind)) disks), left_mapped disk_marks (disk_size_of (made_as d.kind)) disks) refl
+
+pub seen_calls : (states : List DeviceState) (disks : List SectorsState) → map (λ (x : DeviceSeen). x.calls) (seen_devices states disks) ≡ dealt_calls (map (λ (d : DeviceState). made_as d.kind) states) (map (λ (s : SectorsState). Some s.calls) disks)
+seen_calls [] disks = refl
+seen_calls (d ∷ states) disks =
+    rw (calls_given (disk_size_of (made_as d.kind)) disks, seen_calls states (left_over (disk_size_of (made_as d.kind)) disks), left_mapped (λ (s : SectorsState). Some s.calls) (disk_size_of (made_as d.kind)) disks) refl
 
 -- The machine that such devices make.
 pub is_made : (ram : Memory) (states : List DeviceState) (disks : List SectorsState) (ds : List DeviceSeen) → ds ≡ seen_devices states disks
@@ -103,6 +113,10 @@ is_held shapes ram states disks ds is sound same = record {
 pub are_marks : (shapes : List Shape) (states : List DeviceState) (disks : List SectorsState) (marks : List Marks) (ds : List DeviceSeen) → ds ≡ seen_devices states disks → shapes ≡ map (λ (d : DeviceState). made_as d.kind) states
     → map disk_marks disks ≡ marks → map (λ (x : DeviceSeen). x.marks) ds ≡ dealt_marks shapes marks
 are_marks shapes states disks marks ds is same marks_are = ap (map (λ (x : DeviceSeen). x.marks)) is ∙ seen_marks states disks ∙ rw (same, marks_are) refl
+
+pub are_calls : (shapes : List Shape) (states : List DeviceState) (disks : List SectorsState) (calls : List (Option ℕ)) (ds : List DeviceSeen) → ds ≡ seen_devices states disks → shapes ≡ map (λ (d : DeviceState). made_as d.kind) states
+    → map (λ (s : SectorsState). Some s.calls) disks ≡ calls → map (λ (x : DeviceSeen). x.calls) ds ≡ dealt_calls shapes calls
+are_calls shapes states disks calls ds is same calls_are = ap (map (λ (x : DeviceSeen). x.calls)) is ∙ seen_calls states disks ∙ rw (same, calls_are) refl
 
 -- The marks and the sectors of disks.
 pub good_content : {A : Type 0} (state : A → DiskState) (xs : List A) → marked_sectors (map state xs) (good_marks (map state xs)) ≡ map (λ x. map Some (state x).sectors) xs
@@ -123,13 +137,19 @@ pub devices_long : (states : List DeviceState) (disks : List SectorsState) → l
 devices_long [] disks = refl
 devices_long (d ∷ ds) disks = ap suc (devices_long ds (left_over (disk_size_of (made_as d.kind)) disks))
 
--- Whatever calls were counted.
-next_uncounted : (size : Option ℕ) (state : DeviceState) (disks : List SectorsState) → seen_with state (next_disk size (map uncounted disks)) ≡ seen_with state (next_disk size disks)
-next_uncounted None state disks = refl
-next_uncounted (Some size) state [] = refl
-next_uncounted (Some size) state (disk ∷ disks) = refl
+-- Counts of calls change no sector and no mark.
+pub counted_content : (ns : List ℕ) (disks : List SectorsState) → map (λ (s : SectorsState). s.content) (counted ns disks) ≡ map (λ (s : SectorsState). s.content) disks
+counted_content [] disks = refl
+counted_content (n ∷ ns) [] = refl
+counted_content (n ∷ ns) (disk ∷ disks) = ap (λ xs. disk.content ∷ xs) (counted_content ns disks)
 
-pub seen_uncounted : (states : List DeviceState) (disks : List SectorsState) → seen_devices states (map uncounted disks) ≡ seen_devices states disks
-seen_uncounted [] disks = refl
-seen_uncounted (d ∷ states) disks =
-    rw (next_uncounted (disk_size_of (made_as d.kind)) d disks, ← left_mapped uncounted (disk_size_of (made_as d.kind)) disks, seen_uncounted states (left_over (disk_size_of (made_as d.kind)) disks)) refl
+pub counted_marks : (ns : List ℕ) (disks : List SectorsState) → map disk_marks (counted ns disks) ≡ map disk_marks disks
+counted_marks [] disks = refl
+counted_marks (n ∷ ns) [] = refl
+counted_marks (n ∷ ns) (disk ∷ disks) = ap (λ xs. disk_marks disk ∷ xs) (counted_marks ns disks)
+
+pub counted_calls : {A : Type 0} (state : A → DiskState) (calls : A → ℕ) (xs : List A) (bad : List (List Bool)) → AreMarksOf (map state xs) bad
+    → map (λ (s : SectorsState). Some s.calls) (counted (map calls xs) (marked (map state xs) bad)) ≡ map (λ x. Some (calls x)) xs
+counted_calls state calls [] bad are = refl
+counted_calls state calls (x ∷ xs) [] are = cc
+counted_calls state calls (x ∷ xs) (marks ∷ bad) are = let rest : AreMarksOf (map state xs) bad = cc in ap (λ ns. Some (calls x) ∷ ns) (counted_calls state calls xs bad rest)

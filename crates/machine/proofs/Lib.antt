@@ -2,6 +2,7 @@ mod Turns
 mod Advancing
 pub mod Agreeing
 mod Answering
+pub mod Calling
 pub mod Effects
 pub mod Failing
 mod Flushing

@@ -109,7 +109,7 @@ advanced_sound len d block pick q sound is kind_is =
     rw kind_is at (outstanding len q d.registers.common.features d.kind (beside len d 0 look.queue look.positions q sound look.there look.is))
 
 -- A device that advances a request is a block device.
-kind_by : (kind : Kind) (k : ℕ) → k < length (requests_of kind) → (block : blocks.Block) × (kind ≡ Block block)
+pub kind_by : (kind : Kind) (k : ℕ) → k < length (requests_of kind) → (block : blocks.Block) × (kind ≡ Block block)
 kind_by (Block block) k below = (block, refl)
 kind_by (Network mac frames) k below = absurd (omega (arith, below))
 kind_by (Console size held) k below = absurd (omega (arith, below))

@@ -6,7 +6,7 @@ use Rattle.blk.specs.Disk.{DiskState}
 use Rattle.blk.specs.Sectors.{Sector, SectorsState, seen_of}
 use Rattle.machine.specs.Shapes.{first_device, disk_size_of, disk_sizes, is_beyond, made_as}
 use Rattle.machine.specs.State.{MachineState, DeviceState}
-use Rattle.machine.specs.Seen.{DeviceSeen, Marks, no_marks, sectors_of, marks_of, flushed_of}
+use Rattle.machine.specs.Seen.{DeviceSeen, Marks, no_marks, sectors_of, marks_of, flushed_of, calls_of}
 use Rattle.machine.specs.declared.machine.TheConstants.{DEVICES_MAX}
 use Rattle.machine.specs.declared.shape.Shape.{Shape}
 use Rattle.machine.specs.declared.shape.Shape.TheVariants.{Net, Block}
@@ -35,6 +35,10 @@ dealt_sectors shapes disks = dealt [] shapes disks
 
 abbrev pub dealt_marks : List Shape → List Marks → List Marks
 dealt_marks shapes marks = dealt no_marks shapes marks
+
+-- The counts of the calls of each device's disk.
+abbrev pub dealt_calls : List Shape → List (Option ℕ) → List (Option ℕ)
+dealt_calls shapes calls = dealt None shapes calls
 
 -- The bytes of new pages.
 abbrev pub zero_pages : ℕ → List ℕ
@@ -111,9 +115,11 @@ marked [] bad = []
 marked (d ∷ ds) [] = []
 marked (d ∷ ds) (marks ∷ bad) = seen_of d marks ∷ marked ds bad
 
--- A disk as it is seen where no call of it is counted.
-abbrev pub uncounted : SectorsState → SectorsState
-uncounted s = record s { calls = 0 }
+-- These disks, with these counts of their calls.
+abbrev pub counted : List ℕ → List SectorsState → List SectorsState
+counted [] disks = disks
+counted (n ∷ ns) [] = []
+counted (n ∷ ns) (disk ∷ disks) = record disk { calls = n } ∷ counted ns disks
 
 abbrev pub marked_sectors : List DiskState → List (List Bool) → List (List Sector)
 marked_sectors disks bad = map (λ s. s.content) (marked disks bad)
@@ -124,7 +130,7 @@ AreMarksOf disks bad = map length bad ≡ map (λ d. length d.sectors) disks
 
 -- Devices as contracts see them: each device that has a disk gets the next of these.
 abbrev pub seen_with : DeviceState → Option SectorsState → DeviceSeen
-seen_with state disk = record { state = state; sectors = sectors_of disk; marks = marks_of disk; is_flushed = flushed_of disk }
+seen_with state disk = record { state = state; sectors = sectors_of disk; marks = marks_of disk; is_flushed = flushed_of disk; calls = calls_of disk }
 
 abbrev pub next_disk : Option ℕ → List SectorsState → Option SectorsState
 next_disk None disks = None

@@ -3,6 +3,7 @@ pub mod Rings
 pub mod Applied
 pub mod AppliedLaws
 pub mod Board
+pub mod Calls
 pub mod DeviceStep
 pub mod DeviceWork
 pub mod Direct

@@ -10,12 +10,14 @@ pub record Marks : Type 0 where
   pub honest : Bool
   pub steady : Bool
 
--- A device with its disk. `is_flushed`: all that was written to the disk is durable.
+-- A device with its disk. `is_flushed`: all that was written to the disk is durable. `calls`: the count of the disk's calls, or None where
+-- it has no disk.
 pub record DeviceSeen : Type 0 where
   pub state : DeviceState
   pub sectors : List Sector
   pub marks : Marks
   pub is_flushed : Bool
+  pub calls : Option ℕ
 
 -- A machine: its memory with the versions of the pages, and its devices with their disks.
 pub record Seen : Type 0 where
@@ -37,6 +39,10 @@ all_marks s = map (λ d. d.marks) s.devices
 -- Whether each device's disk is flushed.
 abbrev pub all_flushed : Seen → List Bool
 all_flushed s = map (λ d. d.is_flushed) s.devices
+
+-- The count of the calls of each device's disk.
+abbrev pub all_calls : Seen → List (Option ℕ)
+all_calls s = map (λ d. d.calls) s.devices
 
 -- Whether the disk of the device of this number is flushed. A device that does not exist has no disk, and nothing to flush.
 abbrev pub is_flushed_at : Seen → ℕ → Bool
@@ -61,6 +67,10 @@ abbrev pub flushed_of : Option SectorsState → Bool
 flushed_of None = true
 flushed_of (Some s) = s.is_flushed
 
+abbrev pub calls_of : Option SectorsState → Option ℕ
+calls_of None = None
+calls_of (Some s) = Some s.calls
+
 -- The marks of the disk of the device of this number. A device that does not exist has no disk.
 abbrev pub or_no_marks : Option Marks → Marks
 or_no_marks None = no_marks
@@ -82,3 +92,12 @@ failed_if failed m = if failed then failed_once m else m
 
 abbrev pub failed_at : List Marks → ℕ → List Marks
 failed_at marks dev = slice_set marks dev (failed_once (marks_at marks dev))
+
+-- The count of a disk's calls after one more call, or none. A device without a disk calls none.
+abbrev pub called_if : (ℕ → ℕ) → Bool → Option ℕ → Option ℕ
+called_if called made None = None
+called_if called made (Some calls) = Some (if made then called calls else calls)
+
+-- The counts of all disks after a call of the disk of the device of this number.
+abbrev pub called_at : (ℕ → ℕ) → List (Option ℕ) → ℕ → List (Option ℕ)
+called_at called calls dev = slice_set calls dev (called_if called true (slice_index_or calls dev None))

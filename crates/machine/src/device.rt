@@ -3,7 +3,7 @@
 ghost use Rattle.std.specs.Prelude.{◌≡◌, ◌<◌, ◌≤◌, ℕ, IsTrue, OnErr, OnOk, count_by, is_ok, map, not, true, false, length};
 ghost use Rattle.guestmem.specs.Rises.{Touches};
 ghost use Rattle.dirtylog.specs.Members.{IsLeastFrom};
-ghost use Rattle.machine.specs.Seen.{DeviceSeen, flushed_of, sectors_of, marks_of};
+ghost use Rattle.machine.specs.Seen.{DeviceSeen, calls_of, called_if, flushed_of, sectors_of, marks_of};
 
 use crate::any_ring::AnyRing;
 use crate::reply::Refusal;
@@ -27,7 +27,7 @@ pub struct Device<D: Disk> {
 impl<D: Disk> Model for Device<D> {
     ghost Value = { DeviceSeen };
 
-    ghost view = { λ d. record { state = d.state; sectors = sectors_of d.disk; marks = marks_of d.disk; is_flushed = flushed_of d.disk } };
+    ghost view = { λ d. record { state = d.state; sectors = sectors_of d.disk; marks = marks_of d.disk; is_flushed = flushed_of d.disk; calls = calls_of d.disk } };
 }
 
 impl<D: Disk> Device<D> {
@@ -41,7 +41,8 @@ impl<D: Disk> Device<D> {
     ghost use Rattle.guestmem.specs.Later.{IsLater};
     ghost use Rattle.machine.specs.Sound.{IsSoundDevice};
     ghost use Rattle.blk.specs.Move.{MaySectors};
-    ghost use Rattle.blk.specs.Sectors.{AreWhole, IsFetched, bytes_of, is_bad, is_failed, sector_in};
+    ghost use Rattle.blk.specs.Sectors.{AreWhole, IsFetched, bytes_of, is_asked, is_bad, is_failed, sector_in};
+    ghost use Rattle.machine.specs.Calls.{asks_disk};
     ghost use Rattle.machine.specs.Outcome.{is_failure};
     ghost use Rattle.machine.specs.Seen.{failed_if};
     ghost use Rattle.machine.specs.Shapes.{made_as, sector_count};
@@ -49,7 +50,7 @@ impl<D: Disk> Device<D> {
 
     /// A device, and the disk that belongs to it.
     pub(crate) fn new(state: DeviceState, disk: Option<Sectors<D>>) -> Device<D>
-        ensures { result ≡ record { state = state; sectors = sectors_of disk; marks = marks_of disk; is_flushed = flushed_of disk } }
+        ensures { result ≡ record { state = state; sectors = sectors_of disk; marks = marks_of disk; is_flushed = flushed_of disk; calls = calls_of disk } }
     {
         Device { state, disk }
     }
@@ -65,6 +66,7 @@ impl<D: Disk> Device<D> {
     pub fn into_sectors(self) -> Option<Sectors<D>>
         ensures sectors { self.sectors ≡ sectors_of result }
         ensures marks { self.marks ≡ marks_of result }
+        ensures calls { self.calls ≡ calls_of result }
     {
         let Device { state: _, disk } = self;
         disk
@@ -118,6 +120,7 @@ impl<D: Disk> Device<D> {
         ensures marks { self.new.marks ≡ failed_if (not (is_ok result)) self.old.marks }
         ensures unsteady { OnErr result (self.old.marks.steady ≡ false) }
         ensures flushed { OnOk result (IsTrue self.new.is_flushed) }
+        ensures calls { self.new.calls ≡ called_if D.called true self.old.calls }
     {
         match &mut self.disk {
             Some(sectors) => sectors.flush(),
@@ -146,6 +149,7 @@ impl<D: Disk> Device<D> {
         ensures marks { self.new.marks ≡ failed_if (is_failure (reply_in result sent.new.items)) self.old.marks }
         ensures unsteady { is_failure (reply_in result sent.new.items) ≡ true → self.old.marks.steady ≡ false }
         ensures flushed { HasFlushed self.old.state work.pick (reply_in result sent.new.items) self.new.is_flushed }
+        ensures calls { self.new.calls ≡ called_if D.called (asks_disk self.old.state work.pick (reply_in result sent.new.items)) self.old.calls }
         ensures capacity { length self.new.sectors ≡ length self.old.sectors }
         ensures whole { AreWhole self.new.sectors }
         ensures later { IsLater ram.old ram.new }
@@ -199,6 +203,7 @@ impl<D: Disk> Device<D> {
         ensures unsteady { is_failed result ≡ true → self.old.marks.steady ≡ false }
         ensures flushed { self.new.is_flushed ≡ self.old.is_flushed }
         ensures fetched { IsFetched self.old.marks.honest (sector_in self.old.sectors n) buf.new result }
+        ensures calls { self.new.calls ≡ called_if D.called (is_asked result) self.old.calls }
     {
         match &mut self.disk {
             Some(sectors) => sectors.read(n, buf),
@@ -217,6 +222,7 @@ impl<D: Disk> Device<D> {
         ensures unsteady { OnErr result (self.old.marks.steady ≡ false) }
         ensures flushed { self.new.is_flushed ≡ self.old.is_flushed }
         ensures fetched { OnOk result (IsTrue self.old.marks.honest → buf.new ≡ bytes_of (sector_in self.old.sectors n)) }
+        ensures calls { self.new.calls ≡ called_if D.called true self.old.calls }
     {
         match &mut self.disk {
             Some(sectors) => sectors.read_good(n, buf),

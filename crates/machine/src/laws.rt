@@ -3,6 +3,7 @@
 mod work;
 
 ghost use Rattle.machine.specs.AppliedLaws.{HonestDisksGiveTheirs, AnyDiskActsAlike, RefusedChangesNothing};
+ghost use Rattle.machine.specs.Calls.{OnlyStepsCall};
 ghost use Rattle.machine.specs.Parked.{BackIsWritten};
 ghost use Rattle.machine.specs.EffectLaws.{UntouchedStays, TouchedExists, ShapeStays};
 ghost use Rattle.machine.specs.StepLaws.{EffectsAgree, StepsAgree, RunsAgree, StepStaysWithin, StepKeepsShape, StepStaysSound, RefusalsChangeNothing, MalformedIsContained, MalformedAsksForReset};
@@ -83,6 +84,11 @@ pub fn any_disk_acts_alike()
 /// An event that is answered `Refused` or `NoMemory` leaves the machine as it was and writes into nothing, whatever its disks do.
 pub fn refused_changes_nothing()
     ensures { RefusedChangesNothing }
+{}
+
+/// An event that is no step calls no disk.
+pub fn only_steps_call()
+    ensures { OnlyStepsCall }
 {}
 
 /// What is given back by a caller that keeps its word is what the guest would have written, page by page.

@@ -57,7 +57,8 @@ impl DeviceState {
     ghost use Rattle.chains.specs.Decoder.{Fits};
     ghost use Rattle.machine.specs.AnyRing.{ring_in, decoder_in};
     ghost use Rattle.blk.specs.Move.{MaySectors};
-    ghost use Rattle.blk.specs.Sectors.{IsKept, AreWhole, Sector};
+    ghost use Rattle.blk.specs.Sectors.{Calls, IsKept, AreWhole, Sector};
+    ghost use Rattle.machine.specs.Calls.{asks_disk};
     ghost use Rattle.machine.specs.DeviceStep.{advances, advanced_at, looks, looked_at};
     ghost use Rattle.machine.specs.DeviceWork.{IsDeviceStep};
     ghost use Rattle.machine.specs.Outcome.{is_failure};
@@ -246,6 +247,7 @@ impl DeviceState {
         ensures step { (sent : List ℕ) → IsDeviceStep (Touches L.after log.old log.new ram.old ram.new) work.dev sectors.old.honest ram.old.bytes sectors.old.content self.old work.pick (reply_in result sent) ram.new.bytes sectors.new.content self.new }
         ensures kept { (sent : List ℕ) → IsKept sectors.old (is_failure (reply_in result sent)) sectors.new }
         ensures flushed { (sent : List ℕ) → HasFlushed self.old work.pick (reply_in result sent) sectors.new.is_flushed }
+        ensures calls { (sent : List ℕ) → Calls D.called (asks_disk self.old work.pick (reply_in result sent)) sectors.old sectors.new }
         ensures whole { AreWhole sectors.new.content }
         ensures later { IsLater ram.old ram.new }
         ensures fits { Fits (R.decoder ring.new) ram.new }

@@ -7,6 +7,7 @@
 ghost use Rattle.std.specs.Prelude.{◌≡◌, map, length, IfOk, OnErr};
 ghost use Rattle.guestmem.specs.Later.{IsLater};
 ghost use Rattle.machine.specs.Applied.{AreApplied, FailOnlyUnsteady, IsApplied, IsAppliedLogged, MayItems, marks_run};
+ghost use Rattle.machine.specs.Calls.{HasCalled, HaveCalled};
 ghost use Rattle.machine.specs.Direct.{value_reply, written_result};
 ghost use Rattle.machine.specs.Outcome.{outcome_of};
 ghost use Rattle.machine.specs.Run.{IsRun};
@@ -23,7 +24,8 @@ use guestmem::{Bytes, NoLog, NoMemory, TouchLog, access_refusal};
 impl<D: Disk> Machine<D> {
     /// Applies one event, and returns the reply. After `NoMemory` and `Refused` nothing has changed.
     pub fn apply(&mut self, event: &Event) -> Reply
-        ensures { IsApplied self.old event.now result self.new }
+        ensures applied { IsApplied self.old event.now result self.new }
+        ensures calls { HasCalled D.called self.old event.now result self.new }
     {
         self.apply_logged(event, &mut NoLog)
     }
@@ -32,7 +34,8 @@ impl<D: Disk> Machine<D> {
     /// same.
     pub fn apply_logged<L: TouchLog>(&mut self, event: &Event, log: &mut L) -> Reply
         requires may { MayItems L.may log.old (state_of self.old) }
-        ensures { IsAppliedLogged L.after self.old log.old event.now result self.new log.new }
+        ensures applied { IsAppliedLogged L.after self.old log.old event.now result self.new log.new }
+        ensures calls { HasCalled D.called self.old event.now result self.new }
     {
         match event {
             Event::RegRead { dev, off, width } => value(self.read_register(*dev, *off, *width)),
@@ -62,6 +65,7 @@ impl<D: Disk> Machine<D> {
         ensures each { IfOk result (λ replies. length replies.items ≡ length events.now) }
         ensures run { IfOk result (λ replies. AreHonest self.old → IsRun (state_of self.old) events.now (map outcome_of replies.items) replies.items (state_of self.new)) }
         ensures applied { IfOk result (λ replies. AreApplied self.old events.now replies.items self.new) }
+        ensures calls { IfOk result (λ replies. HaveCalled D.called self.old events.now replies.items self.new) }
         ensures sound { IsSound (state_of self.new) }
         ensures later { IsLater self.old.memory self.new.memory }
         ensures marks { IfOk result (λ replies. all_marks self.new ≡ marks_run (all_marks self.old) events.now replies.items) }

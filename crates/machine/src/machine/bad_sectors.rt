@@ -1,7 +1,8 @@
 //! The bad sectors of a machine's disks, one after another, and reads of the others.
 
-ghost use Rattle.std.specs.Prelude.{◌≡◌, ◌<◌, ◌≤◌, length};
+ghost use Rattle.std.specs.Prelude.{◌≡◌, ◌<◌, ◌≤◌, length, true};
 ghost use Rattle.machine.specs.Applied.{IsGood, ReadsSector};
+ghost use Rattle.machine.specs.Calls.{CallsDisk};
 ghost use Rattle.machine.specs.EffectLaws.{sector_on, sectors_on};
 ghost use Rattle.machine.specs.NextBad.{IsNextBad, found_good};
 ghost use Rattle.machine.specs.Seen.{state_of};
@@ -29,7 +30,8 @@ impl<D: Disk> Machine<D> {
         buf: &mut [u8; SECTOR_SIZE],
     ) -> Result<(), DiskFault>
         requires { IsGood (sector_on (sectors_on (state_of self.old) dev) n) }
-        ensures { ReadsSector self.old dev n buf.new (found_good result) self.new }
+        ensures read { ReadsSector self.old dev n buf.new (found_good result) self.new }
+        ensures calls { CallsDisk D.called true dev self.old self.new }
     {
         self.devices[dev as usize].read_good(n, buf)
     }

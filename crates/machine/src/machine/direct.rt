@@ -9,6 +9,7 @@ ghost use Rattle.guestmem.specs.Item.{MayPages};
 ghost use Rattle.guestmem.specs.Memory.{Memory};
 ghost use Rattle.mmio.specs.RegisterWrite.{register_write};
 ghost use Rattle.machine.specs.Applied.{IsApplied, IsAppliedLogged, MayItems};
+ghost use Rattle.machine.specs.Calls.{HasCalled};
 ghost use Rattle.machine.specs.Direct.{value_reply, done_reply, bytes_reply, accepted_reply, written_result};
 ghost use Rattle.machine.specs.Rings.{FitAll, forgotten};
 ghost use Rattle.machine.specs.Seen.{state_of};
@@ -51,7 +52,8 @@ impl<D: Disk> Machine<D> {
         width: u8,
         value: u32,
     ) -> Result<Option<u8>, Refusal>
-        ensures { IsApplied self.old (events.RegWrite dev offset width value) (written_result result) self.new }
+        ensures applied { IsApplied self.old (events.RegWrite dev offset width value) (written_result result) self.new }
+        ensures calls { HasCalled D.called self.old (events.RegWrite dev offset width value) (written_result result) self.new }
     {
         let number = dev as usize;
         if number >= self.devices.len() {
@@ -63,7 +65,8 @@ impl<D: Disk> Machine<D> {
 
     /// The host sets the size of a console, in characters.
     pub fn resize(&mut self, dev: u8, cols: u16, rows: u16) -> Result<(), Refusal>
-        ensures { IsApplied self.old (events.Resize dev cols rows) (done_reply result) self.new }
+        ensures applied { IsApplied self.old (events.Resize dev cols rows) (done_reply result) self.new }
+        ensures calls { HasCalled D.called self.old (events.Resize dev cols rows) (done_reply result) self.new }
     {
         let dev = dev as usize;
         if dev >= self.devices.len() {
@@ -91,7 +94,8 @@ impl<D: Disk> Machine<D> {
 
     /// The guest writes bytes into RAM from a guest-physical address on.
     pub fn write_ram(&mut self, addr: u64, bytes: &[u8]) -> Result<(), Refusal>
-        ensures { IsApplied self.old (events.MemWrite addr bytes.now) (done_reply result) self.new }
+        ensures applied { IsApplied self.old (events.MemWrite addr bytes.now) (done_reply result) self.new }
+        ensures calls { HasCalled D.called self.old (events.MemWrite addr bytes.now) (done_reply result) self.new }
     {
         self.write_ram_logged(addr, bytes, &mut NoLog)
     }
@@ -99,7 +103,8 @@ impl<D: Disk> Machine<D> {
     /// The host puts bytes in: for an entropy device into its pool, for a console as text, for a network device one frame. It
     /// returns how many were kept: the first ones, or a whole frame. A block device takes none.
     pub fn input(&mut self, dev: u8, bytes: &[u8]) -> Result<u32, Refusal>
-        ensures { IsApplied self.old (events.Input dev bytes.now) (accepted_reply result) self.new }
+        ensures applied { IsApplied self.old (events.Input dev bytes.now) (accepted_reply result) self.new }
+        ensures calls { HasCalled D.called self.old (events.Input dev bytes.now) (accepted_reply result) self.new }
     {
         let dev = dev as usize;
         if dev >= self.devices.len() {
@@ -111,7 +116,8 @@ impl<D: Disk> Machine<D> {
 
     /// A device does one piece of its work, which the pick names.
     pub fn step(&mut self, dev: u8, pick: u8) -> Reply
-        ensures { IsApplied self.old (events.Step dev pick) result self.new }
+        ensures applied { IsApplied self.old (events.Step dev pick) result self.new }
+        ensures calls { HasCalled D.called self.old (events.Step dev pick) result self.new }
     {
         let mut sent = Vec::new(self.alloc);
         let stepped = self.step_into(dev, pick, &mut sent);
@@ -122,7 +128,8 @@ impl<D: Disk> Machine<D> {
     /// anything. A step that sends no message takes no memory but for a chain of more than four descriptors, and neither does one
     /// whose message the buffer has room for.
     pub fn step_into(&mut self, dev: u8, pick: u8, sent: &mut Vec<u8>) -> Stepped
-        ensures { IsApplied self.old (events.Step dev pick) (reply_in result sent.new.items) self.new }
+        ensures applied { IsApplied self.old (events.Step dev pick) (reply_in result sent.new.items) self.new }
+        ensures calls { HasCalled D.called self.old (events.Step dev pick) (reply_in result sent.new.items) self.new }
     {
         self.step_into_logged(dev, pick, sent, &mut NoLog)
     }
@@ -135,7 +142,8 @@ impl<D: Disk> Machine<D> {
         log: &mut L,
     ) -> Result<(), Refusal>
         requires may { MayItems L.may log.old (state_of self.old) }
-        ensures { IsAppliedLogged L.after self.old log.old (events.MemWrite addr bytes.now) (done_reply result) self.new log.new }
+        ensures applied { IsAppliedLogged L.after self.old log.old (events.MemWrite addr bytes.now) (done_reply result) self.new log.new }
+        ensures calls { HasCalled D.called self.old (events.MemWrite addr bytes.now) (done_reply result) self.new }
     {
         let base = self.base();
         if let Some(error) = access_refusal(base, self.ram.len(), addr, bytes.len()) {
@@ -155,7 +163,8 @@ impl<D: Disk> Machine<D> {
         log: &mut L,
     ) -> Stepped
         requires may { MayItems L.may log.old (state_of self.old) }
-        ensures { IsAppliedLogged L.after self.old log.old (events.Step dev pick) (reply_in result sent.new.items) self.new log.new }
+        ensures applied { IsAppliedLogged L.after self.old log.old (events.Step dev pick) (reply_in result sent.new.items) self.new log.new }
+        ensures calls { HasCalled D.called self.old (events.Step dev pick) (reply_in result sent.new.items) self.new }
     {
         let number = dev as usize;
         if number >= self.devices.len() {
@@ -171,7 +180,8 @@ impl<D: Disk> Machine<D> {
 
     pub(super) fn step_logged<L: TouchLog>(&mut self, dev: u8, pick: u8, log: &mut L) -> Reply
         requires may { MayItems L.may log.old (state_of self.old) }
-        ensures { IsAppliedLogged L.after self.old log.old (events.Step dev pick) result self.new log.new }
+        ensures applied { IsAppliedLogged L.after self.old log.old (events.Step dev pick) result self.new log.new }
+        ensures calls { HasCalled D.called self.old (events.Step dev pick) result self.new }
     {
         let mut sent = Vec::new(self.alloc);
         let stepped = self.step_into_logged(dev, pick, &mut sent, log);

@@ -4,6 +4,7 @@ ghost use Rattle.std.specs.Prelude.{◌≡◌, ◌<◌, ◌≤◌, ◌==◌, ◌
 ghost use Rattle.blk.specs.Sectors.{is_bad};
 ghost use Rattle.guestmem.specs.Item.{sector};
 ghost use Rattle.machine.specs.Applied.{ReadsSector};
+ghost use Rattle.machine.specs.Calls.{CallsDisk, has_read};
 ghost use Rattle.machine.specs.EffectLaws.{HasItem, HasSectorsOf};
 ghost use Rattle.machine.specs.Seen.{state_of};
 ghost use Rattle.machine.specs.Lines.{lines_of};
@@ -74,7 +75,8 @@ impl<D: Disk> Machine<D> {
         buf: &mut [u8; SECTOR_SIZE],
     ) -> Result<bool, DiskFault>
         requires { HasItem (state_of self.old) (sector dev n) }
-        ensures { ReadsSector self.old dev n buf.new result self.new }
+        ensures read { ReadsSector self.old dev n buf.new result self.new }
+        ensures calls { CallsDisk D.called (has_read result) dev self.old self.new }
     {
         match self.devices[dev as usize].read_sector(n, buf) {
             Fetched::Read => Ok(true),

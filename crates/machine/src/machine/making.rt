@@ -6,9 +6,9 @@
 ghost use Rattle.std.specs.Prelude.{◌≡◌, ◌*◌, ◌≤◌, ◌↔◌, IsTrue, length, map, All, Err, None, Some, IfOk, IfErr, IfSome};
 ghost use Rattle.blk.specs.Disk.{AreSectors};
 ghost use Rattle.machine.specs.Board.{ram_bytes, ram_place, ram_size};
-ghost use Rattle.machine.specs.Seen.{state_of, all_marks};
+ghost use Rattle.machine.specs.Seen.{state_of, all_calls, all_marks};
 ghost use Rattle.machine.specs.Shapes.{first_device, is_beyond, made_as};
-ghost use Rattle.machine.specs.First.{AreMarksOf, HasBytes, are_beyond, dealt_marks, first_machine, good_marks, is_base, is_beyond_limits, is_ram_size, made_machine, make_refusal, marked_sectors, marks_in, new_refusal, saved_machine};
+ghost use Rattle.machine.specs.First.{AreMarksOf, HasBytes, are_beyond, dealt_calls, dealt_marks, first_machine, good_marks, is_base, is_beyond_limits, is_ram_size, made_machine, make_refusal, marked_sectors, marks_in, new_refusal, saved_machine};
 ghost use Rattle.machine.specs.Sound.{IsBase, IsSound};
 ghost use Rattle.machine.specs.declared.new_error.NewError.TheVariants as new_error;
 
@@ -37,6 +37,7 @@ impl<D: Disk + Drop> Machine<D> {
     ) -> Result<Machine<D>, NewError>
         ensures made { IfOk result (λ m. state_of m ≡ first_machine ram_pages shapes.now (map (λ d. map Some (D.state d).sectors) disks.items)) }
         ensures marks { IfOk result (λ m. all_marks m ≡ dealt_marks shapes.now (map (λ d. marks_in (D.state d)) disks.items)) }
+        ensures calls { IfOk result (λ m. all_calls m ≡ dealt_calls shapes.now (map (λ d. Some (D.calls d)) disks.items)) }
         ensures sound { IfOk result (λ m. IsSound (state_of m)) }
         ensures refused { IfSome (new_refusal ram_pages shapes.now (map (λ d. length (D.state d).sectors) disks.items)) (λ error. result ≡ Err error) }
         ensures memory { new_refusal ram_pages shapes.now (map (λ d. length (D.state d).sectors) disks.items) ≡ None → IfErr result (λ error. error ≡ new_error.NoMemory) }
@@ -64,6 +65,7 @@ impl<D: Disk + Drop> Machine<D> {
         ensures made { IfOk result (λ m. state_of m ≡ made_machine board.entry.base (ram_bytes board.entry.ram) board.entry.shapes.now (map (λ d. map Some (D.state d).sectors) board.entry.disks.items)) }
         ensures place { IfOk result (λ m. m.memory.place ≡ ram_place board.entry.ram) }
         ensures marks { IfOk result (λ m. all_marks m ≡ dealt_marks board.entry.shapes.now (map (λ d. marks_in (D.state d)) board.entry.disks.items)) }
+        ensures calls { IfOk result (λ m. all_calls m ≡ dealt_calls board.entry.shapes.now (map (λ d. Some (D.calls d)) board.entry.disks.items)) }
         ensures sound { IfOk result (λ m. IsSound (state_of m)) }
         ensures disks { IfErr result (λ unmade. unmade.disks.items ≡ board.entry.disks.items) }
         ensures ram { IfErr result (λ unmade. unmade.ram ≡ board.entry.ram) }
@@ -117,6 +119,7 @@ impl<D: Disk + Drop> Machine<D> {
         requires bad { AreMarksOf (map D.state disks.items) bad.items }
         ensures restored { IfOk result (λ m. state_of m ≡ saved_machine ram.bytes states.items (marked_sectors (map D.state disks.items) bad.items)) }
         ensures marks { IfOk result (λ m. all_marks m ≡ dealt_marks shapes.items (map (λ d. marks_in (D.state d)) disks.items)) }
+        ensures calls { IfOk result (λ m. all_calls m ≡ dealt_calls shapes.items (map (λ d. Some (D.calls d)) disks.items)) }
         ensures sound { IfOk result (λ m. IsSound (state_of m)) }
         ensures place { IfOk result (λ m. m.memory.place ≡ ram.place) }
     {
@@ -140,6 +143,7 @@ impl<D: Disk + Drop> Machine<D> {
         requires disks { length bad.items ≤ room.disks }
         ensures restored { state_of result ≡ saved_machine ram.bytes states.items (marked_sectors (map D.state disks.items) bad.items) }
         ensures marks { all_marks result ≡ dealt_marks shapes.items (map (λ d. marks_in (D.state d)) disks.items) }
+        ensures calls { all_calls result ≡ dealt_calls shapes.items (map (λ d. Some (D.calls d)) disks.items) }
         ensures sound { IsSound (state_of result) }
         ensures place { result.memory.place ≡ ram.place }
     {

@@ -3,7 +3,7 @@
 //! `Room` is for whoever must not fail late: a receiver takes it when a stream's header is whole.
 
 ghost use Rattle.std.specs.Prelude.{◌≡◌, ◌≤◌, [], IfOk, length, map, vec_capacity};
-ghost use Rattle.machine.specs.First.{AreMarksOf, marked, seen_devices, uncounted};
+ghost use Rattle.machine.specs.First.{AreMarksOf, counted, marked, seen_devices};
 ghost use Rattle.machine.specs.Rings.{AreNewRings};
 
 use crate::any_ring::AnyRing;
@@ -67,7 +67,7 @@ impl<D: Disk + Drop> Room<D> {
         requires devices { self.devices ≡ length states.items }
         requires disks { length bad.items ≤ self.disks }
         requires bad { AreMarksOf (map D.state disks.items) bad.items }
-        ensures devices { result.1.items ≡ seen_devices states.items (marked (map D.state disks.items) bad.items) }
+        ensures devices { result.1.items ≡ seen_devices states.items (counted (map D.calls disks.items) (marked (map D.state disks.items) bad.items)) }
         ensures rings { AreNewRings result.2.items (length states.items) }
     {
         let Room {
@@ -104,7 +104,7 @@ fn all_marked<D: Disk + Drop>(
     requires bad { AreMarksOf (map D.state disks.items) bad.items }
     requires none { all.items ≡ [] }
     requires room { length bad.items ≤ vec_capacity all }
-    ensures { map uncounted result.items ≡ marked (map D.state disks.items) bad.items }
+    ensures { result.items ≡ counted (map D.calls disks.items) (marked (map D.state disks.items) bad.items) }
 {
     let mut bad = bad.into_iter();
     for disk in disks {

@@ -4,8 +4,9 @@
 //! its step is no event that is applied either (`IsApplied` counts a failure of the disk): the definition of a step stays, with
 //! the outcome that the disk failed.
 
-ghost use Rattle.std.specs.Prelude.{◌≡◌};
-ghost use Rattle.machine.specs.Seen.{state_of};
+ghost use Rattle.std.specs.Prelude.{◌≡◌, true};
+ghost use Rattle.machine.specs.Calls.{CallsDisk};
+ghost use Rattle.machine.specs.Seen.{all_calls, state_of};
 ghost use Rattle.machine.specs.Unsynced.{FailsFlushIf, FlushesDisk, makes_flush};
 
 use crate::machine::Machine;
@@ -18,7 +19,8 @@ impl<D: Disk> Machine<D> {
     /// machine that arrived, before its source is told that all is there. Where it fails that step is not made, or the machine does not run
     /// here. A device that does not exist has no disk.
     pub fn flush_disk(&mut self, dev: u8) -> Result<(), DiskFault>
-        ensures { FlushesDisk self.old dev result self.new }
+        ensures flushed { FlushesDisk self.old dev result self.new }
+        ensures calls { CallsDisk D.called true dev self.old self.new }
     {
         let dev = dev as usize;
         if dev >= self.devices.len() {
@@ -33,6 +35,7 @@ impl<D: Disk> Machine<D> {
     pub fn fail_flush(&mut self, dev: u8, pick: u8) -> bool
         ensures was { result ≡ makes_flush (state_of self.old) dev pick }
         ensures failed { FailsFlushIf result self.old dev pick self.new }
+        ensures calls { all_calls self.new ≡ all_calls self.old }
     {
         let dev = dev as usize;
         if dev >= self.devices.len() {

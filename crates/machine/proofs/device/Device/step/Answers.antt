@@ -1,7 +1,8 @@
-use Rattle.std.proofs.Common.{◌≡◌, [], length, refl, sym}
+use Rattle.std.proofs.Common.{◌≡◌, [], length, refl, sym, Some}
 use Rattle.guestmem.proofs.RisesLaws.{touches_none}
-use Rattle.machine.specs.Seen.{marks_of, sectors_of}
+use Rattle.machine.specs.Seen.{calls_of, marks_of, sectors_of}
 use Rattle.machine.specs.Shapes.{made_as, sector_count}
+use Rattle.machine.proofs.Calling.{idle_uncalled, looked_uncalled}
 use Rattle.machine.proofs.Stepping.{idle_step, none_without}
 use Rattle.machine.proofs.device.Device.step.Goals as goal
 
@@ -44,3 +45,21 @@ returns-clause-step g c =
 
 pub returns-clause-fits : goal.returns-clause-fits
 returns-clause-fits g c = c.advanced_ring.ensures.fits c.args.ram.now (c.looked_ring.ensures.fits c.args.ram.now c.requires.fits)
+
+pub returns-in-Split-clause-calls : goal.returns-in-Split-clause-calls
+returns-in-Split-clause-calls g c =
+    let i = c.self.inside in
+    rw (← c.self.view_is)
+    (looked_uncalled (length c.args.ram.now.bytes) i.state c.args.work.pick _ _ g.D.Disk.called (calls_of i.disk) (rw (← c.self.view_is) at c.requires.sound) (c.looked_ring.ensures.ring c.if-looked_ring.true))
+
+pub returns-in-Packed-clause-calls : goal.returns-in-Packed-clause-calls
+returns-in-Packed-clause-calls g c =
+    let i = c.self.inside in
+    rw (← c.self.view_is)
+    (looked_uncalled (length c.args.ram.now.bytes) i.state c.args.work.pick _ _ g.D.Disk.called (calls_of i.disk) (rw (← c.self.view_is) at c.requires.sound) (c.looked_ring.ensures.ring c.if-looked_ring.true))
+
+pub returns-clause-calls : goal.returns-clause-calls
+returns-clause-calls g c =
+    let i = c.self.inside in
+    rw (← c.self.view_is, c.in-Some.is)
+    (idle_uncalled (length c.args.ram.now.bytes) i.state c.args.work.pick _ g.D.Disk.called (Some c.in-Some.sectors.calls) (rw (← c.self.view_is) at c.requires.sound) (c.advanced_ring.ensures.none c.if-advanced_ring.false))

@@ -1,8 +1,9 @@
-use Rattle.std.proofs.Common.{arith}
+use Rattle.std.proofs.Common.{arith, true}
 use Rattle.machine.proofs.At.{IsAt}
 use Rattle.machine.proofs.Flushing.{flushes_disk}
 use Rattle.machine.proofs.Keeping.{rings_stay}
 use Rattle.machine.proofs.Reading.{held_so}
+use Rattle.machine.proofs.Calling.{calls_disk}
 use Rattle.machine.proofs.machine.Machine.flush_disk.Goals as goal
 
 pub invariant_of-self : goal.invariant_of-self
@@ -13,10 +14,16 @@ invariant_of-self g c =
       rings_stay i.rings.items i.ram i.devices.items c.args.dev c.flush.new.self c.self.invariant.1,
     )
 
-pub returns : goal.returns
-returns g c =
+pub returns-clause-flushed : goal.returns-clause-flushed
+returns-clause-flushed g c =
     let i = c.self.inside in
     let at : IsAt i.devices.items c.args.dev c.index_mut.result.now = record { below = omega arith; is = c.index_mut.ensures.value } in
     rw (← c.self.view_is)
     (flushes_disk i.ram i.devices.items c.args.dev c.index_mut.result.now c.flush.new.self c.flush.result
     (record { at = at; state = c.flush.ensures.state; sectors = c.flush.ensures.sectors; marks = c.flush.ensures.marks; unsteady = c.flush.ensures.unsteady; flushed = c.flush.ensures.flushed }))
+
+pub returns-clause-calls : goal.returns-clause-calls
+returns-clause-calls g c =
+    let i = c.self.inside in
+    let at : IsAt i.devices.items c.args.dev c.index_mut.result.now = record { below = omega arith; is = c.index_mut.ensures.value } in
+    rw (← c.self.view_is) (calls_disk g.D.Disk.called true i.ram i.ram i.devices.items c.args.dev c.index_mut.result.now c.flush.new.self at c.flush.ensures.calls)

@@ -1,6 +1,8 @@
+use Rattle.std.proofs.Common.{true}
 use Rattle.machine.proofs.At.{IsAt}
 use Rattle.machine.proofs.Keeping.{rings_stay}
 use Rattle.machine.proofs.Reading.{IsReadGood, device_there, good_there, held_so, not_bad, reads_good}
+use Rattle.machine.proofs.Calling.{calls_disk}
 use Rattle.machine.proofs.machine.Machine.read_good_sector.Goals as goal
 
 pub invariant_of-self : goal.invariant_of-self
@@ -13,8 +15,8 @@ invariant_of-self g c =
       rings_stay c.self.inside.rings.items ram ds c.args.dev c.read_good.new.self c.self.invariant.1,
     )
 
-pub returns : goal.returns
-returns g c =
+pub returns-clause-read : goal.returns-clause-read
+returns-clause-read g c =
     let ram = c.self.inside.ram in
     let ds = c.self.inside.devices.items in
     let good = rw (← c.self.view_is) at c.requires in
@@ -32,3 +34,10 @@ returns g c =
       is = c.read_good.ensures.fetched;
     } in
     rw (← c.self.view_is) (reads_good ram ds c.args.dev c.args.n c.index_mut.result.now c.read_good.new.self c.read_good.new.buf c.read_good.result read)
+
+pub returns-clause-calls : goal.returns-clause-calls
+returns-clause-calls g c =
+    let i = c.self.inside in
+    let there = good_there i.ram i.devices.items c.args.dev c.args.n (rw (← c.self.view_is) at c.requires) in
+    let at : IsAt i.devices.items c.args.dev c.index_mut.result.now = record { below = device_there i.ram i.devices.items c.args.dev c.args.n there; is = c.index_mut.ensures.value } in
+    rw (← c.self.view_is) (calls_disk g.D.Disk.called true i.ram i.ram i.devices.items c.args.dev c.index_mut.result.now c.read_good.new.self at c.read_good.ensures.calls)

@@ -1,6 +1,8 @@
+use Rattle.blk.specs.Sectors.{is_asked}
 use Rattle.machine.proofs.Keeping.{rings_stay}
 use Rattle.machine.proofs.At.{IsAt}
 use Rattle.machine.proofs.Reading.{IsRead, Tells, device_there, held_so, reads}
+use Rattle.machine.proofs.Calling.{calls_disk, read_called}
 use Rattle.machine.proofs.machine.Machine.read_sector.Goals as goal
 use Rattle.machine.proofs.machine.Machine.read_sector.Goals.{in-Read, in-Bad, in-Failed}
 
@@ -11,8 +13,8 @@ invariant_of-self g c =
       rings_stay c.self.inside.rings.items c.self.inside.ram c.self.inside.devices.items c.args.dev c.read_sector.new.self c.self.invariant.1,
     )
 
-pub returns : goal.returns
-returns g c =
+pub returns-clause-read : goal.returns-clause-read
+returns-clause-read g c =
     let ds = c.self.inside.devices.items in
     let at : IsAt ds c.args.dev c.index_mut.result.now = record { below = device_there c.self.inside.ram c.self.inside.devices.items c.args.dev c.args.n (rw (← c.self.view_is) at c.requires); is = c.index_mut.ensures.value } in
     let read : IsRead c.self.inside.ram ds c.args.dev c.args.n c.index_mut.result.now c.read_sector.new.self c.read_sector.new.buf c.read_sector.result = record {
@@ -31,3 +33,15 @@ returns g c =
       | in-Failed w ↦ rw w.in-Failed.is (_, w.result-is)
     ] in
     rw (← c.self.view_is) (reads c.self.inside.ram ds c.args.dev c.args.n c.index_mut.result.now c.read_sector.new.self c.read_sector.new.buf c.read_sector.result c.match-read_sector.result read told)
+
+pub returns-clause-calls : goal.returns-clause-calls
+returns-clause-calls g c =
+    let i = c.self.inside in
+    let at : IsAt i.devices.items c.args.dev c.index_mut.result.now = record { below = device_there i.ram i.devices.items c.args.dev c.args.n (rw (← c.self.view_is) at c.requires); is = c.index_mut.ensures.value } in
+    let told : Tells c.read_sector.result c.match-read_sector.result = elim c.match-read_sector.branch [
+      | in-Read w ↦ rw w.in-Read.is w.result-is
+      | in-Bad w ↦ rw w.in-Bad.is w.result-is
+      | in-Failed w ↦ rw w.in-Failed.is (_, w.result-is)
+    ] in
+    rw (← c.self.view_is, read_called c.read_sector.result c.match-read_sector.result told)
+    (calls_disk g.D.Disk.called (is_asked c.read_sector.result) i.ram i.ram i.devices.items c.args.dev c.index_mut.result.now c.read_sector.new.self at c.read_sector.ensures.calls)

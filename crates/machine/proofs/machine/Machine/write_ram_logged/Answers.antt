@@ -10,8 +10,8 @@ use Rattle.machine.proofs.Keeping.{rings_later}
 use Rattle.machine.proofs.At.{applied_logged, held_step, plain_step, seen_base, stored_step, unstored_step}
 use Rattle.machine.proofs.machine.Machine.write_ram_logged.Goals as goal
 
-pub returns-in-Some : goal.returns-in-Some
-returns-in-Some g c =
+pub returns-in-Some-clause-applied : goal.returns-in-Some-clause-applied
+returns-in-Some-clause-applied g c =
     let i = c.self.inside in
     let based : c.base-base.result ≡ seen_base i.devices.items = rw (← c.self.view_is) at c.base-base.ensures in
     rw (← c.self.view_is)
@@ -28,8 +28,8 @@ invariant_of-self g c =
       rings_later c.self.inside.rings.items c.self.inside.ram c.put.new.self _ c.self.invariant.1 c.put.ensures.later,
     )
 
-pub returns : goal.returns
-returns g c =
+pub returns-clause-applied : goal.returns-clause-applied
+returns-clause-applied g c =
     let i = c.self.inside in
     let based : c.base-base.result ≡ seen_base i.devices.items = rw (← c.self.view_is) at c.base-base.ensures in
     let step = stored_step (Touches g.L.TouchLog.after c.args.log.now c.put.new.log i.ram c.put.new.self) i.ram c.put.new.self i.devices.items c.args.addr c.args.bytes.now (rw (based, c.len.ensures) at (sym c.access_refusal.ensures.refusal ∙ c.in_default.is)) (rw based at c.put.ensures.bytes) (rw (← based) (record { log_is = c.put.ensures.log; rises = c.put.ensures.rises })) in

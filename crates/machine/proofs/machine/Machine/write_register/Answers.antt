@@ -5,6 +5,7 @@ use Rattle.machine.specs.Seen.{DeviceSeen}
 use Rattle.machine.specs.declared.event.Event.TheVariants as events
 use Rattle.machine.proofs.Keeping.{rings_written}
 use Rattle.machine.proofs.At.{missing_write, IsAt, map-set_same, register_step, held_step, applied_quiet}
+use Rattle.machine.proofs.Calling.{none_called}
 use Rattle.machine.proofs.machine.Machine.write_register.Goals as goal
 
 pub invariant_of-self : goal.invariant_of-self
@@ -16,8 +17,8 @@ invariant_of-self g c =
       rings_written c.self.inside.rings.items c.write_one.new.rings.items c.self.inside.ram c.self.inside.devices.items c.args.dev c.write_one.new.device c.self.invariant.1 c.write_one.ensures.each (c.write_one.ensures.fit c.self.inside.ram),
     )
 
-pub returns : goal.returns
-returns g c =
+pub returns-clause-applied : goal.returns-clause-applied
+returns-clause-applied g c =
     let i = c.self.inside in
     let at : IsAt i.devices.items c.args.dev c.index_mut-device.result.now = record { below = omega arith; is = c.index_mut-device.ensures.value } in
     rw (← c.self.view_is, c.write_one.ensures.out)
@@ -26,7 +27,13 @@ returns g c =
     refl
     (map-set_same (λ (d : DeviceSeen). d.marks) i.devices.items c.args.dev c.index_mut-device.result.now c.write_one.new.device at (ap (λ (d : DeviceSeen). d.marks) c.write_one.ensures.device)) tt)
 
-pub returns-then-number-len : goal.returns-then-number-len
-returns-then-number-len g c =
+pub returns-then-number-len-clause-applied : goal.returns-then-number-len-clause-applied
+returns-then-number-len-clause-applied g c =
     let i = c.self.inside in
     rw (← c.self.view_is) (missing_write i.shapes.items i.ram i.devices.items c.args.dev c.args.offset c.args.width c.args.value c.self.invariant.0 (c.ranges.dev.fits, c.ranges.offset.fits, c.ranges.width.fits, c.ranges.value.fits) (omega arith))
+
+pub returns-clause-calls : goal.returns-clause-calls
+returns-clause-calls g c =
+    let i = c.self.inside in
+    let at : IsAt i.devices.items c.args.dev c.index_mut-device.result.now = record { below = omega arith; is = c.index_mut-device.ensures.value } in
+    rw (← c.self.view_is) (none_called i.devices.items c.args.dev c.index_mut-device.result.now c.write_one.new.device at (ap (λ (d : DeviceSeen). d.calls) c.write_one.ensures.device))

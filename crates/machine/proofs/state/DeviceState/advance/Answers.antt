@@ -4,6 +4,8 @@ use Rattle.blk.specs.Block.{limits_of}
 use Rattle.chains.proofs.FrameLaws.{fits_on}
 use Rattle.machine.specs.DeviceStep.{is_advance_due}
 use Rattle.machine.specs.declared.kind.Kind.TheVariants.{Block}
+use Rattle.machine.proofs.Advancing.{advanced_is}
+use Rattle.machine.proofs.Calling.{advance_asks}
 use Rattle.machine.proofs.Staying.{due_registers}
 use Rattle.machine.proofs.Stepping.{advanced_ring, advanced_sound, advanced_step, has_queue, held_device}
 use Rattle.machine.proofs.state.DeviceState.advance.Goals as goal
@@ -38,3 +40,10 @@ returns-clause-step g c = λ sent.
 
 pub returns-clause-fits : goal.returns-clause-fits
 returns-clause-fits g c = fits_on _ _ _ _ c.requires.fits c.advance-advanced.ensures.after.later c.advance-advanced.ensures.decoder
+
+pub returns-clause-calls : goal.returns-clause-calls
+returns-clause-calls g c = λ sent.
+    let i = c.self.inside in
+    let block = c.in-Block.block in
+    let look = advanced_is (length c.args.ram.now.bytes) (held_device i.kind i.registers i.positions) c.args.work.pick (g.R.Ring.state c.args.ring.now) (rw (← c.self.view_is) at c.requires.sound) (rw (← c.self.view_is) at c.requires.advanced) in
+    rw (← c.self.view_is, advance_asks (held_device i.kind i.registers i.positions) block c.args.work.pick c.advance-advanced.result _ c.in-Block.is look.advances (c.reply_to_advance.ensures sent)) c.advance-advanced.ensures.calls
