@@ -146,10 +146,10 @@ impl<D: Disk> Device<D> {
         requires may { MayPages L.may log.old (length ram.old.bytes) }
         requires may_sectors { MaySectors L.may log.old work.dev (length self.old.sectors) }
         ensures step { IsDeviceStep (Touches L.after log.old log.new ram.old ram.new) work.dev self.old.marks.honest ram.old.bytes self.old.sectors self.old.state work.pick (reply_in result sent.new.items) ram.new.bytes self.new.sectors self.new.state }
+        ensures calls { self.new.calls ≡ called_if D.called (asks_disk self.old.state work.pick (reply_in result sent.new.items)) self.old.calls }
         ensures marks { self.new.marks ≡ failed_if (is_failure (reply_in result sent.new.items)) self.old.marks }
         ensures unsteady { is_failure (reply_in result sent.new.items) ≡ true → self.old.marks.steady ≡ false }
         ensures flushed { HasFlushed self.old.state work.pick (reply_in result sent.new.items) self.new.is_flushed }
-        ensures calls { self.new.calls ≡ called_if D.called (asks_disk self.old.state work.pick (reply_in result sent.new.items)) self.old.calls }
         ensures capacity { length self.new.sectors ≡ length self.old.sectors }
         ensures whole { AreWhole self.new.sectors }
         ensures later { IsLater ram.old ram.new }

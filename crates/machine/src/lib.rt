@@ -30,7 +30,11 @@
 //! - `NoMemory` comes only for a reply that holds bytes and for a step that looks at a long queue or at a message to be sent.
 //!   After it, and after `Refused`, nothing has changed.
 //! - A disk's count of failures rises by one exactly where the reply is `DiskFailed` and it is that device's disk; a steady
-//!   disk never fails. That a step makes one call of a disk at most is in no contract.
+//!   disk never fails.
+//! - The calls of disks are counted (`specs/Calls`). A step calls the disk of its device once where it moves a unit of a request, clears or
+//!   flushes, and not where it takes a request, ends it, finds its sector bad or gives the id. It calls no other disk, and an event that
+//!   is no step calls none. `flush_disk` calls its disk once; so do `read_sector`, unless the sector is bad, and `read_good_sector`;
+//!   `fail_flush` calls none. Machines that are made, restored, lent and given back have their disks with the counts that these had.
 //! - `next_work(last)` names the next step that has something to do, in turn after `last` (`specs/NextWork`). Where it names
 //!   none, every step of every device is idle; a step that it names is not idle, or has cleared the notified flag of its queue.
 //!   It reads no RAM.

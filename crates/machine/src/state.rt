@@ -246,6 +246,7 @@ impl DeviceState {
         requires may_sectors { MaySectors L.may log.old work.dev (length sectors.old.content) }
         ensures step { (sent : List ℕ) → IsDeviceStep (Touches L.after log.old log.new ram.old ram.new) work.dev sectors.old.honest ram.old.bytes sectors.old.content self.old work.pick (reply_in result sent) ram.new.bytes sectors.new.content self.new }
         ensures kept { (sent : List ℕ) → IsKept sectors.old (is_failure (reply_in result sent)) sectors.new }
+        ensures size { length sectors.new.content ≡ length sectors.old.content }
         ensures flushed { (sent : List ℕ) → HasFlushed self.old work.pick (reply_in result sent) sectors.new.is_flushed }
         ensures calls { (sent : List ℕ) → Calls D.called (asks_disk self.old work.pick (reply_in result sent)) sectors.old sectors.new }
         ensures whole { AreWhole sectors.new.content }

@@ -1,4 +1,4 @@
-use Rattle.std.proofs.Common.{◌≡◌, [], length, refl, sym, Some}
+use Rattle.std.proofs.Common.{◌≡◌, length, refl, sym, Some}
 use Rattle.guestmem.proofs.RisesLaws.{touches_none}
 use Rattle.machine.specs.Seen.{calls_of, marks_of, sectors_of}
 use Rattle.machine.specs.Shapes.{made_as, sector_count}
@@ -28,12 +28,6 @@ advance-requires-clause-fits g c = rw c.in-Split-ring.is at (c.advanced_ring.ens
 
 pub advance-requires-in-Packed-ring-clause-fits : goal.advance-requires-in-Packed-ring-clause-fits
 advance-requires-in-Packed-ring-clause-fits g c = rw c.in-Packed-ring.is at (c.advanced_ring.ensures.fits c.args.ram.now (c.looked_ring.ensures.fits c.args.ram.now c.requires.fits))
-
-pub returns-in-Split-ring-clause-capacity : goal.returns-in-Split-ring-clause-capacity
-returns-in-Split-ring-clause-capacity g c = rw (← c.self.view_is, c.in-Some.is) ((c.advance.ensures.kept []).size)
-
-pub returns-in-Packed-ring-clause-capacity : goal.returns-in-Packed-ring-clause-capacity
-returns-in-Packed-ring-clause-capacity g c = rw (← c.self.view_is, c.in-Some.is) ((c.advance-in-Packed-ring.ensures.kept []).size)
 
 pub returns-clause-step : goal.returns-clause-step
 returns-clause-step g c =
