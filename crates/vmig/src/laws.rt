@@ -3,9 +3,10 @@
 pub use guestmem::laws::{given_back_is_written, later_in_turn, refusals_at_zero, rises_in_turn};
 pub use machine::laws::{
     any_disk_acts_alike, back_is_written, effects_agree, honest_disks_give_theirs,
-    idle_without_work, malformed_asks_for_reset, malformed_is_contained, refusals_change_nothing,
-    refused_changes_nothing, runs_agree, shape_stays, step_keeps_shape, step_stays_sound,
-    step_stays_within, steps_agree, touched_exists, untouched_stays, work_gets_on,
+    idle_without_work, malformed_asks_for_reset, malformed_is_contained, only_steps_call,
+    refusals_change_nothing, refused_changes_nothing, runs_agree, shape_stays, step_keeps_shape,
+    step_stays_sound, step_stays_within, steps_agree, touched_exists, untouched_stays,
+    work_gets_on,
 };
 pub use receiver::laws::{
     faults_stand_early, faults_stay, no_fault_in_a_stream, one_fault, rounds_of_a_stream,
