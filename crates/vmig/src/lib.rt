@@ -45,9 +45,9 @@ pub use guestmem::{
     ACCESS_MAX, NoLog, NoMemory, PAGE_SIZE, PAGES_MAX, Ram, RamError, TouchLog, Touched, is_zero,
 };
 pub use machine::{
-    Bytes, DEVICES_MAX, DeviceState, Disk, DiskFault, Event, FaultDisk, FileDisk, Kind, Machine,
-    MemDisk, NewError, Parked, Refusal, Reply, SECTOR_SIZE, SECTORS_MAX, Shape, Stepped, SyncOwed,
-    Work, is_base,
+    Board, Bytes, DEVICES_MAX, DeviceState, Disk, DiskFault, Event, FaultDisk, FileDisk, Kind,
+    Machine, MemDisk, NewError, Parked, RamOf, Refusal, Reply, SECTOR_SIZE, SECTORS_MAX, Shape,
+    Stepped, SyncOwed, Unmade, Work, is_base,
 };
 pub use program::execute;
 pub use receiver::{Receiver, RecvError, read_heading, receive, receive_at};

@@ -13,7 +13,7 @@ returns-in-Err-clause-taking g c = λ front opening before h none at.
     let low = disk_told state c.args.disks.now c.args.spot.disk c.args.number c.requires.there in
     let ds = map state c.args.disks.now in
     let was = sym (get_or-map state c.args.disks.now c.args.spot.disk c.index-disks-spot.result (state c.write.new.self) low) in
-    let wrote = rw was at c.in-Err.ensures in (
+    let wrote = rw was at c.in-Err.ensures.written in (
       refl,
       rw (map-set state c.args.disks.now c.args.spot.disk c.write.new.self)
           (write_failed ds c.args.spot.disk c.args.number c.args.bytes.now _ (state c.write.new.self) (omega (arith, low, length-map c.args.disks.now state)) wrote),
@@ -25,7 +25,7 @@ returns-clause-taking g c = λ front opening before h none at.
     let low = disk_told state c.args.disks.now c.args.spot.disk c.args.number c.requires.there in
     let ds = map state c.args.disks.now in
     let was = sym (get_or-map state c.args.disks.now c.args.spot.disk c.index-disks-spot.result (state c.write.new.self) low) in
-    let wrote = rw was at c.in-Ok.ensures in
+    let wrote = rw was at c.in-Ok.ensures.written in
     let marks = in_range c.args.intake.now.bad.items c.args.spot.disk c.index_mut.result.now [] c.requires.marked.disk c.index_mut.ensures.value in
     let bad : c.remove.new.self ≡ set (get_or c.args.intake.now.bad.items c.args.spot.disk []) c.args.number false = c.remove.ensures ∙ ap (λ (m : List Bool). set m c.args.number false) marks in
     rw (map-set state c.args.disks.now c.args.spot.disk c.write.new.self)
