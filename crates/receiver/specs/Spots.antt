@@ -1,5 +1,5 @@
 -- Where a sector is: its disk among all disks, and the number of its item.
-use Rattle.std.specs.Prelude.{◌≡◌, ◌<◌, ℕ, List, ◌∷◌, [], ◌++◌, count_by, length, nat_lt, slice_index_or, take, Result, Ok, Err}
+use Rattle.std.specs.Prelude.{◌≡◌, ◌<◌, ℕ, Bool, true, false, List, ◌∷◌, [], ◌++◌, count_by, length, nat_lt, slice_index_or, slice_set, take, Result, Ok, Err, if◌then◌else◌}
 use Rattle.blk.specs.Disk.{DiskState}
 use Rattle.guestmem.specs.Item as items
 use Rattle.machine.specs.Layout.{IsItemIn, number_of}
@@ -38,3 +38,16 @@ pub record IsSpotOf (opening : Opened) (dev number : ℕ) (spot : Spot) : Type 0
 abbrev pub Taking : List DiskState → List DiskState → Opened → List Record → Intake → List ℕ → Record → Result (Unit {0}) RecvError → Type 0
 Taking old disks opening before new front r (Ok x) = AreKept old disks × HasRead disks opening (before ++ r ∷ []) new (front ++ spelled_record r)
 Taking old disks opening before new front r (Err e) = (e ≡ DiskFailed) × AreRefused old disks DiskFailed
+
+-- Whether taking the record of a sector has called a disk: a good sector is written, and a bad one, or one that is not there, is not.
+abbrev pub is_disk_failed : RecvError → Bool
+is_disk_failed DiskFailed = true
+is_disk_failed _ = false
+
+abbrev pub has_written : Bool → Result (Unit {0}) RecvError → Bool
+has_written is_good (Ok done) = is_good
+has_written is_good (Err e) = is_disk_failed e
+
+-- The counts of the calls of all disks after one more call of this one, or none. `called` is what one more call makes of a count.
+abbrev pub called_if : (ℕ → ℕ) → Bool → ℕ → List ℕ → List ℕ
+called_if called made disk calls = if made then slice_set calls disk (called (slice_index_or calls disk 0)) else calls

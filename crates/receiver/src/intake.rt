@@ -24,7 +24,7 @@ ghost use Rattle.receiver.specs.Faults.{IsLate, IsNextHead, MayTag};
 ghost use Rattle.receiver.specs.Good.{AreNamed, devices_in};
 ghost use Rattle.receiver.specs.Fed.{HasRead, Checked, After, IsUntouched, Worked, size_of, IsLong};
 ghost use Rattle.receiver.specs.Receiving.{HasDevice};
-ghost use Rattle.receiver.specs.Spots.{HasMarks, HasSector, IsSpotOf, Taking, disks_before};
+ghost use Rattle.receiver.specs.Spots.{HasMarks, HasSector, IsSpotOf, Taking, called_if, disks_before, has_written};
 ghost use Rattle.receiver.specs.Standing.{HasDeviceRoom, BeginsDevice, Entered, HasRoom, IsDeviceHead, Judged, MayHead, OpensHead, TakingDevice};
 ghost use Rattle.receiver.specs.declared.recv_error.RecvError.TheVariants as errors;
 
@@ -170,6 +170,7 @@ fn disks_before(shapes: &[Shape], place: usize) -> usize
 fn find_sector<D: Disk>(intake: &Intake, disks: &[D], dev: u8, number: u32) -> Option<Spot>
     ensures marked { IfSome result (λ spot. HasMarks intake.now number spot) }
     ensures there { IfSome result (λ spot. HasSector (sizes_of D.state disks.now) spot.disk number) }
+    ensures disk { IfSome result (λ spot. spot.disk ≡ disks_before intake.now.shapes.items dev) }
     ensures found { (front : List ℕ) (opening : Opened) (before : List records.Record) → HasRead (map D.state disks.now) opening before intake.now front
         → MatchOption result (¬ (IsItemIn (layout_in opening) (items.sector dev number))) (λ spot. IsSpotOf opening dev number spot) }
 {
@@ -232,6 +233,7 @@ fn take_good<D: Disk>(
     ensures memory { IfErr result (λ e. e ≢ errors.NoMemory) }
     ensures taking { (front : List ℕ) (opening : Opened) (before : List records.Record) → HasRead (map D.state disks.old) opening before intake.old front → devices_in before ≡ 0 → IsSpotOf opening dev number spot
         → Taking (map D.state disks.old) (map D.state disks.new) opening before intake.new front (sector dev number (Some bytes.now)) result }
+    ensures calls { map D.calls disks.new ≡ called_if D.called (has_written true result) spot.disk (map D.calls disks.old) }
     ensures place { intake.new.ram.place ≡ intake.old.ram.place }
     ensures roomy { HasDeviceRoom intake.new }
 {
@@ -244,7 +246,7 @@ fn take_good<D: Disk>(
     Ok(())
 }
 
-/// Takes the record of a sector. One that has no bytes is bad.
+/// Takes the record of a sector. One that has no bytes is bad, and calls no disk; any other is one call of its disk.
 fn take_sector<D: Disk>(
     intake: &mut Intake,
     disks: &mut [D],
@@ -258,6 +260,7 @@ fn take_sector<D: Disk>(
     ensures memory { IfErr result (λ e. e ≢ errors.NoMemory) }
     ensures taking { (front : List ℕ) (opening : Opened) (before : List records.Record) → HasRead (map D.state disks.old) opening before intake.old front → devices_in before ≡ 0 → IsItemIn (layout_in opening) (items.sector dev number)
         → Taking (map D.state disks.old) (map D.state disks.new) opening before intake.new front (record_with (heads.Sector dev number is_good) body.now) result }
+    ensures calls { map D.calls disks.new ≡ called_if D.called (has_written is_good result) (disks_before intake.old.shapes.items dev) (map D.calls disks.old) }
     ensures place { intake.new.ram.place ≡ intake.old.ram.place }
     ensures roomy { HasDeviceRoom intake.new }
 {

@@ -3,6 +3,17 @@ use Rattle.receiver.proofs.Standing.{bad_body_by, good_body, all_taken}
 use Rattle.receiver.proofs.Working.{kept}
 use Rattle.receiver.proofs.intake.take_sector.Goals as goal
 
+pub returns-in_default-first_chunk-clause-calls : goal.returns-in_default-first_chunk-clause-calls
+returns-in_default-first_chunk-clause-calls g c =
+    let short : length c.args.body.now < 512 = c.in_default-first_chunk.ensures.cases in
+    rw (bad_body_by c.args.dev c.args.number c.args.is_good c.args.body.now c.requires.long short) refl
+
+pub returns-clause-calls : goal.returns-clause-calls
+returns-clause-calls g c =
+    let long : 512 ≤ length c.args.body.now = c.in-Some-first_chunk.ensures.variant.0 refl in
+    let good = good_body c.args.dev c.args.number c.args.is_good c.args.body.now c.requires.long long in
+    rw (good.0, ← c.in-Some.ensures.disk) c.take_good.ensures.calls
+
 pub returns-in_default-clause-taking : goal.returns-in_default-clause-taking
 returns-in_default-clause-taking g c = λ front opening before h none has. absurd (c.in_default.ensures.found front opening before h has)
 
