@@ -78,7 +78,6 @@ impl Segs {
     /// Adds a segment at the end. Its only error is out of memory, and then nothing has changed. It never fails on a
     /// list of fewer than `SHORT_CHAIN_MAX`.
     #[inline(always)]
-    #[tactic(auto, using(crate::proofs::PlaceLaws::length_places_push))]
     pub fn push(&mut self, seg: Seg) -> Result<(), NoMemory>
         requires few { length self.old < 2 ^ 32 }
         ensures ok { OnOk result (self.new ≡ self.old ++ seg ∷ []) }

@@ -32,8 +32,8 @@ pub struct MessageForm {
 }
 
 /// Reads the message of the next chain of a ring into a buffer, and publishes the chain. The buffer is cut or grows to the message,
-/// and where nothing is sent it may hold anything. The only error is out of memory, for the chain or for a buffer that has to grow, and
-/// then RAM, ring and log are as they were.
+/// and where nothing is sent it may hold anything. Memory may be refused for a long chain, or for a buffer that has to grow, and then
+/// RAM, ring and log are as they were.
 #[inline(never)]
 pub fn transmit<R: Ring, L: TouchLog>(
     site: Site,
